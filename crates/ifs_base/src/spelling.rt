@@ -1,0 +1,101 @@
+//! Instructions to bytes and back.
+
+ghost use Rattle.std.specs.Prelude.{◌≡◌, ◌≢◌, Some, IfSome, IfNone};
+ghost use Rattle.ifs_base.specs.declared.op.Op.{Op};
+ghost use Rattle.ifs_base.specs.Spelling.{four_bytes, code_of_link, link_of_code, spelling, op_of, HasSpelling};
+
+use crate::ids::{CommandId, IfaceId, RoutineId, StateId, TestId};
+use crate::op::{LinkState, Op};
+
+/// The four bytes of an instruction: its code, the link state of `link` (0 in all others), and the
+/// operand, high byte first (0 where there is none).
+pub fn encode_op(op: Op) -> [u8; 4]
+    ensures { result ≡ spelling op }
+{
+    match op {
+        Op::Ret => [0x00, 0, 0, 0],
+        Op::Yes => [0x01, 0, 0, 0],
+        Op::No => [0x02, 0, 0, 0],
+        Op::Link(iface, state) => with_operand(0x03, link_code(state), iface.0),
+        Op::Test(test) => with_operand(0x04, 0, test.0),
+        Op::Known(test) => with_operand(0x05, 0, test.0),
+        Op::Negate => [0x06, 0, 0, 0],
+        Op::Both => [0x07, 0, 0, 0],
+        Op::Either => [0x08, 0, 0, 0],
+        Op::PushCommand(command) => with_operand(0x09, 0, command.0),
+        Op::PushState(state) => with_operand(0x0a, 0, state.0),
+        Op::Queue => [0x0b, 0, 0, 0],
+        Op::Want => [0x0c, 0, 0, 0],
+        Op::Jump(place) => with_operand(0x0d, 0, place),
+        Op::JumpFalse(place) => with_operand(0x0e, 0, place),
+        Op::JumpTrue(place) => with_operand(0x0f, 0, place),
+        Op::Call(routine) => with_operand(0x10, 0, routine.0),
+        Op::Pop => [0x11, 0, 0, 0],
+        Op::Dup => [0x12, 0, 0, 0],
+    }
+}
+
+/// The instruction that four bytes spell. `None` exactly where they spell none: an unknown code, a
+/// byte 1 that is not 0 (at `link`: over 2), or an operand that is not 0 where there is none.
+pub fn decode_op(bytes: [u8; 4]) -> Option<Op>
+    ensures value { result ≡ op_of bytes }
+    // What is found is spelled so.
+    ensures found { IfSome result (λ op. bytes ≡ spelling op) }
+    // What spells an instruction is answered with it,
+    ensures spelled { (op : Op) → HasSpelling op → bytes ≡ spelling op → result ≡ Some op }
+    // and so nothing is found only where no instruction is spelled so.
+    ensures none { IfNone result ((op : Op) → HasSpelling op → bytes ≢ spelling op) }
+{
+    let [code, state, high, low] = bytes;
+    let operand = u16::from_be_bytes([high, low]);
+    match (code, state, operand) {
+        (0x00, 0, 0) => Some(Op::Ret),
+        (0x01, 0, 0) => Some(Op::Yes),
+        (0x02, 0, 0) => Some(Op::No),
+        (0x03, _, n) => Some(Op::Link(IfaceId(n), link_state_of(state)?)),
+        (0x04, 0, n) => Some(Op::Test(TestId(n))),
+        (0x05, 0, n) => Some(Op::Known(TestId(n))),
+        (0x06, 0, 0) => Some(Op::Negate),
+        (0x07, 0, 0) => Some(Op::Both),
+        (0x08, 0, 0) => Some(Op::Either),
+        (0x09, 0, n) => Some(Op::PushCommand(CommandId(n))),
+        (0x0a, 0, n) => Some(Op::PushState(StateId(n))),
+        (0x0b, 0, 0) => Some(Op::Queue),
+        (0x0c, 0, 0) => Some(Op::Want),
+        (0x0d, 0, n) => Some(Op::Jump(n)),
+        (0x0e, 0, n) => Some(Op::JumpFalse(n)),
+        (0x0f, 0, n) => Some(Op::JumpTrue(n)),
+        (0x10, 0, n) => Some(Op::Call(RoutineId(n))),
+        (0x11, 0, 0) => Some(Op::Pop),
+        (0x12, 0, 0) => Some(Op::Dup),
+        _ => None,
+    }
+}
+
+fn with_operand(code: u8, state: u8, operand: u16) -> [u8; 4]
+    ensures { result ≡ four_bytes code state operand }
+{
+    let [high, low] = operand.to_be_bytes();
+    [code, state, high, low]
+}
+
+fn link_code(state: LinkState) -> u8
+    ensures { result ≡ code_of_link state }
+{
+    match state {
+        LinkState::Unknown => 0,
+        LinkState::Down => 1,
+        LinkState::Up => 2,
+    }
+}
+
+fn link_state_of(code: u8) -> Option<LinkState>
+    ensures { result ≡ link_of_code code }
+{
+    match code {
+        0 => Some(LinkState::Unknown),
+        1 => Some(LinkState::Down),
+        2 => Some(LinkState::Up),
+        _ => None,
+    }
+}
