@@ -1,0 +1,18 @@
+//! The image: what a policy is compiled to, and its bytes.
+//!
+//! An image has budgets, tables of interfaces, tests, commands and states, the handlers of the always
+//! part and of each state, and routines of byte code. [`read`] takes it from its bytes, whoever made
+//! them, and names the first thing that is wrong with them, with the offset of the field's first byte.
+#![tactic(auto)]
+
+mod fault;
+mod fields;
+mod image;
+pub mod limits;
+mod parts;
+mod reading;
+
+pub use fault::ImageFault;
+pub use image::Image;
+pub use parts::{Budgets, Handlers, ImageParts, Routine, StateSpec, TestSpec};
+pub use reading::read;
