@@ -1,0 +1,70 @@
+-- The plain rules of an image: what holds of each instruction and each handler by itself, whatever stands on the stack.
+use Rattle.std.specs.Prelude.{ℕ, ◌≡◌, ◌+◌, ◌-◌, ◌^◌, ◌<◌, [], length, Option, Some, None, slice_get}
+use Rattle.ifs_base.specs.declared.ids.RoutineId.{RoutineId}
+use Rattle.ifs_base.specs.declared.op.Op.{Op}
+use Rattle.ifs_base.specs.declared.op.Op.TheVariants.{Ret, Link, Test, Known, PushCommand, PushState, Call}
+use Rattle.ifs_image.specs.declared.parts.Handlers.{Handlers}
+use Rattle.ifs_image.specs.declared.parts.StateSpec.{StateSpec}
+use Rattle.ifs_image.specs.declared.parts.ImageParts.{ImageParts}
+use Rattle.ifs_image.specs.Code.{op_at, results_of, code_of, IsSuccessor, target_of}
+
+-- A routine of the image.
+abbrev pub IsRoutine : ImageParts → ℕ → Type 0
+IsRoutine image routine = routine < length image.routines
+
+-- Init and body are routines of the image.
+abbrev pub AreRoutines : ImageParts → Handlers → Type 0
+AreRoutines image handlers = IsRoutine image handlers.init.0 × IsRoutine image handlers.body.0
+
+-- A mask has no bit at or over the number of tests.
+abbrev pub IsMask : ImageParts → ℕ → Type 0
+IsMask image mask = mask < 2 ^ length image.tests
+
+-- An instruction's operand is an index of its table.
+abbrev pub HasOperand : ImageParts → Op → Type 0
+HasOperand image (Link interface state) = interface.0 < length image.interfaces
+HasOperand image (Test test) = test.0 < length image.tests
+HasOperand image (Known test) = test.0 < length image.tests
+HasOperand image (PushCommand command) = command.0 < length image.commands
+HasOperand image (PushState state) = state.0 < length image.states
+HasOperand image (Call routine) = IsRoutine image routine.0
+HasOperand image _ = Unit {0}
+
+-- Each index is one of its table, and each mask has tests of the table alone.
+pub record IndexesFit (image : ImageParts) : Type 0 where
+  pub initial : image.initial.0 < length image.states
+  pub always : AreRoutines image image.always
+  pub always_mask : IsMask image image.always.mask
+  pub states : (k : ℕ) (state : StateSpec) → slice_get image.states k ≡ Some state → AreRoutines image state.handlers
+  pub masks : (k : ℕ) (state : StateSpec) → slice_get image.states k ≡ Some state → IsMask image state.handlers.mask
+  pub operands : (routine place : ℕ) (op : Op) → op_at image routine place ≡ Some op → HasOperand image op
+
+-- Neither handler has results.
+abbrev pub LeaveNothing : ImageParts → Handlers → Type 0
+LeaveNothing image handlers = (results_of image handlers.init.0 ≡ []) × (results_of image handlers.body.0 ≡ [])
+
+-- No handler has results.
+pub record HandlersLeaveNothing (image : ImageParts) : Type 0 where
+  pub always : LeaveNothing image image.always
+  pub states : (k : ℕ) (state : StateSpec) → slice_get image.states k ≡ Some state → LeaveNothing image state.handlers
+
+-- Each jump leads to a later place of its routine.
+abbrev pub JumpsLeadOn : ImageParts → Type 0
+JumpsLeadOn image = (routine place : ℕ) (op : Op) (target : ℕ) → op_at image routine place ≡ Some op → target_of op ≡ Some target
+    → (place < target) × (target < length (code_of image routine))
+
+-- The last instruction of each routine, which has one, is `ret`.
+abbrev pub RoutinesEnd : ImageParts → Type 0
+RoutinesEnd image = (routine : ℕ) → IsRoutine image routine → op_at image routine (length (code_of image routine) - 1) ≡ Some Ret
+
+-- Each call is of a routine with a lower number.
+abbrev pub CallsGoDown : ImageParts → Type 0
+CallsGoDown image = (routine place : ℕ) (callee : RoutineId) → op_at image routine place ≡ Some (Call callee) → callee.0 < routine
+
+-- A place follows the instruction at an earlier one.
+abbrev pub IsReached : ImageParts → ℕ → ℕ → Type 0
+IsReached image routine to = (place : ℕ) × (op : Op) × (place < to) × (op_at image routine place ≡ Some op) × IsSuccessor op place to
+
+-- Each place but the first of a routine follows an earlier one.
+abbrev pub PlacesAreReached : ImageParts → Type 0
+PlacesAreReached image = (routine to : ℕ) → 0 < to → to < length (code_of image routine) → IsReached image routine to

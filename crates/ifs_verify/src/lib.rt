@@ -1,0 +1,8 @@
+//! The verifier: whether an image may run on a machine that makes no trap test.
+#![tactic(auto)]
+
+mod fault;
+mod verified;
+
+pub use fault::{At, VerifyFault};
+pub use verified::Verified;
