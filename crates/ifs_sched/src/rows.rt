@@ -1,7 +1,8 @@
 //! An entry and a tick, test by test.
 
-ghost use Rattle.std.specs.Prelude.{◌≡◌, ◌<◌, ◌≤◌, ◌+◌, ◌^◌, length, min};
-ghost use Rattle.ifs_sched.specs.Schedule.{collect_by_index, entered_test, has_test as is_in_mask, is_over, map_by_index, number_at, number_of, start_of, ticked_test};
+ghost use Rattle.std.specs.Prelude.{◌≡◌, ◌<◌, ◌≤◌, ◌+◌, ◌^◌, length, map, min};
+ghost use Rattle.std.specs.List.{range_with_len};
+ghost use Rattle.ifs_sched.specs.Schedule.{any_by_index, collect_by_index, entered_test, has_test as is_in_mask, left_at, map_by_index, number_at, number_of, start_of, ticked_test};
 
 use crate::start::{Start, Started};
 use crate::timer::Timer;
@@ -29,7 +30,12 @@ pub fn start_due(tests: &mut [Timer], now: u64, next_run: &mut Option<u64>) -> S
     ensures starts { result.starts.items
         ≡ collect_by_index (start_of now (number_of next_run.old) tests.old) tests.old }
     ensures exhausted { result.exhausted
-        ≡ is_over (number_at now (number_of next_run.old) tests.old (length tests.old)) }
+        ≡ any_by_index (left_at now (number_of next_run.old) tests.old) tests.old }
+    // The numbers are in one sequence.
+    ensures numbered { map (λ start. start.run) result.starts.items
+        ≡ range_with_len (number_of next_run.old) (length result.starts.items) }
+    ensures in_sequence { number_of next_run.new
+        ≡ number_of next_run.old + length result.starts.items }
 {
     let mut starts = ArrayVec::new();
     let mut exhausted = false;

@@ -1,7 +1,7 @@
 //! The timer of one test: its period, and where it stands.
 
 ghost use Rattle.std.specs.Prelude.{◌≡◌};
-ghost use Rattle.ifs_sched.specs.Timer.{ended, entered_status, is_active_status, is_due, is_run, started};
+ghost use Rattle.ifs_sched.specs.Timer.{ended, entered_status, is_running_status, is_due, is_run, started};
 
 /// Where a test stands. Moments and run numbers are those of its schedule.
 #[derive(Clone, Copy, Debug)]
@@ -63,7 +63,7 @@ impl Timer {
 
     /// Whether the test runs.
     pub fn is_running(&self) -> bool
-        ensures { result ≡ is_active_status self.now.status }
+        ensures { result ≡ is_running_status self.now.status }
     {
         matches!(self.status, Status::Running { .. })
     }
