@@ -1,1 +1,4 @@
 pub mod Names
+pub mod Texts
+pub mod FieldLaws
+pub mod Loops

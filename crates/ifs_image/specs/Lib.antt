@@ -1,2 +1,4 @@
 pub mod Limits
+pub mod Spelling
 pub mod Reading
+pub mod Answers
