@@ -1,4 +1,5 @@
 pub mod Names
 pub mod Texts
 pub mod FieldLaws
+pub mod Ops
 pub mod Loops
