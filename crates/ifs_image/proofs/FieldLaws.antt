@@ -138,16 +138,16 @@ within_field : (w : Width) (limit least most : ℕ) → IsWide w limit → most 
 unfolding number_within
 within_field w limit least most wide small = record {
   again = λ n at rest fits.
-    let low : ltb n least ≡ false = le-ltb _ _ fits.0 in
-    let high : ltb most n ≡ false = le-ltb _ _ fits.1 in
-    rw (number_again w limit wide n at rest (omega (arith, fits.1)), low, high) refl;
+      let low : ltb n least ≡ false = le-ltb _ _ fits.0 in
+      let high : ltb most n ≡ false = le-ltb _ _ fits.1 in
+      rw (number_again w limit wide n at rest (omega (arith, fits.1)), low, high) refl;
   taken = λ p y fits e.
-    let b = bind_ok (number_at w p) (λ n. cond (ltb n.0 least || ltb most n.0) (Err (OutOfLimit p.at)) (Ok n)) y e in
-    let t = number_taken w limit wide p b.0 fits b.1 in
-    let g = guard_ok (ltb b.0.0 least || ltb most b.0.0) (OutOfLimit p.at) b.0 y b.2 in
-    let o = or_false (ltb b.0.0 least) (ltb most b.0.0) g.0 in
-    subst (λ (z : ℕ × Place). Took p.left (to_be_bytes w z.0) z.1.left × ((least ≤ z.0) × (z.0 ≤ most))) g.1
-    (t.0, (ltb-false _ _ o.0, ltb-false _ _ o.1));
+      let b = bind_ok (number_at w p) (λ n. cond (ltb n.0 least || ltb most n.0) (Err (OutOfLimit p.at)) (Ok n)) y e in
+      let t = number_taken w limit wide p b.0 fits b.1 in
+      let g = guard_ok (ltb b.0.0 least || ltb most b.0.0) (OutOfLimit p.at) b.0 y b.2 in
+      let o = or_false (ltb b.0.0 least) (ltb most b.0.0) g.0 in
+      subst (λ (z : ℕ × Place). Took p.left (to_be_bytes w z.0) z.1.left × ((least ≤ z.0) × (z.0 ≤ most))) g.1
+      (t.0, (ltb-false _ _ o.0, ltb-false _ _ o.1));
 }
 
 pub within16 : (least most : ℕ) → most < 2 ^ 16 → IsField (number_within w16 least most) (to_be_bytes w16) (λ n. (least ≤ n) × (n ≤ most))
@@ -226,7 +226,7 @@ pub table_field : {X : Type 0} (entry : List X → Place → Read X) (text : X �
 table_field {X} entry text Good field n = record {
   again = λ xs at rest fits. ap (λ (k : ℕ). items_at entry k [] (place at (flat_map text xs ++ rest))) (sym fits.0) ∙ items_again entry text Good field xs [] at rest fits.1;
   taken = λ p y fits e.
-    let t = items_taken entry text Good field n [] p y fits e in
-    let same : t.xs ≡ y.0 = sym t.all_are in
-    subst (λ (xs : List X). Took p.left (flat_map text xs) y.1.left × ((length xs ≡ n) × AllAfter Good [] xs)) same (t.took, (t.count, t.good));
+      let t = items_taken entry text Good field n [] p y fits e in
+      let same : t.xs ≡ y.0 = sym t.all_are in
+      subst (λ (xs : List X). Took p.left (flat_map text xs) y.1.left × ((length xs ≡ n) × AllAfter Good [] xs)) same (t.took, (t.count, t.good));
 }

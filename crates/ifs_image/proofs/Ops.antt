@@ -58,20 +58,20 @@ IsSpelled-plain : (code state n c : ℕ) (o op : Op) → code ≡ c → spelling
 IsSpelled-plain code state n c o op at bytes fits e =
     chosen ((state == 0) && (n == 0)) (Some o) None op (IsSpelled code state n op) e
     (λ t f.
-      let s = both_true (state == 0) (n == 0) t in
-      let no_state : state ≡ 0 = eqb-true state 0 s.0 in
-      let no_operand : n ≡ 0 = eqb-true n 0 s.1 in
-      let same = found_is o op f in
-      record { bytes = rw (← same, at, no_state, no_operand) bytes; fits = subst HasSpelling same fits })
+    let s = both_true (state == 0) (n == 0) t in
+    let no_state : state ≡ 0 = eqb-true state 0 s.0 in
+    let no_operand : n ≡ 0 = eqb-true n 0 s.1 in
+    let same = found_is o op f in
+    record { bytes = rw (← same, at, no_state, no_operand) bytes; fits = subst HasSpelling same fits })
     (λ _ f. absurd cc)
 
 IsSpelled-indexed : (code state n c : ℕ) (o op : Op) → code ≡ c → spelling o ≡ four_bytes c 0 n → HasSpelling o → indexed state o ≡ Some op → IsSpelled code state n op
 IsSpelled-indexed code state n c o op at bytes fits e =
     chosen (state == 0) (Some o) None op (IsSpelled code state n op) e
     (λ t f.
-      let no_state : state ≡ 0 = eqb-true state 0 t in
-      let same = found_is o op f in
-      record { bytes = rw (← same, at, no_state) bytes; fits = subst HasSpelling same fits })
+    let no_state : state ≡ 0 = eqb-true state 0 t in
+    let same = found_is o op f in
+    record { bytes = rw (← same, at, no_state) bytes; fits = subst HasSpelling same fits })
     (λ _ f. absurd cc)
 
 link_with : (b0 b1 b2 : Bool) (code state n : ℕ) (op : Op) → code ≡ 3 → (state == 0) ≡ b0 → (state == 1) ≡ b1 → (state == 2) ≡ b2 → n < 2 ^ 16

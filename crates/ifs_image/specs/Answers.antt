@@ -15,3 +15,7 @@ GivesBy view result after read = MatchResult result (λ x. read ≡ Ok (view x, 
 -- The same of a result as it is.
 abbrev pub Gives : {X : Type 0} → Result X ImageFault → Place → Read X → Type 0
 Gives result after read = GivesBy (λ x. x) result after read
+
+-- A result is what reading all bytes gives, unless memory ran out.
+abbrev pub Answers : {X : Type 0} → Result X ImageFault → Result X ImageFault → Type 0
+Answers result read = MatchResult result (λ x. read ≡ Ok x) (IsFaultOf read)

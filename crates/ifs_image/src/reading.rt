@@ -1,10 +1,12 @@
 //! Bytes to image, field by field down the table of the format.
 
-ghost use Rattle.std.specs.Prelude.{◌≡◌, ◌-◌, ◌≤◌, length, [], IfOk};
+ghost use Rattle.std.specs.Prelude.{◌≡◌, ◌≢◌, ◌≤◌, length, [], Err, IfOk};
 ghost use Rattle.std.specs.Int.{w16};
-ghost use Rattle.ifs_image.specs.Reading.{magic_at, version_at, budgets_at, counts_at, handlers_at, name_at, test_at, state_at, text_at, op_at, results_at, routine_at, room_after, items_at, parts_at};
-ghost use Rattle.ifs_image.specs.Limits.{names_of};
-ghost use Rattle.ifs_image.specs.Answers.{Gives};
+ghost use Rattle.ifs_image.specs.declared.parts.ImageParts.{ImageParts};
+ghost use Rattle.ifs_image.specs.declared.fault.ImageFault.TheVariants.{Memory};
+ghost use Rattle.ifs_image.specs.Spelling.{Spells};
+ghost use Rattle.ifs_image.specs.Reading.{magic_at, version_at, budgets_at, counts_at, handlers_at, name_at, test_at, state_at, text_at, op_at, results_at, routine_at, room_after, items_at, parts_at, image_of};
+ghost use Rattle.ifs_image.specs.Answers.{Gives, Answers};
 
 use crate::fault::ImageFault;
 use crate::fields::Reader;
@@ -15,16 +17,28 @@ use crate::parts::{Budgets, Counts, Handlers, ImageParts, Routine, StateSpec, Te
 use ifs_base::{Items, Op, RoutineId, StateId, Text};
 use std::alloc::Global;
 
-/// The image that the bytes spell, all of them.
+/// The image that the bytes spell, all of them. After a refusal nothing is kept.
 ///
-/// The fault is the first from the left. I0 comes where a growth was refused, wherever that is.
-pub fn read(alloc: Global, bytes: &[u8]) -> Result<Image, ImageFault> {
+/// I1 to I8 name the first fault from the left, with the offset of the first byte of its field. I0
+/// comes where a growth was refused, wherever that is.
+pub fn read(alloc: Global, bytes: &[u8]) -> Result<Image, ImageFault>
+    // What is read is spelled by the bytes, all of them.
+    ensures found { IfOk result (λ image. Spells bytes.now image) }
+    // What the bytes spell is read, unless memory runs out.
+    ensures only { (image : ImageParts) → Spells bytes.now image → result ≢ Err Memory → result ≡ Ok image }
+    // Any other refusal is the first fault from the left.
+    ensures first_fault { Answers result (image_of bytes.now) }
+{
+    image_in(alloc, bytes)
+}
+
+#[tactic(auto, unfolding(crate::specs::Reading::image_of))]
+fn image_in(alloc: Global, bytes: &[u8]) -> Result<Image, ImageFault>
+    ensures { Answers result (image_of bytes.now) }
+{
     let mut reader = Reader::new(bytes);
     let parts = parts_of(alloc, &mut reader)?;
     if !reader.is_at_end() {
-        return Err(ImageFault::Trailing { at: reader.at() });
-    }
-    if !parts.fits() {
         return Err(ImageFault::Trailing { at: reader.at() });
     }
     Ok(Image::new(parts))
