@@ -5,4 +5,3 @@ pub mod Reading
 pub mod Answers
 
 pub use Rattle.ifs_base.specs.Facts
-pub use Rattle.ifs_base.specs.Spelling
