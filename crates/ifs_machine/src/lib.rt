@@ -4,6 +4,8 @@
 
 mod effects;
 pub mod laws;
+mod machine;
+mod running;
 mod value;
 
 pub use effects::{Effects, Facts};
