@@ -2,3 +2,4 @@ pub mod After
 pub mod Moves
 pub mod Ending
 pub mod Standing
+pub mod Loop
