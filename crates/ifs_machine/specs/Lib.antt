@@ -1,6 +1,5 @@
 pub mod Table
 pub mod Run
-pub mod Budgets
 pub mod State
 pub use Rattle.ifs_base.specs.Facts
 pub use Rattle.ifs_image.specs.Code

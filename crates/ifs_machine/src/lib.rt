@@ -9,3 +9,4 @@ mod running;
 mod value;
 
 pub use effects::{Effects, Facts};
+pub use running::run_handler;
