@@ -1,7 +1,9 @@
 //! What a handler is told, and what it brings about.
 
+ghost use Rattle.std.specs.Prelude.{◌≡◌, ◌<◌, length, Some, slice_get};
+
 use arrayvec::ArrayVec;
-use ifs_base::{CommandId, LinkState, StateId};
+use ifs_base::{CommandId, IfaceId, LinkState, StateId, TestId};
 
 /// What is known of links and tests while a handler runs.
 #[derive(Debug, Drop)]
@@ -10,6 +12,24 @@ pub struct Facts {
     pub links: ArrayVec<LinkState, 64>,
     /// The value of each test of the image, where it has one, in the order of its table.
     pub tests: ArrayVec<Option<bool>, 64>,
+}
+
+impl Facts {
+    /// The link state of an interface.
+    pub(crate) fn link(&self, n: IfaceId) -> LinkState
+        requires { n.0 < length self.now.links.items }
+        ensures { slice_get self.now.links.items n.0 ≡ Some result }
+    {
+        self.links.as_slice()[usize::from(n.0)]
+    }
+
+    /// The value of a test, where it has one.
+    pub(crate) fn test(&self, n: TestId) -> Option<bool>
+        requires { n.0 < length self.now.tests.items }
+        ensures { slice_get self.now.tests.items n.0 ≡ Some result }
+    {
+        self.tests.as_slice()[usize::from(n.0)]
+    }
 }
 
 /// What the handlers of an event brought about so far.

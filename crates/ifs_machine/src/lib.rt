@@ -5,6 +5,7 @@
 mod effects;
 pub mod laws;
 mod machine;
+mod rows;
 mod running;
 mod value;
 
