@@ -20,3 +20,6 @@ pub use image::Image;
 pub use parts::{Budgets, Handlers, ImageParts, Routine, StateSpec, TestSpec};
 pub use reading::read;
 pub use writing::write;
+
+#[cfg(test)]
+mod tests;
