@@ -3,6 +3,7 @@ pub mod Typing
 pub mod Bounds
 pub mod Accepted
 pub mod Refused
+pub mod Passes
 pub use Rattle.ifs_image.specs.Code
 pub use Rattle.ifs_image.specs.Facts
 pub use Rattle.ifs_image.specs.Spelling

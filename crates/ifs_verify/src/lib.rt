@@ -2,6 +2,9 @@
 #![tactic(auto)]
 
 mod fault;
+mod places;
+mod rules;
+mod stack;
 mod verified;
 
 pub use fault::{At, VerifyFault};
