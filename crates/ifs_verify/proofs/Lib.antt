@@ -1,1 +1,4 @@
+pub mod Flow
 pub mod Instructions
+pub mod Rows
+pub mod Takings

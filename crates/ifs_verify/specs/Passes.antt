@@ -1,17 +1,21 @@
 -- What the verifier's passes find, and what they rest on.
-use Rattle.std.specs.Prelude.{ℕ, ◌≡◌, ◌≢◌, ◌+◌, ◌<◌, ◌≤◌, Bool, true, false, List, [], ◌∷◌, length, Option, Some, None, slice_get}
+use Rattle.std.specs.Prelude.{ℕ, ◌≡◌, ◌≢◌, ◌+◌, ◌<◌, ◌≤◌, Bool, true, false, List, [], ◌∷◌, ◌++◌, length, Option, Some, None, slice_get, slice_index, ◌*◌}
+use Rattle.std.specs.Option.{option_flatten}
 use Rattle.ifs_base.specs.declared.ids.RoutineId.{RoutineId}
+use Rattle.ifs_base.specs.declared.op.Kind.{Kind}
+use Rattle.ifs_base.specs.declared.op.Kind.TheVariants.{Truth, Command, StateName}
 use Rattle.ifs_base.specs.declared.op.Op.{Op}
-use Rattle.ifs_base.specs.declared.op.Op.TheVariants.{Ret, Jump, Call}
+use Rattle.ifs_base.specs.declared.op.Op.TheVariants.{Ret, Yes, No, Link, Test, Known, Negate, Both, Either, PushCommand, PushState, Queue, Want, Jump, JumpFalse, JumpTrue, Call, Pop, Dup}
 use Rattle.ifs_image.specs.declared.parts.Routine.{Routine}
 use Rattle.ifs_image.specs.declared.parts.ImageParts.{ImageParts}
-use Rattle.ifs_image.specs.Code.{op_at, code_of, target_of}
+use Rattle.ifs_image.specs.Code.{op_at, code_of, results_of, target_of, effect, IsSuccessor}
 use Rattle.ifs_verify.specs.declared.fault.VerifyFault.{VerifyFault}
 use Rattle.ifs_verify.specs.declared.fault.At.{At}
 use Rattle.ifs_verify.specs.declared.fault.VerifyFault.TheVariants.{NoEntry, JumpTarget, CallNotLower, OutOfMemory}
 use Rattle.ifs_verify.specs.declared.rules.OpRule.{OpRule}
 use Rattle.ifs_verify.specs.declared.rules.OpRule.TheVariants.{Operand, Target, Callee}
-use Rattle.ifs_verify.specs.Rules.{HasOperand}
+use Rattle.ifs_verify.specs.Rules.{HasOperand, IndexesFit, JumpsLeadOn, RoutinesEnd, CallsGoDown, PlacesAreReached}
+use Rattle.ifs_verify.specs.Typing.{IsTyping}
 use Rattle.ifs_verify.specs.Refused.{rule_of}
 
 -- The limits of an image on which the passes rest.
@@ -26,12 +30,6 @@ pub record IsSized (image : ImageParts) : Type 0 where
 abbrev pub IsRefused : ImageParts → VerifyFault → Type 0
 IsRefused image fault = fault ≢ OutOfMemory → ¬ rule_of fault image
 
--- Control may go on at the next place.
-abbrev pub falls_through : Op → Bool
-falls_through Ret = false
-falls_through (Jump target) = false
-falls_through _ = true
-
 -- What a rule asks of the instruction at a place.
 abbrev pub Keeps : OpRule → ImageParts → ℕ → ℕ → Op → Type 0
 Keeps Operand image routine place op = HasOperand image op
@@ -43,3 +41,107 @@ abbrev pub fault_of : OpRule → At → VerifyFault
 fault_of Operand at = NoEntry at
 fault_of Target at = JumpTarget at
 fault_of Callee at = CallNotLower at
+
+-- The next place, where control may go on there.
+abbrev pub next_of : Op → ℕ → Option ℕ
+next_of Ret place = None
+next_of (Jump target) place = None
+next_of _ place = Some (place + 1)
+
+-- The list below a kind that is wanted on top; none where another or nothing is there.
+unfoldable pub without : Kind → List Kind → Option (List Kind)
+without kind [] = None
+without Truth (Truth ∷ below) = Some below
+without Command (Command ∷ below) = Some below
+without StateName (StateName ∷ below) = Some below
+without kind (other ∷ below) = None
+
+-- The list below the topmost kind.
+unfoldable pub below_top : List Kind → Option (List Kind)
+below_top [] = None
+below_top (kind ∷ below) = Some below
+
+-- The topmost kind once more.
+unfoldable pub top_twice : List Kind → Option (List Kind)
+top_twice [] = None
+top_twice (kind ∷ below) = Some (kind ∷ kind ∷ below)
+
+-- Both lists, one after the other, where each is there.
+abbrev pub and_then : Option (List Kind) → (List Kind → Option (List Kind)) → Option (List Kind)
+and_then None next = None
+and_then (Some kinds) next = next kinds
+
+-- The kinds after an instruction, said by what it takes off and puts on.
+abbrev pub left_by : ImageParts → Op → List Kind → Option (List Kind)
+left_by image Ret kinds = Some kinds
+left_by image Yes kinds = Some (Truth ∷ kinds)
+left_by image No kinds = Some (Truth ∷ kinds)
+left_by image (Link n s) kinds = Some (Truth ∷ kinds)
+left_by image (Test n) kinds = Some (Truth ∷ kinds)
+left_by image (Known n) kinds = Some (Truth ∷ kinds)
+left_by image Negate kinds = and_then (without Truth kinds) (λ below. Some (Truth ∷ below))
+left_by image Both kinds = and_then (without Truth kinds) (λ below. and_then (without Truth below) (λ rest. Some (Truth ∷ rest)))
+left_by image Either kinds = and_then (without Truth kinds) (λ below. and_then (without Truth below) (λ rest. Some (Truth ∷ rest)))
+left_by image (PushCommand n) kinds = Some (Command ∷ kinds)
+left_by image (PushState n) kinds = Some (StateName ∷ kinds)
+left_by image Queue kinds = without Command kinds
+left_by image Want kinds = without StateName kinds
+left_by image (Jump target) kinds = Some kinds
+left_by image (JumpFalse target) kinds = without Truth kinds
+left_by image (JumpTrue target) kinds = without Truth kinds
+left_by image (Call n) kinds = Some (results_of image n.0 ++ kinds)
+left_by image Pop kinds = below_top kinds
+left_by image Dup kinds = top_twice kinds
+
+-- The list of kinds at a place, where one is found.
+abbrev pub row_at : List (Option (List Kind)) → ℕ → Option (List Kind)
+row_at rows place = option_flatten (slice_get rows place)
+
+-- What the instruction at a place leaves of what stands there.
+pub record Leaves (image : ImageParts) (routine : ℕ) (rows : List (Option (List Kind))) (place : ℕ) (op : Op) (after : List Kind) : Type 0 where
+  pub before : List Kind
+  pub here : row_at rows place ≡ Some before
+  pub effect_is : effect image op before ≡ Some after
+  pub within : length after ≤ 32
+  pub results : op ≡ Ret → before ≡ results_of image routine
+
+-- A place whose successors have what its instruction leaves.
+pub record HasPassed (image : ImageParts) (routine : ℕ) (rows : List (Option (List Kind))) (place : ℕ) (op : Op) : Type 0 where
+  pub after : List Kind
+  pub leaves : Leaves image routine rows place op after
+  pub onward : (to : ℕ) → IsSuccessor op place to → row_at rows to ≡ Some after
+
+-- The rows of a routine, whose places below one are passed. What they hold is what each typing has.
+pub record IsTypedUpTo (image : ImageParts) (routine : ℕ) (rows : List (Option (List Kind))) (done : ℕ) : Type 0 where
+  pub long : length rows ≡ length (code_of image routine)
+  pub start : row_at rows 0 ≡ Some []
+  pub within : (place : ℕ) (kinds : List Kind) → row_at rows place ≡ Some kinds → length kinds ≤ 32
+  pub passed : (place : ℕ) (op : Op) → place < done → op_at image routine place ≡ Some op → HasPassed image routine rows place op
+  pub forced : (typing : ℕ → List Kind) → IsTyping image routine typing → (place : ℕ) (kinds : List Kind) → row_at rows place ≡ Some kinds → typing place ≡ kinds
+
+-- What the first rows have, the others have too.
+abbrev pub Extends : List (Option (List Kind)) → List (Option (List Kind)) → Type 0
+Extends old new = (place : ℕ) (kinds : List Kind) → row_at old place ≡ Some kinds → row_at new place ≡ Some kinds
+
+-- The rules that stand when the stacks are looked at.
+pub record IsPlain (image : ImageParts) : Type 0 where
+  pub sized : IsSized image
+  pub indexes : IndexesFit image
+  pub jumps : JumpsLeadOn image
+  pub ends : RoutinesEnd image
+  pub calls : CallsGoDown image
+  pub reached : PlacesAreReached image
+
+-- A place of a row of marks that is marked.
+abbrev pub IsMarked : List Bool → ℕ → Type 0
+IsMarked marks k = slice_get marks k ≡ Some true
+
+-- A height is large enough for one instruction, with what stands before it.
+pub record HoldsHeight (image : ImageParts) (heights : ℕ → ℕ) (op : Op) (kinds : List Kind) (height : ℕ) : Type 0 where
+  pub before : length kinds ≤ height
+  pub after : (left : List Kind) → effect image op kinds ≡ Some left → length left ≤ height
+  pub call : (callee : RoutineId) → op ≡ Call callee → length kinds + heights callee.0 ≤ height
+
+-- Each height is at most 32 above those of all routines below.
+abbrev pub AreLow : List ℕ → Type 0
+AreLow heights = (routine : ℕ) → slice_index heights routine ≤ 32 * (routine + 1)

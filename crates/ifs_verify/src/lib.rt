@@ -1,10 +1,14 @@
 //! The verifier: whether an image may run on a machine that makes no trap test.
 #![tactic(auto)]
 
+mod effects;
 mod fault;
+mod heights;
 mod places;
+mod reach;
 mod rules;
 mod stack;
+mod typing;
 mod verified;
 
 pub use fault::{At, VerifyFault};

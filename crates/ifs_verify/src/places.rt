@@ -1,11 +1,11 @@
 //! What stands at the places of an image, where control goes on, and how a fault names a place.
 
-ghost use Rattle.std.specs.Prelude.{◌≡◌, ◌<◌, ◌≤◌, ◌^◌, length, slice_get};
+ghost use Rattle.std.specs.Prelude.{◌≡◌, ◌<◌, ◌≤◌, ◌+◌, ◌^◌, length, slice_get};
 ghost use Rattle.ifs_image.specs.Code.{code_of, target_of};
 ghost use Rattle.ifs_image.specs.declared.parts.Routine.{Routine};
 ghost use Rattle.ifs_image.specs.declared.parts.StateSpec.{StateSpec};
 ghost use Rattle.ifs_verify.specs.Rules.{IsRoutine};
-ghost use Rattle.ifs_verify.specs.Passes.{falls_through};
+ghost use Rattle.ifs_verify.specs.Passes.{next_of};
 
 use crate::fault::At;
 use ifs_base::{Op, RoutineId, StateId};
@@ -59,18 +59,22 @@ pub fn at_state(state: usize) -> At
 }
 
 /// The target of a jump.
-pub fn target(op: Op) -> Option<u16>
+pub fn target(op: Op) -> Option<usize>
     ensures { result ≡ target_of op }
 {
     match op {
-        Op::Jump(target) | Op::JumpFalse(target) | Op::JumpTrue(target) => Some(target),
+        Op::Jump(target) | Op::JumpFalse(target) | Op::JumpTrue(target) => Some(usize::from(target)),
         _ => None,
     }
 }
 
-/// Whether control may go on at the next place.
-pub fn goes_on(op: Op) -> bool
-    ensures { result ≡ falls_through op }
+/// The next place, where control may go on there.
+pub fn next(op: Op, place: usize) -> Option<usize>
+    requires { place < 2 ^ 16 }
+    ensures { result ≡ next_of op place }
 {
-    !matches!(op, Op::Ret | Op::Jump(_))
+    match op {
+        Op::Ret | Op::Jump(_) => None,
+        _ => Some(place + 1),
+    }
 }

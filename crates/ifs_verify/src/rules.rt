@@ -222,7 +222,7 @@ fn leads_on(op: Op, place: usize, length: usize) -> bool
     ensures { IsTrue result ↔ ((target : ℕ) → target_of op ≡ Some target → (place < target) × (target < length)) }
 {
     match target(op) {
-        Some(target) => place < usize::from(target) && usize::from(target) < length,
+        Some(target) => place < target && target < length,
         None => true,
     }
 }

@@ -1,8 +1,5 @@
 //! The kinds on the stack at a place.
 
-ghost use Rattle.std.specs.Prelude.{◌≡◌, ◌≢◌, ◌<◌, ◌≤◌, ◌↔◌, IsTrue, List, [], ◌∷◌, length, MatchOption};
-ghost use Rattle.ifs_base.specs.declared.op.Kind.{Kind};
-
 use ifs_base::Kind;
 use std::marker::Model;
 
@@ -14,17 +11,20 @@ pub struct Stack {
 }
 
 impl Model for Stack {
-    ghost use Rattle.std.specs.Prelude.{◌≤◌, List, reverse, take};
+    ghost use Rattle.std.specs.Prelude.{◌≡◌, ◌≤◌, List, length, reverse, take};
     ghost use Rattle.ifs_base.specs.declared.op.Kind.{Kind};
 
     ghost Value = { List Kind };
 
     ghost view = { λ s. reverse (take s.len s.kinds) };
 
-    ghost invariant = { λ s. s.len ≤ 33 };
+    ghost invariant = { λ s. (s.len ≤ 33) × (length s.kinds ≡ 33) };
 }
 
 impl Stack {
+    ghost use Rattle.std.specs.Prelude.{◌≡◌, ◌<◌, ◌≤◌, ◌↔◌, IsTrue, [], ◌∷◌, length, IfSome, MatchOption};
+    ghost use Rattle.ifs_verify.specs.Passes.{without, below_top, top_twice};
+
     /// The empty list.
     pub fn new() -> Self
         ensures { result ≡ [] }
@@ -71,6 +71,49 @@ impl Stack {
         }
         self.len -= 1;
         Some(self.kinds[self.len])
+    }
+
+    /// The list with a kind on top.
+    pub fn with(mut self, kind: Kind) -> Self
+        requires { length self < 33 }
+        ensures { result ≡ kind ∷ self }
+    {
+        self.push(kind);
+        self
+    }
+
+    /// The list below a kind that is wanted on top.
+    #[tactic(auto, using(crate::proofs::Takings::taken))]
+    pub fn without(mut self, kind: Kind) -> Option<Self>
+        ensures value { result ≡ without kind self }
+        ensures shorter { IfSome result (λ below. length below ≤ length self) }
+    {
+        let top = self.pop()?;
+        if top != kind {
+            return None;
+        }
+        Some(self)
+    }
+
+    /// The list below the topmost kind.
+    #[tactic(auto, using(crate::proofs::Takings::taken))]
+    pub fn below_top(mut self) -> Option<Self>
+        ensures { result ≡ below_top self }
+    {
+        let _ = self.pop()?;
+        Some(self)
+    }
+
+    /// The list with its topmost kind once more.
+    #[tactic(auto, using(crate::proofs::Takings::taken))]
+    pub fn top_twice(mut self) -> Option<Self>
+        requires { length self < 33 }
+        ensures { result ≡ top_twice self }
+    {
+        let top = self.pop()?;
+        self.push(top);
+        self.push(top);
+        Some(self)
     }
 
     /// Whether both are the same list.
