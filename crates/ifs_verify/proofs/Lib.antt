@@ -1,4 +1,6 @@
 pub mod Flow
+pub mod Holding
 pub mod Instructions
+pub mod Reaching
 pub mod Rows
 pub mod Takings

@@ -145,3 +145,12 @@ pub record HoldsHeight (image : ImageParts) (heights : ℕ → ℕ) (op : Op) (k
 -- Each height is at most 32 above those of all routines below.
 abbrev pub AreLow : List ℕ → Type 0
 AreLow heights = (routine : ℕ) → slice_index heights routine ≤ 32 * (routine + 1)
+
+-- A place follows the instruction at one below another.
+abbrev pub FollowsBelow : ImageParts → ℕ → ℕ → ℕ → Type 0
+FollowsBelow image routine done to = (place : ℕ) × (op : Op) × (place < done) × (op_at image routine place ≡ Some op) × IsSuccessor op place to
+
+-- A number of frames is large enough for a routine's own, and for those of each callee above it.
+pub record HoldsDepth (image : ImageParts) (depths : ℕ → ℕ) (routine depth : ℕ) : Type 0 where
+  pub own : 1 ≤ depth
+  pub calls : (place : ℕ) (callee : RoutineId) → op_at image routine place ≡ Some (Call callee) → depths callee.0 + 1 ≤ depth

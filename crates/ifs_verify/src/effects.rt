@@ -1,8 +1,7 @@
 //! What an instruction leaves on the stack.
 
 ghost use Rattle.std.specs.Prelude.{ℕ, ◌≡◌, ◌≤◌, ◌<◌, ◌↔◌, ◌++◌, IsTrue, length};
-ghost use Rattle.ifs_base.specs.declared.ids.RoutineId.{RoutineId};
-ghost use Rattle.ifs_base.specs.declared.op.Op.TheVariants.{Call};
+ghost use Rattle.ifs_base.specs.declared.op.Op.TheVariants.{Ret};
 ghost use Rattle.ifs_image.specs.Code.{effect, results_of};
 ghost use Rattle.ifs_verify.specs.Rules.{IsRoutine, HasOperand};
 ghost use Rattle.ifs_verify.specs.Passes.{IsSized, left_by};
@@ -65,8 +64,17 @@ pub fn with_results(image: &ImageParts, routine: usize, stack: Stack) -> Stack
     }
 }
 
+/// Whether a list is a routine's results, where the instruction is `ret`.
+pub fn keeps_results(image: &ImageParts, routine: usize, op: Op, stack: &Stack) -> bool
+    requires sized { IsSized image.now }
+    requires routine { IsRoutine image.now routine }
+    ensures { IsTrue result ↔ (op ≡ Ret → stack.now ≡ results_of image.now routine) }
+{
+    op != Op::Ret || are_results(image, routine, stack)
+}
+
 /// Whether a list is a routine's results.
-pub fn are_results(image: &ImageParts, routine: usize, stack: &Stack) -> bool
+fn are_results(image: &ImageParts, routine: usize, stack: &Stack) -> bool
     requires sized { IsSized image.now }
     requires routine { IsRoutine image.now routine }
     ensures { IsTrue result ↔ (stack.now ≡ results_of image.now routine) }

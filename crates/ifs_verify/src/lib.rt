@@ -1,6 +1,7 @@
 //! The verifier: whether an image may run on a machine that makes no trap test.
 #![tactic(auto)]
 
+mod depths;
 mod effects;
 mod fault;
 mod heights;

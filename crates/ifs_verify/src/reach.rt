@@ -1,6 +1,6 @@
 //! Whether each place of a routine is reached.
 
-ghost use Rattle.std.specs.Prelude.{ℕ, ◌≡◌, ◌<◌, ◌⊎◌, ◌↔◌, Option, Some, length, OnOk, IfErr, IfOk};
+ghost use Rattle.std.specs.Prelude.{ℕ, ◌≡◌, ◌<◌, ◌⊎◌, ◌↔◌, Option, Some, IsTrue, length, OnOk, IfErr, IfOk};
 ghost use Rattle.ifs_image.specs.Code.{code_of};
 ghost use Rattle.ifs_verify.specs.Rules.{IsRoutine, IsReached, PlacesAreReached};
 ghost use Rattle.ifs_verify.specs.Passes.{IsSized, IsRefused, IsMarked};
@@ -32,7 +32,7 @@ fn check_reached_in(alloc: Global, image: &ImageParts, routine: usize) -> Result
     let code = code(image, routine);
     let mut marks = no_marks(alloc, code.len())?;
     for place in 0..code.len() {
-        if 0 < place && !marks[place] {
+        if !is_reached(&marks, place) {
             return Err(VerifyFault::Unreached(at(routine, place)));
         }
         let op = op_at(code, place);
@@ -52,6 +52,14 @@ fn no_marks(alloc: Global, count: usize) -> Result<Vec<bool>, AllocError>
         marks.push(false)?;
     }
     Ok(marks)
+}
+
+/// Whether a place is the first, or marked.
+fn is_reached(marks: &Vec<bool>, place: usize) -> bool
+    requires { place < length marks.now.items }
+    ensures { IsTrue result ↔ ((place ≡ 0) ⊎ IsMarked marks.now.items place) }
+{
+    place == 0 || marks[place]
 }
 
 /// Marks a place, where there is one and it is in the row.

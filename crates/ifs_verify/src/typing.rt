@@ -8,7 +8,7 @@ ghost use Rattle.ifs_image.specs.Code.{op_at, code_of, IsSuccessor};
 ghost use Rattle.ifs_verify.specs.Rules.{IsRoutine};
 ghost use Rattle.ifs_verify.specs.Passes.{IsPlain, IsRefused, IsTypedUpTo, Leaves, Extends, row_at};
 
-use crate::effects::{are_results, effect_of};
+use crate::effects::{effect_of, keeps_results};
 use crate::fault::VerifyFault;
 use crate::places::{at, code, next, op_at, target};
 use crate::stack::Stack;
@@ -91,7 +91,7 @@ fn after(
     let Some(before) = &rows[place] else {
         unreachable!()
     };
-    if op == Op::Ret && !are_results(image, routine, before) {
+    if !keeps_results(image, routine, op, before) {
         return Err(VerifyFault::WrongResults(at(routine, place)));
     }
     let Some(after) = effect_of(image, op, before) else {
