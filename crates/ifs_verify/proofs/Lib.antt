@@ -1,3 +1,4 @@
+pub mod Backward
 pub mod Flow
 pub mod Holding
 pub mod Instructions

@@ -15,7 +15,10 @@ use Rattle.ifs_verify.specs.declared.fault.VerifyFault.TheVariants.{NoEntry, Jum
 use Rattle.ifs_verify.specs.declared.rules.OpRule.{OpRule}
 use Rattle.ifs_verify.specs.declared.rules.OpRule.TheVariants.{Operand, Target, Callee}
 use Rattle.ifs_verify.specs.Rules.{HasOperand, IndexesFit, JumpsLeadOn, RoutinesEnd, CallsGoDown, PlacesAreReached}
-use Rattle.ifs_verify.specs.Typing.{IsTyping}
+use Rattle.ifs_verify.specs.declared.amounts.Weight.{Weight}
+use Rattle.ifs_verify.specs.declared.amounts.Weight.TheVariants.{Cost, Commands}
+use Rattle.ifs_verify.specs.Bounds.{cost_of, commands_of, callee_amount, AreHeights, AreDepths, AreAmounts}
+use Rattle.ifs_verify.specs.Typing.{IsTyping, AreTypings}
 use Rattle.ifs_verify.specs.Refused.{rule_of}
 
 -- The limits of an image on which the passes rest.
@@ -154,3 +157,61 @@ FollowsBelow image routine done to = (place : ℕ) × (op : Op) × (place < done
 pub record HoldsDepth (image : ImageParts) (depths : ℕ → ℕ) (routine depth : ℕ) : Type 0 where
   pub own : 1 ≤ depth
   pub calls : (place : ℕ) (callee : RoutineId) → op_at image routine place ≡ Some (Call callee) → depths callee.0 + 1 ≤ depth
+
+-- The weight of an instruction, by what is counted.
+abbrev pub weight_of : Weight → Op → ℕ
+weight_of Cost = cost_of
+weight_of Commands = commands_of
+
+-- The amount at a successor; 0 where there is none.
+abbrev pub amount_behind : (ℕ → ℕ) → Option ℕ → ℕ
+amount_behind row None = 0
+amount_behind row (Some to) = row to
+
+-- An amount is large enough for one instruction and what may follow it.
+pub record HoldsAmount (weight : Op → ℕ) (lower row : ℕ → ℕ) (op : Op) (place amount : ℕ) : Type 0 where
+  pub own : weight op + callee_amount (λ routine to. lower routine) op ≤ amount
+  pub onward : (to : ℕ) → IsSuccessor op place to → weight op + callee_amount (λ routine k. lower routine) op + row to ≤ amount
+
+-- A row of amounts, one for each place of a routine.
+abbrev pub HoldsRow : (Op → ℕ) → ImageParts → (ℕ → ℕ) → ℕ → (ℕ → ℕ) → Type 0
+HoldsRow weight image lower routine row = (place : ℕ) (op : Op) → op_at image routine place ≡ Some op → HoldsAmount weight lower row op place (row place)
+
+-- The amounts of the places from one on, each a bound and below every bound.
+pub record IsCountedFrom (weight : Op → ℕ) (image : ImageParts) (lower : ℕ → ℕ) (routine : ℕ) (amounts : List ℕ) (place : ℕ) : Type 0 where
+  pub long : length amounts ≡ length (code_of image routine)
+  pub low : (k : ℕ) → slice_index amounts k + 100001 * place ≤ 100001 * length (code_of image routine)
+  pub holds : (k : ℕ) (op : Op) → place ≤ k → op_at image routine k ≡ Some op → HoldsAmount weight lower (slice_index amounts) op k (slice_index amounts k)
+  pub least : (all : ℕ → ℕ → ℕ) → AreAmounts weight image all → ((k : ℕ) → k < routine → lower k ≤ all k 0)
+      → (k : ℕ) → k < length (code_of image routine) → place ≤ k → slice_index amounts k ≤ all routine k
+
+-- A routine's typing whose heights a height holds.
+abbrev pub IsHeld : ImageParts → (ℕ → ℕ) → ℕ → (ℕ → List Kind) → Type 0
+IsHeld image heights routine kinds = IsTyping image routine kinds
+    × ((place : ℕ) (op : Op) → op_at image routine place ≡ Some op → HoldsHeight image heights op (kinds place) (heights routine))
+
+-- The heights of the routines below one, each a bound and below every bound.
+pub record LeastHeights (image : ImageParts) (heights : List ℕ) (done : ℕ) : Type 0 where
+  pub long : length heights ≡ done
+  pub low : AreLow heights
+  pub held : (routine : ℕ) → routine < done → (kinds : ℕ → List Kind) × IsHeld image (slice_index heights) routine kinds
+  pub least : (kinds : ℕ → ℕ → List Kind) (all : ℕ → ℕ) → AreTypings image kinds → AreHeights image kinds all
+      → (routine : ℕ) → routine < done → slice_index heights routine ≤ all routine
+
+-- The frames of the routines below one, each a bound and below every bound.
+pub record LeastDepths (image : ImageParts) (depths : List ℕ) (done : ℕ) : Type 0 where
+  pub long : length depths ≡ done
+  pub low : (k : ℕ) → slice_index depths k ≤ 32
+  pub held : (routine : ℕ) → routine < done → HoldsDepth image (slice_index depths) routine (slice_index depths routine)
+  pub least : (all : ℕ → ℕ) → AreDepths image all → (routine : ℕ) → routine < done → slice_index depths routine ≤ all routine
+
+-- A row of amounts that begins with a routine's amount.
+abbrev pub IsCounted : (Op → ℕ) → ImageParts → (ℕ → ℕ) → ℕ → (ℕ → ℕ) → Type 0
+IsCounted weight image amounts routine row = (row 0 ≡ amounts routine) × HoldsRow weight image amounts routine row
+
+-- The amounts of the routines below one, each a bound and below every bound.
+pub record LeastAmounts (weight : Op → ℕ) (image : ImageParts) (limit : ℕ) (amounts : List ℕ) (done : ℕ) : Type 0 where
+  pub long : length amounts ≡ done
+  pub low : (k : ℕ) → slice_index amounts k ≤ limit
+  pub held : (routine : ℕ) → routine < done → (row : ℕ → ℕ) × IsCounted weight image (slice_index amounts) routine row
+  pub least : (all : ℕ → ℕ → ℕ) → AreAmounts weight image all → (routine : ℕ) → routine < done → slice_index amounts routine ≤ all routine 0

@@ -8,6 +8,7 @@ ghost use Rattle.ifs_verify.specs.Rules.{IsRoutine};
 ghost use Rattle.ifs_verify.specs.Passes.{IsPlain, IsTypedUpTo, row_at, HoldsHeight, AreLow};
 
 use crate::effects::effect_of;
+use crate::greatest::greater;
 use crate::places::{code, op_at};
 use crate::stack::Stack;
 use ifs_base::Op;
@@ -35,7 +36,8 @@ pub fn height_of(
         let Some(before) = &rows[place] else {
             unreachable!()
         };
-        height = height.max(height_at(image, routine, op_at(code, place), before, heights));
+        let here = height_at(image, routine, op_at(code, place), before, heights);
+        height = greater(height, here);
     }
     height
 }
@@ -66,5 +68,5 @@ fn height_at(
         Op::Call(callee) => before + heights[usize::from(callee.0)],
         _ => 0,
     };
-    before.max(after.len() as u32).max(called)
+    greater(greater(before, after.len() as u32), called)
 }

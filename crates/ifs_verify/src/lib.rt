@@ -1,9 +1,11 @@
 //! The verifier: whether an image may run on a machine that makes no trap test.
 #![tactic(auto)]
 
+mod amounts;
 mod depths;
 mod effects;
 mod fault;
+mod greatest;
 mod heights;
 mod places;
 mod reach;

@@ -29,16 +29,16 @@ unreachable-requires c =
     let found = row_there c.args.image.now c.args.routine c.args.rows.now.items (length (code_of c.args.image.now c.args.routine)) c.loop-place.place op.0 c.requires.typed within op.1 in
     c.in_default.not-Some found.0 (sym read ∙ found.1)
 
-pub height_at-requires-clause-fits : goal.height_at-requires-clause-fits
-height_at-requires-clause-fits c =
+pub height_at-here-requires-clause-fits : goal.height_at-here-requires-clause-fits
+height_at-here-requires-clause-fits c =
     let within : c.loop-place.place < length (code_of c.args.image.now c.args.routine) = subst (λ (code : List Op). c.loop-place.place < length code) c.code-code.ensures c.loop-place-test.true in
     let read = row_read c.args.image.now c.args.routine c.loop-place.place c.args.rows.now.items c.index.result.now c.requires.typed within c.index.ensures in
     let here : op_at c.args.image.now c.args.routine c.loop-place.place ≡ Some c.op_at.result = subst (λ (code : List Op). slice_get code c.loop-place.place ≡ Some c.op_at.result) c.code-code.ensures c.op_at.ensures in
     passed_at c.args.image.now c.args.routine c.args.rows.now.items (length (code_of c.args.image.now c.args.routine)) c.loop-place.place c.op_at.result c.in-Some.before
       c.requires.typed within here (read ∙ c.in-Some.is)
 
-pub height_at-requires-clause-within : goal.height_at-requires-clause-within
-height_at-requires-clause-within c =
+pub height_at-here-requires-clause-within : goal.height_at-here-requires-clause-within
+height_at-here-requires-clause-within c =
     let within : c.loop-place.place < length (code_of c.args.image.now c.args.routine) = subst (λ (code : List Op). c.loop-place.place < length code) c.code-code.ensures c.loop-place-test.true in
     let read = row_read c.args.image.now c.args.routine c.loop-place.place c.args.rows.now.items c.index.result.now c.requires.typed within c.index.ensures in
     c.requires.typed.within c.loop-place.place c.in-Some.before (read ∙ c.in-Some.is)
@@ -50,11 +50,10 @@ loop-place-preserved c =
     let here : op_at c.args.image.now c.args.routine c.loop-place.place ≡ Some c.op_at.result = subst (λ (code : List Op). slice_get code c.loop-place.place ≡ Some c.op_at.result) c.code-code.ensures c.op_at.ensures in
     record {
       holds = holds_more c.args.image.now c.args.routine c.args.rows.now.items (slice_index c.args.heights.now) c.loop-place.place c.op_at.result c.in-Some.before
-        c.loop-place.height c.height_at.result c.max-height.result c.loop-place.invariant.holds here (read ∙ c.in-Some.is) c.height_at.ensures.holds (omega arith) (omega arith);
+        c.loop-place.height c.height_at-here.result c.greater-height.result c.loop-place.invariant.holds here (read ∙ c.in-Some.is) c.height_at-here.ensures.holds c.greater-height.ensures.left c.greater-height.ensures.right;
       least = λ bound all.
-        let so_far = c.loop-place.invariant.least bound all in
-        let one = c.height_at.ensures.least bound (all c.loop-place.place c.op_at.result c.in-Some.before here (read ∙ c.in-Some.is)) in
-        omega (arith, so_far, one)
+        c.greater-height.ensures.least bound (c.loop-place.invariant.least bound all)
+          (c.height_at-here.ensures.least bound (all c.loop-place.place c.op_at.result c.in-Some.before here (read ∙ c.in-Some.is)))
     }
 
 pub returns-clause-holds : goal.returns-clause-holds

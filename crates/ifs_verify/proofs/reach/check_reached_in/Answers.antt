@@ -2,6 +2,8 @@ use Rattle.std.proofs.Common.{ℕ, ◌≡◌, ◌<◌, ◌≤◌, ◌+◌, List,
 use Rattle.std.specs.List.{slice_get}
 use Rattle.ifs_base.specs.declared.op.Op.{Op}
 use Rattle.ifs_image.specs.Code.{op_at, target_of}
+use Rattle.std.proofs.lemmas.Bool.{cases_eq}
+use Rattle.ifs_verify.specs.Rules.{IsReached}
 use Rattle.ifs_verify.specs.Passes.{next_of}
 use Rattle.ifs_verify.proofs.Reaching.{Marks, follows_more, marked_more}
 use Rattle.ifs_verify.proofs.reach.check_reached_in.Goals as goal
@@ -24,5 +26,14 @@ loop-place-preserved c =
       marked = λ k within.
         marked_more image routine place op before between after here c.mark.ensures.long first second
           (λ j inside. c.loop-place.invariant.marked j (omega (arith, inside, c.loop-place.invariant.long))) k (omega (arith, within, c.loop-place.invariant.long));
-      reached = ?
+      reached = λ k positive below.
+        elim (cases_eq k place) [
+          inl e ↦
+            subst (λ (n : ℕ). IsReached image routine n) (sym e)
+              (elim (c.is_reached.ensures.0 c.if-not-is_reached.false) [
+                inl zero ↦ absurd (omega arith)
+              | inr marked ↦ c.loop-place.invariant.follows place marked
+              ])
+        | inr ne ↦ c.loop-place.invariant.reached k positive (omega arith)
+        ]
     }
