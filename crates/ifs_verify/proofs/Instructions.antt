@@ -1,9 +1,10 @@
 -- What follows from an instruction that stands at a place.
-use Rattle.std.proofs.Common.{ℕ, ◌≡◌, ◌≢◌, ◌<◌, ◌≤◌, length, Option, Some, None, ap, ◌∙◌, ◌+◌, List, inl, inr, arith, subst, sym}
+use Rattle.std.proofs.Common.{ℕ, ◌≡◌, ◌≢◌, ◌<◌, ◌≤◌, length, Option, Some, None, ap, ◌∙◌, ◌+◌, ◌-◌, List, inl, inr, arith, subst, sym}
 use Rattle.std.specs.List.{slice_get}
 use Rattle.std.proofs.lemmas.Bool.{cases_lt}
 use Rattle.std.proofs.lemmas.Option.{slice_get_past, slice_get_within}
 use Rattle.ifs_base.specs.declared.op.Op.{Op}
+use Rattle.ifs_base.specs.declared.op.Op.TheVariants.{Ret}
 use Rattle.ifs_image.specs.declared.parts.Handlers.{Handlers}
 use Rattle.ifs_image.specs.declared.parts.StateSpec.{StateSpec}
 use Rattle.ifs_image.specs.declared.parts.Routine.{Routine}
@@ -12,7 +13,7 @@ use Rattle.ifs_image.specs.Code.{op_at, code_of, code_in}
 use Rattle.ifs_verify.specs.declared.fault.At.{At}
 use Rattle.ifs_verify.specs.declared.rules.OpRule.{OpRule}
 use Rattle.ifs_verify.specs.declared.rules.OpRule.TheVariants.{Operand, Target, Callee}
-use Rattle.ifs_verify.specs.Rules.{IsRoutine}
+use Rattle.ifs_verify.specs.Rules.{IsRoutine, RoutinesEnd}
 use Rattle.ifs_verify.specs.Refused.{rule_of}
 use Rattle.ifs_verify.specs.Passes.{Keeps, fault_of}
 
@@ -52,3 +53,10 @@ states_more states P i handlers earlier found here k state below is =
         let e : handlers ≡ state.handlers = sym found.2 ∙ ap (λ (s : StateSpec). s.handlers) (some_same found.0 state (sym found.1 ∙ at_i)) in
         subst P e here
     ]
+
+-- A routine that ends has an instruction.
+pub some_code : (image : ImageParts) (routine : ℕ) → RoutinesEnd image → IsRoutine image routine → 0 < length (code_of image routine)
+some_code image routine ends is_routine =
+    let last : length (code_of image routine) - 1 < length (code_of image routine) =
+      slice_get_within (code_of image routine) (length (code_of image routine) - 1) Ret (ends routine is_routine) in
+    omega arith

@@ -4,4 +4,5 @@ pub mod Holding
 pub mod Instructions
 pub mod Reaching
 pub mod Rows
+pub mod Tables
 pub mod Takings

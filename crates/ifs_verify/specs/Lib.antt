@@ -4,6 +4,7 @@ pub mod Bounds
 pub mod Accepted
 pub mod Refused
 pub mod Passes
+pub mod Found
 pub use Rattle.ifs_image.specs.Code
 pub use Rattle.ifs_image.specs.Facts
 pub use Rattle.ifs_image.specs.Spelling

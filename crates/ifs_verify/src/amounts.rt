@@ -43,7 +43,7 @@ pub fn amount_of(
     for done in 0..count {
         count_at(image, routine, count - 1 - done, weight, lower, &mut amounts);
     }
-    Ok(amounts[0])
+    Ok(first(&amounts))
 }
 
 /// The amount from one place on, where those of all later places are known.
@@ -66,6 +66,14 @@ fn count_at(
     let op = op_at(code(image, routine), place);
     let amount = amount_at(op, place, weight, lower, amounts);
     put(amounts, place, amount);
+}
+
+/// The amount of the first place.
+fn first(amounts: &Vec<u32>) -> u32
+    requires { 0 < length amounts.now.items }
+    ensures { result ≡ slice_index amounts.now.items 0 }
+{
+    amounts[0]
 }
 
 /// Writes an amount.

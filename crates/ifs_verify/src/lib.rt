@@ -2,6 +2,7 @@
 #![tactic(auto)]
 
 mod amounts;
+mod bounds;
 mod depths;
 mod effects;
 mod fault;
@@ -11,6 +12,7 @@ mod places;
 mod reach;
 mod rules;
 mod stack;
+mod stacks;
 mod typing;
 mod verified;
 
