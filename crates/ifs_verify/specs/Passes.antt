@@ -6,6 +6,8 @@ use Rattle.ifs_base.specs.declared.op.Kind.{Kind}
 use Rattle.ifs_base.specs.declared.op.Kind.TheVariants.{Truth, Command, StateName}
 use Rattle.ifs_base.specs.declared.op.Op.{Op}
 use Rattle.ifs_base.specs.declared.op.Op.TheVariants.{Ret, Yes, No, Link, Test, Known, Negate, Both, Either, PushCommand, PushState, Queue, Want, Jump, JumpFalse, JumpTrue, Call, Pop, Dup}
+use Rattle.ifs_image.specs.declared.parts.Handlers.{Handlers}
+use Rattle.ifs_image.specs.declared.parts.StateSpec.{StateSpec}
 use Rattle.ifs_image.specs.declared.parts.Routine.{Routine}
 use Rattle.ifs_image.specs.declared.parts.ImageParts.{ImageParts}
 use Rattle.ifs_image.specs.Code.{op_at, code_of, results_of, target_of, effect, IsSuccessor}
@@ -14,6 +16,8 @@ use Rattle.ifs_verify.specs.declared.fault.At.{At}
 use Rattle.ifs_verify.specs.declared.fault.VerifyFault.TheVariants.{NoEntry, JumpTarget, CallNotLower, OutOfMemory}
 use Rattle.ifs_verify.specs.declared.rules.OpRule.{OpRule}
 use Rattle.ifs_verify.specs.declared.rules.OpRule.TheVariants.{Operand, Target, Callee}
+use Rattle.ifs_verify.specs.declared.budgets.Part.{Part}
+use Rattle.ifs_verify.specs.declared.budgets.Part.TheVariants.{Init, Body}
 use Rattle.ifs_verify.specs.Rules.{HasOperand, IndexesFit, JumpsLeadOn, RoutinesEnd, CallsGoDown, PlacesAreReached}
 use Rattle.ifs_verify.specs.declared.amounts.Weight.{Weight}
 use Rattle.ifs_verify.specs.declared.amounts.Weight.TheVariants.{Cost, Commands}
@@ -215,3 +219,12 @@ pub record LeastAmounts (weight : Op → ℕ) (image : ImageParts) (limit : ℕ)
   pub low : (k : ℕ) → slice_index amounts k ≤ limit
   pub held : (routine : ℕ) → routine < done → (row : ℕ → ℕ) × IsCounted weight image (slice_index amounts) routine row
   pub least : (all : ℕ → ℕ → ℕ) → AreAmounts weight image all → (routine : ℕ) → routine < done → slice_index amounts routine ≤ all routine 0
+
+-- The routine of a part's handler.
+abbrev pub part_of : Part → Handlers → RoutineId
+part_of Init handlers = handlers.init
+part_of Body handlers = handlers.body
+
+-- A number is large enough for the handler of each state.
+abbrev pub Reaches : Part → ImageParts → (ℕ → ℕ) → ℕ → Type 0
+Reaches part image amount bound = (k : ℕ) (state : StateSpec) → slice_get image.states k ≡ Some state → amount (part_of part state.handlers).0 ≤ bound

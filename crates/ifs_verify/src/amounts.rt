@@ -8,7 +8,7 @@ ghost use Rattle.ifs_verify.specs.Bounds.{AreAmounts, callee_amount};
 ghost use Rattle.ifs_verify.specs.Rules.{IsRoutine};
 ghost use Rattle.ifs_verify.specs.Passes.{IsPlain, HoldsAmount, HoldsRow, IsCountedFrom, weight_of, amount_behind};
 
-use crate::greatest::greater;
+use crate::tables::greater;
 use crate::places::{code, next, op_at, target};
 use ifs_base::Op;
 use ifs_image::ImageParts;

@@ -10,6 +10,7 @@ use crate::amounts::{Weight, amount_of};
 use crate::depths::depth_of;
 use crate::fault::VerifyFault;
 use crate::places::at;
+use crate::tables::entry;
 use ifs_image::ImageParts;
 use ifs_image::limits;
 use std::alloc::Global;
@@ -61,7 +62,7 @@ fn find_bounds(
     ensures found { OnOk result (AreFound image.now heights.now.items bounds.new (routine + 1)) }
     ensures refused { IfErr result (IsRefused image.now) }
 {
-    if heights[routine] > u32::from(limits::STACK) {
+    if entry(heights, routine) > u32::from(limits::STACK) {
         return Err(VerifyFault::StackOver(at(routine, 0)));
     }
     let depth = depth_of(image, routine, bounds.depths.as_slice());

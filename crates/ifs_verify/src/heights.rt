@@ -8,7 +8,7 @@ ghost use Rattle.ifs_verify.specs.Rules.{IsRoutine};
 ghost use Rattle.ifs_verify.specs.Passes.{IsPlain, IsTypedUpTo, row_at, HoldsHeight, AreLow};
 
 use crate::effects::effect_of;
-use crate::greatest::greater;
+use crate::tables::greater;
 use crate::places::{code, op_at};
 use crate::stack::Stack;
 use ifs_base::Op;

@@ -3,16 +3,17 @@
 
 mod amounts;
 mod bounds;
+mod budgets;
 mod depths;
 mod effects;
 mod fault;
-mod greatest;
 mod heights;
 mod places;
 mod reach;
 mod rules;
 mod stack;
 mod stacks;
+mod tables;
 mod typing;
 mod verified;
 

@@ -139,10 +139,10 @@ heights_more image heights routine height rows plain found typed holds least =
         | inr ne ↦
             let before : k < routine = omega arith in
             let h = found.held k before in
-            (h.0, h.1.0,
+            (h.0, (h.1.0,
              λ place op is.
                HoldsHeight-heights image (slice_index heights) (slice_index (heights ++ height ∷ [])) op (h.0 place) (slice_index heights k)
-                 (slice_index (heights ++ height ∷ []) k) (sym (entry_old heights height k (omega (arith, long)))) (lower k place op (omega arith) is) (h.1.1 place op is))
+                 (slice_index (heights ++ height ∷ []) k) (sym (entry_old heights height k (omega (arith, long)))) (lower k place op (omega arith) is) (h.1.1 place op is)))
         ];
       least = λ kinds all typings are k below.
         elim (cases_eq k routine) [
@@ -251,11 +251,11 @@ amounts_more weight image limit amounts routine amount plain found counted least
         elim (cases_eq k routine) [
           inl e ↦
             subst (λ (n : ℕ). (row : ℕ → ℕ) × IsCounted weight image (slice_index (amounts ++ amount ∷ [])) n row) (sym e)
-              (counted.0, counted.1 ∙ sym last, rows routine counted.0 (omega arith) counted.2)
+              (counted.0, (counted.1 ∙ sym last, rows routine counted.0 (omega arith) counted.2))
         | inr ne ↦
             let before : k < routine = omega arith in
             let h = found.held k before in
-            (h.0, h.1.0 ∙ sym (entry_old amounts amount k (omega (arith, long))), rows k h.0 (omega arith) h.1.1)
+            (h.0, (h.1.0 ∙ sym (entry_old amounts amount k (omega (arith, long))), rows k h.0 (omega arith) h.1.1))
         ];
       least = λ all are k below.
         elim (cases_eq k routine) [
