@@ -7,7 +7,9 @@
 
 mod fault;
 mod fields;
+mod fitting;
 mod image;
+pub mod laws;
 pub mod limits;
 mod parts;
 mod reading;
