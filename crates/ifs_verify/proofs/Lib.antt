@@ -7,3 +7,4 @@ pub mod Reaching
 pub mod Rows
 pub mod Entering
 pub mod Takings
+pub mod Verdict

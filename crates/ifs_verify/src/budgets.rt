@@ -34,10 +34,10 @@ pub fn check_budgets(image: &ImageParts, heights: &Vec<u32>, bounds: &Bounds) ->
     ensures commands { OnOk result (FitsEvents image.now (slice_index bounds.now.commands.items) image.now.budgets.commands) }
     ensures refused { IfErr result (IsRefused image.now) }
 {
-    if !fit_handlers(image, heights, u32::from(image.budgets.stack)) {
+    if !fit_handlers(image, heights, image.budgets.stack) {
         return Err(VerifyFault::StackOver(At::Head));
     }
-    if !fit_handlers(image, &bounds.depths, u32::from(image.budgets.frames)) {
+    if !fit_handlers(image, &bounds.depths, image.budgets.frames) {
         return Err(VerifyFault::FramesOver(At::Head));
     }
     if !fit_events(image, &bounds.costs, image.budgets.cost) {
@@ -50,7 +50,7 @@ pub fn check_budgets(image: &ImageParts, heights: &Vec<u32>, bounds: &Bounds) ->
 }
 
 /// Whether what each handler reaches is within what is stated.
-fn fit_handlers(image: &ImageParts, reach: &Vec<u32>, stated: u32) -> bool
+fn fit_handlers(image: &ImageParts, reach: &Vec<u32>, stated: u16) -> bool
     requires indexes { IndexesFit image.now }
     requires long { length reach.now.items ≡ length image.now.routines }
     ensures { IsTrue result ↔ FitsHandlers image.now (slice_index reach.now.items) stated }
@@ -59,7 +59,7 @@ fn fit_handlers(image: &ImageParts, reach: &Vec<u32>, stated: u32) -> bool
 }
 
 /// The same of each state.
-fn fit_states(image: &ImageParts, reach: &Vec<u32>, stated: u32) -> bool
+fn fit_states(image: &ImageParts, reach: &Vec<u32>, stated: u16) -> bool
     requires indexes { IndexesFit image.now }
     requires long { length reach.now.items ≡ length image.now.routines }
     ensures { IsTrue result ↔ ((k : ℕ) (state : StateSpec) → slice_get image.now.states k ≡ Some state → (slice_index reach.now.items state.handlers.init.0 ≤ stated) × (slice_index reach.now.items state.handlers.body.0 ≤ stated)) }
@@ -73,12 +73,14 @@ fn fit_states(image: &ImageParts, reach: &Vec<u32>, stated: u32) -> bool
 }
 
 /// The same of one part.
-fn fit_part(reach: &Vec<u32>, handlers: Handlers, stated: u32) -> bool
+fn fit_part(reach: &Vec<u32>, handlers: Handlers, stated: u16) -> bool
     requires init { handlers.init.0 < length reach.now.items }
     requires body { handlers.body.0 < length reach.now.items }
     ensures { IsTrue result ↔ ((slice_index reach.now.items handlers.init.0 ≤ stated) × (slice_index reach.now.items handlers.body.0 ≤ stated)) }
 {
-    entry(reach, usize::from(handlers.init.0)) <= stated && entry(reach, usize::from(handlers.body.0)) <= stated
+    let stated = u32::from(stated);
+    entry(reach, usize::from(handlers.init.0)) <= stated
+        && entry(reach, usize::from(handlers.body.0)) <= stated
 }
 
 /// Whether the amounts of each event are within what is stated.

@@ -8,6 +8,7 @@ mod depths;
 mod effects;
 mod fault;
 mod heights;
+pub mod laws;
 mod places;
 mod reach;
 mod rules;
@@ -16,6 +17,12 @@ mod stacks;
 mod tables;
 mod typing;
 mod verified;
+mod verifying;
 
 pub use fault::{At, VerifyFault};
+pub use bounds::ROUTINE_COST;
 pub use verified::Verified;
+pub use verifying::verify;
+
+#[cfg(test)]
+mod tests;
