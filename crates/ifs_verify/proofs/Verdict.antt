@@ -1,5 +1,5 @@
 -- From an image's limits to what the checks rest on, and from their answers to what a refusal says.
-use Rattle.std.proofs.Common.{ℕ, ◌≡◌, ◌≢◌, ◌≤◌, List, length, Option, Some, None, Err, arith, refl, ap, subst}
+use Rattle.std.proofs.Common.{ℕ, ◌≡◌, ◌≢◌, ◌≤◌, List, length, Option, Some, None, Result, Ok, Err, arith, refl, ap, sym, subst}
 use Rattle.std.proofs.lemmas.Option.{get_or_from_slice_get, slice_get_within}
 use Rattle.std.specs.List.{slice_get, All}
 use Rattle.ifs_image.specs.declared.fault.ImageFault.{ImageFault}
@@ -85,3 +85,17 @@ read_refuses bytes (NoInstruction at) first = first (λ e. cc)
 -- A refusal that is not for memory comes from a fault in reading that is not.
 pub not_memory : (fault : ImageFault) → refusal_of fault ≢ OutOfMemory → fault ≢ Memory
 not_memory fault other e = other (ap refusal_of e)
+
+abbrev read_as : ImageParts → Result ImageParts ImageFault
+read_as image = Ok image
+
+ok_same : (a b : ImageParts) → read_as a ≡ read_as b → a ≡ b
+ok_same a b e = cc
+
+-- A check that fails in the one image that the bytes spell is one that keeps it from being accepted.
+pub refused_once : (bytes : List ℕ) (image : ImageParts) (fault : VerifyFault) → IsRefused image fault
+    → ((other : ImageParts) → Spells bytes other → read_as image ≢ Err Memory → read_as image ≡ read_as other)
+    → fault ≢ OutOfMemory → (other : ImageParts) → Spells bytes other → ¬ IsAccepted other
+refused_once bytes image fault refused only other_fault other spelled accepted =
+    let same : image ≡ other = ok_same image other (only other spelled (λ e. cc)) in
+    refused other_fault (rule_holds fault image (subst IsAccepted (sym same) accepted))

@@ -79,8 +79,8 @@ fn fit_part(reach: &Vec<u32>, handlers: Handlers, stated: u16) -> bool
     ensures { IsTrue result ↔ ((slice_index reach.now.items handlers.init.0 ≤ stated) × (slice_index reach.now.items handlers.body.0 ≤ stated)) }
 {
     let stated = u32::from(stated);
-    entry(reach, usize::from(handlers.init.0)) <= stated
-        && entry(reach, usize::from(handlers.body.0)) <= stated
+    bound_of(reach, handlers.init) <= stated
+        && bound_of(reach, handlers.body) <= stated
 }
 
 /// Whether the amounts of each event are within what is stated.
@@ -91,10 +91,10 @@ fn fit_events(image: &ImageParts, amounts: &Vec<u32>, stated: u32) -> bool
     ensures { IsTrue result ↔ FitsEvents image.now (slice_index amounts.now.items) stated }
 {
     let first = handlers_of(image, usize::from(image.initial.0));
-    let opening = entry(amounts, usize::from(image.always.init.0)) + entry(amounts, usize::from(first.init.0));
+    let opening = bound_of(amounts, image.always.init) + bound_of(amounts, first.init);
     let bodies = greatest(image, amounts, Part::Body);
     let inits = greatest(image, amounts, Part::Init);
-    let always = entry(amounts, usize::from(image.always.body.0));
+    let always = bound_of(amounts, image.always.body);
     opening <= stated && always + bodies + inits <= stated
 }
 
@@ -110,7 +110,7 @@ fn greatest(image: &ImageParts, amounts: &Vec<u32>, part: Part) -> u32
     let mut most = 0;
     for state in 0..image.states.len() {
         let routine = handler(handlers_of(image, state), part);
-        let here = entry(amounts, usize::from(routine.0));
+        let here = bound_of(amounts, routine);
         most = greater(most, here);
     }
     most
@@ -124,4 +124,12 @@ fn handler(handlers: Handlers, part: Part) -> RoutineId
         Part::Init => handlers.init,
         Part::Body => handlers.body,
     }
+}
+
+/// The bound of a handler's routine.
+fn bound_of(table: &Vec<u32>, routine: RoutineId) -> u32
+    requires { routine.0 < length table.now.items }
+    ensures { result ≡ slice_index table.now.items routine.0 }
+{
+    entry(table, usize::from(routine.0))
 }

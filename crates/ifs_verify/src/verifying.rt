@@ -34,8 +34,10 @@ pub fn verify(alloc: Global, bytes: &[u8]) -> Result<Verified, VerifyFault>
     ensures refused { IfErr result (IsRefusal bytes.now) }
 {
     let image = read(alloc, bytes)?;
-    check(alloc, image.parts())?;
-    Ok(Verified::new(image))
+    match check(alloc, image.parts()) {
+        Ok(()) => Ok(Verified::new(image)),
+        Err(fault) => Err(fault),
+    }
 }
 
 /// Every check on an image.
