@@ -63,7 +63,9 @@ pub fn target(op: Op) -> Option<usize>
     ensures { result ≡ target_of op }
 {
     match op {
-        Op::Jump(target) | Op::JumpFalse(target) | Op::JumpTrue(target) => Some(usize::from(target)),
+        Op::Jump(target) | Op::JumpFalse(target) | Op::JumpTrue(target) => Some(usize::from(
+            target,
+        )),
         _ => None,
     }
 }
