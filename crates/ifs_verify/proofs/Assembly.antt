@@ -37,18 +37,23 @@ FitsHandlers-lower image high low stated indexes le fits = record {
   always_init = omega (arith, le image.always.init.0 indexes.always.0, fits.always_init);
   always_body = omega (arith, le image.always.body.0 indexes.always.1, fits.always_body);
   init = λ k state is. omega (arith, le state.handlers.init.0 (indexes.states k state is).0, fits.init k state is);
-  body = λ k state is. omega (arith, le state.handlers.body.0 (indexes.states k state is).1, fits.body k state is)
-  }
+  body = λ k state is. omega (arith, le state.handlers.body.0 (indexes.states k state is).1, fits.body k state is);
+}
 
 pub FitsEvents-lower : (image : ImageParts) (high low : ℕ → ℕ) (stated : ℕ) → IndexesFit image
     → ((routine : ℕ) → IsRoutine image routine → low routine ≤ high routine) → FitsEvents image high stated → FitsEvents image low stated
 FitsEvents-lower image high low stated indexes le fits = record {
   evaluation = λ j k current next is_current is_next.
-    omega (arith, le image.always.body.0 indexes.always.1, le current.handlers.body.0 (indexes.states j current is_current).1,
-      le next.handlers.init.0 (indexes.states k next is_next).0, fits.evaluation j k current next is_current is_next);
+      omega (
+        arith,
+        le image.always.body.0 indexes.always.1,
+        le current.handlers.body.0 (indexes.states j current is_current).1,
+        le next.handlers.init.0 (indexes.states k next is_next).0,
+        fits.evaluation j k current next is_current is_next,
+      );
   opening = λ first is.
-    omega (arith, le image.always.init.0 indexes.always.0, le first.handlers.init.0 (indexes.states image.initial.0 first is).0, fits.opening first is)
-  }
+      omega (arith, le image.always.init.0 indexes.always.0, le first.handlers.init.0 (indexes.states image.initial.0 first is).0, fits.opening first is);
+}
 
 -- The typings and heights that were found.
 abbrev Chosen : ImageParts → List ℕ → Type 0
@@ -65,13 +70,18 @@ pub stack_fits : (image : ImageParts) (heights : List ℕ) → LeastHeights imag
 stack_fits image heights found low fits =
     let all = chosen image heights found in
     let holds : (routine place : ℕ) (op : Op) → op_at image routine place ≡ Some op → HoldsHeight image (slice_index heights) op (all.0 routine place) (slice_index heights routine) =
-      λ routine place op is. (all.1 routine (op_at-routine image routine place op is)).1 place op is in
-    (all.0, slice_index heights, λ routine is_routine. (all.1 routine is_routine).0,
-     record {
-       before = λ routine place op is. (holds routine place op is).before;
-       after = λ routine place op next is e. (holds routine place op is).after next e;
-       calls = λ routine place callee is. (holds routine place (Call callee) is).call callee refl
-     }, low, fits)
+    λ routine place op is. (all.1 routine (op_at-routine image routine place op is)).1 place op is in (
+      all.0,
+      slice_index heights,
+      λ routine is_routine. (all.1 routine is_routine).0,
+      record {
+        before = λ routine place op is. (holds routine place op is).before;
+        after = λ routine place op next is e. (holds routine place op is).after next e;
+        calls = λ routine place callee is. (holds routine place (Call callee) is).call callee refl;
+      },
+      low,
+      fits,
+    )
 
 pub stack_unfit : (image : ImageParts) (heights : List ℕ) → IndexesFit image → LeastHeights image heights (length image.routines)
     → ¬ FitsHandlers image (slice_index heights) image.budgets.stack → ¬ StackFits image
@@ -81,18 +91,19 @@ stack_unfit image heights indexes found unfit fits =
 pub frames_fit : (image : ImageParts) (depths : List ℕ) → IsPlain image → LeastDepths image depths (length image.routines)
     → FitsHandlers image (slice_index depths) image.budgets.frames → FramesFit image
 frames_fit image depths plain found fits =
-    let all : ℕ → ℕ = λ routine. slice_index depths routine + (1 - slice_index depths routine) in
-    (all,
-     record {
-       own = λ routine. omega arith;
-       calls = λ routine place callee is.
-         let is_routine = op_at-routine image routine place (Call callee) is in
-         let less = plain.calls routine place callee is in
-         let below = found.held callee.0 (omega (arith, less, is_routine)) in
-         omega (arith, (found.held routine is_routine).calls place callee is, below.own)
-     },
-     λ routine is_routine. omega (arith, (found.held routine is_routine).own, found.low routine),
-     FitsHandlers-lower image (slice_index depths) all image.budgets.frames plain.indexes (λ routine is_routine. omega (arith, (found.held routine is_routine).own)) fits)
+    let all : ℕ → ℕ = λ routine. slice_index depths routine + (1 - slice_index depths routine) in (
+      all,
+      record {
+        own = λ routine. omega arith;
+        calls = λ routine place callee is.
+            let is_routine = op_at-routine image routine place (Call callee) is in
+            let less = plain.calls routine place callee is in
+            let below = found.held callee.0 (omega (arith, less, is_routine)) in
+            omega (arith, (found.held routine is_routine).calls place callee is, below.own);
+      },
+      λ routine is_routine. omega (arith, (found.held routine is_routine).own, found.low routine),
+      FitsHandlers-lower image (slice_index depths) all image.budgets.frames plain.indexes (λ routine is_routine. omega (arith, (found.held routine is_routine).own)) fits,
+    )
 
 pub frames_unfit : (image : ImageParts) (depths : List ℕ) → IndexesFit image → LeastDepths image depths (length image.routines)
     → ¬ FitsHandlers image (slice_index depths) image.budgets.frames → ¬ FramesFit image
@@ -113,25 +124,26 @@ pub amounts_fit : (weight : Op → ℕ) (image : ImageParts) (limit stated : ℕ
     → LeastAmounts weight image limit amounts (length image.routines) → FitsEvents image (slice_index amounts) stated → AmountsFit weight image limit stated
 amounts_fit weight image limit stated amounts plain found fits =
     let all : (rows : ℕ → ℕ → ℕ) × ((k : ℕ) → k < length image.routines → IsCounted weight image (slice_index amounts) k (rows k)) =
-      choose (λ place. 0) (λ routine row. IsCounted weight image (slice_index amounts) routine row) (length image.routines) found.held in
+    choose (λ place. 0) (λ routine row. IsCounted weight image (slice_index amounts) routine row) (length image.routines) found.held in
     let callee : (routine place : ℕ) (op : Op) → op_at image routine place ≡ Some op → callee_amount all.0 op ≤ callee_amount (λ r to. slice_index amounts r) op =
-      λ routine place op is.
-        callee_amount-below all.0 (slice_index amounts) op (λ called e.
-          let less = plain.calls routine place called (is ∙ ap (λ (o : Op). Some o) e) in
-          let is_routine = op_at-routine image routine place op is in
-          let same = (all.1 called.0 (omega (arith, less, is_routine))).0 in
-          omega (arith, same)) in
-    (all.0,
-     record {
-       own = λ routine place op is.
-         let h = (all.1 routine (op_at-routine image routine place op is)).1 place op is in
-         omega (arith, callee routine place op is, h.own);
-       onward = λ routine place to op is successor.
-         let h = (all.1 routine (op_at-routine image routine place op is)).1 place op is in
-         omega (arith, callee routine place op is, h.onward to successor)
-     },
-     λ routine is_routine. omega (arith, (all.1 routine is_routine).0, found.low routine),
-     FitsEvents-lower image (slice_index amounts) (λ routine. all.0 routine 0) stated plain.indexes (λ routine is_routine. omega (arith, (all.1 routine is_routine).0)) fits)
+    λ routine place op is.
+    callee_amount-below all.0 (slice_index amounts) op (λ called e.
+    let less = plain.calls routine place called (is ∙ ap (λ (o : Op). Some o) e) in
+    let is_routine = op_at-routine image routine place op is in
+    let same = (all.1 called.0 (omega (arith, less, is_routine))).0 in
+    omega (arith, same)) in (
+      all.0,
+      record {
+        own = λ routine place op is.
+            let h = (all.1 routine (op_at-routine image routine place op is)).1 place op is in
+            omega (arith, callee routine place op is, h.own);
+        onward = λ routine place to op is successor.
+            let h = (all.1 routine (op_at-routine image routine place op is)).1 place op is in
+            omega (arith, callee routine place op is, h.onward to successor);
+      },
+      λ routine is_routine. omega (arith, (all.1 routine is_routine).0, found.low routine),
+      FitsEvents-lower image (slice_index amounts) (λ routine. all.0 routine 0) stated plain.indexes (λ routine is_routine. omega (arith, (all.1 routine is_routine).0)) fits,
+    )
 
 pub amounts_unfit : (weight : Op → ℕ) (image : ImageParts) (limit stated : ℕ) (amounts : List ℕ) → IndexesFit image
     → LeastAmounts weight image limit amounts (length image.routines) → ¬ FitsEvents image (slice_index amounts) stated → ¬ AmountsFit weight image limit stated
@@ -148,22 +160,22 @@ pub events_fit : (image : ImageParts) (amount : ℕ → ℕ) (stated bodies init
 events_fit image amount stated bodies inits first found body init opening evaluation = record {
   evaluation = λ j k current next is_current is_next. omega (arith, body j current is_current, init k next is_next, evaluation);
   opening = λ other is.
-    let same : first ≡ other = same_state first other (sym found ∙ is) in
-    subst (λ (s : StateSpec). amount image.always.init.0 + amount s.handlers.init.0 ≤ stated) same opening
-  }
+      let same : first ≡ other = same_state first other (sym found ∙ is) in
+      subst (λ (s : StateSpec). amount image.always.init.0 + amount s.handlers.init.0 ≤ stated) same opening;
+}
 
 pub sums_fit : (image : ImageParts) (amount : ℕ → ℕ) (stated bodies inits : ℕ) (first : StateSpec) → slice_get image.states image.initial.0 ≡ Some first
     → ((bound : ℕ) → Reaches Body image amount bound → bodies ≤ bound) → ((bound : ℕ) → Reaches Init image amount bound → inits ≤ bound)
     → FitsEvents image amount stated → amount image.always.body.0 + bodies + inits ≤ stated
 sums_fit image amount stated bodies inits first found least_body least_init fits =
     let with_init : (k : ℕ) (next : StateSpec) → slice_get image.states k ≡ Some next → amount image.always.body.0 + bodies + amount next.handlers.init.0 ≤ stated =
-      λ k next is_next.
-        let room = fits.evaluation image.initial.0 k first next found is_next in
-        let most : bodies ≤ stated - (amount image.always.body.0 + amount next.handlers.init.0) =
-          least_body (stated - (amount image.always.body.0 + amount next.handlers.init.0))
-            (λ j current is_current. omega (arith, fits.evaluation j k current next is_current is_next)) in
-        omega (arith, room, most) in
+    λ k next is_next.
+    let room = fits.evaluation image.initial.0 k first next found is_next in
+    let most : bodies ≤ stated - (amount image.always.body.0 + amount next.handlers.init.0) =
+    least_body (stated - (amount image.always.body.0 + amount next.handlers.init.0))
+    (λ j current is_current. omega (arith, fits.evaluation j k current next is_current is_next)) in
+    omega (arith, room, most) in
     let room = with_init image.initial.0 first found in
     let most : inits ≤ stated - (amount image.always.body.0 + bodies) =
-      least_init (stated - (amount image.always.body.0 + bodies)) (λ k next is_next. omega (arith, with_init k next is_next)) in
+    least_init (stated - (amount image.always.body.0 + bodies)) (λ k next is_next. omega (arith, with_init k next is_next)) in
     omega (arith, room, most)

@@ -57,10 +57,10 @@ next_within image routine place to op ends is_routine here is =
     let n = next_is op place to is in
     let within : place < length (code_of image routine) = slice_get_within (code_of image routine) place op here in
     elim (cases_eq place (length (code_of image routine) - 1)) [
-      inl e ↦
-        let last : op_at image routine place ≡ Some Ret = subst (λ (k : ℕ). op_at image routine k ≡ Some Ret) (sym e) (ends routine is_routine) in
-        absurd (n.0 (some_op op Ret (sym here ∙ last)))
-    | inr other ↦ let e : to ≡ place + 1 = n.1 in omega arith
+      | inl e ↦
+          let last : op_at image routine place ≡ Some Ret = subst (λ (k : ℕ). op_at image routine k ≡ Some Ret) (sym e) (ends routine is_routine) in
+          absurd (n.0 (some_op op Ret (sym here ∙ last)))
+      | inr other ↦ let e : to ≡ place + 1 = n.1 in omega arith
     ]
 
 -- A successor is in the routine, and later.
@@ -68,8 +68,8 @@ pub successor_within : (image : ImageParts) (routine place to : ℕ) (op : Op) �
     → op_at image routine place ≡ Some op → IsSuccessor op place to → (place < to) × (to < length (code_of image routine))
 successor_within image routine place to op ends jumps is_routine here is =
     elim (successor_cases op place to is) [
-      inl next ↦ (let e : to ≡ place + 1 = (next_is op place to next).1 in omega arith, next_within image routine place to op ends is_routine here next)
-    | inr target ↦ jumps routine place op to here target
+      | inl next ↦ (let e : to ≡ place + 1 = (next_is op place to next).1 in omega arith, next_within image routine place to op ends is_routine here next)
+      | inr target ↦ jumps routine place op to here target
     ]
 
 -- What an instruction leaves is what each typing has at its successors.
@@ -89,16 +89,16 @@ Leaves-extended image routine old new place op after extends leaves = record {
   here = extends place leaves.before leaves.here;
   effect_is = leaves.effect_is;
   within = leaves.within;
-  results = leaves.results
-  }
+  results = leaves.results;
+}
 
 pub HasPassed-extended : (image : ImageParts) (routine : ℕ) (old new : List (Option (List Kind))) (place : ℕ) (op : Op)
     → Extends old new → HasPassed image routine old place op → HasPassed image routine new place op
 HasPassed-extended image routine old new place op extends passed = record {
   after = passed.after;
   leaves = Leaves-extended image routine old new place op passed.after extends passed.leaves;
-  onward = λ to is. extends to passed.after (passed.onward to is)
-  }
+  onward = λ to is. extends to passed.after (passed.onward to is);
+}
 
 -- The rows after a list was handed on to a successor.
 pub handed : (image : ImageParts) (routine : ℕ) (rows : List (Option (List Kind))) (done place to : ℕ) (op : Op) (after : List Kind)
@@ -111,18 +111,18 @@ handed image routine rows done place to op after typed here leaves successor wit
       long = length-set rows to (Some after) ∙ typed.long;
       start = extends 0 [] typed.start;
       within = λ k kinds is.
-        elim (row_at-set_cases rows to after within k kinds is) [
-          inl new ↦ subst (λ (list : List Kind). length list ≤ 32) (sym new.1) leaves.within
-        | inr old ↦ typed.within k kinds old
-        ];
+          elim (row_at-set_cases rows to after within k kinds is) [
+            | inl new ↦ subst (λ (list : List Kind). length list ≤ 32) (sym new.1) leaves.within
+            | inr old ↦ typed.within k kinds old
+          ];
       passed = λ k other below is. HasPassed-extended image routine rows (set rows to (Some after)) k other extends (typed.passed k other below is);
       forced = λ typing is_typing k kinds is.
-        elim (row_at-set_cases rows to after within k kinds is) [
-          inl new ↦
-            subst (λ (n : ℕ). typing n ≡ kinds) (sym new.0)
-              (forced_after image routine rows done place to op after typing typed here leaves is_typing successor ∙ sym new.1)
-        | inr old ↦ typed.forced typing is_typing k kinds old
-        ]
+          elim (row_at-set_cases rows to after within k kinds is) [
+            | inl new ↦
+                subst (λ (n : ℕ). typing n ≡ kinds) (sym new.0)
+                (forced_after image routine rows done place to op after typing typed here leaves is_typing successor ∙ sym new.1)
+            | inr old ↦ typed.forced typing is_typing k kinds old
+          ];
     }
 
 -- The rows once a place is passed.
@@ -133,26 +133,26 @@ passed_more image routine rows place op typed here passed = record {
   start = typed.start;
   within = typed.within;
   passed = λ k other below is.
-    elim (cases_eq k place) [
-      inl e ↦
-        let at_place : op_at image routine place ≡ Some other = subst (λ (n : ℕ). op_at image routine n ≡ Some other) e is in
-        let same : op ≡ other = some_op op other (sym here ∙ at_place) in
-        subst (λ (n : ℕ). HasPassed image routine rows n other) (sym e) (subst (λ (o : Op). HasPassed image routine rows place o) same passed)
-    | inr ne ↦ typed.passed k other (omega arith) is
-    ];
-  forced = typed.forced
-  }
+      elim (cases_eq k place) [
+        | inl e ↦
+            let at_place : op_at image routine place ≡ Some other = subst (λ (n : ℕ). op_at image routine n ≡ Some other) e is in
+            let same : op ≡ other = some_op op other (sym here ∙ at_place) in
+            subst (λ (n : ℕ). HasPassed image routine rows n other) (sym e) (subst (λ (o : Op). HasPassed image routine rows place o) same passed)
+        | inr ne ↦ typed.passed k other (omega arith) is
+      ];
+  forced = typed.forced;
+}
 
 -- A place of which all earlier ones are passed has a list.
 pub row_found : (image : ImageParts) (routine place : ℕ) (rows : List (Option (List Kind))) → IsPlain image → IsTypedUpTo image routine rows place
     → place < length (code_of image routine) → (kinds : List Kind) × (row_at rows place ≡ Some kinds)
 row_found image routine place rows plain typed within =
     elim (cases_eq place 0) [
-      inl e ↦ ([], subst (λ (n : ℕ). row_at rows n ≡ Some []) (sym e) typed.start)
-    | inr ne ↦
-        let r = plain.reached routine place (omega arith) within in
-        let p = typed.passed r.0 r.1 r.2 r.3 in
-        (p.after, p.onward place r.4)
+      | inl e ↦ ([], subst (λ (n : ℕ). row_at rows n ≡ Some []) (sym e) typed.start)
+      | inr ne ↦
+          let r = plain.reached routine place (omega arith) within in
+          let p = typed.passed r.0 r.1 r.2 r.3 in
+          (p.after, p.onward place r.4)
     ]
 
 -- No typing of one routine, no typing of the image.
@@ -165,25 +165,25 @@ pub no_effect : (image : ImageParts) (routine : ℕ) (rows : List (Option (List 
     → effect image op before ≡ None → ¬ IsTyped image
 no_effect image routine rows done place op before is_routine typed here row none =
     untyped image routine is_routine (λ typing is_typing.
-      let flow : FlowsOn image typing place op = is_typing.flows place op here in
-      let same : typing place ≡ before = typed.forced typing is_typing place before row in
-      let e : None ≡ Some flow.0 = sym none ∙ ap (λ (kinds : List Kind). effect image op kinds) (sym same) ∙ flow.1 in
-      cc)
+    let flow : FlowsOn image typing place op = is_typing.flows place op here in
+    let same : typing place ≡ before = typed.forced typing is_typing place before row in
+    let e : None ≡ Some flow.0 = sym none ∙ ap (λ (kinds : List Kind). effect image op kinds) (sym same) ∙ flow.1 in
+    cc)
 
 pub other_results : (image : ImageParts) (routine : ℕ) (rows : List (Option (List Kind))) (done place : ℕ) (before : List Kind)
     → IsRoutine image routine → IsTypedUpTo image routine rows done → op_at image routine place ≡ Some Ret → row_at rows place ≡ Some before
     → before ≢ results_of image routine → ¬ IsTyped image
 other_results image routine rows done place before is_routine typed here row other =
     untyped image routine is_routine (λ typing is_typing.
-      other (sym (typed.forced typing is_typing place before row) ∙ is_typing.results place here))
+    other (sym (typed.forced typing is_typing place before row) ∙ is_typing.results place here))
 
 pub ways_disagree : (image : ImageParts) (routine : ℕ) (rows : List (Option (List Kind))) (done place to : ℕ) (op : Op) (after other : List Kind)
     → IsRoutine image routine → IsTypedUpTo image routine rows done → op_at image routine place ≡ Some op → Leaves image routine rows place op after
     → IsSuccessor op place to → row_at rows to ≡ Some other → other ≢ after → ¬ IsTyped image
 ways_disagree image routine rows done place to op after other is_routine typed here leaves successor row differ =
     untyped image routine is_routine (λ typing is_typing.
-      differ (sym (typed.forced typing is_typing to other row)
-        ∙ forced_after image routine rows done place to op after typing typed here leaves is_typing successor))
+    differ (sym (typed.forced typing is_typing to other row)
+    ∙ forced_after image routine rows done place to op after typing typed here leaves is_typing successor))
 
 -- A list over the limit fits no heights within it.
 pub stack_over : (image : ImageParts) (routine : ℕ) (rows : List (Option (List Kind))) (done place : ℕ) (op : Op) (before after : List Kind)

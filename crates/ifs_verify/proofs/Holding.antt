@@ -12,8 +12,8 @@ pub HoldsHeight-higher : (image : ImageParts) (heights : ℕ → ℕ) (op : Op) 
 HoldsHeight-higher image heights op kinds low high le holds = record {
   before = omega (arith, holds.before);
   after = λ next e. omega (arith, holds.after next e);
-  call = λ callee e. omega (arith, holds.call callee e)
-  }
+  call = λ callee e. omega (arith, holds.call callee e);
+}
 
 some_op : (a b : Op) → Some a ≡ Some b → a ≡ b
 some_op a b e = cc
@@ -30,12 +30,12 @@ pub holds_more : (image : ImageParts) (routine : ℕ) (rows : List (Option (List
     → HoldsHeight image heights op kinds here → so_far ≤ next → here ≤ next → HoldsBelow image routine rows heights (done + 1) next
 holds_more image routine rows heights done op kinds so_far here next below is row holds a b place other before lt at_place row_place =
     elim (cases_eq place done) [
-      inl e ↦
-        let same_op : op ≡ other = some_op op other (sym is ∙ subst (λ (n : ℕ). op_at image routine n ≡ Some other) e at_place) in
-        let same_row : kinds ≡ before = some_kinds kinds before (sym row ∙ subst (λ (n : ℕ). row_at rows n ≡ Some before) e row_place) in
-        subst (λ (o : Op). HoldsHeight image heights o before next) same_op
+      | inl e ↦
+          let same_op : op ≡ other = some_op op other (sym is ∙ subst (λ (n : ℕ). op_at image routine n ≡ Some other) e at_place) in
+          let same_row : kinds ≡ before = some_kinds kinds before (sym row ∙ subst (λ (n : ℕ). row_at rows n ≡ Some before) e row_place) in
+          subst (λ (o : Op). HoldsHeight image heights o before next) same_op
           (subst (λ (k : List Kind). HoldsHeight image heights op k next) same_row (HoldsHeight-higher image heights op kinds here next b holds))
-    | inr ne ↦ HoldsHeight-higher image heights other before so_far next a (below place other before (omega arith) at_place row_place)
+      | inr ne ↦ HoldsHeight-higher image heights other before so_far next a (below place other before (omega arith) at_place row_place)
     ]
 
 -- What stands at a place of a routine whose rows are all there.

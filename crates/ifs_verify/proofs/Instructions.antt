@@ -25,8 +25,8 @@ found_in (Some routine) place op h e = cc
 pub op_at-routine : (image : ImageParts) (routine place : ℕ) (op : Op) → op_at image routine place ≡ Some op → IsRoutine image routine
 op_at-routine image routine place op h =
     elim (cases_lt routine (length image.routines)) [
-      inl below ↦ below
-    | inr past ↦ absurd (found_in (slice_get image.routines routine) place op h (slice_get_past image.routines routine past))
+      | inl below ↦ below
+      | inr past ↦ absurd (found_in (slice_get image.routines routine) place op h (slice_get_past image.routines routine past))
     ]
 
 -- A rule that one instruction breaks does not hold of the image.
@@ -46,17 +46,17 @@ pub states_more : (states : List StateSpec) (P : Handlers → Type 0) (i : ℕ) 
     → (k : ℕ) (state : StateSpec) → k < i + 1 → slice_get states k ≡ Some state → P state.handlers
 states_more states P i handlers earlier found here k state below is =
     elim (cases_lt k i) [
-      inl before ↦ earlier k state before is
-    | inr past ↦
-        let same : k ≡ i = omega arith in
-        let at_i : slice_get states i ≡ Some state = subst (λ (n : ℕ). slice_get states n ≡ Some state) same is in
-        let e : handlers ≡ state.handlers = sym found.2 ∙ ap (λ (s : StateSpec). s.handlers) (some_same found.0 state (sym found.1 ∙ at_i)) in
-        subst P e here
+      | inl before ↦ earlier k state before is
+      | inr past ↦
+          let same : k ≡ i = omega arith in
+          let at_i : slice_get states i ≡ Some state = subst (λ (n : ℕ). slice_get states n ≡ Some state) same is in
+          let e : handlers ≡ state.handlers = sym found.2 ∙ ap (λ (s : StateSpec). s.handlers) (some_same found.0 state (sym found.1 ∙ at_i)) in
+          subst P e here
     ]
 
 -- A routine that ends has an instruction.
 pub some_code : (image : ImageParts) (routine : ℕ) → RoutinesEnd image → IsRoutine image routine → 0 < length (code_of image routine)
 some_code image routine ends is_routine =
     let last : length (code_of image routine) - 1 < length (code_of image routine) =
-      slice_get_within (code_of image routine) (length (code_of image routine) - 1) Ret (ends routine is_routine) in
+    slice_get_within (code_of image routine) (length (code_of image routine) - 1) Ret (ends routine is_routine) in
     omega arith

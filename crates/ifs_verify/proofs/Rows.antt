@@ -16,10 +16,10 @@ slice_get-set_same xs k x below =
 pub slice_get-set_other : {A : Type 0} (xs : List A) (k j : ℕ) (x : A) → j ≢ k → slice_get (set xs k x) j ≡ slice_get xs j
 slice_get-set_other xs k j x other =
     elim (cases_lt j (length xs)) [
-      inl below ↦
-        slice_get-get_or (set xs k x) j x (omega (arith, length-set xs k x))
-        ∙ ap (λ y. Some y) (get_or-set_other xs k j x x other) ∙ sym (slice_get-get_or xs j x below)
-    | inr past ↦ slice_get_past (set xs k x) j (omega (arith, length-set xs k x)) ∙ sym (slice_get_past xs j past)
+      | inl below ↦
+          slice_get-get_or (set xs k x) j x (omega (arith, length-set xs k x))
+          ∙ ap (λ y. Some y) (get_or-set_other xs k j x x other) ∙ sym (slice_get-get_or xs j x below)
+      | inr past ↦ slice_get_past (set xs k x) j (omega (arith, length-set xs k x)) ∙ sym (slice_get_past xs j past)
     ]
 
 pub row_at-set_same : (rows : List (Option (List Kind))) (k : ℕ) (kinds : List Kind) → k < length rows → row_at (set rows k (Some kinds)) k ≡ Some kinds
@@ -34,8 +34,8 @@ row_at-read rows k row below read = ap option_flatten (slice_get_read rows (leng
 pub row_at-within : (rows : List (Option (List Kind))) (k : ℕ) (kinds : List Kind) → row_at rows k ≡ Some kinds → k < length rows
 row_at-within rows k kinds is =
     elim (cases_lt k (length rows)) [
-      inl below ↦ below
-    | inr past ↦ let none : row_at rows k ≡ None = ap option_flatten (slice_get_past rows k past) in cc
+      | inl below ↦ below
+      | inr past ↦ let none : row_at rows k ≡ None = ap option_flatten (slice_get_past rows k past) in cc
     ]
 
 pub some_kinds : (a b : List Kind) → Some a ≡ Some b → a ≡ b
@@ -46,11 +46,11 @@ pub Extends-set : (rows : List (Option (List Kind))) (to : ℕ) (after : List Ki
     → ((other : List Kind) → row_at rows to ≡ Some other → other ≡ after) → Extends rows (set rows to (Some after))
 Extends-set rows to after below same place kinds is =
     elim (cases_eq place to) [
-      inl e ↦
-        let there : row_at rows to ≡ Some kinds = subst (λ (n : ℕ). row_at rows n ≡ Some kinds) e is in
-        subst (λ (n : ℕ). row_at (set rows to (Some after)) n ≡ Some kinds) (sym e)
+      | inl e ↦
+          let there : row_at rows to ≡ Some kinds = subst (λ (n : ℕ). row_at rows n ≡ Some kinds) e is in
+          subst (λ (n : ℕ). row_at (set rows to (Some after)) n ≡ Some kinds) (sym e)
           (row_at-set_same rows to after below ∙ ap (λ (x : List Kind). Some x) (sym (same kinds there)))
-    | inr other ↦ row_at-set_other rows to place after other ∙ is
+      | inr other ↦ row_at-set_other rows to place after other ∙ is
     ]
 
 -- What stands after the write is what was written, or stood before.
@@ -58,9 +58,9 @@ pub row_at-set_cases : (rows : List (Option (List Kind))) (to : ℕ) (after : Li
     → row_at (set rows to (Some after)) place ≡ Some kinds → ((place ≡ to) × (kinds ≡ after)) ⊎ (row_at rows place ≡ Some kinds)
 row_at-set_cases rows to after below place kinds is =
     elim (cases_eq place to) [
-      inl e ↦
-        let there : row_at (set rows to (Some after)) to ≡ Some kinds = subst (λ (n : ℕ). row_at (set rows to (Some after)) n ≡ Some kinds) e is in
-        let written : row_at (set rows to (Some after)) to ≡ Some after = row_at-set_same rows to after below in
-        inl (e, some_kinds kinds after (sym there ∙ written))
-    | inr other ↦ inr (sym (row_at-set_other rows to place after other) ∙ is)
+      | inl e ↦
+          let there : row_at (set rows to (Some after)) to ≡ Some kinds = subst (λ (n : ℕ). row_at (set rows to (Some after)) n ≡ Some kinds) e is in
+          let written : row_at (set rows to (Some after)) to ≡ Some after = row_at-set_same rows to after below in
+          inl (e, some_kinds kinds after (sym there ∙ written))
+      | inr other ↦ inr (sym (row_at-set_other rows to place after other) ∙ is)
     ]

@@ -31,8 +31,8 @@ sized image fits = record {
   states = fits.counts.states;
   routines = fits.counts.routines;
   code = λ k. code_fits (slice_get image.routines k) (λ routine is. entry_fits image.routines k routine fits.routines.each is);
-  results = λ k routine is. (entry_fits image.routines k routine fits.routines.each is).results
-  }
+  results = λ k routine is. (entry_fits image.routines k routine fits.routines.each is).results;
+}
 
 -- Each rule holds of an image that is accepted.
 pub rule_holds : (fault : VerifyFault) (image : ImageParts) → IsAccepted image → rule_of fault image

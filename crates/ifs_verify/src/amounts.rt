@@ -8,8 +8,8 @@ ghost use Rattle.ifs_verify.specs.Bounds.{AreAmounts, callee_amount};
 ghost use Rattle.ifs_verify.specs.Rules.{IsRoutine};
 ghost use Rattle.ifs_verify.specs.Passes.{IsPlain, HoldsAmount, HoldsRow, IsCountedFrom, weight_of, amount_behind};
 
-use crate::tables::greater;
 use crate::places::{code, next, op_at, target};
+use crate::tables::greater;
 use ifs_base::Op;
 use ifs_image::ImageParts;
 use std::alloc::{AllocError, Global};
@@ -41,7 +41,14 @@ pub fn amount_of(
     let count = code(image, routine).len();
     let mut amounts = zeros(alloc, count)?;
     for done in 0..count {
-        count_at(image, routine, count - 1 - done, weight, lower, &mut amounts);
+        count_at(
+            image,
+            routine,
+            count - 1 - done,
+            weight,
+            lower,
+            &mut amounts,
+        );
     }
     Ok(first(&amounts))
 }

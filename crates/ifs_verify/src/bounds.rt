@@ -11,8 +11,7 @@ use crate::depths::depth_of;
 use crate::fault::VerifyFault;
 use crate::places::at;
 use crate::tables::entry;
-use ifs_image::ImageParts;
-use ifs_image::limits;
+use ifs_image::{ImageParts, limits};
 use std::alloc::Global;
 
 /// Instructions that a run of one routine executes.
@@ -30,7 +29,11 @@ pub struct Bounds {
 }
 
 /// V10 to V13 at a routine, one routine after the other.
-pub fn check_bounds(alloc: Global, image: &ImageParts, heights: &Vec<u32>) -> Result<Bounds, VerifyFault>
+pub fn check_bounds(
+    alloc: Global,
+    image: &ImageParts,
+    heights: &Vec<u32>,
+) -> Result<Bounds, VerifyFault>
     requires plain { IsPlain image.now }
     requires heights { LeastHeights image.now heights.now.items (length image.now.routines) }
     ensures found { IfOk result (λ bounds. AreFound image.now heights.now.items bounds (length image.now.routines)) }
@@ -73,7 +76,13 @@ fn find_bounds(
     if cost > ROUTINE_COST {
         return Err(VerifyFault::CostOver(at(routine, 0)));
     }
-    let commands = amount_of(alloc, image, routine, Weight::Commands, bounds.commands.as_slice())?;
+    let commands = amount_of(
+        alloc,
+        image,
+        routine,
+        Weight::Commands,
+        bounds.commands.as_slice(),
+    )?;
     if commands > u32::from(limits::COMMANDS_OF_EVENT) {
         return Err(VerifyFault::CommandsOver(at(routine, 0)));
     }

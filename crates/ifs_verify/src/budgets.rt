@@ -24,7 +24,11 @@ pub enum Part {
 }
 
 /// V10 to V13 at the head.
-pub fn check_budgets(image: &ImageParts, heights: &Vec<u32>, bounds: &Bounds) -> Result<(), VerifyFault>
+pub fn check_budgets(
+    image: &ImageParts,
+    heights: &Vec<u32>,
+    bounds: &Bounds,
+) -> Result<(), VerifyFault>
     requires plain { IsPlain image.now }
     requires heights { LeastHeights image.now heights.now.items (length image.now.routines) }
     requires found { AreFound image.now heights.now.items bounds.now (length image.now.routines) }
@@ -79,8 +83,7 @@ fn fit_part(reach: &Vec<u32>, handlers: Handlers, stated: u16) -> bool
     ensures { IsTrue result ↔ ((slice_index reach.now.items handlers.init.0 ≤ stated) × (slice_index reach.now.items handlers.body.0 ≤ stated)) }
 {
     let stated = u32::from(stated);
-    bound_of(reach, handlers.init) <= stated
-        && bound_of(reach, handlers.body) <= stated
+    bound_of(reach, handlers.init) <= stated && bound_of(reach, handlers.body) <= stated
 }
 
 /// Whether the amounts of each event are within what is stated.

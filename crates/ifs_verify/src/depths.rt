@@ -6,8 +6,8 @@ ghost use Rattle.ifs_base.specs.declared.op.Op.TheVariants.{Call};
 ghost use Rattle.ifs_verify.specs.Rules.{IsRoutine};
 ghost use Rattle.ifs_verify.specs.Passes.{IsPlain, HoldsDepth};
 
-use crate::tables::greater;
 use crate::places::{code, op_at};
+use crate::tables::greater;
 use ifs_base::Op;
 use ifs_image::ImageParts;
 

@@ -8,9 +8,9 @@ ghost use Rattle.ifs_verify.specs.Rules.{IsRoutine};
 ghost use Rattle.ifs_verify.specs.Passes.{IsPlain, IsTypedUpTo, row_at, HoldsHeight, AreLow};
 
 use crate::effects::effect_of;
-use crate::tables::greater;
 use crate::places::{code, op_at};
 use crate::stack::Stack;
+use crate::tables::greater;
 use ifs_base::Op;
 use ifs_image::ImageParts;
 
@@ -43,13 +43,7 @@ pub fn height_of(
 }
 
 /// The height that one instruction needs, with what stands before it.
-fn height_at(
-    image: &ImageParts,
-    routine: usize,
-    op: Op,
-    before: &Stack,
-    heights: &[u32],
-) -> u32
+fn height_at(image: &ImageParts, routine: usize, op: Op, before: &Stack, heights: &[u32]) -> u32
     requires plain { IsPlain image.now }
     requires op { (place : ℕ) × (op_at image.now routine place ≡ Some op) }
     requires fits { (after : List Kind) × (effect image.now op before.now ≡ Some after) × (length after ≤ 32) }

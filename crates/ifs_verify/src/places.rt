@@ -4,6 +4,7 @@ ghost use Rattle.std.specs.Prelude.{◌≡◌, ◌<◌, ◌≤◌, ◌+◌, ◌^
 ghost use Rattle.ifs_image.specs.Code.{code_of, target_of};
 ghost use Rattle.ifs_image.specs.declared.parts.Routine.{Routine};
 ghost use Rattle.ifs_image.specs.declared.parts.StateSpec.{StateSpec};
+ghost use Rattle.ifs_verify.specs.declared.fault.At.TheVariants.{State, Code};
 ghost use Rattle.ifs_verify.specs.Rules.{IsRoutine};
 ghost use Rattle.ifs_verify.specs.Passes.{next_of};
 
@@ -47,6 +48,7 @@ pub fn handlers_of(image: &ImageParts, state: usize) -> Handlers
 pub fn at(routine: usize, place: usize) -> At
     requires routine { routine < 2 ^ 16 }
     requires place { place < 2 ^ 16 }
+    ensures { result ≡ Code (record { 0 = routine }) place }
 {
     At::Code(RoutineId(routine as u16), place as u16)
 }
@@ -54,6 +56,7 @@ pub fn at(routine: usize, place: usize) -> At
 /// A state, as a fault names it.
 pub fn at_state(state: usize) -> At
     requires { state < 2 ^ 16 }
+    ensures { result ≡ State (record { 0 = state }) }
 {
     At::State(StateId(state as u16))
 }
@@ -63,7 +66,9 @@ pub fn target(op: Op) -> Option<usize>
     ensures { result ≡ target_of op }
 {
     match op {
-        Op::Jump(target) | Op::JumpFalse(target) | Op::JumpTrue(target) => Some(usize::from(target)),
+        Op::Jump(target) | Op::JumpFalse(target) | Op::JumpTrue(target) => Some(usize::from(
+            target,
+        )),
         _ => None,
     }
 }

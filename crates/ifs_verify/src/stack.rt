@@ -3,7 +3,8 @@
 use ifs_base::Kind;
 use std::marker::Model;
 
-/// A list of kinds, topmost first, in a fixed row.
+/// A list of kinds, topmost first, in a fixed row. The row has one place more than the stack's limit
+/// of 32, so that a list that passes the limit can be held, and told.
 #[derive(Drop)]
 pub struct Stack {
     kinds: [Kind; 33],

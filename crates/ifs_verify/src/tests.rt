@@ -56,14 +56,23 @@ type Named = (u16, u16, u64);
 type Coded<'a> = (u8, &'a [[u8; 4]]);
 
 const RET: [u8; 4] = [0x00, 0, 0, 0];
+
 const YES: [u8; 4] = [0x01, 0, 0, 0];
+
 const NO: [u8; 4] = [0x02, 0, 0, 0];
+
 const TEST: [u8; 4] = [0x04, 0, 0, 0];
+
 const NOT: [u8; 4] = [0x06, 0, 0, 0];
+
 const AND: [u8; 4] = [0x07, 0, 0, 0];
+
 const COMMAND: [u8; 4] = [0x09, 0, 0, 0];
+
 const QUEUE: [u8; 4] = [0x0b, 0, 0, 0];
+
 const WANT: [u8; 4] = [0x0c, 0, 0, 0];
+
 const POP: [u8; 4] = [0x11, 0, 0, 0];
 
 fn state(n: u8) -> [u8; 4] {
@@ -99,7 +108,12 @@ fn put_count(bytes: &mut Vec<u8>, count: usize) -> Result<(), AllocError> {
 }
 
 /// The front: magic, version, budgets, counts, initial state, always part.
-fn put_front(bytes: &mut Vec<u8>, front: Front, states: usize, routines: usize) -> Result<(), AllocError> {
+fn put_front(
+    bytes: &mut Vec<u8>,
+    front: Front,
+    states: usize,
+    routines: usize,
+) -> Result<(), AllocError> {
     bytes.extend_from_slice(b"IFSV\x01")?;
     put16(bytes, front.stack)?;
     put16(bytes, front.frames)?;
@@ -156,7 +170,12 @@ fn put_routine(bytes: &mut Vec<u8>, coded: Coded<'_>) -> Result<(), AllocError> 
 }
 
 /// The bytes of an image up to its routines.
-fn begun(alloc: Global, front: Front, states: &[Named], routines: usize) -> Result<Vec<u8>, AllocError> {
+fn begun(
+    alloc: Global,
+    front: Front,
+    states: &[Named],
+    routines: usize,
+) -> Result<Vec<u8>, AllocError> {
     let mut bytes: Vec<u8> = Vec::new(alloc);
     put_front(&mut bytes, front, states.len(), routines)?;
     put_texts(&mut bytes, front)?;
@@ -167,7 +186,12 @@ fn begun(alloc: Global, front: Front, states: &[Named], routines: usize) -> Resu
 }
 
 /// The bytes of an image.
-fn spelled(alloc: Global, front: Front, states: &[Named], routines: &[Coded<'_>]) -> Result<Vec<u8>, AllocError> {
+fn spelled(
+    alloc: Global,
+    front: Front,
+    states: &[Named],
+    routines: &[Coded<'_>],
+) -> Result<Vec<u8>, AllocError> {
     let mut bytes = begun(alloc, front, states, routines.len())?;
     for coded in routines {
         put_routine(&mut bytes, *coded)?;
@@ -176,7 +200,12 @@ fn spelled(alloc: Global, front: Front, states: &[Named], routines: &[Coded<'_>]
 }
 
 /// Instructions so many times, and then others.
-fn repeated(alloc: Global, ops: &[[u8; 4]], times: usize, last: &[[u8; 4]]) -> Result<Vec<[u8; 4]>, AllocError> {
+fn repeated(
+    alloc: Global,
+    ops: &[[u8; 4]],
+    times: usize,
+    last: &[[u8; 4]],
+) -> Result<Vec<[u8; 4]>, AllocError> {
     let mut code: Vec<[u8; 4]> = Vec::new(alloc);
     for _time in 0..times {
         code.extend_from_slice(ops)?;
@@ -228,10 +257,16 @@ fn smallest_image(rt: HostRuntime) -> Result<(), Fail> {
     assert_eq!(rt; verified.image().parts().routines.len(), 1);
     let mut cheap = BYTES;
     cheap[12] = 2;
-    assert_eq!(rt; verdict(alloc, cheap.as_slice()), Err(VerifyFault::CostOver(At::Head)));
+    assert_eq!(rt;
+        verdict(alloc, cheap.as_slice()),
+        Err(VerifyFault::CostOver(At::Head))
+    );
     let mut flat = BYTES;
     flat[8] = 0;
-    assert_eq!(rt; verdict(alloc, flat.as_slice()), Err(VerifyFault::FramesOver(At::Head)));
+    assert_eq!(rt;
+        verdict(alloc, flat.as_slice()),
+        Err(VerifyFault::FramesOver(At::Head))
+    );
     Ok(())
 }
 
@@ -264,15 +299,25 @@ fn second_spellings(rt: HostRuntime) -> Result<(), Fail> {
 fn ways_that_meet(rt: HostRuntime) {
     let alloc = rt.alloc();
     let meet = [YES, jf(4), YES, jump(5), NO, POP, RET];
-    let room = Front { stack: 1, cost: 18, ..SMALLEST };
+    let room = Front {
+        stack: 1,
+        cost: 18,
+        ..SMALLEST
+    };
     let routines = [(0, meet.as_slice())];
-    assert_eq!(rt; verdict_of(alloc, room, routines.as_slice()), Ok(stated(room)));
+    assert_eq!(rt;
+        verdict_of(alloc, room, routines.as_slice()),
+        Ok(stated(room))
+    );
     let less = Front { cost: 17, ..room };
     let over = Err(VerifyFault::CostOver(At::Head));
     assert_eq!(rt; verdict_of(alloc, less, routines.as_slice()), over);
     let differ = [YES, jf(4), YES, jump(6), NO, NO, POP, RET];
     let disagree = Err(VerifyFault::WaysDisagree(code_at(0, 5)));
-    assert_eq!(rt; verdict_of(alloc, WIDE, [(0, differ.as_slice())].as_slice()), disagree);
+    assert_eq!(rt;
+        verdict_of(alloc, WIDE, [(0, differ.as_slice())].as_slice()),
+        disagree
+    );
 }
 
 #[test]
@@ -285,36 +330,65 @@ fn jumps(rt: HostRuntime) {
         } else {
             Err(VerifyFault::JumpTarget(code_at(0, 1)))
         };
-        assert_eq!(rt; verdict_of(alloc, WIDE, [(0, code.as_slice())].as_slice()), wanted, "jf {target}");
+        assert_eq!(rt;
+            verdict_of(alloc, WIDE, [(0, code.as_slice())].as_slice()),
+            wanted,
+            "jf {target}"
+        );
     }
     let twice = [RET, RET];
     let unreached = Err(VerifyFault::Unreached(code_at(0, 1)));
-    assert_eq!(rt; verdict_of(alloc, WIDE, [(0, twice.as_slice())].as_slice()), unreached);
+    assert_eq!(rt;
+        verdict_of(alloc, WIDE, [(0, twice.as_slice())].as_slice()),
+        unreached
+    );
     let bare = [NOT, RET];
     let missing = Err(VerifyFault::WrongOperand(code_at(0, 0)));
-    assert_eq!(rt; verdict_of(alloc, WIDE, [(0, bare.as_slice())].as_slice()), missing);
+    assert_eq!(rt;
+        verdict_of(alloc, WIDE, [(0, bare.as_slice())].as_slice()),
+        missing
+    );
     let itself = [call(0), RET];
     let not_lower = Err(VerifyFault::CallNotLower(code_at(0, 0)));
-    assert_eq!(rt; verdict_of(alloc, WIDE, [(0, itself.as_slice())].as_slice()), not_lower);
+    assert_eq!(rt;
+        verdict_of(alloc, WIDE, [(0, itself.as_slice())].as_slice()),
+        not_lower
+    );
     let nothing: [[u8; 4]; 0] = [];
     let left = Err(VerifyFault::LeftAtEnd(code_at(0, 0)));
-    assert_eq!(rt; verdict_of(alloc, WIDE, [(0, nothing.as_slice())].as_slice()), left);
+    assert_eq!(rt;
+        verdict_of(alloc, WIDE, [(0, nothing.as_slice())].as_slice()),
+        left
+    );
     let value = [YES, RET];
     let leaves = Err(VerifyFault::HandlerLeaves(At::Head));
-    assert_eq!(rt; verdict_of(alloc, WIDE, [(1, value.as_slice())].as_slice()), leaves);
+    assert_eq!(rt;
+        verdict_of(alloc, WIDE, [(1, value.as_slice())].as_slice()),
+        leaves
+    );
 }
 
 #[test]
 fn cost_through_calls(rt: HostRuntime) -> Result<(), Fail> {
     let alloc = rt.alloc();
-    let front = Front { init: 256, body: 256, ..SMALLEST };
+    let front = Front {
+        init: 256,
+        body: 256,
+        ..SMALLEST
+    };
     let mut bytes = begun(alloc, front, [(256, 256, 0)].as_slice(), 257)?;
     put_routine(&mut bytes, (1, [YES, RET].as_slice()))?;
     for lower in 0..=254 {
-        put_routine(&mut bytes, (1, [call(lower), call(lower), AND, RET].as_slice()))?;
+        put_routine(
+            &mut bytes,
+            (1, [call(lower), call(lower), AND, RET].as_slice()),
+        )?;
     }
     put_routine(&mut bytes, (0, [RET].as_slice()))?;
-    assert_eq!(rt; verdict(alloc, bytes.as_slice()), Err(VerifyFault::CostOver(code_at(15, 0))));
+    assert_eq!(rt;
+        verdict(alloc, bytes.as_slice()),
+        Err(VerifyFault::CostOver(code_at(15, 0)))
+    );
     Ok(())
 }
 
@@ -323,14 +397,30 @@ fn several_states(rt: HostRuntime) -> Result<(), Fail> {
     let alloc = rt.alloc();
     let code = [state(1), WANT, state(2), WANT, COMMAND, QUEUE, RET];
     let queue = [COMMAND, QUEUE, RET];
-    let front = Front { stack: 1, cost: 11, commands: 2, texts: 3, ..SMALLEST };
+    let front = Front {
+        stack: 1,
+        cost: 11,
+        commands: 2,
+        texts: 3,
+        ..SMALLEST
+    };
     let states = [(0, 1, 0), (2, 0, 0), (2, 0, 0)];
-    let routines = [(0, [RET].as_slice()), (0, code.as_slice()), (0, queue.as_slice())];
+    let routines = [
+        (0, [RET].as_slice()),
+        (0, code.as_slice()),
+        (0, queue.as_slice()),
+    ];
     let bytes = spelled(alloc, front, states.as_slice(), routines.as_slice())?;
     assert_eq!(rt; verdict(alloc, bytes.as_slice()), Ok(stated(front)));
-    let fewer = Front { commands: 1, ..front };
+    let fewer = Front {
+        commands: 1,
+        ..front
+    };
     let bytes = spelled(alloc, fewer, states.as_slice(), routines.as_slice())?;
-    assert_eq!(rt; verdict(alloc, bytes.as_slice()), Err(VerifyFault::CommandsOver(At::Head)));
+    assert_eq!(rt;
+        verdict(alloc, bytes.as_slice()),
+        Err(VerifyFault::CommandsOver(At::Head))
+    );
     Ok(())
 }
 
@@ -340,18 +430,35 @@ fn indexes_come_first(rt: HostRuntime) -> Result<(), Fail> {
     let empty: [[u8; 4]; 0] = [];
     let routines = [(0, empty.as_slice())];
     let head = Err(VerifyFault::NoEntry(At::Head));
-    assert_eq!(rt; verdict_of(alloc, Front { initial: 1, ..WIDE }, routines.as_slice()), head);
-    assert_eq!(rt; verdict_of(alloc, Front { body: 1, ..WIDE }, routines.as_slice()), head);
-    assert_eq!(rt; verdict_of(alloc, Front { mask: 2, ..WIDE }, routines.as_slice()), head);
+    assert_eq!(rt;
+        verdict_of(alloc, Front { initial: 1, ..WIDE }, routines.as_slice()),
+        head
+    );
+    assert_eq!(rt;
+        verdict_of(alloc, Front { body: 1, ..WIDE }, routines.as_slice()),
+        head
+    );
+    assert_eq!(rt;
+        verdict_of(alloc, Front { mask: 2, ..WIDE }, routines.as_slice()),
+        head
+    );
     let in_state = Err(VerifyFault::NoEntry(At::State(StateId(1))));
     for named in [(1, 0, 0), (0, 1, 0), (0, 0, 2)] {
-        let bytes = spelled(alloc, WIDE, [(0, 0, 1), named].as_slice(), routines.as_slice())?;
+        let bytes = spelled(
+            alloc,
+            WIDE,
+            [(0, 0, 1), named].as_slice(),
+            routines.as_slice(),
+        )?;
         assert_eq!(rt; verdict(alloc, bytes.as_slice()), in_state, "{named:?}");
     }
     let asks = [TEST, RET];
     let at_code = Err(VerifyFault::NoEntry(code_at(0, 0)));
     let none = Front { tests: 0, ..WIDE };
-    assert_eq!(rt; verdict_of(alloc, none, [(0, asks.as_slice())].as_slice()), at_code);
+    assert_eq!(rt;
+        verdict_of(alloc, none, [(0, asks.as_slice())].as_slice()),
+        at_code
+    );
     Ok(())
 }
 
@@ -360,7 +467,12 @@ fn plain_checks_in_order(rt: HostRuntime) -> Result<(), Fail> {
     let alloc = rt.alloc();
     let empty: [[u8; 4]; 0] = [];
     let leaves = [(0, [RET].as_slice()), (1, empty.as_slice())];
-    let bytes = spelled(alloc, WIDE, [(0, 0, 0), (0, 1, 0)].as_slice(), leaves.as_slice())?;
+    let bytes = spelled(
+        alloc,
+        WIDE,
+        [(0, 0, 0), (0, 1, 0)].as_slice(),
+        leaves.as_slice(),
+    )?;
     let handler = Err(VerifyFault::HandlerLeaves(At::State(StateId(1))));
     assert_eq!(rt; verdict(alloc, bytes.as_slice()), handler);
     let back = [(0, empty.as_slice()), (0, [YES, jf(0), YES].as_slice())];
@@ -393,21 +505,36 @@ fn stacks_in_order(rt: HostRuntime) -> Result<(), Fail> {
     let results = Err(VerifyFault::WrongResults(code_at(0, 1)));
     assert_eq!(rt; verdict_of(alloc, poor, left_over.as_slice()), results);
     let high = Err(VerifyFault::StackOver(code_at(0, 32)));
-    assert_eq!(rt; verdict_of(alloc, poor, [(0, tall.as_slice())].as_slice()), high);
+    assert_eq!(rt;
+        verdict_of(alloc, poor, [(0, tall.as_slice())].as_slice()),
+        high
+    );
     let differ = [YES, jf(3), YES, RET];
     let disagree = Err(VerifyFault::WaysDisagree(code_at(0, 2)));
-    assert_eq!(rt; verdict_of(alloc, poor, [(0, differ.as_slice())].as_slice()), disagree);
+    assert_eq!(rt;
+        verdict_of(alloc, poor, [(0, differ.as_slice())].as_slice()),
+        disagree
+    );
     Ok(())
 }
 
 #[test]
 fn bounds_of_routines(rt: HostRuntime) -> Result<(), Fail> {
     let alloc = rt.alloc();
-    let none = Front { stack: 0, frames: 0, cost: 0, commands: 0, ..WIDE };
+    let none = Front {
+        stack: 0,
+        frames: 0,
+        cost: 0,
+        commands: 0,
+        ..WIDE
+    };
     let up = repeated(alloc, [YES].as_slice(), 32, empty_code().as_slice())?;
     let down = repeated(alloc, [POP].as_slice(), 32, [RET].as_slice())?;
     let full = repeated(alloc, up.as_slice(), 1, down.as_slice())?;
-    let above = [(0, full.as_slice()), (0, [YES, call(0), POP, RET].as_slice())];
+    let above = [
+        (0, full.as_slice()),
+        (0, [YES, call(0), POP, RET].as_slice()),
+    ];
     let stack = Err(VerifyFault::StackOver(code_at(1, 0)));
     assert_eq!(rt; verdict_of(alloc, none, above.as_slice()), stack);
     let mut deep = begun(alloc, none, [(0, 0, 0)].as_slice(), 33)?;
@@ -419,7 +546,10 @@ fn bounds_of_routines(rt: HostRuntime) -> Result<(), Fail> {
     assert_eq!(rt; verdict(alloc, deep.as_slice()), frames);
     let many = repeated(alloc, [COMMAND, QUEUE].as_slice(), 65, [RET].as_slice())?;
     let commands = Err(VerifyFault::CommandsOver(code_at(0, 0)));
-    assert_eq!(rt; verdict_of(alloc, none, [(0, many.as_slice())].as_slice()), commands);
+    assert_eq!(rt;
+        verdict_of(alloc, none, [(0, many.as_slice())].as_slice()),
+        commands
+    );
     Ok(())
 }
 
@@ -432,17 +562,56 @@ fn budgets_at_the_head(rt: HostRuntime) {
     let alloc = rt.alloc();
     let queue = [COMMAND, QUEUE, RET];
     let routines = [(0, queue.as_slice())];
-    let enough = Front { stack: 1, frames: 1, cost: 9, commands: 3, ..WIDE };
-    assert_eq!(rt; verdict_of(alloc, enough, routines.as_slice()), Ok(stated(enough)));
+    let enough = Front {
+        stack: 1,
+        frames: 1,
+        cost: 9,
+        commands: 3,
+        ..WIDE
+    };
+    assert_eq!(rt;
+        verdict_of(alloc, enough, routines.as_slice()),
+        Ok(stated(enough))
+    );
     let stack = Err(VerifyFault::StackOver(At::Head));
-    let low = Front { stack: 0, frames: 0, cost: 0, commands: 0, ..WIDE };
+    let low = Front {
+        stack: 0,
+        frames: 0,
+        cost: 0,
+        commands: 0,
+        ..WIDE
+    };
     assert_eq!(rt; verdict_of(alloc, low, routines.as_slice()), stack);
     let frames = Err(VerifyFault::FramesOver(At::Head));
-    assert_eq!(rt; verdict_of(alloc, Front { stack: 1, ..low }, routines.as_slice()), frames);
+    assert_eq!(rt;
+        verdict_of(alloc, Front { stack: 1, ..low }, routines.as_slice()),
+        frames
+    );
     let cost = Err(VerifyFault::CostOver(At::Head));
-    assert_eq!(rt; verdict_of(alloc, Front { cost: 8, commands: 0, ..enough }, routines.as_slice()), cost);
+    assert_eq!(rt;
+        verdict_of(
+            alloc,
+            Front {
+                cost: 8,
+                commands: 0,
+                ..enough
+            },
+            routines.as_slice()
+        ),
+        cost
+    );
     let commands = Err(VerifyFault::CommandsOver(At::Head));
-    assert_eq!(rt; verdict_of(alloc, Front { commands: 2, ..enough }, routines.as_slice()), commands);
+    assert_eq!(rt;
+        verdict_of(
+            alloc,
+            Front {
+                commands: 2,
+                ..enough
+            },
+            routines.as_slice()
+        ),
+        commands
+    );
 }
 
 #[test]
@@ -450,13 +619,30 @@ fn calls_tests_and_many_states(rt: HostRuntime) -> Result<(), Fail> {
     let alloc = rt.alloc();
     let asks = [TEST, RET];
     let body = [call(0), jf(4), COMMAND, QUEUE, RET];
-    let front = Front { init: 2, body: 1, mask: 1, ..WIDE };
-    let routines = [(1, asks.as_slice()), (0, body.as_slice()), (0, [RET].as_slice())];
+    let front = Front {
+        init: 2,
+        body: 1,
+        mask: 1,
+        ..WIDE
+    };
+    let routines = [
+        (1, asks.as_slice()),
+        (0, body.as_slice()),
+        (0, [RET].as_slice()),
+    ];
     let bytes = spelled(alloc, front, [(2, 1, 1)].as_slice(), routines.as_slice())?;
     assert_eq!(rt; verdict(alloc, bytes.as_slice()), Ok(stated(front)));
     let states = [(0, 0, 0); 256];
-    let last = Front { initial: 255, ..SMALLEST };
-    let bytes = spelled(alloc, last, states.as_slice(), [(0, [RET].as_slice())].as_slice())?;
+    let last = Front {
+        initial: 255,
+        ..SMALLEST
+    };
+    let bytes = spelled(
+        alloc,
+        last,
+        states.as_slice(),
+        [(0, [RET].as_slice())].as_slice(),
+    )?;
     assert_eq!(rt; verdict(alloc, bytes.as_slice()), Ok(stated(last)));
     Ok(())
 }
@@ -464,9 +650,18 @@ fn calls_tests_and_many_states(rt: HostRuntime) -> Result<(), Fail> {
 #[test]
 fn near_all_limits(rt: HostRuntime) -> Result<(), Fail> {
     let alloc = rt.alloc();
-    let long = repeated(alloc, [YES, POP].as_slice(), 511, [jump(1023), RET].as_slice())?;
+    let long = repeated(
+        alloc,
+        [YES, POP].as_slice(),
+        511,
+        [jump(1023), RET].as_slice(),
+    )?;
     let short = repeated(alloc, [YES, POP].as_slice(), 3, [jump(7), RET].as_slice())?;
-    let front = Front { tests: 64, texts: 1_024, ..WIDE };
+    let front = Front {
+        tests: 64,
+        texts: 1_024,
+        ..WIDE
+    };
     let states = [(0, 7, 0); 256];
     let mut bytes = begun(alloc, front, states.as_slice(), 1_024)?;
     for _routine in 0..7 {

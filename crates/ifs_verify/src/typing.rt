@@ -13,8 +13,7 @@ use crate::fault::VerifyFault;
 use crate::places::{at, code, next, op_at, target};
 use crate::stack::Stack;
 use ifs_base::Op;
-use ifs_image::ImageParts;
-use ifs_image::limits;
+use ifs_image::{ImageParts, limits};
 use std::alloc::{AllocError, Global};
 
 /// The list of kinds at each place of a routine, whose stacks meet every rule.

@@ -11,18 +11,18 @@ count_at-requires-clause-counted c = c.loop-done.invariant (length c.code-count.
 pub first-requires : goal.first-requires
 first-requires c =
     let counted : IsCountedFrom (weight_of c.args.weight) c.args.image.now (slice_index c.args.lower.now) c.args.routine c.loop-done.amounts.items 0 =
-      c.loop-done.invariant 0 (omega (arith, c.loop-done-test.false, c.loop-done.auto)) in
+    c.loop-done.invariant 0 (omega (arith, c.loop-done-test.false, c.loop-done.auto)) in
     omega (arith, counted.long, some_code c.args.image.now c.args.routine c.requires.plain.ends c.requires.routine)
 
 pub returns-clause-holds : goal.returns-clause-holds
 returns-clause-holds c =
     let counted : IsCountedFrom (weight_of c.args.weight) c.args.image.now (slice_index c.args.lower.now) c.args.routine c.loop-done.amounts.items 0 =
-      c.loop-done.invariant 0 (omega (arith, c.loop-done-test.false, c.loop-done.auto)) in
+    c.loop-done.invariant 0 (omega (arith, c.loop-done-test.false, c.loop-done.auto)) in
     (slice_index c.loop-done.amounts.items, sym c.first.ensures, λ place op is. counted.holds place op (omega arith) is)
 
 pub returns-clause-least : goal.returns-clause-least
 returns-clause-least c = λ all are below.
     let counted : IsCountedFrom (weight_of c.args.weight) c.args.image.now (slice_index c.args.lower.now) c.args.routine c.loop-done.amounts.items 0 =
-      c.loop-done.invariant 0 (omega (arith, c.loop-done-test.false, c.loop-done.auto)) in
+    c.loop-done.invariant 0 (omega (arith, c.loop-done-test.false, c.loop-done.auto)) in
     let some = some_code c.args.image.now c.args.routine c.requires.plain.ends c.requires.routine in
     omega (arith, c.first.ensures, counted.least all are below 0 some (omega arith))

@@ -26,5 +26,5 @@ pub returns : goal.returns
 returns c =
     let here : op_at c.args.image.now c.args.routine c.args.place ≡ Some c.op_at-op.result = subst (λ (code : List Op). slice_get code c.args.place ≡ Some c.op_at-op.result) c.code.ensures c.op_at-op.ensures in
     subst (λ (amounts : List ℕ). IsCountedFrom (weight_of c.args.weight) c.args.image.now (slice_index c.args.lower.now) c.args.routine amounts c.args.place) (sym c.put.ensures)
-      (counted_more (weight_of c.args.weight) c.args.image.now (slice_index c.args.lower.now) c.args.routine c.args.amounts.now.items c.args.place c.op_at-op.result
-        c.amount_at-amount.result c.requires.plain c.requires.routine here c.requires.counted c.amount_at-amount.ensures.holds c.amount_at-amount.ensures.least c.amount_at-amount.ensures.more)
+    (counted_more (weight_of c.args.weight) c.args.image.now (slice_index c.args.lower.now) c.args.routine c.args.amounts.now.items c.args.place c.op_at-op.result
+    c.amount_at-amount.result c.requires.plain c.requires.routine here c.requires.counted c.amount_at-amount.ensures.holds c.amount_at-amount.ensures.least c.amount_at-amount.ensures.more)

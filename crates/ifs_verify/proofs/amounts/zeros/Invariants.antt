@@ -4,5 +4,5 @@ use Rattle.ifs_verify.proofs.amounts.zeros.Given as goal
 abbrev pub invariant-loop-place : goal.invariant-loop-place
 invariant-loop-place l = record {
   long : length l.amounts.items ≡ l._place;
-  zero : (k : ℕ) → slice_index l.amounts.items k ≡ 0
-  }
+  zero : (k : ℕ) → slice_index l.amounts.items k ≡ 0;
+}

@@ -27,24 +27,24 @@ returns-clause-found c =
     let command : ℕ = c.in_ok-commands.commands in
     let found_depths : LeastDepths image depths routine = subst (λ (xs : List ℕ). LeastDepths image xs routine) (sym c.as_slice.ensures.value) c.requires.lower.depths in
     let found_costs : LeastAmounts cost_of image 100000 costs routine =
-      subst (λ (xs : List ℕ). LeastAmounts cost_of image 100000 xs routine) (sym c.as_slice-2.ensures.value) c.requires.lower.costs in
+    subst (λ (xs : List ℕ). LeastAmounts cost_of image 100000 xs routine) (sym c.as_slice-2.ensures.value) c.requires.lower.costs in
     let found_commands : LeastAmounts commands_of image 64 commands routine =
-      subst (λ (xs : List ℕ). LeastAmounts commands_of image 64 xs routine) (sym c.as_slice-3.ensures.value) c.requires.lower.commands in
+    subst (λ (xs : List ℕ). LeastAmounts commands_of image 64 xs routine) (sym c.as_slice-3.ensures.value) c.requires.lower.commands in
     let new_depths : c.push.new.self.items ≡ depths ++ depth ∷ [] = c.in_ok-push.ensures.items ∙ ap (λ (xs : List ℕ). xs ++ depth ∷ []) (sym c.as_slice.ensures.value) in
     let new_costs : c.push-2.new.self.items ≡ costs ++ cost ∷ [] = c.in_ok-push-2.ensures.items ∙ ap (λ (xs : List ℕ). xs ++ cost ∷ []) (sym c.as_slice-2.ensures.value) in
     let new_commands : c.push-3.new.self.items ≡ commands ++ command ∷ [] = c.in_ok-push-3.ensures.items ∙ ap (λ (xs : List ℕ). xs ++ command ∷ []) (sym c.as_slice-3.ensures.value) in
     record {
       heights_low = λ k below.
-        elim (cases_eq k routine) [
-          inl e ↦
-            let here : slice_index c.args.heights.now.items k ≡ c.entry.result = ap (slice_index c.args.heights.now.items) e ∙ sym c.entry.ensures in
-            omega (arith, here)
-        | inr ne ↦ c.requires.lower.heights_low k (omega arith)
-        ];
+          elim (cases_eq k routine) [
+            | inl e ↦
+                let here : slice_index c.args.heights.now.items k ≡ c.entry.result = ap (slice_index c.args.heights.now.items) e ∙ sym c.entry.ensures in
+                omega (arith, here)
+            | inr ne ↦ c.requires.lower.heights_low k (omega arith)
+          ];
       depths = subst (λ (xs : List ℕ). LeastDepths image xs (routine + 1)) (sym new_depths)
-        (depths_more image depths routine depth c.requires.plain found_depths c.depth_of-depth.ensures.holds c.depth_of-depth.ensures.least (omega arith));
+          (depths_more image depths routine depth c.requires.plain found_depths c.depth_of-depth.ensures.holds c.depth_of-depth.ensures.least (omega arith));
       costs = subst (λ (xs : List ℕ). LeastAmounts cost_of image 100000 xs (routine + 1)) (sym new_costs)
-        (amounts_more cost_of image 100000 costs routine cost c.requires.plain found_costs c.in_ok-cost.ensures.holds c.in_ok-cost.ensures.least (omega arith));
+          (amounts_more cost_of image 100000 costs routine cost c.requires.plain found_costs c.in_ok-cost.ensures.holds c.in_ok-cost.ensures.least (omega arith));
       commands = subst (λ (xs : List ℕ). LeastAmounts commands_of image 64 xs (routine + 1)) (sym new_commands)
-        (amounts_more commands_of image 64 commands routine command c.requires.plain found_commands c.in_ok-commands.ensures.holds c.in_ok-commands.ensures.least (omega arith))
+          (amounts_more commands_of image 64 commands routine command c.requires.plain found_commands c.in_ok-commands.ensures.holds c.in_ok-commands.ensures.least (omega arith));
     }

@@ -7,8 +7,8 @@ use Rattle.ifs_verify.proofs.budgets.fit_states.Goals as goal
 pub loop-state-preserved : goal.loop-state-preserved
 loop-state-preserved c =
     states_more c.args.image.now.states
-      (λ (handlers : Handlers). (slice_index c.args.reach.now.items handlers.init.0 ≤ c.args.stated) × (slice_index c.args.reach.now.items handlers.body.0 ≤ c.args.stated))
-      c.loop-state.state c.handlers_of.result c.loop-state.invariant c.handlers_of.ensures (c.fit_part.ensures.0 c.if-not-fit_part.false)
+    (λ (handlers : Handlers). (slice_index c.args.reach.now.items handlers.init.0 ≤ c.args.stated) × (slice_index c.args.reach.now.items handlers.body.0 ≤ c.args.stated))
+    c.loop-state.state c.handlers_of.result c.loop-state.invariant c.handlers_of.ensures (c.fit_part.ensures.0 c.if-not-fit_part.false)
 
 pub returns : goal.returns
 returns c =

@@ -8,5 +8,5 @@ abbrev pub invariant-loop-state : goal.invariant-loop-state
 invariant-loop-state l = record {
   bound : (k : ℕ) (state : StateSpec) → k < l.state → slice_get l.image.states k ≡ Some state → slice_index l.amounts.items (part_of l.part state.handlers).0 ≤ l.most;
   least : (bound : ℕ) → Reaches l.part l.image (slice_index l.amounts.items) bound → l.most ≤ bound;
-  low : l.most ≤ 100000
-  }
+  low : l.most ≤ 100000;
+}

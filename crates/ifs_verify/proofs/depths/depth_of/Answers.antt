@@ -23,23 +23,23 @@ loop-place-preserved c =
     record {
       own = omega (arith, c.loop-place.invariant.own, c.greater-depth.ensures.left);
       calls = λ place callee below is.
-        elim (cases_eq place c.loop-place.place) [
-          inl e ↦
-            let same : c.op_at.result ≡ Call callee =
-              some_op c.op_at.result (Call callee) (sym here ∙ subst (λ (n : ℕ). op_at c.args.image.now c.args.routine n ≡ Some (Call callee)) e is) in
-            omega (arith, c.depth_at-here.ensures.call callee same, c.greater-depth.ensures.right)
-        | inr ne ↦ omega (arith, c.loop-place.invariant.calls place callee (omega arith) is, c.greater-depth.ensures.left)
-        ];
+          elim (cases_eq place c.loop-place.place) [
+            | inl e ↦
+                let same : c.op_at.result ≡ Call callee =
+                some_op c.op_at.result (Call callee) (sym here ∙ subst (λ (n : ℕ). op_at c.args.image.now c.args.routine n ≡ Some (Call callee)) e is) in
+                omega (arith, c.depth_at-here.ensures.call callee same, c.greater-depth.ensures.right)
+            | inr ne ↦ omega (arith, c.loop-place.invariant.calls place callee (omega arith) is, c.greater-depth.ensures.left)
+          ];
       least = λ bound holds.
-        c.greater-depth.ensures.least bound (c.loop-place.invariant.least bound holds)
-          (c.depth_at-here.ensures.least bound holds.own (λ callee is. holds.calls c.loop-place.place callee (here ∙ ap (λ (o : Op). Some o) is)))
+          c.greater-depth.ensures.least bound (c.loop-place.invariant.least bound holds)
+          (c.depth_at-here.ensures.least bound holds.own (λ callee is. holds.calls c.loop-place.place callee (here ∙ ap (λ (o : Op). Some o) is)));
     }
 
 pub returns-clause-holds : goal.returns-clause-holds
 returns-clause-holds c = record {
   own = c.loop-place.invariant.own;
   calls = λ place callee is.
-    let within : place < length (code_of c.args.image.now c.args.routine) = slice_get_within (code_of c.args.image.now c.args.routine) place (Call callee) is in
-    let below : place < length c.code-code.result.now = subst (λ (code : List Op). place < length code) (sym c.code-code.ensures) within in
-    c.loop-place.invariant.calls place callee (omega arith) is
-  }
+      let within : place < length (code_of c.args.image.now c.args.routine) = slice_get_within (code_of c.args.image.now c.args.routine) place (Call callee) is in
+      let below : place < length c.code-code.result.now = subst (λ (code : List Op). place < length code) (sym c.code-code.ensures) within in
+      c.loop-place.invariant.calls place callee (omega arith) is;
+}

@@ -9,5 +9,5 @@ abbrev pub invariant-loop-place : goal.invariant-loop-place
 invariant-loop-place l = record {
   own : 1 ≤ l.depth;
   calls : (place : ℕ) (callee : RoutineId) → place < l.place → op_at l.image l.routine place ≡ Some (Call callee) → slice_index l.depths callee.0 + 1 ≤ l.depth;
-  least : (bound : ℕ) → HoldsDepth l.image (slice_index l.depths) l.routine bound → l.depth ≤ bound
-  }
+  least : (bound : ℕ) → HoldsDepth l.image (slice_index l.depths) l.routine bound → l.depth ≤ bound;
+}

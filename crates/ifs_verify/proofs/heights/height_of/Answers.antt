@@ -17,8 +17,8 @@ row_read image routine place rows row typed within read = row_at-read rows place
 op_there : (image : ImageParts) (routine place : ℕ) → place < length (code_of image routine) → (op : Op) × (op_at image routine place ≡ Some op)
 op_there image routine place within =
     elim (code_of image routine) as (λ code. place < length code → (op : Op) × (slice_get code place ≡ Some op)) [
-      [] ↦ λ h. absurd (omega arith)
-    | ◌∷◌ op rest ↦ λ h. (get_or (op ∷ rest) place op, slice_get-get_or (op ∷ rest) place op h)
+      | [] ↦ λ h. absurd (omega arith)
+      | ◌∷◌ op rest ↦ λ h. (get_or (op ∷ rest) place op, slice_get-get_or (op ∷ rest) place op h)
     ] within
 
 pub unreachable-requires : goal.unreachable-requires
@@ -35,7 +35,7 @@ height_at-here-requires-clause-fits c =
     let read = row_read c.args.image.now c.args.routine c.loop-place.place c.args.rows.now.items c.index.result.now c.requires.typed within c.index.ensures in
     let here : op_at c.args.image.now c.args.routine c.loop-place.place ≡ Some c.op_at.result = subst (λ (code : List Op). slice_get code c.loop-place.place ≡ Some c.op_at.result) c.code-code.ensures c.op_at.ensures in
     passed_at c.args.image.now c.args.routine c.args.rows.now.items (length (code_of c.args.image.now c.args.routine)) c.loop-place.place c.op_at.result c.in-Some.before
-      c.requires.typed within here (read ∙ c.in-Some.is)
+    c.requires.typed within here (read ∙ c.in-Some.is)
 
 pub height_at-here-requires-clause-within : goal.height_at-here-requires-clause-within
 height_at-here-requires-clause-within c =
@@ -50,10 +50,10 @@ loop-place-preserved c =
     let here : op_at c.args.image.now c.args.routine c.loop-place.place ≡ Some c.op_at.result = subst (λ (code : List Op). slice_get code c.loop-place.place ≡ Some c.op_at.result) c.code-code.ensures c.op_at.ensures in
     record {
       holds = holds_more c.args.image.now c.args.routine c.args.rows.now.items (slice_index c.args.heights.now) c.loop-place.place c.op_at.result c.in-Some.before
-        c.loop-place.height c.height_at-here.result c.greater-height.result c.loop-place.invariant.holds here (read ∙ c.in-Some.is) c.height_at-here.ensures.holds c.greater-height.ensures.left c.greater-height.ensures.right;
+          c.loop-place.height c.height_at-here.result c.greater-height.result c.loop-place.invariant.holds here (read ∙ c.in-Some.is) c.height_at-here.ensures.holds c.greater-height.ensures.left c.greater-height.ensures.right;
       least = λ bound all.
-        c.greater-height.ensures.least bound (c.loop-place.invariant.least bound all)
-          (c.height_at-here.ensures.least bound (all c.loop-place.place c.op_at.result c.in-Some.before here (read ∙ c.in-Some.is)))
+          c.greater-height.ensures.least bound (c.loop-place.invariant.least bound all)
+          (c.height_at-here.ensures.least bound (all c.loop-place.place c.op_at.result c.in-Some.before here (read ∙ c.in-Some.is)));
     }
 
 pub returns-clause-holds : goal.returns-clause-holds

@@ -10,5 +10,5 @@ invariant-loop-place l = record {
   holds : (place : ℕ) (op : Op) (before : List Kind) → place < l.place → op_at l.image l.routine place ≡ Some op → row_at l.rows.items place ≡ Some before
       → HoldsHeight l.image (slice_index l.heights) op before l.height;
   least : (bound : ℕ) → ((place : ℕ) (op : Op) (before : List Kind) → op_at l.image l.routine place ≡ Some op → row_at l.rows.items place ≡ Some before
-      → HoldsHeight l.image (slice_index l.heights) op before bound) → l.height ≤ bound
-  }
+      → HoldsHeight l.image (slice_index l.heights) op before bound) → l.height ≤ bound;
+}

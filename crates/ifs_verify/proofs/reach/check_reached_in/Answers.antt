@@ -24,16 +24,16 @@ loop-place-preserved c =
       long = c.mark-in-loop-place.ensures.long ∙ c.mark.ensures.long ∙ c.loop-place.invariant.long;
       follows = follows_more image routine place op before between after here first second c.loop-place.invariant.follows;
       marked = λ k within.
-        marked_more image routine place op before between after here c.mark.ensures.long first second
+          marked_more image routine place op before between after here c.mark.ensures.long first second
           (λ j inside. c.loop-place.invariant.marked j (omega (arith, inside, c.loop-place.invariant.long))) k (omega (arith, within, c.loop-place.invariant.long));
       reached = λ k positive below.
-        elim (cases_eq k place) [
-          inl e ↦
-            subst (λ (n : ℕ). IsReached image routine n) (sym e)
-              (elim (c.is_reached.ensures.0 c.if-not-is_reached.false) [
-                inl zero ↦ absurd (omega arith)
-              | inr marked ↦ c.loop-place.invariant.follows place marked
-              ])
-        | inr ne ↦ c.loop-place.invariant.reached k positive (omega arith)
-        ]
+          elim (cases_eq k place) [
+            | inl e ↦
+                subst (λ (n : ℕ). IsReached image routine n) (sym e)
+                (elim (c.is_reached.ensures.0 c.if-not-is_reached.false) [
+                  | inl zero ↦ absurd (omega arith)
+                  | inr marked ↦ c.loop-place.invariant.follows place marked
+                ])
+            | inr ne ↦ c.loop-place.invariant.reached k positive (omega arith)
+          ];
     }

@@ -8,5 +8,5 @@ invariant-loop-place l = record {
   long : length l.marks.items ≡ length l.code;
   follows : (k : ℕ) → IsMarked l.marks.items k → FollowsBelow l.image l.routine l.place k;
   marked : (k : ℕ) → k < length l.code → FollowsBelow l.image l.routine l.place k → IsMarked l.marks.items k;
-  reached : (k : ℕ) → 0 < k → k < l.place → IsReached l.image l.routine k
-  }
+  reached : (k : ℕ) → 0 < k → k < l.place → IsReached l.image l.routine k;
+}

@@ -12,5 +12,5 @@ loop-state-preserved c =
 pub returns-clause-kept : goal.returns-clause-kept
 returns-clause-kept c = record {
   always = c.leave_nothing.ensures.0 c.if-not-leave_nothing.false;
-  states = λ k state is. c.loop-state.invariant k state (omega (arith, slice_get_within c.args.image.now.states k state is)) is
-  }
+  states = λ k state is. c.loop-state.invariant k state (omega (arith, slice_get_within c.args.image.now.states k state is)) is;
+}

@@ -13,5 +13,5 @@ loop-routine-preserved c =
     let found : LeastHeights image lower routine = subst (λ (xs : List ℕ). LeastHeights image xs routine) (sym e) c.loop-routine.invariant in
     let items : c.push.new.self.items ≡ lower ++ height ∷ [] = c.in_ok-push.ensures.items ∙ ap (λ (xs : List ℕ). xs ++ height ∷ []) (sym e) in
     subst (λ (xs : List ℕ). LeastHeights image xs (routine + 1)) (sym items)
-      (heights_more image lower routine height c.in_ok-rows.rows.items c.requires found c.in_ok-rows.ensures.typed
-        c.height_of-height.ensures.holds c.height_of-height.ensures.least)
+    (heights_more image lower routine height c.in_ok-rows.rows.items c.requires found c.in_ok-rows.ensures.typed
+    c.height_of-height.ensures.holds c.height_of-height.ensures.least)

@@ -20,9 +20,9 @@ not_kept : (image : ImageParts) (routine place : ℕ) (rows : List (Option (List
     → ¬ (op ≡ Ret → before ≡ results_of image routine) → ¬ IsTyped image
 not_kept image routine place rows op before is_routine typed here row broken all =
     broken (λ is_ret.
-      let at_ret : op_at image routine place ≡ Some Ret = here ∙ ap (λ (o : Op). Some o) is_ret in
-      let is_typing = all.1 routine is_routine in
-      sym (typed.forced (all.0 routine) is_typing place before row) ∙ is_typing.results place at_ret)
+    let at_ret : op_at image routine place ≡ Some Ret = here ∙ ap (λ (o : Op). Some o) is_ret in
+    let is_typing = all.1 routine is_routine in
+    sym (typed.forced (all.0 routine) is_typing place before row) ∙ is_typing.results place at_ret)
 
 pub unreachable-requires : goal.unreachable-requires
 unreachable-requires c =
@@ -39,19 +39,19 @@ pub returns-then-not-keeps_results-clause-refused : goal.returns-then-not-keeps_
 returns-then-not-keeps_results-clause-refused c _ =
     let read = row_read c.args.image.now c.args.routine c.args.place c.args.rows.now.items c.index.result.now c.requires.typed c.requires.place c.index.ensures in
     not_kept c.args.image.now c.args.routine c.args.place c.args.rows.now.items c.args.op c.in-Some.before c.requires.routine c.requires.typed c.requires.op
-      (read ∙ c.in-Some.is) (λ kept. let yes = c.keeps_results.ensures.1 kept in let no = c.if-not-keeps_results.true in cc)
+    (read ∙ c.in-Some.is) (λ kept. let yes = c.keeps_results.ensures.1 kept in let no = c.if-not-keeps_results.true in cc)
 
 pub returns-in_default-effect_of-clause-refused : goal.returns-in_default-effect_of-clause-refused
 returns-in_default-effect_of-clause-refused c _ =
     let read = row_read c.args.image.now c.args.routine c.args.place c.args.rows.now.items c.index.result.now c.requires.typed c.requires.place c.index.ensures in
     no_effect c.args.image.now c.args.routine c.args.rows.now.items c.args.place c.args.place c.args.op c.in-Some.before c.requires.routine c.requires.typed
-      c.requires.op (read ∙ c.in-Some.is) (sym c.effect_of.ensures ∙ c.in_default-effect_of.is)
+    c.requires.op (read ∙ c.in-Some.is) (sym c.effect_of.ensures ∙ c.in_default-effect_of.is)
 
 pub returns-then-len-from-clause-refused : goal.returns-then-len-from-clause-refused
 returns-then-len-from-clause-refused c _ =
     let read = row_read c.args.image.now c.args.routine c.args.place c.args.rows.now.items c.index.result.now c.requires.typed c.requires.place c.index.ensures in
     stack_over c.args.image.now c.args.routine c.args.rows.now.items c.args.place c.args.place c.args.op c.in-Some.before c.in-Some-effect_of.after
-      c.requires.routine c.requires.typed c.requires.op (read ∙ c.in-Some.is) (sym c.effect_of.ensures ∙ c.in-Some-effect_of.is) (omega arith)
+    c.requires.routine c.requires.typed c.requires.op (read ∙ c.in-Some.is) (sym c.effect_of.ensures ∙ c.in-Some-effect_of.is) (omega arith)
 
 pub returns-clause-leaves : goal.returns-clause-leaves
 returns-clause-leaves c =
@@ -61,5 +61,5 @@ returns-clause-leaves c =
       here = read ∙ c.in-Some.is;
       effect_is = sym c.effect_of.ensures ∙ c.in-Some-effect_of.is;
       within = omega arith;
-      results = c.keeps_results.ensures.0 c.if-not-keeps_results.false
+      results = c.keeps_results.ensures.0 c.if-not-keeps_results.false;
     }

@@ -7,5 +7,5 @@ abbrev pub invariant-loop-place : goal.invariant-loop-place
 invariant-loop-place l = record {
   long : length l.rows.items ≡ l._place;
   start : row_at l.rows.items 0 ≡ Some [];
-  only_start : (place : ℕ) (kinds : List Kind) → row_at l.rows.items place ≡ Some kinds → (place ≡ 0) × (kinds ≡ [])
-  }
+  only_start : (place : ℕ) (kinds : List Kind) → row_at l.rows.items place ≡ Some kinds → (place ≡ 0) × (kinds ≡ []);
+}

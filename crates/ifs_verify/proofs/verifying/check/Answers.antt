@@ -16,8 +16,8 @@ returns-clause-accepted c =
       jumps = c.in_ok-check_jumps.ensures.kept;
       ends = c.in_ok-check_ends.ensures.kept;
       calls = c.in_ok-check_calls.ensures.kept;
-      reached = c.in_ok-check_reached.ensures.kept
-      } in
+      reached = c.in_ok-check_reached.ensures.kept;
+    } in
     record {
       indexes = plain.indexes;
       handlers = c.in_ok-check_handlers.ensures.kept;
@@ -29,5 +29,5 @@ returns-clause-accepted c =
       stack = stack_fits c.args.image.now c.in_ok-heights.heights.items c.in_ok-heights.ensures.found found.heights_low fits.stack;
       frames = frames_fit c.args.image.now c.in_ok-bounds.bounds.depths.items plain found.depths fits.frames;
       cost = amounts_fit cost_of c.args.image.now 100000 c.args.image.now.budgets.cost c.in_ok-bounds.bounds.costs.items plain found.costs fits.cost;
-      commands = amounts_fit commands_of c.args.image.now 64 c.args.image.now.budgets.commands c.in_ok-bounds.bounds.commands.items plain found.commands fits.commands
+      commands = amounts_fit commands_of c.args.image.now 64 c.args.image.now.budgets.commands c.in_ok-bounds.bounds.commands.items plain found.commands fits.commands;
     }
