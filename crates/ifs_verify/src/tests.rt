@@ -475,13 +475,16 @@ fn plain_checks_in_order(rt: HostRuntime) -> Result<(), Fail> {
     )?;
     let handler = Err(VerifyFault::HandlerLeaves(At::State(StateId(1))));
     assert_eq!(rt; verdict(alloc, bytes.as_slice()), handler);
-    let back = [(0, empty.as_slice()), (0, [YES, jf(0), YES].as_slice())];
+    let returns = [YES, jf(0), YES];
+    let back = [(0, empty.as_slice()), (0, returns.as_slice())];
     let target = Err(VerifyFault::JumpTarget(code_at(1, 1)));
     assert_eq!(rt; verdict_of(alloc, WIDE, back.as_slice()), target);
-    let open = [(0, [call(0), RET].as_slice()), (0, [YES].as_slice())];
+    let itself = [call(0), RET];
+    let open = [(0, itself.as_slice()), (0, [YES].as_slice())];
     let left = Err(VerifyFault::LeftAtEnd(code_at(1, 0)));
     assert_eq!(rt; verdict_of(alloc, WIDE, open.as_slice()), left);
-    let higher = [(0, [RET, RET].as_slice()), (0, [call(1), RET].as_slice())];
+    let same = [call(1), RET];
+    let higher = [(0, [RET, RET].as_slice()), (0, same.as_slice())];
     let not_lower = Err(VerifyFault::CallNotLower(code_at(1, 0)));
     assert_eq!(rt; verdict_of(alloc, WIDE, higher.as_slice()), not_lower);
     let dead = [(0, [NOT, RET].as_slice()), (0, [RET, RET].as_slice())];
@@ -531,10 +534,8 @@ fn bounds_of_routines(rt: HostRuntime) -> Result<(), Fail> {
     let up = repeated(alloc, [YES].as_slice(), 32, empty_code().as_slice())?;
     let down = repeated(alloc, [POP].as_slice(), 32, [RET].as_slice())?;
     let full = repeated(alloc, up.as_slice(), 1, down.as_slice())?;
-    let above = [
-        (0, full.as_slice()),
-        (0, [YES, call(0), POP, RET].as_slice()),
-    ];
+    let caller = [YES, call(0), POP, RET];
+    let above = [(0, full.as_slice()), (0, caller.as_slice())];
     let stack = Err(VerifyFault::StackOver(code_at(1, 0)));
     assert_eq!(rt; verdict_of(alloc, none, above.as_slice()), stack);
     let mut deep = begun(alloc, none, [(0, 0, 0)].as_slice(), 33)?;
