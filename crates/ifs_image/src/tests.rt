@@ -6,162 +6,130 @@ use std::alloc::{AllocError, Global};
 use std::process::Abort;
 use std::test::Fail;
 
-/// One state `a`, one routine: `ret`.
-#[rattlefmt::skip]
-const SMALLEST: [u8; 61] = [
-    0x49, 0x46, 0x53, 0x56, 0x01, 0x00, 0x00, 0x00, 0x01, 0x00, 0x00, 0x00, 0x03, 0x00, 0x00,
-    0x00, 0x00, 0x00, 0x00, 0x00, 0x00, 0x00, 0x01, 0x00, 0x01, 0x00, 0x00,
-    0x00, 0x00, 0x00, 0x00, 0x00, 0x00, 0x00, 0x00, 0x00, 0x00, 0x00, 0x00,
-    0x00, 0x01, 0x61, 0x00, 0x00, 0x00, 0x00, 0x00, 0x00, 0x00, 0x00, 0x00, 0x00, 0x00, 0x00,
-    0x00, 0x00, 0x01, 0x00, 0x00, 0x00, 0x00,
-];
-
-/// The lengths of its fields.
-const FIELDS_OF_SMALLEST: [usize; 23] = [
-    4, 1, 2, 2, 4, 2, 2, 2, 2, 2, 2, 2, 2, 2, 8, 2, 1, 2, 2, 8, 1, 2, 4,
-];
+/// One state `a`, one routine: `ret`. Each word is a field, in hexadecimal.
+const SMALLEST: &str = "
+    49465356 01 0000 0001 00000003 0000
+    0000 0000 0000 0001 0001 0000
+    0000 0000 0000000000000000
+    0001 61 0000 0000 0000000000000000
+    00 0001 00000000
+";
 
 /// Body `link 0 up, pop, cmd 0, queue, ret`.
-#[rattlefmt::skip]
-const FIRST_RUN: [u8; 99] = [
-    0x49, 0x46, 0x53, 0x56, 0x01, 0x00, 0x01, 0x00, 0x01, 0x00, 0x00, 0x00, 0x07, 0x00, 0x01,
-    0x00, 0x01, 0x00, 0x00, 0x00, 0x01, 0x00, 0x01, 0x00, 0x02, 0x00, 0x00,
-    0x00, 0x00, 0x00, 0x00, 0x00, 0x00, 0x00, 0x00, 0x00, 0x00, 0x00, 0x00,
-    0x00, 0x05, 0x63, 0x61, 0x72, 0x70, 0x30,
-    0x00, 0x06, 0x65, 0x63, 0x68, 0x6f, 0x20, 0x6d,
-    0x00, 0x01, 0x61, 0x00, 0x00, 0x00, 0x01, 0x00, 0x00, 0x00, 0x00, 0x00, 0x00, 0x00, 0x00,
-    0x00, 0x00, 0x01, 0x00, 0x00, 0x00, 0x00,
-    0x00, 0x00, 0x05, 0x03, 0x02, 0x00, 0x00, 0x11, 0x00, 0x00, 0x00, 0x09, 0x00, 0x00, 0x00, 0x0b, 0x00, 0x00, 0x00, 0x00, 0x00, 0x00, 0x00,
-];
-
-/// The lengths of its fields.
-const FIELDS_OF_FIRST_RUN: [usize; 34] = [
-    4, 1, 2, 2, 4, 2, 2, 2, 2, 2, 2, 2, 2, 2, 8, 2, 5, 2, 6, 2, 1, 2, 2, 8, 1, 2, 4, 1, 2, 4, 4, 4,
-    4, 4,
-];
+const FIRST_RUN: &str = "
+    49465356 01 0001 0001 00000007 0001
+    0001 0000 0001 0001 0002 0000
+    0000 0000 0000000000000000
+    0005 6361727030
+    0006 6563686f206d
+    0001 61 0000 0001 0000000000000000
+    00 0001 00000000
+    00 0005 03020000 11000000 09000000 0b000000 00000000
+";
 
 /// Body `link 0 up, jf 4, cmd 0, queue, ret`.
-#[rattlefmt::skip]
-const FIRST_POLICY: [u8; 113] = [
-    0x49, 0x46, 0x53, 0x56, 0x01, 0x00, 0x01, 0x00, 0x01, 0x00, 0x00, 0x00, 0x07, 0x00, 0x01,
-    0x00, 0x01, 0x00, 0x00, 0x00, 0x01, 0x00, 0x01, 0x00, 0x04, 0x00, 0x00,
-    0x00, 0x00, 0x00, 0x01, 0x00, 0x00, 0x00, 0x00, 0x00, 0x00, 0x00, 0x00,
-    0x00, 0x05, 0x63, 0x61, 0x72, 0x70, 0x30,
-    0x00, 0x06, 0x65, 0x63, 0x68, 0x6f, 0x20, 0x6d,
-    0x00, 0x01, 0x61, 0x00, 0x02, 0x00, 0x03, 0x00, 0x00, 0x00, 0x00, 0x00, 0x00, 0x00, 0x00,
-    0x00, 0x00, 0x01, 0x00, 0x00, 0x00, 0x00,
-    0x00, 0x00, 0x01, 0x00, 0x00, 0x00, 0x00,
-    0x00, 0x00, 0x01, 0x00, 0x00, 0x00, 0x00,
-    0x00, 0x00, 0x05, 0x03, 0x02, 0x00, 0x00, 0x0e, 0x00, 0x00, 0x04, 0x09, 0x00, 0x00, 0x00, 0x0b, 0x00, 0x00, 0x00, 0x00, 0x00, 0x00, 0x00,
-];
+const FIRST_POLICY: &str = "
+    49465356 01 0001 0001 00000007 0001
+    0001 0000 0001 0001 0004 0000
+    0000 0001 0000000000000000
+    0005 6361727030
+    0006 6563686f206d
+    0001 61 0002 0003 0000000000000000
+    00 0001 00000000
+    00 0001 00000000
+    00 0001 00000000
+    00 0005 03020000 0e000004 09000000 0b000000 00000000
+";
 
-/// The lengths of its fields.
-const FIELDS_OF_FIRST_POLICY: [usize; 40] = [
-    4, 1, 2, 2, 4, 2, 2, 2, 2, 2, 2, 2, 2, 2, 8, 2, 5, 2, 6, 2, 1, 2, 2, 8, 1, 2, 4, 1, 2, 4, 1, 2,
-    4, 1, 2, 4, 4, 4, 4, 4,
-];
+/// In each row: at an offset of the smallest image so many bytes give way to others; the fault then.
+const FAULTS: &str = "
+3 1 58: I2 byte 0
+0 61 49465358: I2 byte 0
+0 61 58: I1 byte 0
+0 61 49465356: I1 byte 4
+4 1 02: I3 byte 4
+5 2 0021: I4 byte 5
+7 2 0021: I4 byte 7
+9 4 000493e1: I4 byte 9
+13 2 0041: I4 byte 13
+15 2 0041: I4 byte 15
+17 2 0041: I4 byte 17
+19 2 0401: I4 byte 19
+21 2 0101: I4 byte 21
+21 2 0000: I4 byte 21
+23 2 0401: I4 byte 23
+39 2 0000: I5 byte 39
+39 2 0401: I5 byte 39
+41 1 00: I5 byte 41
+41 1 ff: I5 byte 41
+54 1 02: I4 byte 54
+55 2 0401: I4 byte 55
+57 4 00000001: I8 byte 57
+57 4 13000000: I8 byte 57
+61 0 00: I7 byte 61
+15 24 00000001000000010001000000000000000000000000000000000000000178: I4 byte 39
+15 24 00000001000000010001000000000000000000000000000000093a81000178: I4 byte 39
+15 24 000200000000000100010000000000000000000000000000000161000161: I6 byte 44
+15 39 000000000000000200010000000000000000000000000000000161000000000000000000000000000161: I6 byte 56
+";
 
-/// Changes of the smallest image: so many bytes at an offset give way to others, and the fault then.
-const FAULTS: [(usize, usize, &[u8], ImageFault); 28] = [
-    (3, 1, b"X", ImageFault::WrongMagic { at: 0 }),
-    (0, 61, b"IFSX", ImageFault::WrongMagic { at: 0 }),
-    (0, 61, b"X", ImageFault::Truncated { at: 0 }),
-    (0, 61, b"IFSV", ImageFault::Truncated { at: 4 }),
-    (4, 1, b"\x02", ImageFault::WrongVersion { at: 4 }),
-    (5, 2, b"\x00\x21", ImageFault::OutOfLimit { at: 5 }),
-    (7, 2, b"\x00\x21", ImageFault::OutOfLimit { at: 7 }),
-    (9, 4, b"\x00\x04\x93\xe1", ImageFault::OutOfLimit { at: 9 }),
-    (13, 2, b"\x00\x41", ImageFault::OutOfLimit { at: 13 }),
-    (15, 2, b"\x00\x41", ImageFault::OutOfLimit { at: 15 }),
-    (17, 2, b"\x00\x41", ImageFault::OutOfLimit { at: 17 }),
-    (19, 2, b"\x04\x01", ImageFault::OutOfLimit { at: 19 }),
-    (21, 2, b"\x01\x01", ImageFault::OutOfLimit { at: 21 }),
-    (21, 2, b"\x00\x00", ImageFault::OutOfLimit { at: 21 }),
-    (23, 2, b"\x04\x01", ImageFault::OutOfLimit { at: 23 }),
-    (39, 2, b"\x00\x00", ImageFault::BadText { at: 39 }),
-    (39, 2, b"\x04\x01", ImageFault::BadText { at: 39 }),
-    (41, 1, b"\x00", ImageFault::BadText { at: 41 }),
-    (41, 1, b"\xff", ImageFault::BadText { at: 41 }),
-    (54, 1, b"\x02", ImageFault::OutOfLimit { at: 54 }),
-    (55, 2, b"\x04\x01", ImageFault::OutOfLimit { at: 55 }),
-    (
-        57,
-        4,
-        b"\x00\x00\x00\x01",
-        ImageFault::NoInstruction { at: 57 },
-    ),
-    (
-        57,
-        4,
-        b"\x13\x00\x00\x00",
-        ImageFault::NoInstruction { at: 57 },
-    ),
-    (61, 0, b"\x00", ImageFault::Trailing { at: 61 }),
-    // One test, with the periods 0 and 604,801.
-    (
-        17,
-        22,
-        b"\x00\x01\0\0\0\x01\0\x01\0\0\0\0\0\0\0\0\0\0\0\0\0\0\0\0\0\0\0\x01x",
-        ImageFault::OutOfLimit { at: 39 },
-    ),
-    (
-        17,
-        22,
-        b"\x00\x01\0\0\0\x01\0\x01\0\0\0\0\0\0\0\0\0\0\0\0\0\0\0\x09\x3a\x81\0\x01x",
-        ImageFault::OutOfLimit { at: 39 },
-    ),
-    // Two interfaces `a`, and two states `a`.
-    (
-        15,
-        24,
-        b"\x00\x02\0\0\0\0\0\x01\0\x01\0\0\0\0\0\0\0\0\0\0\0\0\0\0\0\x01a\0\x01a",
-        ImageFault::RepeatedName { at: 44 },
-    ),
-    (
-        21,
-        33,
-        b"\x00\x02\0\x01\0\0\0\0\0\0\0\0\0\0\0\0\0\0\0\x01a\0\0\0\0\0\0\0\0\0\0\0\0\0\x01a",
-        ImageFault::RepeatedName { at: 56 },
-    ),
-];
+fn digit_of(byte: u8) -> Option<u8> {
+    match byte {
+        b'0'..=b'9' => Some(byte - b'0'),
+        b'a'..=b'f' => Some(byte - b'a' + 10),
+        _ => None,
+    }
+}
 
+/// The bytes of a text in hexadecimal; all but digits is passed over.
+fn bytes_of(alloc: Global, hex: &str) -> Result<Vec<u8>, AllocError> {
+    let mut bytes = Vec::new(alloc);
+    let mut high: Option<u8> = None;
+    for byte in hex.as_bytes() {
+        let Some(digit) = digit_of(*byte) else {
+            continue;
+        };
+        match high.take() {
+            None => high = Some(digit),
+            Some(high) => bytes.push(high.wrapping_mul(16).wrapping_add(digit))?,
+        }
+    }
+    Ok(bytes)
+}
+
+/// An image of which so many bytes at an offset give way to others.
 fn changed(
     alloc: Global,
     image: &[u8],
     at: usize,
     removed: usize,
     put: &[u8],
-) -> Result<Vec<u8>, AllocError> {
+) -> Result<Vec<u8>, Fail> {
     let mut bytes = Vec::new(alloc);
-    for (i, byte) in image.iter().enumerate() {
-        if i == at {
-            bytes.extend_from_slice(put)?;
-        }
-        if i < at || removed <= i - at {
-            bytes.push(*byte)?;
-        }
-    }
-    if at == image.len() {
-        bytes.extend_from_slice(put)?;
-    }
+    let after = at.saturating_add(removed);
+    bytes.extend_from_slice(image.get(..at).ok_or("the bytes before")?)?;
+    bytes.extend_from_slice(put)?;
+    bytes.extend_from_slice(image.get(after..).ok_or("the bytes behind")?)?;
     Ok(bytes)
 }
 
 /// Each front of an image is I1 at the field that is not there whole, and one byte more is I7.
-fn cut_off(rt: &impl Abort, alloc: Global, image: &[u8], fields: &[usize]) -> Result<(), Fail> {
+fn cut_off(rt: &impl Abort, alloc: Global, hex: &str) -> Result<(), Fail> {
+    let image = bytes_of(alloc, hex)?;
     let mut start: usize = 0;
-    for length in fields {
-        for n in 0..*length {
-            let front = image.get(..start.saturating_add(n)).ok_or("a front")?;
+    for field in hex.split_whitespace() {
+        let end = start.saturating_add(field.len() / 2);
+        for n in start..end {
+            let front = image.get(..n).ok_or("a front")?;
             assert_eq!(rt;
                 read(alloc, front).err(),
                 Some(ImageFault::Truncated { at: start })
             );
         }
-        start = start.saturating_add(*length);
+        start = end;
     }
     assert_eq!(rt; start, image.len());
-    let more = changed(alloc, image, image.len(), 0, b"\x00")?;
+    let more = changed(alloc, &image, start, 0, b"\x00")?;
     assert_eq!(rt;
         read(alloc, &more).err(),
         Some(ImageFault::Trailing { at: start })
@@ -171,27 +139,37 @@ fn cut_off(rt: &impl Abort, alloc: Global, image: &[u8], fields: &[usize]) -> Re
 
 #[test]
 fn every_byte_cut_off(rt: HostRuntime) -> Result<(), Fail> {
-    cut_off(&rt, rt.alloc(), &SMALLEST, &FIELDS_OF_SMALLEST)?;
-    cut_off(&rt, rt.alloc(), &FIRST_RUN, &FIELDS_OF_FIRST_RUN)?;
-    cut_off(&rt, rt.alloc(), &FIRST_POLICY, &FIELDS_OF_FIRST_POLICY)
+    cut_off(&rt, rt.alloc(), SMALLEST)?;
+    cut_off(&rt, rt.alloc(), FIRST_RUN)?;
+    cut_off(&rt, rt.alloc(), FIRST_POLICY)
+}
+
+fn check_fault(rt: &impl Abort, alloc: Global, row: &str) -> Result<(), Fail> {
+    let (change, expected) = row.split_once(": ").ok_or("a change and a fault")?;
+    let mut words = change.split(' ');
+    let at = words.next().ok_or("an offset")?.parse::<usize>()?;
+    let removed = words.next().ok_or("a number of bytes")?.parse::<usize>()?;
+    let put = bytes_of(alloc, words.next().ok_or("bytes")?)?;
+    let bytes = changed(alloc, &bytes_of(alloc, SMALLEST)?, at, removed, &put)?;
+    let fault = read(alloc, &bytes).err().ok_or("a fault")?;
+    let told = format!(in alloc; "{fault}")?;
+    assert_eq!(rt; told.as_str(), expected, "{row}");
+    Ok(())
 }
 
 #[test]
 fn first_faults(rt: HostRuntime) -> Result<(), Fail> {
-    for (at, removed, put, fault) in FAULTS {
-        let bytes = changed(rt.alloc(), &SMALLEST, at, removed, put)?;
-        assert_eq!(rt;
-            read(rt.alloc(), &bytes).err(),
-            Some(fault),
-            "{put:?} at {at}"
-        );
+    for row in FAULTS.lines() {
+        if !row.is_empty() {
+            check_fault(&rt, rt.alloc(), row)?;
+        }
     }
     Ok(())
 }
 
 #[test]
 fn instructions_in_all(rt: HostRuntime) -> Result<(), Fail> {
-    let mut bytes = changed(rt.alloc(), &SMALLEST, 24, 1, b"\x09")?;
+    let mut bytes = changed(rt.alloc(), &bytes_of(rt.alloc(), SMALLEST)?, 24, 1, b"\x09")?;
     bytes.truncate(54);
     for _ in 0..8 {
         bytes.extend_from_slice(b"\x00\x04\x00")?;
@@ -212,9 +190,12 @@ fn instructions_in_all(rt: HostRuntime) -> Result<(), Fail> {
 
 #[test]
 fn tests_and_commands_may_repeat(rt: HostRuntime) -> Result<(), Fail> {
-    let put =
-        b"\x00\x02\0\x02\0\x01\0\x01\0\0\0\0\0\0\0\0\0\0\0\0\0\0\x00\x09\x3a\x80\0\x01x\x00\x09\x3a\x80\0\x01x\0\x01y\0\x01y";
-    let bytes = changed(rt.alloc(), &SMALLEST, 17, 22, put)?;
+    let put = bytes_of(
+        rt.alloc(),
+        "0000 0002 0002 0001 0001 0000 0000 0000 0000000000000000
+         00093a80 0001 78 00093a80 0001 78 0001 79 0001 79",
+    )?;
+    let bytes = changed(rt.alloc(), &bytes_of(rt.alloc(), SMALLEST)?, 15, 24, &put)?;
     let image = read(rt.alloc(), &bytes)?;
     for test in image.parts().tests.as_slice() {
         assert_eq!(rt; test.period, 604_800);
@@ -237,15 +218,14 @@ fn worked_images_read_and_written(rt: HostRuntime) -> Result<(), Fail> {
         Op::Ret,
     ];
     let [link, pop, jump, command, queue, end] = bodies;
-    let run = read(rt.alloc(), &FIRST_RUN)?;
+    let bytes = bytes_of(rt.alloc(), FIRST_RUN)?;
+    let run = read(rt.alloc(), &bytes)?;
     check_first(&rt, &run, 2, 0, 1, &[link, pop, command, queue, end])?;
-    assert_eq!(rt; write(rt.alloc(), &run)?.as_slice(), FIRST_RUN.as_slice());
-    let policy = read(rt.alloc(), &FIRST_POLICY)?;
+    assert_eq!(rt; write(rt.alloc(), &run)?.as_slice(), bytes.as_slice());
+    let bytes = bytes_of(rt.alloc(), FIRST_POLICY)?;
+    let policy = read(rt.alloc(), &bytes)?;
     check_first(&rt, &policy, 4, 2, 3, &[link, jump, command, queue, end])?;
-    assert_eq!(rt;
-        write(rt.alloc(), &policy)?.as_slice(),
-        FIRST_POLICY.as_slice()
-    );
+    assert_eq!(rt; write(rt.alloc(), &policy)?.as_slice(), bytes.as_slice());
     Ok(())
 }
 
@@ -328,10 +308,11 @@ fn smallest_image_from_its_parts(rt: HostRuntime) -> Result<(), Fail> {
     parts.budgets.stack = 0;
     assert!(rt; parts.fits());
     let image = Image::new(parts);
-    assert_eq!(rt; write(rt.alloc(), &image)?.as_slice(), SMALLEST.as_slice());
-    let again = read(rt.alloc(), &SMALLEST)?;
+    let bytes = bytes_of(rt.alloc(), SMALLEST)?;
+    assert_eq!(rt; write(rt.alloc(), &image)?.as_slice(), bytes.as_slice());
+    let again = read(rt.alloc(), &bytes)?;
     assert_eq!(rt; again.parts().always, none);
-    assert_eq!(rt; write(rt.alloc(), &again)?.as_slice(), SMALLEST.as_slice());
+    assert_eq!(rt; write(rt.alloc(), &again)?.as_slice(), bytes.as_slice());
     laws::prefix_free();
     laws::one_image();
     laws::one_spelling();
