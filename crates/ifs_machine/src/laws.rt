@@ -16,5 +16,4 @@ pub fn handlers_end()
 /// An empty queue leaves room for each handler of an accepted image.
 pub fn empty_queue_has_room()
     ensures { EmptyQueueHasRoom }
-{
-}
+{}

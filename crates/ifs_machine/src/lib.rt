@@ -11,3 +11,6 @@ mod value;
 
 pub use effects::{Effects, Facts};
 pub use running::run_handler;
+
+#[cfg(test)]
+mod tests;

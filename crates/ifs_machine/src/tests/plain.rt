@@ -1,0 +1,267 @@
+//! The machine's table once more, as a slow program: each frame has a list of its own, and each trap
+//! is looked for.
+
+use ifs_base::{LinkState, Op};
+use ifs_image::ImageParts;
+use std::alloc::{AllocFailed, Global};
+use std::mem;
+
+/// A value, apart from the machine's own.
+#[derive(Clone, Copy, Debug, PartialEq, Eq)]
+enum Item {
+    Truth(bool),
+    Command(u16),
+    State(u16),
+}
+
+/// A routine under way, with its own values, the topmost last.
+#[derive(Drop)]
+struct Frame {
+    routine: usize,
+    place: usize,
+    values: Vec<Item>,
+}
+
+/// Why there is no run.
+#[derive(Clone, Copy, Debug, PartialEq, Eq)]
+pub enum Stop {
+    Trap,
+    Memory,
+}
+
+impl<T: Drop> From<AllocFailed<T>> for Stop {
+    fn from(_e: AllocFailed<T>) -> Stop {
+        Stop::Memory
+    }
+}
+
+/// What a run came to.
+#[derive(Debug, Drop)]
+pub struct Ending {
+    pub cost: u32,
+    pub commands: Vec<u16>,
+    pub wish: Option<u16>,
+}
+
+/// The configuration, with what it is run over.
+#[derive(Drop)]
+struct Plain<'a> {
+    parts: &'a ImageParts,
+    links: &'a [LinkState],
+    tests: &'a [Option<bool>],
+    top: Frame,
+    callers: Vec<Frame>,
+    commands: Vec<u16>,
+    wish: Option<u16>,
+}
+
+impl Plain<'_> {
+    fn op(&self) -> Result<Op, Stop> {
+        let Some(routine) = self.parts.routines.as_slice().get(self.top.routine) else {
+            return Err(Stop::Trap);
+        };
+        match routine.code.as_slice().get(self.top.place) {
+            Some(op) => Ok(*op),
+            None => Err(Stop::Trap),
+        }
+    }
+
+    fn height(&self) -> usize {
+        let mut height = self.top.values.len();
+        for frame in &self.callers {
+            height = height.saturating_add(frame.values.len());
+        }
+        height
+    }
+
+    /// One value more, where the lists together have room for it.
+    fn push(&mut self, item: Item) -> Result<(), Stop> {
+        if self.height() >= usize::from(self.parts.budgets.stack) {
+            return Err(Stop::Trap);
+        }
+        self.top.values.push(item)?;
+        Ok(())
+    }
+
+    fn pop(&mut self) -> Result<Item, Stop> {
+        match self.top.values.pop() {
+            Some(item) => Ok(item),
+            None => Err(Stop::Trap),
+        }
+    }
+
+    fn pop_truth(&mut self) -> Result<bool, Stop> {
+        match self.pop()? {
+            Item::Truth(truth) => Ok(truth),
+            _ => Err(Stop::Trap),
+        }
+    }
+
+    fn link(&self, n: u16) -> Result<LinkState, Stop> {
+        match self.links.get(usize::from(n)) {
+            Some(state) => Ok(*state),
+            None => Err(Stop::Trap),
+        }
+    }
+
+    fn test(&self, n: u16) -> Result<Option<bool>, Stop> {
+        match self.tests.get(usize::from(n)) {
+            Some(value) => Ok(*value),
+            None => Err(Stop::Trap),
+        }
+    }
+
+    fn queue(&mut self) -> Result<(), Stop> {
+        let Item::Command(command) = self.pop()? else {
+            return Err(Stop::Trap);
+        };
+        if self.commands.len() >= usize::from(self.parts.budgets.commands) {
+            return Err(Stop::Trap);
+        }
+        self.commands.push(command)?;
+        Ok(())
+    }
+
+    fn want(&mut self) -> Result<(), Stop> {
+        let Item::State(state) = self.pop()? else {
+            return Err(Stop::Trap);
+        };
+        self.wish = Some(state);
+        Ok(())
+    }
+
+    fn jump_where(&mut self, wanted: bool, target: u16) -> Result<(), Stop> {
+        if self.pop_truth()? == wanted {
+            self.top.place = usize::from(target);
+        }
+        Ok(())
+    }
+
+    fn call(&mut self, alloc: Global, routine: u16) -> Result<(), Stop> {
+        let routine = usize::from(routine);
+        if routine >= self.parts.routines.len() {
+            return Err(Stop::Trap);
+        }
+        if self.callers.len().saturating_add(1) >= usize::from(self.parts.budgets.frames) {
+            return Err(Stop::Trap);
+        }
+        let caller = mem::replace(
+            &mut self.top,
+            Frame {
+                routine,
+                place: 0,
+                values: Vec::new(alloc),
+            },
+        );
+        self.callers.push(caller)?;
+        Ok(())
+    }
+
+    /// Whether the handler ended.
+    fn ret(&mut self) -> Result<bool, Stop> {
+        let Some(routine) = self.parts.routines.as_slice().get(self.top.routine) else {
+            return Err(Stop::Trap);
+        };
+        if self.top.values.len() != usize::from(routine.results) {
+            return Err(Stop::Trap);
+        }
+        for item in &self.top.values {
+            if !matches!(item, Item::Truth(_)) {
+                return Err(Stop::Trap);
+            }
+        }
+        let Some(mut caller) = self.callers.pop() else {
+            return Ok(true);
+        };
+        for item in &self.top.values {
+            caller.values.push(*item)?;
+        }
+        self.top = caller;
+        Ok(false)
+    }
+
+    /// One row of the table; whether the handler ended.
+    fn row(&mut self, alloc: Global) -> Result<bool, Stop> {
+        let op = self.op()?;
+        self.top.place = self.top.place.saturating_add(1);
+        match op {
+            Op::Ret => return self.ret(),
+            Op::Call(routine) => self.call(alloc, routine.0)?,
+            Op::Queue => self.queue()?,
+            Op::Want => self.want()?,
+            Op::Jump(target) => self.top.place = usize::from(target),
+            Op::JumpFalse(target) => self.jump_where(false, target)?,
+            Op::JumpTrue(target) => self.jump_where(true, target)?,
+            Op::Pop => {
+                self.pop()?;
+            }
+            op => {
+                let item = self.made(op)?;
+                self.push(item)?;
+            }
+        }
+        Ok(false)
+    }
+
+    /// The value that an instruction leaves on top.
+    fn made(&mut self, op: Op) -> Result<Item, Stop> {
+        match op {
+            Op::No => Ok(Item::Truth(false)),
+            Op::Link(n, state) => Ok(Item::Truth(self.link(n.0)? == state)),
+            Op::Test(n) => Ok(Item::Truth(self.test(n.0)? == Some(true))),
+            Op::Known(n) => Ok(Item::Truth(self.test(n.0)?.is_some())),
+            Op::Negate => Ok(Item::Truth(!self.pop_truth()?)),
+            Op::Both => {
+                let right = self.pop_truth()?;
+                let left = self.pop_truth()?;
+                Ok(Item::Truth(left & right))
+            }
+            Op::Either => {
+                let right = self.pop_truth()?;
+                let left = self.pop_truth()?;
+                Ok(Item::Truth(left | right))
+            }
+            Op::PushCommand(n) => Ok(Item::Command(n.0)),
+            Op::PushState(n) => Ok(Item::State(n.0)),
+            Op::Dup => {
+                let item = self.pop()?;
+                self.push(item)?;
+                Ok(item)
+            }
+            _ => Ok(Item::Truth(true)),
+        }
+    }
+}
+
+/// The run of a handler from no commands and no wish.
+pub fn slow_run(
+    alloc: Global,
+    parts: &ImageParts,
+    links: &[LinkState],
+    tests: &[Option<bool>],
+    handler: u16,
+) -> Result<Ending, Stop> {
+    let mut plain = Plain {
+        parts,
+        links,
+        tests,
+        top: Frame {
+            routine: usize::from(handler),
+            place: 0,
+            values: Vec::new(alloc),
+        },
+        callers: Vec::new(alloc),
+        commands: Vec::new(alloc),
+        wish: None,
+    };
+    for cost in 1..=100_000u32 {
+        if plain.row(alloc)? {
+            return Ok(Ending {
+                cost,
+                commands: plain.commands,
+                wish: plain.wish,
+            });
+        }
+    }
+    Err(Stop::Trap)
+}
