@@ -1,5 +1,5 @@
 -- One handler after another: room for its commands, and what a behaviour says of it.
-use Rattle.std.proofs.Common.{◌≡◌, ℕ, ◌+◌, ◌≤◌, ◌<◌, List, [], ◌++◌, length, Option, Some, None, slice_get, refl, sym, ap, subst, ◌∙◌, arith, length-append, option_map, inl, inr}
+use Rattle.std.proofs.Common.{◌≡◌, ℕ, ◌+◌, ◌≤◌, ◌<◌, List, [], ◌++◌, length, Option, Some, slice_get, sym, ap, subst, ◌∙◌, arith, length-append, option_map, inl, inr}
 use Rattle.std.specs.Prelude.{All, IfSome}
 use Rattle.std.proofs.lemmas.List.Elements.{All-append, All-nil}
 use Rattle.ifs_base.specs.Facts.{Facts}
@@ -8,10 +8,10 @@ use Rattle.ifs_base.specs.declared.ids.StateId.{StateId}
 use Rattle.ifs_image.specs.declared.parts.StateSpec.{StateSpec}
 use Rattle.ifs_image.specs.declared.parts.ImageParts.{ImageParts}
 use Rattle.ifs_verify.specs.Accepted.{IsAccepted}
-use Rattle.ifs_verify.specs.Bounds.{AreAmounts, cost_of, commands_of}
+use Rattle.ifs_verify.specs.Bounds.{AreAmounts, commands_of}
 use Rattle.ifs_machine.specs.Table.{Effects}
 use Rattle.ifs_machine.specs.Run.{RunsTo, AreFactsOf, HasRoom, Appends, IsCommand, IsWish, IsCostOf}
-use Rattle.ifs_core.specs.Event.{Handler, AlwaysInit, AlwaysBody, Init, Body, Yield, Behaviour}
+use Rattle.ifs_core.specs.Event.{Handler, Init, Body, Behaviour}
 use Rattle.ifs_core.specs.Machine.{routine_of, followed_by, IsBehaviour, KeepsBudgets}
 use Rattle.ifs_core.specs.Within.{nothing_yet, AreEffectsOf, RanBodies, RanInit}
 
@@ -178,5 +178,5 @@ room_for_first_init image k state before mid accepted first at none appends =
 pub two_known : (image : ImageParts) (r q : ℕ) (before mid end : List CommandId) → before ≡ [] → Appends image r before mid → Appends image q mid end → All (IsCommand image) end
 two_known image r q before mid end none first second =
     let mid_known : All (IsCommand image) mid =
-        subst (All (IsCommand image)) (sym (first.appended ∙ ap (λ (xs : List CommandId). xs ++ first.some) none)) first.known in
+    subst (All (IsCommand image)) (sym (first.appended ∙ ap (λ (xs : List CommandId). xs ++ first.some) none)) first.known in
     subst (All (IsCommand image)) (sym second.appended) (All-append (IsCommand image) mid second.some mid_known second.known)

@@ -9,6 +9,7 @@
 
 mod event;
 mod gateway;
+pub mod laws;
 mod position;
 mod readers;
 mod step;

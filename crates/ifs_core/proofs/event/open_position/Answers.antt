@@ -1,7 +1,5 @@
-use Rattle.std.proofs.Common.{◌≡◌, ℕ, List, length, ap, ◌∙◌, lit<}
-use Rattle.ifs_image.specs.declared.parts.ImageParts.{ImageParts}
-use Rattle.ifs_sched.specs.Schedule.{Timetable, all_off}
-use Rattle.ifs_core.specs.Machine.{periods_in}
+use Rattle.std.proofs.Common.{◌≡◌, length, ap, ◌∙◌}
+use Rattle.ifs_sched.specs.Schedule.{Timetable}
 use Rattle.ifs_core.proofs.Opening.{length-all_unknown, length-no_values, length-all_off}
 use Rattle.ifs_core.proofs.event.open_position.Goals as goal
 

@@ -1,5 +1,4 @@
-use Rattle.std.proofs.Common.{◌≡◌, length, sym, ap, ◌∙◌, refl}
-use Rattle.ifs_image.specs.declared.parts.ImageParts.{ImageParts}
+use Rattle.std.proofs.Common.{◌≡◌, length, ap, ◌∙◌, refl}
 use Rattle.ifs_machine.specs.Table.{Effects}
 use Rattle.ifs_machine.specs.Views.{facts_of, effects_of}
 use Rattle.ifs_core.specs.Event.{AlwaysBody, Body}

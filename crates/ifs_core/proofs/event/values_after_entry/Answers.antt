@@ -1,7 +1,6 @@
 use Rattle.std.proofs.Common.{◌≡◌, None, length, get_or, ap, ◌∙◌, arith, lit<, take}
 use Rattle.std.proofs.lemmas.List.{length-take-le, get_or_default}
 use Rattle.ifs_core.proofs.Kept.{length-kept_values, kept_values-more}
-use Rattle.ifs_core.specs.Event.{kept_value, kept_values}
 use Rattle.ifs_core.proofs.event.values_after_entry.Goals as goal
 
 pub push-requires : goal.push-requires

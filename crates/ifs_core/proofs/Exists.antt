@@ -1,0 +1,128 @@
+-- Each accepted image has a behaviour.
+use Rattle.std.proofs.Common.{◌≡◌, ℕ, ◌<◌, ◌⊎◌, inl, inr, ⊎_elim, [], length, Option, Some, None, refl, sym, ap, ◌∙◌, subst, arith, option_map}
+use Rattle.std.specs.Prelude.{slice_get}
+use Rattle.std.proofs.lemmas.Bool.{cases_lt}
+use Rattle.std.proofs.lemmas.Option.{none-some, same_Some}
+use Rattle.ifs_base.specs.Facts.{Facts}
+use Rattle.ifs_image.specs.declared.parts.StateSpec.{StateSpec}
+use Rattle.ifs_image.specs.declared.parts.ImageParts.{ImageParts}
+use Rattle.ifs_verify.specs.Accepted.{IsAccepted}
+use Rattle.ifs_machine.specs.Table.{Effects}
+use Rattle.ifs_machine.specs.Run.{RunsTo, AreFactsOf, HasRoom, IsHandler, HandlersEnd, Ends}
+use Rattle.ifs_machine.proofs.Moves.{entry_at}
+use Rattle.ifs_core.specs.Event.{Handler, AlwaysInit, AlwaysBody, Init, Body, Yield, Behaviour}
+use Rattle.ifs_core.specs.Machine.{routine_of, followed_by, IsBehaviour}
+use Rattle.ifs_core.specs.Within.{nothing_yet}
+use Rattle.ifs_core.proofs.Shift.{runs_after}
+
+-- a state whose routine an option has
+mapped : (o : Option StateSpec) (f : StateSpec → ℕ) (routine : ℕ) → option_map f o ≡ Some routine → (s : StateSpec) × (o ≡ Some s) × (routine ≡ f s)
+mapped None f routine e = absurd (none-some routine e)
+mapped (Some s) f routine e = (s, refl, sym (same_Some (f s) routine e))
+
+-- a routine that answers a handler is one of the image's handlers
+pub handles : (image : ImageParts) (handler : Handler) (routine : ℕ) → routine_of image handler ≡ Some routine → IsHandler image routine
+handles image AlwaysInit routine e = inl (inl (sym (same_Some _ routine e)))
+handles image AlwaysBody routine e = inl (inr (sym (same_Some _ routine e)))
+handles image (Init k) routine e = let m = mapped (slice_get image.states k) (λ s. s.handlers.init.0) routine e in inr (k, m.0, m.1, inl m.2)
+handles image (Body k) routine e = let m = mapped (slice_get image.states k) (λ s. s.handlers.body.0) routine e in inr (k, m.0, m.1, inr m.2)
+
+-- a state of the list
+pub state_at : (image : ImageParts) (k : ℕ) → k < length image.states → (s : StateSpec) × (slice_get image.states k ≡ Some s)
+state_at image k within = entry_at image.states k within
+
+-- an event that has brought about nothing has room for each handler
+pub room_from_nothing : (image : ImageParts) (handler : Handler) (routine : ℕ) → IsAccepted image → routine_of image handler ≡ Some routine → HasRoom image routine 0
+room_from_nothing image AlwaysInit routine accepted e =
+    let fit = accepted.commands in
+    let first = state_at image image.initial.0 accepted.indexes.initial in
+    let fits = fit.3.opening first.0 first.1 in
+    subst (λ r. HasRoom image r 0) (same_Some _ routine e) (fit.0, fit.1, omega (arith, fits))
+room_from_nothing image AlwaysBody routine accepted e =
+    let fit = accepted.commands in
+    let first = state_at image image.initial.0 accepted.indexes.initial in
+    let fits = fit.3.evaluation image.initial.0 image.initial.0 first.0 first.0 first.1 first.1 in
+    subst (λ r. HasRoom image r 0) (same_Some _ routine e) (fit.0, fit.1, omega (arith, fits))
+room_from_nothing image (Init k) routine accepted e =
+    let fit = accepted.commands in
+    let m = mapped (slice_get image.states k) (λ s. s.handlers.init.0) routine e in
+    let fits = fit.3.evaluation k k m.0 m.0 m.1 m.1 in
+    subst (λ r. HasRoom image r 0) (sym m.2) (fit.0, fit.1, omega (arith, fits))
+room_from_nothing image (Body k) routine accepted e =
+    let fit = accepted.commands in
+    let m = mapped (slice_get image.states k) (λ s. s.handlers.body.0) routine e in
+    let fits = fit.3.evaluation k k m.0 m.0 m.1 m.1 in
+    subst (λ r. HasRoom image r 0) (sym m.2) (fit.0, fit.1, omega (arith, fits))
+
+-- A handler has a routine, and the facts are the image's.
+record Answers (image : ImageParts) (handler : Handler) (facts : Facts) : Type 0 where
+  routine : ℕ
+  is : routine_of image handler ≡ Some routine
+  given : AreFactsOf image facts
+
+same_number : (m n : ℕ) → (m ≡ n) ⊎ (m ≡ n → ⊥)
+same_number m n =
+    ⊎_elim
+    (λ less. inr (λ e. absurd (omega (arith, less, e))))
+    (λ le. ⊎_elim (λ less. inr (λ e. absurd (omega (arith, less, e)))) (λ ge. inl (omega (arith, le, ge))) (cases_lt n m))
+    (cases_lt m n)
+
+facts_fit : (image : ImageParts) (facts : Facts) → AreFactsOf image facts ⊎ (AreFactsOf image facts → ⊥)
+facts_fit image facts =
+    ⊎_elim
+    (λ links. ⊎_elim (λ tests. inl (record { links = links; tests = tests })) (λ never. inr (λ (g : AreFactsOf image facts). never g.tests))
+    (same_number (length facts.tests) (length image.tests)))
+    (λ never. inr (λ (g : AreFactsOf image facts). never g.links))
+    (same_number (length facts.links) (length image.interfaces))
+
+answers_as : (image : ImageParts) (handler : Handler) (facts : Facts) (o : Option ℕ) → routine_of image handler ≡ o
+    → AreFactsOf image facts ⊎ (AreFactsOf image facts → ⊥) → Answers image handler facts ⊎ (Answers image handler facts → ⊥)
+answers_as image handler facts None e fit = inr (λ (a : Answers image handler facts). absurd (none-some a.routine (sym e ∙ a.is)))
+answers_as image handler facts (Some routine) e (inl given) = inl (record { routine = routine; is = e; given = given })
+answers_as image handler facts (Some routine) e (inr never) = inr (λ (a : Answers image handler facts). never a.given)
+
+answers : (image : ImageParts) (handler : Handler) (facts : Facts) → Answers image handler facts ⊎ (Answers image handler facts → ⊥)
+answers image handler facts = answers_as image handler facts (routine_of image handler) refl (facts_fit image facts)
+
+-- the mask of a state, where there is one
+abbrev mask_in : Option StateSpec → ℕ
+mask_in None = 0
+mask_in (Some state) = state.handlers.mask
+
+module _ (ends : HandlersEnd) (image : ImageParts) (accepted : IsAccepted image) where
+  -- The run from nothing.
+  found : (handler : Handler) (facts : Facts) → (a : Answers image handler facts) → Ends image facts a.routine nothing_yet
+  found handler facts a = ends image facts a.routine nothing_yet accepted (handles image handler a.routine a.is) a.given (room_from_nothing image handler a.routine accepted a.is)
+
+  -- What the run from nothing does; nothing where there is none.
+  abbrev yield_of : (handler : Handler) (facts : Facts) → Answers image handler facts ⊎ (Answers image handler facts → ⊥) → Yield
+  yield_of handler facts (inl a) = record { commands = (found handler facts a).end.commands; wish = (found handler facts a).end.wish; cost = (found handler facts a).cost }
+  yield_of handler facts (inr never) = record { commands = []; wish = None; cost = 0 }
+
+  abbrev behaviour_of : Behaviour
+  behaviour_of = record {
+    answer = λ handler facts. yield_of handler facts (answers image handler facts);
+    always = image.always.mask;
+    active = λ k. mask_in (slice_get image.states k);
+  }
+
+  runs_of : (handler : Handler) (routine : ℕ) (facts : Facts) (before : Effects) → routine_of image handler ≡ Some routine
+      → AreFactsOf image facts → HasRoom image routine (length before.commands) → (d : Answers image handler facts ⊎ (Answers image handler facts → ⊥))
+      → RunsTo image facts routine before (yield_of handler facts d).cost (followed_by before (yield_of handler facts d))
+  runs_of handler routine facts before is given room (inl a) =
+      let same : a.routine ≡ routine = same_Some a.routine routine (sym a.is ∙ is) in
+      let f = found handler facts a in
+      let e = ends image facts routine before accepted (handles image handler routine is) given room in
+      let run : RunsTo image facts routine nothing_yet f.cost f.end = subst (λ r. RunsTo image facts r nothing_yet f.cost f.end) same f.runs in
+      runs_after before image facts routine f.cost e.cost f.end e.end run e.runs
+  runs_of handler routine facts before is given room (inr never) = absurd (never (record { routine = routine; is = is; given = given }))
+
+  pub exists : (b : Behaviour) × IsBehaviour image b
+  exists = (
+    behaviour_of,
+    record {
+      always = refl;
+      active = λ k s at. ap mask_in at;
+      runs = λ handler routine facts before is given room. runs_of handler routine facts before is given room (answers image handler facts);
+    },
+  )

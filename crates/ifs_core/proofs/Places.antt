@@ -1,0 +1,75 @@
+-- What is done to a position or a state of an image's run leaves one.
+use Rattle.std.proofs.Common.{◌≡◌, ℕ, ◌+◌, ◌≤◌, ◌<◌, Bool, false, List, Some, length, ◌∙◌, arith, length-append, length-set}
+use Rattle.std.specs.Prelude.{All}
+use Rattle.std.specs.List.{enumerate_from}
+use Rattle.std.proofs.lemmas.List.{length-map}
+use Rattle.std.proofs.lemmas.List.Elements.{All-append}
+use Rattle.std.proofs.lemmas.List.FromFn.{length-enumerate_from}
+use Rattle.ifs_base.specs.declared.ids.CommandId.{CommandId}
+use Rattle.ifs_base.specs.declared.ids.StateId.{StateId}
+use Rattle.ifs_base.specs.declared.op.LinkState.{LinkState}
+use Rattle.ifs_image.specs.declared.parts.ImageParts.{ImageParts}
+use Rattle.ifs_sched.specs.declared.timer.Timer.{Timer}
+use Rattle.ifs_sched.specs.Schedule.{Timetable, map_by_index, entered, entered_test, ticked, ticked_test, finished}
+use Rattle.ifs_machine.specs.Run.{IsCommand}
+use Rattle.ifs_core.specs.declared.step.Step.{Step}
+use Rattle.ifs_core.specs.declared.step.Answer.{Answer}
+use Rattle.ifs_core.specs.Event.{Behaviour, Position, entering}
+use Rattle.ifs_core.specs.Gateway.{IsPositionOf, IsStateOf}
+use Rattle.ifs_core.specs.Steps.{CoreState, at_position, settled, with_link, with_value, with_run_over}
+use Rattle.ifs_core.proofs.Kept.{length-kept_values}
+
+length-map_by_index : (f : ℕ → Timer → Timer) (tests : List Timer) → length (map_by_index f tests) ≡ length tests
+length-map_by_index f tests = length-map (enumerate_from 0 tests) (λ p. f p.0 p.1) ∙ length-enumerate_from 0 tests
+
+pub length-entered : (always own now : ℕ) (s : Timetable) → length (entered always own now s).tests ≡ length s.tests
+unfolding entered
+length-entered always own now s = length-map_by_index (entered_test always own now) s.tests
+
+length-ticked : (now : ℕ) (s : Timetable) → length (ticked now s).tests ≡ length s.tests
+unfolding ticked
+length-ticked now s = length-map_by_index (ticked_test now s.next_run s.tests) s.tests
+
+length-finished : (test run : ℕ) (s : Timetable) → length (finished test run s).tests ≡ length s.tests
+unfolding finished
+length-finished test run s = length-map_by_index _ s.tests
+
+module _ (image : ImageParts) where
+  pub entering_stays : (b : Behaviour) (next : StateId) (p : Position) → IsPositionOf image p → next.0 < length image.states → IsPositionOf image (entering b next p)
+  entering_stays b next p is within = record {
+    facts = record { links = is.facts.links; tests = length-kept_values b.always p.facts.tests ∙ is.facts.tests };
+    current = within;
+    tests = length-entered b.always (b.active next.0) p.schedule.present p.schedule ∙ is.tests;
+  }
+
+  pub paid_stays : (p : Position) → IsPositionOf image p → IsPositionOf image (record p { owed = false })
+  paid_stays p is = record { facts = is.facts; current = is.current; tests = is.tests }
+
+  pub link_stays : (interface : ℕ) (link : LinkState) (p : Position) → IsPositionOf image p → IsPositionOf image (with_link interface link p)
+  link_stays interface link p is = record {
+    facts = record { links = length-set p.facts.links interface link ∙ is.facts.links; tests = is.facts.tests };
+    current = is.current;
+    tests = is.tests;
+  }
+
+  pub value_stays : (test : ℕ) (value : Bool) (p : Position) → IsPositionOf image p → IsPositionOf image (with_value test value p)
+  value_stays test value p is = record {
+    facts = record { links = is.facts.links; tests = length-set p.facts.tests test (Some value) ∙ is.facts.tests };
+    current = is.current;
+    tests = is.tests;
+  }
+
+  pub run_over_stays : (test run : ℕ) (p : Position) → IsPositionOf image p → IsPositionOf image (with_run_over test run p)
+  run_over_stays test run p is = record { facts = is.facts; current = is.current; tests = length-finished test run p.schedule ∙ is.tests }
+
+  pub ticked_stays : (now : ℕ) (p : Position) → IsPositionOf image p → IsPositionOf image (record p { schedule = ticked now p.schedule })
+  ticked_stays now p is = record { facts = is.facts; current = is.current; tests = length-ticked now p.schedule ∙ is.tests }
+
+  -- commands of the table go to a queue that has room for them
+  pub settled_stays : (step : Step) (answer : Answer) (commands : List CommandId) (cost : ℕ) (p : Position) (s : CoreState) → IsStateOf image s → IsPositionOf image p
+      → length s.queue + length commands ≤ 64 → All (IsCommand image) commands → IsStateOf image (settled step answer commands cost (at_position p s))
+  settled_stays step answer commands cost p s is at room known = record {
+    position = at;
+    queue = omega (arith, room, length-append s.queue commands);
+    commands = All-append (IsCommand image) s.queue commands is.commands known;
+  }
