@@ -1,0 +1,5 @@
+pub mod Device
+pub mod Memory
+pub mod Requests
+pub mod Session
+pub mod Words
