@@ -1,3 +1,4 @@
 pub mod Known
+pub mod LineReading
 pub mod Numbers
 pub mod Spaces

@@ -8,12 +8,15 @@
 #![tactic(auto)]
 
 mod device;
+mod fault;
+mod lines;
 mod memory;
 mod request;
 mod std_devices;
 mod words;
 
 pub use device::{ByteIn, ByteOut, DeviceFault};
+pub use fault::SessionFault;
 pub use memory::{MemoryIn, MemoryOut};
 pub use request::RequestFault;
 pub use std_devices::{FromRead, ToWrite};
