@@ -3,9 +3,10 @@
 use crate::ids::{CommandId, IfaceId, RoutineId, StateId, TestId};
 
 /// What is known of an interface's link. For a carp(4) interface up is master and down is backup.
-#[derive(Clone, Copy, Debug, PartialEq, Eq)]
+#[derive(Clone, Copy, Debug, Default, PartialEq, Eq)]
 pub enum LinkState {
     /// Nothing was said yet; its code is 0.
+    #[default]
     Unknown,
     /// Its code is 1.
     Down,
@@ -14,9 +15,10 @@ pub enum LinkState {
 }
 
 /// The kind of a value on the stack.
-#[derive(Clone, Copy, Debug, PartialEq, Eq)]
+#[derive(Clone, Copy, Debug, Default, PartialEq, Eq)]
 pub enum Kind {
     /// True or false.
+    #[default]
     Truth,
     /// A command of the image's table.
     Command,

@@ -5,7 +5,7 @@ ghost use Rattle.std.specs.Prelude.{◌≡◌};
 use crate::parts::ImageParts;
 use std::marker::Model;
 
-/// An image, seen as its parts.
+/// An image, seen as its parts. They keep to the limits of the format, and no name stands twice.
 #[derive(Debug, Drop)]
 pub struct Image {
     parts: ImageParts,
@@ -13,15 +13,21 @@ pub struct Image {
 
 impl Model for Image {
     ghost use Rattle.ifs_image.specs.declared.parts.ImageParts.{ImageParts};
+    ghost use Rattle.ifs_image.specs.Limits.{Fits};
 
     ghost Value = { ImageParts };
 
     ghost view = { λ a. a.parts };
+
+    ghost invariant = { λ a. Fits a.parts };
 }
 
 impl Image {
-    /// The image of these parts. Takes no memory.
+    ghost use Rattle.ifs_image.specs.Limits.{Fits};
+
+    /// The image of these parts, which the caller knows to fit. Takes no memory.
     pub fn new(parts: ImageParts) -> Self
+        requires { Fits parts }
         ensures { result ≡ parts }
     {
         Image { parts }
@@ -29,7 +35,8 @@ impl Image {
 
     /// Lends the parts.
     pub fn parts(&self) -> &ImageParts
-        ensures { result.now ≡ self.now }
+        ensures value { result.now ≡ self.now }
+        ensures fits { Fits self.now }
     {
         &self.parts
     }

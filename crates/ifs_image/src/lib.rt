@@ -7,6 +7,7 @@
 
 mod fault;
 mod fields;
+mod fitting;
 mod image;
 pub mod limits;
 mod parts;

@@ -27,6 +27,9 @@ pub fn read(alloc: Global, bytes: &[u8]) -> Result<Image, ImageFault> {
     if !reader.is_at_end() {
         return Err(ImageFault::Trailing { at: reader.at() });
     }
+    if !parts.fits() {
+        return Err(ImageFault::Trailing { at: reader.at() });
+    }
     Ok(Image::new(parts))
 }
 

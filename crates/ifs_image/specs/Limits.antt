@@ -1,0 +1,101 @@
+-- What an image keeps to: numbers, counts and texts within their limits, and names that stand once.
+use Rattle.std.specs.Prelude.{ℕ, ◌≢◌, ◌<◌, ◌≤◌, ◌^◌, List, length, map, All, AllPairs, sum_by, IsUtf8}
+use Rattle.ifs_base.specs.declared.op.Op.{Op}
+use Rattle.ifs_base.specs.Spelling.{HasSpelling}
+use Rattle.ifs_image.specs.declared.parts.Budgets.{Budgets}
+use Rattle.ifs_image.specs.declared.parts.Handlers.{Handlers}
+use Rattle.ifs_image.specs.declared.parts.TestSpec.{TestSpec}
+use Rattle.ifs_image.specs.declared.parts.StateSpec.{StateSpec}
+use Rattle.ifs_image.specs.declared.parts.Routine.{Routine}
+use Rattle.ifs_image.specs.declared.parts.ImageParts.{ImageParts}
+
+-- What one event may use at most.
+pub record BudgetsFit (b : Budgets) : Type 0 where
+  pub stack : b.stack ≤ 32
+  pub frames : b.frames ≤ 32
+  pub cost : b.cost ≤ 300000
+  pub commands : b.commands ≤ 64
+
+-- How many entries each table has.
+pub record CountsFit (p : ImageParts) : Type 0 where
+  pub interfaces : length p.interfaces ≤ 64
+  pub tests : length p.tests ≤ 64
+  pub commands : length p.commands ≤ 1024
+  pub some_state : 1 ≤ length p.states
+  pub states : length p.states ≤ 256
+  pub routines : length p.routines ≤ 1024
+
+-- A text has from 1 to 1,024 bytes, none of them a NUL.
+pub record TextFits (text : List ℕ) : Type 0 where
+  pub not_empty : 1 ≤ length text
+  pub within : length text ≤ 1024
+  pub no_nul : All (λ byte. byte ≢ 0) text
+
+-- A test's period is from 1 second to 604,800 (seven days).
+pub record TestFits (t : TestSpec) : Type 0 where
+  pub not_zero : 1 ≤ t.period
+  pub within : t.period ≤ 604800
+  pub text : TextFits t.text
+
+-- A routine has one result at most, and at most 1,024 instructions.
+pub record RoutineFits (r : Routine) : Type 0 where
+  pub results : r.results ≤ 1
+  pub code : length r.code ≤ 1024
+
+-- No name stands twice.
+abbrev pub AreDistinct : List (List ℕ) → Type 0
+AreDistinct names = AllPairs (λ name other. name ≢ other) names
+
+-- Each name of a table is a text, and stands once.
+pub record NamesFit (names : List (List ℕ)) : Type 0 where
+  pub texts : All TextFits names
+  pub distinct : AreDistinct names
+
+-- The names of states, in the order of their table.
+abbrev pub names_of : List StateSpec → List (List ℕ)
+names_of states = map (λ s. s.name) states
+
+-- Each state's name is a text, and no other state has it.
+pub record StatesFit (states : List StateSpec) : Type 0 where
+  pub texts : All (λ s. TextFits s.name) states
+  pub distinct : AreDistinct (names_of states)
+
+-- How many instructions all routines have together.
+abbrev pub instructions : List Routine → ℕ
+instructions routines = sum_by (λ r. length r.code) routines
+
+-- Each routine keeps to its limits, and all together have at most 8,192 instructions.
+pub record RoutinesFit (routines : List Routine) : Type 0 where
+  pub each : All RoutineFits routines
+  pub together : instructions routines ≤ 8192
+
+-- The limits of an image, and its distinct names.
+pub record Fits (p : ImageParts) : Type 0 where
+  pub budgets : BudgetsFit p.budgets
+  pub counts : CountsFit p
+  pub interfaces : NamesFit p.interfaces
+  pub tests : All TestFits p.tests
+  pub commands : All TextFits p.commands
+  pub states : StatesFit p.states
+  pub routines : RoutinesFit p.routines
+
+-- A handler's routines and its mask fit their fields.
+pub record HandlersInRange (h : Handlers) : Type 0 where
+  pub init : h.init.0 < 2 ^ 16
+  pub body : h.body.0 < 2 ^ 16
+  pub mask : h.mask < 2 ^ 64
+
+-- A state's name is a text, and its handlers fit their fields.
+pub record StateInRange (s : StateSpec) : Type 0 where
+  pub name : IsUtf8 s.name
+  pub handlers : HandlersInRange s.handlers
+
+-- What the types of the parts give for nothing, beyond the limits: numbers fit their fields, texts are UTF-8.
+pub record InRange (p : ImageParts) : Type 0 where
+  pub initial : p.initial.0 < 2 ^ 16
+  pub always : HandlersInRange p.always
+  pub interfaces : All IsUtf8 p.interfaces
+  pub tests : All (λ t. IsUtf8 t.text) p.tests
+  pub commands : All IsUtf8 p.commands
+  pub states : All StateInRange p.states
+  pub routines : All (λ r. All HasSpelling r.code) p.routines

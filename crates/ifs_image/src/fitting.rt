@@ -1,0 +1,138 @@
+//! Whether parts keep to the limits of the format.
+
+ghost use Rattle.std.specs.Prelude.{◌≡◌, ◌↔◌, ◌≤◌, IsTrue};
+ghost use Rattle.ifs_image.specs.Limits.{Fits, BudgetsFit, CountsFit, TextFits, TestFits, RoutineFits, RoutinesFit, NamesFit, StatesFit, AreDistinct, names_of, instructions};
+ghost use Rattle.std.specs.List.{list_any};
+ghost use Rattle.std.specs.Str.{bytes_eq};
+ghost use Rattle.ifs_image.specs.Reading.{stands_in};
+
+use crate::limits;
+use crate::parts::{Budgets, ImageParts, Routine, StateSpec, TestSpec};
+use ifs_base::Text;
+
+impl ImageParts {
+    /// Whether all limits hold, and no two interfaces and no two states have one name.
+    pub fn fits(&self) -> bool
+        ensures { IsTrue result ↔ Fits self.now }
+    {
+        self.budgets.fit()
+            && self.counts_fit()
+            && names_fit(self.interfaces.as_slice())
+            && self.tests.as_slice().iter().all(test_fits)
+            && self.commands.as_slice().iter().all(text_fits)
+            && states_fit(self.states.as_slice())
+            && routines_fit(self.routines.as_slice())
+    }
+
+    fn counts_fit(&self) -> bool
+        ensures { IsTrue result ↔ CountsFit self.now }
+    {
+        self.interfaces.len() <= usize::from(limits::INTERFACES)
+            && self.tests.len() <= usize::from(limits::TESTS)
+            && self.commands.len() <= usize::from(limits::COMMANDS)
+            && 1 <= self.states.len()
+            && self.states.len() <= usize::from(limits::STATES)
+            && self.routines.len() <= usize::from(limits::ROUTINES)
+    }
+}
+
+impl Budgets {
+    fn fit(&self) -> bool
+        ensures { IsTrue result ↔ BudgetsFit self.now }
+    {
+        self.stack <= limits::STACK
+            && self.frames <= limits::FRAMES
+            && self.cost <= limits::EVENT_COST
+            && self.commands <= limits::COMMANDS_OF_EVENT
+    }
+}
+
+fn text_fits(text: &Text) -> bool
+    ensures { IsTrue result ↔ TextFits text.now }
+{
+    let bytes = text.as_bytes();
+    1 <= bytes.len()
+        && bytes.len() <= usize::from(limits::TEXT)
+        && bytes.iter().all(|byte| *byte != 0)
+}
+
+fn test_fits(test: &TestSpec) -> bool
+    ensures { IsTrue result ↔ TestFits test.now }
+{
+    1 <= test.period && test.period <= limits::PERIOD && text_fits(&test.text)
+}
+
+fn routine_fits(routine: &Routine) -> bool
+    ensures { IsTrue result ↔ RoutineFits routine.now }
+{
+    routine.results <= limits::RESULTS && routine.code.len() <= usize::from(limits::CODE_OF_ROUTINE)
+}
+
+/// Whether a name stands in a table.
+pub fn is_among(names: &[Text], name: &[u8]) -> bool
+    ensures { result ≡ stands_in name.now names.now }
+{
+    names.iter().any(|other| other.as_bytes() == name)
+}
+
+/// Whether a state of a table has a name.
+pub fn is_name_among(states: &[StateSpec], name: &[u8]) -> bool
+    ensures { result ≡ list_any (λ s. bytes_eq s.name name.now) states.now }
+{
+    states.iter().any(|other| other.name.as_bytes() == name)
+}
+
+fn names_fit(names: &[Text]) -> bool
+    ensures { IsTrue result ↔ NamesFit names.now }
+{
+    names.iter().all(text_fits) && are_distinct(names)
+}
+
+fn states_fit(states: &[StateSpec]) -> bool
+    ensures { IsTrue result ↔ StatesFit states.now }
+{
+    states.iter().all(|state| text_fits(&state.name)) && have_distinct_names(states)
+}
+
+fn routines_fit(routines: &[Routine]) -> bool
+    ensures { IsTrue result ↔ RoutinesFit routines.now }
+{
+    routines.iter().all(routine_fits) && code_fits(routines)
+}
+
+fn are_distinct(names: &[Text]) -> bool
+    ensures { IsTrue result ↔ AreDistinct names.now }
+{
+    for (i, name) in names.iter().enumerate() {
+        if is_among(&names[..i], name.as_bytes()) {
+            return false;
+        }
+    }
+    true
+}
+
+fn have_distinct_names(states: &[StateSpec]) -> bool
+    ensures { IsTrue result ↔ AreDistinct (names_of states.now) }
+{
+    for (i, state) in states.iter().enumerate() {
+        if is_name_among(&states[..i], state.name.as_bytes()) {
+            return false;
+        }
+    }
+    true
+}
+
+/// Whether all routines together are within their limit; stops at the first that passes it.
+fn code_fits(routines: &[Routine]) -> bool
+    ensures { IsTrue result ↔ (instructions routines.now ≤ 8192) }
+{
+    let mut room = usize::from(limits::CODE_OF_IMAGE);
+    for routine in routines {
+        let length = routine.code.len();
+        if room < length {
+            return false;
+        }
+        room -= length;
+    }
+    true
+}

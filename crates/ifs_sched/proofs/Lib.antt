@@ -1,0 +1,4 @@
+pub mod ByIndex
+pub mod Finishing
+pub mod Starts
+pub mod Ticking

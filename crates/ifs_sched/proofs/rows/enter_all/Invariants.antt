@@ -1,0 +1,7 @@
+use Rattle.std.proofs.Common.{◌≡◌}
+use Rattle.ifs_sched.specs.Schedule.{entered_test}
+use Rattle.ifs_sched.proofs.ByIndex.{changed_below}
+use Rattle.ifs_sched.proofs.rows.enter_all.Given as goal
+
+abbrev pub invariant-loop-index : goal.invariant-loop-index
+invariant-loop-index l = l.tests ≡ changed_below (entered_test l.always l.own l.now) l.index l.fn.tests

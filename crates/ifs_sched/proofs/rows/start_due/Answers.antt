@@ -1,0 +1,26 @@
+use Rattle.std.proofs.Common.{sym, ap, ◌∙◌, arith}
+use Rattle.ifs_sched.specs.Schedule.{number_of}
+use Rattle.ifs_sched.specs.Timer.{inactive}
+use Rattle.ifs_sched.proofs.Ticking.{IsTickedBelow-none, IsTickedBelow-skipped, IsTickedBelow-started, IsTickedBelow-left, number_of-checked}
+use Rattle.ifs_sched.proofs.rows.start_due.Goals as goal
+use Rattle.ifs_sched.proofs.rows.start_due.Goals.{in-Some, in-None}
+
+pub loop-index-init : goal.loop-index-init
+loop-index-init c = rw c.new-starts.ensures (IsTickedBelow-none c.args.now _ c.args.tests.now c.requires.number)
+
+pub loop-index-preserved-then-not-is_due : goal.loop-index-preserved-then-not-is_due
+loop-index-preserved-then-not-is_due c =
+    IsTickedBelow-skipped _ _ _ _ _ _ _ _ (inactive 0) c.loop-index.invariant c.loop-index-test.true (sym c.is_due.ensures ∙ c.if-not-is_due.true)
+
+pub loop-index-preserved : goal.loop-index-preserved
+loop-index-preserved c =
+    let due = sym c.is_due.ensures ∙ c.if-not-is_due.false in
+    elim c.match-next_run.branch [
+      | in-Some w ↦
+          let run = w.in-Some.run' in
+          rw (w.tests-is, w.next_run-is, w.starts-is, w.exhausted-is, w.start.ensures, w.push.ensures.items)
+          (IsTickedBelow-started _ _ _ _ _ _ _ _ (inactive 0) c.loop-index.invariant c.loop-index-test.true run (number_of w.checked_add.result) due (ap number_of w.in-Some.is) (omega arith) (number_of-checked w.checked_add.result run w.checked_add.ensures (omega arith)))
+      | in-None w ↦
+          rw (w.tests-is, w.next_run-is, w.starts-is, w.exhausted-is)
+          (IsTickedBelow-left _ _ _ _ _ _ _ _ (inactive 0) c.loop-index.invariant c.loop-index-test.true due (ap number_of w.in-None.is))
+    ]

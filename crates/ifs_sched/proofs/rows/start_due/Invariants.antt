@@ -1,0 +1,7 @@
+use Rattle.ifs_sched.specs.Schedule.{number_of}
+use Rattle.ifs_sched.proofs.Ticking.{IsTickedBelow}
+use Rattle.ifs_sched.proofs.rows.start_due.Given as goal
+
+abbrev pub invariant-loop-index : goal.invariant-loop-index
+invariant-loop-index l =
+    IsTickedBelow l.now (number_of l.fn.next_run) l.fn.tests l.index l.tests l.starts.items l.exhausted (number_of l.next_run)

@@ -1,0 +1,103 @@
+-- The schedule of external tests: what each call makes of it.
+use Rattle.std.specs.Prelude.{ℕ, ◌+◌, ◌^◌, min, Bool, false, ◌&&◌, ◌==◌, nat_lt, if◌then◌else◌, List, map, length, take, slice_get, count_by, Option, Some, None}
+use Rattle.std.specs.List.{enumerate_from, filter_map}
+use Rattle.std.specs.Int.{bit_at}
+use Rattle.ifs_sched.specs.declared.start.Start.{Start}
+use Rattle.ifs_sched.specs.declared.timer.Timer.{Timer}
+use Rattle.ifs_sched.specs.Timer.{inactive, entered_status, is_due, started, is_active_status, is_run, ended}
+
+-- A schedule: its present moment, the number of its next run (2 ^ 64 where none is left), and its
+-- tests by index.
+pub record Timetable : Type 0 where
+  pub present : ℕ
+  pub next_run : ℕ
+  pub tests : List Timer
+
+-- The tests, each changed by a function of its index and itself.
+abbrev pub map_by_index : (ℕ → Timer → Timer) → List Timer → List Timer
+map_by_index f tests = map (λ p. f p.0 p.1) (enumerate_from 0 tests)
+
+-- What a function of their indexes and themselves gives of the tests, by index.
+abbrev pub collect_by_index : (ℕ → Timer → Option Start) → List Timer → List Start
+collect_by_index f tests = filter_map (λ p. f p.0 p.1) (enumerate_from 0 tests)
+
+-- A number that is left, as a number: 2 ^ 64 where none is.
+abbrev pub number_of : Option ℕ → ℕ
+number_of None = 2 ^ 64
+number_of (Some run) = run
+
+-- A schedule at moment 0 whose tests, of these periods, are all off.
+unfoldable pub all_off : List ℕ → ℕ → Timetable
+all_off periods first_run = record { present = 0; next_run = first_run; tests = map inactive periods }
+
+-- Whether a set, as a mask, has the test of an index: its bit of weight 2 ^ t is test t.
+abbrev pub has_test : ℕ → ℕ → Bool
+has_test mask t = bit_at mask t == 1
+
+-- What an entry makes of a test.
+abbrev pub entered_test : ℕ → ℕ → ℕ → ℕ → Timer → Timer
+entered_test always own now t timer =
+    record timer { status = entered_status (has_test always t) (has_test own t) now timer.status }
+
+-- The schedule after an entry at a moment, by the always set and the state's set of tests.
+unfoldable pub entered : ℕ → ℕ → ℕ → Timetable → Timetable
+entered always own now s = record s { tests = map_by_index (entered_test always own now) s.tests }
+
+-- The number that the test of an index gets at a tick if it is due: numbers go to the due tests in
+-- one sequence, by index.
+abbrev pub number_at : ℕ → ℕ → List Timer → ℕ → ℕ
+number_at now next tests t = next + count_by (is_due now) (take t tests)
+
+-- Whether a test starts at a tick: it is due, and its number is none after 2^64 - 1.
+abbrev pub starts_at : ℕ → ℕ → List Timer → ℕ → Timer → Bool
+starts_at now next tests t timer = is_due now timer && nat_lt (number_at now next tests t) (2 ^ 64)
+
+-- What a tick makes of a test.
+abbrev pub ticked_test : ℕ → ℕ → List Timer → ℕ → Timer → Timer
+ticked_test now next tests t timer =
+    if starts_at now next tests t timer then started now (number_at now next tests t) timer else timer
+
+-- What a tick starts of a test.
+abbrev pub start_of : ℕ → ℕ → List Timer → ℕ → Timer → Option Start
+start_of now next tests t timer =
+    if starts_at now next tests t timer
+    then Some (record { test = record { 0 = t }; run = number_at now next tests t })
+    else None
+
+-- Whether a number is one more than there are: the due test before it has none.
+abbrev pub is_over : ℕ → Bool
+is_over number = nat_lt (2 ^ 64) number
+
+-- The schedule after a tick at a moment.
+unfoldable pub ticked : ℕ → Timetable → Timetable
+ticked now s = record {
+  present = now;
+  next_run = min (number_at now s.next_run s.tests (length s.tests)) (2 ^ 64);
+  tests = map_by_index (ticked_test now s.next_run s.tests) s.tests;
+}
+
+-- The tests that a tick at a moment starts, by index, each with its run number.
+unfoldable pub starts : ℕ → Timetable → List Start
+starts now s = collect_by_index (start_of now s.next_run s.tests) s.tests
+
+-- Whether a tick at a moment leaves a due test for want of a number.
+unfoldable pub is_exhausted : ℕ → Timetable → Bool
+is_exhausted now s = is_over (number_at now s.next_run s.tests (length s.tests))
+
+-- Whether there is a test, and it runs under a number.
+abbrev pub runs_under : ℕ → Option Timer → Bool
+runs_under run None = false
+runs_under run (Some timer) = is_run run timer.status
+
+-- Whether the test of an index runs under a number.
+unfoldable pub is_running : ℕ → ℕ → Timetable → Bool
+is_running test run s = runs_under run (slice_get s.tests test)
+
+-- The schedule after the end of a run of a test: the same where it does not run under that number.
+unfoldable pub finished : ℕ → ℕ → Timetable → Timetable
+finished test run s =
+    record s { tests = map_by_index (λ t timer. if t == test then ended run timer else timer) s.tests }
+
+-- How many tests run.
+unfoldable pub running_count : Timetable → ℕ
+running_count s = count_by (λ timer. is_active_status timer.status) s.tests

@@ -1,0 +1,61 @@
+//! An entry and a tick, test by test.
+
+ghost use Rattle.std.specs.Prelude.{◌≡◌, ◌<◌, ◌≤◌, ◌+◌, ◌^◌, length, min};
+ghost use Rattle.ifs_sched.specs.Schedule.{collect_by_index, entered_test, has_test as is_in_mask, is_over, map_by_index, number_at, number_of, start_of, ticked_test};
+
+use crate::start::{Start, Started};
+use crate::timer::Timer;
+use arrayvec::ArrayVec;
+use ifs_base::TestId;
+
+/// Lets each test take part in an entry at a moment, by the always set and the state's own.
+pub fn enter_all(tests: &mut [Timer], always: u64, own: u64, now: u64)
+    requires { length tests.old ≤ 64 }
+    ensures { tests.new ≡ map_by_index (entered_test always own now) tests.old }
+{
+    for (index, timer) in tests.iter_mut().enumerate() {
+        timer.enter(has_test(always, index), has_test(own, index), now);
+    }
+}
+
+/// Starts each due test, by index, with the next run number while there is one.
+pub fn start_due(tests: &mut [Timer], now: u64, next_run: &mut Option<u64>) -> Started
+    requires room { length tests.old ≤ 64 }
+    requires number { number_of next_run.old ≤ 2 ^ 64 }
+    ensures tests { tests.new
+        ≡ map_by_index (ticked_test now (number_of next_run.old) tests.old) tests.old }
+    ensures next_run { number_of next_run.new
+        ≡ min (number_at now (number_of next_run.old) tests.old (length tests.old)) (2 ^ 64) }
+    ensures starts { result.starts.items
+        ≡ collect_by_index (start_of now (number_of next_run.old) tests.old) tests.old }
+    ensures exhausted { result.exhausted
+        ≡ is_over (number_at now (number_of next_run.old) tests.old (length tests.old)) }
+{
+    let mut starts = ArrayVec::new();
+    let mut exhausted = false;
+    for (index, timer) in tests.iter_mut().enumerate() {
+        if !timer.is_due(now) {
+            continue;
+        }
+        match *next_run {
+            Some(run) => {
+                timer.start(now, run);
+                starts.push(Start {
+                    test: TestId(index as u16),
+                    run,
+                });
+                *next_run = run.checked_add(1);
+            }
+            None => exhausted = true,
+        }
+    }
+    Started { starts, exhausted }
+}
+
+/// Whether a mask has the bit of a test.
+fn has_test(mask: u64, index: usize) -> bool
+    requires { index < 64 }
+    ensures { result ≡ is_in_mask mask index }
+{
+    mask >> index & 1 == 1
+}

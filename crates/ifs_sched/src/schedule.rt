@@ -1,0 +1,138 @@
+//! The schedule: entries, ticks, and runs that finish.
+
+ghost use Rattle.std.specs.Prelude.{◌≡◌, ◌<◌, ◌≤◌, ◌↔◌, IsTrue, IsOk, IsErr, IfOk, OnOk, OnErr, All, length};
+ghost use Rattle.ifs_sched.specs.Schedule.{all_off, entered, finished, is_exhausted, is_running, running_count, starts, ticked};
+
+use crate::rows::{enter_all, start_due};
+use crate::start::{MAX_TESTS, Started};
+use crate::timer::{Status, Timer};
+use arrayvec::ArrayVec;
+use ifs_base::TestId;
+use std::marker::Model;
+use thiserror::Error;
+
+/// The moment of a tick is before the present one.
+#[derive(Clone, Copy, Debug, PartialEq, Eq, Error)]
+#[error("the moment is before the present one")]
+pub struct Backwards;
+
+/// The test does not run under that number, or is not in the schedule.
+#[derive(Clone, Copy, Debug, PartialEq, Eq, Error)]
+#[error("the test does not run under that number")]
+pub struct Stale;
+
+/// The moments and runs of up to 64 tests.
+#[derive(Debug, Drop)]
+pub struct Schedule {
+    present: u64,
+    next_run: Option<u64>,
+    tests: ArrayVec<Timer, MAX_TESTS>,
+}
+
+impl Model for Schedule {
+    ghost use Rattle.std.specs.Prelude.{◌≤◌, ◌^◌};
+    ghost use Rattle.ifs_sched.specs.Schedule.{Timetable, number_of};
+
+    ghost Value = { Timetable };
+
+    ghost view = { λ a. record { present = a.present; next_run = number_of a.next_run; tests = a.tests.items } };
+
+    ghost invariant = { λ a. number_of a.next_run ≤ 2 ^ 64 };
+}
+
+impl Schedule {
+    /// A schedule at moment 0 of tests of these periods, in seconds, all of them off. The first
+    /// start gets the number `first_run`, at least 1.
+    #[tactic(auto, unfolding(crate::specs::Schedule::all_off))]
+    pub fn new(periods: ArrayVec<u32, MAX_TESTS>, first_run: u64) -> Schedule
+        requires { 1 ≤ first_run }
+        ensures { result ≡ all_off periods.items first_run }
+    {
+        let mut tests = ArrayVec::new();
+        for period in periods.as_slice() {
+            tests.push(Timer {
+                period: *period,
+                status: Status::Off,
+            });
+        }
+        Schedule {
+            present: 0,
+            next_run: Some(first_run),
+            tests,
+        }
+    }
+
+    /// Enters a state at a moment, by the always set and the state's own set of tests. Bit t of a
+    /// mask is test t; bits of no test say nothing. An always test that is off becomes due, and
+    /// any other always test is left; each other test of the state becomes due, its run forgotten;
+    /// all others are off.
+    #[tactic(auto, unfolding(crate::specs::Schedule::entered))]
+    pub fn enter(&mut self, always: u64, tests: u64, now: u64)
+        ensures after { self.new ≡ entered always tests now self.old }
+        ensures same_number { length self.new.tests ≡ length self.old.tests }
+    {
+        enter_all(self.tests.as_mut_slice(), always, tests, now);
+    }
+
+    /// Makes a moment the present one, and starts each idle test whose due moment has come. It is
+    /// due again a period later. A moment before the present one is refused, and changes nothing.
+    pub fn tick(&mut self, now: u64) -> Result<Started, Backwards>
+        ensures backwards { IsErr result ↔ (now < self.old.present) }
+        ensures ok { OnOk result (self.new ≡ ticked now self.old) }
+        ensures starts { IfOk result (λ started. started.starts.items ≡ starts now self.old) }
+        ensures exhausted { IfOk result (λ started. started.exhausted ≡ is_exhausted now self.old) }
+        ensures in_schedule { IfOk result
+            (λ started. All (λ start. start.test.0 < length self.old.tests) started.starts.items) }
+        ensures same_number { length self.new.tests ≡ length self.old.tests }
+        ensures err { OnErr result (self.new ≡ self.old) }
+    {
+        if now < self.present {
+            return Err(Backwards);
+        }
+        self.present = now;
+        Ok(start_due(self.tests.as_mut_slice(), now, &mut self.next_run))
+    }
+
+    /// Ends a run: the test is idle, with the due moment that it has. Refused, with nothing
+    /// changed, where there is no such test or it does not run under that number.
+    pub fn finish(&mut self, test: TestId, run: u64) -> Result<(), Stale>
+        ensures ok { IsOk result ↔ IsTrue (is_running test.0 run self.old) }
+        ensures after { self.new ≡ finished test.0 run self.old }
+        ensures same_number { length self.new.tests ≡ length self.old.tests }
+        ensures err { OnErr result (self.new ≡ self.old) }
+    {
+        let Some(timer) = self.tests.get_mut(usize::from(test.0)) else {
+            return Err(Stale);
+        };
+        if timer.finish(run) {
+            Ok(())
+        } else {
+            Err(Stale)
+        }
+    }
+
+    /// The present moment: that of the last tick, 0 before the first.
+    pub fn now(&self) -> u64
+        ensures { result ≡ self.now.present }
+    {
+        self.present
+    }
+
+    /// How many tests run.
+    #[tactic(auto, unfolding(crate::specs::Schedule::running_count))]
+    pub fn running(&self) -> u16
+        ensures { result ≡ running_count self.now }
+    {
+        self.tests.iter().filter(|timer| timer.is_running()).count() as u16
+    }
+
+    /// Whether there is such a test and it runs under that number.
+    #[tactic(auto, unfolding(crate::specs::Schedule::is_running))]
+    pub fn is_running(&self, test: TestId, run: u64) -> bool
+        ensures { result ≡ is_running test.0 run self.now }
+    {
+        self.tests
+            .get(usize::from(test.0))
+            .is_some_and(|timer| timer.runs_under(run))
+    }
+}

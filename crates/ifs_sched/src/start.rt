@@ -1,0 +1,34 @@
+//! What a tick answers.
+
+use arrayvec::ArrayVec;
+use ifs_base::TestId;
+
+/// The most tests of a schedule.
+pub const MAX_TESTS: usize = 64;
+
+/// A test that starts, and the number of its run.
+#[derive(Clone, Copy, Debug, PartialEq, Eq)]
+pub struct Start {
+    /// The test.
+    pub test: TestId,
+    /// The run's number, from 1 to 2^64 - 1.
+    pub run: u64,
+}
+
+impl Default for Start {
+    fn default() -> Self {
+        Start {
+            test: TestId(0),
+            run: 0,
+        }
+    }
+}
+
+/// What a tick starts.
+#[derive(Debug, Drop)]
+pub struct Started {
+    /// The tests that start, by index.
+    pub starts: ArrayVec<Start, MAX_TESTS>,
+    /// Whether a due test was left, since no run number was.
+    pub exhausted: bool,
+}

@@ -1,0 +1,91 @@
+//! The timer of one test: its period, and where it stands.
+
+ghost use Rattle.std.specs.Prelude.{◌≡◌};
+ghost use Rattle.ifs_sched.specs.Timer.{ended, entered_status, is_active_status, is_due, is_run, started};
+
+/// Where a test stands. Moments and run numbers are those of its schedule.
+#[derive(Clone, Copy, Debug)]
+pub enum Status {
+    /// Not active.
+    Off,
+    /// Waits, and is due from a moment on.
+    Idle { due: u64 },
+    /// Runs under a number, and is due again from a moment on.
+    Running { run: u64, due: u64 },
+}
+
+/// A test's period in seconds, and where it stands.
+#[derive(Clone, Copy, Debug)]
+pub struct Timer {
+    pub period: u32,
+    pub status: Status,
+}
+
+impl Default for Timer {
+    fn default() -> Self {
+        Timer {
+            period: 0,
+            status: Status::Off,
+        }
+    }
+}
+
+impl Timer {
+    /// Takes part in an entry at a moment, as a test of the always set or of the state's own.
+    pub fn enter(&mut self, always: bool, own: bool, now: u64)
+        ensures { self.new
+            ≡ record self.old { status = entered_status always own now self.old.status } }
+    {
+        self.status = match (always, own, self.status) {
+            (true, _, Status::Off) | (false, true, _) => Status::Idle { due: now },
+            (true, _, status) => status,
+            (false, false, _) => Status::Off,
+        };
+    }
+
+    /// Whether the test is idle and its due moment has come.
+    pub fn is_due(&self, now: u64) -> bool
+        ensures { result ≡ is_due now self.now }
+    {
+        match self.status {
+            Status::Idle { due } => due <= now,
+            _ => false,
+        }
+    }
+
+    /// Starts the test at a moment, under a run number.
+    pub fn start(&mut self, now: u64, run: u64)
+        ensures { self.new ≡ started now run self.old }
+    {
+        let due = now.saturating_add(u64::from(self.period));
+        self.status = Status::Running { run, due };
+    }
+
+    /// Whether the test runs.
+    pub fn is_running(&self) -> bool
+        ensures { result ≡ is_active_status self.now.status }
+    {
+        matches!(self.status, Status::Running { .. })
+    }
+
+    /// Whether the test runs under this number.
+    pub fn runs_under(&self, number: u64) -> bool
+        ensures { result ≡ is_run number self.now.status }
+    {
+        matches!(self.status, Status::Running { run, .. } if run == number)
+    }
+
+    /// Ends the test's run, where it runs under this number. Says whether it did.
+    pub fn finish(&mut self, number: u64) -> bool
+        ensures value { result ≡ is_run number self.old.status }
+        ensures after { self.new ≡ ended number self.old }
+    {
+        match self.status {
+            Status::Running { run, due } if run == number => {
+                self.status = Status::Idle { due };
+                true
+            }
+            _ => false,
+        }
+    }
+}
