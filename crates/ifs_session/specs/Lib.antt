@@ -1,5 +1,6 @@
 pub mod Device
 pub mod Memory
+pub mod Replies
 pub mod Requests
 pub mod Session
 pub mod Words

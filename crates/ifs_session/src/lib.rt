@@ -12,6 +12,7 @@ mod fault;
 mod lines;
 mod memory;
 mod request;
+mod replies;
 mod std_devices;
 mod words;
 
