@@ -3,4 +3,5 @@ pub mod Memory
 pub mod Replies
 pub mod Requests
 pub mod Session
+pub mod SessionText
 pub mod Words

@@ -12,6 +12,16 @@ abbrev pub lines_of : List ℕ → List (List ℕ)
 lines_of [] = []
 lines_of (byte ∷ input) = if byte == 10 then [] ∷ lines_of input else onto_first byte (lines_of input)
 
+-- A byte put before the first line, if there is one.
+abbrev pub onto_line : ℕ → List (List ℕ) → List (List ℕ)
+onto_line byte [] = []
+onto_line byte (line ∷ lines) = (byte ∷ line) ∷ lines
+
+-- The lines of an input that a newline ends.
+abbrev pub whole_lines : List ℕ → List (List ℕ)
+whole_lines [] = []
+whole_lines (byte ∷ input) = if byte == 10 then [] ∷ whole_lines input else onto_line byte (whole_lines input)
+
 -- A text without newline.
 abbrev pub IsPlain : List ℕ → Type 0
 IsPlain [] = Unit {0}

@@ -13,6 +13,7 @@ mod lines;
 mod memory;
 mod request;
 mod replies;
+mod session;
 mod std_devices;
 mod words;
 
@@ -20,4 +21,5 @@ pub use device::{ByteIn, ByteOut, DeviceFault};
 pub use fault::SessionFault;
 pub use memory::{MemoryIn, MemoryOut};
 pub use request::RequestFault;
+pub use session::{Summary, simulate};
 pub use std_devices::{FromRead, ToWrite};
