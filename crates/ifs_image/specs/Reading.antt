@@ -1,8 +1,198 @@
--- Reading an image from the left, field by field down its table, to the image or the first fault.
-use Rattle.std.specs.Prelude.{ℕ, Bool, List}
+-- Reading an image from the left, field by field down its table: to the image, or to the first fault.
+use Rattle.std.specs.Prelude.{ℕ, zero, suc, ◌+◌, ◌-◌, min, Bool, ◌&&◌, ◌||◌, not, ◌==◌, nat_lt, if◌then◌else◌, List, [], ◌∷◌, ◌++◌, length, take, drop, slice_index, Result, Ok, Err, codes}
+use Rattle.std.specs.Int.{Width, w16, w32, w64, byte_len, from_be_bytes}
 use Rattle.std.specs.List.{list_any}
-use Rattle.std.specs.Str.{bytes_eq}
+use Rattle.std.specs.Option.{ok_or}
+use Rattle.std.specs.Str.{bytes_eq, is_utf8}
+use Rattle.ifs_base.specs.declared.op.Op.{Op}
+use Rattle.ifs_base.specs.Spelling.{op_of}
+use Rattle.ifs_image.specs.declared.fault.ImageFault.{ImageFault}
+use Rattle.ifs_image.specs.declared.fault.ImageFault.TheVariants.{Truncated, WrongMagic, WrongVersion, OutOfLimit, BadText, RepeatedName, Trailing, NoInstruction}
+use Rattle.ifs_image.specs.declared.parts.Budgets.{Budgets}
+use Rattle.ifs_image.specs.declared.parts.Counts.{Counts}
+use Rattle.ifs_image.specs.declared.parts.Handlers.{Handlers}
+use Rattle.ifs_image.specs.declared.parts.TestSpec.{TestSpec}
+use Rattle.ifs_image.specs.declared.parts.StateSpec.{StateSpec}
+use Rattle.ifs_image.specs.declared.parts.Routine.{Routine}
+use Rattle.ifs_image.specs.declared.parts.ImageParts.{ImageParts}
+use Rattle.ifs_image.specs.Limits.{names_of, instructions}
+
+-- A place in the bytes: how many stand before it, and those that are left.
+pub record Place : Type 0 where
+  pub at : ℕ
+  pub left : List ℕ
+
+abbrev pub place : ℕ → List ℕ → Place
+place at left = record { at = at; left = left }
+
+-- Reading at a place gives a value and the place after it, or the first fault.
+abbrev pub Read : Type 0 → Type 0
+Read X = Result (X × Place) ImageFault
+
+-- Goes on where nothing was wrong.
+infixl 10 ◌>>=◌
+abbrev pub ◌>>=◌ : {A B : Type 0} → Result A ImageFault → (A → Result B ImageFault) → Result B ImageFault
+(Ok x) >>= f = f x
+(Err fault) >>= f = Err fault
+
+-- The next bytes, so many.
+unfoldable pub bytes_at : ℕ → Place → Read (List ℕ)
+bytes_at n p = if nat_lt (length p.left) n then Err (Truncated p.at) else Ok (take n p.left, place (p.at + n) (drop n p.left))
+
+-- A number of one byte.
+unfoldable pub byte_at : Place → Read ℕ
+byte_at p = do
+  bytes ← bytes_at 1 p
+  Ok (slice_index bytes.0 0, bytes.1)
+
+-- A number of several bytes, the high one first.
+unfoldable pub number_at : Width → Place → Read ℕ
+number_at w p = do
+  bytes ← bytes_at (byte_len w) p
+  Ok (from_be_bytes w bytes.0, bytes.1)
+
+-- A number between two limits.
+unfoldable pub number_within : Width → ℕ → ℕ → Place → Read ℕ
+number_within w least most p = do
+  n ← number_at w p
+  if nat_lt n.0 least || nat_lt most n.0 then Err (OutOfLimit p.at) else Ok n
+
+-- The four bytes with which every image begins.
+unfoldable pub magic_at : Place → Read (Unit {0})
+magic_at p = do
+  bytes ← bytes_at 4 p
+  if bytes_eq bytes.0 (codes "IFSV") then Ok (tt, bytes.1) else Err (WrongMagic p.at)
+
+-- The version, 1.
+unfoldable pub version_at : Place → Read (Unit {0})
+version_at p = do
+  version ← byte_at p
+  if version.0 == 1 then Ok (tt, version.1) else Err (WrongVersion p.at)
+
+-- What one event may use at most.
+unfoldable pub budgets_at : Place → Read Budgets
+budgets_at p = do
+  stack ← number_within w16 0 32 p
+  frames ← number_within w16 0 32 stack.1
+  cost ← number_within w32 0 300000 frames.1
+  commands ← number_within w16 0 64 cost.1
+  Ok (record { stack = stack.0; frames = frames.0; cost = cost.0; commands = commands.0 }, commands.1)
+
+-- How many entries each table has.
+unfoldable pub counts_at : Place → Read Counts
+counts_at p = do
+  interfaces ← number_within w16 0 64 p
+  tests ← number_within w16 0 64 interfaces.1
+  commands ← number_within w16 0 1024 tests.1
+  states ← number_within w16 1 256 commands.1
+  routines ← number_within w16 0 1024 states.1
+  Ok (record { interfaces = interfaces.0; tests = tests.0; commands = commands.0; states = states.0; routines = routines.0 }, routines.1)
+
+-- Two routines and a mask.
+unfoldable pub handlers_at : Place → Read Handlers
+handlers_at p = do
+  init ← number_at w16 p
+  body ← number_at w16 init.1
+  mask ← number_at w64 body.1
+  Ok (record { init = record { 0 = init.0 }; body = record { 0 = body.0 }; mask = mask.0 }, mask.1)
+
+-- The length of a text, from 1 to 1,024.
+unfoldable pub length_at : Place → Read ℕ
+length_at p = do
+  n ← number_at w16 p
+  if (n.0 == 0) || nat_lt 1024 n.0 then Err (BadText p.at) else Ok n
+
+-- Bytes are UTF-8 without a NUL.
+unfoldable pub is_text : List ℕ → Bool
+is_text bytes = is_utf8 bytes && not (list_any (λ byte. byte == 0) bytes)
+
+-- A text of so many bytes.
+unfoldable pub text_of : ℕ → Place → Read (List ℕ)
+text_of n p = do
+  bytes ← bytes_at n p
+  if is_text bytes.0 then Ok bytes else Err (BadText p.at)
+
+-- A length and a text of that many bytes.
+unfoldable pub text_at : Place → Read (List ℕ)
+text_at p = do
+  n ← length_at p
+  text_of n.0 n.1
 
 -- A name stands in a table already.
 abbrev pub stands_in : List ℕ → List (List ℕ) → Bool
 stands_in name names = list_any (λ other. bytes_eq other name) names
+
+-- A length and a name that does not stand before. Its fault is at the name.
+unfoldable pub name_at : List (List ℕ) → Place → Read (List ℕ)
+name_at before p = do
+  n ← length_at p
+  name ← text_of n.0 n.1
+  if stands_in name.0 before then Err (RepeatedName n.1.at) else Ok name
+
+-- A period and a command.
+unfoldable pub test_at : Place → Read TestSpec
+test_at p = do
+  period ← number_within w32 1 604800 p
+  text ← text_at period.1
+  Ok (record { period = period.0; text = text.0 }, text.1)
+
+-- A name and handlers.
+unfoldable pub state_at : List StateSpec → Place → Read StateSpec
+state_at before p = do
+  name ← name_at (names_of before) p
+  handlers ← handlers_at name.1
+  Ok (record { name = name.0; handlers = handlers.0 }, handlers.1)
+
+-- Four bytes that spell an instruction.
+unfoldable pub op_at : Place → Read Op
+op_at p = do
+  bytes ← bytes_at 4 p
+  op ← ok_or (op_of bytes.0) (NoInstruction p.at)
+  Ok (op, bytes.1)
+
+-- So many entries of a table, each read in view of those before it.
+unfoldable pub items_at : {X : Type 0} → (List X → Place → Read X) → ℕ → List X → Place → Read (List X)
+items_at entry zero before p = Ok (before, p)
+items_at entry (suc n) before p = do
+  x ← entry before p
+  items_at entry n (before ++ x.0 ∷ []) x.1
+
+-- How many results a routine has, at most one.
+unfoldable pub results_at : Place → Read ℕ
+results_at p = do
+  n ← byte_at p
+  if nat_lt 1 n.0 then Err (OutOfLimit p.at) else Ok n
+
+-- A routine, where there is room for so many instructions.
+unfoldable pub routine_at : ℕ → Place → Read Routine
+routine_at room p = do
+  results ← results_at p
+  n ← number_within w16 0 (min room 1024) results.1
+  code ← items_at (λ _. op_at) n.0 [] n.1
+  Ok (record { results = results.0; code = code.0 }, code.1)
+
+-- The room that routines leave to those after them.
+abbrev pub room_after : List Routine → ℕ
+room_after before = 8192 - instructions before
+
+-- All fields of an image.
+unfoldable pub parts_at : Place → Read ImageParts
+parts_at p = do
+  magic ← magic_at p
+  version ← version_at magic.1
+  budgets ← budgets_at version.1
+  counts ← counts_at budgets.1
+  initial ← number_at w16 counts.1
+  always ← handlers_at initial.1
+  interfaces ← items_at name_at counts.0.interfaces [] always.1
+  tests ← items_at (λ _. test_at) counts.0.tests [] interfaces.1
+  commands ← items_at (λ _. text_at) counts.0.commands [] tests.1
+  states ← items_at state_at counts.0.states [] commands.1
+  routines ← items_at (λ before. routine_at (room_after before)) counts.0.routines [] states.1
+  Ok (record { budgets = budgets.0; initial = record { 0 = initial.0 }; always = always.0; interfaces = interfaces.0; tests = tests.0; commands = commands.0; states = states.0; routines = routines.0 }, routines.1)
+
+-- The image that all of the bytes spell, or the first fault.
+unfoldable pub image_of : List ℕ → Result ImageParts ImageFault
+image_of bytes = do
+  parts ← parts_at (place 0 bytes)
+  if length parts.1.left == 0 then Ok parts.0 else Err (Trailing parts.1.at)

@@ -1,76 +1,116 @@
 //! Numbers, texts and instructions at a place of an image's bytes.
 
-ghost use Rattle.std.specs.Prelude.{◌≡◌, ◌≤◌, length, IfOk};
+ghost use Rattle.std.specs.Prelude.{◌≡◌, ◌≤◌, ◌==◌, length, is_some, IfSome, IfOk};
+ghost use Rattle.std.specs.Int.{w16, w32, w64};
+ghost use Rattle.ifs_image.specs.Reading.{bytes_at, byte_at, number_at, number_within, length_at, is_text, text_of, text_at, op_at};
+ghost use Rattle.ifs_image.specs.Answers.{Gives, GivesBy};
 
 use crate::fault::ImageFault;
 use crate::limits;
 use ifs_base::{Op, Text, decode_op};
 use std::alloc::Global;
+use std::marker::Model;
 
-/// The bytes of an image, and how many of them are read.
+/// The bytes of an image that are not read yet, and how many were.
 #[derive(Drop)]
 pub struct Reader<'a> {
-    bytes: &'a [u8],
+    rest: &'a [u8],
     at: usize,
-    ghost within: { at ≤ length bytes.now },
+}
+
+impl<'a> Model for Reader<'a> {
+    ghost use Rattle.std.specs.Prelude.{◌+◌, ◌^◌, ◌<◌, length};
+    ghost use Rattle.ifs_image.specs.Reading.{Place, place};
+
+    ghost Value = { Place };
+
+    ghost view = { λ r. place r.at r.rest.now };
+
+    ghost invariant = { λ r. r.at + length r.rest.now < 2 ^ 64 };
 }
 
 impl<'a> Reader<'a> {
+    ghost use Rattle.ifs_image.specs.Reading.{place};
+
     /// A reader at the first byte.
-    pub fn new(bytes: &'a [u8]) -> Self {
-        Reader { bytes, at: 0 }
+    pub fn new(bytes: &'a [u8]) -> Self
+        ensures { result ≡ place 0 bytes.now }
+    {
+        Reader { rest: bytes, at: 0 }
     }
 
     /// The offset of the next byte.
-    pub fn at(&self) -> usize {
+    pub fn at(&self) -> usize
+        ensures { result ≡ self.now.at }
+    {
         self.at
     }
 
     /// Whether no byte is left.
-    pub fn is_at_end(&self) -> bool {
-        self.at == self.bytes.len()
+    pub fn is_at_end(&self) -> bool
+        ensures { result ≡ (length self.now.left == 0) }
+    {
+        self.rest.is_empty()
     }
 
     /// The next bytes, so many; I1 where fewer are left.
+    #[tactic(auto, unfolding(crate::specs::Reading::bytes_at))]
     pub fn take(&mut self, count: usize) -> Result<&'a [u8], ImageFault>
-        ensures { IfOk result (λ bytes. length bytes.now ≡ count) }
+        ensures given { GivesBy (λ bytes. bytes.now) result self.new (bytes_at count self.old) }
+        ensures count { IfOk result (λ bytes. length bytes.now ≡ count) }
     {
-        let left = &self.bytes[self.at..];
-        if left.len() < count {
+        if self.rest.len() < count {
             return Err(ImageFault::Truncated { at: self.at });
         }
+        let (front, rest) = self.rest.split_at(count);
+        self.rest = rest;
         self.at += count;
-        Ok(&left[..count])
+        Ok(front)
     }
 
     /// A number of one byte.
-    pub fn u8(&mut self) -> Result<u8, ImageFault> {
+    #[tactic(auto, unfolding(crate::specs::Reading::byte_at))]
+    pub fn u8(&mut self) -> Result<u8, ImageFault>
+        ensures { Gives result self.new (byte_at self.old) }
+    {
         let bytes = self.take(1)?;
         Ok(bytes[0])
     }
 
     /// A number of two bytes, the high one first.
-    pub fn u16(&mut self) -> Result<u16, ImageFault> {
+    #[tactic(auto, unfolding(crate::specs::Reading::number_at))]
+    pub fn u16(&mut self) -> Result<u16, ImageFault>
+        ensures { Gives result self.new (number_at w16 self.old) }
+    {
         let bytes = self.take(2)?;
         Ok(u16::from_be_bytes([bytes[0], bytes[1]]))
     }
 
     /// A number of four bytes, the high one first.
-    pub fn u32(&mut self) -> Result<u32, ImageFault> {
+    #[tactic(auto, unfolding(crate::specs::Reading::number_at))]
+    pub fn u32(&mut self) -> Result<u32, ImageFault>
+        ensures { Gives result self.new (number_at w32 self.old) }
+    {
         let bytes = self.take(4)?;
         Ok(u32::from_be_bytes([bytes[0], bytes[1], bytes[2], bytes[3]]))
     }
 
     /// A number of eight bytes, the high one first.
-    pub fn u64(&mut self) -> Result<u64, ImageFault> {
-        let high = self.u32()?;
-        let low = self.u32()?;
-        Ok((u64::from(high) << 32) | u64::from(low))
+    #[tactic(auto, unfolding(crate::specs::Reading::number_at))]
+    pub fn u64(&mut self) -> Result<u64, ImageFault>
+        ensures { Gives result self.new (number_at w64 self.old) }
+    {
+        let bytes = self.take(8)?;
+        let [a, b, c, d] = [bytes[0], bytes[1], bytes[2], bytes[3]];
+        let [e, f, g, h] = [bytes[4], bytes[5], bytes[6], bytes[7]];
+        Ok(u64::from_be_bytes([a, b, c, d, e, f, g, h]))
     }
 
     /// A number of two bytes from `least` to `most`; I4 outside.
+    #[tactic(auto, unfolding(crate::specs::Reading::number_within))]
     pub fn u16_within(&mut self, least: u16, most: u16) -> Result<u16, ImageFault>
-        ensures { IfOk result (λ number. number ≤ most) }
+        ensures given { Gives result self.new (number_within w16 least most self.old) }
+        ensures within { IfOk result (λ number. number ≤ most) }
     {
         let at = self.at;
         let number = self.u16()?;
@@ -81,7 +121,10 @@ impl<'a> Reader<'a> {
     }
 
     /// A number of four bytes from `least` to `most`; I4 outside.
-    pub fn u32_within(&mut self, least: u32, most: u32) -> Result<u32, ImageFault> {
+    #[tactic(auto, unfolding(crate::specs::Reading::number_within))]
+    pub fn u32_within(&mut self, least: u32, most: u32) -> Result<u32, ImageFault>
+        ensures { Gives result self.new (number_within w32 least most self.old) }
+    {
         let at = self.at;
         let number = self.u32()?;
         if number < least || most < number {
@@ -91,7 +134,10 @@ impl<'a> Reader<'a> {
     }
 
     /// The length of a text, in bytes; I5 where it is 0 or over its limit.
-    fn text_length(&mut self) -> Result<u16, ImageFault> {
+    #[tactic(auto, unfolding(crate::specs::Reading::length_at))]
+    pub fn text_length(&mut self) -> Result<u16, ImageFault>
+        ensures { Gives result self.new (length_at self.old) }
+    {
         let at = self.at;
         let length = self.u16()?;
         if length == 0 || limits::TEXT < length {
@@ -101,42 +147,51 @@ impl<'a> Reader<'a> {
     }
 
     /// A text of so many bytes; I5 where it is not UTF-8 or has a NUL.
-    fn text_of(&mut self, alloc: Global, length: u16) -> Result<Text, ImageFault> {
+    #[tactic(auto, unfolding(crate::specs::Reading::text_of))]
+    pub fn text_of(&mut self, alloc: Global, length: u16) -> Result<Text, ImageFault>
+        ensures { Gives result self.new (text_of length self.old) }
+    {
         let at = self.at;
         let bytes = self.take(usize::from(length))?;
-        match str::from_utf8(bytes) {
-            Ok(text) if !bytes.contains(&0) => Ok(Text::new(String::from_str(alloc, text)?)),
-            _ => Err(ImageFault::BadText { at }),
-        }
+        let Some(text) = text_in(bytes) else {
+            return Err(ImageFault::BadText { at });
+        };
+        Ok(Text::new(String::from_str(alloc, text)?))
     }
 
     /// A length and a text of that many bytes.
-    pub fn text(&mut self, alloc: Global) -> Result<Text, ImageFault> {
-        let length = self.text_length()?;
-        self.text_of(alloc, length)
-    }
-
-    /// A length and a text that stood not before; I6 at the text where `is_taken` says that it did.
-    pub fn name<F: Fn(&[u8]) -> bool>(
-        &mut self,
-        alloc: Global,
-        is_taken: F,
-    ) -> Result<Text, ImageFault>
-        requires { F.IsAlwaysCallable is_taken }
+    #[tactic(auto, unfolding(crate::specs::Reading::text_at))]
+    pub fn text(&mut self, alloc: Global) -> Result<Text, ImageFault>
+        ensures { Gives result self.new (text_at self.old) }
     {
         let length = self.text_length()?;
-        let at = self.at;
-        let name = self.text_of(alloc, length)?;
-        if is_taken(name.as_bytes()) {
-            return Err(ImageFault::RepeatedName { at });
-        }
-        Ok(name)
+        let text = self.text_of(alloc, length)?;
+        Ok(text)
     }
 
     /// An instruction; I8 where the four bytes spell none.
-    pub fn op(&mut self) -> Result<Op, ImageFault> {
+    #[tactic(auto, unfolding(crate::specs::Reading::op_at))]
+    pub fn op(&mut self) -> Result<Op, ImageFault>
+        ensures { Gives result self.new (op_at self.old) }
+    {
         let at = self.at;
         let bytes = self.take(4)?;
-        decode_op([bytes[0], bytes[1], bytes[2], bytes[3]]).ok_or(ImageFault::NoInstruction { at })
+        match decode_op([bytes[0], bytes[1], bytes[2], bytes[3]]) {
+            Some(op) => Ok(op),
+            None => Err(ImageFault::NoInstruction { at }),
+        }
+    }
+}
+
+/// The text that bytes are: UTF-8 without a NUL.
+#[tactic(auto, unfolding(crate::specs::Reading::is_text))]
+fn text_in(bytes: &[u8]) -> Option<&str>
+    ensures test { is_some result ≡ is_text bytes.now }
+    ensures same { IfSome result (λ text. text.now ≡ bytes.now) }
+{
+    match str::from_utf8(bytes) {
+        Ok(_) if bytes.contains(&0) => None,
+        Ok(text) => Some(text),
+        Err(_) => None,
     }
 }

@@ -77,6 +77,12 @@ pub fn is_among(names: &[Text], name: &[u8]) -> bool
 
 /// Whether a state of a table has a name.
 pub fn is_name_among(states: &[StateSpec], name: &[u8]) -> bool
+    ensures { result ≡ stands_in name.now (names_of states.now) }
+{
+    have_name(states, name)
+}
+
+fn have_name(states: &[StateSpec], name: &[u8]) -> bool
     ensures { result ≡ list_any (λ s. bytes_eq s.name name.now) states.now }
 {
     states.iter().any(|other| other.name.as_bytes() == name)

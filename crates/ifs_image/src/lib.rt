@@ -9,6 +9,7 @@ mod fault;
 mod fields;
 mod fitting;
 mod image;
+pub mod laws;
 pub mod limits;
 mod parts;
 mod reading;

@@ -15,6 +15,16 @@ pub struct Budgets {
     pub commands: u16,
 }
 
+/// The numbers of entries of the tables.
+#[derive(Clone, Copy)]
+pub struct Counts {
+    pub interfaces: u16,
+    pub tests: u16,
+    pub commands: u16,
+    pub states: u16,
+    pub routines: u16,
+}
+
 /// The code of a part of the policy, and the tests that it mentions.
 #[derive(Clone, Copy, Debug, PartialEq, Eq)]
 pub struct Handlers {

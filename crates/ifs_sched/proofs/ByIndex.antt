@@ -1,12 +1,13 @@
 -- Lists that a loop makes test by test, with the index.
-use Rattle.std.proofs.Common.{◌≡◌, ℕ, ◌+◌, ◌<◌, List, [], ◌∷◌, ◌++◌, Option, length, get_or, set, take, drop, map, ap, sym, ◌∙◌, arith, append-nil, append_assoc}
-use Rattle.std.specs.List.{enumerate_from, filter_map, cons_option}
+use Rattle.std.proofs.Common.{◌≡◌, Bool, false, ◌||◌, ℕ, ◌+◌, ◌<◌, List, [], ◌∷◌, ◌++◌, Option, length, get_or, set, take, drop, map, ap, sym, ◌∙◌, arith, append-nil, append_assoc}
+use Rattle.std.specs.List.{enumerate_from, filter_map, cons_option, list_any}
 use Rattle.std.proofs.lemmas.List.{map_push, take_more, drop_more, set_at, get_or_at, length-take-le, length-map, take_all, drop_all, set-get_or, get_or_default}
 use Rattle.std.proofs.lemmas.List.FromFn.{length-enumerate_from}
+use Rattle.std.proofs.lemmas.List.Folds.{list_any-append}
 use Rattle.std.proofs.lemmas.List.Elements.{filter_map-append}
 use Rattle.ifs_sched.specs.declared.start.Start.{Start}
 use Rattle.ifs_sched.specs.declared.timer.Timer.{Timer}
-use Rattle.ifs_sched.specs.Schedule.{map_by_index, collect_by_index}
+use Rattle.ifs_sched.specs.Schedule.{map_by_index, collect_by_index, any_by_index}
 
 -- one more element has the next index
 enumerate_from-push : {X : Type 0} (n : ℕ) (xs : List X) (x : X)
@@ -93,3 +94,14 @@ collect_by_index-more f xs i d within =
     ap (collect_by_index f) (take_more xs i d within)
     ∙ collect_by_index-push f (take i xs) (get_or xs i d)
     ∙ ap (λ k. collect_by_index f (take i xs) ++ cons_option (f k (get_or xs i d)) []) (length-take-le i xs (omega arith))
+
+-- a test by index of the tests up to i and of the test at i
+pub any_by_index-more : (f : ℕ → Timer → Bool) (xs : List Timer) (i : ℕ) (d : Timer) → i < length xs
+    → any_by_index f (take (i + 1) xs) ≡ (any_by_index f (take i xs) || (f i (get_or xs i d) || false))
+any_by_index-more f xs i d within =
+    let front = length-take-le i xs (omega arith) in
+    let e : 0 + length (take i xs) ≡ i = omega arith in
+    ap (any_by_index f) (take_more xs i d within)
+    ∙ ap (list_any (λ p. f p.0 p.1)) (enumerate_from-push 0 (take i xs) (get_or xs i d))
+    ∙ list_any-append (λ p. f p.0 p.1) (enumerate_from 0 (take i xs)) ((0 + length (take i xs), get_or xs i d) ∷ [])
+    ∙ ap (λ k. any_by_index f (take i xs) || (f k (get_or xs i d) || false)) e

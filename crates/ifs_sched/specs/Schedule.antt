@@ -1,10 +1,10 @@
 -- The schedule of external tests: what each call makes of it.
-use Rattle.std.specs.Prelude.{ℕ, ◌+◌, ◌^◌, min, Bool, false, ◌&&◌, ◌==◌, nat_lt, if◌then◌else◌, List, map, length, take, slice_get, count_by, Option, Some, None}
-use Rattle.std.specs.List.{enumerate_from, filter_map}
+use Rattle.std.specs.Prelude.{ℕ, ◌+◌, ◌^◌, min, Bool, false, not, ◌&&◌, ◌==◌, nat_lt, if◌then◌else◌, List, map, length, take, slice_get, count_by, Option, Some, None}
+use Rattle.std.specs.List.{enumerate_from, filter_map, list_any}
 use Rattle.std.specs.Int.{bit_at}
 use Rattle.ifs_sched.specs.declared.start.Start.{Start}
 use Rattle.ifs_sched.specs.declared.timer.Timer.{Timer}
-use Rattle.ifs_sched.specs.Timer.{inactive, entered_status, is_due, started, is_active_status, is_run, ended}
+use Rattle.ifs_sched.specs.Timer.{inactive, entered_status, is_due, started, is_running_status, is_run, ended}
 
 -- A schedule: its present moment, the number of its next run (2 ^ 64 where none is left), and its
 -- tests by index.
@@ -21,7 +21,11 @@ map_by_index f tests = map (λ p. f p.0 p.1) (enumerate_from 0 tests)
 abbrev pub collect_by_index : (ℕ → Timer → Option Start) → List Timer → List Start
 collect_by_index f tests = filter_map (λ p. f p.0 p.1) (enumerate_from 0 tests)
 
--- A number that is left, as a number: 2 ^ 64 where none is.
+-- Whether a test of their indexes and themselves passes for one of the tests.
+abbrev pub any_by_index : (ℕ → Timer → Bool) → List Timer → Bool
+any_by_index f tests = list_any (λ p. f p.0 p.1) (enumerate_from 0 tests)
+
+-- A next run number, or none, as a number: 2 ^ 64 is none.
 abbrev pub number_of : Option ℕ → ℕ
 number_of None = 2 ^ 64
 number_of (Some run) = run
@@ -48,9 +52,17 @@ entered always own now s = record s { tests = map_by_index (entered_test always 
 abbrev pub number_at : ℕ → ℕ → List Timer → ℕ → ℕ
 number_at now next tests t = next + count_by (is_due now) (take t tests)
 
--- Whether a test starts at a tick: it is due, and its number is none after 2^64 - 1.
+-- Whether that number is left: the last one is 2^64 - 1.
+abbrev pub has_number : ℕ → ℕ → List Timer → ℕ → Bool
+has_number now next tests t = nat_lt (number_at now next tests t) (2 ^ 64)
+
+-- Whether a test starts at a tick: it is due, and its number is left.
 abbrev pub starts_at : ℕ → ℕ → List Timer → ℕ → Timer → Bool
-starts_at now next tests t timer = is_due now timer && nat_lt (number_at now next tests t) (2 ^ 64)
+starts_at now next tests t timer = is_due now timer && has_number now next tests t
+
+-- Whether a due test does not start at a tick, for want of a number.
+abbrev pub left_at : ℕ → ℕ → List Timer → ℕ → Timer → Bool
+left_at now next tests t timer = is_due now timer && not (has_number now next tests t)
 
 -- What a tick makes of a test.
 abbrev pub ticked_test : ℕ → ℕ → List Timer → ℕ → Timer → Timer
@@ -63,10 +75,6 @@ start_of now next tests t timer =
     if starts_at now next tests t timer
     then Some (record { test = record { 0 = t }; run = number_at now next tests t })
     else None
-
--- Whether a number is one more than there are: the due test before it has none.
-abbrev pub is_over : ℕ → Bool
-is_over number = nat_lt (2 ^ 64) number
 
 -- The schedule after a tick at a moment.
 unfoldable pub ticked : ℕ → Timetable → Timetable
@@ -82,7 +90,7 @@ starts now s = collect_by_index (start_of now s.next_run s.tests) s.tests
 
 -- Whether a tick at a moment leaves a due test for want of a number.
 unfoldable pub is_exhausted : ℕ → Timetable → Bool
-is_exhausted now s = is_over (number_at now s.next_run s.tests (length s.tests))
+is_exhausted now s = any_by_index (left_at now s.next_run s.tests) s.tests
 
 -- Whether there is a test, and it runs under a number.
 abbrev pub runs_under : ℕ → Option Timer → Bool
@@ -100,4 +108,4 @@ finished test run s =
 
 -- How many tests run.
 unfoldable pub running_count : Timetable → ℕ
-running_count s = count_by (λ timer. is_active_status timer.status) s.tests
+running_count s = count_by (λ timer. is_running_status timer.status) s.tests

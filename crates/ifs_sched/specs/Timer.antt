@@ -4,7 +4,7 @@ use Rattle.ifs_sched.specs.declared.timer.Status.{Status}
 use Rattle.ifs_sched.specs.declared.timer.Status.TheVariants.{Off, Idle, Running}
 use Rattle.ifs_sched.specs.declared.timer.Timer.{Timer}
 
--- A test of a period that is not active.
+-- A test of a period that is off.
 abbrev pub inactive : ℕ → Timer
 inactive n = record { period = n; status = Off }
 
@@ -34,9 +34,9 @@ abbrev pub started : ℕ → ℕ → Timer → Timer
 started now run timer = record timer { status = Running run (due_again now timer.period) }
 
 -- Whether a test runs, under whatever number.
-abbrev pub is_active_status : Status → Bool
-is_active_status (Running _ _) = true
-is_active_status _ = false
+abbrev pub is_running_status : Status → Bool
+is_running_status (Running _ _) = true
+is_running_status _ = false
 
 -- Whether a test runs under a number.
 abbrev pub is_run : ℕ → Status → Bool

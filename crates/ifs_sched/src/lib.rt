@@ -13,3 +13,6 @@ mod timer;
 
 pub use schedule::{Backwards, Schedule, Stale};
 pub use start::{MAX_TESTS, Start, Started};
+
+#[cfg(test)]
+mod tests;

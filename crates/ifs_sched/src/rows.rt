@@ -1,16 +1,17 @@
 //! An entry and a tick, test by test.
 
-ghost use Rattle.std.specs.Prelude.{◌≡◌, ◌<◌, ◌≤◌, ◌+◌, ◌^◌, length, min};
-ghost use Rattle.ifs_sched.specs.Schedule.{collect_by_index, entered_test, has_test as is_in_mask, is_over, map_by_index, number_at, number_of, start_of, ticked_test};
+ghost use Rattle.std.specs.Prelude.{◌≡◌, ◌<◌, ◌≤◌, ◌+◌, ◌^◌, length, map, min};
+ghost use Rattle.std.specs.List.{range_with_len};
+ghost use Rattle.ifs_sched.specs.Schedule.{any_by_index, collect_by_index, entered_test, has_test as is_in_mask, left_at, map_by_index, number_at, number_of, start_of, ticked_test};
 
-use crate::start::{Start, Started};
+use crate::start::{MAX_TESTS, Start, Started};
 use crate::timer::Timer;
 use arrayvec::ArrayVec;
 use ifs_base::TestId;
 
 /// Lets each test take part in an entry at a moment, by the always set and the state's own.
 pub fn enter_all(tests: &mut [Timer], always: u64, own: u64, now: u64)
-    requires { length tests.old ≤ 64 }
+    requires { length tests.old ≤ MAX_TESTS }
     ensures { tests.new ≡ map_by_index (entered_test always own now) tests.old }
 {
     for (index, timer) in tests.iter_mut().enumerate() {
@@ -20,7 +21,7 @@ pub fn enter_all(tests: &mut [Timer], always: u64, own: u64, now: u64)
 
 /// Starts each due test, by index, with the next run number while there is one.
 pub fn start_due(tests: &mut [Timer], now: u64, next_run: &mut Option<u64>) -> Started
-    requires room { length tests.old ≤ 64 }
+    requires room { length tests.old ≤ MAX_TESTS }
     requires number { number_of next_run.old ≤ 2 ^ 64 }
     ensures tests { tests.new
         ≡ map_by_index (ticked_test now (number_of next_run.old) tests.old) tests.old }
@@ -29,7 +30,12 @@ pub fn start_due(tests: &mut [Timer], now: u64, next_run: &mut Option<u64>) -> S
     ensures starts { result.starts.items
         ≡ collect_by_index (start_of now (number_of next_run.old) tests.old) tests.old }
     ensures exhausted { result.exhausted
-        ≡ is_over (number_at now (number_of next_run.old) tests.old (length tests.old)) }
+        ≡ any_by_index (left_at now (number_of next_run.old) tests.old) tests.old }
+    // The numbers are in one sequence.
+    ensures numbered { map (λ start. start.run) result.starts.items
+        ≡ range_with_len (number_of next_run.old) (length result.starts.items) }
+    ensures in_sequence { number_of next_run.new
+        ≡ number_of next_run.old + length result.starts.items }
 {
     let mut starts = ArrayVec::new();
     let mut exhausted = false;
@@ -54,7 +60,7 @@ pub fn start_due(tests: &mut [Timer], now: u64, next_run: &mut Option<u64>) -> S
 
 /// Whether a mask has the bit of a test.
 fn has_test(mask: u64, index: usize) -> bool
-    requires { index < 64 }
+    requires { index < MAX_TESTS }
     ensures { result ≡ is_in_mask mask index }
 {
     mask >> index & 1 == 1

@@ -1,6 +1,7 @@
 //! The schedule: entries, ticks, and runs that finish.
 
-ghost use Rattle.std.specs.Prelude.{◌≡◌, ◌<◌, ◌≤◌, ◌↔◌, IsTrue, IsOk, IsErr, IfOk, OnOk, OnErr, All, length};
+ghost use Rattle.std.specs.Prelude.{◌≡◌, ◌<◌, ◌≤◌, ◌↔◌, ◌+◌, IsTrue, IsOk, IsErr, IfOk, OnOk, OnErr, All, length, map};
+ghost use Rattle.std.specs.List.{range_with_len};
 ghost use Rattle.ifs_sched.specs.Schedule.{all_off, entered, finished, is_exhausted, is_running, running_count, starts, ticked};
 
 use crate::rows::{enter_all, start_due};
@@ -46,7 +47,8 @@ impl Schedule {
     #[tactic(auto, unfolding(crate::specs::Schedule::all_off))]
     pub fn new(periods: ArrayVec<u32, MAX_TESTS>, first_run: u64) -> Schedule
         requires { 1 ≤ first_run }
-        ensures { result ≡ all_off periods.items first_run }
+        ensures value { result ≡ all_off periods.items first_run }
+        ensures same_number { length result.tests ≡ length periods.items }
     {
         let mut tests = ArrayVec::new();
         for period in periods.as_slice() {
@@ -81,6 +83,11 @@ impl Schedule {
         ensures ok { OnOk result (self.new ≡ ticked now self.old) }
         ensures starts { IfOk result (λ started. started.starts.items ≡ starts now self.old) }
         ensures exhausted { IfOk result (λ started. started.exhausted ≡ is_exhausted now self.old) }
+        // The numbers are in one sequence, over all ticks.
+        ensures numbered { IfOk result (λ started. map (λ start. start.run) started.starts.items
+            ≡ range_with_len self.old.next_run (length started.starts.items)) }
+        ensures next_run { IfOk result
+            (λ started. self.new.next_run ≡ self.old.next_run + length started.starts.items) }
         ensures in_schedule { IfOk result
             (λ started. All (λ start. start.test.0 < length self.old.tests) started.starts.items) }
         ensures same_number { length self.new.tests ≡ length self.old.tests }

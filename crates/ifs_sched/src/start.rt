@@ -1,5 +1,7 @@
 //! What a tick answers.
 
+ghost use Rattle.std.specs.Prelude.{◌≡◌};
+
 use arrayvec::ArrayVec;
 use ifs_base::TestId;
 
@@ -15,7 +17,10 @@ pub struct Start {
     pub run: u64,
 }
 
+/// What an unused place of a list holds.
 impl Default for Start {
+    ghost is_default = { λ start. start ≡ record { test = record { 0 = 0 }; run = 0 } };
+
     fn default() -> Self {
         Start {
             test: TestId(0),

@@ -1,12 +1,13 @@
 //! The timer of one test: its period, and where it stands.
 
 ghost use Rattle.std.specs.Prelude.{◌≡◌};
-ghost use Rattle.ifs_sched.specs.Timer.{ended, entered_status, is_active_status, is_due, is_run, started};
+ghost use Rattle.ifs_sched.specs.Timer.{ended, entered_status, is_running_status, is_due, is_run, started};
 
 /// Where a test stands. Moments and run numbers are those of its schedule.
-#[derive(Clone, Copy, Debug)]
+#[derive(Clone, Copy, Debug, Default)]
 pub enum Status {
     /// Not active.
+    #[default]
     Off,
     /// Waits, and is due from a moment on.
     Idle { due: u64 },
@@ -15,19 +16,10 @@ pub enum Status {
 }
 
 /// A test's period in seconds, and where it stands.
-#[derive(Clone, Copy, Debug)]
+#[derive(Clone, Copy, Debug, Default)]
 pub struct Timer {
     pub period: u32,
     pub status: Status,
-}
-
-impl Default for Timer {
-    fn default() -> Self {
-        Timer {
-            period: 0,
-            status: Status::Off,
-        }
-    }
 }
 
 impl Timer {
@@ -63,7 +55,7 @@ impl Timer {
 
     /// Whether the test runs.
     pub fn is_running(&self) -> bool
-        ensures { result ≡ is_active_status self.now.status }
+        ensures { result ≡ is_running_status self.now.status }
     {
         matches!(self.status, Status::Running { .. })
     }

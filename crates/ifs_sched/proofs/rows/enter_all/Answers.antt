@@ -1,3 +1,4 @@
+-- The test at the index is what an entry makes of it.
 use Rattle.ifs_sched.specs.Schedule.{entered_test}
 use Rattle.ifs_sched.specs.Timer.{inactive}
 use Rattle.ifs_sched.proofs.ByIndex.{changed_below-more}

@@ -1,3 +1,4 @@
+-- The tests up to the index have entered, and the others are as they were.
 use Rattle.std.proofs.Common.{◌≡◌}
 use Rattle.ifs_sched.specs.Schedule.{entered_test}
 use Rattle.ifs_sched.proofs.ByIndex.{changed_below}

@@ -1,3 +1,4 @@
+-- A test is not due, or it starts with the next number, or none is left for it.
 use Rattle.std.proofs.Common.{sym, ap, ◌∙◌, arith}
 use Rattle.ifs_sched.specs.Schedule.{number_of}
 use Rattle.ifs_sched.specs.Timer.{inactive}

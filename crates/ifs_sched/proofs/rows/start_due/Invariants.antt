@@ -1,3 +1,4 @@
+-- The tests up to the index have had their turn.
 use Rattle.ifs_sched.specs.Schedule.{number_of}
 use Rattle.ifs_sched.proofs.Ticking.{IsTickedBelow}
 use Rattle.ifs_sched.proofs.rows.start_due.Given as goal

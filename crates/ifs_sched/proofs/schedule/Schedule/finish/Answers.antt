@@ -1,3 +1,4 @@
+-- There is no test of that index, or the one that there is has its run ended.
 use Rattle.std.proofs.Common.{◌≡◌, ◌<◌, ◌≤◌, Bool, true, is_ok, length, sym, ◌∙◌, arith, refl}
 use Rattle.ifs_sched.specs.Schedule.{finished, is_running}
 use Rattle.ifs_sched.proofs.Finishing.{ended_past, ended_read, runs_under-past, runs_under-read}

@@ -1,3 +1,4 @@
+-- The tests so far are those of the periods so far.
 use Rattle.std.proofs.Common.{◌≡◌, map, take}
 use Rattle.ifs_sched.specs.Timer.{inactive}
 use Rattle.ifs_sched.proofs.schedule.Schedule.new.Given as goal

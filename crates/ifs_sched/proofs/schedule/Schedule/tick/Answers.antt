@@ -1,3 +1,4 @@
+-- The tests, the starts and the next number are what `start_due` ensures of the fields.
 use Rattle.std.proofs.Common.{◌≡◌, length, ap, ◌∙◌, refl}
 use Rattle.arrayvec.proofs.ArrayVecLemmas.{items-with_items}
 use Rattle.ifs_sched.specs.Schedule.{is_exhausted, map_by_index, number_of, starts, ticked, ticked_test}

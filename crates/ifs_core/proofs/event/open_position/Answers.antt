@@ -1,0 +1,19 @@
+use Rattle.std.proofs.Common.{◌≡◌, ℕ, List, length, ap, ◌∙◌, lit<}
+use Rattle.ifs_image.specs.declared.parts.ImageParts.{ImageParts}
+use Rattle.ifs_sched.specs.Schedule.{Timetable, all_off}
+use Rattle.ifs_core.specs.Machine.{periods_in}
+use Rattle.ifs_core.proofs.Opening.{length-all_unknown, length-no_values, length-all_off}
+use Rattle.ifs_core.proofs.event.open_position.Goals as goal
+
+pub returns-clause-position : goal.returns-clause-position
+returns-clause-position c =
+    let e : c.parts-parts.result.now ≡ c.args.verified.now = c.parts-parts.ensures.value ∙ c.image.ensures.value in
+    let image = c.args.verified.now in
+    record {
+      facts = record {
+        links = rw (c.unknown_links.ensures, e) (length-all_unknown image);
+        tests = rw (c.no_values.ensures, e) (length-no_values image);
+      };
+      current = rw e c.image.ensures.accepted.indexes.initial;
+      tests = c.enter.ensures.same_number ∙ ap (λ (s : Timetable). length s.tests) c.new-schedule.ensures.value ∙ (rw (c.periods_of.ensures, e) (length-all_off image 1));
+    }

@@ -1,0 +1,46 @@
+use Rattle.std.proofs.Common.{◌≡◌, ℕ, List, None, length, ap, ◌∙◌, refl}
+use Rattle.ifs_base.specs.declared.ids.CommandId.{CommandId}
+use Rattle.ifs_base.specs.declared.ids.StateId.{StateId}
+use Rattle.ifs_machine.specs.Table.{Effects}
+use Rattle.ifs_machine.specs.State.{facts_of, effects_of}
+use Rattle.ifs_core.specs.Event.{AlwaysInit, Init}
+use Rattle.ifs_core.specs.Within.{nothing_yet}
+use Rattle.ifs_core.proofs.Runs.{two_runs, init_of, room_for_always_init, room_for_first_init, two_known}
+use Rattle.ifs_core.proofs.event.run_inits.Goals as goal
+
+pub run_handler-always-requires-clause-room : goal.run_handler-always-requires-clause-room
+run_handler-always-requires-clause-room c =
+    let e : c.parts-parts.result.now ≡ c.args.verified.now = c.parts-parts.ensures.value ∙ c.image.ensures.value in
+    rw e (room_for_always_init c.args.verified.now c.args.position.now.current.0 c.state_of-own.result.now (length c.new.result.items)
+      c.image.ensures.accepted (ap (λ (s : StateId). s.0) c.requires.initial) (rw e at c.state_of-own.ensures) (ap length c.new.ensures))
+
+pub run_handler-own-requires-clause-room : goal.run_handler-own-requires-clause-room
+run_handler-own-requires-clause-room c =
+    let e : c.parts-parts.result.now ≡ c.args.verified.now = c.parts-parts.ensures.value ∙ c.image.ensures.value in
+    room_for_first_init c.args.verified.now c.args.position.now.current.0 c.state_of-own.result.now c.new.result.items c.run_handler-always.new.effects.queued.items
+      c.image.ensures.accepted (ap (λ (s : StateId). s.0) c.requires.initial) (rw e at c.state_of-own.ensures) (ap length c.new.ensures) (rw e at c.run_handler-always.ensures.commands)
+
+pub returns-clause-exact : goal.returns-clause-exact
+returns-clause-exact c = λ b is.
+    let e : c.parts-parts.result.now ≡ c.args.verified.now = c.parts-parts.ensures.value ∙ c.image.ensures.value in
+    let image = c.args.verified.now in
+    let k = c.args.position.now.current.0 in
+    let state = c.state_of-own.result.now in
+    let at = rw e at c.state_of-own.ensures in
+    let first = ap (λ (s : StateId). s.0) c.requires.initial in
+    let none = ap length c.new.ensures in
+    let before = effects_of (record { queued = c.new.result; want = None }) in
+    let both = two_runs image b AlwaysInit (Init k) (facts_of c.args.position.now.facts) image.always.init.0 state.handlers.init.0
+      before (effects_of c.run_handler-always.new.effects) (effects_of c.run_handler-own.new.effects) c.run_handler-always.result c.run_handler-own.result
+      is refl (init_of image k state at) c.requires.position.facts
+      (room_for_always_init image k state (length c.new.result.items) c.image.ensures.accepted first at none)
+      (room_for_first_init image k state c.new.result.items c.run_handler-always.new.effects.queued.items c.image.ensures.accepted first at none (rw e at c.run_handler-always.ensures.commands))
+      (rw e at c.run_handler-always.ensures.only) c.run_handler-own.ensures.only
+      (ap (λ (xs : List CommandId). record { commands = xs; wish = None }) c.new.ensures) in
+    ap (λ (f : Effects). f.commands) both.0
+
+pub returns-clause-known : goal.returns-clause-known
+returns-clause-known c =
+    let e : c.parts-parts.result.now ≡ c.args.verified.now = c.parts-parts.ensures.value ∙ c.image.ensures.value in
+    two_known c.args.verified.now c.args.verified.now.always.init.0 c.state_of-own.result.now.handlers.init.0 c.new.result.items c.run_handler-always.new.effects.queued.items c.run_handler-own.new.effects.queued.items
+      c.new.ensures (rw e at c.run_handler-always.ensures.commands) c.run_handler-own.ensures.commands

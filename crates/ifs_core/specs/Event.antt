@@ -1,0 +1,109 @@
+-- Events: what the handlers of a policy make of a core. Whatever answers for the handlers, an event is made of its answers.
+use Rattle.std.specs.Prelude.{ℕ, ◌≡◌, ◌+◌, Bool, true, false, ◌==◌, if◌then◌else◌, List, ◌++◌, map, Option, Some, None}
+use Rattle.std.specs.List.{enumerate_from}
+use Rattle.ifs_base.specs.declared.ids.CommandId.{CommandId}
+use Rattle.ifs_base.specs.declared.ids.StateId.{StateId}
+use Rattle.ifs_base.specs.declared.op.LinkState.{LinkState}
+use Rattle.ifs_base.specs.Facts.{Facts}
+use Rattle.ifs_sched.specs.Schedule.{Timetable, all_off, entered, has_test}
+
+-- A handler: an init or a body, of the always part or of a state.
+pub data Handler : Type 0 where
+  AlwaysInit : Handler
+  AlwaysBody : Handler
+  Init : (state : ℕ) → Handler
+  Body : (state : ℕ) → Handler
+
+-- What a handler does: the commands that it queues, in order, its last wish for a state, and its cost.
+pub record Yield : Type 0 where
+  pub commands : List CommandId
+  pub wish : Option StateId
+  pub cost : ℕ
+
+-- What events are made of: what each handler does under some facts, and the sets of active tests, as masks, of the always part and of each state.
+pub record Behaviour : Type 0 where
+  pub answer : Handler → Facts → Yield
+  pub always : ℕ
+  pub active : ℕ → ℕ
+
+-- Where a core stands: what it knows, the current state, whether an evaluation is owed, and the schedule of its tests.
+pub record Position : Type 0 where
+  pub facts : Facts
+  pub current : StateId
+  pub owed : Bool
+  pub schedule : Timetable
+
+-- An event: where it leaves the core, the commands that it queues, in order, and its cost.
+pub record Event : Type 0 where
+  pub position : Position
+  pub commands : List CommandId
+  pub cost : ℕ
+
+-- The opening, from given link states and a first run number: no test has a value, the initial state is entered at moment 0, and both inits run. Their wishes are dropped.
+abbrev pub opening_position : Behaviour → List LinkState → List ℕ → ℕ → StateId → Position
+opening_position b links periods first_run initial = record {
+  facts = record { links = links; tests = map (λ _. None) periods };
+  current = initial;
+  owed = true;
+  schedule = entered b.always (b.active initial.0) 0 (all_off periods first_run);
+}
+
+abbrev pub opening : Behaviour → List LinkState → List ℕ → ℕ → StateId → Event
+opening b links periods first_run initial =
+    let position = opening_position b links periods first_run initial in
+    let always = b.answer AlwaysInit position.facts in
+    let own = b.answer (Init initial.0) position.facts in
+    record { position = position; commands = always.commands ++ own.commands; cost = always.cost + own.cost }
+
+-- The value of a test after an entry: it is lost where the test is outside the always set.
+abbrev pub kept_value : ℕ → ℕ → Option Bool → Option Bool
+kept_value always test value = if has_test always test then value else None
+
+-- The values of all tests after an entry.
+abbrev pub kept_values : ℕ → List (Option Bool) → List (Option Bool)
+kept_values always values = map (λ entry. kept_value always entry.0 entry.1) (enumerate_from 0 values)
+
+-- A state is entered at the present moment: its tests are reset, and an evaluation is owed.
+abbrev pub entering : Behaviour → StateId → Position → Position
+entering b next p = record {
+  facts = record { links = p.facts.links; tests = kept_values b.always p.facts.tests };
+  current = next;
+  owed = true;
+  schedule = entered b.always (b.active next.0) p.schedule.present p.schedule;
+}
+
+-- The wish after two answers: the later one's, where it has one.
+abbrev pub later_wish : Option StateId → Option StateId → Option StateId
+later_wish earlier None = earlier
+later_wish earlier (Some next) = Some next
+
+-- The state that a wish leads to, where it names another than the current one.
+abbrev pub change_of : StateId → Option StateId → Option StateId
+change_of current None = None
+change_of current (Some next) = if next.0 == current.0 then None else Some next
+
+-- The bodies' event, and where a change follows the entry of the next state with its init, whose wish is dropped.
+abbrev pub with_change : Behaviour → Option StateId → Event → Event
+with_change b None bodies = bodies
+with_change b (Some next) bodies =
+    let position = entering b next bodies.position in
+    let init = b.answer (Init next.0) position.facts in
+    record { position = position; commands = bodies.commands ++ init.commands; cost = bodies.cost + init.cost }
+
+-- An evaluation: the always body, then the current state's body, then the change that the last wish of both leads to.
+abbrev pub evaluation : Behaviour → Position → Event
+evaluation b p =
+    let always = b.answer AlwaysBody p.facts in
+    let own = b.answer (Body p.current.0) p.facts in
+    with_change b (change_of p.current (later_wish always.wish own.wish))
+    (record { position = record p { owed = false }; commands = always.commands ++ own.commands; cost = always.cost + own.cost })
+
+-- An event by its parts.
+abbrev pub event_of : Position → List CommandId → ℕ → Event
+event_of position commands cost = record { position = position; commands = commands; cost = cost }
+
+-- These are the parts of an event.
+pub record IsEvent (e : Event) (position : Position) (commands : List CommandId) (cost : ℕ) : Type 0 where
+  pub stands : position ≡ e.position
+  pub queues : commands ≡ e.commands
+  pub costs : cost ≡ e.cost

@@ -1,0 +1,42 @@
+-- A core at work: its image, and where its run stands.
+use Rattle.std.specs.Prelude.{ℕ, ◌≡◌, ◌<◌, ◌≤◌, List, [], All, Option, length, option_map, position}
+use Rattle.std.specs.Str.{bytes_eq}
+use Rattle.ifs_base.specs.declared.ids.IfaceId.{IfaceId}
+use Rattle.ifs_image.specs.declared.parts.ImageParts.{ImageParts}
+use Rattle.ifs_machine.specs.Run.{AreFactsOf, IsCommand}
+use Rattle.ifs_machine.specs.State.{facts_of}
+use Rattle.ifs_core.specs.declared.position.Position.{Position as Standing}
+use Rattle.ifs_core.specs.Event.{Behaviour, Position, opening}
+use Rattle.ifs_core.specs.Machine.{all_unknown, periods_in}
+use Rattle.ifs_core.specs.Steps.{CoreState}
+
+-- An accepted image and the state of its run.
+pub record OpenCore : Type 0 where
+  pub image : ImageParts
+  pub state : CoreState
+
+-- A position of an image: facts and tests in its numbers, and a state of its list.
+pub record IsPositionOf (image : ImageParts) (p : Position) : Type 0 where
+  pub facts : AreFactsOf image p.facts
+  pub current : p.current.0 < length image.states
+  pub tests : length p.schedule.tests ≡ length image.tests
+
+-- A state of an image's run: a position of the image, and at most 64 commands of its table in the queue.
+pub record IsStateOf (image : ImageParts) (s : CoreState) : Type 0 where
+  pub position : IsPositionOf image s.position
+  pub queue : length s.queue ≤ 64
+  pub commands : All (IsCommand image) s.queue
+
+-- What contracts see of a position.
+abbrev pub position_of : Standing → Position
+position_of p = record { facts = facts_of p.facts; current = p.current; owed = p.owed; schedule = p.schedule }
+
+-- The state of an image that was just opened: nothing is known of its links, and the first run number is 1.
+abbrev pub opened : Behaviour → ImageParts → CoreState
+opened b image =
+    let first = opening b (all_unknown image) (periods_in image) 1 image.initial in
+    record { position = first.position; queue = first.commands; trace = [] }
+
+-- The interface of a name, compared byte by byte, where the table has it.
+abbrev pub interface_of : List (List ℕ) → List ℕ → Option IfaceId
+interface_of interfaces name = option_map (λ index. record { 0 = index }) (position (λ other. bytes_eq other name) interfaces)

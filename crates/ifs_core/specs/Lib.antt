@@ -1,0 +1,14 @@
+pub mod Event
+pub mod Steps
+pub mod Machine
+pub mod Within
+pub mod Gateway
+pub mod Opened
+pub use Rattle.ifs_base.specs.Facts
+pub use Rattle.ifs_base.specs.Spelling
+pub use Rattle.ifs_sched.specs.Timer
+pub use Rattle.ifs_sched.specs.Schedule
+pub use Rattle.circular_buffer.specs.Buffer
+pub use Rattle.ifs_machine.specs.Table
+pub use Rattle.ifs_machine.specs.Run
+pub use Rattle.ifs_machine.specs.State

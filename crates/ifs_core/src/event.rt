@@ -1,0 +1,231 @@
+//! Events: what the handlers of an image make of a position.
+
+ghost use Rattle.std.specs.Prelude.{◌≡◌, ◌+◌, ◌<◌, ◌≤◌, ◌++◌, All, None, Some, length, map, slice_get};
+ghost use Rattle.ifs_image.specs.declared.parts.StateSpec.{StateSpec};
+ghost use Rattle.ifs_machine.specs.Run.{IsCommand};
+ghost use Rattle.ifs_machine.specs.State.{facts_of, effects_of};
+ghost use Rattle.ifs_core.specs.Event.{Behaviour, AlwaysInit, AlwaysBody, Init, Body, change_of as change_by, kept_value, kept_values, entering, evaluation, IsEvent, opening_position};
+ghost use Rattle.ifs_core.specs.Machine.{IsBehaviour, all_unknown, periods_in, KeepsBudgets, followed_by};
+ghost use Rattle.ifs_core.specs.Within.{nothing_yet, HasInitRoom, RanBodies, RanInit};
+ghost use Rattle.ifs_verify.specs.Accepted.{IsAccepted};
+ghost use Rattle.ifs_core.specs.Gateway.{IsPositionOf, position_of};
+
+use crate::position::Position;
+use arrayvec::ArrayVec;
+use ifs_base::{CommandId, LinkState, StateId};
+use ifs_image::{ImageParts, StateSpec};
+use ifs_machine::{Effects, Facts, run_handler};
+use ifs_sched::Schedule;
+use ifs_verify::Verified;
+
+/// What an event did: the commands that it queued, in order, and how many instructions it executed.
+#[derive(Debug, Drop)]
+pub struct Deed {
+    pub commands: ArrayVec<CommandId, 64>,
+    pub cost: u32,
+}
+
+/// A state of the image.
+pub fn state_of(parts: &ImageParts, state: StateId) -> &StateSpec
+    requires { state.0 < length parts.now.states }
+    ensures { slice_get parts.now.states state.0 ≡ Some result.now }
+{
+    &parts.states.as_slice()[usize::from(state.0)]
+}
+
+/// Runs the always body and then the current state's, and answers what both cost.
+fn run_bodies(verified: &Verified, position: &Position, effects: &mut Effects) -> u32
+    requires position { IsPositionOf verified.now (position_of position.now) }
+    requires first { effects_of effects.old ≡ nothing_yet }
+    ensures exact { (b : Behaviour) → IsBehaviour verified.now b
+        → let always = b.answer AlwaysBody (facts_of position.now.facts) in
+        let own = b.answer (Body position.now.current.0) (facts_of position.now.facts) in
+        (effects_of effects.new ≡ followed_by (followed_by nothing_yet always) own) × (result ≡ always.cost + own.cost) }
+    ensures within { RanBodies verified.now position.now.current.0 (effects_of effects.new) result }
+    ensures accepted { IsAccepted verified.now }
+    ensures limit { verified.now.budgets.cost ≤ 300000 }
+{
+    let parts = verified.image().parts();
+    let own = state_of(parts, position.current);
+    let always = run_handler(verified, parts.always.body, &position.facts, effects);
+    let body = run_handler(verified, own.handlers.body, &position.facts, effects);
+    always + body
+}
+
+/// The state that a wish leads to, where it names another than the current one.
+fn change_of(current: StateId, wish: Option<StateId>) -> Option<StateId>
+    ensures { result ≡ change_by current wish }
+{
+    let next = wish?;
+    if next.0 == current.0 {
+        None
+    } else {
+        Some(next)
+    }
+}
+
+/// The value of a test after an entry.
+fn value_after_entry(value: Option<bool>, always: u64, test: usize) -> Option<bool>
+    requires { test < 64 }
+    ensures { result ≡ kept_value always test value }
+{
+    if always >> test & 1 == 1 { value } else { None }
+}
+
+/// The values of tests after an entry: those outside the always set are lost.
+fn values_after_entry(values: &[Option<bool>], always: u64) -> ArrayVec<Option<bool>, 64>
+    requires { length values.now ≤ 64 }
+    ensures { result.items ≡ kept_values always values.now }
+{
+    let mut kept = ArrayVec::new();
+    for (test, value) in values.iter().enumerate() {
+        kept.push(value_after_entry(*value, always, test));
+    }
+    kept
+}
+
+/// Enters a state at the present moment: its tests are reset, and an evaluation is owed.
+fn enter(verified: &Verified, position: &mut Position, next: StateId)
+    requires position { IsPositionOf verified.now (position_of position.old) }
+    requires next { next.0 < length verified.now.states }
+    ensures exact { (b : Behaviour) → IsBehaviour verified.now b → position_of position.new ≡ entering b next (position_of position.old) }
+    ensures position { IsPositionOf verified.now (position_of position.new) }
+    ensures current { position.new.current ≡ next }
+    ensures moment { position.new.schedule.present ≡ position.old.schedule.present }
+{
+    let parts = verified.image().parts();
+    let own = state_of(parts, next);
+    position.facts.tests = values_after_entry(position.facts.tests.as_slice(), parts.always.mask);
+    let now = position.schedule.now();
+    position
+        .schedule
+        .enter(parts.always.mask, own.handlers.mask, now);
+    position.current = next;
+    position.owed = true;
+}
+
+/// Runs the init of the state that was entered.
+fn run_init(verified: &Verified, position: &Position, effects: &mut Effects) -> u32
+    requires position { IsPositionOf verified.now (position_of position.now) }
+    requires room { HasInitRoom verified.now position.now.current.0 (effects_of effects.old) }
+    ensures exact { (b : Behaviour) → IsBehaviour verified.now b
+        → let own = b.answer (Init position.now.current.0) (facts_of position.now.facts) in
+        (effects_of effects.new ≡ followed_by (effects_of effects.old) own) × (result ≡ own.cost) }
+    ensures within { RanInit verified.now position.now.current.0 (effects_of effects.old) (effects_of effects.new) result }
+{
+    let parts = verified.image().parts();
+    let own = state_of(parts, position.current);
+    run_handler(verified, own.handlers.init, &position.facts, effects)
+}
+
+/// Runs the always body and the current state's, and enters the state that the last wish of both
+/// leads to, whose init follows.
+pub fn evaluate(verified: &Verified, position: &mut Position) -> Deed
+    requires { IsPositionOf verified.now (position_of position.old) }
+    ensures exact { (b : Behaviour) → IsBehaviour verified.now b
+        → IsEvent (evaluation b (position_of position.old)) (position_of position.new) result.commands.items result.cost }
+    ensures position { IsPositionOf verified.now (position_of position.new) }
+    ensures moment { position.new.schedule.present ≡ position.old.schedule.present }
+    // What it queues and costs is within the stated budgets.
+    ensures budgets { KeepsBudgets verified.now result.commands.items result.cost }
+{
+    let mut effects = Effects {
+        queued: ArrayVec::new(),
+        want: None,
+    };
+    position.owed = false;
+    let cost = run_bodies(verified, position, &mut effects);
+    match change_of(position.current, effects.want) {
+        None => Deed {
+            commands: effects.queued,
+            cost,
+        },
+        Some(next) => {
+            enter(verified, position, next);
+            let init = run_init(verified, position, &mut effects);
+            Deed {
+                commands: effects.queued,
+                cost: cost + init,
+            }
+        }
+    }
+}
+
+/// Nothing is known of the links of an image's interfaces.
+fn unknown_links(parts: &ImageParts) -> ArrayVec<LinkState, 64>
+    requires { length parts.now.interfaces ≤ 64 }
+    ensures { result.items ≡ all_unknown parts.now }
+{
+    let mut links = ArrayVec::new();
+    for _interface in parts.interfaces.as_slice() {
+        links.push(LinkState::Unknown);
+    }
+    links
+}
+
+/// No test of an image has a value.
+fn no_values(parts: &ImageParts) -> ArrayVec<Option<bool>, 64>
+    requires { length parts.now.tests ≤ 64 }
+    ensures { result.items ≡ map (λ _. None) (periods_in parts.now) }
+{
+    let mut values = ArrayVec::new();
+    for _test in parts.tests.as_slice() {
+        values.push(None);
+    }
+    values
+}
+
+/// The periods of an image's tests, in seconds.
+fn periods_of(parts: &ImageParts) -> ArrayVec<u32, 64>
+    requires { length parts.now.tests ≤ 64 }
+    ensures { result.items ≡ periods_in parts.now }
+{
+    let mut periods = ArrayVec::new();
+    for test in parts.tests.as_slice() {
+        periods.push(test.period);
+    }
+    periods
+}
+
+/// The position before the inits: the initial state is entered at moment 0.
+pub fn open_position(verified: &Verified) -> Position
+    ensures exact { (b : Behaviour) → IsBehaviour verified.now b → position_of result
+        ≡ opening_position b (all_unknown verified.now) (periods_in verified.now) 1 verified.now.initial }
+    ensures position { IsPositionOf verified.now (position_of result) }
+    ensures current { result.current ≡ verified.now.initial }
+{
+    let parts = verified.image().parts();
+    let own = state_of(parts, parts.initial);
+    let mut schedule = Schedule::new(periods_of(parts), 1);
+    schedule.enter(parts.always.mask, own.handlers.mask, 0);
+    Position {
+        facts: Facts {
+            links: unknown_links(parts),
+            tests: no_values(parts),
+        },
+        current: parts.initial,
+        owed: true,
+        schedule,
+    }
+}
+
+/// Runs the always init and the initial state's; their wishes are dropped.
+pub fn run_inits(verified: &Verified, position: &Position) -> ArrayVec<CommandId, 64>
+    requires position { IsPositionOf verified.now (position_of position.now) }
+    requires initial { position.now.current ≡ verified.now.initial }
+    ensures exact { (b : Behaviour) → IsBehaviour verified.now b
+        → let always = b.answer AlwaysInit (facts_of position.now.facts) in
+        let own = b.answer (Init position.now.current.0) (facts_of position.now.facts) in
+        result.items ≡ always.commands ++ own.commands }
+    ensures known { All (IsCommand verified.now) result.items }
+{
+    let mut effects = Effects {
+        queued: ArrayVec::new(),
+        want: None,
+    };
+    let parts = verified.image().parts();
+    let own = state_of(parts, position.current);
+    let _always = run_handler(verified, parts.always.init, &position.facts, &mut effects);
+    let _own = run_handler(verified, own.handlers.init, &position.facts, &mut effects);
+    effects.queued
+}

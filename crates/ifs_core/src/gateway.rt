@@ -1,0 +1,72 @@
+//! A core and its opening.
+
+use crate::event::{open_position, run_inits};
+use crate::position::Position;
+use crate::step::Record;
+use arrayvec::ArrayVec;
+use circular_buffer::HeapCircularBuffer;
+use ifs_base::CommandId;
+use ifs_verify::Verified;
+use std::alloc::Global;
+use std::marker::Model;
+
+/// How many records the trace keeps.
+pub const TRACE: usize = 256;
+
+/// A gateway at work: an accepted image, and where its run stands.
+#[derive(Drop)]
+pub struct Core {
+    pub(crate) verified: Verified,
+    pub(crate) position: Position,
+    pub(crate) queue: ArrayVec<CommandId, 64>,
+    pub(crate) trace: HeapCircularBuffer<Record>,
+}
+
+impl Model for Core {
+    ghost use Rattle.ifs_core.specs.Gateway.{OpenCore};
+
+    ghost Value = { OpenCore };
+
+    ghost use Rattle.ifs_core.specs.Opened.{core_of, IsConsistent};
+
+    ghost view = { core_of };
+
+    ghost invariant = { IsConsistent };
+}
+
+/// No memory was found for the trace. The image is handed back.
+#[derive(Debug, Drop)]
+pub struct OpenFault {
+    pub verified: Verified,
+}
+
+impl Core {
+    ghost use Rattle.std.specs.Prelude.{◌≡◌, IfOk, IfErr};
+    ghost use Rattle.ifs_core.specs.Event.{Behaviour};
+    ghost use Rattle.ifs_core.specs.Machine.{IsBehaviour};
+    ghost use Rattle.ifs_core.specs.Gateway.{opened};
+
+    /// Opens an image at moment 0: all links are unknown and no test has a value. The always init
+    /// and the initial state's init run and their commands are queued; their wishes are dropped.
+    ///
+    /// Only the trace takes memory; where none is found, the image comes back.
+    pub fn open(alloc: Global, verified: Verified) -> Result<Core, OpenFault>
+        ensures image { IfOk result (λ core. core.image ≡ verified) }
+        ensures state { IfOk result (λ core. (b : Behaviour) → IsBehaviour verified b → core.state ≡ opened b verified) }
+        ensures fault { IfErr result (λ fault. fault.verified ≡ verified) }
+    {
+        match HeapCircularBuffer::with_capacity(alloc, TRACE) {
+            Err(_) => Err(OpenFault { verified }),
+            Ok(trace) => {
+                let position = open_position(&verified);
+                let queue = run_inits(&verified, &position);
+                Ok(Core {
+                    verified,
+                    position,
+                    queue,
+                    trace,
+                })
+            }
+        }
+    }
+}

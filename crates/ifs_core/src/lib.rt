@@ -1,0 +1,18 @@
+//! The core: steps in, replies out.
+//!
+//! A core keeps what is known of links and tests, the current state, whether an evaluation is owed,
+//! the schedule of tests, the queue of commands and a trace. A step is a change of a link, the end
+//! of a test's run, a tick, or the taking of a command. An evaluation runs the always body and then
+//! the current state's body; the last wish of both leads to another state, whose init then runs in
+//! the same event.
+#![tactic(auto)]
+
+mod event;
+mod gateway;
+mod position;
+mod readers;
+mod step;
+mod stepping;
+
+pub use gateway::{Core, OpenFault, TRACE};
+pub use step::{Answer, Record, Reply, Step};

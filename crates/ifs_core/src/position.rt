@@ -1,0 +1,14 @@
+//! Where a core stands.
+
+use ifs_base::StateId;
+use ifs_machine::Facts;
+use ifs_sched::Schedule;
+
+/// What a core knows, the current state, whether an evaluation is owed, and the schedule of tests.
+#[derive(Debug, Drop)]
+pub struct Position {
+    pub facts: Facts,
+    pub current: StateId,
+    pub owed: bool,
+    pub schedule: Schedule,
+}

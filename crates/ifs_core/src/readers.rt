@@ -1,0 +1,127 @@
+//! What a core says of itself.
+
+ghost use Rattle.std.specs.Prelude.{◌≡◌, ◌<◌, IfSome, length, position};
+ghost use Rattle.std.specs.Str.{bytes_eq};
+
+use crate::gateway::Core;
+use crate::step::Record;
+use ifs_base::{CommandId, IfaceId, LinkState, StateId, TestId, Text};
+
+impl Core {
+    ghost use Rattle.std.specs.Prelude.{◌≡◌, length, option_map, slice_get};
+    ghost use Rattle.ifs_sched.specs.Schedule.{running_count};
+    ghost use Rattle.ifs_core.specs.Gateway.{interface_of};
+
+    /// The current state.
+    pub fn state(&self) -> StateId
+        ensures { result ≡ self.now.state.position.current }
+    {
+        self.position.current
+    }
+
+    /// Whether the next tick evaluates.
+    pub fn owed(&self) -> bool
+        ensures { result ≡ self.now.state.position.owed }
+    {
+        self.position.owed
+    }
+
+    /// How many commands wait in the queue, from 0 to 64.
+    pub fn queue_len(&self) -> usize
+        ensures { result ≡ length self.now.state.queue }
+    {
+        self.queue.len()
+    }
+
+    /// How many tests run, from 0 to 64.
+    pub fn running(&self) -> u16
+        ensures { result ≡ running_count self.now.state.position.schedule }
+    {
+        self.position.schedule.running()
+    }
+
+    /// The present moment, in seconds: that of the last tick.
+    pub fn now(&self) -> u64
+        ensures { result ≡ self.now.state.position.schedule.present }
+    {
+        self.position.schedule.now()
+    }
+
+    /// The link state of an interface; `None` where it is not in the table.
+    pub fn link(&self, interface: IfaceId) -> Option<LinkState>
+        ensures { result ≡ slice_get self.now.state.position.facts.links interface.0 }
+    {
+        self.position
+            .facts
+            .links
+            .get(usize::from(interface.0))
+            .copied()
+    }
+
+    /// The value of a test, where it has one; `None` where it is not in the table.
+    pub fn test_value(&self, test: TestId) -> Option<Option<bool>>
+        ensures { result ≡ slice_get self.now.state.position.facts.tests test.0 }
+    {
+        self.position.facts.tests.get(usize::from(test.0)).copied()
+    }
+
+    /// The name of a state; `None` where it is not in the table.
+    pub fn state_name(&self, state: StateId) -> Option<&str>
+        ensures { option_map (λ name. name.now) result ≡ option_map (λ s. s.name) (slice_get self.now.image.states state.0) }
+    {
+        let states = &self.verified.image().parts().states;
+        let state = states.as_slice().get(usize::from(state.0))?;
+        Some(state.name.as_str())
+    }
+
+    /// The text of a command; `None` where it is not in the table.
+    pub fn command_text(&self, command: CommandId) -> Option<&str>
+        ensures { option_map (λ text. text.now) result ≡ slice_get self.now.image.commands command.0 }
+    {
+        let commands = &self.verified.image().parts().commands;
+        let text = commands.as_slice().get(usize::from(command.0))?;
+        Some(text.as_str())
+    }
+
+    /// The command of a test; `None` where it is not in the table.
+    pub fn test_text(&self, test: TestId) -> Option<&str>
+        ensures { option_map (λ text. text.now) result ≡ option_map (λ t. t.text) (slice_get self.now.image.tests test.0) }
+    {
+        let tests = &self.verified.image().parts().tests;
+        let test = tests.as_slice().get(usize::from(test.0))?;
+        Some(test.text.as_str())
+    }
+
+    /// The interface of a name, compared byte by byte; `None` where it is not in the table.
+    pub fn iface_of(&self, name: &[u8]) -> Option<IfaceId>
+        ensures { result ≡ interface_of self.now.image.interfaces name.now }
+    {
+        let interfaces = &self.verified.image().parts().interfaces;
+        match index_of(interfaces.as_slice(), name) {
+            Some(index) => Some(IfaceId(index as u16)),
+            None => None,
+        }
+    }
+
+    /// How many records the trace has, from 0 to 256.
+    pub fn trace_len(&self) -> usize
+        ensures { result ≡ length self.now.state.trace }
+    {
+        self.trace.len()
+    }
+
+    /// A record of the trace, the oldest at 0; `None` where there is none.
+    pub fn trace_at(&self, index: usize) -> Option<Record>
+        ensures { result ≡ slice_get self.now.state.trace index }
+    {
+        self.trace.get(index).copied()
+    }
+}
+
+/// The index of the first name that is this one, byte by byte.
+fn index_of(names: &[Text], name: &[u8]) -> Option<usize>
+    ensures found { result ≡ position (λ other. bytes_eq other name.now) names.now }
+    ensures within { IfSome result (λ index. index < length names.now) }
+{
+    names.iter().position(|other| other.as_bytes() == name)
+}

@@ -1,0 +1,439 @@
+-- An image that is read is the one that the bytes spell, and what spells an image is read.
+use Rattle.std.proofs.Common.{◌≡◌, ◌≢◌, ℕ, zero, ◌+◌, ◌-◌, ◌^◌, ◌<◌, ◌≤◌, Bool, true, false, cond, eqb, ltb, List, [], ◌∷◌, ◌++◌, map, length, get_or, take, Result, Ok, Err, refl, sym, ap, subst, ◌∙◌, append_assoc, add_assoc, arith, All}
+use Rattle.std.specs.Prelude.{◌==◌, codes, IsUtf8, IfOk}
+use Rattle.std.specs.Int.{w16, w32, w64, to_be_bytes}
+use Rattle.std.specs.List.{flat_map}
+use Rattle.std.specs.Str.{bytes_eq}
+use Rattle.std.proofs.lemmas.Bool.{eqb-true, false_from_ne_true}
+use Rattle.std.proofs.lemmas.List.{append-nil, nil_from_length, length-append, map_push, take_at}
+use Rattle.std.proofs.Math.Seq.{get_or-append_seam}
+use Rattle.std.proofs.lemmas.List.Elements.{All-nil, All-cons, All-head, All-tail, All-weaker}
+use Rattle.std.proofs.lemmas.List.Sums.{sum_by-append}
+use Rattle.std.proofs.lemmas.Slice.Eq.{bytes_eq-Decides}
+use Rattle.ifs_base.specs.Spelling.{HasSpelling}
+use Rattle.ifs_image.specs.declared.fault.ImageFault.{ImageFault}
+use Rattle.ifs_image.specs.declared.fault.ImageFault.TheVariants.{Memory, WrongMagic, WrongVersion, Trailing}
+use Rattle.ifs_image.specs.declared.parts.Budgets.{Budgets}
+use Rattle.ifs_image.specs.declared.parts.Counts.{Counts}
+use Rattle.ifs_image.specs.declared.parts.Handlers.{Handlers}
+use Rattle.ifs_image.specs.declared.parts.TestSpec.{TestSpec}
+use Rattle.ifs_image.specs.declared.parts.StateSpec.{StateSpec}
+use Rattle.ifs_image.specs.declared.parts.Routine.{Routine}
+use Rattle.ifs_image.specs.declared.parts.ImageParts.{ImageParts}
+use Rattle.ifs_image.specs.Limits.{BudgetsFit, CountsFit, TextFits, TestFits, RoutineFits, AreDistinct, NamesFit, StatesFit, RoutinesFit, HandlersInRange, StateInRange, names_of, instructions, Fits, InRange}
+use Rattle.ifs_image.specs.Spelling.{front_bytes, budgets_bytes, counts_bytes, handlers_bytes, text_bytes, test_bytes, state_bytes, routine_bytes, counts, image_bytes, Spells}
+use Rattle.ifs_image.specs.Reading.{Place, place, Read, ◌>>=◌, bytes_at, byte_at, number_at, number_within, magic_at, version_at, budgets_at, counts_at, handlers_at, text_at, stands_in, name_at, test_at, state_at, items_at, routine_at, room_after, parts_at, image_of}
+use Rattle.ifs_image.specs.Answers.{Answers}
+use Rattle.ifs_image.proofs.Names.{AreDistinct-push, distinct_broken}
+use Rattle.ifs_image.proofs.FieldLaws.{IsBytes, bind_ok, again_bind, passed_ok, ok_is, Took, Took-then, IsField, bytes_again, bytes_taken, wide16, number_field, within16, within32, byte_again, byte_taken, AllAfter, table_field}
+use Rattle.ifs_image.proofs.PartLaws.{TextGood, text_field, name_field, handlers_field, TestGood, test_field, StateGood, state_field, RoutineGood, routine_field}
+
+-- ---- magic, version, budgets, counts
+
+magic_again : (at : ℕ) (rest : List ℕ) → magic_at (place at (codes "IFSV" ++ rest)) ≡ Ok (tt, place (at + 4) rest)
+unfolding magic_at
+magic_again at rest = again_bind _ _ _ _ (bytes_again (codes "IFSV") rest at 4 refl) refl
+
+magic_taken : (p : Place) (y : Unit {0} × Place) → IsBytes p.left → magic_at p ≡ Ok y → Took p.left (codes "IFSV") y.1.left
+unfolding magic_at
+magic_taken p y fits e =
+    let b = bind_ok (bytes_at 4 p) (λ bytes. cond (bytes_eq bytes.0 (codes "IFSV")) (Ok (tt, bytes.1)) (Err (WrongMagic p.at))) y e in
+    let t = bytes_taken 4 p b.0 fits b.1 in
+    let g = passed_ok (bytes_eq b.0.0 (codes "IFSV")) (WrongMagic p.at) (tt, b.0.1) y b.2 in
+    let same : b.0.0 ≡ codes "IFSV" = (bytes_eq-Decides b.0.0 (codes "IFSV")).0 g.0 in
+    subst (λ (z : Unit {0} × Place). Took p.left (codes "IFSV") z.1.left) g.1 (subst (λ (text : List ℕ). Took p.left text b.0.1.left) same t.0)
+
+version_again : (at : ℕ) (rest : List ℕ) → version_at (place at (1 ∷ rest)) ≡ Ok (tt, place (at + 1) rest)
+unfolding version_at
+version_again at rest = again_bind _ _ _ _ (byte_again 1 at rest) refl
+
+version_taken : (p : Place) (y : Unit {0} × Place) → IsBytes p.left → version_at p ≡ Ok y → Took p.left (1 ∷ []) y.1.left
+unfolding version_at
+version_taken p y fits e =
+    let b = bind_ok (byte_at p) (λ version. cond (version.0 == 1) (Ok (tt, version.1)) (Err (WrongVersion p.at))) y e in
+    let g = passed_ok (b.0.0 == 1) (WrongVersion p.at) (tt, b.0.1) y b.2 in
+    let one : b.0.0 ≡ 1 = eqb-true _ _ g.0 in
+    subst (λ (z : Unit {0} × Place). Took p.left (1 ∷ []) z.1.left) g.1 (subst (λ (n : ℕ). Took p.left (n ∷ []) b.0.1.left) one (byte_taken p b.0 fits b.1))
+
+budgets_field : IsField budgets_at budgets_bytes BudgetsFit
+unfolding budgets_at budgets_bytes
+budgets_field = record {
+  again = λ b at rest fits.
+      let b1 = (within16 0 32 (omega arith)).again b.stack at (to_be_bytes w16 b.frames ++ (to_be_bytes w32 b.cost ++ (to_be_bytes w16 b.commands ++ rest))) (omega arith, fits.stack) in
+      let b2 = (within16 0 32 (omega arith)).again b.frames (at + 2) (to_be_bytes w32 b.cost ++ (to_be_bytes w16 b.commands ++ rest)) (omega arith, fits.frames) in
+      let b3 = (within32 0 300000 (omega arith)).again b.cost (at + 2 + 2) (to_be_bytes w16 b.commands ++ rest) (omega arith, fits.cost) in
+      let b4 = (within16 0 64 (omega arith)).again b.commands (at + 2 + 2 + 4) rest (omega arith, fits.commands) in
+      again_bind _ _ _ _ b1 (again_bind _ _ _ _ b2 (again_bind _ _ _ _ b3 (again_bind _ _ _ _ b4 (ap (λ (k : ℕ). Ok (b, place k rest)) (omega arith)))));
+  taken = λ p y fits e.
+      let b_stack = bind_ok (number_within w16 0 32 p) (λ stack. number_within w16 0 32 stack.1 >>= λ frames. number_within w32 0 300000 frames.1 >>= λ cost. number_within w16 0 64 cost.1 >>= λ commands. Ok (record { stack = stack.0; frames = frames.0; cost = cost.0; commands = commands.0 }, commands.1)) y e in
+      let b_frames = bind_ok (number_within w16 0 32 b_stack.0.1) (λ frames. number_within w32 0 300000 frames.1 >>= λ cost. number_within w16 0 64 cost.1 >>= λ commands. Ok (record { stack = b_stack.0.0; frames = frames.0; cost = cost.0; commands = commands.0 }, commands.1)) y b_stack.2 in
+      let b_cost = bind_ok (number_within w32 0 300000 b_frames.0.1) (λ cost. number_within w16 0 64 cost.1 >>= λ commands. Ok (record { stack = b_stack.0.0; frames = b_frames.0.0; cost = cost.0; commands = commands.0 }, commands.1)) y b_frames.2 in
+      let b_commands = bind_ok (number_within w16 0 64 b_cost.0.1) (λ commands. Ok (record { stack = b_stack.0.0; frames = b_frames.0.0; cost = b_cost.0.0; commands = commands.0 }, commands.1)) y b_cost.2 in
+      let t1 = (within16 0 32 (omega arith)).taken p b_stack.0 fits b_stack.1 in
+      let t2 = (within16 0 32 (omega arith)).taken b_stack.0.1 b_frames.0 t1.0.rest_fits b_frames.1 in
+      let t3 = (within32 0 300000 (omega arith)).taken b_frames.0.1 b_cost.0 t2.0.rest_fits b_cost.1 in
+      let t4 = (within16 0 64 (omega arith)).taken b_cost.0.1 b_commands.0 t3.0.rest_fits b_commands.1 in
+      let made : Budgets × Place = (record { stack = b_stack.0.0; frames = b_frames.0.0; cost = b_cost.0.0; commands = b_commands.0.0 }, b_commands.0.1) in
+      subst (λ (z : Budgets × Place). Took p.left (budgets_bytes z.0) z.1.left × BudgetsFit z.0) (ok_is made y b_commands.2)
+      (Took-then (Took-then (Took-then t1.0 t2.0) t3.0) t4.0, record { stack = t1.1.1; frames = t2.1.1; cost = t3.1.1; commands = t4.1.1 });
+}
+
+-- counts within their limits
+pub record CountsGood (c : Counts) : Type 0 where
+  pub interfaces : c.interfaces ≤ 64
+  pub tests : c.tests ≤ 64
+  pub commands : c.commands ≤ 1024
+  pub some_state : 1 ≤ c.states
+  pub states : c.states ≤ 256
+  pub routines : c.routines ≤ 1024
+
+counts_field : IsField counts_at counts_bytes CountsGood
+unfolding counts_at counts_bytes
+counts_field = record {
+  again = λ c at rest fits.
+      let b1 = (within16 0 64 (omega arith)).again c.interfaces at (to_be_bytes w16 c.tests ++ (to_be_bytes w16 c.commands ++ (to_be_bytes w16 c.states ++ (to_be_bytes w16 c.routines ++ rest)))) (omega arith, fits.interfaces) in
+      let b2 = (within16 0 64 (omega arith)).again c.tests (at + 2) (to_be_bytes w16 c.commands ++ (to_be_bytes w16 c.states ++ (to_be_bytes w16 c.routines ++ rest))) (omega arith, fits.tests) in
+      let b3 = (within16 0 1024 (omega arith)).again c.commands (at + 2 + 2) (to_be_bytes w16 c.states ++ (to_be_bytes w16 c.routines ++ rest)) (omega arith, fits.commands) in
+      let b4 = (within16 1 256 (omega arith)).again c.states (at + 2 + 2 + 2) (to_be_bytes w16 c.routines ++ rest) (fits.some_state, fits.states) in
+      let b5 = (within16 0 1024 (omega arith)).again c.routines (at + 2 + 2 + 2 + 2) rest (omega arith, fits.routines) in
+      again_bind _ _ _ _ b1 (again_bind _ _ _ _ b2 (again_bind _ _ _ _ b3 (again_bind _ _ _ _ b4 (again_bind _ _ _ _ b5 (ap (λ (k : ℕ). Ok (c, place k rest)) (omega arith))))));
+  taken = λ p y fits e.
+      let b_interfaces = bind_ok (number_within w16 0 64 p) (λ interfaces. number_within w16 0 64 interfaces.1 >>= λ tests. number_within w16 0 1024 tests.1 >>= λ commands. number_within w16 1 256 commands.1 >>= λ states. number_within w16 0 1024 states.1 >>= λ routines. Ok (record { interfaces = interfaces.0; tests = tests.0; commands = commands.0; states = states.0; routines = routines.0 }, routines.1)) y e in
+      let b_tests = bind_ok (number_within w16 0 64 b_interfaces.0.1) (λ tests. number_within w16 0 1024 tests.1 >>= λ commands. number_within w16 1 256 commands.1 >>= λ states. number_within w16 0 1024 states.1 >>= λ routines. Ok (record { interfaces = b_interfaces.0.0; tests = tests.0; commands = commands.0; states = states.0; routines = routines.0 }, routines.1)) y b_interfaces.2 in
+      let b_commands = bind_ok (number_within w16 0 1024 b_tests.0.1) (λ commands. number_within w16 1 256 commands.1 >>= λ states. number_within w16 0 1024 states.1 >>= λ routines. Ok (record { interfaces = b_interfaces.0.0; tests = b_tests.0.0; commands = commands.0; states = states.0; routines = routines.0 }, routines.1)) y b_tests.2 in
+      let b_states = bind_ok (number_within w16 1 256 b_commands.0.1) (λ states. number_within w16 0 1024 states.1 >>= λ routines. Ok (record { interfaces = b_interfaces.0.0; tests = b_tests.0.0; commands = b_commands.0.0; states = states.0; routines = routines.0 }, routines.1)) y b_commands.2 in
+      let b_routines = bind_ok (number_within w16 0 1024 b_states.0.1) (λ routines. Ok (record { interfaces = b_interfaces.0.0; tests = b_tests.0.0; commands = b_commands.0.0; states = b_states.0.0; routines = routines.0 }, routines.1)) y b_states.2 in
+      let t1 = (within16 0 64 (omega arith)).taken p b_interfaces.0 fits b_interfaces.1 in
+      let t2 = (within16 0 64 (omega arith)).taken b_interfaces.0.1 b_tests.0 t1.0.rest_fits b_tests.1 in
+      let t3 = (within16 0 1024 (omega arith)).taken b_tests.0.1 b_commands.0 t2.0.rest_fits b_commands.1 in
+      let t4 = (within16 1 256 (omega arith)).taken b_commands.0.1 b_states.0 t3.0.rest_fits b_states.1 in
+      let t5 = (within16 0 1024 (omega arith)).taken b_states.0.1 b_routines.0 t4.0.rest_fits b_routines.1 in
+      let made : Counts × Place = (record { interfaces = b_interfaces.0.0; tests = b_tests.0.0; commands = b_commands.0.0; states = b_states.0.0; routines = b_routines.0.0 }, b_routines.0.1) in
+      subst (λ (z : Counts × Place). Took p.left (counts_bytes z.0) z.1.left × CountsGood z.0) (ok_is made y b_routines.2)
+      (Took-then (Took-then (Took-then (Took-then t1.0 t2.0) t3.0) t4.0) t5.0, record { interfaces = t1.1.1; tests = t2.1.1; commands = t3.1.1; some_state = t4.1.0; states = t4.1.1; routines = t5.1.1 });
+}
+
+-- ---- tables: what each entry has, and what holds after those before it
+
+pub AllAfter-weaker : {X : Type 0} (G H : List X → X → Type 0) → ((before : List X) (x : X) → G before x → H before x) → (xs before : List X) → AllAfter G before xs → AllAfter H before xs
+AllAfter-weaker {X} G H f [] before all = tt
+AllAfter-weaker {X} G H f (x ∷ xs) before all = (f before x all.0, AllAfter-weaker G H f xs (before ++ x ∷ []) all.1)
+
+pub all_after : {X : Type 0} (G : List X → X → Type 0) (P : X → Type 0) → ((before : List X) (x : X) → G before x → P x) → (xs before : List X) → AllAfter G before xs → All P xs
+all_after {X} G P f [] before all = All-nil P
+all_after {X} G P f (x ∷ xs) before all = All-cons P x xs (f before x all.0) (all_after G P f xs (before ++ x ∷ []) all.1)
+
+-- what each entry has, and what it has after those before it
+pub after_all : {X : Type 0} (H : List X → X → Type 0) (P : X → Type 0) (G : List X → X → Type 0) → ((before : List X) (x : X) → P x → H before x → G before x) → (xs before : List X) → All P xs → AllAfter H before xs → AllAfter G before xs
+after_all {X} H P G f [] before each all = tt
+after_all {X} H P G f (x ∷ xs) before each all = (f before x (All-head P x xs each) all.0, after_all H P G f xs (before ++ x ∷ []) (All-tail P x xs each) all.1)
+
+pub each_after : {X : Type 0} (P : X → Type 0) (xs before : List X) → All P xs → AllAfter (λ _. P) before xs
+each_after {X} P [] before each = tt
+each_after {X} P (x ∷ xs) before each = (All-head P x xs each, each_after P xs (before ++ x ∷ []) (All-tail P x xs each))
+
+All-both : {X : Type 0} (P Q : X → Type 0) (xs : List X) → All P xs → All Q xs → All (λ x. P x × Q x) xs
+All-both P Q xs p q k d lt = (p k d lt, q k d lt)
+
+-- a name does not stand before
+abbrev pub IsFirst : List (List ℕ) → List ℕ → Type 0
+IsFirst before name = stands_in name before ≡ false
+
+names_distinct : (xs before : List (List ℕ)) → AreDistinct before → AllAfter IsFirst before xs → AreDistinct (before ++ xs)
+names_distinct [] before apart all = subst AreDistinct (sym (append-nil before)) apart
+names_distinct (x ∷ xs) before apart all =
+    subst AreDistinct (append_assoc before (x ∷ []) xs) (names_distinct xs (before ++ x ∷ []) (AreDistinct-push before x apart all.0) all.1)
+
+names_first : (xs before : List (List ℕ)) → AreDistinct (before ++ xs) → AllAfter IsFirst before xs
+names_first [] before apart = tt
+names_first (x ∷ xs) before apart =
+    let names = before ++ x ∷ xs in
+    let n = length before in
+    let lt : n < length names = omega (arith, length-append before (x ∷ xs)) in
+    let at : get_or names n x ≡ x = get_or-append_seam before x xs x in
+    let front : take n names ≡ before = take_at before (x ∷ xs) n refl in (
+      false_from_ne_true (stands_in x before) (λ e. distinct_broken names n x lt (rw (at, front) e) apart),
+      names_first xs (before ++ x ∷ []) (subst AreDistinct (sym (append_assoc before (x ∷ []) xs)) apart),
+    )
+
+-- the same of states
+abbrev pub IsFirstState : List StateSpec → StateSpec → Type 0
+IsFirstState before s = IsFirst (names_of before) s.name
+
+names_of_states : (xs before : List StateSpec) → AllAfter IsFirstState before xs → AllAfter IsFirst (names_of before) (names_of xs)
+names_of_states [] before all = tt
+names_of_states (x ∷ xs) before all = (all.0, subst (λ (b : List (List ℕ)). AllAfter IsFirst b (names_of xs)) (map_push (λ (s : StateSpec). s.name) before x) (names_of_states xs (before ++ x ∷ []) all.1))
+
+states_of_names : (xs before : List StateSpec) → AllAfter IsFirst (names_of before) (names_of xs) → AllAfter IsFirstState before xs
+states_of_names [] before all = tt
+states_of_names (x ∷ xs) before all = (all.0, states_of_names xs (before ++ x ∷ []) (subst (λ (b : List (List ℕ)). AllAfter IsFirst b (names_of xs)) (sym (map_push (λ (s : StateSpec). s.name) before x)) all.1))
+
+-- the room for routines
+instructions-append : (xs ys : List Routine) → instructions (xs ++ ys) ≡ instructions xs + instructions ys
+instructions-append xs ys = sum_by-append (λ (r : Routine). length r.code) xs ys
+
+instructions-cons : (x : Routine) (xs : List Routine) → instructions (x ∷ xs) ≡ length x.code + instructions xs
+instructions-cons x xs = omega (arith, instructions-append (x ∷ []) xs)
+
+abbrev pub HasRoom : List Routine → Routine → Type 0
+HasRoom before r = length r.code ≤ room_after before
+
+routines_within : (xs before : List Routine) → instructions before ≤ 8192 → AllAfter HasRoom before xs → instructions (before ++ xs) ≤ 8192
+routines_within [] before few all = subst (λ (b : List Routine). instructions b ≤ 8192) (sym (append-nil before)) few
+routines_within (x ∷ xs) before few all =
+    let here : length x.code ≤ 8192 - instructions before = all.0 in
+    let more : instructions (before ++ x ∷ []) ≤ 8192 = omega (arith, instructions-append before (x ∷ []), instructions-cons x []) in
+    subst (λ (b : List Routine). instructions b ≤ 8192) (append_assoc before (x ∷ []) xs) (routines_within xs (before ++ x ∷ []) more all.1)
+
+routines_room : (xs before : List Routine) → instructions (before ++ xs) ≤ 8192 → AllAfter HasRoom before xs
+routines_room [] before few = tt
+routines_room (x ∷ xs) before few = (
+  omega (arith, instructions-append before (x ∷ xs), instructions-cons x xs),
+  routines_room xs (before ++ x ∷ []) (subst (λ (b : List Routine). instructions b ≤ 8192) (sym (append_assoc before (x ∷ []) xs)) few),
+)
+
+-- ---- the five tables
+
+interfaces_table : (n : ℕ) → IsField (items_at name_at n []) (flat_map text_bytes) (λ xs. (length xs ≡ n) × AllAfter (λ before t. TextGood t × (stands_in t before ≡ false)) [] xs)
+interfaces_table n = table_field name_at text_bytes (λ before t. TextGood t × (stands_in t before ≡ false)) name_field n
+
+tests_table : (n : ℕ) → IsField (items_at (λ _. test_at) n []) (flat_map test_bytes) (λ xs. (length xs ≡ n) × AllAfter (λ _. TestGood) [] xs)
+tests_table n = table_field (λ _. test_at) test_bytes (λ _. TestGood) (λ _. test_field) n
+
+commands_table : (n : ℕ) → IsField (items_at (λ _. text_at) n []) (flat_map text_bytes) (λ xs. (length xs ≡ n) × AllAfter (λ _. TextGood) [] xs)
+commands_table n = table_field (λ _. text_at) text_bytes (λ _. TextGood) (λ _. text_field) n
+
+states_table : (n : ℕ) → IsField (items_at state_at n []) (flat_map state_bytes) (λ xs. (length xs ≡ n) × AllAfter StateGood [] xs)
+states_table n = table_field state_at state_bytes StateGood state_field n
+
+routines_table : (n : ℕ) → IsField (items_at (λ before. routine_at (room_after before)) n []) (flat_map routine_bytes) (λ xs. (length xs ≡ n) × AllAfter (λ before. RoutineGood (room_after before)) [] xs)
+routines_table n = table_field (λ before. routine_at (room_after before)) routine_bytes (λ before. RoutineGood (room_after before)) (λ before. routine_field (room_after before)) n
+
+-- what the tables of an image have, as reading sees it
+pub record TablesGood (p : ImageParts) : Type 0 where
+  pub interfaces : AllAfter (λ before t. TextGood t × (stands_in t before ≡ false)) [] p.interfaces
+  pub tests : AllAfter (λ _. TestGood) [] p.tests
+  pub commands : AllAfter (λ _. TextGood) [] p.commands
+  pub states : AllAfter StateGood [] p.states
+  pub routines : AllAfter (λ before. RoutineGood (room_after before)) [] p.routines
+
+no_names : AreDistinct []
+no_names i j d lt below = absurd (omega arith)
+
+fits_from_tables : (p : ImageParts) → BudgetsFit p.budgets → CountsFit p → TablesGood p → Fits p
+fits_from_tables p budgets counts t = record {
+  budgets = budgets;
+  counts = counts;
+  interfaces = record {
+    texts = all_after (λ before t. TextGood t × (stands_in t before ≡ false)) TextFits (λ before t good. good.0.fits) p.interfaces [] t.interfaces;
+    distinct = names_distinct p.interfaces [] no_names (AllAfter-weaker (λ before t. TextGood t × (stands_in t before ≡ false)) IsFirst (λ before t good. good.1) p.interfaces [] t.interfaces);
+  };
+  tests = all_after (λ _. TestGood) TestFits (λ before t good. good.fits) p.tests [] t.tests;
+  commands = all_after (λ _. TextGood) TextFits (λ before t good. good.fits) p.commands [] t.commands;
+  states = record {
+    texts = all_after StateGood (λ s. TextFits s.name) (λ before s good. good.fits) p.states [] t.states;
+    distinct = names_distinct (names_of p.states) [] no_names (names_of_states p.states [] (AllAfter-weaker StateGood IsFirstState (λ before s good. good.first) p.states [] t.states));
+  };
+  routines = record {
+    each = all_after (λ before. RoutineGood (room_after before)) RoutineFits (λ before r good. good.fits) p.routines [] t.routines;
+    together = routines_within p.routines [] (omega arith) (AllAfter-weaker (λ before. RoutineGood (room_after before)) HasRoom (λ before r good. good.within) p.routines [] t.routines);
+  };
+}
+
+in_range_from_tables : (p : ImageParts) → p.initial.0 < 2 ^ 16 → HandlersInRange p.always → TablesGood p → InRange p
+in_range_from_tables p initial always t = record {
+  initial = initial;
+  always = always;
+  interfaces = all_after (λ before t. TextGood t × (stands_in t before ≡ false)) IsUtf8 (λ before t good. good.0.utf8) p.interfaces [] t.interfaces;
+  tests = all_after (λ _. TestGood) (λ t. IsUtf8 t.text) (λ before t good. good.utf8) p.tests [] t.tests;
+  commands = all_after (λ _. TextGood) IsUtf8 (λ before t good. good.utf8) p.commands [] t.commands;
+  states = all_after StateGood StateInRange (λ before s good. good.in_range) p.states [] t.states;
+  routines = all_after (λ before. RoutineGood (room_after before)) (λ r. All HasSpelling r.code) (λ before r good. all_after (λ _. HasSpelling) HasSpelling (λ _ op has. has) r.code [] good.code) p.routines [] t.routines;
+}
+
+tables_from_fits : (p : ImageParts) → Fits p → InRange p → TablesGood p
+tables_from_fits p f r = record {
+  interfaces = after_all IsFirst TextGood (λ before t. TextGood t × (stands_in t before ≡ false)) (λ before t good first. (good, first)) p.interfaces [] (λ k d lt. record { fits = f.interfaces.texts k d lt; utf8 = r.interfaces k d lt }) (names_first p.interfaces [] f.interfaces.distinct);
+  tests = each_after TestGood p.tests [] (λ k d lt. record { fits = f.tests k d lt; utf8 = r.tests k d lt });
+  commands = each_after TextGood p.commands [] (λ k d lt. record { fits = f.commands k d lt; utf8 = r.commands k d lt });
+  states = after_all IsFirstState (λ s. TextFits s.name × StateInRange s) StateGood (λ before s good first. record { fits = good.0; in_range = good.1; first = first }) p.states [] (λ k d lt. (f.states.texts k d lt, r.states k d lt)) (states_of_names p.states [] (names_first (names_of p.states) [] f.states.distinct));
+  routines = after_all HasRoom (λ x. RoutineFits x × All HasSpelling x.code) (λ before. RoutineGood (room_after before)) (λ before x good room. record { fits = good.0; within = room; code = each_after HasSpelling x.code [] good.1 }) p.routines [] (λ k d lt. (f.routines.each k d lt, r.routines k d lt)) (routines_room p.routines [] f.routines.together);
+}
+
+-- ---- the whole image
+
+abbrev pub done : {A : Type 0} → A → Result A ImageFault
+done x = Ok x
+
+bind_elim : {A B : Type 0} (r : Result A ImageFault) (f : A → Result B ImageFault) (y : B) (P : Type 0) → (r >>= f) ≡ Ok y → ((x : A) → r ≡ Ok x → f x ≡ Ok y → P) → P
+bind_elim (Ok x) f y P e go = go x refl e
+bind_elim (Err d) f y P e go = absurd cc
+
+counts_same : (c : Counts) (p : ImageParts) → c.interfaces ≡ length p.interfaces → c.tests ≡ length p.tests → c.commands ≡ length p.commands → c.states ≡ length p.states → c.routines ≡ length p.routines → c ≡ counts p
+counts_same c p a b d s r = rw (← a, ← b, ← d, ← s, ← r) refl
+
+-- what was read of an image
+pub record TookImage (bytes : List ℕ) (parts : ImageParts) (rest : List ℕ) : Type 0 where
+  pub took : Took bytes (image_bytes parts) rest
+  pub fits : Fits parts
+  pub in_range : InRange parts
+
+-- what the fields of an image were read as, one after the other
+pub record Steps (p : Place) (y : ImageParts × Place) : Type 0 where
+  pub magic : Unit {0} × Place
+  pub is_magic : magic_at p ≡ Ok magic
+  pub version : Unit {0} × Place
+  pub is_version : version_at magic.1 ≡ Ok version
+  pub budgets : Budgets × Place
+  pub is_budgets : budgets_at version.1 ≡ Ok budgets
+  pub counts : Counts × Place
+  pub is_counts : counts_at budgets.1 ≡ Ok counts
+  pub initial : ℕ × Place
+  pub is_initial : number_at w16 counts.1 ≡ Ok initial
+  pub always : Handlers × Place
+  pub is_always : handlers_at initial.1 ≡ Ok always
+  pub interfaces : List (List ℕ) × Place
+  pub is_interfaces : items_at name_at counts.0.interfaces [] always.1 ≡ Ok interfaces
+  pub tests : List TestSpec × Place
+  pub is_tests : items_at (λ _. test_at) counts.0.tests [] interfaces.1 ≡ Ok tests
+  pub commands : List (List ℕ) × Place
+  pub is_commands : items_at (λ _. text_at) counts.0.commands [] tests.1 ≡ Ok commands
+  pub states : List StateSpec × Place
+  pub is_states : items_at state_at counts.0.states [] commands.1 ≡ Ok states
+  pub routines : List Routine × Place
+  pub is_routines : items_at (λ before. routine_at (room_after before)) counts.0.routines [] states.1 ≡ Ok routines
+  pub made_is : done (record { budgets = budgets.0; initial = record { 0 = initial.0 }; always = always.0; interfaces = interfaces.0; tests = tests.0; commands = commands.0; states = states.0; routines = routines.0 }, routines.1) ≡ Ok y
+
+steps_of : (p : Place) (y : ImageParts × Place) → parts_at p ≡ Ok y → Steps p y
+unfolding parts_at
+steps_of p y e =
+    bind_elim (magic_at p) (λ magic. version_at magic.1 >>= λ version. budgets_at version.1 >>= λ budgets. counts_at budgets.1 >>= λ counts. number_at w16 counts.1 >>= λ initial. handlers_at initial.1 >>= λ always. items_at name_at counts.0.interfaces [] always.1 >>= λ interfaces. items_at (λ _. test_at) counts.0.tests [] interfaces.1 >>= λ tests. items_at (λ _. text_at) counts.0.commands [] tests.1 >>= λ commands. items_at state_at counts.0.states [] commands.1 >>= λ states. items_at (λ before. routine_at (room_after before)) counts.0.routines [] states.1 >>= λ routines. Ok (record { budgets = budgets.0; initial = record { 0 = initial.0 }; always = always.0; interfaces = interfaces.0; tests = tests.0; commands = commands.0; states = states.0; routines = routines.0 }, routines.1)) y (Steps p y) e (λ magic e_magic g_magic.
+    bind_elim (version_at magic.1) (λ version. budgets_at version.1 >>= λ budgets. counts_at budgets.1 >>= λ counts. number_at w16 counts.1 >>= λ initial. handlers_at initial.1 >>= λ always. items_at name_at counts.0.interfaces [] always.1 >>= λ interfaces. items_at (λ _. test_at) counts.0.tests [] interfaces.1 >>= λ tests. items_at (λ _. text_at) counts.0.commands [] tests.1 >>= λ commands. items_at state_at counts.0.states [] commands.1 >>= λ states. items_at (λ before. routine_at (room_after before)) counts.0.routines [] states.1 >>= λ routines. Ok (record { budgets = budgets.0; initial = record { 0 = initial.0 }; always = always.0; interfaces = interfaces.0; tests = tests.0; commands = commands.0; states = states.0; routines = routines.0 }, routines.1)) y (Steps p y) g_magic (λ version e_version g_version.
+    bind_elim (budgets_at version.1) (λ budgets. counts_at budgets.1 >>= λ counts. number_at w16 counts.1 >>= λ initial. handlers_at initial.1 >>= λ always. items_at name_at counts.0.interfaces [] always.1 >>= λ interfaces. items_at (λ _. test_at) counts.0.tests [] interfaces.1 >>= λ tests. items_at (λ _. text_at) counts.0.commands [] tests.1 >>= λ commands. items_at state_at counts.0.states [] commands.1 >>= λ states. items_at (λ before. routine_at (room_after before)) counts.0.routines [] states.1 >>= λ routines. Ok (record { budgets = budgets.0; initial = record { 0 = initial.0 }; always = always.0; interfaces = interfaces.0; tests = tests.0; commands = commands.0; states = states.0; routines = routines.0 }, routines.1)) y (Steps p y) g_version (λ budgets e_budgets g_budgets.
+    bind_elim (counts_at budgets.1) (λ counts. number_at w16 counts.1 >>= λ initial. handlers_at initial.1 >>= λ always. items_at name_at counts.0.interfaces [] always.1 >>= λ interfaces. items_at (λ _. test_at) counts.0.tests [] interfaces.1 >>= λ tests. items_at (λ _. text_at) counts.0.commands [] tests.1 >>= λ commands. items_at state_at counts.0.states [] commands.1 >>= λ states. items_at (λ before. routine_at (room_after before)) counts.0.routines [] states.1 >>= λ routines. Ok (record { budgets = budgets.0; initial = record { 0 = initial.0 }; always = always.0; interfaces = interfaces.0; tests = tests.0; commands = commands.0; states = states.0; routines = routines.0 }, routines.1)) y (Steps p y) g_budgets (λ counts e_counts g_counts.
+    bind_elim (number_at w16 counts.1) (λ initial. handlers_at initial.1 >>= λ always. items_at name_at counts.0.interfaces [] always.1 >>= λ interfaces. items_at (λ _. test_at) counts.0.tests [] interfaces.1 >>= λ tests. items_at (λ _. text_at) counts.0.commands [] tests.1 >>= λ commands. items_at state_at counts.0.states [] commands.1 >>= λ states. items_at (λ before. routine_at (room_after before)) counts.0.routines [] states.1 >>= λ routines. Ok (record { budgets = budgets.0; initial = record { 0 = initial.0 }; always = always.0; interfaces = interfaces.0; tests = tests.0; commands = commands.0; states = states.0; routines = routines.0 }, routines.1)) y (Steps p y) g_counts (λ initial e_initial g_initial.
+    bind_elim (handlers_at initial.1) (λ always. items_at name_at counts.0.interfaces [] always.1 >>= λ interfaces. items_at (λ _. test_at) counts.0.tests [] interfaces.1 >>= λ tests. items_at (λ _. text_at) counts.0.commands [] tests.1 >>= λ commands. items_at state_at counts.0.states [] commands.1 >>= λ states. items_at (λ before. routine_at (room_after before)) counts.0.routines [] states.1 >>= λ routines. Ok (record { budgets = budgets.0; initial = record { 0 = initial.0 }; always = always.0; interfaces = interfaces.0; tests = tests.0; commands = commands.0; states = states.0; routines = routines.0 }, routines.1)) y (Steps p y) g_initial (λ always e_always g_always.
+    bind_elim (items_at name_at counts.0.interfaces [] always.1) (λ interfaces. items_at (λ _. test_at) counts.0.tests [] interfaces.1 >>= λ tests. items_at (λ _. text_at) counts.0.commands [] tests.1 >>= λ commands. items_at state_at counts.0.states [] commands.1 >>= λ states. items_at (λ before. routine_at (room_after before)) counts.0.routines [] states.1 >>= λ routines. Ok (record { budgets = budgets.0; initial = record { 0 = initial.0 }; always = always.0; interfaces = interfaces.0; tests = tests.0; commands = commands.0; states = states.0; routines = routines.0 }, routines.1)) y (Steps p y) g_always (λ interfaces e_interfaces g_interfaces.
+    bind_elim (items_at (λ _. test_at) counts.0.tests [] interfaces.1) (λ tests. items_at (λ _. text_at) counts.0.commands [] tests.1 >>= λ commands. items_at state_at counts.0.states [] commands.1 >>= λ states. items_at (λ before. routine_at (room_after before)) counts.0.routines [] states.1 >>= λ routines. Ok (record { budgets = budgets.0; initial = record { 0 = initial.0 }; always = always.0; interfaces = interfaces.0; tests = tests.0; commands = commands.0; states = states.0; routines = routines.0 }, routines.1)) y (Steps p y) g_interfaces (λ tests e_tests g_tests.
+    bind_elim (items_at (λ _. text_at) counts.0.commands [] tests.1) (λ commands. items_at state_at counts.0.states [] commands.1 >>= λ states. items_at (λ before. routine_at (room_after before)) counts.0.routines [] states.1 >>= λ routines. Ok (record { budgets = budgets.0; initial = record { 0 = initial.0 }; always = always.0; interfaces = interfaces.0; tests = tests.0; commands = commands.0; states = states.0; routines = routines.0 }, routines.1)) y (Steps p y) g_tests (λ commands e_commands g_commands.
+    bind_elim (items_at state_at counts.0.states [] commands.1) (λ states. items_at (λ before. routine_at (room_after before)) counts.0.routines [] states.1 >>= λ routines. Ok (record { budgets = budgets.0; initial = record { 0 = initial.0 }; always = always.0; interfaces = interfaces.0; tests = tests.0; commands = commands.0; states = states.0; routines = routines.0 }, routines.1)) y (Steps p y) g_commands (λ states e_states g_states.
+    bind_elim (items_at (λ before. routine_at (room_after before)) counts.0.routines [] states.1) (λ routines. Ok (record { budgets = budgets.0; initial = record { 0 = initial.0 }; always = always.0; interfaces = interfaces.0; tests = tests.0; commands = commands.0; states = states.0; routines = routines.0 }, routines.1)) y (Steps p y) g_states (λ routines e_routines g_routines.
+    record { magic = magic; is_magic = e_magic; version = version; is_version = e_version; budgets = budgets; is_budgets = e_budgets; counts = counts; is_counts = e_counts; initial = initial; is_initial = e_initial; always = always; is_always = e_always; interfaces = interfaces; is_interfaces = e_interfaces; tests = tests; is_tests = e_tests; commands = commands; is_commands = e_commands; states = states; is_states = e_states; routines = routines; is_routines = e_routines; made_is = g_routines })))))))))))
+
+steps_taken : (p : Place) (y : ImageParts × Place) → IsBytes p.left → Steps p y → TookImage p.left y.0 y.1.left
+unfolding image_bytes front_bytes
+steps_taken p y fits s =
+    let t1 = magic_taken p s.magic fits s.is_magic in
+    let t2 = version_taken s.magic.1 s.version t1.rest_fits s.is_version in
+    let t3 = budgets_field.taken s.version.1 s.budgets t2.rest_fits s.is_budgets in
+    let t4 = counts_field.taken s.budgets.1 s.counts t3.0.rest_fits s.is_counts in
+    let t5 = (number_field w16 (2 ^ 16) wide16).taken s.counts.1 s.initial t4.0.rest_fits s.is_initial in
+    let t6 = handlers_field.taken s.initial.1 s.always t5.0.rest_fits s.is_always in
+    let t7 = (interfaces_table s.counts.0.interfaces).taken s.always.1 s.interfaces t6.0.rest_fits s.is_interfaces in
+    let t8 = (tests_table s.counts.0.tests).taken s.interfaces.1 s.tests t7.0.rest_fits s.is_tests in
+    let t9 = (commands_table s.counts.0.commands).taken s.tests.1 s.commands t8.0.rest_fits s.is_commands in
+    let t10 = (states_table s.counts.0.states).taken s.commands.1 s.states t9.0.rest_fits s.is_states in
+    let t11 = (routines_table s.counts.0.routines).taken s.states.1 s.routines t10.0.rest_fits s.is_routines in
+    let front = Took-then (Took-then t1 t2) t3.0 in
+    let parts : ImageParts = record { budgets = s.budgets.0; initial = record { 0 = s.initial.0 }; always = s.always.0; interfaces = s.interfaces.0; tests = s.tests.0; commands = s.commands.0; states = s.states.0; routines = s.routines.0 } in
+    let same : s.counts.0 ≡ counts parts = counts_same s.counts.0 parts (sym t7.1.0) (sym t8.1.0) (sym t9.1.0) (sym t10.1.0) (sym t11.1.0) in
+    let with_counts : Took s.budgets.1.left (counts_bytes (counts parts)) s.counts.1.left = subst (λ (c : Counts). Took s.budgets.1.left (counts_bytes c) s.counts.1.left) same t4.0 in
+    let limits : CountsGood (counts parts) = subst CountsGood same t4.1 in
+    let whole = Took-then (Took-then (Took-then (Took-then (Took-then (Took-then (Took-then (Took-then front with_counts) t5.0) t6.0) t7.0) t8.0) t9.0) t10.0) t11.0 in
+    let tables : TablesGood parts = record { interfaces = t7.1.1; tests = t8.1.1; commands = t9.1.1; states = t10.1.1; routines = t11.1.1 } in
+    let made : ImageParts × Place = (parts, s.routines.1) in
+    subst (λ (z : ImageParts × Place). TookImage p.left z.0 z.1.left) (ok_is made y s.made_is)
+    (record { took = whole; fits = fits_from_tables parts t3.1 (record { interfaces = limits.interfaces; tests = limits.tests; commands = limits.commands; some_state = limits.some_state; states = limits.states; routines = limits.routines }) tables; in_range = in_range_from_tables parts t5.1 t6.1 tables })
+
+pub parts_taken : (p : Place) (y : ImageParts × Place) → IsBytes p.left → parts_at p ≡ Ok y → TookImage p.left y.0 y.1.left
+parts_taken p y fits e = steps_taken p y fits (steps_of p y e)
+
+-- what spells an image is read at any place, whatever follows
+pub parts_again : (p : ImageParts) (at : ℕ) (rest : List ℕ) → Fits p → InRange p → (after : ℕ) × (parts_at (place at (image_bytes p ++ rest)) ≡ Ok (p, place after rest))
+unfolding parts_at image_bytes front_bytes
+parts_again p at rest f r =
+    let t = tables_from_fits p f r in
+    let r11 = flat_map routine_bytes p.routines ++ rest in
+    let r10 = flat_map state_bytes p.states ++ r11 in
+    let r9 = flat_map text_bytes p.commands ++ r10 in
+    let r8 = flat_map test_bytes p.tests ++ r9 in
+    let r7 = flat_map text_bytes p.interfaces ++ r8 in
+    let r6 = handlers_bytes p.always ++ r7 in
+    let r5 = to_be_bytes w16 p.initial.0 ++ r6 in
+    let r4 = counts_bytes (counts p) ++ r5 in
+    let r3 = budgets_bytes p.budgets ++ r4 in
+    let regrouped : image_bytes p ++ rest ≡ codes "IFSV" ++ ((1 ∷ []) ++ r3) = simp append_assoc in
+    let k3 = at + 4 + 1 in
+    let k4 = k3 + length (budgets_bytes p.budgets) in
+    let k5 = k4 + length (counts_bytes (counts p)) in
+    let k6 = k5 + 2 in
+    let k7 = k6 + length (handlers_bytes p.always) in
+    let k8 = k7 + length (flat_map text_bytes p.interfaces) in
+    let k9 = k8 + length (flat_map test_bytes p.tests) in
+    let k10 = k9 + length (flat_map text_bytes p.commands) in
+    let k11 = k10 + length (flat_map state_bytes p.states) in
+    let limits : CountsGood (counts p) = record { interfaces = f.counts.interfaces; tests = f.counts.tests; commands = f.counts.commands; some_state = f.counts.some_state; states = f.counts.states; routines = f.counts.routines } in
+    let a1 = magic_again at ((1 ∷ []) ++ r3) in
+    let a2 = version_again (at + 4) r3 in
+    let a3 = budgets_field.again p.budgets k3 r4 f.budgets in
+    let a4 = counts_field.again (counts p) k4 r5 limits in
+    let a5 = (number_field w16 (2 ^ 16) wide16).again p.initial.0 k5 r6 r.initial in
+    let a6 = handlers_field.again p.always k6 r7 r.always in
+    let a7 = (interfaces_table (length p.interfaces)).again p.interfaces k7 r8 (refl, t.interfaces) in
+    let a8 = (tests_table (length p.tests)).again p.tests k8 r9 (refl, t.tests) in
+    let a9 = (commands_table (length p.commands)).again p.commands k9 r10 (refl, t.commands) in
+    let a10 = (states_table (length p.states)).again p.states k10 r11 (refl, t.states) in
+    let a11 = (routines_table (length p.routines)).again p.routines k11 rest (refl, t.routines) in (
+      k11 + length (flat_map routine_bytes p.routines),
+      ap (λ (bytes : List ℕ). parts_at (place at bytes)) regrouped
+          ∙ again_bind _ _ _ _ a1 (again_bind _ _ _ _ a2 (again_bind _ _ _ _ a3 (again_bind _ _ _ _ a4 (again_bind _ _ _ _ a5 (again_bind _ _ _ _ a6
+          (again_bind _ _ _ _ a7 (again_bind _ _ _ _ a8 (again_bind _ _ _ _ a9 (again_bind _ _ _ _ a10 (again_bind _ _ _ _ a11 refl)))))))))),
+    )
+
+-- ---- the laws
+
+pub image_found : (bytes : List ℕ) (p : ImageParts) → IsBytes bytes → image_of bytes ≡ Ok p → Spells bytes p
+unfolding image_of
+image_found bytes p fits e =
+    let b = bind_ok (parts_at (place 0 bytes)) (λ parts. cond (length parts.1.left == 0) (Ok parts.0) (Err (Trailing parts.1.at))) p e in
+    let g = passed_ok (length b.0.1.left == 0) (Trailing b.0.1.at) b.0.0 p b.2 in
+    let t = parts_taken (place 0 bytes) b.0 fits b.1 in
+    let nothing : b.0.1.left ≡ [] = nil_from_length b.0.1.left (eqb-true _ _ g.0) in
+    let whole : bytes ≡ image_bytes b.0.0 = t.took.parts ∙ ap (λ (rest : List ℕ). image_bytes b.0.0 ++ rest) nothing ∙ append-nil (image_bytes b.0.0) in
+    subst (λ (q : ImageParts). Spells bytes q) g.1 (record { fits = t.fits; in_range = t.in_range; bytes_are = whole })
+
+pub image_again : (bytes : List ℕ) (p : ImageParts) → Spells bytes p → image_of bytes ≡ Ok p
+unfolding image_of
+image_again bytes p s =
+    let a = parts_again p 0 [] s.fits s.in_range in
+    let e : bytes ≡ image_bytes p ++ [] = s.bytes_are ∙ sym (append-nil (image_bytes p)) in
+    again_bind _ _ _ _ (ap (λ (b : List ℕ). parts_at (place 0 b)) e ∙ a.1) refl
+
+-- ---- what a call answers, when it answers what reading gives
+
+pub is_found : (bytes : List ℕ) (r : Result ImageParts ImageFault) → IsBytes bytes → Answers r (image_of bytes) → IfOk r (Spells bytes)
+is_found bytes (Ok p) fits given = image_found bytes p fits given
+is_found bytes (Err fault) fits given = tt
+
+abbrev missed : ImageFault → Result ImageParts ImageFault
+missed fault = Err fault
+
+pub only_it : (bytes : List ℕ) (r : Result ImageParts ImageFault) → Answers r (image_of bytes) → (p : ImageParts) → Spells bytes p → r ≢ Err Memory → r ≡ Ok p
+only_it bytes (Ok q) given p s found = sym given ∙ image_again bytes p s
+only_it bytes (Err fault) given p s found =
+    let e : image_of bytes ≡ missed fault = given (λ same. found (ap missed same)) in
+    sym e ∙ image_again bytes p s
+
+-- bytes spell one image at most
+pub Spells-unique : (bytes : List ℕ) (p q : ImageParts) → Spells bytes p → Spells bytes q → p ≡ q
+Spells-unique bytes p q a b = ok_is p q (sym (image_again bytes p a) ∙ image_again bytes q b)
+
+-- no spelling goes on as another
+pub Spells-prefix : (bytes more : List ℕ) (p q : ImageParts) → Spells bytes p → Spells (bytes ++ more) q → more ≡ []
+Spells-prefix bytes more p q a b =
+    let first = parts_again p 0 more a.fits a.in_range in
+    let second = parts_again q 0 [] b.fits b.in_range in
+    let one : bytes ++ more ≡ image_bytes p ++ more = ap (λ (x : List ℕ). x ++ more) a.bytes_are in
+    let two : bytes ++ more ≡ image_bytes q ++ [] = b.bytes_are ∙ sym (append-nil (image_bytes q)) in
+    let same : done (p, place first.0 more) ≡ done (q, place second.0 []) = sym first.1 ∙ ap (λ (x : List ℕ). parts_at (place 0 x)) (sym one ∙ two) ∙ second.1 in
+    ap (λ (y : ImageParts × Place). y.1.left) (ok_is (p, place first.0 more) (q, place second.0 []) same)

@@ -1,0 +1,62 @@
+-- The bytes of an image, down the table of the format in its order.
+use Rattle.std.specs.Prelude.{◌≡◌, ℕ, List, [], ◌∷◌, ◌++◌, length, codes}
+use Rattle.std.specs.Int.{w16, w32, w64, to_be_bytes}
+use Rattle.std.specs.List.{flat_map}
+use Rattle.ifs_base.specs.Spelling.{spelling}
+use Rattle.ifs_image.specs.declared.parts.Budgets.{Budgets}
+use Rattle.ifs_image.specs.declared.parts.Counts.{Counts}
+use Rattle.ifs_image.specs.declared.parts.Handlers.{Handlers}
+use Rattle.ifs_image.specs.declared.parts.TestSpec.{TestSpec}
+use Rattle.ifs_image.specs.declared.parts.StateSpec.{StateSpec}
+use Rattle.ifs_image.specs.declared.parts.Routine.{Routine}
+use Rattle.ifs_image.specs.declared.parts.ImageParts.{ImageParts}
+use Rattle.ifs_image.specs.Limits.{Fits, InRange}
+
+-- Magic and version.
+unfoldable pub front_bytes : List ℕ
+front_bytes = codes "IFSV" ++ 1 ∷ []
+
+-- Stack, frames, cost, commands.
+unfoldable pub budgets_bytes : Budgets → List ℕ
+budgets_bytes b = to_be_bytes w16 b.stack ++ to_be_bytes w16 b.frames ++ to_be_bytes w32 b.cost ++ to_be_bytes w16 b.commands
+
+-- Interfaces, tests, commands, states, routines.
+unfoldable pub counts_bytes : Counts → List ℕ
+counts_bytes c = to_be_bytes w16 c.interfaces ++ to_be_bytes w16 c.tests ++ to_be_bytes w16 c.commands ++ to_be_bytes w16 c.states ++ to_be_bytes w16 c.routines
+
+-- Init routine, body routine, test mask.
+unfoldable pub handlers_bytes : Handlers → List ℕ
+handlers_bytes h = to_be_bytes w16 h.init.0 ++ to_be_bytes w16 h.body.0 ++ to_be_bytes w64 h.mask
+
+-- Length, text.
+unfoldable pub text_bytes : List ℕ → List ℕ
+text_bytes text = to_be_bytes w16 (length text) ++ text
+
+-- Period, length, command.
+unfoldable pub test_bytes : TestSpec → List ℕ
+test_bytes t = to_be_bytes w32 t.period ++ text_bytes t.text
+
+-- Length, name, init routine, body routine, test mask.
+unfoldable pub state_bytes : StateSpec → List ℕ
+state_bytes s = text_bytes s.name ++ handlers_bytes s.handlers
+
+-- Results, number of instructions, instructions.
+unfoldable pub routine_bytes : Routine → List ℕ
+routine_bytes r = (r.results ∷ []) ++ to_be_bytes w16 (length r.code) ++ flat_map spelling r.code
+
+-- How many entries each table of an image has.
+abbrev pub counts : ImageParts → Counts
+counts p = record { interfaces = length p.interfaces; tests = length p.tests; commands = length p.commands; states = length p.states; routines = length p.routines }
+
+-- The spelling of an image.
+unfoldable pub image_bytes : ImageParts → List ℕ
+image_bytes p =
+    front_bytes ++ budgets_bytes p.budgets ++ counts_bytes (counts p) ++ to_be_bytes w16 p.initial.0 ++ handlers_bytes p.always
+    ++ flat_map text_bytes p.interfaces ++ flat_map test_bytes p.tests ++ flat_map text_bytes p.commands
+    ++ flat_map state_bytes p.states ++ flat_map routine_bytes p.routines
+
+-- Bytes spell an image that keeps to its limits.
+pub record Spells (bytes : List ℕ) (p : ImageParts) : Type 0 where
+  pub fits : Fits p
+  pub in_range : InRange p
+  pub bytes_are : bytes ≡ image_bytes p

@@ -1,0 +1,5 @@
+pub mod After
+pub mod Moves
+pub mod Ending
+pub mod Standing
+pub mod Loop

@@ -1,0 +1,14 @@
+//! What holds of handler runs, whoever makes them.
+
+ghost use Rattle.ifs_machine.specs.Run.{RunsAreUnique, HandlersEnd};
+
+/// A handler run has one cost and one end.
+pub fn runs_are_unique()
+    ensures { RunsAreUnique }
+{}
+
+/// Each handler of an accepted image runs to its end, whatever the facts, where the commands that are
+/// queued already leave room for its own: without a trap, so within the stated stack and frames.
+pub fn handlers_end()
+    ensures { HandlersEnd }
+{}

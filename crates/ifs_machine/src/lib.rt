@@ -1,0 +1,13 @@
+//! The machine: runs a handler of an image that the verifier accepted, row by row of the machine's
+//! table, and makes no test for a trap, since none can come.
+#![tactic(auto)]
+
+mod effects;
+pub mod laws;
+mod machine;
+mod rows;
+mod running;
+mod value;
+
+pub use effects::{Effects, Facts};
+pub use running::run_handler;
