@@ -1,15 +1,14 @@
 -- Session text: the replies to the lines of an input, and the core after them.
 use Rattle.std.specs.Prelude.{◌≡◌, ◌≢◌, ◌⊎◌, ℕ, ◌+◌, ◌<◌, ◌≤◌, Bool, true, false, ◌==◌, if◌then◌else◌, is_some, List, [], ◌∷◌, ◌++◌, length, take, count_by, codes, Option, Some, None, Result, Ok, Err, IfOk}
-use Rattle.std.specs.List.{position}
-use Rattle.std.specs.Str.{bytes_eq}
 use Rattle.std.specs.Io.KnownBytes.{prepend_known, append_known, IsAtEnd}
+use Rattle.ifs_base.specs.declared.ids.IfaceId.{IfaceId}
 use Rattle.ifs_base.specs.declared.op.LinkState.{LinkState}
 use Rattle.ifs_image.specs.declared.parts.ImageParts.{ImageParts}
 use Rattle.ifs_core.specs.declared.step.Step.{Step}
 use Rattle.ifs_core.specs.declared.step.Step.TheVariants.{Link, Finished, Tick, Take}
 use Rattle.ifs_core.specs.Event.{Behaviour}
 use Rattle.ifs_core.specs.Steps.{CoreState, turn}
-use Rattle.ifs_core.specs.Gateway.{OpenCore}
+use Rattle.ifs_core.specs.Gateway.{OpenCore, interface_of}
 use Rattle.ifs_session.specs.declared.fault.SessionFault.{SessionFault}
 use Rattle.ifs_session.specs.declared.fault.SessionFault.TheVariants.{ReadFailed, WriteFailed, TooMuchInput}
 use Rattle.ifs_session.specs.declared.request.RequestFault.TheVariants.{NoInterface, TooLong}
@@ -39,18 +38,14 @@ step_deed b image step s =
 abbrev pub told : List ℕ → CoreState → Deed
 told reply s = record { reply = reply; next = s; is_step = false }
 
--- The place of an interface's name in the table of an image, where it is there.
-abbrev pub interface_of : ImageParts → List ℕ → Option ℕ
-interface_of image name = position (λ other. bytes_eq other name) image.interfaces
-
--- A link state was asked for the interface at this place.
-abbrev pub link_deed : Behaviour → ImageParts → LinkState → Option ℕ → CoreState → Deed
+-- A link state was asked for an interface, which may not be in the table.
+abbrev pub link_deed : Behaviour → ImageParts → LinkState → Option IfaceId → CoreState → Deed
 link_deed b image link None s = told (fault_line NoInterface) s
-link_deed b image link (Some interface) s = step_deed b image (Link (record { 0 = interface }) link) s
+link_deed b image link (Some interface) s = step_deed b image (Link interface link) s
 
 -- What is made of what is asked.
 abbrev pub deed : Behaviour → ImageParts → Asked → CoreState → Deed
-deed b image (ALink name link) s = link_deed b image link (interface_of image name) s
+deed b image (ALink name link) s = link_deed b image link (interface_of image.interfaces name) s
 deed b image (AResult test run value) s = step_deed b image (Finished (record { 0 = test }) run value) s
 deed b image (ATick moment) s = step_deed b image (Tick moment) s
 deed b image ATake s = step_deed b image Take s
@@ -71,7 +66,7 @@ after_lines b image (line ∷ lines) s = after_lines b image lines (deed b image
 
 -- Whether what is asked is a step: all but what has a fault or asks the core of itself.
 abbrev pub is_step : ImageParts → Asked → Bool
-is_step image (ALink name link) = is_some (interface_of image name)
+is_step image (ALink name link) = is_some (interface_of image.interfaces name)
 is_step image (AResult test run value) = true
 is_step image (ATick moment) = true
 is_step image ATake = true
