@@ -164,7 +164,7 @@ abbrev pub kind_of : ImageParts → Asked → Kind
 kind_of image AStop = kinds.Stop
 kind_of image a = if is_step image a then kinds.Step else kinds.Other
 
--- What the serving of a line gives: the core after it, and its reply, of which nothing is known where a write failed.
+-- What the serving of a line gives: the core after it, its kind, and its reply, of which nothing is known where a write failed.
 abbrev pub ServeGives : Deed → Kind → Result Kind DeviceFault → CoreState → Option (List ℕ) → Option (List ℕ) → Option ℕ → Option ℕ → Type 0
 ServeGives d kind result state written written' faults faults' =
     (state ≡ d.next) × PutGives result d.reply written written' faults faults' × IfOk result (λ k. k ≡ kind)

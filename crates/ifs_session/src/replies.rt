@@ -260,28 +260,28 @@ fn put_answer<W: ByteOut>(out: &mut W, answer: Answer) -> Result<(), DeviceFault
 
 /// Writes the line of a record of the trace.
 #[tactic(auto, using(crate::proofs::Known::written_laws))]
-fn put_record<W: ByteOut>(out: &mut W, core: &Core, record: &Record) -> Result<(), DeviceFault>
-    ensures { PutGives result (record_line core.now.image record.now) (W.written out.old) (W.written out.new) (W.faults out.old) (W.faults out.new) }
+fn put_record<W: ByteOut>(out: &mut W, core: &Core, item: &Record) -> Result<(), DeviceFault>
+    ensures { PutGives result (record_line core.now.image item.now) (W.written out.old) (W.written out.new) (W.faults out.old) (W.faults out.new) }
 {
-    put_step(out, record.step)?;
+    put_step(out, item.step)?;
     out.put(b" -> ")?;
-    put_answer_words(out, core, record)?;
+    put_answer_words(out, core, item)?;
     out.put(b"\n")?;
     Ok(())
 }
 
 /// Writes what a record says of the answer.
 #[tactic(auto, using(crate::proofs::Known::written_laws))]
-fn put_answer_words<W: ByteOut>(out: &mut W, core: &Core, record: &Record) -> Result<(), DeviceFault>
-    ensures { PutGives result (answer_words core.now.image record.now) (W.written out.old) (W.written out.new) (W.faults out.old) (W.faults out.new) }
+fn put_answer_words<W: ByteOut>(out: &mut W, core: &Core, item: &Record) -> Result<(), DeviceFault>
+    ensures { PutGives result (answer_words core.now.image item.now) (W.written out.old) (W.written out.new) (W.faults out.old) (W.faults out.new) }
 {
-    put_answer(out, record.answer)?;
+    put_answer(out, item.answer)?;
     out.put(b" ")?;
-    put_state(out, core, record.state)?;
+    put_state(out, core, item.state)?;
     out.put(b" cost ")?;
-    put_number(out, u64::from(record.cost))?;
+    put_number(out, u64::from(item.cost))?;
     out.put(b" queue ")?;
-    put_number(out, u64::from(record.queued))?;
+    put_number(out, u64::from(item.queued))?;
     Ok(())
 }
 
@@ -303,10 +303,10 @@ fn put_records<W: ByteOut>(out: &mut W, core: &Core) -> Result<(), DeviceFault>
     ensures { PutGives result (flat_map (record_line core.now.image) core.now.state.trace) (W.written out.old) (W.written out.new) (W.faults out.old) (W.faults out.new) }
 {
     for index in 0..core.trace_len() {
-        let Some(record) = core.trace_at(index) else {
+        let Some(item) = core.trace_at(index) else {
             return Ok(());
         };
-        put_record(out, core, &record)?;
+        put_record(out, core, &item)?;
     }
     Ok(())
 }

@@ -53,9 +53,9 @@ pub fn simulate<R: ByteIn, W: ByteOut>(core: &mut Core, reader: &mut R, writer: 
         (record { core = core.new; left = R.left reader.new; written = W.written writer.new; read_faults = R.faults reader.new; write_faults = W.faults writer.new }) }
 {
     let summary = serve_lines(core, reader, writer)?;
-    if writer.flush().is_err() {
+    let Ok(()) = writer.flush() else {
         return Err(SessionFault::WriteFailed);
-    }
+    };
     Ok(summary)
 }
 
@@ -71,7 +71,7 @@ fn serve_lines<R: ByteIn, W: ByteOut>(core: &mut Core, reader: &mut R, writer: &
         stopped: false,
     };
     let mut budget = INPUT;
-    loop {
+    'lines: loop {
         let Ok(()) = settle(reader, writer) else {
             return Err(SessionFault::WriteFailed);
         };
@@ -82,7 +82,10 @@ fn serve_lines<R: ByteIn, W: ByteOut>(core: &mut Core, reader: &mut R, writer: &
             return Err(SessionFault::WriteFailed);
         };
         count(&mut summary, kind);
-        if summary.stopped || !line.is_ended {
+        if summary.stopped {
+            return Ok(summary);
+        }
+        if !line.is_ended {
             return Ok(summary);
         }
     }
