@@ -4,7 +4,7 @@ use Rattle.std.specs.Str.{bytes_eq}
 use Rattle.ifs_base.specs.declared.ids.IfaceId.{IfaceId}
 use Rattle.ifs_image.specs.declared.parts.ImageParts.{ImageParts}
 use Rattle.ifs_machine.specs.Run.{AreFactsOf, IsCommand}
-use Rattle.ifs_machine.specs.State.{facts_of}
+use Rattle.ifs_machine.specs.Views.{facts_of}
 use Rattle.ifs_core.specs.declared.position.Position.{Position as Standing}
 use Rattle.ifs_core.specs.Event.{Behaviour, Position, opening}
 use Rattle.ifs_core.specs.Machine.{all_unknown, periods_in}

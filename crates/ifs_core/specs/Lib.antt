@@ -11,4 +11,4 @@ pub use Rattle.ifs_sched.specs.Schedule
 pub use Rattle.circular_buffer.specs.Buffer
 pub use Rattle.ifs_machine.specs.Table
 pub use Rattle.ifs_machine.specs.Run
-pub use Rattle.ifs_machine.specs.State
+pub use Rattle.ifs_machine.specs.Views

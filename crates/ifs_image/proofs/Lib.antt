@@ -5,3 +5,4 @@ pub mod Ops
 pub mod PartLaws
 pub mod ImageLaws
 pub mod Loops
+pub mod Puts

@@ -13,8 +13,13 @@ pub mod laws;
 pub mod limits;
 mod parts;
 mod reading;
+mod writing;
 
 pub use fault::ImageFault;
 pub use image::Image;
 pub use parts::{Budgets, Handlers, ImageParts, Routine, StateSpec, TestSpec};
 pub use reading::read;
+pub use writing::write;
+
+#[cfg(test)]
+mod tests;

@@ -1,5 +1,6 @@
 pub mod Table
 pub mod Run
+pub mod Views
 pub mod State
 pub use Rattle.ifs_base.specs.Facts
 pub use Rattle.ifs_image.specs.Code

@@ -1,6 +1,6 @@
 //! What holds of handler runs, whoever makes them.
 
-ghost use Rattle.ifs_machine.specs.Run.{RunsAreUnique, HandlersEnd};
+ghost use Rattle.ifs_machine.specs.Run.{RunsAreUnique, HandlersEnd, EmptyQueueHasRoom};
 
 /// A handler run has one cost and one end.
 pub fn runs_are_unique()
@@ -12,3 +12,9 @@ pub fn runs_are_unique()
 pub fn handlers_end()
     ensures { HandlersEnd }
 {}
+
+/// An empty queue leaves room for each handler of an accepted image.
+pub fn empty_queue_has_room()
+    ensures { EmptyQueueHasRoom }
+{
+}

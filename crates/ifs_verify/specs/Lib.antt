@@ -3,6 +3,12 @@ pub mod Typing
 pub mod Bounds
 pub mod Accepted
 pub mod Refused
+pub mod Passes
+pub mod Found
+pub mod Laws
 pub use Rattle.ifs_image.specs.Code
-pub use Rattle.ifs_image.specs.Facts
+pub use Rattle.ifs_image.specs.Limits
 pub use Rattle.ifs_image.specs.Spelling
+pub use Rattle.ifs_image.specs.Reading
+pub use Rattle.ifs_image.specs.Answers
+pub use Rattle.ifs_image.specs.Facts

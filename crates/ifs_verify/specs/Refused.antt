@@ -1,7 +1,10 @@
 -- Refusals: what each fault of the verifier says of the image.
+use Rattle.std.specs.Prelude.{ℕ, ◌≡◌, List, Err}
 use Rattle.ifs_image.specs.declared.fault.ImageFault.{ImageFault}
 use Rattle.ifs_image.specs.declared.fault.ImageFault.TheVariants.{Truncated, WrongMagic, WrongVersion, OutOfLimit, BadText, RepeatedName, Trailing, NoInstruction, Memory}
 use Rattle.ifs_image.specs.declared.parts.ImageParts.{ImageParts}
+use Rattle.ifs_image.specs.Spelling.{Spells}
+use Rattle.ifs_image.specs.Reading.{image_of}
 use Rattle.ifs_verify.specs.declared.fault.VerifyFault.{VerifyFault}
 use Rattle.ifs_verify.specs.declared.fault.VerifyFault.TheVariants.{NoImage, NoEntry, JumpTarget, LeftAtEnd, Unreached, WrongOperand, WaysDisagree, CallNotLower, WrongResults, StackOver, FramesOver, CostOver, CommandsOver, HandlerLeaves, OutOfMemory}
 use Rattle.ifs_verify.specs.Rules.{IndexesFit, HandlersLeaveNothing, JumpsLeadOn, RoutinesEnd, CallsGoDown, PlacesAreReached}
@@ -30,3 +33,9 @@ rule_of (CostOver at) image = CostFits image
 rule_of (CommandsOver at) image = CommandsFit image
 rule_of (HandlerLeaves at) image = HandlersLeaveNothing image
 rule_of OutOfMemory image = Unit {0}
+
+-- What a refusal says of the bytes: reading refuses them with that fault, or the rule that it names fails in the image that they spell.
+abbrev pub IsRefusal : List ℕ → VerifyFault → Type 0
+IsRefusal bytes OutOfMemory = Unit {0}
+IsRefusal bytes (NoImage fault) = image_of bytes ≡ Err fault
+IsRefusal bytes fault = (image : ImageParts) × Spells bytes image × ¬ rule_of fault image

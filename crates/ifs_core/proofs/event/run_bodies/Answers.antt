@@ -1,7 +1,7 @@
 use Rattle.std.proofs.Common.{◌≡◌, length, sym, ap, ◌∙◌, refl}
 use Rattle.ifs_image.specs.declared.parts.ImageParts.{ImageParts}
 use Rattle.ifs_machine.specs.Table.{Effects}
-use Rattle.ifs_machine.specs.State.{facts_of, effects_of}
+use Rattle.ifs_machine.specs.Views.{facts_of, effects_of}
 use Rattle.ifs_core.specs.Event.{AlwaysBody, Body}
 use Rattle.ifs_core.proofs.Runs.{two_runs, ran_bodies, body_of, room_for_always_body, room_for_body}
 use Rattle.ifs_core.proofs.event.run_bodies.Goals as goal

@@ -1,0 +1,13 @@
+use Rattle.ifs_image.specs.Spelling.{state_bytes}
+use Rattle.ifs_image.specs.Limits.{StateInRange}
+use Rattle.ifs_image.proofs.Puts.{bytes_more, facts_more, facts_all}
+use Rattle.ifs_image.proofs.writing.put_states.Goals as goal
+
+pub loop-state-preserved : goal.loop-state-preserved
+loop-state-preserved c = record {
+  bytes = bytes_more state_bytes c.args.states.now c.loop-state.state-index c.state-item.result c.args.out.now.items c.loop-state.out.items c.put_state.new.out.items c.loop-state-test.true c.state-item.is c.loop-state.invariant.bytes c.in_ok-put_state.ensures.bytes;
+  in_range = facts_more StateInRange c.args.states.now c.loop-state.state-index c.state-item.result c.loop-state-test.true c.state-item.is c.loop-state.invariant.in_range c.in_ok-put_state.ensures.in_range;
+}
+
+pub returns-clause-in_range : goal.returns-clause-in_range
+returns-clause-in_range c = facts_all StateInRange c.args.states.now c.loop-state.state-index c.loop-state-test.false c.loop-state.invariant.in_range

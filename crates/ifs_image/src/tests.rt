@@ -1,0 +1,320 @@
+//! Images whose bytes were written by hand from the table of the format, and one fault for each rule.
+
+use super::*;
+use ifs_base::{CommandId, IfaceId, Items, LinkState, Op, RoutineId, StateId, Text};
+use std::alloc::{AllocError, Global};
+use std::process::Abort;
+use std::test::Fail;
+
+/// One state `a`, one routine: `ret`. Each word is a field, in hexadecimal.
+const SMALLEST: &str = "
+    49465356 01 0000 0001 00000003 0000
+    0000 0000 0000 0001 0001 0000
+    0000 0000 0000000000000000
+    0001 61 0000 0000 0000000000000000
+    00 0001 00000000
+";
+
+/// Body `link 0 up, pop, cmd 0, queue, ret`.
+const FIRST_RUN: &str = "
+    49465356 01 0001 0001 00000007 0001
+    0001 0000 0001 0001 0002 0000
+    0000 0000 0000000000000000
+    0005 6361727030
+    0006 6563686f206d
+    0001 61 0000 0001 0000000000000000
+    00 0001 00000000
+    00 0005 03020000 11000000 09000000 0b000000 00000000
+";
+
+/// Body `link 0 up, jf 4, cmd 0, queue, ret`.
+const FIRST_POLICY: &str = "
+    49465356 01 0001 0001 00000007 0001
+    0001 0000 0001 0001 0004 0000
+    0000 0001 0000000000000000
+    0005 6361727030
+    0006 6563686f206d
+    0001 61 0002 0003 0000000000000000
+    00 0001 00000000
+    00 0001 00000000
+    00 0001 00000000
+    00 0005 03020000 0e000004 09000000 0b000000 00000000
+";
+
+/// In each row: at an offset of the smallest image so many bytes give way to others; the fault then.
+const FAULTS: &str = "
+3 1 58: I2 byte 0
+0 61 49465358: I2 byte 0
+0 61 58: I1 byte 0
+0 61 49465356: I1 byte 4
+4 1 02: I3 byte 4
+5 2 0021: I4 byte 5
+7 2 0021: I4 byte 7
+9 4 000493e1: I4 byte 9
+13 2 0041: I4 byte 13
+15 2 0041: I4 byte 15
+17 2 0041: I4 byte 17
+19 2 0401: I4 byte 19
+21 2 0101: I4 byte 21
+21 2 0000: I4 byte 21
+23 2 0401: I4 byte 23
+39 2 0000: I5 byte 39
+39 2 0401: I5 byte 39
+41 1 00: I5 byte 41
+41 1 ff: I5 byte 41
+54 1 02: I4 byte 54
+55 2 0401: I4 byte 55
+57 4 00000001: I8 byte 57
+57 4 13000000: I8 byte 57
+61 0 00: I7 byte 61
+15 24 00000001000000010001000000000000000000000000000000000000000178: I4 byte 39
+15 24 00000001000000010001000000000000000000000000000000093a81000178: I4 byte 39
+15 24 000200000000000100010000000000000000000000000000000161000161: I6 byte 44
+15 39 000000000000000200010000000000000000000000000000000161000000000000000000000000000161: I6 byte 56
+";
+
+fn digit_of(byte: u8) -> Option<u8> {
+    match byte {
+        b'0'..=b'9' => Some(byte - b'0'),
+        b'a'..=b'f' => Some(byte - b'a' + 10),
+        _ => None,
+    }
+}
+
+/// The bytes of a text in hexadecimal; all but digits is passed over.
+fn bytes_of(alloc: Global, hex: &str) -> Result<Vec<u8>, AllocError> {
+    let mut bytes = Vec::new(alloc);
+    let mut high: Option<u8> = None;
+    for byte in hex.as_bytes() {
+        let Some(digit) = digit_of(*byte) else {
+            continue;
+        };
+        match high.take() {
+            None => high = Some(digit),
+            Some(high) => bytes.push(high.wrapping_mul(16).wrapping_add(digit))?,
+        }
+    }
+    Ok(bytes)
+}
+
+/// An image of which so many bytes at an offset give way to others.
+fn changed(
+    alloc: Global,
+    image: &[u8],
+    at: usize,
+    removed: usize,
+    put: &[u8],
+) -> Result<Vec<u8>, Fail> {
+    let mut bytes = Vec::new(alloc);
+    let after = at.saturating_add(removed);
+    bytes.extend_from_slice(image.get(..at).ok_or("the bytes before")?)?;
+    bytes.extend_from_slice(put)?;
+    bytes.extend_from_slice(image.get(after..).ok_or("the bytes behind")?)?;
+    Ok(bytes)
+}
+
+/// Each front of an image is I1 at the field that is not there whole, and one byte more is I7.
+fn cut_off(rt: &impl Abort, alloc: Global, hex: &str) -> Result<(), Fail> {
+    let image = bytes_of(alloc, hex)?;
+    let mut start: usize = 0;
+    for field in hex.split_whitespace() {
+        let end = start.saturating_add(field.len() / 2);
+        for n in start..end {
+            let front = image.get(..n).ok_or("a front")?;
+            assert_eq!(rt;
+                read(alloc, front).err(),
+                Some(ImageFault::Truncated { at: start })
+            );
+        }
+        start = end;
+    }
+    assert_eq!(rt; start, image.len());
+    let more = changed(alloc, &image, start, 0, b"\x00")?;
+    assert_eq!(rt;
+        read(alloc, &more).err(),
+        Some(ImageFault::Trailing { at: start })
+    );
+    Ok(())
+}
+
+#[test]
+fn every_byte_cut_off(rt: HostRuntime) -> Result<(), Fail> {
+    cut_off(&rt, rt.alloc(), SMALLEST)?;
+    cut_off(&rt, rt.alloc(), FIRST_RUN)?;
+    cut_off(&rt, rt.alloc(), FIRST_POLICY)
+}
+
+fn check_fault(rt: &impl Abort, alloc: Global, row: &str) -> Result<(), Fail> {
+    let (change, expected) = row.split_once(": ").ok_or("a change and a fault")?;
+    let mut words = change.split(' ');
+    let at = words.next().ok_or("an offset")?.parse::<usize>()?;
+    let removed = words.next().ok_or("a number of bytes")?.parse::<usize>()?;
+    let put = bytes_of(alloc, words.next().ok_or("bytes")?)?;
+    let bytes = changed(alloc, &bytes_of(alloc, SMALLEST)?, at, removed, &put)?;
+    let fault = read(alloc, &bytes).err().ok_or("a fault")?;
+    let told = format!(in alloc; "{fault}")?;
+    assert_eq!(rt; told.as_str(), expected, "{row}");
+    Ok(())
+}
+
+#[test]
+fn first_faults(rt: HostRuntime) -> Result<(), Fail> {
+    for row in FAULTS.lines() {
+        if !row.is_empty() {
+            check_fault(&rt, rt.alloc(), row)?;
+        }
+    }
+    Ok(())
+}
+
+#[test]
+fn instructions_in_all(rt: HostRuntime) -> Result<(), Fail> {
+    let mut bytes = changed(rt.alloc(), &bytes_of(rt.alloc(), SMALLEST)?, 24, 1, b"\x09")?;
+    bytes.truncate(54);
+    for _ in 0..8 {
+        bytes.extend_from_slice(b"\x00\x04\x00")?;
+        for _ in 0..1024 {
+            bytes.extend_from_slice(&[0; 4])?;
+        }
+    }
+    bytes.extend_from_slice(b"\x00\x00\x00")?;
+    assert_eq!(rt; read(rt.alloc(), &bytes).err(), None);
+    bytes.truncate(32_847);
+    bytes.extend_from_slice(b"\x00\x01\x00\x00\x00\x00")?;
+    assert_eq!(rt;
+        read(rt.alloc(), &bytes).err(),
+        Some(ImageFault::OutOfLimit { at: 32_847 })
+    );
+    Ok(())
+}
+
+#[test]
+fn tests_and_commands_may_repeat(rt: HostRuntime) -> Result<(), Fail> {
+    let put = bytes_of(
+        rt.alloc(),
+        "0000 0002 0002 0001 0001 0000 0000 0000 0000000000000000
+         00093a80 0001 78 00093a80 0001 78 0001 79 0001 79",
+    )?;
+    let bytes = changed(rt.alloc(), &bytes_of(rt.alloc(), SMALLEST)?, 15, 24, &put)?;
+    let image = read(rt.alloc(), &bytes)?;
+    for test in image.parts().tests.as_slice() {
+        assert_eq!(rt; test.period, 604_800);
+        assert_eq!(rt; test.text.as_str(), "x");
+    }
+    assert_eq!(rt; image.parts().tests.len(), 2);
+    assert_eq!(rt; image.parts().commands.len(), 2);
+    assert_eq!(rt; write(rt.alloc(), &image)?.as_slice(), bytes.as_slice());
+    Ok(())
+}
+
+#[test]
+fn worked_images_read_and_written(rt: HostRuntime) -> Result<(), Fail> {
+    let bodies = [
+        Op::Link(IfaceId(0), LinkState::Up),
+        Op::Pop,
+        Op::JumpFalse(4),
+        Op::PushCommand(CommandId(0)),
+        Op::Queue,
+        Op::Ret,
+    ];
+    let [link, pop, jump, command, queue, end] = bodies;
+    let bytes = bytes_of(rt.alloc(), FIRST_RUN)?;
+    let run = read(rt.alloc(), &bytes)?;
+    check_first(&rt, &run, 2, 0, 1, &[link, pop, command, queue, end])?;
+    assert_eq!(rt; write(rt.alloc(), &run)?.as_slice(), bytes.as_slice());
+    let bytes = bytes_of(rt.alloc(), FIRST_POLICY)?;
+    let policy = read(rt.alloc(), &bytes)?;
+    check_first(&rt, &policy, 4, 2, 3, &[link, jump, command, queue, end])?;
+    assert_eq!(rt; write(rt.alloc(), &policy)?.as_slice(), bytes.as_slice());
+    Ok(())
+}
+
+/// An image of one interface `carp0`, one command `echo m` and one state `a`, all of whose routines
+/// but the last are `ret`.
+fn check_first(
+    rt: &impl Abort,
+    image: &Image,
+    routines: usize,
+    init: u16,
+    body: u16,
+    last: &[Op],
+) -> Result<(), Fail> {
+    let parts = image.parts();
+    let budgets = Budgets {
+        stack: 1,
+        frames: 1,
+        cost: 7,
+        commands: 1,
+    };
+    assert_eq!(rt; parts.budgets, budgets);
+    assert_eq!(rt; parts.interfaces.len(), 1);
+    for name in parts.interfaces.as_slice() {
+        assert_eq!(rt; name.as_str(), "carp0");
+    }
+    assert!(rt; parts.tests.is_empty());
+    assert_eq!(rt; parts.commands.len(), 1);
+    for text in parts.commands.as_slice() {
+        assert_eq!(rt; text.as_str(), "echo m");
+    }
+    assert_eq!(rt; parts.states.len(), 1);
+    for state in parts.states.as_slice() {
+        assert_eq!(rt; state.name.as_str(), "a");
+        assert_eq!(rt; state.handlers.init, RoutineId(init));
+        assert_eq!(rt; state.handlers.body, RoutineId(body));
+    }
+    assert_eq!(rt; parts.routines.len(), routines);
+    for (i, routine) in parts.routines.as_slice().iter().enumerate() {
+        let code = routine.code.as_slice();
+        if i == usize::from(body) {
+            assert_eq!(rt; code, last);
+        } else {
+            assert_eq!(rt; code, [Op::Ret].as_slice());
+        }
+    }
+    Ok(())
+}
+
+#[test]
+fn smallest_image_from_its_parts(rt: HostRuntime) -> Result<(), Fail> {
+    let none = Handlers {
+        init: RoutineId(0),
+        body: RoutineId(0),
+        mask: 0,
+    };
+    let state = StateSpec {
+        name: Text::new(String::from_str(rt.alloc(), "a")?),
+        handlers: none,
+    };
+    let routine = Routine {
+        results: 0,
+        code: Items::new([Op::Ret].to_vec(rt.alloc())?),
+    };
+    let mut parts = ImageParts {
+        budgets: Budgets {
+            stack: 33,
+            frames: 1,
+            cost: 3,
+            commands: 0,
+        },
+        initial: StateId(0),
+        always: none,
+        interfaces: Items::new(Vec::new(rt.alloc())),
+        tests: Items::new(Vec::new(rt.alloc())),
+        commands: Items::new(Vec::new(rt.alloc())),
+        states: Items::new(Vec::from_array(rt.alloc(), [state])?),
+        routines: Items::new(Vec::from_array(rt.alloc(), [routine])?),
+    };
+    assert!(rt; !parts.fits());
+    parts.budgets.stack = 0;
+    assert!(rt; parts.fits());
+    let image = Image::new(parts);
+    let bytes = bytes_of(rt.alloc(), SMALLEST)?;
+    assert_eq!(rt; write(rt.alloc(), &image)?.as_slice(), bytes.as_slice());
+    let again = read(rt.alloc(), &bytes)?;
+    assert_eq!(rt; again.parts().always, none);
+    assert_eq!(rt; write(rt.alloc(), &again)?.as_slice(), bytes.as_slice());
+    laws::prefix_free();
+    laws::one_image();
+    laws::one_spelling();
+    Ok(())
+}

@@ -1,0 +1,191 @@
+//! Image to bytes, field by field down the table of the format.
+
+ghost use Rattle.std.specs.Prelude.{◌≡◌, ◌++◌, ◌^◌, ◌<◌, All, OnOk, IfOk, IsUtf8};
+ghost use Rattle.std.specs.Int.{w16, to_be_bytes};
+ghost use Rattle.std.specs.List.{flat_map};
+ghost use Rattle.ifs_base.specs.Spelling.{spelling, HasSpelling};
+ghost use Rattle.ifs_image.specs.Limits.{CountsFit, TextFits, TestFits, RoutineFits, HandlersInRange, StateInRange};
+ghost use Rattle.ifs_image.specs.Spelling.{Spells, front_bytes, budgets_bytes, counts_bytes, counts, handlers_bytes, text_bytes, test_bytes, state_bytes, routine_bytes, image_bytes};
+
+use crate::image::Image;
+use crate::parts::{Budgets, Handlers, ImageParts, Routine, StateSpec, TestSpec};
+use ifs_base::{Op, Text, encode_op};
+use std::alloc::{AllocError, Global};
+
+/// The bytes of an image: its one spelling.
+pub fn write(alloc: Global, image: &Image) -> Result<Vec<u8>, AllocError>
+    ensures { IfOk result (λ bytes. Spells bytes.items image.now) }
+{
+    let parts = image.parts();
+    let mut out = Vec::new(alloc);
+    put_front(&mut out)?;
+    put_budgets(&mut out, parts.budgets)?;
+    put_counts(&mut out, parts)?;
+    put_u16(&mut out, parts.initial.0)?;
+    put_handlers(&mut out, parts.always)?;
+    put_texts(&mut out, parts.interfaces.as_slice())?;
+    put_tests(&mut out, parts.tests.as_slice())?;
+    put_texts(&mut out, parts.commands.as_slice())?;
+    put_states(&mut out, parts.states.as_slice())?;
+    put_routines(&mut out, parts.routines.as_slice())?;
+    Ok(out)
+}
+
+fn put_u16(out: &mut Vec<u8>, number: u16) -> Result<(), AllocError>
+    ensures bytes { OnOk result (out.new.items ≡ out.old.items ++ to_be_bytes w16 number) }
+    ensures in_range { number < 2 ^ 16 }
+{
+    out.extend_from_slice(&number.to_be_bytes())?;
+    Ok(())
+}
+
+#[tactic(auto, unfolding(crate::specs::Spelling::front_bytes))]
+fn put_front(out: &mut Vec<u8>) -> Result<(), AllocError>
+    ensures { OnOk result (out.new.items ≡ out.old.items ++ front_bytes) }
+{
+    out.extend_from_slice(b"IFSV\x01")?;
+    Ok(())
+}
+
+#[tactic(auto, unfolding(crate::specs::Spelling::budgets_bytes))]
+fn put_budgets(out: &mut Vec<u8>, budgets: Budgets) -> Result<(), AllocError>
+    ensures { OnOk result (out.new.items ≡ out.old.items ++ budgets_bytes budgets) }
+{
+    put_u16(out, budgets.stack)?;
+    put_u16(out, budgets.frames)?;
+    out.extend_from_slice(&budgets.cost.to_be_bytes())?;
+    put_u16(out, budgets.commands)?;
+    Ok(())
+}
+
+#[tactic(auto, unfolding(crate::specs::Spelling::counts_bytes))]
+fn put_counts(out: &mut Vec<u8>, parts: &ImageParts) -> Result<(), AllocError>
+    requires { CountsFit parts.now }
+    ensures { OnOk result (out.new.items ≡ out.old.items ++ counts_bytes (counts parts.now)) }
+{
+    put_u16(out, parts.interfaces.len() as u16)?;
+    put_u16(out, parts.tests.len() as u16)?;
+    put_u16(out, parts.commands.len() as u16)?;
+    put_u16(out, parts.states.len() as u16)?;
+    put_u16(out, parts.routines.len() as u16)?;
+    Ok(())
+}
+
+#[tactic(auto, unfolding(crate::specs::Spelling::handlers_bytes))]
+fn put_handlers(out: &mut Vec<u8>, handlers: Handlers) -> Result<(), AllocError>
+    ensures bytes { OnOk result (out.new.items ≡ out.old.items ++ handlers_bytes handlers) }
+    ensures in_range { HandlersInRange handlers }
+{
+    put_u16(out, handlers.init.0)?;
+    put_u16(out, handlers.body.0)?;
+    out.extend_from_slice(&handlers.mask.to_be_bytes())?;
+    Ok(())
+}
+
+#[tactic(auto, unfolding(crate::specs::Spelling::text_bytes))]
+fn put_text(out: &mut Vec<u8>, text: &Text) -> Result<(), AllocError>
+    requires { TextFits text.now }
+    ensures bytes { OnOk result (out.new.items ≡ out.old.items ++ text_bytes text.now) }
+    ensures in_range { IsUtf8 text.now }
+{
+    let bytes = text.as_str().as_bytes();
+    put_u16(out, bytes.len() as u16)?;
+    out.extend_from_slice(bytes)?;
+    Ok(())
+}
+
+fn put_texts(out: &mut Vec<u8>, texts: &[Text]) -> Result<(), AllocError>
+    requires { All TextFits texts.now }
+    ensures bytes { OnOk result (out.new.items ≡ out.old.items ++ flat_map text_bytes texts.now) }
+    ensures in_range { OnOk result (All IsUtf8 texts.now) }
+{
+    for text in texts {
+        put_text(out, text)?;
+    }
+    Ok(())
+}
+
+#[tactic(auto, unfolding(crate::specs::Spelling::test_bytes))]
+fn put_test(out: &mut Vec<u8>, test: &TestSpec) -> Result<(), AllocError>
+    requires { TestFits test.now }
+    ensures bytes { OnOk result (out.new.items ≡ out.old.items ++ test_bytes test.now) }
+    ensures in_range { OnOk result (IsUtf8 test.now.text) }
+{
+    out.extend_from_slice(&test.period.to_be_bytes())?;
+    put_text(out, &test.text)?;
+    Ok(())
+}
+
+fn put_tests(out: &mut Vec<u8>, tests: &[TestSpec]) -> Result<(), AllocError>
+    requires { All TestFits tests.now }
+    ensures bytes { OnOk result (out.new.items ≡ out.old.items ++ flat_map test_bytes tests.now) }
+    ensures in_range { OnOk result (All (λ t. IsUtf8 t.text) tests.now) }
+{
+    for test in tests {
+        put_test(out, test)?;
+    }
+    Ok(())
+}
+
+#[tactic(auto, unfolding(crate::specs::Spelling::state_bytes))]
+fn put_state(out: &mut Vec<u8>, state: &StateSpec) -> Result<(), AllocError>
+    requires { TextFits state.now.name }
+    ensures bytes { OnOk result (out.new.items ≡ out.old.items ++ state_bytes state.now) }
+    ensures in_range { OnOk result (StateInRange state.now) }
+{
+    put_text(out, &state.name)?;
+    put_handlers(out, state.handlers)?;
+    Ok(())
+}
+
+fn put_states(out: &mut Vec<u8>, states: &[StateSpec]) -> Result<(), AllocError>
+    requires { All (λ s. TextFits s.name) states.now }
+    ensures bytes { OnOk result (out.new.items ≡ out.old.items ++ flat_map state_bytes states.now) }
+    ensures in_range { OnOk result (All StateInRange states.now) }
+{
+    for state in states {
+        put_state(out, state)?;
+    }
+    Ok(())
+}
+
+fn put_op(out: &mut Vec<u8>, op: Op) -> Result<(), AllocError>
+    ensures bytes { OnOk result (out.new.items ≡ out.old.items ++ spelling op) }
+    ensures in_range { HasSpelling op }
+{
+    out.extend_from_slice(&encode_op(op))?;
+    Ok(())
+}
+
+fn put_code(out: &mut Vec<u8>, code: &[Op]) -> Result<(), AllocError>
+    ensures bytes { OnOk result (out.new.items ≡ out.old.items ++ flat_map spelling code.now) }
+    ensures in_range { OnOk result (All HasSpelling code.now) }
+{
+    for op in code {
+        put_op(out, *op)?;
+    }
+    Ok(())
+}
+
+#[tactic(auto, unfolding(crate::specs::Spelling::routine_bytes))]
+fn put_routine(out: &mut Vec<u8>, routine: &Routine) -> Result<(), AllocError>
+    requires { RoutineFits routine.now }
+    ensures bytes { OnOk result (out.new.items ≡ out.old.items ++ routine_bytes routine.now) }
+    ensures in_range { OnOk result (All HasSpelling routine.now.code) }
+{
+    out.push(routine.results)?;
+    put_u16(out, routine.code.len() as u16)?;
+    put_code(out, routine.code.as_slice())?;
+    Ok(())
+}
+
+fn put_routines(out: &mut Vec<u8>, routines: &[Routine]) -> Result<(), AllocError>
+    requires { All RoutineFits routines.now }
+    ensures bytes { OnOk result (out.new.items ≡ out.old.items ++ flat_map routine_bytes routines.now) }
+    ensures in_range { OnOk result (All (λ r. All HasSpelling r.code) routines.now) }
+{
+    for routine in routines {
+        put_routine(out, routine)?;
+    }
+    Ok(())
+}

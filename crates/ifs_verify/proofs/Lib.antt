@@ -1,0 +1,10 @@
+pub mod Assembly
+pub mod Backward
+pub mod Flow
+pub mod Holding
+pub mod Instructions
+pub mod Reaching
+pub mod Rows
+pub mod Entering
+pub mod Takings
+pub mod Verdict

@@ -1,0 +1,101 @@
+-- From an image's limits to what the checks rest on, and from their answers to what a refusal says.
+use Rattle.std.proofs.Common.{ℕ, ◌≡◌, ◌≢◌, ◌≤◌, List, length, Option, Some, None, Result, Ok, Err, arith, refl, ap, sym, subst}
+use Rattle.std.proofs.lemmas.Option.{get_or_from_slice_get, slice_get_within}
+use Rattle.std.specs.List.{slice_get, All}
+use Rattle.ifs_image.specs.declared.fault.ImageFault.{ImageFault}
+use Rattle.ifs_image.specs.declared.fault.ImageFault.TheVariants.{Truncated, WrongMagic, WrongVersion, OutOfLimit, BadText, RepeatedName, Trailing, NoInstruction, Memory}
+use Rattle.ifs_image.specs.declared.parts.Routine.{Routine}
+use Rattle.ifs_image.specs.declared.parts.ImageParts.{ImageParts}
+use Rattle.ifs_image.specs.Code.{code_in}
+use Rattle.ifs_image.specs.Limits.{Fits, RoutineFits}
+use Rattle.ifs_image.specs.Spelling.{Spells}
+use Rattle.ifs_image.specs.Reading.{image_of}
+use Rattle.ifs_verify.specs.declared.fault.VerifyFault.{VerifyFault}
+use Rattle.ifs_verify.specs.declared.fault.VerifyFault.TheVariants.{NoImage, NoEntry, JumpTarget, LeftAtEnd, Unreached, WrongOperand, WaysDisagree, CallNotLower, WrongResults, StackOver, FramesOver, CostOver, CommandsOver, HandlerLeaves, OutOfMemory}
+use Rattle.ifs_verify.specs.Accepted.{IsAccepted}
+use Rattle.ifs_verify.specs.Refused.{refusal_of, rule_of, IsRefusal}
+use Rattle.ifs_verify.specs.Passes.{IsSized, IsRefused}
+
+entry_fits : (routines : List Routine) (k : ℕ) (routine : Routine) → All RoutineFits routines → slice_get routines k ≡ Some routine → RoutineFits routine
+entry_fits routines k routine fits is =
+    subst RoutineFits (get_or_from_slice_get routines k routine routine is) (fits k routine (slice_get_within routines k routine is))
+
+code_fits : (found : Option Routine) → ((routine : Routine) → found ≡ Some routine → RoutineFits routine) → length (code_in found) ≤ 1024
+code_fits None fits = omega arith
+code_fits (Some routine) fits = (fits routine refl).code
+
+-- An image within its limits is small enough for the checks.
+pub sized : (image : ImageParts) → Fits image → IsSized image
+sized image fits = record {
+  tests = fits.counts.tests;
+  states = fits.counts.states;
+  routines = fits.counts.routines;
+  code = λ k. code_fits (slice_get image.routines k) (λ routine is. entry_fits image.routines k routine fits.routines.each is);
+  results = λ k routine is. (entry_fits image.routines k routine fits.routines.each is).results;
+}
+
+-- Each rule holds of an image that is accepted.
+pub rule_holds : (fault : VerifyFault) (image : ImageParts) → IsAccepted image → rule_of fault image
+rule_holds (NoImage fault) image accepted = tt
+rule_holds (NoEntry at) image accepted = accepted.indexes
+rule_holds (JumpTarget at) image accepted = accepted.jumps
+rule_holds (LeftAtEnd at) image accepted = accepted.ends
+rule_holds (Unreached at) image accepted = accepted.reached
+rule_holds (WrongOperand at) image accepted = accepted.typed
+rule_holds (WaysDisagree at) image accepted = accepted.typed
+rule_holds (CallNotLower at) image accepted = accepted.calls
+rule_holds (WrongResults at) image accepted = accepted.typed
+rule_holds (StackOver at) image accepted = accepted.stack
+rule_holds (FramesOver at) image accepted = accepted.frames
+rule_holds (CostOver at) image accepted = accepted.cost
+rule_holds (CommandsOver at) image accepted = accepted.commands
+rule_holds (HandlerLeaves at) image accepted = accepted.handlers
+rule_holds OutOfMemory image accepted = tt
+
+-- A check that fails in the image that the bytes spell is a refusal of them.
+pub check_refuses : (bytes : List ℕ) (image : ImageParts) (fault : VerifyFault) → Spells bytes image → IsRefused image fault → IsRefusal bytes fault
+check_refuses bytes image (NoImage fault) spelled refused = absurd (refused (λ e. cc) tt)
+check_refuses bytes image OutOfMemory spelled refused = tt
+check_refuses bytes image (NoEntry at) spelled refused = (image, spelled, refused (λ e. cc))
+check_refuses bytes image (JumpTarget at) spelled refused = (image, spelled, refused (λ e. cc))
+check_refuses bytes image (LeftAtEnd at) spelled refused = (image, spelled, refused (λ e. cc))
+check_refuses bytes image (Unreached at) spelled refused = (image, spelled, refused (λ e. cc))
+check_refuses bytes image (WrongOperand at) spelled refused = (image, spelled, refused (λ e. cc))
+check_refuses bytes image (WaysDisagree at) spelled refused = (image, spelled, refused (λ e. cc))
+check_refuses bytes image (CallNotLower at) spelled refused = (image, spelled, refused (λ e. cc))
+check_refuses bytes image (WrongResults at) spelled refused = (image, spelled, refused (λ e. cc))
+check_refuses bytes image (StackOver at) spelled refused = (image, spelled, refused (λ e. cc))
+check_refuses bytes image (FramesOver at) spelled refused = (image, spelled, refused (λ e. cc))
+check_refuses bytes image (CostOver at) spelled refused = (image, spelled, refused (λ e. cc))
+check_refuses bytes image (CommandsOver at) spelled refused = (image, spelled, refused (λ e. cc))
+check_refuses bytes image (HandlerLeaves at) spelled refused = (image, spelled, refused (λ e. cc))
+
+-- A fault in reading is a refusal of the bytes.
+pub read_refuses : (bytes : List ℕ) (fault : ImageFault) → (fault ≢ Memory → image_of bytes ≡ Err fault) → IsRefusal bytes (refusal_of fault)
+read_refuses bytes Memory first = tt
+read_refuses bytes (Truncated at) first = first (λ e. cc)
+read_refuses bytes (WrongMagic at) first = first (λ e. cc)
+read_refuses bytes (WrongVersion at) first = first (λ e. cc)
+read_refuses bytes (OutOfLimit at) first = first (λ e. cc)
+read_refuses bytes (BadText at) first = first (λ e. cc)
+read_refuses bytes (RepeatedName at) first = first (λ e. cc)
+read_refuses bytes (Trailing at) first = first (λ e. cc)
+read_refuses bytes (NoInstruction at) first = first (λ e. cc)
+
+-- A refusal that is not for memory comes from a fault in reading that is not.
+pub not_memory : (fault : ImageFault) → refusal_of fault ≢ OutOfMemory → fault ≢ Memory
+not_memory fault other e = other (ap refusal_of e)
+
+abbrev read_as : ImageParts → Result ImageParts ImageFault
+read_as image = Ok image
+
+ok_same : (a b : ImageParts) → read_as a ≡ read_as b → a ≡ b
+ok_same a b e = cc
+
+-- A check that fails in the one image that the bytes spell is one that keeps it from being accepted.
+pub refused_once : (bytes : List ℕ) (image : ImageParts) (fault : VerifyFault) → IsRefused image fault
+    → ((other : ImageParts) → Spells bytes other → read_as image ≢ Err Memory → read_as image ≡ read_as other)
+    → fault ≢ OutOfMemory → (other : ImageParts) → Spells bytes other → ¬ IsAccepted other
+refused_once bytes image fault refused only other_fault other spelled accepted =
+    let same : image ≡ other = ok_same image other (only other spelled (λ e. cc)) in
+    refused other_fault (rule_holds fault image (subst IsAccepted (sym same) accepted))

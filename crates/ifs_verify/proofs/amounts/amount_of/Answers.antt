@@ -1,0 +1,28 @@
+use Rattle.std.proofs.Common.{ℕ, ◌≡◌, ◌<◌, ◌≤◌, ◌+◌, ◌-◌, List, length, slice_index, arith, sym, ◌∙◌, subst, ap}
+use Rattle.ifs_base.specs.declared.op.Op.{Op}
+use Rattle.ifs_image.specs.Code.{code_of}
+use Rattle.ifs_verify.specs.Passes.{IsCountedFrom, weight_of}
+use Rattle.ifs_verify.proofs.Instructions.{some_code}
+use Rattle.ifs_verify.proofs.amounts.amount_of.Goals as goal
+
+pub count_at-requires-clause-counted : goal.count_at-requires-clause-counted
+count_at-requires-clause-counted c = c.loop-done.invariant (length c.code-count.result.now - 1 - c.loop-done.done + 1) (omega (arith, c.loop-done-test.true))
+
+pub first-requires : goal.first-requires
+first-requires c =
+    let counted : IsCountedFrom (weight_of c.args.weight) c.args.image.now (slice_index c.args.lower.now) c.args.routine c.loop-done.amounts.items 0 =
+    c.loop-done.invariant 0 (omega (arith, c.loop-done-test.false, c.loop-done.auto)) in
+    omega (arith, counted.long, some_code c.args.image.now c.args.routine c.requires.plain.ends c.requires.routine)
+
+pub returns-clause-holds : goal.returns-clause-holds
+returns-clause-holds c =
+    let counted : IsCountedFrom (weight_of c.args.weight) c.args.image.now (slice_index c.args.lower.now) c.args.routine c.loop-done.amounts.items 0 =
+    c.loop-done.invariant 0 (omega (arith, c.loop-done-test.false, c.loop-done.auto)) in
+    (slice_index c.loop-done.amounts.items, sym c.first.ensures, λ place op is. counted.holds place op (omega arith) is)
+
+pub returns-clause-least : goal.returns-clause-least
+returns-clause-least c = λ all are below.
+    let counted : IsCountedFrom (weight_of c.args.weight) c.args.image.now (slice_index c.args.lower.now) c.args.routine c.loop-done.amounts.items 0 =
+    c.loop-done.invariant 0 (omega (arith, c.loop-done-test.false, c.loop-done.auto)) in
+    let some = some_code c.args.image.now c.args.routine c.requires.plain.ends c.requires.routine in
+    omega (arith, c.first.ensures, counted.least all are below 0 some (omega arith))

@@ -1,0 +1,50 @@
+use Rattle.std.proofs.Common.{ℕ, ◌≡◌, ◌<◌, ◌≤◌, ◌+◌, List, [], ◌∷◌, ◌++◌, slice_index, arith, ap, sym, ◌∙◌, subst, inl, inr}
+use Rattle.std.proofs.lemmas.Bool.{cases_eq}
+use Rattle.ifs_verify.specs.Bounds.{cost_of, commands_of}
+use Rattle.ifs_verify.specs.Passes.{LeastDepths, LeastAmounts}
+use Rattle.ifs_verify.proofs.Entering.{depths_more, amounts_more, new_depth}
+use Rattle.ifs_verify.proofs.bounds.find_bounds.Goals as goal
+
+pub returns-then-depth-from-clause-refused : goal.returns-then-depth-from-clause-refused
+returns-then-depth-from-clause-refused c _ fits =
+    let image = c.args.image.now in
+    let routine = c.args.routine in
+    let lower : List ℕ = c.as_slice.result.now in
+    let found : LeastDepths image lower routine = subst (λ (xs : List ℕ). LeastDepths image xs routine) (sym c.as_slice.ensures.value) c.requires.lower.depths in
+    let least = new_depth image lower routine c.depth_of-depth.result c.requires.plain found c.depth_of-depth.ensures.least fits.0 fits.1 in
+    let low = fits.2 routine c.requires.routine in
+    omega (arith, least, low)
+
+pub returns-clause-found : goal.returns-clause-found
+returns-clause-found c =
+    let image = c.args.image.now in
+    let routine = c.args.routine in
+    let depths : List ℕ = c.as_slice.result.now in
+    let costs : List ℕ = c.as_slice-2.result.now in
+    let commands : List ℕ = c.as_slice-3.result.now in
+    let depth : ℕ = c.depth_of-depth.result in
+    let cost : ℕ = c.in_ok-cost.cost in
+    let command : ℕ = c.in_ok-commands.commands in
+    let found_depths : LeastDepths image depths routine = subst (λ (xs : List ℕ). LeastDepths image xs routine) (sym c.as_slice.ensures.value) c.requires.lower.depths in
+    let found_costs : LeastAmounts cost_of image 100000 costs routine =
+    subst (λ (xs : List ℕ). LeastAmounts cost_of image 100000 xs routine) (sym c.as_slice-2.ensures.value) c.requires.lower.costs in
+    let found_commands : LeastAmounts commands_of image 64 commands routine =
+    subst (λ (xs : List ℕ). LeastAmounts commands_of image 64 xs routine) (sym c.as_slice-3.ensures.value) c.requires.lower.commands in
+    let new_depths : c.push.new.self.items ≡ depths ++ depth ∷ [] = c.in_ok-push.ensures.items ∙ ap (λ (xs : List ℕ). xs ++ depth ∷ []) (sym c.as_slice.ensures.value) in
+    let new_costs : c.push-2.new.self.items ≡ costs ++ cost ∷ [] = c.in_ok-push-2.ensures.items ∙ ap (λ (xs : List ℕ). xs ++ cost ∷ []) (sym c.as_slice-2.ensures.value) in
+    let new_commands : c.push-3.new.self.items ≡ commands ++ command ∷ [] = c.in_ok-push-3.ensures.items ∙ ap (λ (xs : List ℕ). xs ++ command ∷ []) (sym c.as_slice-3.ensures.value) in
+    record {
+      heights_low = λ k below.
+          elim (cases_eq k routine) [
+            | inl e ↦
+                let here : slice_index c.args.heights.now.items k ≡ c.entry.result = ap (slice_index c.args.heights.now.items) e ∙ sym c.entry.ensures in
+                omega (arith, here)
+            | inr ne ↦ c.requires.lower.heights_low k (omega arith)
+          ];
+      depths = subst (λ (xs : List ℕ). LeastDepths image xs (routine + 1)) (sym new_depths)
+          (depths_more image depths routine depth c.requires.plain found_depths c.depth_of-depth.ensures.holds c.depth_of-depth.ensures.least (omega arith));
+      costs = subst (λ (xs : List ℕ). LeastAmounts cost_of image 100000 xs (routine + 1)) (sym new_costs)
+          (amounts_more cost_of image 100000 costs routine cost c.requires.plain found_costs c.in_ok-cost.ensures.holds c.in_ok-cost.ensures.least (omega arith));
+      commands = subst (λ (xs : List ℕ). LeastAmounts commands_of image 64 xs (routine + 1)) (sym new_commands)
+          (amounts_more commands_of image 64 commands routine command c.requires.plain found_commands c.in_ok-commands.ensures.holds c.in_ok-commands.ensures.least (omega arith));
+    }

@@ -1,0 +1,45 @@
+use Rattle.std.proofs.Common.{ℕ, ◌≡◌, ◌<◌, ◌≤◌, ◌+◌, List, length, Some, arith, ap, sym, ◌∙◌, subst, inl, inr, slice_index}
+use Rattle.std.specs.List.{slice_get}
+use Rattle.std.proofs.lemmas.Bool.{cases_eq}
+use Rattle.std.proofs.lemmas.Option.{slice_get_within}
+use Rattle.ifs_base.specs.declared.ids.RoutineId.{RoutineId}
+use Rattle.ifs_base.specs.declared.op.Op.{Op}
+use Rattle.ifs_base.specs.declared.op.Op.TheVariants.{Call}
+use Rattle.ifs_image.specs.Code.{op_at, code_of}
+use Rattle.ifs_verify.proofs.depths.depth_of.Goals as goal
+
+some_op : (a b : Op) → Some a ≡ Some b → a ≡ b
+some_op a b e = cc
+
+pub depth_at-here-requires-clause-callee : goal.depth_at-here-requires-clause-callee
+depth_at-here-requires-clause-callee c = λ callee is.
+    let here : op_at c.args.image.now c.args.routine c.loop-place.place ≡ Some c.op_at.result = subst (λ (code : List Op). slice_get code c.loop-place.place ≡ Some c.op_at.result) c.code-code.ensures c.op_at.ensures in
+    let lower = c.requires.plain.calls c.args.routine c.loop-place.place callee (here ∙ ap (λ (o : Op). Some o) is) in
+    omega (arith, lower, c.requires.long)
+
+pub loop-place-preserved : goal.loop-place-preserved
+loop-place-preserved c =
+    let here : op_at c.args.image.now c.args.routine c.loop-place.place ≡ Some c.op_at.result = subst (λ (code : List Op). slice_get code c.loop-place.place ≡ Some c.op_at.result) c.code-code.ensures c.op_at.ensures in
+    record {
+      own = omega (arith, c.loop-place.invariant.own, c.greater-depth.ensures.left);
+      calls = λ place callee below is.
+          elim (cases_eq place c.loop-place.place) [
+            | inl e ↦
+                let same : c.op_at.result ≡ Call callee =
+                some_op c.op_at.result (Call callee) (sym here ∙ subst (λ (n : ℕ). op_at c.args.image.now c.args.routine n ≡ Some (Call callee)) e is) in
+                omega (arith, c.depth_at-here.ensures.call callee same, c.greater-depth.ensures.right)
+            | inr ne ↦ omega (arith, c.loop-place.invariant.calls place callee (omega arith) is, c.greater-depth.ensures.left)
+          ];
+      least = λ bound holds.
+          c.greater-depth.ensures.least bound (c.loop-place.invariant.least bound holds)
+          (c.depth_at-here.ensures.least bound holds.own (λ callee is. holds.calls c.loop-place.place callee (here ∙ ap (λ (o : Op). Some o) is)));
+    }
+
+pub returns-clause-holds : goal.returns-clause-holds
+returns-clause-holds c = record {
+  own = c.loop-place.invariant.own;
+  calls = λ place callee is.
+      let within : place < length (code_of c.args.image.now c.args.routine) = slice_get_within (code_of c.args.image.now c.args.routine) place (Call callee) is in
+      let below : place < length c.code-code.result.now = subst (λ (code : List Op). place < length code) (sym c.code-code.ensures) within in
+      c.loop-place.invariant.calls place callee (omega arith) is;
+}

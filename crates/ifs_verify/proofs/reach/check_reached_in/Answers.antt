@@ -1,0 +1,39 @@
+use Rattle.std.proofs.Common.{ℕ, ◌≡◌, ◌<◌, ◌≤◌, ◌+◌, List, length, Some, arith, sym, ◌∙◌, ap, subst, inl, inr}
+use Rattle.std.specs.List.{slice_get}
+use Rattle.ifs_base.specs.declared.op.Op.{Op}
+use Rattle.ifs_image.specs.Code.{op_at, target_of}
+use Rattle.std.proofs.lemmas.Bool.{cases_eq}
+use Rattle.ifs_verify.specs.Rules.{IsReached}
+use Rattle.ifs_verify.specs.Passes.{next_of}
+use Rattle.ifs_verify.proofs.Reaching.{Marks, follows_more, marked_more}
+use Rattle.ifs_verify.proofs.reach.check_reached_in.Goals as goal
+
+pub loop-place-preserved : goal.loop-place-preserved
+loop-place-preserved c =
+    let image = c.args.image.now in
+    let routine = c.args.routine in
+    let place = c.loop-place.place in
+    let op = c.op_at-op.result in
+    let before = c.loop-place.marks.items in
+    let between = c.mark.new.marks.items in
+    let after = c.mark-in-loop-place.new.marks.items in
+    let here : op_at image routine place ≡ Some op = subst (λ (code : List Op). slice_get code place ≡ Some op) c.code-code.ensures c.op_at-op.ensures in
+    let first : Marks before between (next_of op place) = subst (Marks before between) c.next.ensures c.mark.ensures.marked in
+    let second : Marks between after (target_of op) = subst (Marks between after) c.target.ensures c.mark-in-loop-place.ensures.marked in
+    record {
+      long = c.mark-in-loop-place.ensures.long ∙ c.mark.ensures.long ∙ c.loop-place.invariant.long;
+      follows = follows_more image routine place op before between after here first second c.loop-place.invariant.follows;
+      marked = λ k within.
+          marked_more image routine place op before between after here c.mark.ensures.long first second
+          (λ j inside. c.loop-place.invariant.marked j (omega (arith, inside, c.loop-place.invariant.long))) k (omega (arith, within, c.loop-place.invariant.long));
+      reached = λ k positive below.
+          elim (cases_eq k place) [
+            | inl e ↦
+                subst (λ (n : ℕ). IsReached image routine n) (sym e)
+                (elim (c.is_reached.ensures.0 c.if-not-is_reached.false) [
+                  | inl zero ↦ absurd (omega arith)
+                  | inr marked ↦ c.loop-place.invariant.follows place marked
+                ])
+            | inr ne ↦ c.loop-place.invariant.reached k positive (omega arith)
+          ];
+    }

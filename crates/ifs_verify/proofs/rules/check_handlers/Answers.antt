@@ -1,0 +1,16 @@
+use Rattle.std.proofs.Common.{ℕ, ◌≡◌, ◌<◌, rules, arith}
+use Rattle.ifs_verify.specs.Rules.{LeaveNothing}
+use Rattle.ifs_verify.proofs.Instructions.{states_more}
+use Rattle.std.proofs.lemmas.Option.{slice_get_within}
+use Rattle.ifs_verify.proofs.rules.check_handlers.Goals as goal
+
+pub loop-state-preserved : goal.loop-state-preserved
+loop-state-preserved c =
+    states_more c.args.image.now.states (LeaveNothing c.args.image.now) c.loop-state.state c.handlers_of.result
+    c.loop-state.invariant c.handlers_of.ensures (c.leave_nothing-in-loop-state.ensures.0 c.if-not-leave_nothing-2.false)
+
+pub returns-clause-kept : goal.returns-clause-kept
+returns-clause-kept c = record {
+  always = c.leave_nothing.ensures.0 c.if-not-leave_nothing.false;
+  states = λ k state is. c.loop-state.invariant k state (omega (arith, slice_get_within c.args.image.now.states k state is)) is;
+}

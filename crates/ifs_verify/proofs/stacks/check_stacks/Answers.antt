@@ -1,0 +1,17 @@
+use Rattle.std.proofs.Common.{ℕ, ◌≡◌, ◌+◌, List, [], ◌∷◌, ◌++◌, ap, sym, ◌∙◌, subst}
+use Rattle.ifs_verify.specs.Passes.{LeastHeights}
+use Rattle.ifs_verify.proofs.Entering.{heights_more}
+use Rattle.ifs_verify.proofs.stacks.check_stacks.Goals as goal
+
+pub loop-routine-preserved : goal.loop-routine-preserved
+loop-routine-preserved c =
+    let image = c.args.image.now in
+    let routine = c.loop-routine.routine in
+    let lower : List ℕ = c.as_slice.result.now in
+    let height : ℕ = c.height_of-height.result in
+    let e : lower ≡ c.loop-routine.heights.items = c.as_slice.ensures.value in
+    let found : LeastHeights image lower routine = subst (λ (xs : List ℕ). LeastHeights image xs routine) (sym e) c.loop-routine.invariant in
+    let items : c.push.new.self.items ≡ lower ++ height ∷ [] = c.in_ok-push.ensures.items ∙ ap (λ (xs : List ℕ). xs ++ height ∷ []) (sym e) in
+    subst (λ (xs : List ℕ). LeastHeights image xs (routine + 1)) (sym items)
+    (heights_more image lower routine height c.in_ok-rows.rows.items c.requires found c.in_ok-rows.ensures.typed
+    c.height_of-height.ensures.holds c.height_of-height.ensures.least)

@@ -1,0 +1,5 @@
+use Rattle.ifs_verify.specs.Passes.{LeastHeights}
+use Rattle.ifs_verify.proofs.stacks.check_stacks.Given as goal
+
+abbrev pub invariant-loop-routine : goal.invariant-loop-routine
+invariant-loop-routine l = LeastHeights l.image l.heights.items l.routine

@@ -1,0 +1,13 @@
+-- Laws of the definitions.
+use Rattle.std.specs.Prelude.{ℕ, ◌≡◌, ◌<◌, List, length}
+use Rattle.ifs_base.specs.declared.op.Kind.{Kind}
+use Rattle.ifs_image.specs.declared.parts.ImageParts.{ImageParts}
+use Rattle.ifs_image.specs.Code.{code_of}
+use Rattle.ifs_verify.specs.Rules.{PlacesAreReached}
+use Rattle.ifs_verify.specs.Typing.{IsTyping}
+
+-- Where each place is reached, two typings of a routine agree at each of its places.
+abbrev pub HasOneTyping : Type 0
+HasOneTyping = (image : ImageParts) (routine : ℕ) (kinds other : ℕ → List Kind) → PlacesAreReached image
+    → IsTyping image routine kinds → IsTyping image routine other
+    → (place : ℕ) → place < length (code_of image routine) → kinds place ≡ other place

@@ -1,0 +1,230 @@
+-- What the verifier's passes find, and what they rest on.
+use Rattle.std.specs.Prelude.{ℕ, ◌≡◌, ◌≢◌, ◌+◌, ◌<◌, ◌≤◌, Bool, true, false, List, [], ◌∷◌, ◌++◌, length, Option, Some, None, slice_get, slice_index, ◌*◌}
+use Rattle.std.specs.Option.{option_flatten}
+use Rattle.ifs_base.specs.declared.ids.RoutineId.{RoutineId}
+use Rattle.ifs_base.specs.declared.op.Kind.{Kind}
+use Rattle.ifs_base.specs.declared.op.Kind.TheVariants.{Truth, Command, StateName}
+use Rattle.ifs_base.specs.declared.op.Op.{Op}
+use Rattle.ifs_base.specs.declared.op.Op.TheVariants.{Ret, Yes, No, Link, Test, Known, Negate, Both, Either, PushCommand, PushState, Queue, Want, Jump, JumpFalse, JumpTrue, Call, Pop, Dup}
+use Rattle.ifs_image.specs.declared.parts.Handlers.{Handlers}
+use Rattle.ifs_image.specs.declared.parts.StateSpec.{StateSpec}
+use Rattle.ifs_image.specs.declared.parts.Routine.{Routine}
+use Rattle.ifs_image.specs.declared.parts.ImageParts.{ImageParts}
+use Rattle.ifs_image.specs.Code.{op_at, code_of, results_of, target_of, effect, IsSuccessor}
+use Rattle.ifs_verify.specs.declared.fault.VerifyFault.{VerifyFault}
+use Rattle.ifs_verify.specs.declared.fault.At.{At}
+use Rattle.ifs_verify.specs.declared.fault.VerifyFault.TheVariants.{NoEntry, JumpTarget, CallNotLower, OutOfMemory}
+use Rattle.ifs_verify.specs.declared.rules.OpRule.{OpRule}
+use Rattle.ifs_verify.specs.declared.rules.OpRule.TheVariants.{Operand, Target, Callee}
+use Rattle.ifs_verify.specs.declared.budgets.Part.{Part}
+use Rattle.ifs_verify.specs.declared.budgets.Part.TheVariants.{Init, Body}
+use Rattle.ifs_verify.specs.Rules.{HasOperand, IndexesFit, JumpsLeadOn, RoutinesEnd, CallsGoDown, PlacesAreReached}
+use Rattle.ifs_verify.specs.declared.amounts.Weight.{Weight}
+use Rattle.ifs_verify.specs.declared.amounts.Weight.TheVariants.{Cost, Commands}
+use Rattle.ifs_verify.specs.Bounds.{cost_of, commands_of, callee_amount, AreHeights, AreDepths, AreAmounts}
+use Rattle.ifs_verify.specs.Typing.{IsTyping, AreTypings}
+use Rattle.ifs_verify.specs.Refused.{rule_of}
+
+-- The limits of an image on which the passes rest.
+pub record IsSized (image : ImageParts) : Type 0 where
+  pub tests : length image.tests ≤ 64
+  pub states : length image.states ≤ 256
+  pub routines : length image.routines ≤ 1024
+  pub code : (routine : ℕ) → length (code_of image routine) ≤ 1024
+  pub results : (k : ℕ) (routine : Routine) → slice_get image.routines k ≡ Some routine → routine.results ≤ 1
+
+-- A fault names a rule that fails, unless it is want of memory.
+abbrev pub IsRefused : ImageParts → VerifyFault → Type 0
+IsRefused image fault = fault ≢ OutOfMemory → ¬ rule_of fault image
+
+-- What a rule asks of the instruction at a place.
+abbrev pub Keeps : OpRule → ImageParts → ℕ → ℕ → Op → Type 0
+Keeps Operand image routine place op = HasOperand image op
+Keeps Target image routine place op = (target : ℕ) → target_of op ≡ Some target → (place < target) × (target < length (code_of image routine))
+Keeps Callee image routine place op = (callee : RoutineId) → op ≡ Call callee → callee.0 < routine
+
+-- The fault that names a rule.
+abbrev pub fault_of : OpRule → At → VerifyFault
+fault_of Operand at = NoEntry at
+fault_of Target at = JumpTarget at
+fault_of Callee at = CallNotLower at
+
+-- The next place, where control may go on there.
+abbrev pub next_of : Op → ℕ → Option ℕ
+next_of Ret place = None
+next_of (Jump target) place = None
+next_of _ place = Some (place + 1)
+
+-- The list below a kind that is wanted on top; none where another or nothing is there.
+unfoldable pub without : Kind → List Kind → Option (List Kind)
+without kind [] = None
+without Truth (Truth ∷ below) = Some below
+without Command (Command ∷ below) = Some below
+without StateName (StateName ∷ below) = Some below
+without kind (other ∷ below) = None
+
+-- The list below the topmost kind.
+unfoldable pub below_top : List Kind → Option (List Kind)
+below_top [] = None
+below_top (kind ∷ below) = Some below
+
+-- The topmost kind once more.
+unfoldable pub top_twice : List Kind → Option (List Kind)
+top_twice [] = None
+top_twice (kind ∷ below) = Some (kind ∷ kind ∷ below)
+
+-- Both lists, one after the other, where each is there.
+abbrev pub and_then : Option (List Kind) → (List Kind → Option (List Kind)) → Option (List Kind)
+and_then None next = None
+and_then (Some kinds) next = next kinds
+
+-- The kinds after an instruction, said by what it takes off and puts on.
+abbrev pub left_by : ImageParts → Op → List Kind → Option (List Kind)
+left_by image Ret kinds = Some kinds
+left_by image Yes kinds = Some (Truth ∷ kinds)
+left_by image No kinds = Some (Truth ∷ kinds)
+left_by image (Link n s) kinds = Some (Truth ∷ kinds)
+left_by image (Test n) kinds = Some (Truth ∷ kinds)
+left_by image (Known n) kinds = Some (Truth ∷ kinds)
+left_by image Negate kinds = and_then (without Truth kinds) (λ below. Some (Truth ∷ below))
+left_by image Both kinds = and_then (without Truth kinds) (λ below. and_then (without Truth below) (λ rest. Some (Truth ∷ rest)))
+left_by image Either kinds = and_then (without Truth kinds) (λ below. and_then (without Truth below) (λ rest. Some (Truth ∷ rest)))
+left_by image (PushCommand n) kinds = Some (Command ∷ kinds)
+left_by image (PushState n) kinds = Some (StateName ∷ kinds)
+left_by image Queue kinds = without Command kinds
+left_by image Want kinds = without StateName kinds
+left_by image (Jump target) kinds = Some kinds
+left_by image (JumpFalse target) kinds = without Truth kinds
+left_by image (JumpTrue target) kinds = without Truth kinds
+left_by image (Call n) kinds = Some (results_of image n.0 ++ kinds)
+left_by image Pop kinds = below_top kinds
+left_by image Dup kinds = top_twice kinds
+
+-- The list of kinds at a place, where one is found.
+abbrev pub row_at : List (Option (List Kind)) → ℕ → Option (List Kind)
+row_at rows place = option_flatten (slice_get rows place)
+
+-- What the instruction at a place leaves of what stands there.
+pub record Leaves (image : ImageParts) (routine : ℕ) (rows : List (Option (List Kind))) (place : ℕ) (op : Op) (after : List Kind) : Type 0 where
+  pub before : List Kind
+  pub here : row_at rows place ≡ Some before
+  pub effect_is : effect image op before ≡ Some after
+  pub within : length after ≤ 32
+  pub results : op ≡ Ret → before ≡ results_of image routine
+
+-- A place whose successors have what its instruction leaves.
+pub record HasPassed (image : ImageParts) (routine : ℕ) (rows : List (Option (List Kind))) (place : ℕ) (op : Op) : Type 0 where
+  pub after : List Kind
+  pub leaves : Leaves image routine rows place op after
+  pub onward : (to : ℕ) → IsSuccessor op place to → row_at rows to ≡ Some after
+
+-- The rows of a routine, whose places below one are passed. What they hold is what each typing has.
+pub record IsTypedUpTo (image : ImageParts) (routine : ℕ) (rows : List (Option (List Kind))) (done : ℕ) : Type 0 where
+  pub long : length rows ≡ length (code_of image routine)
+  pub start : row_at rows 0 ≡ Some []
+  pub within : (place : ℕ) (kinds : List Kind) → row_at rows place ≡ Some kinds → length kinds ≤ 32
+  pub passed : (place : ℕ) (op : Op) → place < done → op_at image routine place ≡ Some op → HasPassed image routine rows place op
+  pub forced : (typing : ℕ → List Kind) → IsTyping image routine typing → (place : ℕ) (kinds : List Kind) → row_at rows place ≡ Some kinds → typing place ≡ kinds
+
+-- What the first rows have, the others have too.
+abbrev pub Extends : List (Option (List Kind)) → List (Option (List Kind)) → Type 0
+Extends old new = (place : ℕ) (kinds : List Kind) → row_at old place ≡ Some kinds → row_at new place ≡ Some kinds
+
+-- The rules that stand when the stacks are looked at.
+pub record IsPlain (image : ImageParts) : Type 0 where
+  pub sized : IsSized image
+  pub indexes : IndexesFit image
+  pub jumps : JumpsLeadOn image
+  pub ends : RoutinesEnd image
+  pub calls : CallsGoDown image
+  pub reached : PlacesAreReached image
+
+-- A place of a row of marks that is marked.
+abbrev pub IsMarked : List Bool → ℕ → Type 0
+IsMarked marks k = slice_get marks k ≡ Some true
+
+-- A height is large enough for one instruction, with what stands before it.
+pub record HoldsHeight (image : ImageParts) (heights : ℕ → ℕ) (op : Op) (kinds : List Kind) (height : ℕ) : Type 0 where
+  pub before : length kinds ≤ height
+  pub after : (left : List Kind) → effect image op kinds ≡ Some left → length left ≤ height
+  pub call : (callee : RoutineId) → op ≡ Call callee → length kinds + heights callee.0 ≤ height
+
+-- Each height is at most 32 above those of all routines below.
+abbrev pub AreLow : List ℕ → Type 0
+AreLow heights = (routine : ℕ) → slice_index heights routine ≤ 32 * (routine + 1)
+
+-- A place follows the instruction at one below another.
+abbrev pub FollowsBelow : ImageParts → ℕ → ℕ → ℕ → Type 0
+FollowsBelow image routine done to = (place : ℕ) × (op : Op) × (place < done) × (op_at image routine place ≡ Some op) × IsSuccessor op place to
+
+-- A number of frames is large enough for a routine's own, and for those of each callee above it.
+pub record HoldsDepth (image : ImageParts) (depths : ℕ → ℕ) (routine depth : ℕ) : Type 0 where
+  pub own : 1 ≤ depth
+  pub calls : (place : ℕ) (callee : RoutineId) → op_at image routine place ≡ Some (Call callee) → depths callee.0 + 1 ≤ depth
+
+-- The weight of an instruction, by what is counted.
+abbrev pub weight_of : Weight → Op → ℕ
+weight_of Cost = cost_of
+weight_of Commands = commands_of
+
+-- The amount at a successor; 0 where there is none.
+abbrev pub amount_behind : (ℕ → ℕ) → Option ℕ → ℕ
+amount_behind row None = 0
+amount_behind row (Some to) = row to
+
+-- An amount is large enough for one instruction and what may follow it.
+pub record HoldsAmount (weight : Op → ℕ) (lower row : ℕ → ℕ) (op : Op) (place amount : ℕ) : Type 0 where
+  pub own : weight op + callee_amount (λ routine to. lower routine) op ≤ amount
+  pub onward : (to : ℕ) → IsSuccessor op place to → weight op + callee_amount (λ routine k. lower routine) op + row to ≤ amount
+
+-- A row of amounts, one for each place of a routine.
+abbrev pub HoldsRow : (Op → ℕ) → ImageParts → (ℕ → ℕ) → ℕ → (ℕ → ℕ) → Type 0
+HoldsRow weight image lower routine row = (place : ℕ) (op : Op) → op_at image routine place ≡ Some op → HoldsAmount weight lower row op place (row place)
+
+-- The amounts of the places from one on, each a bound and below every bound.
+pub record IsCountedFrom (weight : Op → ℕ) (image : ImageParts) (lower : ℕ → ℕ) (routine : ℕ) (amounts : List ℕ) (place : ℕ) : Type 0 where
+  pub long : length amounts ≡ length (code_of image routine)
+  pub low : (k : ℕ) → slice_index amounts k + 100001 * place ≤ 100001 * length (code_of image routine)
+  pub holds : (k : ℕ) (op : Op) → place ≤ k → op_at image routine k ≡ Some op → HoldsAmount weight lower (slice_index amounts) op k (slice_index amounts k)
+  pub least : (all : ℕ → ℕ → ℕ) → AreAmounts weight image all → ((k : ℕ) → k < routine → lower k ≤ all k 0)
+      → (k : ℕ) → k < length (code_of image routine) → place ≤ k → slice_index amounts k ≤ all routine k
+
+-- A routine's typing whose heights a height holds.
+abbrev pub IsHeld : ImageParts → (ℕ → ℕ) → ℕ → (ℕ → List Kind) → Type 0
+IsHeld image heights routine kinds = IsTyping image routine kinds
+    × ((place : ℕ) (op : Op) → op_at image routine place ≡ Some op → HoldsHeight image heights op (kinds place) (heights routine))
+
+-- The heights of the routines below one, each a bound and below every bound.
+pub record LeastHeights (image : ImageParts) (heights : List ℕ) (done : ℕ) : Type 0 where
+  pub long : length heights ≡ done
+  pub low : AreLow heights
+  pub held : (routine : ℕ) → routine < done → (kinds : ℕ → List Kind) × IsHeld image (slice_index heights) routine kinds
+  pub least : (kinds : ℕ → ℕ → List Kind) (all : ℕ → ℕ) → AreTypings image kinds → AreHeights image kinds all
+      → (routine : ℕ) → routine < done → slice_index heights routine ≤ all routine
+
+-- The frames of the routines below one, each a bound and below every bound.
+pub record LeastDepths (image : ImageParts) (depths : List ℕ) (done : ℕ) : Type 0 where
+  pub long : length depths ≡ done
+  pub low : (k : ℕ) → slice_index depths k ≤ 32
+  pub held : (routine : ℕ) → routine < done → HoldsDepth image (slice_index depths) routine (slice_index depths routine)
+  pub least : (all : ℕ → ℕ) → AreDepths image all → (routine : ℕ) → routine < done → slice_index depths routine ≤ all routine
+
+-- A row of amounts that begins with a routine's amount.
+abbrev pub IsCounted : (Op → ℕ) → ImageParts → (ℕ → ℕ) → ℕ → (ℕ → ℕ) → Type 0
+IsCounted weight image amounts routine row = (row 0 ≡ amounts routine) × HoldsRow weight image amounts routine row
+
+-- The amounts of the routines below one, each a bound and below every bound.
+pub record LeastAmounts (weight : Op → ℕ) (image : ImageParts) (limit : ℕ) (amounts : List ℕ) (done : ℕ) : Type 0 where
+  pub long : length amounts ≡ done
+  pub low : (k : ℕ) → slice_index amounts k ≤ limit
+  pub held : (routine : ℕ) → routine < done → (row : ℕ → ℕ) × IsCounted weight image (slice_index amounts) routine row
+  pub least : (all : ℕ → ℕ → ℕ) → AreAmounts weight image all → (routine : ℕ) → routine < done → slice_index amounts routine ≤ all routine 0
+
+-- The routine of a part's handler.
+abbrev pub part_of : Part → Handlers → RoutineId
+part_of Init handlers = handlers.init
+part_of Body handlers = handlers.body
+
+-- A number is large enough for the handler of each state.
+abbrev pub Reaches : Part → ImageParts → (ℕ → ℕ) → ℕ → Type 0
+Reaches part image amount bound = (k : ℕ) (state : StateSpec) → slice_get image.states k ≡ Some state → amount (part_of part state.handlers).0 ≤ bound

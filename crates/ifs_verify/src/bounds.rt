@@ -1,0 +1,93 @@
+//! The bounds of each routine, within the limits.
+
+ghost use Rattle.std.specs.Prelude.{◌≡◌, ◌+◌, [], length, OnOk, IfOk, IfErr};
+ghost use Rattle.ifs_verify.specs.Rules.{IsRoutine};
+ghost use Rattle.ifs_verify.specs.Bounds.{cost_of, commands_of};
+ghost use Rattle.ifs_verify.specs.Passes.{IsPlain, IsRefused, LeastHeights};
+ghost use Rattle.ifs_verify.specs.Found.{AreFound};
+
+use crate::amounts::{Weight, amount_of};
+use crate::depths::depth_of;
+use crate::fault::VerifyFault;
+use crate::places::at;
+use crate::tables::entry;
+use ifs_image::{ImageParts, limits};
+use std::alloc::Global;
+
+/// Instructions that a run of one routine executes.
+pub const ROUTINE_COST: u32 = 100_000;
+
+/// What each routine uses at most.
+#[derive(Drop)]
+pub struct Bounds {
+    /// Frames at one time.
+    pub depths: Vec<u32>,
+    /// Executed instructions.
+    pub costs: Vec<u32>,
+    /// Queued commands.
+    pub commands: Vec<u32>,
+}
+
+/// V10 to V13 at a routine, one routine after the other.
+pub fn check_bounds(
+    alloc: Global,
+    image: &ImageParts,
+    heights: &Vec<u32>,
+) -> Result<Bounds, VerifyFault>
+    requires plain { IsPlain image.now }
+    requires heights { LeastHeights image.now heights.now.items (length image.now.routines) }
+    ensures found { IfOk result (λ bounds. AreFound image.now heights.now.items bounds (length image.now.routines)) }
+    ensures refused { IfErr result (IsRefused image.now) }
+{
+    let mut bounds = Bounds {
+        depths: Vec::new(alloc),
+        costs: Vec::new(alloc),
+        commands: Vec::new(alloc),
+    };
+    for routine in 0..image.routines.len() {
+        find_bounds(alloc, image, routine, heights, &mut bounds)?;
+    }
+    Ok(bounds)
+}
+
+/// The bounds of one routine, where those of the lower ones are known.
+fn find_bounds(
+    alloc: Global,
+    image: &ImageParts,
+    routine: usize,
+    heights: &Vec<u32>,
+    bounds: &mut Bounds,
+) -> Result<(), VerifyFault>
+    requires plain { IsPlain image.now }
+    requires heights { LeastHeights image.now heights.now.items (length image.now.routines) }
+    requires routine { IsRoutine image.now routine }
+    requires lower { AreFound image.now heights.now.items bounds.old routine }
+    ensures found { OnOk result (AreFound image.now heights.now.items bounds.new (routine + 1)) }
+    ensures refused { IfErr result (IsRefused image.now) }
+{
+    if entry(heights, routine) > u32::from(limits::STACK) {
+        return Err(VerifyFault::StackOver(at(routine, 0)));
+    }
+    let depth = depth_of(image, routine, bounds.depths.as_slice());
+    if depth > u32::from(limits::FRAMES) {
+        return Err(VerifyFault::FramesOver(at(routine, 0)));
+    }
+    let cost = amount_of(alloc, image, routine, Weight::Cost, bounds.costs.as_slice())?;
+    if cost > ROUTINE_COST {
+        return Err(VerifyFault::CostOver(at(routine, 0)));
+    }
+    let commands = amount_of(
+        alloc,
+        image,
+        routine,
+        Weight::Commands,
+        bounds.commands.as_slice(),
+    )?;
+    if commands > u32::from(limits::COMMANDS_OF_EVENT) {
+        return Err(VerifyFault::CommandsOver(at(routine, 0)));
+    }
+    bounds.depths.push(depth)?;
+    bounds.costs.push(cost)?;
+    bounds.commands.push(commands)?;
+    Ok(())
+}

@@ -1,0 +1,138 @@
+//! The stated budgets, against the bounds of the handlers.
+
+ghost use Rattle.std.specs.Prelude.{ℕ, ◌≡◌, ◌+◌, ◌<◌, ◌≤◌, ◌↔◌, Some, IsTrue, OnOk, IfErr, length, slice_get, slice_index};
+ghost use Rattle.ifs_image.specs.declared.parts.StateSpec.{StateSpec};
+ghost use Rattle.ifs_verify.specs.Bounds.{FitsEvents, FitsHandlers};
+ghost use Rattle.ifs_verify.specs.Rules.{AreRoutines, IndexesFit};
+ghost use Rattle.ifs_verify.specs.Passes.{IsPlain, IsRefused, LeastHeights, Reaches, part_of};
+ghost use Rattle.ifs_verify.specs.Found.{AreFound};
+
+use crate::bounds::Bounds;
+use crate::fault::{At, VerifyFault};
+use crate::places::handlers_of;
+use crate::tables::{entry, greater};
+use ifs_base::RoutineId;
+use ifs_image::{Handlers, ImageParts};
+
+/// A handler of a part.
+#[derive(Clone, Copy)]
+pub enum Part {
+    /// What runs when the part is entered.
+    Init,
+    /// What runs at each evaluation.
+    Body,
+}
+
+/// V10 to V13 at the head.
+pub fn check_budgets(
+    image: &ImageParts,
+    heights: &Vec<u32>,
+    bounds: &Bounds,
+) -> Result<(), VerifyFault>
+    requires plain { IsPlain image.now }
+    requires heights { LeastHeights image.now heights.now.items (length image.now.routines) }
+    requires found { AreFound image.now heights.now.items bounds.now (length image.now.routines) }
+    ensures stack { OnOk result (FitsHandlers image.now (slice_index heights.now.items) image.now.budgets.stack) }
+    ensures frames { OnOk result (FitsHandlers image.now (slice_index bounds.now.depths.items) image.now.budgets.frames) }
+    ensures cost { OnOk result (FitsEvents image.now (slice_index bounds.now.costs.items) image.now.budgets.cost) }
+    ensures commands { OnOk result (FitsEvents image.now (slice_index bounds.now.commands.items) image.now.budgets.commands) }
+    ensures refused { IfErr result (IsRefused image.now) }
+{
+    if !fit_handlers(image, heights, image.budgets.stack) {
+        return Err(VerifyFault::StackOver(At::Head));
+    }
+    if !fit_handlers(image, &bounds.depths, image.budgets.frames) {
+        return Err(VerifyFault::FramesOver(At::Head));
+    }
+    if !fit_events(image, &bounds.costs, image.budgets.cost) {
+        return Err(VerifyFault::CostOver(At::Head));
+    }
+    if !fit_events(image, &bounds.commands, u32::from(image.budgets.commands)) {
+        return Err(VerifyFault::CommandsOver(At::Head));
+    }
+    Ok(())
+}
+
+/// Whether what each handler reaches is within what is stated.
+fn fit_handlers(image: &ImageParts, reach: &Vec<u32>, stated: u16) -> bool
+    requires indexes { IndexesFit image.now }
+    requires long { length reach.now.items ≡ length image.now.routines }
+    ensures { IsTrue result ↔ FitsHandlers image.now (slice_index reach.now.items) stated }
+{
+    fit_part(reach, image.always, stated) && fit_states(image, reach, stated)
+}
+
+/// The same of each state.
+fn fit_states(image: &ImageParts, reach: &Vec<u32>, stated: u16) -> bool
+    requires indexes { IndexesFit image.now }
+    requires long { length reach.now.items ≡ length image.now.routines }
+    ensures { IsTrue result ↔ ((k : ℕ) (state : StateSpec) → slice_get image.now.states k ≡ Some state → (slice_index reach.now.items state.handlers.init.0 ≤ stated) × (slice_index reach.now.items state.handlers.body.0 ≤ stated)) }
+{
+    for state in 0..image.states.len() {
+        if !fit_part(reach, handlers_of(image, state), stated) {
+            return false;
+        }
+    }
+    true
+}
+
+/// The same of one part.
+fn fit_part(reach: &Vec<u32>, handlers: Handlers, stated: u16) -> bool
+    requires init { handlers.init.0 < length reach.now.items }
+    requires body { handlers.body.0 < length reach.now.items }
+    ensures { IsTrue result ↔ ((slice_index reach.now.items handlers.init.0 ≤ stated) × (slice_index reach.now.items handlers.body.0 ≤ stated)) }
+{
+    let stated = u32::from(stated);
+    bound_of(reach, handlers.init) <= stated && bound_of(reach, handlers.body) <= stated
+}
+
+/// Whether the amounts of each event are within what is stated.
+fn fit_events(image: &ImageParts, amounts: &Vec<u32>, stated: u32) -> bool
+    requires indexes { IndexesFit image.now }
+    requires long { length amounts.now.items ≡ length image.now.routines }
+    requires low { (k : ℕ) → slice_index amounts.now.items k ≤ 100000 }
+    ensures { IsTrue result ↔ FitsEvents image.now (slice_index amounts.now.items) stated }
+{
+    let first = handlers_of(image, usize::from(image.initial.0));
+    let opening = bound_of(amounts, image.always.init) + bound_of(amounts, first.init);
+    let bodies = greatest(image, amounts, Part::Body);
+    let inits = greatest(image, amounts, Part::Init);
+    let always = bound_of(amounts, image.always.body);
+    opening <= stated && always + bodies + inits <= stated
+}
+
+/// The greatest amount of a handler over all states.
+fn greatest(image: &ImageParts, amounts: &Vec<u32>, part: Part) -> u32
+    requires indexes { IndexesFit image.now }
+    requires long { length amounts.now.items ≡ length image.now.routines }
+    requires low { (k : ℕ) → slice_index amounts.now.items k ≤ 100000 }
+    ensures bound { Reaches part image.now (slice_index amounts.now.items) result }
+    ensures least { (bound : ℕ) → Reaches part image.now (slice_index amounts.now.items) bound → result ≤ bound }
+    ensures low { result ≤ 100000 }
+{
+    let mut most = 0;
+    for state in 0..image.states.len() {
+        let routine = handler(handlers_of(image, state), part);
+        let here = bound_of(amounts, routine);
+        most = greater(most, here);
+    }
+    most
+}
+
+/// A handler of a part.
+fn handler(handlers: Handlers, part: Part) -> RoutineId
+    ensures { result ≡ part_of part handlers }
+{
+    match part {
+        Part::Init => handlers.init,
+        Part::Body => handlers.body,
+    }
+}
+
+/// The bound of a handler's routine.
+fn bound_of(table: &Vec<u32>, routine: RoutineId) -> u32
+    requires { routine.0 < length table.now.items }
+    ensures { result ≡ slice_index table.now.items routine.0 }
+{
+    entry(table, usize::from(routine.0))
+}

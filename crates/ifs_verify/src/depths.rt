@@ -1,0 +1,44 @@
+//! How many frames stand at one time in a run of a routine.
+
+ghost use Rattle.std.specs.Prelude.{ℕ, ◌≡◌, ◌+◌, ◌<◌, ◌≤◌, length, slice_index};
+ghost use Rattle.ifs_base.specs.declared.ids.RoutineId.{RoutineId};
+ghost use Rattle.ifs_base.specs.declared.op.Op.TheVariants.{Call};
+ghost use Rattle.ifs_verify.specs.Rules.{IsRoutine};
+ghost use Rattle.ifs_verify.specs.Passes.{IsPlain, HoldsDepth};
+
+use crate::places::{code, op_at};
+use crate::tables::greater;
+use ifs_base::Op;
+use ifs_image::ImageParts;
+
+/// One frame, or one more than the greatest number of a callee's.
+pub fn depth_of(image: &ImageParts, routine: usize, depths: &[u32]) -> u32
+    requires plain { IsPlain image.now }
+    requires routine { IsRoutine image.now routine }
+    requires long { length depths.now ≡ routine }
+    requires low { (k : ℕ) → slice_index depths.now k ≤ 32 }
+    ensures holds { HoldsDepth image.now (slice_index depths.now) routine result }
+    ensures least { (bound : ℕ) → HoldsDepth image.now (slice_index depths.now) routine bound → result ≤ bound }
+{
+    let code = code(image, routine);
+    let mut depth = 1;
+    for place in 0..code.len() {
+        let here = depth_at(op_at(code, place), depths);
+        depth = greater(depth, here);
+    }
+    depth
+}
+
+/// The frames that one instruction needs.
+fn depth_at(op: Op, depths: &[u32]) -> u32
+    requires callee { (callee : RoutineId) → op ≡ Call callee → callee.0 < length depths.now }
+    requires low { (k : ℕ) → slice_index depths.now k ≤ 32 }
+    ensures own { 1 ≤ result }
+    ensures call { (callee : RoutineId) → op ≡ Call callee → slice_index depths.now callee.0 + 1 ≤ result }
+    ensures least { (bound : ℕ) → 1 ≤ bound → ((callee : RoutineId) → op ≡ Call callee → slice_index depths.now callee.0 + 1 ≤ bound) → result ≤ bound }
+{
+    match op {
+        Op::Call(callee) => depths[usize::from(callee.0)] + 1,
+        _ => 1,
+    }
+}

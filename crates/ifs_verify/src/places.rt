@@ -1,0 +1,85 @@
+//! What stands at the places of an image, where control goes on, and how a fault names a place.
+
+ghost use Rattle.std.specs.Prelude.{◌≡◌, ◌<◌, ◌≤◌, ◌+◌, ◌^◌, length, slice_get};
+ghost use Rattle.ifs_image.specs.Code.{code_of, target_of};
+ghost use Rattle.ifs_image.specs.declared.parts.Routine.{Routine};
+ghost use Rattle.ifs_image.specs.declared.parts.StateSpec.{StateSpec};
+ghost use Rattle.ifs_verify.specs.declared.fault.At.TheVariants.{State, Code};
+ghost use Rattle.ifs_verify.specs.Rules.{IsRoutine};
+ghost use Rattle.ifs_verify.specs.Passes.{next_of};
+
+use crate::fault::At;
+use ifs_base::{Op, RoutineId, StateId};
+use ifs_image::{Handlers, ImageParts};
+
+/// The instructions of a routine.
+pub fn code(image: &ImageParts, routine: usize) -> &[Op]
+    requires { IsRoutine image.now routine }
+    ensures { result.now ≡ code_of image.now routine }
+{
+    image.routines.as_slice()[routine].code.as_slice()
+}
+
+/// How many results a routine has.
+pub fn result_count(image: &ImageParts, routine: usize) -> u8
+    requires { IsRoutine image.now routine }
+    ensures { (found : Routine) × (slice_get image.now.routines routine ≡ Some found) × (found.results ≡ result) }
+{
+    image.routines.as_slice()[routine].results
+}
+
+/// The instruction at a place.
+pub fn op_at(code: &[Op], place: usize) -> Op
+    requires { place < length code.now }
+    ensures { slice_get code.now place ≡ Some result }
+{
+    code[place]
+}
+
+/// The handlers of a state.
+pub fn handlers_of(image: &ImageParts, state: usize) -> Handlers
+    requires { state < length image.now.states }
+    ensures { (found : StateSpec) × (slice_get image.now.states state ≡ Some found) × (found.handlers ≡ result) }
+{
+    image.states.as_slice()[state].handlers
+}
+
+/// A place of a routine, as a fault names it.
+pub fn at(routine: usize, place: usize) -> At
+    requires routine { routine < 2 ^ 16 }
+    requires place { place < 2 ^ 16 }
+    ensures { result ≡ Code (record { 0 = routine }) place }
+{
+    At::Code(RoutineId(routine as u16), place as u16)
+}
+
+/// A state, as a fault names it.
+pub fn at_state(state: usize) -> At
+    requires { state < 2 ^ 16 }
+    ensures { result ≡ State (record { 0 = state }) }
+{
+    At::State(StateId(state as u16))
+}
+
+/// The target of a jump.
+pub fn target(op: Op) -> Option<usize>
+    ensures { result ≡ target_of op }
+{
+    match op {
+        Op::Jump(target) | Op::JumpFalse(target) | Op::JumpTrue(target) => Some(usize::from(
+            target,
+        )),
+        _ => None,
+    }
+}
+
+/// The next place, where control may go on there.
+pub fn next(op: Op, place: usize) -> Option<usize>
+    requires { place < 2 ^ 16 }
+    ensures { result ≡ next_of op place }
+{
+    match op {
+        Op::Ret | Op::Jump(_) => None,
+        _ => Some(place + 1),
+    }
+}

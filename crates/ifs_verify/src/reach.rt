@@ -1,0 +1,75 @@
+//! Whether each place of a routine is reached.
+
+ghost use Rattle.std.specs.Prelude.{ℕ, ◌≡◌, ◌<◌, ◌⊎◌, ◌↔◌, Option, Some, IsTrue, length, OnOk, IfErr, IfOk};
+ghost use Rattle.ifs_image.specs.Code.{code_of};
+ghost use Rattle.ifs_verify.specs.Rules.{IsRoutine, IsReached, PlacesAreReached};
+ghost use Rattle.ifs_verify.specs.Passes.{IsSized, IsRefused, IsMarked};
+
+use crate::fault::VerifyFault;
+use crate::places::{at, code, next, op_at, target};
+use ifs_image::ImageParts;
+use std::alloc::{AllocError, Global};
+
+/// V5: each place but the first of a routine follows an earlier one.
+pub fn check_reached(alloc: Global, image: &ImageParts) -> Result<(), VerifyFault>
+    requires { IsSized image.now }
+    ensures kept { OnOk result (PlacesAreReached image.now) }
+    ensures refused { IfErr result (IsRefused image.now) }
+{
+    for routine in 0..image.routines.len() {
+        check_reached_in(alloc, image, routine)?;
+    }
+    Ok(())
+}
+
+/// The same of one routine.
+fn check_reached_in(alloc: Global, image: &ImageParts, routine: usize) -> Result<(), VerifyFault>
+    requires sized { IsSized image.now }
+    requires routine { IsRoutine image.now routine }
+    ensures kept { OnOk result ((to : ℕ) → 0 < to → to < length (code_of image.now routine) → IsReached image.now routine to) }
+    ensures refused { IfErr result (IsRefused image.now) }
+{
+    let code = code(image, routine);
+    let mut marks = no_marks(alloc, code.len())?;
+    for place in 0..code.len() {
+        if !is_reached(&marks, place) {
+            return Err(VerifyFault::Unreached(at(routine, place)));
+        }
+        let op = op_at(code, place);
+        mark(&mut marks, next(op, place));
+        mark(&mut marks, target(op));
+    }
+    Ok(())
+}
+
+/// So many places, none of them marked.
+fn no_marks(alloc: Global, count: usize) -> Result<Vec<bool>, AllocError>
+    ensures long { IfOk result (λ marks. length marks.items ≡ count) }
+    ensures none { IfOk result (λ marks. (k : ℕ) → ¬ IsMarked marks.items k) }
+{
+    let mut marks: Vec<bool> = Vec::new(alloc);
+    for _place in 0..count {
+        marks.push(false)?;
+    }
+    Ok(marks)
+}
+
+/// Whether a place is the first, or marked.
+fn is_reached(marks: &Vec<bool>, place: usize) -> bool
+    requires { place < length marks.now.items }
+    ensures { IsTrue result ↔ ((place ≡ 0) ⊎ IsMarked marks.now.items place) }
+{
+    place == 0 || marks[place]
+}
+
+/// Marks a place, where there is one and it is in the row.
+fn mark(marks: &mut Vec<bool>, to: Option<usize>)
+    ensures long { length marks.new.items ≡ length marks.old.items }
+    ensures marked { (k : ℕ) → IsMarked marks.new.items k ↔ (IsMarked marks.old.items k ⊎ ((to ≡ Some k) × (k < length marks.old.items))) }
+{
+    if let Some(to) = to {
+        if to < marks.len() {
+            marks[to] = true;
+        }
+    }
+}

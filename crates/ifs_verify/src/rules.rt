@@ -1,0 +1,238 @@
+//! The plain checks: what holds of each instruction and each handler by itself.
+
+ghost use Rattle.std.specs.Prelude.{ℕ, ◌≡◌, ◌<◌, ◌≤◌, ◌↔◌, length, IsTrue, OnOk, IfErr, Some, slice_get};
+ghost use Rattle.ifs_base.specs.declared.ids.RoutineId.{RoutineId};
+ghost use Rattle.ifs_base.specs.declared.op.Op.{Op};
+ghost use Rattle.ifs_base.specs.declared.op.Op.TheVariants.{Call};
+ghost use Rattle.ifs_image.specs.declared.parts.StateSpec.{StateSpec};
+ghost use Rattle.ifs_image.specs.Code.{op_at, target_of};
+ghost use Rattle.ifs_verify.specs.Rules.{IsRoutine, AreRoutines, IsMask, HasOperand, LeaveNothing, IndexesFit, HandlersLeaveNothing, JumpsLeadOn, RoutinesEnd, CallsGoDown, PlacesAreReached};
+ghost use Rattle.ifs_verify.specs.Refused.{rule_of};
+ghost use Rattle.ifs_verify.specs.Passes.{IsSized, Keeps, fault_of};
+
+use crate::fault::{At, VerifyFault};
+use crate::places::{at, at_state, code, handlers_of, op_at, result_count, target};
+use ifs_base::Op;
+use ifs_image::{Handlers, ImageParts};
+
+/// A rule that each instruction keeps by itself.
+#[derive(Clone, Copy)]
+pub enum OpRule {
+    /// An operand is an index of its table.
+    Operand,
+    /// A jump leads to a later place of its routine.
+    Target,
+    /// A call is of a routine with a lower number.
+    Callee,
+}
+
+/// V2: each index is one of its table, and each mask has tests of the table alone.
+pub fn check_indexes(image: &ImageParts) -> Result<(), VerifyFault>
+    requires { IsSized image.now }
+    ensures kept { OnOk result (IndexesFit image.now) }
+    ensures refused { IfErr result (λ fault. ¬ rule_of fault image.now) }
+{
+    check_head(image)?;
+    check_states(image)?;
+    check_ops(image, OpRule::Operand)?;
+    Ok(())
+}
+
+/// V3: each jump leads to a later place of its routine.
+pub fn check_jumps(image: &ImageParts) -> Result<(), VerifyFault>
+    requires { IsSized image.now }
+    ensures kept { OnOk result (JumpsLeadOn image.now) }
+    ensures refused { IfErr result (λ fault. ¬ rule_of fault image.now) }
+{
+    check_ops(image, OpRule::Target)?;
+    Ok(())
+}
+
+/// V8: each call is of a routine with a lower number.
+pub fn check_calls(image: &ImageParts) -> Result<(), VerifyFault>
+    requires { IsSized image.now }
+    ensures kept { OnOk result (CallsGoDown image.now) }
+    ensures refused { IfErr result (λ fault. ¬ rule_of fault image.now) }
+{
+    check_ops(image, OpRule::Callee)?;
+    Ok(())
+}
+
+/// The initial state and the always part's indexes and mask.
+fn check_head(image: &ImageParts) -> Result<(), VerifyFault>
+    requires { IsSized image.now }
+    ensures initial { OnOk result (image.now.initial.0 < length image.now.states) }
+    ensures always { OnOk result (AreRoutines image.now image.now.always × IsMask image.now image.now.always.mask) }
+    ensures refused { IfErr result (λ fault. ¬ rule_of fault image.now) }
+{
+    if usize::from(image.initial.0) >= image.states.len() {
+        return Err(VerifyFault::NoEntry(At::Head));
+    }
+    if !are_indexes(image, image.always) {
+        return Err(VerifyFault::NoEntry(At::Head));
+    }
+    Ok(())
+}
+
+/// The states' indexes and masks.
+fn check_states(image: &ImageParts) -> Result<(), VerifyFault>
+    requires { IsSized image.now }
+    ensures kept { OnOk result ((k : ℕ) (state : StateSpec) → slice_get image.now.states k ≡ Some state → AreRoutines image.now state.handlers × IsMask image.now state.handlers.mask) }
+    ensures refused { IfErr result (λ fault. ¬ rule_of fault image.now) }
+{
+    for state in 0..image.states.len() {
+        if !are_indexes(image, handlers_of(image, state)) {
+            return Err(VerifyFault::NoEntry(at_state(state)));
+        }
+    }
+    Ok(())
+}
+
+/// Whether init and body are routines, and the mask has tests of the table alone.
+fn are_indexes(image: &ImageParts, handlers: Handlers) -> bool
+    requires { IsSized image.now }
+    ensures { IsTrue result ↔ (AreRoutines image.now handlers × IsMask image.now handlers.mask) }
+{
+    let routines = image.routines.len();
+    usize::from(handlers.init.0) < routines
+        && usize::from(handlers.body.0) < routines
+        && is_mask(image, handlers.mask)
+}
+
+/// Whether a mask has no bit at or over the number of tests.
+fn is_mask(image: &ImageParts, mask: u64) -> bool
+    requires { IsSized image.now }
+    ensures { IsTrue result ↔ IsMask image.now mask }
+{
+    let tests = image.tests.len();
+    64 <= tests || mask < 1 << tests
+}
+
+/// V14: no handler has results.
+pub fn check_handlers(image: &ImageParts) -> Result<(), VerifyFault>
+    requires sized { IsSized image.now }
+    requires indexes { IndexesFit image.now }
+    ensures kept { OnOk result (HandlersLeaveNothing image.now) }
+    ensures refused { IfErr result (λ fault. ¬ rule_of fault image.now) }
+{
+    if !leave_nothing(image, image.always) {
+        return Err(VerifyFault::HandlerLeaves(At::Head));
+    }
+    for state in 0..image.states.len() {
+        if !leave_nothing(image, handlers_of(image, state)) {
+            return Err(VerifyFault::HandlerLeaves(at_state(state)));
+        }
+    }
+    Ok(())
+}
+
+/// Whether neither handler has results.
+fn leave_nothing(image: &ImageParts, handlers: Handlers) -> bool
+    requires { AreRoutines image.now handlers }
+    ensures { IsTrue result ↔ LeaveNothing image.now handlers }
+{
+    result_count(image, usize::from(handlers.init.0)) == 0
+        && result_count(image, usize::from(handlers.body.0)) == 0
+}
+
+/// V4: the last instruction of each routine, which has one, is `ret`.
+pub fn check_ends(image: &ImageParts) -> Result<(), VerifyFault>
+    requires { IsSized image.now }
+    ensures kept { OnOk result (RoutinesEnd image.now) }
+    ensures refused { IfErr result (λ fault. ¬ rule_of fault image.now) }
+{
+    for routine in 0..image.routines.len() {
+        let code = code(image, routine);
+        let last = code.len().saturating_sub(1);
+        if code.is_empty() || op_at(code, last) != Op::Ret {
+            return Err(VerifyFault::LeftAtEnd(at(routine, last)));
+        }
+    }
+    Ok(())
+}
+
+/// Each instruction of each routine keeps a rule.
+fn check_ops(image: &ImageParts, rule: OpRule) -> Result<(), VerifyFault>
+    requires { IsSized image.now }
+    ensures kept { OnOk result ((routine place : ℕ) (op : Op) → op_at image.now routine place ≡ Some op → Keeps rule image.now routine place op) }
+    ensures refused { IfErr result (λ fault. ¬ rule_of fault image.now) }
+{
+    for routine in 0..image.routines.len() {
+        check_ops_of(image, routine, rule)?;
+    }
+    Ok(())
+}
+
+/// Each instruction of a routine keeps a rule.
+fn check_ops_of(image: &ImageParts, routine: usize, rule: OpRule) -> Result<(), VerifyFault>
+    requires sized { IsSized image.now }
+    requires routine { IsRoutine image.now routine }
+    ensures kept { OnOk result ((place : ℕ) (op : Op) → op_at image.now routine place ≡ Some op → Keeps rule image.now routine place op) }
+    ensures refused { IfErr result (λ fault. ¬ rule_of fault image.now) }
+{
+    let code = code(image, routine);
+    for place in 0..code.len() {
+        let op = op_at(code, place);
+        if !keeps(image, routine, place, op, rule) {
+            return Err(broken(rule, at(routine, place)));
+        }
+    }
+    Ok(())
+}
+
+/// Whether an instruction keeps a rule.
+fn keeps(image: &ImageParts, routine: usize, place: usize, op: Op, rule: OpRule) -> bool
+    requires { IsRoutine image.now routine }
+    ensures { IsTrue result ↔ Keeps rule image.now routine place op }
+{
+    match rule {
+        OpRule::Operand => has_operand(image, op),
+        OpRule::Target => leads_on(op, place, code(image, routine).len()),
+        OpRule::Callee => is_lower(op, routine),
+    }
+}
+
+/// The fault that names a rule.
+fn broken(rule: OpRule, at: At) -> VerifyFault
+    ensures { result ≡ fault_of rule at }
+{
+    match rule {
+        OpRule::Operand => VerifyFault::NoEntry(at),
+        OpRule::Target => VerifyFault::JumpTarget(at),
+        OpRule::Callee => VerifyFault::CallNotLower(at),
+    }
+}
+
+/// Whether an operand is an index of its table.
+fn has_operand(image: &ImageParts, op: Op) -> bool
+    ensures { IsTrue result ↔ HasOperand image.now op }
+{
+    match op {
+        Op::Link(iface, _) => usize::from(iface.0) < image.interfaces.len(),
+        Op::Test(test) | Op::Known(test) => usize::from(test.0) < image.tests.len(),
+        Op::PushCommand(command) => usize::from(command.0) < image.commands.len(),
+        Op::PushState(state) => usize::from(state.0) < image.states.len(),
+        Op::Call(callee) => usize::from(callee.0) < image.routines.len(),
+        _ => true,
+    }
+}
+
+/// Whether a jump leads to a later place, below the number of instructions.
+fn leads_on(op: Op, place: usize, length: usize) -> bool
+    ensures { IsTrue result ↔ ((target : ℕ) → target_of op ≡ Some target → (place < target) × (target < length)) }
+{
+    match target(op) {
+        Some(target) => place < target && target < length,
+        None => true,
+    }
+}
+
+/// Whether a call is of a routine with a lower number.
+fn is_lower(op: Op, routine: usize) -> bool
+    ensures { IsTrue result ↔ ((callee : RoutineId) → op ≡ Call callee → callee.0 < routine) }
+{
+    match op {
+        Op::Call(callee) => usize::from(callee.0) < routine,
+        _ => true,
+    }
+}

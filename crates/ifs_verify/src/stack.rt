@@ -1,0 +1,126 @@
+//! The kinds on the stack at a place.
+
+use ifs_base::Kind;
+use std::marker::Model;
+
+/// A list of kinds, topmost first, in a fixed row. The row has one place more than the stack's limit
+/// of 32, so that a list that passes the limit can be held, and told.
+#[derive(Drop)]
+pub struct Stack {
+    kinds: [Kind; 33],
+    len: usize,
+}
+
+impl Model for Stack {
+    ghost use Rattle.std.specs.Prelude.{◌≡◌, ◌≤◌, List, length, reverse, take};
+    ghost use Rattle.ifs_base.specs.declared.op.Kind.{Kind};
+
+    ghost Value = { List Kind };
+
+    ghost view = { λ s. reverse (take s.len s.kinds) };
+
+    ghost invariant = { λ s. (s.len ≤ 33) × (length s.kinds ≡ 33) };
+}
+
+impl Stack {
+    ghost use Rattle.std.specs.Prelude.{◌≡◌, ◌<◌, ◌≤◌, ◌↔◌, IsTrue, [], ◌∷◌, length, IfSome, MatchOption};
+    ghost use Rattle.ifs_verify.specs.Passes.{without, below_top, top_twice};
+
+    /// The empty list.
+    pub fn new() -> Self
+        ensures { result ≡ [] }
+    {
+        Stack {
+            kinds: [Kind::Truth; 33],
+            len: 0,
+        }
+    }
+
+    /// How many kinds there are.
+    pub fn len(&self) -> usize
+        ensures value { result ≡ length self.now }
+        ensures room { length self.now ≤ 33 }
+    {
+        self.len
+    }
+
+    /// The same list once more.
+    pub fn copied(&self) -> Self
+        ensures { result ≡ self.now }
+    {
+        Stack {
+            kinds: self.kinds,
+            len: self.len,
+        }
+    }
+
+    /// Puts a kind on top.
+    pub fn push(&mut self, kind: Kind)
+        requires { length self.old < 33 }
+        ensures { self.new ≡ kind ∷ self.old }
+    {
+        self.kinds[self.len] = kind;
+        self.len += 1;
+    }
+
+    /// Takes the topmost kind off.
+    pub fn pop(&mut self) -> Option<Kind>
+        ensures { MatchOption result ((self.old ≡ []) × (self.new ≡ [])) (λ kind. self.old ≡ kind ∷ self.new) }
+    {
+        if self.len == 0 {
+            return None;
+        }
+        self.len -= 1;
+        Some(self.kinds[self.len])
+    }
+
+    /// The list with a kind on top.
+    pub fn with(mut self, kind: Kind) -> Self
+        requires { length self < 33 }
+        ensures { result ≡ kind ∷ self }
+    {
+        self.push(kind);
+        self
+    }
+
+    /// The list below a kind that is wanted on top.
+    #[tactic(auto, using(crate::proofs::Takings::taken))]
+    pub fn without(mut self, kind: Kind) -> Option<Self>
+        ensures value { result ≡ without kind self }
+        ensures shorter { IfSome result (λ below. length below ≤ length self) }
+    {
+        let top = self.pop()?;
+        if top != kind {
+            return None;
+        }
+        Some(self)
+    }
+
+    /// The list below the topmost kind.
+    #[tactic(auto, using(crate::proofs::Takings::taken))]
+    pub fn below_top(mut self) -> Option<Self>
+        ensures { result ≡ below_top self }
+    {
+        let _ = self.pop()?;
+        Some(self)
+    }
+
+    /// The list with its topmost kind once more.
+    #[tactic(auto, using(crate::proofs::Takings::taken))]
+    pub fn top_twice(mut self) -> Option<Self>
+        requires { length self < 33 }
+        ensures { result ≡ top_twice self }
+    {
+        let top = self.pop()?;
+        self.push(top);
+        self.push(top);
+        Some(self)
+    }
+
+    /// Whether both are the same list.
+    pub fn is_same(&self, other: &Stack) -> bool
+        ensures { IsTrue result ↔ (self.now ≡ other.now) }
+    {
+        self.kinds[..self.len] == other.kinds[..other.len]
+    }
+}

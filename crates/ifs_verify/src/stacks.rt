@@ -1,0 +1,25 @@
+//! The stacks of all routines: their kinds and heights.
+
+ghost use Rattle.std.specs.Prelude.{length, IfOk, IfErr};
+ghost use Rattle.ifs_verify.specs.Passes.{IsPlain, IsRefused, LeastHeights};
+
+use crate::fault::VerifyFault;
+use crate::heights::height_of;
+use crate::typing::typing_of;
+use ifs_image::ImageParts;
+use std::alloc::Global;
+
+/// V6, V7, V9, and V10 at an instruction: the height of each routine, all of which have a typing.
+pub fn check_stacks(alloc: Global, image: &ImageParts) -> Result<Vec<u32>, VerifyFault>
+    requires { IsPlain image.now }
+    ensures found { IfOk result (λ heights. LeastHeights image.now heights.items (length image.now.routines)) }
+    ensures refused { IfErr result (IsRefused image.now) }
+{
+    let mut heights: Vec<u32> = Vec::new(alloc);
+    for routine in 0..image.routines.len() {
+        let rows = typing_of(alloc, image, routine)?;
+        let height = height_of(image, routine, &rows, heights.as_slice());
+        heights.push(height)?;
+    }
+    Ok(heights)
+}

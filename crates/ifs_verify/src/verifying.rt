@@ -1,0 +1,59 @@
+//! The verifier: every check, each over the whole image before the next begins.
+
+ghost use Rattle.std.specs.Prelude.{◌≡◌, ◌≢◌, IfOk, IfErr, OnOk};
+ghost use Rattle.ifs_image.specs.declared.parts.ImageParts.{ImageParts};
+ghost use Rattle.ifs_image.specs.Spelling.{Spells};
+ghost use Rattle.ifs_verify.specs.declared.fault.VerifyFault.TheVariants.{OutOfMemory};
+ghost use Rattle.ifs_verify.specs.Accepted.{IsAccepted};
+ghost use Rattle.ifs_verify.specs.Passes.{IsSized, IsRefused};
+ghost use Rattle.ifs_verify.specs.Refused.{IsRefusal};
+
+use crate::bounds::check_bounds;
+use crate::budgets::check_budgets;
+use crate::fault::VerifyFault;
+use crate::reach::check_reached;
+use crate::rules::{check_calls, check_ends, check_handlers, check_indexes, check_jumps};
+use crate::stacks::check_stacks;
+use crate::verified::Verified;
+use ifs_image::{ImageParts, read};
+use std::alloc::Global;
+
+/// The image that the bytes spell, once it is accepted: it may run on a machine that makes no trap test.
+///
+/// The first check that does not hold is answered, with its place, in the order of indexes and masks
+/// (V2), handlers (V14), jumps (V3), ends (V4), calls (V8), places reached (V5), stacks (V6, V7, V9,
+/// V10), and bounds (V10 to V13) of each routine and then against the stated budgets. V1 comes where
+/// the bytes spell no image, and V0 where a growth was refused, in reading or in verifying.
+pub fn verify(alloc: Global, bytes: &[u8]) -> Result<Verified, VerifyFault>
+    // What is verified is the image that the bytes spell, and it is accepted.
+    ensures spelled { IfOk result (λ image. Spells bytes.now image) }
+    ensures accepted { IfOk result (λ image. IsAccepted image) }
+    // A refusal but for memory comes only where the bytes are not accepted,
+    ensures not_accepted { IfErr result (λ fault. fault ≢ OutOfMemory → (image : ImageParts) → Spells bytes.now image → ¬ IsAccepted image) }
+    // and the check that it names fails: in reading, or in the image that they spell.
+    ensures refused { IfErr result (IsRefusal bytes.now) }
+{
+    let image = read(alloc, bytes)?;
+    match check(alloc, image.parts()) {
+        Ok(()) => Ok(Verified::new(image)),
+        Err(fault) => Err(fault),
+    }
+}
+
+/// Every check on an image.
+fn check(alloc: Global, image: &ImageParts) -> Result<(), VerifyFault>
+    requires { IsSized image.now }
+    ensures accepted { OnOk result (IsAccepted image.now) }
+    ensures refused { IfErr result (IsRefused image.now) }
+{
+    check_indexes(image)?;
+    check_handlers(image)?;
+    check_jumps(image)?;
+    check_ends(image)?;
+    check_calls(image)?;
+    check_reached(alloc, image)?;
+    let heights = check_stacks(alloc, image)?;
+    let bounds = check_bounds(alloc, image, &heights)?;
+    check_budgets(image, &heights, &bounds)?;
+    Ok(())
+}
