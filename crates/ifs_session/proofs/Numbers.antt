@@ -1,0 +1,19 @@
+-- Numbers of requests, read digit by digit.
+use Rattle.std.proofs.Common.{◌≡◌, ℕ, ◌^◌, ◌≤◌, ◌<◌, Bool, true, false, nat_lt, Option, Some, None, refl, arith}
+use Rattle.std.specs.Option.{option_map}
+use Rattle.std.proofs.lemmas.Bool.Decides.{nat_tests}
+use Rattle.ifs_session.specs.Requests.{result_kept, result_numbered, sized}
+
+-- What is kept of the number n that was spelled so far: n itself below 2 ^ 64, and nothing above.
+abbrev pub Keeps : Option ℕ → ℕ → Type 0
+Keeps None n = 2 ^ 64 ≤ n
+Keeps (Some m) n = m ≡ n
+
+kept_pair : (test run : ℕ) (value : Bool) → result_kept (Some (sized test)) (Some (sized run)) value ≡ result_numbered (Some test) (Some run) value
+kept_pair test run value = grind (arith, nat_tests)
+
+pub kept_numbers : (test run : Option ℕ) (value : Bool) → result_kept (option_map sized test) (option_map sized run) value ≡ result_numbered test run value
+kept_numbers None None value = refl
+kept_numbers None (Some run) value = refl
+kept_numbers (Some test) None value = grind (arith, nat_tests)
+kept_numbers (Some test) (Some run) value = kept_pair test run value

@@ -1,0 +1,457 @@
+-- Sessions line by line: what was read so far, and what was made of it.
+use Rattle.std.proofs.Common.{◌≡◌, ◌≢◌, ℕ, ◌+◌, ◌-◌, ◌<◌, ◌≤◌, Bool, true, false, ◌==◌, nat_lt, cond, List, [], ◌∷◌, ◌++◌, length, take, count_by, Option, Some, None, Err, inl, inr, subst, refl, sym, ap, ◌∙◌, append_assoc, append-nil, take_all, arith, length-append}
+use Rattle.std.specs.List.{onto_first}
+use Rattle.std.proofs.lemmas.Bool.Decides.{nat_tests}
+use Rattle.std.proofs.lemmas.List.Sums.{sum_by-append}
+use Rattle.ifs_session.specs.declared.session.Summary.{Summary}
+use Rattle.ifs_session.specs.Device.{counted}
+use Rattle.ifs_session.specs.declared.fault.SessionFault.{SessionFault}
+use Rattle.ifs_session.specs.declared.fault.SessionFault.TheVariants.{ReadFailed, WriteFailed, TooMuchInput}
+use Rattle.std.specs.Io.KnownBytes.{prepend_known, append_known, IsAtEnd}
+use Rattle.ifs_image.specs.declared.parts.ImageParts.{ImageParts}
+use Rattle.ifs_core.specs.Event.{Behaviour}
+use Rattle.ifs_core.specs.Steps.{CoreState}
+use Rattle.ifs_session.specs.Session.{LineGives, lines_of, whole_lines, onto_line, IsPlain, ending, Intake, ReadsLine, ReadsNothing, ReadFails, ReadsTooMuch}
+use Rattle.ifs_session.specs.Requests.{Asked, ALink, AResult, ATick, ATake, AStatus, ATrace, AStop, AFault, asked, short_asked}
+use Rattle.ifs_session.specs.declared.request.RequestFault.TheVariants.{TooLong}
+use Rattle.ifs_session.specs.declared.session.Kind.{Kind}
+use Rattle.ifs_session.specs.declared.session.Kind.TheVariants as kinds
+use Rattle.ifs_session.specs.declared.lines.Line.{Line}
+use Rattle.ifs_core.specs.Gateway.{OpenCore}
+use Rattle.ifs_session.specs.SessionText.{SessionGives, deed, kept_asked, kind_of, with_line, replies, after_lines, is_step, is_stop, GoOn, Moment, HasRead, HasServed, HasReplied, Ends, EndsLine, Completes, BreaksReading, BreaksWriting, ReadsPast}
+use Rattle.ifs_session.proofs.Known.{prepend_known-append, prepend_known-nil, append_known-append, append_known-nil}
+
+-- ---- lines
+
+-- The input that these lines make, each ended by a newline.
+abbrev pub unlines : List (List ℕ) → List ℕ
+unlines [] = []
+unlines (line ∷ lines) = line ++ 10 ∷ unlines lines
+
+-- Each of these lines is without newline.
+abbrev pub ArePlain : List (List ℕ) → Type 0
+ArePlain [] = Unit {0}
+ArePlain (line ∷ lines) = IsPlain line × ArePlain lines
+
+-- A byte that is no newline goes on a line.
+short_length : (n : ℕ) → false ≡ nat_lt 256 n → n ≤ 256
+short_length n h = grind (arith, nat_tests)
+
+other_byte : {X : Type 0} (byte : ℕ) (x y : X) → byte ≢ 10 → cond (byte == 10) x y ≡ y
+other_byte byte x y h = grind (arith, nat_tests)
+
+lines_of-ended : (text rest : List ℕ) → IsPlain text → lines_of (text ++ 10 ∷ rest) ≡ text ∷ lines_of rest
+lines_of-ended [] rest plain = refl
+lines_of-ended (byte ∷ text) rest plain =
+    other_byte byte _ _ plain.0 ∙ ap (onto_first byte) (lines_of-ended text rest plain.1)
+
+whole_lines-ended : (text rest : List ℕ) → IsPlain text → whole_lines (text ++ 10 ∷ rest) ≡ text ∷ whole_lines rest
+whole_lines-ended [] rest plain = refl
+whole_lines-ended (byte ∷ text) rest plain =
+    other_byte byte _ _ plain.0 ∙ ap (onto_line byte) (whole_lines-ended text rest plain.1)
+
+-- A rest without newline is a line if it has a byte, and no whole line.
+lines_of-rest : (text : List ℕ) → IsPlain text → 0 < length text → lines_of text ≡ text ∷ []
+lines_of-rest [] plain some = absurd (omega arith)
+lines_of-rest (byte ∷ []) plain some = other_byte byte _ _ plain.0
+lines_of-rest (byte ∷ other ∷ text) plain some =
+    other_byte byte _ _ plain.0 ∙ ap (onto_first byte) (lines_of-rest (other ∷ text) plain.1 (omega arith))
+
+whole_lines-rest : (text : List ℕ) → IsPlain text → whole_lines text ≡ []
+whole_lines-rest [] plain = refl
+whole_lines-rest (byte ∷ text) plain = other_byte byte _ _ plain.0 ∙ ap (onto_line byte) (whole_lines-rest text plain.1)
+
+pub lines_of-unlines : (lines : List (List ℕ)) (rest : List ℕ) → ArePlain lines → lines_of (unlines lines ++ rest) ≡ lines ++ lines_of rest
+lines_of-unlines [] rest plain = refl
+lines_of-unlines (line ∷ lines) rest plain =
+    ap lines_of (append_assoc line (10 ∷ unlines lines) rest)
+    ∙ lines_of-ended line (unlines lines ++ rest) plain.0
+    ∙ ap (λ ls. line ∷ ls) (lines_of-unlines lines rest plain.1)
+
+pub whole_lines-unlines : (lines : List (List ℕ)) (rest : List ℕ) → ArePlain lines → IsPlain rest → whole_lines (unlines lines ++ rest) ≡ lines
+whole_lines-unlines [] rest plain rest_plain = whole_lines-rest rest rest_plain
+whole_lines-unlines (line ∷ lines) rest plain rest_plain =
+    ap whole_lines (append_assoc line (10 ∷ unlines lines) rest)
+    ∙ whole_lines-ended line (unlines lines ++ rest) plain.0
+    ∙ ap (λ ls. line ∷ ls) (whole_lines-unlines lines rest plain.1 rest_plain)
+
+unlines-push : (lines : List (List ℕ)) (text : List ℕ) → unlines (lines ++ text ∷ []) ≡ unlines lines ++ (text ++ 10 ∷ [])
+unlines-push [] text = refl
+unlines-push (line ∷ lines) text = ap (λ rest. line ++ 10 ∷ rest) (unlines-push lines text) ∙ sym (append_assoc line (10 ∷ unlines lines) (text ++ 10 ∷ []))
+
+ArePlain-push : (lines : List (List ℕ)) (text : List ℕ) → ArePlain lines → IsPlain text → ArePlain (lines ++ text ∷ [])
+ArePlain-push [] text plain last = (last, tt)
+ArePlain-push (line ∷ lines) text plain last = (plain.0, ArePlain-push lines text plain.1 last)
+
+GoOn-push : (lines : List (List ℕ)) (text : List ℕ) → GoOn lines → is_stop (asked text) ≡ false → GoOn (lines ++ text ∷ [])
+GoOn-push [] text on last = (last, tt)
+GoOn-push (line ∷ lines) text on last = (on.0, GoOn-push lines text on.1 last)
+
+count_by-push : {X : Type 0} (p : X → Bool) (xs : List X) (x : X) → count_by p (xs ++ x ∷ []) ≡ count_by p xs + cond (p x) 1 0
+count_by-push p xs x = sum_by-append (λ y. cond (p y) 1 0) xs (x ∷ []) ∙ omega arith
+
+-- ---- what is made of lines, one after the other
+
+replies-append : (b : Behaviour) (image : ImageParts) (lines others : List (List ℕ)) (s : CoreState)
+    → replies b image (lines ++ others) s ≡ replies b image lines s ++ replies b image others (after_lines b image lines s)
+replies-append b image [] others s = refl
+replies-append b image (line ∷ lines) others s =
+    ap (λ rest. (deed b image (asked line) s).reply ++ rest) (replies-append b image lines others (deed b image (asked line) s).next)
+    ∙ sym (append_assoc (deed b image (asked line) s).reply _ _)
+
+after_lines-append : (b : Behaviour) (image : ImageParts) (lines others : List (List ℕ)) (s : CoreState)
+    → after_lines b image (lines ++ others) s ≡ after_lines b image others (after_lines b image lines s)
+after_lines-append b image [] others s = refl
+after_lines-append b image (line ∷ lines) others s = after_lines-append b image lines others (deed b image (asked line) s).next
+
+-- ---- a session that goes on
+
+-- These lines were served since a moment, and none of them ended the session.
+pub record Underway (b : Behaviour) (lines : List (List ℕ)) (summary : Summary) (budget : ℕ) (before now : Moment) : Type 0 where
+  pub plain : ArePlain lines
+  pub on : GoOn lines
+  pub given : before.left ≡ prepend_known (unlines lines) now.left
+  pub spent : 16777216 ≡ length (unlines lines) + budget
+  pub read_faults : now.read_faults ≡ before.read_faults
+  pub write_faults : now.write_faults ≡ before.write_faults
+  pub image : now.core.image ≡ before.core.image
+  pub state : now.core.state ≡ after_lines b before.core.image lines before.core.state
+  pub written : now.written ≡ append_known before.written (replies b before.core.image lines before.core.state)
+  pub requests : summary.requests ≡ length lines
+  pub steps : summary.steps ≡ count_by (λ line. is_step before.core.image (asked line)) lines
+  pub running : summary.stopped ≡ false
+
+-- Nothing was served yet.
+pub underway_start : (b : Behaviour) (now : Moment) → Underway b [] (record { requests = 0; steps = 0; stopped = false }) 16777216 now now
+underway_start b now = record {
+  plain = tt;
+  on = tt;
+  given = sym (prepend_known-nil now.left);
+  spent = omega arith;
+  read_faults = refl;
+  write_faults = refl;
+  image = refl;
+  state = refl;
+  written = sym (append_known-nil now.written);
+  requests = refl;
+  steps = refl;
+  running = refl;
+}
+
+-- What was written has gone out.
+pub underway_settled : {b : Behaviour} {lines : List (List ℕ)} {summary : Summary} {budget : ℕ} {before now : Moment} (written : Option (List ℕ)) (faults : Option ℕ)
+    → Underway b lines summary budget before now → (written ≡ append_known now.written []) × (faults ≡ now.write_faults)
+    → Underway b lines summary budget before (record { core = now.core; left = now.left; written = written; read_faults = now.read_faults; write_faults = faults })
+underway_settled {now = now} written faults u put = record {
+  plain = u.plain;
+  on = u.on;
+  given = u.given;
+  spent = u.spent;
+  read_faults = u.read_faults;
+  write_faults = put.1 ∙ u.write_faults;
+  image = u.image;
+  state = u.state;
+  written = put.0 ∙ append_known-nil now.written ∙ u.written;
+  requests = u.requests;
+  steps = u.steps;
+  running = u.running;
+}
+
+all_lines : (lines : List (List ℕ)) → ArePlain lines → lines_of (unlines lines) ≡ lines
+all_lines lines plain = ap lines_of (sym (append-nil (unlines lines))) ∙ lines_of-unlines lines [] plain ∙ append-nil lines
+
+-- What was written could not go out.
+pub settling_fails : {b : Behaviour} {lines : List (List ℕ)} {summary : Summary} {budget : ℕ} {before now : Moment} (written : Option (List ℕ)) (faults : Option ℕ)
+    → Underway b lines summary budget before now → faults ≡ counted now.write_faults
+    → BreaksWriting b (unlines lines) before (record { core = now.core; left = now.left; written = written; read_faults = now.read_faults; write_faults = faults })
+settling_fails {b} {lines} {before = before} written faults u one = record {
+  read = record { given = u.given; within = omega (arith, u.spent) };
+  served = record { image = u.image; state = u.state ∙ ap (λ ls. after_lines b before.core.image ls before.core.state) (sym (all_lines lines u.plain)) };
+  same_faults = u.read_faults;
+  one_fault = one ∙ ap counted u.write_faults;
+}
+
+-- A read failed.
+pub reading_fails : {b : Behaviour} {lines : List (List ℕ)} {summary : Summary} {budget : ℕ} {before now : Moment} (text : List ℕ) (after : Intake)
+    → Underway b lines summary budget before now → ReadFails text (record { left = now.left; faults = now.read_faults; budget = budget }) after
+    → BreaksReading b (unlines lines ++ text) before (record { core = now.core; left = after.left; written = now.written; read_faults = after.faults; write_faults = now.write_faults })
+reading_fails {b} {lines} {before = before} text after u r =
+    let whole = sym (whole_lines-unlines lines text u.plain r.plain) in
+    record {
+      read = record {
+        given = u.given ∙ ap (prepend_known (unlines lines)) r.given ∙ prepend_known-append after.left (unlines lines) text;
+        within = omega (arith, u.spent, r.within, length-append (unlines lines) text);
+      };
+      served = record { image = u.image; state = u.state ∙ ap (λ ls. after_lines b before.core.image ls before.core.state) whole };
+      replied = record { written = u.written ∙ ap (λ ls. append_known before.written (replies b before.core.image ls before.core.state)) whole; same_faults = u.write_faults };
+      one_fault = r.one_fault ∙ ap counted u.read_faults;
+      go_on = subst GoOn whole u.on;
+    }
+
+-- A byte too many was read.
+pub reading_past : {b : Behaviour} {lines : List (List ℕ)} {summary : Summary} {budget : ℕ} {before now : Moment} (text : List ℕ) (byte : ℕ) (after : Intake)
+    → Underway b lines summary budget before now → ReadsTooMuch text byte (record { left = now.left; faults = now.read_faults; budget = budget }) after
+    → ReadsPast b (unlines lines ++ text) byte before (record { core = now.core; left = after.left; written = now.written; read_faults = after.faults; write_faults = now.write_faults })
+reading_past {b} {lines} {before = before} text byte after u r =
+    let whole = sym (whole_lines-unlines lines text u.plain r.plain) in
+    record {
+      given = u.given ∙ ap (prepend_known (unlines lines)) r.given ∙ prepend_known-append after.left (unlines lines) (text ++ byte ∷ [])
+          ∙ ap (λ t. prepend_known t after.left) (sym (append_assoc (unlines lines) text (byte ∷ [])));
+      full = omega (arith, u.spent, r.spent, length-append (unlines lines) text);
+      served = record { image = u.image; state = u.state ∙ ap (λ ls. after_lines b before.core.image ls before.core.state) whole };
+      replied = record { written = u.written ∙ ap (λ ls. append_known before.written (replies b before.core.image ls before.core.state)) whole; same_faults = u.write_faults };
+      same_faults = r.same_faults ∙ u.read_faults;
+      go_on = subst GoOn whole u.on;
+    }
+
+ends_running : (stopped : Bool) (input : List ℕ) (after : Moment) → stopped ≡ false → GoOn (lines_of input) × IsAtEnd after.left → Ends stopped input after
+ends_running false input after e end = end
+ends_running true input after e end = cc
+
+-- No line could be read.
+pub no_line_read : {b : Behaviour} {lines : List (List ℕ)} {summary : Summary} {budget : ℕ} {before now : Moment} (fault : SessionFault) (after : Intake)
+    → Underway b lines summary budget before now → LineGives (Err fault) (record { left = now.left; faults = now.read_faults; budget = budget }) after
+    → SessionGives b (Err fault) before (record { core = now.core; left = after.left; written = now.written; read_faults = after.faults; write_faults = now.write_faults })
+no_line_read ReadFailed after u r = (_, reading_fails r.0 after u r.1)
+no_line_read TooMuchInput after u r = (_, r.1, reading_past r.0 r.1 after u r.2)
+no_line_read WriteFailed after u r = absurd r
+
+some_byte : (text : List ℕ) (ended : Bool) (P : Type 0) → (ended ≡ false → (0 < length text) × P) → 1 ≤ length (text ++ ending ended)
+some_byte text true P last = omega (arith, length-append text (10 ∷ []))
+some_byte text false P last = omega (arith, (last refl).0, ap length (append-nil text))
+
+-- A line takes at least one byte of the budget.
+pub line_counts : {line : Line} {text : List ℕ} {start after : Intake} → ReadsLine line text start after → 1 + after.budget ≤ start.budget
+line_counts {line} {text} {after = after} r = omega (arith, r.spent, some_byte text line.is_ended (IsAtEnd after.left) r.last)
+
+-- The input was at its end.
+pub nothing_left : {b : Behaviour} {lines : List (List ℕ)} {summary : Summary} {budget : ℕ} {before now : Moment} (after : Intake)
+    → Underway b lines summary budget before now → ReadsNothing (record { left = now.left; faults = now.read_faults; budget = budget }) after
+    → Completes b summary (unlines lines) before (record { core = now.core; left = after.left; written = now.written; read_faults = after.faults; write_faults = now.write_faults })
+nothing_left {b} {lines} {summary} {budget} {before} {now} after u r =
+    let all = sym (all_lines lines u.plain) in
+    let left : Option (List ℕ) = after.left in
+    record {
+      read = record { given = u.given ∙ ap (prepend_known (unlines lines)) (sym r.same); within = omega (arith, u.spent) };
+      served = record { image = u.image; state = u.state ∙ ap (λ ls. after_lines b before.core.image ls before.core.state) all };
+      replied = record { written = u.written ∙ ap (λ ls. append_known before.written (replies b before.core.image ls before.core.state)) all; same_faults = u.write_faults };
+      same_faults = r.same_faults ∙ u.read_faults;
+      requests = u.requests ∙ ap length all;
+      steps = u.steps ∙ ap (count_by (λ line. is_step before.core.image (asked line))) all;
+      end = ends_running _ _ _ u.running (subst GoOn all u.on, r.at_end);
+    }
+
+-- ---- a line that was read and served
+
+asked_by_length : (longer : Bool) (kept text : List ℕ) → kept ≡ take 256 text → longer ≡ nat_lt 256 (length text)
+    → cond longer (AFault TooLong) (short_asked kept) ≡ asked text
+asked_by_length true kept text k l = ap (λ w. cond w (AFault TooLong) (short_asked text)) l
+asked_by_length false kept text k l =
+    ap short_asked (k ∙ take_all 256 text (short_length (length text) l)) ∙ ap (λ w. cond w (AFault TooLong) (short_asked text)) l
+
+-- A line of which the first 256 bytes are kept asks what the whole line does.
+pub kept_asked-line : {line : Line} {text : List ℕ} {before after : Intake} → ReadsLine line text before after → kept_asked line ≡ asked text
+kept_asked-line {line} {text} r = asked_by_length line.is_longer line.kept.items text r.kept r.longer
+
+-- A line that is kept whole asks what its bytes do.
+pub kept_asked-short : (line : Line) (text : List ℕ) (a : Asked) → line.is_longer ≡ false → text ≡ line.kept.items → a ≡ short_asked text → kept_asked line ≡ a
+kept_asked-short line text a whole same asks =
+    ap (λ w. cond w (AFault TooLong) (short_asked line.kept.items)) whole ∙ ap short_asked (sym same) ∙ sym asks
+
+-- What a line counts for, in a summary that goes on.
+pub record Counts (image : ImageParts) (a : Asked) (s next : Summary) : Type 0 where
+  pub requests : next.requests ≡ s.requests + 1
+  pub steps : next.steps ≡ s.steps + cond (is_step image a) 1 0
+  pub stopped : next.stopped ≡ is_stop a
+
+counted_other : (image : ImageParts) (a : Asked) (yes : Bool) (s : Summary) → is_step image a ≡ yes → is_stop a ≡ false → s.stopped ≡ false
+    → Counts image a s (with_line (cond yes kinds.Step kinds.Other) s)
+counted_other image a true s e stop running = record { requests = refl; steps = ap (λ w. s.steps + cond w 1 0) (sym e); stopped = running ∙ sym stop }
+counted_other image a false s e stop running = record { requests = refl; steps = omega (arith, ap (λ w. s.steps + cond w 1 0) (sym e)); stopped = running ∙ sym stop }
+
+counted_line : (image : ImageParts) (a : Asked) (s : Summary) → s.stopped ≡ false → Counts image a s (with_line (kind_of image a) s)
+counted_line image (ALink name link) s running = counted_other image (ALink name link) (is_step image (ALink name link)) s refl refl running
+counted_line image (AResult test run value) s running = counted_other image (AResult test run value) true s refl refl running
+counted_line image (ATick moment) s running = counted_other image (ATick moment) true s refl refl running
+counted_line image ATake s running = counted_other image ATake true s refl refl running
+counted_line image AStatus s running = counted_other image AStatus false s refl refl running
+counted_line image ATrace s running = counted_other image ATrace false s refl refl running
+counted_line image AStop s running = record { requests = refl; steps = omega arith; stopped = refl }
+counted_line image (AFault fault) s running = counted_other image (AFault fault) false s refl refl running
+
+-- The last line of an input, whatever ends it.
+last_line : (text : List ℕ) (ended : Bool) (P : Type 0) → IsPlain text → (ended ≡ false → (0 < length text) × P) → lines_of (text ++ ending ended) ≡ text ∷ []
+last_line text true P plain last = lines_of-ended text [] plain
+last_line text false P plain last = ap lines_of (append-nil text) ∙ lines_of-rest text plain (last refl).0
+
+line_ends : (front text : List ℕ) (ended : Bool) (left : Option (List ℕ)) → (ended ≡ false → (0 < length text) × IsAtEnd left) → EndsLine (front ++ (text ++ ending ended)) left
+line_ends front text true left last = inl (front ++ text, sym (append_assoc front text (10 ∷ [])))
+line_ends front text false left last = inr (last refl).1
+
+same_deed : {b : Behaviour} {lines : List (List ℕ)} {summary : Summary} {budget : ℕ} {before now : Moment} {line : Line} {text : List ℕ} {start after : Intake}
+    → Underway b lines summary budget before now → ReadsLine line text start after
+    → deed b now.core.image (kept_asked line) now.core.state ≡ deed b before.core.image (asked text) (after_lines b before.core.image lines before.core.state)
+same_deed {b} {lines} {before = before} {now} {line} {text} u r =
+    ap (λ i. deed b i (kept_asked line) now.core.state) u.image
+    ∙ ap (λ a. deed b before.core.image a now.core.state) (kept_asked-line r)
+    ∙ ap (deed b before.core.image (asked text)) u.state
+
+-- A line was read and its step, if it is one, was made: the state is that after this line too.
+pub record Advances (b : Behaviour) (lines : List (List ℕ)) (text input : List ℕ) (before : Moment) (core : OpenCore) (after : Intake) : Type 0 where
+  pub given : before.left ≡ prepend_known input after.left
+  pub spent : 16777216 ≡ length input + after.budget
+  pub read_faults : after.faults ≡ before.read_faults
+  pub lines_are : lines_of input ≡ lines ++ text ∷ []
+  pub image : core.image ≡ before.core.image
+  pub state : core.state ≡ after_lines b before.core.image (lines ++ text ∷ []) before.core.state
+
+pub advances : {b : Behaviour} {lines : List (List ℕ)} {summary : Summary} {budget : ℕ} {before now : Moment} {line : Line} {text : List ℕ} {after : Intake} (core : OpenCore)
+    → Underway b lines summary budget before now → ReadsLine line text (record { left = now.left; faults = now.read_faults; budget = budget }) after
+    → core.image ≡ now.core.image → core.state ≡ (deed b now.core.image (kept_asked line) now.core.state).next
+    → Advances b lines text (unlines lines ++ (text ++ ending line.is_ended)) before core after
+advances {b} {lines} {budget = budget} {before = before} {now} {line} {text} {after} core u r image state = record {
+  given = u.given ∙ ap (prepend_known (unlines lines)) r.given ∙ prepend_known-append after.left (unlines lines) (text ++ ending line.is_ended);
+  spent = omega (arith, u.spent, r.spent, length-append (unlines lines) (text ++ ending line.is_ended));
+  read_faults = r.same_faults ∙ u.read_faults;
+  lines_are = lines_of-unlines lines (text ++ ending line.is_ended) u.plain ∙ ap (λ ls. lines ++ ls) (last_line text line.is_ended (IsAtEnd after.left) r.plain r.last);
+  image = image ∙ u.image;
+  state = state ∙ ap (λ d. d.next) (same_deed u r) ∙ sym (after_lines-append b before.core.image lines (text ∷ []) before.core.state);
+}
+
+-- The reply could not be written.
+pub replying_fails : {b : Behaviour} {lines : List (List ℕ)} {text input : List ℕ} {before : Moment} {core : OpenCore} {after : Intake} (written : Option (List ℕ)) (faults old_faults : Option ℕ)
+    → Advances b lines text input before core after → old_faults ≡ before.write_faults → faults ≡ counted old_faults
+    → BreaksWriting b input before (record { core = core; left = after.left; written = written; read_faults = after.faults; write_faults = faults })
+replying_fails {b} {before = before} written faults old_faults a old one = record {
+  read = record { given = a.given; within = omega (arith, a.spent) };
+  served = record { image = a.image; state = a.state ∙ ap (λ ls. after_lines b before.core.image ls before.core.state) (sym a.lines_are) };
+  same_faults = a.read_faults;
+  one_fault = one ∙ ap counted old;
+}
+
+-- And it was replied to.
+pub record Replies (b : Behaviour) (lines : List (List ℕ)) (text : List ℕ) (summary : Summary) (before : Moment) (written : Option (List ℕ)) (faults : Option ℕ) : Type 0 where
+  pub written_is : written ≡ append_known before.written (replies b before.core.image (lines ++ text ∷ []) before.core.state)
+  pub faults_are : faults ≡ before.write_faults
+  pub requests : summary.requests ≡ length (lines ++ text ∷ [])
+  pub steps : summary.steps ≡ count_by (λ line. is_step before.core.image (asked line)) (lines ++ text ∷ [])
+  pub stopped : summary.stopped ≡ is_stop (asked text)
+
+pub replied_to : {b : Behaviour} {lines : List (List ℕ)} {summary : Summary} {budget : ℕ} {before now : Moment} {line : Line} {text : List ℕ} {start after : Intake} (next : Summary) (kind : Kind) (written : Option (List ℕ)) (faults : Option ℕ)
+    → Underway b lines summary budget before now → ReadsLine line text start after
+    → (written ≡ append_known now.written (deed b now.core.image (kept_asked line) now.core.state).reply) × (faults ≡ now.write_faults)
+    → kind ≡ kind_of now.core.image (kept_asked line) → next ≡ with_line kind summary
+    → Replies b lines text next before written faults
+replied_to {b} {lines} {summary} {before = before} {now} {line} {text} next kind written faults u r put kind_is next_is =
+    let im = before.core.image in
+    let s = before.core.state in
+    let same_kind : kind ≡ kind_of im (asked text) = kind_is ∙ ap (λ i. kind_of i (kept_asked line)) u.image ∙ ap (kind_of im) (kept_asked-line r) in
+    let counts : Counts im (asked text) summary next = subst (Counts im (asked text) summary) (sym (next_is ∙ ap (λ k. with_line k summary) same_kind)) (counted_line im (asked text) summary u.running) in
+    record {
+      written_is = put.0 ∙ ap (λ d. append_known now.written d.reply) (same_deed u r)
+          ∙ ap (λ k. append_known k (deed b im (asked text) (after_lines b im lines s)).reply) u.written
+          ∙ append_known-append before.written (replies b im lines s) _
+          ∙ ap (λ t. append_known before.written (replies b im lines s ++ t)) (sym (append-nil (deed b im (asked text) (after_lines b im lines s)).reply))
+          ∙ ap (append_known before.written) (sym (replies-append b im lines (text ∷ []) s));
+      faults_are = put.1 ∙ u.write_faults;
+      requests = counts.requests ∙ omega (arith, u.requests, length-append lines (text ∷ []));
+      steps = counts.steps ∙ ap (λ n. n + cond (is_step im (asked text)) 1 0) u.steps ∙ sym (count_by-push (λ other. is_step im (asked other)) lines text);
+      stopped = counts.stopped;
+    }
+
+ends_stopped : (lines : List (List ℕ)) (text input : List ℕ) (after : Moment) (stopped : Bool) → stopped ≡ true → lines_of input ≡ lines ++ text ∷ [] → GoOn lines → is_stop (asked text) ≡ true → EndsLine input after.left
+    → Ends stopped input after
+ends_stopped lines text input after true e are on stop line = (lines, text, are, on, stop, line)
+ends_stopped lines text input after false e are on stop line = cc
+
+-- The line was `stop`, or the input ended with it.
+session_ends : {b : Behaviour} {lines : List (List ℕ)} {text input : List ℕ} {next : Summary} {before : Moment} {core : OpenCore} {after : Intake} {written : Option (List ℕ)} {faults : Option ℕ}
+    → Advances b lines text input before core after → Replies b lines text next before written faults
+    → Ends next.stopped input (record { core = core; left = after.left; written = written; read_faults = after.faults; write_faults = faults })
+    → Completes b next input before (record { core = core; left = after.left; written = written; read_faults = after.faults; write_faults = faults })
+session_ends {b} {before = before} a p end = record {
+  read = record { given = a.given; within = omega (arith, a.spent) };
+  served = record { image = a.image; state = a.state ∙ ap (λ ls. after_lines b before.core.image ls before.core.state) (sym a.lines_are) };
+  replied = record { written = p.written_is ∙ ap (λ ls. append_known before.written (replies b before.core.image ls before.core.state)) (sym a.lines_are); same_faults = p.faults_are };
+  same_faults = a.read_faults;
+  requests = p.requests ∙ ap length (sym a.lines_are);
+  steps = p.steps ∙ ap (count_by (λ line. is_step before.core.image (asked line))) (sym a.lines_are);
+  end = end;
+}
+
+pub session_stops : {b : Behaviour} {lines : List (List ℕ)} {summary next : Summary} {budget : ℕ} {before now : Moment} {line : Line} {text : List ℕ} {start after : Intake} {core : OpenCore} {written : Option (List ℕ)} {faults : Option ℕ}
+    → Underway b lines summary budget before now → ReadsLine line text start after
+    → Advances b lines text (unlines lines ++ (text ++ ending line.is_ended)) before core after → Replies b lines text next before written faults → next.stopped ≡ true
+    → Completes b next (unlines lines ++ (text ++ ending line.is_ended)) before (record { core = core; left = after.left; written = written; read_faults = after.faults; write_faults = faults })
+session_stops {lines = lines} {next = next} {line = line} {text = text} {after = after} u r a p stopped =
+    session_ends a p (ends_stopped lines text _ _ next.stopped stopped a.lines_are u.on (sym p.stopped ∙ stopped) (line_ends (unlines lines) text line.is_ended after.left r.last))
+
+pub session_runs_out : {b : Behaviour} {lines : List (List ℕ)} {summary next : Summary} {budget : ℕ} {before now : Moment} {line : Line} {text : List ℕ} {start after : Intake} {core : OpenCore} {written : Option (List ℕ)} {faults : Option ℕ}
+    → Underway b lines summary budget before now → ReadsLine line text start after
+    → Advances b lines text (unlines lines ++ (text ++ ending line.is_ended)) before core after → Replies b lines text next before written faults → next.stopped ≡ false → line.is_ended ≡ false
+    → Completes b next (unlines lines ++ (text ++ ending line.is_ended)) before (record { core = core; left = after.left; written = written; read_faults = after.faults; write_faults = faults })
+session_runs_out {lines = lines} {next = next} {line = line} {text = text} {after = after} u r a p running ended =
+    session_ends a p (ends_running next.stopped _ _ running (subst GoOn (sym a.lines_are) (GoOn-push lines text u.on (sym p.stopped ∙ running)), (r.last ended).1))
+
+-- The session goes on after the line.
+pub session_goes_on : {b : Behaviour} {lines : List (List ℕ)} {summary next : Summary} {budget : ℕ} {before now : Moment} {line : Line} {text : List ℕ} {start after : Intake} {core : OpenCore} {written : Option (List ℕ)} {faults : Option ℕ}
+    → Underway b lines summary budget before now → ReadsLine line text start after
+    → Advances b lines text (unlines lines ++ (text ++ ending line.is_ended)) before core after → Replies b lines text next before written faults → next.stopped ≡ false → line.is_ended ≡ true
+    → Underway b (lines ++ text ∷ []) next after.budget before (record { core = core; left = after.left; written = written; read_faults = after.faults; write_faults = faults })
+session_goes_on {lines = lines} {line = line} {text = text} {after = after} u r a p running ended =
+    let all : unlines lines ++ (text ++ ending line.is_ended) ≡ unlines (lines ++ text ∷ []) = ap (λ e. unlines lines ++ (text ++ ending e)) ended ∙ sym (unlines-push lines text) in
+    record {
+      plain = ArePlain-push lines text u.plain r.plain;
+      on = GoOn-push lines text u.on (sym p.stopped ∙ running);
+      given = a.given ∙ ap (λ t. prepend_known t after.left) all;
+      spent = a.spent ∙ ap (λ t. length t + after.budget) all;
+      read_faults = a.read_faults;
+      write_faults = p.faults_are;
+      image = a.image;
+      state = a.state;
+      written = p.written_is;
+      requests = p.requests;
+      steps = p.steps;
+      running = running;
+    }
+
+-- ---- counts, and what is written at the end
+
+pub line_total : (kind : Kind) (s next : Summary) → next ≡ with_line kind s → next.requests ≡ s.requests + 1
+line_total kinds.Step s next e = ap (λ x. x.requests) e
+line_total kinds.Other s next e = ap (λ x. x.requests) e
+line_total kinds.Stop s next e = ap (λ x. x.requests) e
+
+pub line_steps : (kind : Kind) (s next : Summary) → next ≡ with_line kind s → next.steps ≤ s.steps + 1
+line_steps kinds.Step s next e = omega (arith, ap (λ x. x.steps) e)
+line_steps kinds.Other s next e = omega (arith, ap (λ x. x.steps) e)
+line_steps kinds.Stop s next e = omega (arith, ap (λ x. x.steps) e)
+
+ends_alike : (stopped : Bool) (input : List ℕ) (now after : Moment) → after.left ≡ now.left → Ends stopped input now → Ends stopped input after
+ends_alike false input now after same end = (end.0, subst IsAtEnd (sym same) end.1)
+ends_alike true input now after same end = (end.0, end.1, end.2, end.3, end.4, subst (EndsLine input) (sym same) end.5)
+
+-- The replies of a session that has ended have gone out.
+pub out_flushed : {b : Behaviour} {summary : Summary} {before now : Moment} (written : Option (List ℕ)) (faults : Option ℕ)
+    → (input : List ℕ) × Completes b summary input before now → (written ≡ append_known now.written []) × (faults ≡ now.write_faults)
+    → (input : List ℕ) × Completes b summary input before (record { core = now.core; left = now.left; written = written; read_faults = now.read_faults; write_faults = faults })
+out_flushed {summary = summary} {now = now} written faults (input, done) put = (input, record {
+  read = record { given = done.read.given; within = done.read.within };
+  served = record { image = done.served.image; state = done.served.state };
+  replied = record { written = put.0 ∙ append_known-nil now.written ∙ done.replied.written; same_faults = put.1 ∙ done.replied.same_faults };
+  same_faults = done.same_faults;
+  requests = done.requests;
+  steps = done.steps;
+  end = ends_alike summary.stopped input now _ refl done.end;
+})
+
+-- They could not go out.
+pub out_fails : {b : Behaviour} {summary : Summary} {before now : Moment} (written : Option (List ℕ)) (faults : Option ℕ)
+    → (input : List ℕ) × Completes b summary input before now → faults ≡ counted now.write_faults
+    → (input : List ℕ) × BreaksWriting b input before (record { core = now.core; left = now.left; written = written; read_faults = now.read_faults; write_faults = faults })
+out_fails written faults (input, done) one = (input, record {
+  read = record { given = done.read.given; within = done.read.within };
+  served = record { image = done.served.image; state = done.served.state };
+  same_faults = done.same_faults;
+  one_fault = one ∙ ap counted done.replied.same_faults;
+})

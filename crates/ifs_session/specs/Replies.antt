@@ -1,0 +1,143 @@
+-- Replies: the bytes of each reply line.
+use Rattle.std.specs.Prelude.{ℕ, Bool, true, false, if◌then◌else◌, List, [], ◌∷◌, ◌++◌, length, map, slice_get, codes, decimal, Option, Some, None, unwrap_or}
+use Rattle.std.specs.Option.{option_map}
+use Rattle.std.specs.List.{flat_map}
+use Rattle.ifs_base.specs.declared.ids.CommandId.{CommandId}
+use Rattle.ifs_base.specs.declared.op.LinkState.{LinkState}
+use Rattle.ifs_base.specs.declared.op.LinkState.TheVariants.{Unknown, Down, Up}
+use Rattle.ifs_image.specs.declared.parts.ImageParts.{ImageParts}
+use Rattle.ifs_sched.specs.declared.start.Start.{Start}
+use Rattle.ifs_sched.specs.Schedule.{running_count}
+use Rattle.ifs_core.specs.declared.step.Step.{Step}
+use Rattle.ifs_core.specs.declared.step.Step.TheVariants.{Link, Finished, Tick, Take}
+use Rattle.ifs_core.specs.declared.step.Reply.{Reply}
+use Rattle.ifs_core.specs.declared.step.Reply.TheVariants.{Done, Same, Ticked, Taken, Empty, Busy, Stale, Backwards, NoSuch}
+use Rattle.ifs_core.specs.declared.step.Answer.{Answer}
+use Rattle.ifs_core.specs.declared.step.Answer.TheVariants as answers
+use Rattle.ifs_core.specs.declared.step.Record.{Record}
+use Rattle.ifs_core.specs.Steps.{CoreState}
+use Rattle.ifs_session.specs.declared.request.RequestFault.{RequestFault}
+use Rattle.ifs_session.specs.declared.request.RequestFault.TheVariants.{NoRequest, TooLong, OutOfRange, NoInterface}
+use Rattle.ifs_session.specs.Words.{quoted, listed}
+
+-- The name of a state of an image, and the text of a command.
+abbrev pub name_of : ImageParts → ℕ → List ℕ
+name_of image state = unwrap_or (option_map (λ s. s.name) (slice_get image.states state)) []
+
+abbrev pub text_of : ImageParts → ℕ → List ℕ
+text_of image command = unwrap_or (slice_get image.commands command) []
+
+-- The numbers of commands.
+abbrev pub command_numbers : List CommandId → List (List ℕ)
+command_numbers commands = map (λ command. decimal command.0) commands
+
+-- A state, a cost and the queued commands of an evaluation.
+abbrev pub evaluation_words : ImageParts → ℕ → ℕ → List CommandId → List ℕ
+evaluation_words image state cost commands =
+    quoted (name_of image state) ++ codes " cost " ++ decimal cost ++ codes " queue " ++ listed (command_numbers commands)
+
+-- A test and the number of its run.
+abbrev pub start_word : Start → List ℕ
+start_word start = decimal start.test.0 ++ codes ":" ++ decimal start.run
+
+-- The starts of a tick, and whether a due test was left without a number.
+abbrev pub starts_words : List Start → Bool → List ℕ
+starts_words starts exhausted =
+    codes "starts " ++ listed (map start_word starts) ++ (if exhausted then codes " exhausted" else [])
+
+-- The line that ends here.
+abbrev pub line_of : List ℕ → List ℕ
+line_of words = words ++ codes "\n"
+
+-- What stands before the starts of a tick: its evaluation, if it made one.
+abbrev pub before_starts : Bool → List ℕ → List ℕ
+before_starts true evaluation = evaluation ++ codes " "
+before_starts false evaluation = []
+
+-- The line of a tick, by whether it evaluated.
+abbrev pub tick_line : Bool → List ℕ → List ℕ → List ℕ
+tick_line evaluated evaluation starts = line_of (codes "tick " ++ before_starts evaluated evaluation ++ starts)
+
+-- The line of a command that was taken.
+abbrev pub taken_line : ImageParts → ℕ → List ℕ
+taken_line image command = line_of (codes "taken " ++ decimal command ++ codes " " ++ quoted (text_of image command))
+
+-- The line of a reply to a step.
+abbrev pub reply_line : ImageParts → Reply → List ℕ
+reply_line image (Done state queued cost) = line_of (codes "done " ++ evaluation_words image state.0 cost queued.items)
+reply_line image Same = codes "same\n"
+reply_line image (Ticked evaluated state queued cost starts exhausted) =
+    tick_line evaluated (evaluation_words image state.0 cost queued.items) (starts_words starts.items exhausted)
+reply_line image (Taken command) = taken_line image command.0
+reply_line image Empty = codes "empty\n"
+reply_line image Busy = codes "busy\n"
+reply_line image Stale = codes "stale\n"
+reply_line image Backwards = codes "backwards\n"
+reply_line image NoSuch = codes "nosuch\n"
+
+-- Whether something is so.
+abbrev pub yes_or_no : Bool → List ℕ
+yes_or_no answer = if answer then codes "yes" else codes "no"
+
+-- The numbers of a status: the commands in the queue, the tests that run, and the present moment.
+abbrev pub status_numbers : CoreState → List ℕ
+status_numbers s = codes " queue " ++ decimal (length s.queue)
+    ++ codes " running " ++ decimal (running_count s.position.schedule)
+    ++ codes " now " ++ decimal s.position.schedule.present
+
+-- The line of a status.
+abbrev pub status_line : ImageParts → CoreState → List ℕ
+status_line image s = line_of (codes "status " ++ quoted (name_of image s.position.current.0)
+    ++ codes " owed " ++ yes_or_no s.position.owed ++ status_numbers s)
+
+-- A link state.
+abbrev pub link_word : LinkState → List ℕ
+link_word Unknown = codes "unknown"
+link_word Down = codes "down"
+link_word Up = codes "up"
+
+-- The value of a test.
+abbrev pub value_word : Bool → List ℕ
+value_word value = if value then codes "ok" else codes "fail"
+
+-- A step, with the index of its interface.
+abbrev pub step_words : Step → List ℕ
+step_words (Link interface link) = codes "link " ++ decimal interface.0 ++ codes " " ++ link_word link
+step_words (Finished test run value) = codes "result " ++ decimal test.0 ++ codes " " ++ decimal run ++ codes " " ++ value_word value
+step_words (Tick now) = codes "tick " ++ decimal now
+step_words Take = codes "take"
+
+-- The name of an answer.
+abbrev pub answer_word : Answer → List ℕ
+answer_word answers.Done = codes "done"
+answer_word answers.Same = codes "same"
+answer_word answers.Ticked = codes "ticked"
+answer_word answers.Taken = codes "taken"
+
+-- What a record says of the answer: its name, the state after it, the cost and the number of commands queued.
+abbrev pub answer_words : ImageParts → Record → List ℕ
+answer_words image r = answer_word r.answer ++ codes " " ++ quoted (name_of image r.state.0)
+    ++ codes " cost " ++ decimal r.cost ++ codes " queue " ++ decimal r.queued
+
+-- The line of a record of the trace.
+abbrev pub record_line : ImageParts → Record → List ℕ
+record_line image r = line_of (step_words r.step ++ codes " -> " ++ answer_words image r)
+
+-- The lines of a trace: how many records there are, and each, the oldest first.
+abbrev pub trace_lines : ImageParts → List Record → List ℕ
+trace_lines image trace = line_of (codes "trace " ++ decimal (length trace)) ++ flat_map (record_line image) trace
+
+-- The code of a request's fault.
+abbrev pub fault_code : RequestFault → List ℕ
+fault_code NoRequest = codes "C1"
+fault_code TooLong = codes "C2"
+fault_code OutOfRange = codes "C3"
+fault_code NoInterface = codes "C4"
+
+-- The line of a fault.
+abbrev pub fault_line : RequestFault → List ℕ
+fault_line fault = line_of (codes "fault " ++ fault_code fault)
+
+-- The line of `stop`.
+abbrev pub bye_line : List ℕ
+bye_line = codes "bye\n"

@@ -1,0 +1,176 @@
+-- Session text: the replies to the lines of an input, and the core after them.
+use Rattle.std.specs.Prelude.{◌≡◌, ◌≢◌, ◌⊎◌, ℕ, ◌+◌, ◌<◌, ◌≤◌, Bool, true, false, ◌==◌, if◌then◌else◌, is_some, List, [], ◌∷◌, ◌++◌, length, take, count_by, codes, Option, Some, None, Result, Ok, Err, IfOk}
+use Rattle.std.specs.Io.KnownBytes.{prepend_known, append_known, IsAtEnd}
+use Rattle.ifs_base.specs.declared.ids.IfaceId.{IfaceId}
+use Rattle.ifs_base.specs.declared.op.LinkState.{LinkState}
+use Rattle.ifs_image.specs.declared.parts.ImageParts.{ImageParts}
+use Rattle.ifs_core.specs.declared.step.Step.{Step}
+use Rattle.ifs_core.specs.declared.step.Step.TheVariants.{Link, Finished, Tick, Take}
+use Rattle.ifs_core.specs.Event.{Behaviour}
+use Rattle.ifs_core.specs.Steps.{CoreState, turn}
+use Rattle.ifs_core.specs.Gateway.{OpenCore, interface_of}
+use Rattle.ifs_session.specs.declared.fault.SessionFault.{SessionFault}
+use Rattle.ifs_session.specs.declared.fault.SessionFault.TheVariants.{ReadFailed, WriteFailed, TooMuchInput}
+use Rattle.ifs_session.specs.declared.request.RequestFault.TheVariants.{NoInterface, TooLong}
+use Rattle.ifs_session.specs.declared.session.Summary.{Summary}
+use Rattle.ifs_session.specs.declared.session.Kind.{Kind}
+use Rattle.ifs_session.specs.declared.session.Kind.TheVariants as kinds
+use Rattle.ifs_session.specs.declared.lines.Line.{Line}
+use Rattle.ifs_session.specs.declared.device.DeviceFault.{DeviceFault}
+use Rattle.ifs_session.specs.Device.{counted, PutGives}
+use Rattle.ifs_session.specs.Requests.{Asked, ALink, AResult, ATick, ATake, AStatus, ATrace, AStop, AFault, asked, short_asked}
+use Rattle.ifs_session.specs.Replies.{reply_line, status_line, trace_lines, fault_line, bye_line}
+use Rattle.ifs_session.specs.Session.{lines_of, whole_lines}
+
+-- What a line makes: the bytes of its reply, the state after it, and whether it was a step.
+pub record Deed : Type 0 where
+  pub reply : List ℕ
+  pub next : CoreState
+  pub is_step : Bool
+
+-- A step is made.
+abbrev pub step_deed : Behaviour → ImageParts → Step → CoreState → Deed
+step_deed b image step s =
+    let t = turn b image.budgets.commands step s in
+    record { reply = reply_line image t.reply; next = t.next; is_step = true }
+
+-- Nothing changes, and this is replied.
+abbrev pub told : List ℕ → CoreState → Deed
+told reply s = record { reply = reply; next = s; is_step = false }
+
+-- A link state was asked for an interface, which may not be in the table.
+abbrev pub link_deed : Behaviour → ImageParts → LinkState → Option IfaceId → CoreState → Deed
+link_deed b image link None s = told (fault_line NoInterface) s
+link_deed b image link (Some interface) s = step_deed b image (Link interface link) s
+
+-- What is made of what is asked.
+abbrev pub deed : Behaviour → ImageParts → Asked → CoreState → Deed
+deed b image (ALink name link) s = link_deed b image link (interface_of image.interfaces name) s
+deed b image (AResult test run value) s = step_deed b image (Finished (record { 0 = test }) run value) s
+deed b image (ATick moment) s = step_deed b image (Tick moment) s
+deed b image ATake s = step_deed b image Take s
+deed b image AStatus s = told (status_line image s) s
+deed b image ATrace s = told (trace_lines image s.trace) s
+deed b image AStop s = told bye_line s
+deed b image (AFault fault) s = told (fault_line fault) s
+
+-- The replies to lines, one after the other.
+abbrev pub replies : Behaviour → ImageParts → List (List ℕ) → CoreState → List ℕ
+replies b image [] s = []
+replies b image (line ∷ lines) s = (deed b image (asked line) s).reply ++ replies b image lines (deed b image (asked line) s).next
+
+-- The state after lines.
+abbrev pub after_lines : Behaviour → ImageParts → List (List ℕ) → CoreState → CoreState
+after_lines b image [] s = s
+after_lines b image (line ∷ lines) s = after_lines b image lines (deed b image (asked line) s).next
+
+-- Whether what is asked is a step: all but what has a fault or asks the core of itself.
+abbrev pub is_step : ImageParts → Asked → Bool
+is_step image (ALink name link) = is_some (interface_of image.interfaces name)
+is_step image (AResult test run value) = true
+is_step image (ATick moment) = true
+is_step image ATake = true
+is_step image _ = false
+
+-- Whether a line asks for the end of the session.
+abbrev pub is_stop : Asked → Bool
+is_stop AStop = true
+is_stop _ = false
+
+-- None of these lines asks for the end of the session.
+abbrev pub GoOn : List (List ℕ) → Type 0
+GoOn [] = Unit {0}
+GoOn (line ∷ lines) = (is_stop (asked line) ≡ false) × GoOn lines
+
+-- A moment of a session: the core, what the reader has left and the writer has written, where they tell it, and how often each has failed.
+pub record Moment : Type 0 where
+  pub core : OpenCore
+  pub left : Option (List ℕ)
+  pub written : Option (List ℕ)
+  pub read_faults : Option ℕ
+  pub write_faults : Option ℕ
+
+-- From one moment to another these bytes were read, at most as many as a session reads.
+pub record HasRead (input : List ℕ) (before after : Moment) : Type 0 where
+  pub given : before.left ≡ prepend_known input after.left
+  pub within : length input ≤ 16777216
+
+-- From one moment to another these lines were served: each made its step, if it was one.
+pub record HasServed (b : Behaviour) (lines : List (List ℕ)) (before after : Moment) : Type 0 where
+  pub image : after.core.image ≡ before.core.image
+  pub state : after.core.state ≡ after_lines b before.core.image lines before.core.state
+
+-- And each was replied to, in order, and nothing else was written.
+pub record HasReplied (b : Behaviour) (lines : List (List ℕ)) (before after : Moment) : Type 0 where
+  pub written : after.written ≡ append_known before.written (replies b before.core.image lines before.core.state)
+  pub same_faults : after.write_faults ≡ before.write_faults
+
+-- The input ends with a newline, or it is at its end.
+abbrev pub EndsLine : List ℕ → Option (List ℕ) → Type 0
+EndsLine input left = ((front : List ℕ) × (input ≡ front ++ 10 ∷ [])) ⊎ IsAtEnd left
+
+-- How a session ends that ends well: at the end of input, where no line asked for it; or with its last line, which alone asks for it. After that line's newline, where it has one, nothing more was read.
+abbrev pub Ends : Bool → List ℕ → Moment → Type 0
+Ends false input after = GoOn (lines_of input) × IsAtEnd after.left
+Ends true input after = (earlier : List (List ℕ)) × (stop : List ℕ) × (lines_of input ≡ earlier ++ stop ∷ []) × GoOn earlier × (is_stop (asked stop) ≡ true) × EndsLine input after.left
+
+-- A session has ended.
+pub record Completes (b : Behaviour) (summary : Summary) (input : List ℕ) (before after : Moment) : Type 0 where
+  pub read : HasRead input before after
+  pub served : HasServed b (lines_of input) before after
+  pub replied : HasReplied b (lines_of input) before after
+  pub same_faults : after.read_faults ≡ before.read_faults
+  pub requests : summary.requests ≡ length (lines_of input)
+  pub steps : summary.steps ≡ count_by (λ line. is_step before.core.image (asked line)) (lines_of input)
+  pub end : Ends summary.stopped input after
+
+-- A read failed: the lines that were whole by then were served.
+pub record BreaksReading (b : Behaviour) (input : List ℕ) (before after : Moment) : Type 0 where
+  pub read : HasRead input before after
+  pub served : HasServed b (whole_lines input) before after
+  pub replied : HasReplied b (whole_lines input) before after
+  pub one_fault : after.read_faults ≡ counted before.read_faults
+  pub go_on : GoOn (whole_lines input)
+
+-- A write failed: the lines that were read by then were served.
+pub record BreaksWriting (b : Behaviour) (input : List ℕ) (before after : Moment) : Type 0 where
+  pub read : HasRead input before after
+  pub served : HasServed b (lines_of input) before after
+  pub same_faults : after.read_faults ≡ before.read_faults
+  pub one_fault : after.write_faults ≡ counted before.write_faults
+
+-- A byte was read after the 16,777,216 that a session reads: the lines that were whole before it were served.
+pub record ReadsPast (b : Behaviour) (input : List ℕ) (byte : ℕ) (before after : Moment) : Type 0 where
+  pub given : before.left ≡ prepend_known (input ++ byte ∷ []) after.left
+  pub full : length input ≡ 16777216
+  pub served : HasServed b (whole_lines input) before after
+  pub replied : HasReplied b (whole_lines input) before after
+  pub same_faults : after.read_faults ≡ before.read_faults
+  pub go_on : GoOn (whole_lines input)
+
+-- What a session gives: there is an input that was read, and the lines of which were served.
+abbrev pub SessionGives : Behaviour → Result Summary SessionFault → Moment → Moment → Type 0
+SessionGives b (Ok summary) before after = (input : List ℕ) × Completes b summary input before after
+SessionGives b (Err ReadFailed) before after = (input : List ℕ) × BreaksReading b input before after
+SessionGives b (Err WriteFailed) before after = (input : List ℕ) × BreaksWriting b input before after
+SessionGives b (Err TooMuchInput) before after = (input : List ℕ) × (byte : ℕ) × ReadsPast b input byte before after
+
+-- What is asked by a line of which the first 256 bytes are kept.
+abbrev pub kept_asked : Line → Asked
+kept_asked line = if line.is_longer then AFault TooLong else short_asked line.kept.items
+
+-- Of what kind a line is, by what it asks.
+abbrev pub kind_of : ImageParts → Asked → Kind
+kind_of image AStop = kinds.Stop
+kind_of image a = if is_step image a then kinds.Step else kinds.Other
+
+-- What the serving of a line gives: the core after it, its kind, and its reply, of which nothing is known where a write failed.
+abbrev pub ServeGives : Deed → Kind → Result Kind DeviceFault → CoreState → Option (List ℕ) → Option (List ℕ) → Option ℕ → Option ℕ → Type 0
+ServeGives d kind result state written written' faults faults' =
+    (state ≡ d.next) × PutGives result d.reply written written' faults faults' × IfOk result (λ k. k ≡ kind)
+
+-- A summary with one more line of this kind.
+abbrev pub with_line : Kind → Summary → Summary
+with_line kinds.Step s = record { requests = s.requests + 1; steps = s.steps + 1; stopped = s.stopped }
+with_line kinds.Other s = record { requests = s.requests + 1; steps = s.steps; stopped = s.stopped }
+with_line kinds.Stop s = record { requests = s.requests + 1; steps = s.steps; stopped = true }

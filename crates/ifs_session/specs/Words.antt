@@ -1,0 +1,23 @@
+-- Words of replies: numbers, quoted texts and lists.
+use Rattle.std.specs.Prelude.{ℕ, ◌+◌, ◌/◌, ◌%◌, ◌==◌, ◌||◌, nat_lt, if◌then◌else◌, List, [], ◌∷◌, ◌++◌, codes, decimal}
+use Rattle.std.specs.List.{flat_map}
+
+-- A hexadecimal digit, in lower case.
+abbrev pub hex_digit : ℕ → ℕ
+hex_digit digit = if nat_lt digit 10 then 48 + digit else 87 + digit
+
+-- A byte inside a quoted text: a quote and a backslash stand after a backslash, and bytes below 20 and 7f, in hexadecimal, are written so.
+abbrev pub quoted_byte : ℕ → List ℕ
+quoted_byte byte =
+    if (byte == 34) || (byte == 92) then 92 ∷ byte ∷ [] else
+    if nat_lt byte 32 || (byte == 127) then 92 ∷ 120 ∷ hex_digit (byte / 16) ∷ hex_digit (byte % 16) ∷ [] else
+    byte ∷ []
+
+-- A text in quotes.
+abbrev pub quoted : List ℕ → List ℕ
+quoted text = codes "\"" ++ flat_map quoted_byte text ++ codes "\""
+
+-- Texts with commas between them, and a dash where there is none.
+abbrev pub listed : List (List ℕ) → List ℕ
+listed [] = codes "-"
+listed (text ∷ texts) = text ++ flat_map (λ other. codes "," ++ other) texts

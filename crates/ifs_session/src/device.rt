@@ -1,0 +1,56 @@
+//! Readers and writers of bytes.
+
+ghost use Rattle.std.specs.Prelude.{List, [], ℕ, Option, None};
+ghost use Rattle.ifs_session.specs.Device.{NextGives, PutGives};
+
+use thiserror::Error;
+
+/// A read or a write failed.
+#[derive(Clone, Copy, Debug, PartialEq, Eq, Error)]
+#[error("the device failed")]
+pub struct DeviceFault;
+
+/// A reader of bytes, one at a time.
+///
+/// It may tell the bytes that it has left, and how often it failed: one that tells failures counts
+/// each, up to 2^64 - 1.
+pub trait ByteIn {
+    // The bytes that are left, where they are known.
+    ghost left: { Self → Option (List ℕ) } = { λ _. None };
+
+    // How often a read failed, where that is known.
+    ghost faults: { Self → Option ℕ } = { λ _. None };
+
+    /// The next byte, or `None` at the end of input. After a failure nothing is lost.
+    fn next(&mut self) -> Result<Option<u8>, DeviceFault>
+        ensures { NextGives result (left self.old) (left self.new) (faults self.old) (faults self.new) };
+
+    /// Whether the rest of a line, up to its newline, can be read without waiting. `false` where
+    /// that is not known.
+    fn has_line(&self) -> bool {
+        false
+    }
+}
+
+/// A writer of bytes.
+///
+/// It may tell the bytes that were written, and how often it failed: one that tells failures counts
+/// each, up to 2^64 - 1.
+pub trait ByteOut {
+    // The bytes that were written, where they are known.
+    ghost written: { Self → Option (List ℕ) } = { λ _. None };
+
+    // How often a write failed, where that is known.
+    ghost faults: { Self → Option ℕ } = { λ _. None };
+
+    /// Writes these bytes. After a failure nothing is said of how many of them went out.
+    fn put(&mut self, bytes: &[u8]) -> Result<(), DeviceFault>
+        ensures { PutGives result bytes.now (written self.old) (written self.new) (faults self.old) (faults self.new) };
+
+    /// Sees that what was written goes out now, where the writer holds bytes back.
+    fn flush(&mut self) -> Result<(), DeviceFault>
+        ensures { PutGives result [] (written self.old) (written self.new) (faults self.old) (faults self.new) }
+    {
+        Ok(())
+    }
+}

@@ -1,0 +1,25 @@
+//! Sessions: lines of requests in, lines of replies out.
+//!
+//! A request asks for a step of the core, or for what the core says of itself; each line of input
+//! has one reply, written to the output before the next line is waited for.
+//!
+//! Contract: the bytes written are exactly the replies of the run over the lines that were read,
+//! for every reader and every writer that tells its bytes.
+#![tactic(auto)]
+
+mod device;
+mod fault;
+mod lines;
+mod memory;
+mod request;
+mod replies;
+mod session;
+mod std_devices;
+mod words;
+
+pub use device::{ByteIn, ByteOut, DeviceFault};
+pub use fault::SessionFault;
+pub use memory::{MemoryIn, MemoryOut};
+pub use request::RequestFault;
+pub use session::{Summary, simulate};
+pub use std_devices::{FromRead, ToWrite};

@@ -1,0 +1,64 @@
+//! Lines of input.
+
+ghost use Rattle.std.specs.Prelude.{◌≡◌};
+ghost use Rattle.ifs_session.specs.Session.{LineGives};
+
+use crate::device::ByteIn;
+use crate::fault::SessionFault;
+use arrayvec::ArrayVec;
+
+/// The most bytes of a request line.
+const LINE: usize = 256;
+
+/// A line of input, without its newline.
+#[derive(Debug, Drop)]
+pub(crate) struct Line {
+    /// Its first 256 bytes.
+    pub kept: ArrayVec<u8, LINE>,
+    /// Whether it has more bytes than those.
+    pub is_longer: bool,
+    /// Whether a newline ends it; else the input does.
+    pub is_ended: bool,
+}
+
+/// Reads the next line, and takes its bytes and its newline from the budget; `None` at the end of
+/// input. It fails where a read fails, and where a byte comes after the budget is spent.
+pub(crate) fn next_line<R: ByteIn>(reader: &mut R, budget: &mut u32) -> Result<Option<Line>, SessionFault>
+    ensures { LineGives result
+        (record { left = R.left reader.old; faults = R.faults reader.old; budget = budget.old })
+        (record { left = R.left reader.new; faults = R.faults reader.new; budget = budget.new }) }
+{
+    let mut kept = ArrayVec::new();
+    let mut is_longer = false;
+    loop {
+        let Ok(next) = reader.next() else {
+            return Err(SessionFault::ReadFailed);
+        };
+        let Some(byte) = next else {
+            if kept.is_empty() {
+                return Ok(None);
+            }
+            return Ok(Some(Line {
+                kept,
+                is_longer,
+                is_ended: false,
+            }));
+        };
+        if *budget == 0 {
+            return Err(SessionFault::TooMuchInput);
+        }
+        *budget -= 1;
+        if byte == b'\n' {
+            return Ok(Some(Line {
+                kept,
+                is_longer,
+                is_ended: true,
+            }));
+        }
+        if kept.is_full() {
+            is_longer = true;
+        } else {
+            kept.push(byte);
+        }
+    }
+}

@@ -1,0 +1,166 @@
+//! Devices in memory, which tell their bytes and failures, and fail at a given call for tests.
+
+ghost use Rattle.std.specs.Prelude.{◌≡◌, ◌↔◌, ◌++◌, [], Some, None, IsTrue, IsErr};
+ghost use Rattle.ifs_session.specs.Memory.{counted_down};
+ghost use Rattle.ifs_session.specs.Device.{NextGives, PutGives};
+
+use crate::device::{ByteIn, ByteOut, DeviceFault};
+use std::alloc::Global;
+use std::marker::Model;
+
+/// Counts a call down, and says whether it is the one that fails.
+fn fails_now(fails_after: &mut Option<u64>) -> bool
+    ensures now { IsTrue result ↔ (fails_after.old ≡ Some 0) }
+    ensures counted { fails_after.new ≡ counted_down fails_after.old }
+{
+    match *fails_after {
+        None => false,
+        Some(0) => {
+            *fails_after = None;
+            true
+        }
+        Some(calls) => {
+            *fails_after = Some(calls - 1);
+            false
+        }
+    }
+}
+
+/// A reader of bytes in memory.
+#[derive(Debug, Drop)]
+pub struct MemoryIn<'a> {
+    left: &'a [u8],
+    faults: u64,
+    fails_after: Option<u64>,
+}
+
+impl<'a> Model for MemoryIn<'a> {
+    ghost use Rattle.ifs_session.specs.Memory.{Input};
+
+    ghost Value = { Input };
+
+    ghost view = { λ r. record { left = r.left.now; faults = r.faults; fails_after = r.fails_after } };
+}
+
+impl<'a> MemoryIn<'a> {
+    /// A reader of these bytes that never fails.
+    pub fn new(bytes: &'a [u8]) -> Self
+        ensures { result ≡ record { left = bytes.entry.now; faults = 0; fails_after = None } }
+    {
+        MemoryIn {
+            left: bytes,
+            faults: 0,
+            fails_after: None,
+        }
+    }
+
+    /// A reader of these bytes that fails once, after as many calls as `calls` says.
+    pub fn failing_after(bytes: &'a [u8], calls: u64) -> Self
+        ensures { result ≡ record { left = bytes.entry.now; faults = 0; fails_after = Some calls } }
+    {
+        MemoryIn {
+            left: bytes,
+            faults: 0,
+            fails_after: Some(calls),
+        }
+    }
+
+    /// The bytes that are left.
+    pub fn left(&self) -> &'a [u8]
+        ensures { result.now ≡ self.now.left }
+    {
+        self.left
+    }
+}
+
+impl ByteIn for MemoryIn<'_> {
+    ghost left = { λ s. Some s.left };
+
+    ghost faults = { λ s. Some s.faults };
+
+    fn next(&mut self) -> Result<Option<u8>, DeviceFault>
+        ensures gives { NextGives result (Some self.old.left) (Some self.new.left) (Some self.old.faults) (Some self.new.faults) }
+        ensures failing { IsErr result ↔ (self.old.fails_after ≡ Some 0) }
+        ensures counted { self.new.fails_after ≡ counted_down self.old.fails_after }
+    {
+        if fails_now(&mut self.fails_after) {
+            self.faults = self.faults.saturating_add(1);
+            return Err(DeviceFault);
+        }
+        match self.left {
+            [] => Ok(None),
+            [byte, rest @ ..] => {
+                self.left = rest;
+                Ok(Some(*byte))
+            }
+        }
+    }
+}
+
+/// A writer of bytes into memory, which keeps the allocator that it is made with.
+#[derive(Debug, Drop)]
+pub struct MemoryOut {
+    written: Vec<u8>,
+    faults: u64,
+    fails_after: Option<u64>,
+}
+
+impl Model for MemoryOut {
+    ghost use Rattle.ifs_session.specs.Memory.{Output};
+
+    ghost Value = { Output };
+
+    ghost view = { λ w. record { written = w.written.items; faults = w.faults; fails_after = w.fails_after } };
+}
+
+impl MemoryOut {
+    /// A writer that has written nothing, and fails only where memory is refused.
+    pub fn new(alloc: Global) -> Self
+        ensures { result ≡ record { written = []; faults = 0; fails_after = None } }
+    {
+        MemoryOut {
+            written: Vec::new(alloc),
+            faults: 0,
+            fails_after: None,
+        }
+    }
+
+    /// A writer that has written nothing and fails once, after as many calls as `calls` says; and
+    /// where memory is refused.
+    pub fn failing_after(alloc: Global, calls: u64) -> Self
+        ensures { result ≡ record { written = []; faults = 0; fails_after = Some calls } }
+    {
+        MemoryOut {
+            written: Vec::new(alloc),
+            faults: 0,
+            fails_after: Some(calls),
+        }
+    }
+
+    /// The bytes that were written.
+    pub fn written(&self) -> &[u8]
+        ensures { result.now ≡ self.now.written }
+    {
+        self.written.as_slice()
+    }
+}
+
+impl ByteOut for MemoryOut {
+    ghost written = { λ s. Some s.written };
+
+    ghost faults = { λ s. Some s.faults };
+
+    /// Fails at the given call and where memory is refused, and then writes nothing.
+    fn put(&mut self, bytes: &[u8]) -> Result<(), DeviceFault>
+        ensures puts { PutGives result bytes.now (Some self.old.written) (Some self.new.written) (Some self.old.faults) (Some self.new.faults) }
+        ensures failing { self.old.fails_after ≡ Some 0 → IsErr result }
+        ensures counted { self.new.fails_after ≡ counted_down self.old.fails_after }
+    {
+        let fails = fails_now(&mut self.fails_after);
+        if fails || self.written.extend_from_slice(bytes).is_err() {
+            self.faults = self.faults.saturating_add(1);
+            return Err(DeviceFault);
+        }
+        Ok(())
+    }
+}

@@ -1,0 +1,325 @@
+//! Reply lines, written piece by piece without allocation.
+
+ghost use Rattle.std.specs.Prelude.{◌≡◌, ◌<◌, decimal, map, length};
+ghost use Rattle.std.specs.List.{flat_map};
+ghost use Rattle.ifs_session.specs.Device.{PutGives};
+ghost use Rattle.ifs_session.specs.Words.{listed, quoted};
+ghost use Rattle.ifs_session.specs.Replies.{name_of, text_of, evaluation_words, start_word, starts_words, before_starts, taken_line, reply_line, status_numbers, status_line, yes_or_no, link_word, value_word, step_words, answer_word, answer_words, record_line, trace_lines, fault_line};
+
+use crate::device::{ByteOut, DeviceFault};
+use crate::request::RequestFault;
+use crate::words::{put_commands, put_number, put_quoted};
+use ifs_base::{CommandId, LinkState, StateId};
+use ifs_core::{Answer, Core, Record, Reply, Step};
+use ifs_sched::Start;
+
+/// Writes the name of a state in quotes.
+fn put_state<W: ByteOut>(out: &mut W, core: &Core, state: StateId) -> Result<(), DeviceFault>
+    ensures { PutGives result (quoted (name_of core.now.image state.0)) (W.written out.old) (W.written out.new) (W.faults out.old) (W.faults out.new) }
+{
+    let name = match core.state_name(state) {
+        Some(name) => name.as_bytes(),
+        None => &[],
+    };
+    put_quoted(out, name)
+}
+
+/// Writes the text of a command in quotes.
+fn put_command<W: ByteOut>(out: &mut W, core: &Core, command: CommandId) -> Result<(), DeviceFault>
+    ensures { PutGives result (quoted (text_of core.now.image command.0)) (W.written out.old) (W.written out.new) (W.faults out.old) (W.faults out.new) }
+{
+    let text = match core.command_text(command) {
+        Some(text) => text.as_bytes(),
+        None => &[],
+    };
+    put_quoted(out, text)
+}
+
+/// Writes the state, the cost and the queued commands of an evaluation.
+#[tactic(auto, using(crate::proofs::Known::written_laws))]
+fn put_evaluation<W: ByteOut>(out: &mut W, core: &Core, state: StateId, cost: u32, queued: &[CommandId]) -> Result<(), DeviceFault>
+    ensures { PutGives result (evaluation_words core.now.image state.0 cost queued.now) (W.written out.old) (W.written out.new) (W.faults out.old) (W.faults out.new) }
+{
+    put_state(out, core, state)?;
+    out.put(b" cost ")?;
+    put_number(out, u64::from(cost))?;
+    out.put(b" queue ")?;
+    put_commands(out, queued)?;
+    Ok(())
+}
+
+/// Writes a test and the number of its run.
+#[tactic(auto, using(crate::proofs::Known::written_laws))]
+fn put_start<W: ByteOut>(out: &mut W, start: &Start) -> Result<(), DeviceFault>
+    ensures { PutGives result (start_word start.now) (W.written out.old) (W.written out.new) (W.faults out.old) (W.faults out.new) }
+{
+    put_number(out, u64::from(start.test.0))?;
+    out.put(b":")?;
+    put_number(out, start.run)?;
+    Ok(())
+}
+
+/// Writes the starts of a tick, with commas between them; a dash where there is none.
+#[tactic(auto, using(crate::proofs::Known::written_laws))]
+fn put_start_list<W: ByteOut>(out: &mut W, starts: &[Start]) -> Result<(), DeviceFault>
+    ensures { PutGives result (listed (map start_word starts.now)) (W.written out.old) (W.written out.new) (W.faults out.old) (W.faults out.new) }
+{
+    let Some((first, others)) = starts.split_first() else {
+        return out.put(b"-");
+    };
+    put_start(out, first)?;
+    for start in others {
+        out.put(b",")?;
+        put_start(out, start)?;
+    }
+    Ok(())
+}
+
+/// Writes the starts of a tick, and whether a due test was left without a number.
+#[tactic(auto, using(crate::proofs::Known::written_laws))]
+fn put_starts<W: ByteOut>(out: &mut W, starts: &[Start], exhausted: bool) -> Result<(), DeviceFault>
+    ensures { PutGives result (starts_words starts.now exhausted) (W.written out.old) (W.written out.new) (W.faults out.old) (W.faults out.new) }
+{
+    out.put(b"starts ")?;
+    put_start_list(out, starts)?;
+    if exhausted {
+        out.put(b" exhausted")?;
+    }
+    Ok(())
+}
+
+/// Writes the reply line of a step.
+#[tactic(auto, using(crate::proofs::Known::written_laws))]
+pub(crate) fn put_reply<W: ByteOut>(out: &mut W, core: &Core, reply: &Reply) -> Result<(), DeviceFault>
+    ensures { PutGives result (reply_line core.now.image reply.now) (W.written out.old) (W.written out.new) (W.faults out.old) (W.faults out.new) }
+{
+    match reply {
+        Reply::Done {
+            state,
+            queued,
+            cost,
+        } => {
+            out.put(b"done ")?;
+            put_evaluation(out, core, *state, *cost, queued.as_slice())?;
+            out.put(b"\n")?;
+            Ok(())
+        }
+        Reply::Ticked {
+            evaluated,
+            state,
+            queued,
+            cost,
+            starts,
+            exhausted,
+        } => {
+            out.put(b"tick ")?;
+            put_before_starts(out, core, *evaluated, *state, *cost, queued.as_slice())?;
+            put_starts(out, starts.as_slice(), *exhausted)?;
+            out.put(b"\n")?;
+            Ok(())
+        }
+        Reply::Taken(command) => put_taken(out, core, *command),
+        Reply::Same => out.put(b"same\n"),
+        Reply::Empty => out.put(b"empty\n"),
+        Reply::Busy => out.put(b"busy\n"),
+        Reply::Stale => out.put(b"stale\n"),
+        Reply::Backwards => out.put(b"backwards\n"),
+        Reply::NoSuch => out.put(b"nosuch\n"),
+    }
+}
+
+/// Writes the evaluation of a tick, if it made one, before its starts.
+#[tactic(auto, using(crate::proofs::Known::written_laws))]
+fn put_before_starts<W: ByteOut>(out: &mut W, core: &Core, evaluated: bool, state: StateId, cost: u32, queued: &[CommandId]) -> Result<(), DeviceFault>
+    ensures { PutGives result (before_starts evaluated (evaluation_words core.now.image state.0 cost queued.now)) (W.written out.old) (W.written out.new) (W.faults out.old) (W.faults out.new) }
+{
+    if !evaluated {
+        return Ok(());
+    }
+    put_evaluation(out, core, state, cost, queued)?;
+    out.put(b" ")?;
+    Ok(())
+}
+
+/// Writes the reply line of a command that was taken.
+#[tactic(auto, using(crate::proofs::Known::written_laws))]
+fn put_taken<W: ByteOut>(out: &mut W, core: &Core, command: CommandId) -> Result<(), DeviceFault>
+    ensures { PutGives result (taken_line core.now.image command.0) (W.written out.old) (W.written out.new) (W.faults out.old) (W.faults out.new) }
+{
+    out.put(b"taken ")?;
+    put_number(out, u64::from(command.0))?;
+    out.put(b" ")?;
+    put_command(out, core, command)?;
+    out.put(b"\n")?;
+    Ok(())
+}
+
+/// Writes the line of a status.
+#[tactic(auto, using(crate::proofs::Known::written_laws))]
+pub(crate) fn put_status<W: ByteOut>(out: &mut W, core: &Core) -> Result<(), DeviceFault>
+    ensures { PutGives result (status_line core.now.image core.now.state) (W.written out.old) (W.written out.new) (W.faults out.old) (W.faults out.new) }
+{
+    out.put(b"status ")?;
+    put_state(out, core, core.state())?;
+    out.put(b" owed ")?;
+    put_yes_or_no(out, core.owed())?;
+    put_status_numbers(out, core)?;
+    out.put(b"\n")?;
+    Ok(())
+}
+
+/// Writes the numbers of a status.
+#[tactic(auto, using(crate::proofs::Known::written_laws))]
+fn put_status_numbers<W: ByteOut>(out: &mut W, core: &Core) -> Result<(), DeviceFault>
+    ensures { PutGives result (status_numbers core.now.state) (W.written out.old) (W.written out.new) (W.faults out.old) (W.faults out.new) }
+{
+    out.put(b" queue ")?;
+    put_number(out, core.queue_len() as u64)?;
+    out.put(b" running ")?;
+    put_number(out, u64::from(core.running()))?;
+    out.put(b" now ")?;
+    put_number(out, core.now())?;
+    Ok(())
+}
+
+/// Writes a step, with the index of its interface.
+#[tactic(auto, using(crate::proofs::Known::written_laws))]
+fn put_step<W: ByteOut>(out: &mut W, step: Step) -> Result<(), DeviceFault>
+    ensures { PutGives result (step_words step) (W.written out.old) (W.written out.new) (W.faults out.old) (W.faults out.new) }
+{
+    match step {
+        Step::Link(interface, link) => {
+            out.put(b"link ")?;
+            put_number(out, u64::from(interface.0))?;
+            out.put(b" ")?;
+            put_link(out, link)?;
+            Ok(())
+        }
+        Step::Finished(test, run, value) => {
+            out.put(b"result ")?;
+            put_number(out, u64::from(test.0))?;
+            out.put(b" ")?;
+            put_number(out, run)?;
+            out.put(b" ")?;
+            put_value(out, value)?;
+            Ok(())
+        }
+        Step::Tick(now) => {
+            out.put(b"tick ")?;
+            put_number(out, now)?;
+            Ok(())
+        }
+        Step::Take => out.put(b"take"),
+    }
+}
+
+/// Writes a link state.
+fn put_link<W: ByteOut>(out: &mut W, link: LinkState) -> Result<(), DeviceFault>
+    ensures { PutGives result (link_word link) (W.written out.old) (W.written out.new) (W.faults out.old) (W.faults out.new) }
+{
+    match link {
+        LinkState::Unknown => out.put(b"unknown"),
+        LinkState::Down => out.put(b"down"),
+        LinkState::Up => out.put(b"up"),
+    }
+}
+
+/// Writes the value of a test.
+fn put_value<W: ByteOut>(out: &mut W, value: bool) -> Result<(), DeviceFault>
+    ensures { PutGives result (value_word value) (W.written out.old) (W.written out.new) (W.faults out.old) (W.faults out.new) }
+{
+    if value {
+        out.put(b"ok")
+    } else {
+        out.put(b"fail")
+    }
+}
+
+/// Writes whether something is so.
+fn put_yes_or_no<W: ByteOut>(out: &mut W, answer: bool) -> Result<(), DeviceFault>
+    ensures { PutGives result (yes_or_no answer) (W.written out.old) (W.written out.new) (W.faults out.old) (W.faults out.new) }
+{
+    if answer {
+        out.put(b"yes")
+    } else {
+        out.put(b"no")
+    }
+}
+
+/// Writes the name of an answer.
+fn put_answer<W: ByteOut>(out: &mut W, answer: Answer) -> Result<(), DeviceFault>
+    ensures { PutGives result (answer_word answer) (W.written out.old) (W.written out.new) (W.faults out.old) (W.faults out.new) }
+{
+    match answer {
+        Answer::Done => out.put(b"done"),
+        Answer::Same => out.put(b"same"),
+        Answer::Ticked => out.put(b"ticked"),
+        Answer::Taken => out.put(b"taken"),
+    }
+}
+
+/// Writes the line of a record of the trace.
+#[tactic(auto, using(crate::proofs::Known::written_laws))]
+fn put_record<W: ByteOut>(out: &mut W, core: &Core, item: &Record) -> Result<(), DeviceFault>
+    ensures { PutGives result (record_line core.now.image item.now) (W.written out.old) (W.written out.new) (W.faults out.old) (W.faults out.new) }
+{
+    put_step(out, item.step)?;
+    out.put(b" -> ")?;
+    put_answer_words(out, core, item)?;
+    out.put(b"\n")?;
+    Ok(())
+}
+
+/// Writes what a record says of the answer.
+#[tactic(auto, using(crate::proofs::Known::written_laws))]
+fn put_answer_words<W: ByteOut>(out: &mut W, core: &Core, item: &Record) -> Result<(), DeviceFault>
+    ensures { PutGives result (answer_words core.now.image item.now) (W.written out.old) (W.written out.new) (W.faults out.old) (W.faults out.new) }
+{
+    put_answer(out, item.answer)?;
+    out.put(b" ")?;
+    put_state(out, core, item.state)?;
+    out.put(b" cost ")?;
+    put_number(out, u64::from(item.cost))?;
+    out.put(b" queue ")?;
+    put_number(out, u64::from(item.queued))?;
+    Ok(())
+}
+
+/// Writes the lines of the trace: how many records there are, and each, the oldest first.
+#[tactic(auto, using(crate::proofs::Known::written_laws))]
+pub(crate) fn put_trace<W: ByteOut>(out: &mut W, core: &Core) -> Result<(), DeviceFault>
+    ensures { PutGives result (trace_lines core.now.image core.now.state.trace) (W.written out.old) (W.written out.new) (W.faults out.old) (W.faults out.new) }
+{
+    out.put(b"trace ")?;
+    put_number(out, core.trace_len() as u64)?;
+    out.put(b"\n")?;
+    put_records(out, core)?;
+    Ok(())
+}
+
+/// Writes the lines of the trace's records, the oldest first.
+#[tactic(auto, using(crate::proofs::Known::written_laws))]
+fn put_records<W: ByteOut>(out: &mut W, core: &Core) -> Result<(), DeviceFault>
+    ensures { PutGives result (flat_map (record_line core.now.image) core.now.state.trace) (W.written out.old) (W.written out.new) (W.faults out.old) (W.faults out.new) }
+{
+    for index in 0..core.trace_len() {
+        let Some(item) = core.trace_at(index) else {
+            return Ok(());
+        };
+        put_record(out, core, &item)?;
+    }
+    Ok(())
+}
+
+/// Writes the line of a fault.
+#[tactic(auto, using(crate::proofs::Known::written_laws))]
+pub(crate) fn put_fault<W: ByteOut>(out: &mut W, fault: RequestFault) -> Result<(), DeviceFault>
+    ensures { PutGives result (fault_line fault) (W.written out.old) (W.written out.new) (W.faults out.old) (W.faults out.new) }
+{
+    match fault {
+        RequestFault::NoRequest => out.put(b"fault C1\n"),
+        RequestFault::TooLong => out.put(b"fault C2\n"),
+        RequestFault::OutOfRange => out.put(b"fault C3\n"),
+        RequestFault::NoInterface => out.put(b"fault C4\n"),
+    }
+}

@@ -1,0 +1,204 @@
+//! Requests, and their lines.
+
+ghost use Rattle.std.specs.Prelude.{◌≡◌, ◌==◌};
+ghost use Rattle.std.specs.List.{before_first, after_first, position};
+ghost use Rattle.std.specs.Option.{option_map};
+ghost use Rattle.ifs_session.specs.Requests.{told_by, short_asked, link_asked, result_asked, result_valued, word_asked, link_named, tick_asked, number_of, result_kept, sized, with_digit};
+
+use ifs_base::{LinkState, TestId};
+use thiserror::Error;
+
+/// What a line asks for.
+#[derive(Clone, Copy, Debug, PartialEq, Eq)]
+pub(crate) enum Request<'a> {
+    /// The interface of this name has a link state.
+    Link(&'a [u8], LinkState),
+    /// A test's run has ended, with a value.
+    Result(TestId, u64, bool),
+    /// It is this moment, in seconds.
+    Tick(u64),
+    /// The first command of the queue is taken.
+    Take,
+    /// What the core says of itself.
+    Status,
+    /// The records of the last steps.
+    Trace,
+    /// The session ends.
+    Stop,
+}
+
+/// Why a line is no request.
+#[derive(Clone, Copy, Debug, PartialEq, Eq, Error)]
+pub enum RequestFault {
+    /// C1: the line has no form of a request.
+    #[error("C1")]
+    NoRequest,
+    /// C2: the line has over 256 bytes.
+    #[error("C2")]
+    TooLong,
+    /// C3: a number is out of its range.
+    #[error("C3")]
+    OutOfRange,
+    /// C4: the interface is not in the table.
+    #[error("C4")]
+    NoInterface,
+}
+
+/// The request of a line of at most 256 bytes.
+pub(crate) fn parse_request(line: &[u8]) -> Result<Request<'_>, RequestFault>
+    ensures { told_by result ≡ short_asked line.now }
+{
+    if let Some(text) = line.strip_prefix(b"link ") {
+        return link_request(text);
+    }
+    if let Some(text) = line.strip_prefix(b"result ") {
+        return result_request(text);
+    }
+    if let Some(text) = line.strip_prefix(b"tick ") {
+        return tick_request(text);
+    }
+    word_request(line)
+}
+
+/// The request of a line that is a word alone.
+fn word_request(word: &[u8]) -> Result<Request<'_>, RequestFault>
+    ensures { told_by result ≡ word_asked word.now }
+{
+    if word == b"take".as_slice() {
+        Ok(Request::Take)
+    } else if word == b"status".as_slice() {
+        Ok(Request::Status)
+    } else if word == b"trace".as_slice() {
+        Ok(Request::Trace)
+    } else if word == b"stop".as_slice() {
+        Ok(Request::Stop)
+    } else {
+        Err(RequestFault::NoRequest)
+    }
+}
+
+/// The request of `link` and this text: a name, a space and a link state.
+fn link_request(text: &[u8]) -> Result<Request<'_>, RequestFault>
+    ensures { told_by result ≡ link_asked text.now }
+{
+    if let Some(name) = text.strip_suffix(b" up") {
+        return named_link(name, LinkState::Up);
+    }
+    if let Some(name) = text.strip_suffix(b" down") {
+        return named_link(name, LinkState::Down);
+    }
+    if let Some(name) = text.strip_suffix(b" unknown") {
+        return named_link(name, LinkState::Unknown);
+    }
+    Err(RequestFault::NoRequest)
+}
+
+fn named_link(name: &[u8], link: LinkState) -> Result<Request<'_>, RequestFault>
+    ensures { told_by result ≡ link_named name.now link }
+{
+    if name.is_empty() {
+        return Err(RequestFault::NoRequest);
+    }
+    Ok(Request::Link(name, link))
+}
+
+/// The request of `result` and this text: two numbers, and `ok` or `fail`.
+fn result_request(text: &[u8]) -> Result<Request<'_>, RequestFault>
+    ensures { told_by result ≡ result_asked text.now }
+{
+    if let Some(numbers) = text.strip_suffix(b" ok") {
+        return valued_result(numbers, true);
+    }
+    if let Some(numbers) = text.strip_suffix(b" fail") {
+        return valued_result(numbers, false);
+    }
+    Err(RequestFault::NoRequest)
+}
+
+/// The request of `tick` and this text: a number.
+fn tick_request(text: &[u8]) -> Result<Request<'_>, RequestFault>
+    ensures { told_by result ≡ tick_asked (number_of text.now) }
+{
+    match parse_number(text) {
+        None => Err(RequestFault::NoRequest),
+        Some(Number::TooGreat) => Err(RequestFault::OutOfRange),
+        Some(Number::Within(moment)) => Ok(Request::Tick(moment)),
+    }
+}
+
+/// The request of a result with this value, by the text of its two numbers.
+#[tactic(auto, using(crate::proofs::Numbers::kept_numbers))]
+fn valued_result(numbers: &[u8], value: bool) -> Result<Request<'_>, RequestFault>
+    ensures { told_by result ≡ result_valued numbers.now value }
+{
+    let (test, run) = split_at_space(numbers);
+    numbered_result(parse_number(test), parse_number(run), value)
+}
+
+/// What stands before the first space, and after it; all and nothing where there is none.
+fn split_at_space(text: &[u8]) -> (&[u8], &[u8])
+    ensures before { result.0.now ≡ before_first (λ byte. byte == 32) text.now }
+    ensures after { result.1.now ≡ after_first (λ byte. byte == 32) text.now }
+{
+    match first_space(text) {
+        Some(space) => (&text[..space], &text[space + 1..]),
+        None => (text, &[]),
+    }
+}
+
+/// The place of the first space.
+fn first_space(text: &[u8]) -> Option<usize>
+    ensures { result ≡ position (λ byte. byte == 32) text.now }
+{
+    text.iter().position(|byte| *byte == b' ')
+}
+
+/// The request of a result, by its two numbers. That one of them is no number comes before that one
+/// is out of range.
+fn numbered_result<'a>(test: Option<Number>, run: Option<Number>, value: bool) -> Result<Request<'a>, RequestFault>
+    ensures { told_by result ≡ result_kept test run value }
+{
+    let (Some(test), Some(run)) = (test, run) else {
+        return Err(RequestFault::NoRequest);
+    };
+    let (Number::Within(test), Number::Within(run)) = (test, run) else {
+        return Err(RequestFault::OutOfRange);
+    };
+    match u16::try_from(test) {
+        Ok(test) => Ok(Request::Result(TestId(test), run, value)),
+        Err(_) => Err(RequestFault::OutOfRange),
+    }
+}
+
+/// A number that digits spell.
+#[derive(Clone, Copy, Debug, PartialEq, Eq)]
+enum Number {
+    /// One below 2^64.
+    Within(u64),
+    /// One of 2^64 or more.
+    TooGreat,
+}
+
+/// The number that decimal digits spell; `None` where a text is empty or has another byte.
+fn parse_number(text: &[u8]) -> Option<Number>
+    ensures { result ≡ option_map sized (number_of text.now) }
+{
+    if text.is_empty() {
+        return None;
+    }
+    let mut value = Some(0);
+    for digit in text {
+        if !digit.is_ascii_digit() {
+            return None;
+        }
+        value = with_digit(value, *digit - b'0');
+    }
+    Some(value.map_or(Number::TooGreat, Number::Within))
+}
+
+/// A number with one more digit at its end, while it is below 2^64.
+fn with_digit(value: Option<u64>, digit: u8) -> Option<u64>
+    ensures { result ≡ with_digit value digit }
+{
+    value?.checked_mul(10)?.checked_add(u64::from(digit))
+}

@@ -1,0 +1,191 @@
+//! Sessions: request lines in, reply lines out.
+
+ghost use Rattle.std.specs.Prelude.{◌≡◌, ◌+◌, ◌<◌, ◌^◌, [], Ok};
+ghost use Rattle.ifs_core.specs.Event.{Behaviour};
+ghost use Rattle.ifs_core.specs.Machine.{IsBehaviour};
+ghost use Rattle.ifs_session.specs.Device.{PutGives};
+ghost use Rattle.ifs_session.specs.Requests.{ALink, told_by};
+ghost use Rattle.ifs_session.specs.SessionText.{deed, step_deed, kind_of, kept_asked, with_line, ServeGives, SessionGives};
+
+use crate::device::{ByteIn, ByteOut, DeviceFault};
+use crate::fault::SessionFault;
+use crate::lines::{Line, next_line};
+use crate::replies::{put_fault, put_reply, put_status, put_trace};
+use crate::request::{Request, RequestFault, parse_request};
+use ifs_base::LinkState;
+use ifs_core::{Core, Step};
+
+/// The most bytes of requests that a session reads.
+const INPUT: u32 = 16_777_216;
+
+/// How a session went that no fault ended.
+#[derive(Clone, Copy, Debug, PartialEq, Eq)]
+pub struct Summary {
+    /// How many lines were read.
+    pub requests: u32,
+    /// How many of them were steps.
+    pub steps: u32,
+    /// Whether the last was `stop`.
+    pub stopped: bool,
+}
+
+/// What a line was.
+#[derive(Clone, Copy, Debug, PartialEq, Eq)]
+pub(crate) enum Kind {
+    /// A step of the core.
+    Step,
+    /// A question, or no request.
+    Other,
+    /// The end of the session.
+    Stop,
+}
+
+/// Serves request lines until `stop`, whose rest is left unread, or to the end of input: makes their
+/// steps and writes their replies, one after the other. Each reply has gone out before the next
+/// line is waited for.
+///
+/// It fails where a read or a write fails, and at byte 16,777,217. The core then stands after the
+/// steps made. A read that fails, and too much input, leave the replies to the whole lines before;
+/// a write that fails leaves open how much of its reply went out.
+pub fn simulate<R: ByteIn, W: ByteOut>(core: &mut Core, reader: &mut R, writer: &mut W) -> Result<Summary, SessionFault>
+    ensures { (b : Behaviour) → IsBehaviour core.old.image b → SessionGives b result
+        (record { core = core.old; left = R.left reader.old; written = W.written writer.old; read_faults = R.faults reader.old; write_faults = W.faults writer.old })
+        (record { core = core.new; left = R.left reader.new; written = W.written writer.new; read_faults = R.faults reader.new; write_faults = W.faults writer.new }) }
+{
+    let summary = serve_lines(core, reader, writer)?;
+    let Ok(()) = writer.flush() else {
+        return Err(SessionFault::WriteFailed);
+    };
+    Ok(summary)
+}
+
+/// Serves request lines; the last reply may not have gone out yet.
+fn serve_lines<R: ByteIn, W: ByteOut>(core: &mut Core, reader: &mut R, writer: &mut W) -> Result<Summary, SessionFault>
+    ensures { (b : Behaviour) → IsBehaviour core.old.image b → SessionGives b result
+        (record { core = core.old; left = R.left reader.old; written = W.written writer.old; read_faults = R.faults reader.old; write_faults = W.faults writer.old })
+        (record { core = core.new; left = R.left reader.new; written = W.written writer.new; read_faults = R.faults reader.new; write_faults = W.faults writer.new }) }
+{
+    let mut summary = Summary {
+        requests: 0,
+        steps: 0,
+        stopped: false,
+    };
+    let mut budget = INPUT;
+    'lines: loop {
+        let Ok(()) = settle(reader, writer) else {
+            return Err(SessionFault::WriteFailed);
+        };
+        let Some(line) = next_line(reader, &mut budget)? else {
+            return Ok(summary);
+        };
+        let Ok(kind) = serve(core, writer, &line) else {
+            return Err(SessionFault::WriteFailed);
+        };
+        count(&mut summary, kind);
+        if summary.stopped {
+            return Ok(summary);
+        }
+        if !line.is_ended {
+            return Ok(summary);
+        }
+    }
+}
+
+/// Sees that what was written has gone out, unless the next line can be read without waiting.
+fn settle<R: ByteIn, W: ByteOut>(reader: &R, writer: &mut W) -> Result<(), DeviceFault>
+    ensures { PutGives result [] (W.written writer.old) (W.written writer.new) (W.faults writer.old) (W.faults writer.new) }
+{
+    if reader.has_line() {
+        return Ok(());
+    }
+    writer.flush()
+}
+
+/// Counts a line of this kind.
+fn count(summary: &mut Summary, kind: Kind)
+    requires requests { summary.old.requests + 1 < 2 ^ 32 }
+    requires steps { summary.old.steps + 1 < 2 ^ 32 }
+    ensures { summary.new ≡ with_line kind summary.old }
+{
+    summary.requests += 1;
+    match kind {
+        Kind::Step => summary.steps += 1,
+        Kind::Other => {}
+        Kind::Stop => summary.stopped = true,
+    }
+}
+
+/// Serves a line, and says of what kind it was.
+fn serve<W: ByteOut>(core: &mut Core, writer: &mut W, line: &Line) -> Result<Kind, DeviceFault>
+    ensures image { core.new.image ≡ core.old.image }
+    ensures served { (b : Behaviour) → IsBehaviour core.old.image b
+        → ServeGives (deed b core.old.image (kept_asked line.now) core.old.state) (kind_of core.old.image (kept_asked line.now)) result core.new.state
+            (W.written writer.old) (W.written writer.new) (W.faults writer.old) (W.faults writer.new) }
+{
+    if line.is_longer {
+        put_fault(writer, RequestFault::TooLong)?;
+        return Ok(Kind::Other);
+    }
+    match parse_request(line.kept.as_slice()) {
+        Err(fault) => {
+            put_fault(writer, fault)?;
+            Ok(Kind::Other)
+        }
+        Ok(request) => serve_request(core, writer, request),
+    }
+}
+
+/// Serves a request, and says of what kind it was.
+fn serve_request<W: ByteOut>(core: &mut Core, writer: &mut W, request: Request<'_>) -> Result<Kind, DeviceFault>
+    ensures image { core.new.image ≡ core.old.image }
+    ensures served { (b : Behaviour) → IsBehaviour core.old.image b
+        → ServeGives (deed b core.old.image (told_by (Ok request.entry)) core.old.state) (kind_of core.old.image (told_by (Ok request.entry))) result core.new.state
+            (W.written writer.old) (W.written writer.new) (W.faults writer.old) (W.faults writer.new) }
+{
+    match request {
+        Request::Link(name, link) => serve_link(core, writer, name, link),
+        Request::Result(test, run, value) => make_step(core, writer, Step::Finished(test, run, value)),
+        Request::Tick(now) => make_step(core, writer, Step::Tick(now)),
+        Request::Take => make_step(core, writer, Step::Take),
+        Request::Status => {
+            put_status(writer, core)?;
+            Ok(Kind::Other)
+        }
+        Request::Trace => {
+            put_trace(writer, core)?;
+            Ok(Kind::Other)
+        }
+        Request::Stop => {
+            writer.put(b"bye\n")?;
+            Ok(Kind::Stop)
+        }
+    }
+}
+
+/// Serves a request for the link state of the interface of this name.
+fn serve_link<W: ByteOut>(core: &mut Core, writer: &mut W, name: &[u8], link: LinkState) -> Result<Kind, DeviceFault>
+    ensures image { core.new.image ≡ core.old.image }
+    ensures served { (b : Behaviour) → IsBehaviour core.old.image b
+        → ServeGives (deed b core.old.image (ALink name.now link) core.old.state) (kind_of core.old.image (ALink name.now link)) result core.new.state
+            (W.written writer.old) (W.written writer.new) (W.faults writer.old) (W.faults writer.new) }
+{
+    match core.iface_of(name) {
+        None => {
+            put_fault(writer, RequestFault::NoInterface)?;
+            Ok(Kind::Other)
+        }
+        Some(interface) => make_step(core, writer, Step::Link(interface, link)),
+    }
+}
+
+/// Makes a step and writes its reply.
+fn make_step<W: ByteOut>(core: &mut Core, writer: &mut W, step: Step) -> Result<Kind, DeviceFault>
+    ensures image { core.new.image ≡ core.old.image }
+    ensures served { (b : Behaviour) → IsBehaviour core.old.image b
+        → ServeGives (step_deed b core.old.image step core.old.state) Kind.Step result core.new.state
+            (W.written writer.old) (W.written writer.new) (W.faults writer.old) (W.faults writer.new) }
+{
+    let reply = core.step(step);
+    put_reply(writer, core, &reply)?;
+    Ok(Kind::Step)
+}
