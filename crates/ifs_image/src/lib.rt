@@ -3,6 +3,8 @@
 //! An image has budgets, tables of interfaces, tests, commands and states, the handlers of the always
 //! part and of each state, and routines of byte code. [`read`] takes it from its bytes, whoever made
 //! them, and names the first thing that is wrong with them, with the offset of the field's first byte.
+//! [`write`] gives the bytes back. Contract: bytes spell at most one image, an image has one spelling,
+//! and both functions keep to it; no spelling is a prefix of another.
 #![tactic(auto)]
 
 mod fault;

@@ -207,26 +207,43 @@ fn tests_and_commands_may_repeat(rt: HostRuntime) -> Result<(), Fail> {
     Ok(())
 }
 
+/// The body of the first run.
+const RUN: [Op; 5] = [
+    Op::Link(IfaceId(0), LinkState::Up),
+    Op::Pop,
+    Op::PushCommand(CommandId(0)),
+    Op::Queue,
+    Op::Ret,
+];
+
+/// The body of the first policy.
+const POLICY: [Op; 5] = [
+    Op::Link(IfaceId(0), LinkState::Up),
+    Op::JumpFalse(4),
+    Op::PushCommand(CommandId(0)),
+    Op::Queue,
+    Op::Ret,
+];
+
+/// What the bytes are read to is written as those bytes again.
+fn read_and_written(rt: &impl Abort, alloc: Global, hex: &str) -> Result<Image, Fail> {
+    let bytes = bytes_of(alloc, hex)?;
+    let image = read(alloc, &bytes)?;
+    let written = write(alloc, &image)?;
+    assert_eq!(rt; written.as_slice(), bytes.as_slice());
+    Ok(image)
+}
+
 #[test]
-fn worked_images_read_and_written(rt: HostRuntime) -> Result<(), Fail> {
-    let bodies = [
-        Op::Link(IfaceId(0), LinkState::Up),
-        Op::Pop,
-        Op::JumpFalse(4),
-        Op::PushCommand(CommandId(0)),
-        Op::Queue,
-        Op::Ret,
-    ];
-    let [link, pop, jump, command, queue, end] = bodies;
-    let bytes = bytes_of(rt.alloc(), FIRST_RUN)?;
-    let run = read(rt.alloc(), &bytes)?;
-    check_first(&rt, &run, 2, 0, 1, &[link, pop, command, queue, end])?;
-    assert_eq!(rt; write(rt.alloc(), &run)?.as_slice(), bytes.as_slice());
-    let bytes = bytes_of(rt.alloc(), FIRST_POLICY)?;
-    let policy = read(rt.alloc(), &bytes)?;
-    check_first(&rt, &policy, 4, 2, 3, &[link, jump, command, queue, end])?;
-    assert_eq!(rt; write(rt.alloc(), &policy)?.as_slice(), bytes.as_slice());
-    Ok(())
+fn first_run(rt: HostRuntime) -> Result<(), Fail> {
+    let image = read_and_written(&rt, rt.alloc(), FIRST_RUN)?;
+    check_first(&rt, &image, 2, 0, 1, &RUN)
+}
+
+#[test]
+fn first_policy(rt: HostRuntime) -> Result<(), Fail> {
+    let image = read_and_written(&rt, rt.alloc(), FIRST_POLICY)?;
+    check_first(&rt, &image, 4, 2, 3, &POLICY)
 }
 
 /// An image of one interface `carp0`, one command `echo m` and one state `a`, all of whose routines
@@ -274,47 +291,52 @@ fn check_first(
     Ok(())
 }
 
-#[test]
-fn smallest_image_from_its_parts(rt: HostRuntime) -> Result<(), Fail> {
-    let none = Handlers {
+/// The parts of the smallest image, with a stated stack.
+fn smallest_parts(alloc: Global, stack: u16) -> Result<ImageParts, AllocError> {
+    let handlers = Handlers {
         init: RoutineId(0),
         body: RoutineId(0),
         mask: 0,
     };
-    let state = StateSpec {
-        name: Text::new(String::from_str(rt.alloc(), "a")?),
-        handlers: none,
-    };
-    let routine = Routine {
-        results: 0,
-        code: Items::new([Op::Ret].to_vec(rt.alloc())?),
-    };
-    let mut parts = ImageParts {
+    let mut states = Vec::new(alloc);
+    let name = Text::new(String::from_str(alloc, "a")?);
+    states.push(StateSpec { name, handlers })?;
+    let mut routines = Vec::new(alloc);
+    let code = Items::new([Op::Ret].to_vec(alloc)?);
+    routines.push(Routine { results: 0, code })?;
+    Ok(ImageParts {
         budgets: Budgets {
-            stack: 33,
+            stack,
             frames: 1,
             cost: 3,
             commands: 0,
         },
         initial: StateId(0),
-        always: none,
-        interfaces: Items::new(Vec::new(rt.alloc())),
-        tests: Items::new(Vec::new(rt.alloc())),
-        commands: Items::new(Vec::new(rt.alloc())),
-        states: Items::new(Vec::from_array(rt.alloc(), [state])?),
-        routines: Items::new(Vec::from_array(rt.alloc(), [routine])?),
-    };
-    assert!(rt; !parts.fits());
-    parts.budgets.stack = 0;
+        always: handlers,
+        interfaces: Items::new(Vec::new(alloc)),
+        tests: Items::new(Vec::new(alloc)),
+        commands: Items::new(Vec::new(alloc)),
+        states: Items::new(states),
+        routines: Items::new(routines),
+    })
+}
+
+#[test]
+fn smallest_image(rt: HostRuntime) -> Result<(), Fail> {
+    let image = read_and_written(&rt, rt.alloc(), SMALLEST)?;
+    let parts = smallest_parts(rt.alloc(), 0)?;
     assert!(rt; parts.fits());
-    let image = Image::new(parts);
-    let bytes = bytes_of(rt.alloc(), SMALLEST)?;
-    assert_eq!(rt; write(rt.alloc(), &image)?.as_slice(), bytes.as_slice());
-    let again = read(rt.alloc(), &bytes)?;
-    assert_eq!(rt; again.parts().always, none);
-    assert_eq!(rt; write(rt.alloc(), &again)?.as_slice(), bytes.as_slice());
+    let made = write(rt.alloc(), &Image::new(parts))?;
+    let again = write(rt.alloc(), &image)?;
+    assert_eq!(rt; made.as_slice(), again.as_slice());
+    let too_high = smallest_parts(rt.alloc(), 33)?;
+    assert!(rt; !too_high.fits());
+    Ok(())
+}
+
+#[test]
+fn laws_are_called() {
     laws::prefix_free();
     laws::one_image();
     laws::one_spelling();
-    Ok(())
 }
