@@ -435,23 +435,29 @@ ends_alike true input now after same end = (end.0, end.1, end.2, end.3, end.4, s
 pub out_flushed : {b : Behaviour} {summary : Summary} {before now : Moment} (written : Option (List ℕ)) (faults : Option ℕ)
     → (input : List ℕ) × Completes b summary input before now → (written ≡ append_known now.written []) × (faults ≡ now.write_faults)
     → (input : List ℕ) × Completes b summary input before (record { core = now.core; left = now.left; written = written; read_faults = now.read_faults; write_faults = faults })
-out_flushed {summary = summary} {now = now} written faults (input, done) put = (input, record {
-  read = record { given = done.read.given; within = done.read.within };
-  served = record { image = done.served.image; state = done.served.state };
-  replied = record { written = put.0 ∙ append_known-nil now.written ∙ done.replied.written; same_faults = put.1 ∙ done.replied.same_faults };
-  same_faults = done.same_faults;
-  requests = done.requests;
-  steps = done.steps;
-  end = ends_alike summary.stopped input now _ refl done.end;
-})
+out_flushed {summary = summary} {now = now} written faults (input, done) put = (
+  input,
+  record {
+    read = record { given = done.read.given; within = done.read.within };
+    served = record { image = done.served.image; state = done.served.state };
+    replied = record { written = put.0 ∙ append_known-nil now.written ∙ done.replied.written; same_faults = put.1 ∙ done.replied.same_faults };
+    same_faults = done.same_faults;
+    requests = done.requests;
+    steps = done.steps;
+    end = ends_alike summary.stopped input now _ refl done.end;
+  },
+)
 
 -- They could not go out.
 pub out_fails : {b : Behaviour} {summary : Summary} {before now : Moment} (written : Option (List ℕ)) (faults : Option ℕ)
     → (input : List ℕ) × Completes b summary input before now → faults ≡ counted now.write_faults
     → (input : List ℕ) × BreaksWriting b input before (record { core = now.core; left = now.left; written = written; read_faults = now.read_faults; write_faults = faults })
-out_fails written faults (input, done) one = (input, record {
-  read = record { given = done.read.given; within = done.read.within };
-  served = record { image = done.served.image; state = done.served.state };
-  same_faults = done.same_faults;
-  one_fault = one ∙ ap counted done.replied.same_faults;
-})
+out_fails written faults (input, done) one = (
+  input,
+  record {
+    read = record { given = done.read.given; within = done.read.within };
+    served = record { image = done.served.image; state = done.served.state };
+    same_faults = done.same_faults;
+    one_fault = one ∙ ap counted done.replied.same_faults;
+  },
+)

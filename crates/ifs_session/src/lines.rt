@@ -23,7 +23,10 @@ pub(crate) struct Line {
 
 /// Reads the next line, and takes its bytes and its newline from the budget; `None` at the end of
 /// input. It fails where a read fails, and where a byte comes after the budget is spent.
-pub(crate) fn next_line<R: ByteIn>(reader: &mut R, budget: &mut u32) -> Result<Option<Line>, SessionFault>
+pub(crate) fn next_line<R: ByteIn>(
+    reader: &mut R,
+    budget: &mut u32,
+) -> Result<Option<Line>, SessionFault>
     ensures { LineGives result
         (record { left = R.left reader.old; faults = R.faults reader.old; budget = budget.old })
         (record { left = R.left reader.new; faults = R.faults reader.new; budget = budget.new }) }

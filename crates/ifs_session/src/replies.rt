@@ -37,7 +37,13 @@ fn put_command<W: ByteOut>(out: &mut W, core: &Core, command: CommandId) -> Resu
 
 /// Writes the state, the cost and the queued commands of an evaluation.
 #[tactic(auto, using(crate::proofs::Known::written_laws))]
-fn put_evaluation<W: ByteOut>(out: &mut W, core: &Core, state: StateId, cost: u32, queued: &[CommandId]) -> Result<(), DeviceFault>
+fn put_evaluation<W: ByteOut>(
+    out: &mut W,
+    core: &Core,
+    state: StateId,
+    cost: u32,
+    queued: &[CommandId],
+) -> Result<(), DeviceFault>
     ensures { PutGives result (evaluation_words core.now.image state.0 cost queued.now) (W.written out.old) (W.written out.new) (W.faults out.old) (W.faults out.new) }
 {
     put_state(out, core, state)?;
@@ -90,7 +96,11 @@ fn put_starts<W: ByteOut>(out: &mut W, starts: &[Start], exhausted: bool) -> Res
 
 /// Writes the reply line of a step.
 #[tactic(auto, using(crate::proofs::Known::written_laws))]
-pub(crate) fn put_reply<W: ByteOut>(out: &mut W, core: &Core, reply: &Reply) -> Result<(), DeviceFault>
+pub(crate) fn put_reply<W: ByteOut>(
+    out: &mut W,
+    core: &Core,
+    reply: &Reply,
+) -> Result<(), DeviceFault>
     ensures { PutGives result (reply_line core.now.image reply.now) (W.written out.old) (W.written out.new) (W.faults out.old) (W.faults out.new) }
 {
     match reply {
@@ -130,7 +140,14 @@ pub(crate) fn put_reply<W: ByteOut>(out: &mut W, core: &Core, reply: &Reply) -> 
 
 /// Writes the evaluation of a tick, if it made one, before its starts.
 #[tactic(auto, using(crate::proofs::Known::written_laws))]
-fn put_before_starts<W: ByteOut>(out: &mut W, core: &Core, evaluated: bool, state: StateId, cost: u32, queued: &[CommandId]) -> Result<(), DeviceFault>
+fn put_before_starts<W: ByteOut>(
+    out: &mut W,
+    core: &Core,
+    evaluated: bool,
+    state: StateId,
+    cost: u32,
+    queued: &[CommandId],
+) -> Result<(), DeviceFault>
     ensures { PutGives result (before_starts evaluated (evaluation_words core.now.image state.0 cost queued.now)) (W.written out.old) (W.written out.new) (W.faults out.old) (W.faults out.new) }
 {
     if !evaluated {

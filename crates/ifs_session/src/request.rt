@@ -155,7 +155,11 @@ fn first_space(text: &[u8]) -> Option<usize>
 
 /// The request of a result, by its two numbers. That one of them is no number comes before that one
 /// is out of range.
-fn numbered_result<'a>(test: Option<Number>, run: Option<Number>, value: bool) -> Result<Request<'a>, RequestFault>
+fn numbered_result<'a>(
+    test: Option<Number>,
+    run: Option<Number>,
+    value: bool,
+) -> Result<Request<'a>, RequestFault>
     ensures { told_by result ≡ result_kept test run value }
 {
     let (Some(test), Some(run)) = (test, run) else {

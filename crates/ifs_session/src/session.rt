@@ -47,7 +47,11 @@ pub(crate) enum Kind {
 /// It fails where a read or a write fails, and at byte 16,777,217. The core then stands after the
 /// steps made. A read that fails, and too much input, leave the replies to the whole lines before;
 /// a write that fails leaves open how much of its reply went out.
-pub fn simulate<R: ByteIn, W: ByteOut>(core: &mut Core, reader: &mut R, writer: &mut W) -> Result<Summary, SessionFault>
+pub fn simulate<R: ByteIn, W: ByteOut>(
+    core: &mut Core,
+    reader: &mut R,
+    writer: &mut W,
+) -> Result<Summary, SessionFault>
     ensures { (b : Behaviour) → IsBehaviour core.old.image b → SessionGives b result
         (record { core = core.old; left = R.left reader.old; written = W.written writer.old; read_faults = R.faults reader.old; write_faults = W.faults writer.old })
         (record { core = core.new; left = R.left reader.new; written = W.written writer.new; read_faults = R.faults reader.new; write_faults = W.faults writer.new }) }
@@ -60,7 +64,11 @@ pub fn simulate<R: ByteIn, W: ByteOut>(core: &mut Core, reader: &mut R, writer: 
 }
 
 /// Serves request lines; the last reply may not have gone out yet.
-fn serve_lines<R: ByteIn, W: ByteOut>(core: &mut Core, reader: &mut R, writer: &mut W) -> Result<Summary, SessionFault>
+fn serve_lines<R: ByteIn, W: ByteOut>(
+    core: &mut Core,
+    reader: &mut R,
+    writer: &mut W,
+) -> Result<Summary, SessionFault>
     ensures { (b : Behaviour) → IsBehaviour core.old.image b → SessionGives b result
         (record { core = core.old; left = R.left reader.old; written = W.written writer.old; read_faults = R.faults reader.old; write_faults = W.faults writer.old })
         (record { core = core.new; left = R.left reader.new; written = W.written writer.new; read_faults = R.faults reader.new; write_faults = W.faults writer.new }) }
@@ -120,7 +128,7 @@ fn serve<W: ByteOut>(core: &mut Core, writer: &mut W, line: &Line) -> Result<Kin
     ensures image { core.new.image ≡ core.old.image }
     ensures served { (b : Behaviour) → IsBehaviour core.old.image b
         → ServeGives (deed b core.old.image (kept_asked line.now) core.old.state) (kind_of core.old.image (kept_asked line.now)) result core.new.state
-            (W.written writer.old) (W.written writer.new) (W.faults writer.old) (W.faults writer.new) }
+        (W.written writer.old) (W.written writer.new) (W.faults writer.old) (W.faults writer.new) }
 {
     if line.is_longer {
         put_fault(writer, RequestFault::TooLong)?;
@@ -136,15 +144,23 @@ fn serve<W: ByteOut>(core: &mut Core, writer: &mut W, line: &Line) -> Result<Kin
 }
 
 /// Serves a request, and says of what kind it was.
-fn serve_request<W: ByteOut>(core: &mut Core, writer: &mut W, request: Request<'_>) -> Result<Kind, DeviceFault>
+fn serve_request<W: ByteOut>(
+    core: &mut Core,
+    writer: &mut W,
+    request: Request<'_>,
+) -> Result<Kind, DeviceFault>
     ensures image { core.new.image ≡ core.old.image }
     ensures served { (b : Behaviour) → IsBehaviour core.old.image b
         → ServeGives (deed b core.old.image (told_by (Ok request.entry)) core.old.state) (kind_of core.old.image (told_by (Ok request.entry))) result core.new.state
-            (W.written writer.old) (W.written writer.new) (W.faults writer.old) (W.faults writer.new) }
+        (W.written writer.old) (W.written writer.new) (W.faults writer.old) (W.faults writer.new) }
 {
     match request {
         Request::Link(name, link) => serve_link(core, writer, name, link),
-        Request::Result(test, run, value) => make_step(core, writer, Step::Finished(test, run, value)),
+        Request::Result(test, run, value) => make_step(
+            core,
+            writer,
+            Step::Finished(test, run, value),
+        ),
         Request::Tick(now) => make_step(core, writer, Step::Tick(now)),
         Request::Take => make_step(core, writer, Step::Take),
         Request::Status => {
@@ -163,11 +179,16 @@ fn serve_request<W: ByteOut>(core: &mut Core, writer: &mut W, request: Request<'
 }
 
 /// Serves a request for the link state of the interface of this name.
-fn serve_link<W: ByteOut>(core: &mut Core, writer: &mut W, name: &[u8], link: LinkState) -> Result<Kind, DeviceFault>
+fn serve_link<W: ByteOut>(
+    core: &mut Core,
+    writer: &mut W,
+    name: &[u8],
+    link: LinkState,
+) -> Result<Kind, DeviceFault>
     ensures image { core.new.image ≡ core.old.image }
     ensures served { (b : Behaviour) → IsBehaviour core.old.image b
         → ServeGives (deed b core.old.image (ALink name.now link) core.old.state) (kind_of core.old.image (ALink name.now link)) result core.new.state
-            (W.written writer.old) (W.written writer.new) (W.faults writer.old) (W.faults writer.new) }
+        (W.written writer.old) (W.written writer.new) (W.faults writer.old) (W.faults writer.new) }
 {
     match core.iface_of(name) {
         None => {
@@ -183,7 +204,7 @@ fn make_step<W: ByteOut>(core: &mut Core, writer: &mut W, step: Step) -> Result<
     ensures image { core.new.image ≡ core.old.image }
     ensures served { (b : Behaviour) → IsBehaviour core.old.image b
         → ServeGives (step_deed b core.old.image step core.old.state) Kind.Step result core.new.state
-            (W.written writer.old) (W.written writer.new) (W.faults writer.old) (W.faults writer.new) }
+        (W.written writer.old) (W.written writer.new) (W.faults writer.old) (W.faults writer.new) }
 {
     let reply = core.step(step);
     put_reply(writer, core, &reply)?;

@@ -60,7 +60,10 @@ fn hex_digit(digit: u8) -> u8
 }
 
 /// Writes the numbers of commands, with commas between them; a dash where there is none.
-pub(crate) fn put_commands<W: ByteOut>(out: &mut W, commands: &[CommandId]) -> Result<(), DeviceFault>
+pub(crate) fn put_commands<W: ByteOut>(
+    out: &mut W,
+    commands: &[CommandId],
+) -> Result<(), DeviceFault>
     ensures { PutGives result (listed (map (λ c. decimal c.0) commands.now)) (W.written out.old) (W.written out.new) (W.faults out.old) (W.faults out.new) }
 {
     let Some((first, others)) = commands.split_first() else {

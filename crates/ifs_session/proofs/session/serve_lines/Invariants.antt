@@ -10,7 +10,7 @@ invariant-lines g l = record {
   fewer : l.summary.steps ≤ l.summary.requests;
   underway : (b : Behaviour) → IsBehaviour l.fn.core.image b → (lines : List (List ℕ)) × Underway b lines l.summary l.budget
       (record { core = l.fn.core; left = g.R.ByteIn.left l.fn.reader; written = g.W.ByteOut.written l.fn.writer; read_faults = g.R.ByteIn.faults l.fn.reader; write_faults = g.W.ByteOut.faults l.fn.writer })
-      (record { core = l.core; left = g.R.ByteIn.left l.reader; written = g.W.ByteOut.written l.writer; read_faults = g.R.ByteIn.faults l.reader; write_faults = g.W.ByteOut.faults l.writer })
+      (record { core = l.core; left = g.R.ByteIn.left l.reader; written = g.W.ByteOut.written l.writer; read_faults = g.R.ByteIn.faults l.reader; write_faults = g.W.ByteOut.faults l.writer });
 }
 
 abbrev pub decreases-lines : goal.decreases-lines

@@ -7,5 +7,5 @@ use Rattle.ifs_session.proofs.words.put_escaped.Given as goal
 abbrev pub invariant-loop-byte : goal.invariant-loop-byte
 invariant-loop-byte g l = record {
   told : append_known (g.W.ByteOut.written l.out) (flat_map quoted_byte (drop l.byte-index l.text)) ≡ append_known (g.W.ByteOut.written l.initial.out) (flat_map quoted_byte l.text);
-  kept : g.W.ByteOut.faults l.out ≡ g.W.ByteOut.faults l.initial.out
+  kept : g.W.ByteOut.faults l.out ≡ g.W.ByteOut.faults l.initial.out;
 }
