@@ -17,3 +17,6 @@ mod stepping;
 
 pub use gateway::{Core, OpenFault, TRACE};
 pub use step::{Answer, Record, Reply, Step};
+
+#[cfg(test)]
+mod tests;
