@@ -1,3 +1,5 @@
+pub mod FirstLine
+pub mod HexReading
 pub mod Known
 pub mod LineReading
 pub mod Numbers

@@ -1,7 +1,9 @@
 pub mod Device
+pub mod Hexadecimal
 pub mod Memory
 pub mod Replies
 pub mod Requests
+pub mod Runs
 pub mod Session
 pub mod SessionText
 pub mod Words

@@ -9,17 +9,21 @@
 
 mod device;
 mod fault;
+mod hexadecimal;
 mod lines;
 mod memory;
-mod request;
+mod refusal;
 mod replies;
+mod request;
+mod running;
 mod session;
 mod std_devices;
 mod words;
 
 pub use device::{ByteIn, ByteOut, DeviceFault};
-pub use fault::SessionFault;
+pub use fault::{RunFault, SessionFault};
 pub use memory::{MemoryIn, MemoryOut};
 pub use request::RequestFault;
+pub use running::run_hex;
 pub use session::{Summary, simulate};
 pub use std_devices::{FromRead, ToWrite};

@@ -1,0 +1,68 @@
+//! Runs of an image that comes as the first line of the input.
+
+ghost use Rattle.std.specs.Prelude.{◌≡◌};
+ghost use Rattle.ifs_session.specs.Runs.{ImageGives, OpenGives, RunGives};
+
+use crate::device::{ByteIn, ByteOut};
+use crate::fault::{RunFault, SessionFault};
+use crate::hexadecimal::{HexFault, hex_line};
+use crate::refusal::refuse;
+use crate::session::{Summary, simulate};
+use ifs_core::Core;
+use ifs_verify::verify;
+use std::alloc::Global;
+
+/// Runs an image: the first line of the input has it in lower-case hexadecimal digits, at most
+/// 131,072 and an even number of them; then come request lines, as for `simulate`. The image's line
+/// does not count toward the bytes of requests that are read.
+///
+/// A line that breaks this rule is refused at the first byte that does, and nothing after it is
+/// read; an image that is not accepted is refused, and so is one for which no memory is found. A
+/// refusal writes its line, or answers that this write failed.
+pub fn run_hex<R: ByteIn, W: ByteOut>(
+    alloc: Global,
+    reader: &mut R,
+    writer: &mut W,
+) -> Result<Summary, RunFault>
+    ensures { RunGives result
+        (record { left = R.left reader.old; written = W.written writer.old; read_faults = R.faults reader.old; write_faults = W.faults writer.old })
+        (record { left = R.left reader.new; written = W.written writer.new; read_faults = R.faults reader.new; write_faults = W.faults writer.new }) }
+{
+    match open_line(alloc, reader) {
+        Err(fault) => {
+            let told = refuse(writer, fault);
+            Err(told)
+        }
+        Ok(mut core) => match simulate(&mut core, reader, writer) {
+            Ok(summary) => Ok(summary),
+            Err(fault) => Err(RunFault::Session(fault)),
+        },
+    }
+}
+
+/// Opens the image of the first line.
+fn open_line<R: ByteIn>(alloc: Global, reader: &mut R) -> Result<Core, RunFault>
+    ensures { OpenGives result
+        (record { left = R.left reader.old; faults = R.faults reader.old })
+        (record { left = R.left reader.new; faults = R.faults reader.new }) }
+{
+    match hex_line(alloc, reader) {
+        Ok(bytes) => open_image(alloc, bytes.as_slice()),
+        Err(HexFault::Broken) => Err(RunFault::X1),
+        Err(HexFault::Memory) => Err(RunFault::Memory),
+        Err(HexFault::NotRead) => Err(RunFault::Session(SessionFault::ReadFailed)),
+    }
+}
+
+/// Opens the image that bytes spell.
+fn open_image(alloc: Global, bytes: &[u8]) -> Result<Core, RunFault>
+    ensures { ImageGives bytes.now result }
+{
+    match verify(alloc, bytes) {
+        Err(fault) => Err(RunFault::Verify(fault)),
+        Ok(verified) => match Core::open(alloc, verified) {
+            Ok(core) => Ok(core),
+            Err(_) => Err(RunFault::Memory),
+        },
+    }
+}
