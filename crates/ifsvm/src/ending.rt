@@ -1,0 +1,44 @@
+//! How the program ends.
+
+use ifs_session::SessionFault;
+use std::io;
+use std::process::ExitCode;
+
+/// Why the program ends, which gives its exit status.
+#[derive(Debug, Drop)]
+pub enum Ending {
+    /// All was done: status 0.
+    Done,
+    /// The input was refused, and its line was printed: status 1.
+    Refused,
+    /// The command line was wrong, and its message was printed: status 2.
+    CommandLine,
+    /// A file or stream failed: status 3, with the system's words.
+    System(io::Error),
+    /// A file is over 16,777,216 bytes: status 3.
+    TooLarge,
+    /// A session ended by a fault: status 3, with its code.
+    Session(SessionFault),
+}
+
+impl Ending {
+    /// Tells a device's cause on standard error, and gives the exit status.
+    pub fn told(self, rt: &impl Eprint) -> ExitCode {
+        // nothing is left to be done where standard error fails too
+        let (status, _told) = match self {
+            Ending::Done => (0, Ok(())),
+            Ending::Refused => (1, Ok(())),
+            Ending::CommandLine => (2, Ok(())),
+            Ending::System(error) => (3, eprintln!(rt; "device {error}")),
+            Ending::TooLarge => (3, eprintln!(rt; "device too large")),
+            Ending::Session(fault) => (3, eprintln!(rt; "device {fault}")),
+        };
+        ExitCode::from(status)
+    }
+}
+
+impl From<io::Error> for Ending {
+    fn from(error: io::Error) -> Ending {
+        Ending::System(error)
+    }
+}
