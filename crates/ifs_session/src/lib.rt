@@ -27,3 +27,6 @@ pub use request::RequestFault;
 pub use running::run_hex;
 pub use session::{Summary, simulate};
 pub use std_devices::{FromRead, ToWrite};
+
+#[cfg(test)]
+mod tests;
