@@ -1,13 +1,13 @@
 -- An image that is read is the one that the bytes spell, and what spells an image is read.
-use Rattle.std.proofs.Common.{◌≡◌, ◌≢◌, ℕ, zero, ◌+◌, ◌-◌, ◌^◌, ◌<◌, ◌≤◌, Bool, true, false, cond, eqb, ltb, List, [], ◌∷◌, ◌++◌, map, length, get_or, take, Result, Ok, Err, refl, sym, ap, subst, ◌∙◌, append_assoc, add_assoc, arith, All}
+use Rattle.std.proofs.Common.{◌≡◌, ◌≢◌, ℕ, ◌+◌, ◌-◌, ◌^◌, ◌<◌, ◌≤◌, false, cond, List, [], ◌∷◌, ◌++◌, length, get_or, take, Result, Ok, Err, refl, sym, ap, subst, ◌∙◌, append_assoc, arith, All}
 use Rattle.std.specs.Prelude.{◌==◌, codes, IsUtf8, IfOk}
-use Rattle.std.specs.Int.{w16, w32, w64, to_be_bytes}
+use Rattle.std.specs.Int.{w16, w32, to_be_bytes}
 use Rattle.std.specs.List.{flat_map}
 use Rattle.std.specs.Str.{bytes_eq}
 use Rattle.std.proofs.lemmas.Bool.{eqb-true, false_from_ne_true}
 use Rattle.std.proofs.lemmas.List.{append-nil, nil_from_length, length-append, map_push, take_at}
 use Rattle.std.proofs.Math.Seq.{get_or-append_seam}
-use Rattle.std.proofs.lemmas.List.Elements.{All-nil, All-cons, All-head, All-tail, All-weaker}
+use Rattle.std.proofs.lemmas.List.Elements.{All-nil, All-cons, All-head, All-tail}
 use Rattle.std.proofs.lemmas.List.Sums.{sum_by-append}
 use Rattle.std.proofs.lemmas.Slice.Eq.{bytes_eq-Decides}
 use Rattle.ifs_base.specs.Spelling.{HasSpelling}
@@ -20,9 +20,9 @@ use Rattle.ifs_image.specs.declared.parts.TestSpec.{TestSpec}
 use Rattle.ifs_image.specs.declared.parts.StateSpec.{StateSpec}
 use Rattle.ifs_image.specs.declared.parts.Routine.{Routine}
 use Rattle.ifs_image.specs.declared.parts.ImageParts.{ImageParts}
-use Rattle.ifs_image.specs.Limits.{BudgetsFit, CountsFit, TextFits, TestFits, RoutineFits, AreDistinct, NamesFit, StatesFit, RoutinesFit, HandlersInRange, StateInRange, names_of, instructions, Fits, InRange}
+use Rattle.ifs_image.specs.Limits.{BudgetsFit, CountsFit, TextFits, TestFits, RoutineFits, AreDistinct, HandlersInRange, StateInRange, names_of, instructions, Fits, InRange}
 use Rattle.ifs_image.specs.Spelling.{front_bytes, budgets_bytes, counts_bytes, handlers_bytes, text_bytes, test_bytes, state_bytes, routine_bytes, counts, image_bytes, Spells}
-use Rattle.ifs_image.specs.Reading.{Place, place, Read, ◌>>=◌, bytes_at, byte_at, number_at, number_within, magic_at, version_at, budgets_at, counts_at, handlers_at, text_at, stands_in, name_at, test_at, state_at, items_at, routine_at, room_after, parts_at, image_of}
+use Rattle.ifs_image.specs.Reading.{Place, place, ◌>>=◌, bytes_at, byte_at, number_at, number_within, magic_at, version_at, budgets_at, counts_at, handlers_at, text_at, stands_in, name_at, test_at, state_at, items_at, routine_at, room_after, parts_at, image_of}
 use Rattle.ifs_image.specs.Answers.{Answers}
 use Rattle.ifs_image.proofs.Names.{AreDistinct-push, distinct_broken}
 use Rattle.ifs_image.proofs.FieldLaws.{IsBytes, bind_ok, again_bind, passed_ok, ok_is, Took, Took-then, IsField, bytes_again, bytes_taken, wide16, number_field, within16, within32, byte_again, byte_taken, AllAfter, table_field}

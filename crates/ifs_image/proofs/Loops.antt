@@ -1,11 +1,11 @@
 -- Reading the entries of a table one after the other, as a loop does.
-use Rattle.std.proofs.Common.{◌≡◌, ◌≢◌, ℕ, suc, ◌+◌, ◌-◌, ◌≤◌, ◌<◌, List, [], ◌∷◌, ◌++◌, Result, Ok, Err, refl, sym, ap, ◌∙◌, length, arith}
+use Rattle.std.proofs.Common.{◌≡◌, ◌≢◌, ℕ, suc, ◌+◌, ◌-◌, ◌≤◌, ◌<◌, List, [], ◌∷◌, ◌++◌, Ok, Err, refl, sym, ◌∙◌, length, arith}
 use Rattle.std.proofs.lemmas.List.Sums.{sum_by-append}
 use Rattle.ifs_image.specs.declared.parts.Routine.{Routine}
 use Rattle.ifs_image.specs.Limits.{instructions}
 use Rattle.ifs_image.specs.declared.fault.ImageFault.{ImageFault}
 use Rattle.ifs_image.specs.declared.fault.ImageFault.TheVariants.{Memory}
-use Rattle.ifs_image.specs.Reading.{Place, Read, ◌>>=◌, items_at, room_after}
+use Rattle.ifs_image.specs.Reading.{Place, Read, items_at, room_after}
 
 pub goes_on : {X : Type 0} (entry : List X → Place → Read X) (count i : ℕ) (before after_push : List X) (p after : Place) (x : X) (total : Read (List X)) → i < count → entry before p ≡ Ok (x, after) → after_push ≡ before ++ x ∷ []
     → items_at entry (count - i) before p ≡ total → items_at entry (count - (i + 1)) after_push after ≡ total

@@ -1,6 +1,5 @@
 -- What an image keeps to: numbers, counts and texts within their limits, and names that stand once.
 use Rattle.std.specs.Prelude.{ℕ, ◌≢◌, ◌<◌, ◌≤◌, ◌^◌, List, length, map, All, AllPairs, sum_by, IsUtf8}
-use Rattle.ifs_base.specs.declared.op.Op.{Op}
 use Rattle.ifs_base.specs.Spelling.{HasSpelling}
 use Rattle.ifs_image.specs.declared.parts.Budgets.{Budgets}
 use Rattle.ifs_image.specs.declared.parts.Handlers.{Handlers}

@@ -1,20 +1,20 @@
 -- From what is found of all routines to the rules of acceptance, and back.
-use Rattle.std.proofs.Common.{ℕ, ◌≡◌, ◌<◌, ◌≤◌, ◌+◌, ◌-◌, List, [], length, Option, Some, None, slice_index, arith, refl, ap, sym, ◌∙◌, subst, inl, inr, ◌⊎◌}
+use Rattle.std.proofs.Common.{ℕ, ◌≡◌, ◌<◌, ◌≤◌, ◌+◌, ◌-◌, List, [], length, Some, slice_index, arith, refl, ap, sym, ◌∙◌, subst, inl, inr, ◌⊎◌}
 use Rattle.std.specs.List.{slice_get}
 use Rattle.std.proofs.lemmas.Bool.{cases_lt}
 use Rattle.ifs_base.specs.declared.ids.RoutineId.{RoutineId}
 use Rattle.ifs_base.specs.declared.op.Kind.{Kind}
 use Rattle.ifs_base.specs.declared.op.Op.{Op}
-use Rattle.ifs_base.specs.declared.op.Op.TheVariants.{Ret, Yes, No, Link, Test, Known, Negate, Both, Either, PushCommand, PushState, Queue, Want, Jump, JumpFalse, JumpTrue, Call, Pop, Dup}
+use Rattle.ifs_base.specs.declared.op.Op.TheVariants.{Call}
 use Rattle.ifs_image.specs.declared.parts.ImageParts.{ImageParts}
 use Rattle.ifs_image.specs.declared.parts.StateSpec.{StateSpec}
 use Rattle.ifs_image.specs.Code.{op_at}
 use Rattle.ifs_verify.specs.declared.budgets.Part.TheVariants.{Init, Body}
 use Rattle.ifs_verify.specs.Rules.{IsRoutine, IndexesFit}
-use Rattle.ifs_verify.specs.Typing.{IsTyped, AreTypings}
-use Rattle.ifs_verify.specs.Bounds.{AreHeights, AreDepths, AreAmounts, callee_amount, FitsEvents, FitsHandlers}
+use Rattle.ifs_verify.specs.Typing.{IsTyped}
+use Rattle.ifs_verify.specs.Bounds.{AreAmounts, callee_amount, FitsEvents, FitsHandlers}
 use Rattle.ifs_verify.specs.Accepted.{EachWithin, StackFits, FramesFit}
-use Rattle.ifs_verify.specs.Passes.{IsPlain, HoldsHeight, HoldsDepth, HoldsAmount, HoldsRow, IsHeld, IsCounted, LeastHeights, LeastDepths, LeastAmounts, Reaches, part_of}
+use Rattle.ifs_verify.specs.Passes.{IsPlain, HoldsHeight, IsHeld, IsCounted, LeastHeights, LeastDepths, LeastAmounts, Reaches}
 use Rattle.ifs_verify.proofs.Instructions.{op_at-routine}
 
 -- One value for each number, where there is one for each number below another.

@@ -7,13 +7,13 @@ use Rattle.std.proofs.lemmas.Option.{slice_get_within}
 use Rattle.ifs_base.specs.declared.ids.RoutineId.{RoutineId}
 use Rattle.ifs_base.specs.declared.op.Kind.{Kind}
 use Rattle.ifs_base.specs.declared.op.Op.{Op}
-use Rattle.ifs_base.specs.declared.op.Op.TheVariants.{Ret, Yes, No, Link, Test, Known, Negate, Both, Either, PushCommand, PushState, Queue, Want, Jump, JumpFalse, JumpTrue, Call, Pop, Dup}
+use Rattle.ifs_base.specs.declared.op.Op.TheVariants.{Ret, Call}
 use Rattle.ifs_image.specs.declared.parts.ImageParts.{ImageParts}
-use Rattle.ifs_image.specs.Code.{op_at, code_of, results_of, effect, IsSuccessor}
+use Rattle.ifs_image.specs.Code.{op_at, code_of, effect}
 use Rattle.ifs_verify.specs.Rules.{IsRoutine}
-use Rattle.ifs_verify.specs.Typing.{IsTyping, AreTypings}
-use Rattle.ifs_verify.specs.Bounds.{AreHeights, AreDepths, AreAmounts, callee_amount}
-use Rattle.ifs_verify.specs.Passes.{IsPlain, IsTypedUpTo, row_at, HoldsHeight, HoldsDepth, HoldsAmount, HoldsRow, AreLow, IsHeld, IsCounted, LeastHeights, LeastDepths, LeastAmounts}
+use Rattle.ifs_verify.specs.Typing.{IsTyping}
+use Rattle.ifs_verify.specs.Bounds.{AreDepths, AreAmounts, callee_amount}
+use Rattle.ifs_verify.specs.Passes.{IsPlain, IsTypedUpTo, row_at, HoldsHeight, HoldsDepth, HoldsRow, IsHeld, IsCounted, LeastHeights, LeastDepths, LeastAmounts}
 use Rattle.ifs_verify.proofs.Holding.{passed_at}
 use Rattle.ifs_verify.proofs.Instructions.{op_at-routine}
 

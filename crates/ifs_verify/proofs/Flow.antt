@@ -1,20 +1,18 @@
 -- The forward pass: what its rows keep when a list of kinds is handed on, and what a refusal shows.
-use Rattle.std.proofs.Common.{ℕ, ◌≡◌, ◌≢◌, ◌<◌, ◌≤◌, ◌+◌, ◌-◌, List, [], ◌∷◌, length, Option, Some, None, arith, refl, ap, sym, ◌∙◌, subst, inl, inr, ◌⊎◌}
-use Rattle.std.specs.List.{slice_get}
+use Rattle.std.proofs.Common.{ℕ, ◌≡◌, ◌≢◌, ◌<◌, ◌≤◌, ◌+◌, ◌-◌, List, [], length, Option, Some, None, arith, ap, sym, ◌∙◌, subst, inl, inr, ◌⊎◌}
 use Rattle.std.proofs.Math.ListN.{set, length-set}
-use Rattle.std.proofs.lemmas.Bool.{cases_eq, cases_lt}
+use Rattle.std.proofs.lemmas.Bool.{cases_eq}
 use Rattle.std.proofs.lemmas.Option.{slice_get_within}
-use Rattle.ifs_base.specs.declared.ids.RoutineId.{RoutineId}
 use Rattle.ifs_base.specs.declared.op.Kind.{Kind}
 use Rattle.ifs_base.specs.declared.op.Op.{Op}
-use Rattle.ifs_base.specs.declared.op.Op.TheVariants.{Ret, Yes, No, Link, Test, Known, Negate, Both, Either, PushCommand, PushState, Queue, Want, Jump, JumpFalse, JumpTrue, Call, Pop, Dup}
+use Rattle.ifs_base.specs.declared.op.Op.TheVariants.{Ret, Jump, JumpFalse, JumpTrue}
 use Rattle.ifs_image.specs.declared.parts.ImageParts.{ImageParts}
 use Rattle.ifs_image.specs.Code.{op_at, code_of, results_of, target_of, effect, IsSuccessor}
 use Rattle.ifs_verify.specs.Rules.{IsRoutine, RoutinesEnd, JumpsLeadOn}
-use Rattle.ifs_verify.specs.Typing.{IsTyping, IsTyped, AreTypings, FlowsOn}
+use Rattle.ifs_verify.specs.Typing.{IsTyping, IsTyped, FlowsOn}
 use Rattle.ifs_verify.specs.Accepted.{StackFits}
 use Rattle.ifs_verify.specs.Passes.{next_of, row_at, Extends, Leaves, HasPassed, IsTypedUpTo, IsPlain}
-use Rattle.ifs_verify.proofs.Rows.{row_at-set_same, Extends-set, row_at-set_cases, some_kinds}
+use Rattle.ifs_verify.proofs.Rows.{Extends-set, row_at-set_cases, some_kinds}
 
 -- A successor is the next place or the target.
 pub successor_cases : (op : Op) (place to : ℕ) → IsSuccessor op place to → (next_of op place ≡ Some to) ⊎ (target_of op ≡ Some to)

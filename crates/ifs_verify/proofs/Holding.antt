@@ -1,11 +1,11 @@
 -- Heights that are large enough stay so when they grow.
-use Rattle.std.proofs.Common.{ℕ, ◌≡◌, ◌<◌, ◌≤◌, ◌+◌, List, length, Option, Some, None, arith, ap, sym, ◌∙◌, subst, inl, inr}
+use Rattle.std.proofs.Common.{ℕ, ◌≡◌, ◌<◌, ◌≤◌, ◌+◌, List, length, Option, Some, arith, sym, ◌∙◌, subst, inl, inr}
 use Rattle.std.proofs.lemmas.Bool.{cases_eq}
 use Rattle.ifs_base.specs.declared.op.Kind.{Kind}
 use Rattle.ifs_base.specs.declared.op.Op.{Op}
 use Rattle.ifs_image.specs.declared.parts.ImageParts.{ImageParts}
 use Rattle.ifs_image.specs.Code.{op_at, effect}
-use Rattle.ifs_verify.specs.Passes.{HoldsHeight, IsTypedUpTo, HasPassed, Leaves, row_at}
+use Rattle.ifs_verify.specs.Passes.{HoldsHeight, IsTypedUpTo, row_at}
 
 pub HoldsHeight-higher : (image : ImageParts) (heights : ℕ → ℕ) (op : Op) (kinds : List Kind) (low high : ℕ) → low ≤ high
     → HoldsHeight image heights op kinds low → HoldsHeight image heights op kinds high

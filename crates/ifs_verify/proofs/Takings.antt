@@ -1,9 +1,9 @@
 -- Taking kinds off the stack, and what an instruction leaves.
-use Rattle.std.proofs.Common.{◌≡◌, ◌≢◌, List, [], ◌∷◌, Option, Some, None, refl}
+use Rattle.std.proofs.Common.{◌≡◌, ◌≢◌, List, [], ◌∷◌, Some, None, refl}
 use Rattle.ifs_base.specs.declared.op.Kind.{Kind}
 use Rattle.ifs_base.specs.declared.op.Kind.TheVariants.{Truth, Command, StateName}
 use Rattle.ifs_base.specs.declared.op.Op.{Op}
-use Rattle.ifs_base.specs.declared.op.Op.TheVariants.{Ret, Yes, No, Link, Test, Known, Negate, Both, Either, PushCommand, PushState, Queue, Want, Jump, JumpFalse, JumpTrue, Call, Pop, Dup}
+use Rattle.ifs_base.specs.declared.op.Op.TheVariants.{Negate, Both, Either, Queue, Want, JumpFalse, JumpTrue, Pop, Dup}
 use Rattle.ifs_image.specs.declared.parts.ImageParts.{ImageParts}
 use Rattle.ifs_image.specs.Code.{effect}
 use Rattle.ifs_verify.specs.Passes.{without, below_top, top_twice, left_by}

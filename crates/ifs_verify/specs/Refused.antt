@@ -1,7 +1,7 @@
 -- Refusals: what each fault of the verifier says of the image.
 use Rattle.std.specs.Prelude.{ℕ, ◌≡◌, List, Err}
 use Rattle.ifs_image.specs.declared.fault.ImageFault.{ImageFault}
-use Rattle.ifs_image.specs.declared.fault.ImageFault.TheVariants.{Truncated, WrongMagic, WrongVersion, OutOfLimit, BadText, RepeatedName, Trailing, NoInstruction, Memory}
+use Rattle.ifs_image.specs.declared.fault.ImageFault.TheVariants.{Memory}
 use Rattle.ifs_image.specs.declared.parts.ImageParts.{ImageParts}
 use Rattle.ifs_image.specs.Spelling.{Spells}
 use Rattle.ifs_image.specs.Reading.{image_of}

@@ -1,5 +1,5 @@
 -- Typing: which kinds stand on the stack at each place. Lists of kinds have the topmost first.
-use Rattle.std.specs.Prelude.{ℕ, ◌≡◌, List, [], Option, Some}
+use Rattle.std.specs.Prelude.{ℕ, ◌≡◌, List, [], Some}
 use Rattle.ifs_base.specs.declared.op.Kind.{Kind}
 use Rattle.ifs_base.specs.declared.op.Op.{Op}
 use Rattle.ifs_base.specs.declared.op.Op.TheVariants.{Ret}

@@ -1,4 +1,4 @@
-use Rattle.std.proofs.Common.{[], arith}
+use Rattle.std.proofs.Common.{[]}
 use Rattle.std.proofs.lemmas.Result.{err_from_is_err_and}
 use Rattle.ifs_image.specs.Reading.{items_at, name_at}
 use Rattle.ifs_image.proofs.Loops.{goes_on, stops, is_done}

@@ -1,7 +1,5 @@
-use Rattle.std.proofs.Common.{◌≡◌, ◌+◌, ◌-◌, ◌∷◌, ◌++◌, List, [], length, arith, Ok, ap, sym, ◌∙◌}
+use Rattle.std.proofs.Common.{[]}
 use Rattle.std.proofs.lemmas.Result.{err_from_is_err_and}
-use Rattle.ifs_image.specs.declared.parts.Routine.{Routine}
-use Rattle.ifs_image.specs.Limits.{instructions}
 use Rattle.ifs_image.specs.Reading.{items_at, routine_at, room_after}
 use Rattle.ifs_image.proofs.Loops.{goes_on, stops, is_done, room_less}
 use Rattle.ifs_image.proofs.reading.routines_of.Goals as goal

@@ -1,4 +1,4 @@
-use Rattle.std.proofs.Common.{ℕ, ◌≡◌, sym, ◌∙◌}
+use Rattle.std.proofs.Common.{sym, ◌∙◌}
 use Rattle.ifs_verify.proofs.Flow.{next_successor, target_successor}
 use Rattle.ifs_verify.proofs.amounts.amount_at.Goals as goal
 

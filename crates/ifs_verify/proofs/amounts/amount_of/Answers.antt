@@ -1,6 +1,4 @@
-use Rattle.std.proofs.Common.{ℕ, ◌≡◌, ◌<◌, ◌≤◌, ◌+◌, ◌-◌, List, length, slice_index, arith, sym, ◌∙◌, subst, ap}
-use Rattle.ifs_base.specs.declared.op.Op.{Op}
-use Rattle.ifs_image.specs.Code.{code_of}
+use Rattle.std.proofs.Common.{◌+◌, ◌-◌, length, slice_index, arith, sym}
 use Rattle.ifs_verify.specs.Passes.{IsCountedFrom, weight_of}
 use Rattle.ifs_verify.proofs.Instructions.{some_code}
 use Rattle.ifs_verify.proofs.amounts.amount_of.Goals as goal

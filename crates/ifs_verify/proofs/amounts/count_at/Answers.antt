@@ -1,7 +1,7 @@
-use Rattle.std.proofs.Common.{ℕ, ◌≡◌, ◌<◌, ◌≤◌, List, length, Some, slice_index, arith, ap, sym, ◌∙◌, subst}
+use Rattle.std.proofs.Common.{ℕ, ◌≡◌, List, Some, slice_index, arith, ap, sym, ◌∙◌, subst}
 use Rattle.std.specs.List.{slice_get}
 use Rattle.ifs_base.specs.declared.op.Op.{Op}
-use Rattle.ifs_image.specs.Code.{op_at, code_of}
+use Rattle.ifs_image.specs.Code.{op_at}
 use Rattle.ifs_verify.specs.Passes.{IsCountedFrom, weight_of}
 use Rattle.ifs_verify.proofs.Flow.{successor_within}
 use Rattle.ifs_verify.proofs.Backward.{counted_more}

@@ -1,4 +1,4 @@
-use Rattle.std.proofs.Common.{ℕ, ◌≡◌, slice_index, sym, subst}
+use Rattle.std.proofs.Common.{slice_index, sym, subst}
 use Rattle.ifs_verify.specs.Bounds.{cost_of, commands_of, FitsEvents}
 use Rattle.ifs_verify.proofs.Assembly.{stack_unfit, frames_unfit, amounts_unfit}
 use Rattle.ifs_verify.proofs.budgets.check_budgets.Goals as goal

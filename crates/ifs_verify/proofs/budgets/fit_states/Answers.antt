@@ -1,4 +1,4 @@
-use Rattle.std.proofs.Common.{ℕ, ◌≤◌, slice_index, arith, refl}
+use Rattle.std.proofs.Common.{◌≤◌, slice_index, arith, refl}
 use Rattle.std.proofs.lemmas.Option.{slice_get_within}
 use Rattle.ifs_image.specs.declared.parts.Handlers.{Handlers}
 use Rattle.ifs_verify.proofs.Instructions.{states_more}

@@ -1,4 +1,4 @@
-use Rattle.std.proofs.Common.{ℕ, ◌<◌, ◌≤◌, length, arith, below_more}
+use Rattle.std.proofs.Common.{ℕ, ◌<◌, length, arith, below_more}
 use Rattle.ifs_image.specs.Code.{code_of}
 use Rattle.ifs_verify.specs.Rules.{IsReached}
 use Rattle.ifs_verify.proofs.Reaching.{code_of-routine}

@@ -1,11 +1,6 @@
 use Rattle.std.proofs.Common.{ℕ, ◌≡◌, ◌<◌, ◌-◌, length, Some}
-use Rattle.std.specs.List.{slice_get}
-use Rattle.ifs_base.specs.declared.op.Op.{Op}
 use Rattle.ifs_base.specs.declared.op.Op.TheVariants.{Ret}
-use Rattle.ifs_image.specs.declared.parts.StateSpec.{StateSpec}
 use Rattle.ifs_image.specs.Code.{op_at, code_of}
-use Rattle.ifs_verify.specs.Rules.{AreRoutines, IsMask, LeaveNothing}
-use Rattle.ifs_verify.specs.Passes.{Keeps}
 use Rattle.ifs_verify.proofs.rules.check_ends.Given as goal
 
 abbrev pub invariant-loop-routine : goal.invariant-loop-routine

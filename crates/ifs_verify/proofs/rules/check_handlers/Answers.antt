@@ -1,4 +1,4 @@
-use Rattle.std.proofs.Common.{ℕ, ◌≡◌, ◌<◌, rules, arith}
+use Rattle.std.proofs.Common.{arith}
 use Rattle.ifs_verify.specs.Rules.{LeaveNothing}
 use Rattle.ifs_verify.proofs.Instructions.{states_more}
 use Rattle.std.proofs.lemmas.Option.{slice_get_within}

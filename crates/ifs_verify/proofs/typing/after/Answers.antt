@@ -1,14 +1,14 @@
-use Rattle.std.proofs.Common.{ℕ, ◌≡◌, ◌<◌, ◌≤◌, List, Option, length, get_or, Some, None, arith, sym, ◌∙◌, ap}
+use Rattle.std.proofs.Common.{ℕ, ◌≡◌, ◌<◌, List, Option, length, get_or, Some, arith, sym, ◌∙◌, ap}
 use Rattle.ifs_base.specs.declared.op.Kind.{Kind}
 use Rattle.ifs_base.specs.declared.op.Op.{Op}
 use Rattle.ifs_base.specs.declared.op.Op.TheVariants.{Ret}
 use Rattle.ifs_image.specs.declared.parts.ImageParts.{ImageParts}
-use Rattle.ifs_image.specs.Code.{code_of, op_at, results_of, effect}
+use Rattle.ifs_image.specs.Code.{code_of, op_at, results_of}
 use Rattle.ifs_verify.specs.Rules.{IsRoutine}
 use Rattle.ifs_verify.specs.Typing.{IsTyped}
 use Rattle.ifs_verify.specs.Passes.{row_at, IsTypedUpTo}
 use Rattle.ifs_verify.proofs.Rows.{row_at-read}
-use Rattle.ifs_verify.proofs.Flow.{row_found, no_effect, other_results, stack_over}
+use Rattle.ifs_verify.proofs.Flow.{row_found, no_effect, stack_over}
 use Rattle.ifs_verify.proofs.typing.after.Goals as goal
 
 row_read : (image : ImageParts) (routine place : ℕ) (rows : List (Option (List Kind))) (row : Option (List Kind)) → IsTypedUpTo image routine rows place

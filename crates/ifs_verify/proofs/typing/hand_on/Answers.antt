@@ -1,5 +1,4 @@
-use Rattle.std.proofs.Common.{ℕ, ◌≡◌, ◌<◌, ◌≤◌, List, Option, length, Some, None, arith, sym, ◌∙◌, ap, subst}
-use Rattle.std.proofs.Math.ListN.{set}
+use Rattle.std.proofs.Common.{ℕ, ◌≡◌, ◌<◌, List, Option, length, Some, arith, sym, ◌∙◌, subst}
 use Rattle.ifs_base.specs.declared.op.Kind.{Kind}
 use Rattle.ifs_verify.specs.Passes.{row_at, IsTypedUpTo, Extends}
 use Rattle.ifs_verify.proofs.Rows.{row_at-set_same, Extends-set}

@@ -1,7 +1,6 @@
-use Rattle.std.proofs.Common.{ℕ, ◌≡◌, ◌<◌, List, Option, length, Some, sym, ◌∙◌, ap, subst, inl, inr}
-use Rattle.ifs_base.specs.declared.op.Kind.{Kind}
+use Rattle.std.proofs.Common.{◌≡◌, List, Some, sym, ◌∙◌, subst, inl, inr}
 use Rattle.ifs_base.specs.declared.op.Op.{Op}
-use Rattle.ifs_image.specs.Code.{op_at, IsSuccessor}
+use Rattle.ifs_image.specs.Code.{op_at}
 use Rattle.std.specs.List.{slice_get}
 use Rattle.ifs_verify.proofs.Flow.{Leaves-extended, target_successor, successor_within, successor_cases, passed_more}
 use Rattle.ifs_verify.proofs.typing.pass.Goals as goal

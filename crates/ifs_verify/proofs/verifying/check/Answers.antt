@@ -1,4 +1,3 @@
-use Rattle.std.proofs.Common.{ℕ, ◌≤◌}
 use Rattle.ifs_verify.specs.Bounds.{cost_of, commands_of}
 use Rattle.ifs_verify.specs.Passes.{IsPlain}
 use Rattle.ifs_verify.proofs.Assembly.{typed, stack_fits, frames_fit, amounts_fit}

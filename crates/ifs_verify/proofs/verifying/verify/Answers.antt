@@ -1,9 +1,7 @@
-use Rattle.std.proofs.Common.{ℕ, ◌≡◌, ◌≢◌, Ok, Err, sym, ◌∙◌, subst, ap}
+use Rattle.std.proofs.Common.{subst}
 use Rattle.ifs_image.specs.declared.parts.ImageParts.{ImageParts}
-use Rattle.ifs_image.specs.Spelling.{Spells}
-use Rattle.ifs_verify.specs.Accepted.{IsAccepted}
 use Rattle.ifs_verify.specs.Passes.{IsRefused}
-use Rattle.ifs_verify.proofs.Verdict.{sized, rule_holds, check_refuses, refused_once}
+use Rattle.ifs_verify.proofs.Verdict.{check_refuses, refused_once}
 use Rattle.ifs_verify.proofs.verifying.verify.Goals as goal
 
 pub returns-in-Err-clause-not_accepted : goal.returns-in-Err-clause-not_accepted

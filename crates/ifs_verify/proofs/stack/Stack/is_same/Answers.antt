@@ -1,4 +1,4 @@
-use Rattle.std.proofs.Common.{◌≡◌, ◌≤◌, Bool, Decides, List, length, take, arith, reverse, rules, refl, ap, sym, ◌∙◌}
+use Rattle.std.proofs.Common.{◌≡◌, Decides, List, take, reverse, rules, ap, sym, ◌∙◌}
 use Rattle.std.proofs.lemmas.Slice.Eq.{slice_eq-Decides}
 use Rattle.std.proofs.lemmas.List.{reverse-reverse}
 use Rattle.ifs_base.specs.declared.op.Kind.{Kind}

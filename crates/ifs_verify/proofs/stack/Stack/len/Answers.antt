@@ -1,4 +1,4 @@
-use Rattle.std.proofs.Common.{◌≡◌, arith, sym}
+use Rattle.std.proofs.Common.{arith, sym}
 use Rattle.std.proofs.lemmas.List.{length-reverse, length-take}
 use Rattle.ifs_verify.proofs.stack.Stack.len.Goals as goal
 
