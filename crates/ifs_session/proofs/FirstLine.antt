@@ -1,5 +1,5 @@
 -- Runs of an image that comes as the first line.
-use Rattle.std.proofs.Common.{◌≡◌, ◌⊎◌, ℕ, ◌++◌, List, Option, Some, None, Result, Ok, Err, inl, inr, refl, sym, ap, ◌∙◌, subst}
+use Rattle.std.proofs.Common.{◌≡◌, ◌⊎◌, ℕ, ◌++◌, List, Result, Ok, Err, inl, inr, sym, ap, ◌∙◌, subst}
 use Rattle.std.specs.Io.KnownBytes.{append_known}
 use Rattle.ifs_image.specs.declared.parts.ImageParts.{ImageParts}
 use Rattle.ifs_image.specs.Spelling.{Spells}
@@ -15,8 +15,7 @@ use Rattle.ifs_session.specs.declared.session.Summary.{Summary}
 use Rattle.ifs_session.specs.Device.{counted}
 use Rattle.ifs_session.specs.Session.{ending}
 use Rattle.ifs_session.specs.Hexadecimal.{hex_text, Feed, HexGives}
-use Rattle.ifs_session.specs.SessionText.{SessionGives}
-use Rattle.ifs_session.specs.Runs.{refused_line, RefuseGives, OpensImage, ImageGives, OpenGives, Streams, moment, feed, Runs, Refuses, CannotRead, CannotRefuse, RunGives}
+use Rattle.ifs_session.specs.Runs.{refused_line, RefuseGives, OpensImage, ImageGives, OpenGives, Streams, feed, Runs, Refuses, RunGives}
 
 -- A core was opened on an image that is accepted.
 pub opens_image : (bytes : List ℕ) (core : OpenCore) (image : ImageParts) → core.image ≡ image → Spells bytes image → IsAccepted image

@@ -1,12 +1,12 @@
 -- Reading a line of hexadecimal digits.
-use Rattle.std.proofs.Common.{◌≡◌, ◌≢◌, ℕ, ◌+◌, ◌*◌, ◌/◌, ◌%◌, ◌<◌, ◌≤◌, Bool, true, false, List, [], ◌∷◌, ◌++◌, length, Option, Some, None, Result, Ok, Err, refl, sym, ap, ◌∙◌, append_assoc, append-nil, arith}
+use Rattle.std.proofs.Common.{◌≡◌, ◌≢◌, ℕ, ◌+◌, ◌*◌, ◌/◌, ◌%◌, ◌<◌, ◌≤◌, true, false, List, [], ◌∷◌, ◌++◌, length, Some, None, Ok, Err, refl, sym, ap, ◌∙◌, append_assoc, append-nil, arith}
 use Rattle.std.specs.Io.KnownBytes.{prepend_known, IsAtEnd}
 use Rattle.ifs_session.specs.declared.hexadecimal.HexFault.{HexFault}
 use Rattle.ifs_session.specs.declared.hexadecimal.HexFault.TheVariants.{Broken, Memory, NotRead}
 use Rattle.ifs_session.specs.Device.{counted}
 use Rattle.ifs_session.specs.Session.{ending}
 use Rattle.ifs_session.specs.Words.{hex_digit}
-use Rattle.ifs_session.specs.Hexadecimal.{hex_text, IsNoDigit, Feed, Takes, EndsAt, DigitGives, HexGives, Breaks, NoDigit, OddDigit, DigitTooMany, ReadsBroken}
+use Rattle.ifs_session.specs.Hexadecimal.{hex_text, IsNoDigit, Feed, Takes, DigitGives, HexGives, NoDigit, OddDigit, DigitTooMany}
 use Rattle.ifs_session.proofs.Known.{prepend_known-append, prepend_known-nil}
 
 pub takes_nothing : (at : Feed) → Takes [] at at

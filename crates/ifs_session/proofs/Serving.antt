@@ -1,5 +1,5 @@
 -- Sessions line by line: what was read so far, and what was made of it.
-use Rattle.std.proofs.Common.{◌≡◌, ◌≢◌, ℕ, ◌+◌, ◌-◌, ◌<◌, ◌≤◌, Bool, true, false, ◌==◌, nat_lt, cond, List, [], ◌∷◌, ◌++◌, length, take, count_by, Option, Some, None, Err, inl, inr, subst, refl, sym, ap, ◌∙◌, append_assoc, append-nil, take_all, arith, length-append}
+use Rattle.std.proofs.Common.{◌≡◌, ◌≢◌, ℕ, ◌+◌, ◌<◌, ◌≤◌, Bool, true, false, ◌==◌, nat_lt, cond, List, [], ◌∷◌, ◌++◌, length, take, count_by, Option, Err, inl, inr, subst, refl, sym, ap, ◌∙◌, append_assoc, append-nil, take_all, arith, length-append}
 use Rattle.std.specs.List.{onto_first}
 use Rattle.std.proofs.lemmas.Bool.Decides.{nat_tests}
 use Rattle.std.proofs.lemmas.List.Sums.{sum_by-append}
@@ -18,7 +18,7 @@ use Rattle.ifs_session.specs.declared.session.Kind.{Kind}
 use Rattle.ifs_session.specs.declared.session.Kind.TheVariants as kinds
 use Rattle.ifs_session.specs.declared.lines.Line.{Line}
 use Rattle.ifs_core.specs.Gateway.{OpenCore}
-use Rattle.ifs_session.specs.SessionText.{SessionGives, deed, kept_asked, kind_of, with_line, replies, after_lines, is_step, is_stop, GoOn, Moment, HasRead, HasServed, HasReplied, Ends, EndsLine, Completes, BreaksReading, BreaksWriting, ReadsPast}
+use Rattle.ifs_session.specs.SessionText.{SessionGives, deed, kept_asked, kind_of, with_line, replies, after_lines, is_step, is_stop, GoOn, Moment, Ends, EndsLine, Completes, BreaksReading, BreaksWriting, ReadsPast}
 use Rattle.ifs_session.proofs.Known.{prepend_known-append, prepend_known-nil, append_known-append, append_known-nil}
 
 -- ---- lines

@@ -1,7 +1,7 @@
 -- A text before and after its first space.
-use Rattle.std.proofs.Common.{◌≡◌, ℕ, ◌+◌, ◌-◌, ◌<◌, ◌≤◌, Bool, cond, not, nat_lt, List, [], length, take, drop, Option, Some, None, sym, ap, ◌∙◌, arith, take_all}
+use Rattle.std.proofs.Common.{◌≡◌, ℕ, ◌+◌, ◌-◌, ◌≤◌, Bool, cond, not, nat_lt, List, [], length, take, drop, Some, None, sym, ap, ◌∙◌, arith, take_all}
 use Rattle.std.specs.Prelude.{◌==◌}
-use Rattle.std.specs.List.{before_first, after_first, position, position_or_len, prefix_len}
+use Rattle.std.specs.List.{before_first, after_first, position, position_or_len}
 use Rattle.std.proofs.lemmas.List.{take_rest, drop_all}
 use Rattle.std.proofs.lemmas.List.Sums.{prefix_len-le-length}
 use Rattle.std.proofs.lemmas.Bool.Decides.{nat_tests}

@@ -6,7 +6,7 @@ use Rattle.std.specs.Str.{bytes_eq}
 use Rattle.ifs_base.specs.declared.op.LinkState.{LinkState}
 use Rattle.ifs_base.specs.declared.op.LinkState.TheVariants.{Unknown, Down, Up}
 use Rattle.ifs_session.specs.declared.request.RequestFault.{RequestFault}
-use Rattle.ifs_session.specs.declared.request.RequestFault.TheVariants.{NoRequest, TooLong, OutOfRange, NoInterface}
+use Rattle.ifs_session.specs.declared.request.RequestFault.TheVariants.{NoRequest, TooLong, OutOfRange}
 use Rattle.ifs_session.specs.declared.request.Number.{Number}
 use Rattle.ifs_session.specs.declared.request.Number.TheVariants.{Within, TooGreat}
 use Rattle.ifs_session.specs.declared.request.Request.{Request}

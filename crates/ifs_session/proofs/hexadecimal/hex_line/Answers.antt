@@ -1,4 +1,4 @@
-use Rattle.std.proofs.Common.{[], ◌∷◌, ◌++◌, ◌+◌, ◌*◌, arith, length-append}
+use Rattle.std.proofs.Common.{[], ◌∷◌, ◌+◌, ◌*◌, arith, length-append}
 use Rattle.std.proofs.lemmas.Result.{err_from_is_err_and}
 use Rattle.ifs_session.specs.Words.{hex_digit}
 use Rattle.ifs_session.proofs.HexReading.{takes_more, digit_fails, first_digit_fails, hex_odd, hex_too_many, hex_more}

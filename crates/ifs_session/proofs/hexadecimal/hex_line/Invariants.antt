@@ -1,4 +1,4 @@
-use Rattle.std.proofs.Common.{◌-◌, ◌≤◌, length, vec_len}
+use Rattle.std.proofs.Common.{◌-◌, ◌≤◌, length}
 use Rattle.ifs_session.specs.Hexadecimal.{hex_text, Takes}
 use Rattle.ifs_session.proofs.hexadecimal.hex_line.Given as goal
 

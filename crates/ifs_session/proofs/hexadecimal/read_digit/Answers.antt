@@ -1,4 +1,4 @@
-use Rattle.ifs_session.proofs.HexReading.{at_the_end, at_a_newline, at_a_digit, at_no_digit}
+use Rattle.ifs_session.proofs.HexReading.{at_the_end, at_a_newline}
 use Rattle.ifs_session.proofs.hexadecimal.read_digit.Goals as goal
 
 pub returns-in_default-next : goal.returns-in_default-next

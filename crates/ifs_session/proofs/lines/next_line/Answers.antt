@@ -1,4 +1,4 @@
-use Rattle.std.proofs.Common.{◌++◌, ◌∷◌, [], arith}
+use Rattle.std.proofs.Common.{◌++◌, ◌∷◌, []}
 use Rattle.ifs_session.proofs.LineReading.{is_full, has_room, partway_start, partway_push, partway_drop, line_fails, no_line, last_line, ended_line, too_much}
 use Rattle.ifs_session.proofs.lines.next_line.Goals as goal
 

@@ -1,4 +1,4 @@
-use Rattle.std.proofs.Common.{◌≡◌, ℕ, length, drop}
+use Rattle.std.proofs.Common.{◌≡◌, ℕ, drop}
 use Rattle.ifs_session.specs.Requests.{number_from, number_of}
 use Rattle.ifs_session.proofs.Numbers.{Keeps}
 use Rattle.ifs_session.proofs.request.parse_number.Given as goal

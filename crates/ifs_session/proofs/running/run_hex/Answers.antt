@@ -1,5 +1,5 @@
-use Rattle.std.proofs.Common.{Ok, Err, refl}
-use Rattle.ifs_session.specs.Runs.{Streams, Runs}
+use Rattle.std.proofs.Common.{Err, refl}
+use Rattle.ifs_session.specs.Runs.{Streams}
 use Rattle.ifs_session.proofs.FirstLine.{run_served}
 use Rattle.ifs_session.proofs.running.run_hex.Goals as goal
 

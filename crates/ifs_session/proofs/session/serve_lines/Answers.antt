@@ -1,4 +1,4 @@
-use Rattle.std.proofs.Common.{◌≤◌, ◌++◌, ◌∷◌, [], sym, subst, arith}
+use Rattle.std.proofs.Common.{◌++◌, ◌∷◌, [], sym, subst, arith}
 use Rattle.std.proofs.lemmas.Result.{err_from_is_err_and}
 use Rattle.ifs_core.specs.Machine.{IsBehaviour}
 use Rattle.ifs_session.specs.Session.{ending}
