@@ -29,7 +29,13 @@ const QUOTES: &str =
     "4946535601000100010000000500010000000000010001000400000000000100000000000000000005225c1f7f7e00036120220002000300000000000000000000010000000000000100000000000003090000000b0000000000000000000100000000";
 
 /// Each row: its name, its image, the lines of requests and the lines of replies.
-const ROWS: [(&str, &str, &str, &str); 8] = [
+const ROWS: [(&str, &str, &str, &str); 9] = [
+    (
+        "smallest_image",
+        "49465356010000000100000003000000000000000000010001000000000000000000000000000000016100000000000000000000000000000100000000",
+        "stop",
+        "bye\n",
+    ),
     (
         "first_run",
         FIRST_RUN,
@@ -96,7 +102,8 @@ fn rows(rt: HostRuntime) -> Result<(), Fail> {
         let mut output = MemoryOut::new(rt.alloc());
         let summary = run_hex(rt.alloc(), &mut input, &mut output)?;
         assert_eq!(rt; output.written(), replies.as_bytes());
-        assert_eq!(rt; summary.stopped, name == "first_run");
+        let stops = name == "first_run" || name == "smallest_image";
+        assert_eq!(rt; summary.stopped, stops);
     }
     Ok(())
 }
@@ -181,7 +188,24 @@ fn each_write_fails_in_turn(rt: HostRuntime) -> Result<(), Fail> {
 }
 
 /// Lines that are refused, with what is written.
-const REFUSED: [(&str, &str); 7] = [
+const REFUSED: [(&str, &str); 12] = [
+    (
+        "49465356010000000100000002000000000000000000010001000000000000000000000000000000016100000000000000000000000000000100000000",
+        "refused V12 head\n",
+    ),
+    (
+        "49465356010000000000000003000000000000000000010001000000000000000000000000000000016100000000000000000000000000000100000000",
+        "refused V11 head\n",
+    ),
+    (
+        "49465356010000000100000003000000000000000000010001000000000000000000000000000000016100000000000000000000000000000100000001",
+        "refused I8 byte 57\n",
+    ),
+    (
+        "4946535601000000010000000300000000000000000001000100000000000000000000000000000001610000000000000000000000000000010000000000",
+        "refused I7 byte 61\n",
+    ),
+    ("494\n", "refused X1\n"),
     ("", "refused I1 byte 0\n"),
     ("\n", "refused I1 byte 0\n"),
     ("4", "refused X1\n"),
@@ -202,6 +226,17 @@ fn refused(rt: HostRuntime) -> Result<(), Fail> {
         );
         assert_eq!(rt; output.written(), reply.as_bytes(), "{line}");
     }
+    Ok(())
+}
+
+#[test]
+fn a_digit_too_many(rt: HostRuntime) -> Result<(), Fail> {
+    let line = vec![in rt.alloc(); b'0'; 131_074]?;
+    let mut input = MemoryIn::new(line.as_slice());
+    let mut output = MemoryOut::new(rt.alloc());
+    assert!(rt; run_hex(rt.alloc(), &mut input, &mut output).is_err());
+    assert_eq!(rt; output.written(), b"refused X1\n".as_slice());
+    assert_eq!(rt; input.left().len(), 1);
     Ok(())
 }
 
