@@ -10,13 +10,12 @@ use Rattle.ifs_image.specs.Limits.{Fits}
 use Rattle.ifs_sched.specs.Schedule.{is_running, entered, all_off}
 use Rattle.ifs_verify.specs.Accepted.{IsAccepted}
 use Rattle.ifs_machine.specs.Table.{Effects}
-use Rattle.ifs_machine.specs.Run.{AreFactsOf, HandlersEnd, RunsAreUnique}
+use Rattle.ifs_machine.specs.Run.{AreFactsOf, HandlersEnd, RunsAreUnique, nothing_yet, later_wish}
 use Rattle.ifs_core.specs.declared.step.Step.{Step}
 use Rattle.ifs_core.specs.declared.step.Step.TheVariants.{Link, Finished, Tick, Take}
 use Rattle.ifs_core.specs.declared.step.Reply.TheVariants.{Busy, Stale, Backwards}
-use Rattle.ifs_core.specs.Event.{Handler, AlwaysInit, AlwaysBody, Init, Body, Yield, Behaviour, Position, Event, kept_values, later_wish, change_of, with_change, entering, evaluation}
+use Rattle.ifs_core.specs.Event.{Handler, AlwaysInit, AlwaysBody, Init, Body, Yield, Behaviour, Position, Event, kept_values, change_of, with_change, entering, evaluation}
 use Rattle.ifs_core.specs.Machine.{routine_of, followed_by, IsBehaviour, periods_in}
-use Rattle.ifs_core.specs.Within.{nothing_yet}
 use Rattle.ifs_core.specs.Gateway.{IsPositionOf, IsStateOf, opened}
 use Rattle.ifs_core.specs.Steps.{CoreState, Turn, at_position, unchanged, same, done, ticked_after, no_event, lacks_room, with_link, with_value, with_run_over, is_same_link, has_value, link_turn, finished_turn, tick_turn, turn, replies, after_steps}
 use Rattle.ifs_core.specs.Headline.{opening_of, RunAlike}

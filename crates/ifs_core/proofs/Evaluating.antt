@@ -9,10 +9,10 @@ use Rattle.ifs_image.specs.declared.parts.ImageParts.{ImageParts}
 use Rattle.ifs_image.specs.Limits.{Fits}
 use Rattle.ifs_verify.specs.Accepted.{IsAccepted}
 use Rattle.ifs_machine.specs.Table.{Effects}
-use Rattle.ifs_machine.specs.Run.{AreFactsOf, HasRoom, Appends, IsWish, IsCostOf, HandlersEnd, RunsAreUnique}
-use Rattle.ifs_core.specs.Event.{Handler, AlwaysInit, AlwaysBody, Init, Body, Yield, Behaviour, Position, Event, later_wish, change_of, with_change, entering, evaluation}
+use Rattle.ifs_machine.specs.Run.{AreFactsOf, HasRoom, Appends, IsWish, IsCostOf, HandlersEnd, RunsAreUnique, nothing_yet, later_wish}
+use Rattle.ifs_core.specs.Event.{Handler, AlwaysInit, AlwaysBody, Init, Body, Yield, Behaviour, Position, Event, change_of, with_change, entering, evaluation}
 use Rattle.ifs_core.specs.Machine.{routine_of, followed_by, IsBehaviour, KeepsBudgets}
-use Rattle.ifs_core.specs.Within.{nothing_yet, RanBodies}
+use Rattle.ifs_core.specs.Within.{RanBodies}
 use Rattle.ifs_core.specs.Gateway.{IsPositionOf}
 use Rattle.ifs_core.specs.Headline.{IsRun, EvaluationRuns, after_always, after_bodies, opening_of, OpeningHolds}
 use Rattle.ifs_core.proofs.Runs.{room_for_body, room_for_init, room_for_first_init, body_of, init_of, ran_bodies, ran_init, bodies_keep, change_keeps, count_after, two_known}

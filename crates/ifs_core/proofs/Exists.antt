@@ -2,18 +2,15 @@
 use Rattle.std.proofs.Common.{◌≡◌, ℕ, ◌<◌, ◌⊎◌, inl, inr, ⊎_elim, [], length, Option, Some, None, refl, sym, ap, ◌∙◌, subst, arith, option_map}
 use Rattle.std.specs.Prelude.{slice_get}
 use Rattle.std.proofs.lemmas.Bool.{cases_lt}
-use Rattle.std.proofs.lemmas.Option.{none-some, same_Some}
+use Rattle.std.proofs.lemmas.Option.{none-some, same_Some, slice_get_cases}
 use Rattle.ifs_base.specs.Facts.{Facts}
 use Rattle.ifs_image.specs.declared.parts.StateSpec.{StateSpec}
 use Rattle.ifs_image.specs.declared.parts.ImageParts.{ImageParts}
 use Rattle.ifs_verify.specs.Accepted.{IsAccepted}
 use Rattle.ifs_machine.specs.Table.{Effects}
-use Rattle.ifs_machine.specs.Run.{RunsTo, AreFactsOf, HasRoom, IsHandler, HandlersEnd, Ends}
-use Rattle.ifs_machine.proofs.Moves.{entry_at}
+use Rattle.ifs_machine.specs.Run.{RunsTo, AreFactsOf, HasRoom, IsHandler, HandlersEnd, RunsFollow, Ends, nothing_yet}
 use Rattle.ifs_core.specs.Event.{Handler, AlwaysInit, AlwaysBody, Init, Body, Yield, Behaviour}
 use Rattle.ifs_core.specs.Machine.{routine_of, followed_by, IsBehaviour}
-use Rattle.ifs_core.specs.Within.{nothing_yet}
-use Rattle.ifs_core.proofs.Shift.{runs_after}
 
 -- a state whose routine an option has
 mapped : (o : Option StateSpec) (f : StateSpec → ℕ) (routine : ℕ) → option_map f o ≡ Some routine → (s : StateSpec) × (o ≡ Some s) × (routine ≡ f s)
@@ -29,7 +26,8 @@ handles image (Body k) routine e = let m = mapped (slice_get image.states k) (λ
 
 -- a state of the list
 pub state_at : (image : ImageParts) (k : ℕ) → k < length image.states → (s : StateSpec) × (slice_get image.states k ≡ Some s)
-state_at image k within = entry_at image.states k within
+state_at image k within =
+    ⊎_elim (λ there. (there.0, there.2)) (λ past. absurd (omega (arith, within, past.0))) (slice_get_cases image.states k).1
 
 -- an event that has brought about nothing has room for each handler
 pub room_from_nothing : (image : ImageParts) (handler : Handler) (routine : ℕ) → IsAccepted image → routine_of image handler ≡ Some routine → HasRoom image routine 0
@@ -89,7 +87,7 @@ abbrev mask_in : Option StateSpec → ℕ
 mask_in None = 0
 mask_in (Some state) = state.handlers.mask
 
-module _ (ends : HandlersEnd) (image : ImageParts) (accepted : IsAccepted image) where
+module _ (ends : HandlersEnd) (follow : RunsFollow) (image : ImageParts) (accepted : IsAccepted image) where
   -- The run from nothing.
   found : (handler : Handler) (facts : Facts) → (a : Answers image handler facts) → Ends image facts a.routine nothing_yet
   found handler facts a = ends image facts a.routine nothing_yet accepted (handles image handler a.routine a.is) a.given (room_from_nothing image handler a.routine accepted a.is)
@@ -114,7 +112,7 @@ module _ (ends : HandlersEnd) (image : ImageParts) (accepted : IsAccepted image)
       let f = found handler facts a in
       let e = ends image facts routine before accepted (handles image handler routine is) given room in
       let run : RunsTo image facts routine nothing_yet f.cost f.end = subst (λ r. RunsTo image facts r nothing_yet f.cost f.end) same f.runs in
-      runs_after before image facts routine f.cost e.cost f.end e.end run e.runs
+      follow image facts routine before f.end e.end f.cost e.cost run e.runs
   runs_of handler routine facts before is given room (inr never) = absurd (never (record { routine = routine; is = is; given = given }))
 
   pub exists : (b : Behaviour) × IsBehaviour image b

@@ -1,7 +1,6 @@
 pub mod Runs
 pub mod Kept
 pub mod Opening
-pub mod Shift
 pub mod Exists
 pub mod Places
 pub mod Evaluating

@@ -10,10 +10,10 @@ use Rattle.ifs_image.specs.declared.parts.ImageParts.{ImageParts}
 use Rattle.ifs_verify.specs.Accepted.{IsAccepted}
 use Rattle.ifs_verify.specs.Bounds.{AreAmounts, commands_of}
 use Rattle.ifs_machine.specs.Table.{Effects}
-use Rattle.ifs_machine.specs.Run.{RunsTo, AreFactsOf, HasRoom, Appends, IsCommand, IsWish, IsCostOf}
+use Rattle.ifs_machine.specs.Run.{RunsTo, AreFactsOf, HasRoom, Appends, IsCommand, IsWish, IsCostOf, nothing_yet}
 use Rattle.ifs_core.specs.Event.{Handler, Init, Body, Behaviour}
 use Rattle.ifs_core.specs.Machine.{routine_of, followed_by, IsBehaviour, KeepsBudgets}
-use Rattle.ifs_core.specs.Within.{nothing_yet, AreEffectsOf, RanBodies, RanInit}
+use Rattle.ifs_core.specs.Within.{AreEffectsOf, RanBodies, RanInit}
 
 -- two values that an option has are one
 some_is : {A : Type 0} {x y : A} → Some x ≡ Some y → x ≡ y

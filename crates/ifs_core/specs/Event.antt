@@ -6,6 +6,7 @@ use Rattle.ifs_base.specs.declared.ids.StateId.{StateId}
 use Rattle.ifs_base.specs.declared.op.LinkState.{LinkState}
 use Rattle.ifs_base.specs.Facts.{Facts}
 use Rattle.ifs_sched.specs.Schedule.{Timetable, all_off, entered, has_test}
+use Rattle.ifs_machine.specs.Run.{later_wish}
 
 -- A handler: an init or a body, of the always part or of a state.
 pub data Handler : Type 0 where
@@ -71,11 +72,6 @@ entering b next p = record {
   owed = true;
   schedule = entered b.always (b.active next.0) p.schedule.present p.schedule;
 }
-
--- The wish after two answers: the later one's, where it has one.
-abbrev pub later_wish : Option StateId → Option StateId → Option StateId
-later_wish earlier None = earlier
-later_wish earlier (Some next) = Some next
 
 -- The state that a wish leads to, where it names another than the current one.
 abbrev pub change_of : StateId → Option StateId → Option StateId

@@ -6,14 +6,13 @@ use Rattle.ifs_image.specs.declared.parts.ImageParts.{ImageParts}
 use Rattle.ifs_image.specs.Limits.{Fits}
 use Rattle.ifs_verify.specs.Accepted.{IsAccepted}
 use Rattle.ifs_machine.specs.Table.{Effects}
-use Rattle.ifs_machine.specs.Run.{RunsTo, IsCommand}
+use Rattle.ifs_machine.specs.Run.{RunsTo, IsCommand, nothing_yet}
 use Rattle.ifs_core.specs.declared.step.Step.{Step}
 use Rattle.ifs_core.specs.declared.step.Step.TheVariants.{Link, Finished, Tick, Take}
 use Rattle.ifs_core.specs.declared.step.Reply.{Reply}
 use Rattle.ifs_core.specs.declared.step.Reply.TheVariants.{Done, Ticked, Taken, Empty, Busy, Stale, Backwards, NoSuch}
 use Rattle.ifs_core.specs.Event.{Handler, AlwaysInit, AlwaysBody, Init, Body, Behaviour, Position, Event, opening, change_of, entering}
 use Rattle.ifs_core.specs.Machine.{routine_of, followed_by, IsBehaviour, KeepsBudgets, all_unknown, periods_in}
-use Rattle.ifs_core.specs.Within.{nothing_yet}
 use Rattle.ifs_core.specs.Gateway.{IsStateOf, opened}
 use Rattle.ifs_core.specs.Steps.{CoreState, Turn, with_link, with_value, with_run_over, turn, replies, after_steps}
 

@@ -1,5 +1,5 @@
 -- Machine events: the events of an image, whose handlers answer by their runs on the machine.
-use Rattle.std.specs.Prelude.{ℕ, ◌≡◌, ◌≤◌, List, ◌++◌, length, Option, Some, option_map, slice_get, map, All}
+use Rattle.std.specs.Prelude.{ℕ, ◌≡◌, ◌≤◌, List, length, Option, Some, option_map, slice_get, map, All}
 use Rattle.ifs_base.specs.declared.ids.CommandId.{CommandId}
 use Rattle.ifs_base.specs.declared.op.LinkState.{LinkState}
 use Rattle.ifs_base.specs.declared.op.LinkState.TheVariants.{Unknown}
@@ -7,8 +7,8 @@ use Rattle.ifs_base.specs.Facts.{Facts}
 use Rattle.ifs_image.specs.declared.parts.StateSpec.{StateSpec}
 use Rattle.ifs_image.specs.declared.parts.ImageParts.{ImageParts}
 use Rattle.ifs_machine.specs.Table.{Effects}
-use Rattle.ifs_machine.specs.Run.{RunsTo, AreFactsOf, HasRoom, IsCommand}
-use Rattle.ifs_core.specs.Event.{Handler, AlwaysInit, AlwaysBody, Init, Body, Yield, Behaviour, later_wish}
+use Rattle.ifs_machine.specs.Run.{RunsTo, AreFactsOf, HasRoom, IsCommand, followed}
+use Rattle.ifs_core.specs.Event.{Handler, AlwaysInit, AlwaysBody, Init, Body, Yield, Behaviour}
 
 -- The routine of a handler; none where there is no such state.
 abbrev pub routine_of : ImageParts → Handler → Option ℕ
@@ -19,7 +19,7 @@ routine_of image (Body state) = option_map (λ s. s.handlers.body.0) (slice_get 
 
 -- What an event has brought about after one more handler: its commands follow, and its wish holds where it has one.
 abbrev pub followed_by : Effects → Yield → Effects
-followed_by before y = record { commands = before.commands ++ y.commands; wish = later_wish before.wish y.wish }
+followed_by before y = followed before (record { commands = y.commands; wish = y.wish })
 
 -- A behaviour is that of an image: the sets of active tests are the image's masks, and each handler does what its run does, without a trap, whatever the event has brought about before it, as long as that leaves room for its commands.
 pub record IsBehaviour (image : ImageParts) (b : Behaviour) : Type 0 where

@@ -1,14 +1,10 @@
 -- What the handlers of an event stay within, handler by handler.
-use Rattle.std.specs.Prelude.{ℕ, ◌≡◌, ◌+◌, ◌<◌, ◌≤◌, [], length, None, Some, slice_get, All, IfSome}
+use Rattle.std.specs.Prelude.{ℕ, ◌≡◌, ◌+◌, ◌<◌, ◌≤◌, length, Some, slice_get, All, IfSome}
 use Rattle.ifs_image.specs.declared.parts.StateSpec.{StateSpec}
 use Rattle.ifs_image.specs.declared.parts.ImageParts.{ImageParts}
 use Rattle.ifs_verify.specs.Bounds.{AreAmounts, cost_of, commands_of}
 use Rattle.ifs_machine.specs.Table.{Effects}
 use Rattle.ifs_machine.specs.Run.{HasRoom, IsCommand}
-
--- An event before its first handler.
-abbrev pub nothing_yet : Effects
-nothing_yet = record { commands = []; wish = None }
 
 -- What handlers brought about: commands of the table, and a wish for a state of the list.
 pub record AreEffectsOf (image : ImageParts) (effects : Effects) : Type 0 where

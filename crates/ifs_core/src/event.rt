@@ -2,11 +2,11 @@
 
 ghost use Rattle.std.specs.Prelude.{◌≡◌, ◌+◌, ◌<◌, ◌≤◌, ◌++◌, All, None, Some, length, map, slice_get};
 ghost use Rattle.ifs_image.specs.declared.parts.StateSpec.{StateSpec};
-ghost use Rattle.ifs_machine.specs.Run.{IsCommand};
+ghost use Rattle.ifs_machine.specs.Run.{IsCommand, nothing_yet};
 ghost use Rattle.ifs_machine.specs.Views.{facts_of, effects_of};
 ghost use Rattle.ifs_core.specs.Event.{Behaviour, AlwaysInit, AlwaysBody, Init, Body, change_of as change_by, kept_value, kept_values, entering, evaluation, IsEvent, opening_position};
 ghost use Rattle.ifs_core.specs.Machine.{IsBehaviour, all_unknown, periods_in, KeepsBudgets, followed_by};
-ghost use Rattle.ifs_core.specs.Within.{nothing_yet, HasInitRoom, RanBodies, RanInit};
+ghost use Rattle.ifs_core.specs.Within.{HasInitRoom, RanBodies, RanInit};
 ghost use Rattle.ifs_verify.specs.Accepted.{IsAccepted};
 ghost use Rattle.ifs_core.specs.Gateway.{IsPositionOf, position_of};
 

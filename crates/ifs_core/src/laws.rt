@@ -2,7 +2,7 @@
 
 ghost use Rattle.ifs_core.specs.Headline.{Headline};
 
-use ifs_machine::laws::{handlers_end, runs_are_unique};
+use ifs_machine::laws::{handlers_end, runs_are_unique, runs_follow};
 
 /// The headline. Of every image that the verifier accepts, and of every list of steps, with any
 /// values in them, made on a core that was opened with it: no step traps; each event runs at most
@@ -14,4 +14,5 @@ pub fn headline()
 {
     handlers_end();
     runs_are_unique();
+    runs_follow();
 }

@@ -2,4 +2,5 @@ pub mod After
 pub mod Moves
 pub mod Ending
 pub mod Standing
+pub mod Shift
 pub mod Loop

@@ -1,10 +1,16 @@
 //! What holds of handler runs, whoever makes them.
 
-ghost use Rattle.ifs_machine.specs.Run.{RunsAreUnique, HandlersEnd, EmptyQueueHasRoom};
+ghost use Rattle.ifs_machine.specs.Run.{RunsAreUnique, RunsFollow, HandlersEnd, EmptyQueueHasRoom};
 
 /// A handler run has one cost and one end.
 pub fn runs_are_unique()
     ensures { RunsAreUnique }
+{}
+
+/// A handler run does not depend on what the event brought about before it: its commands follow, and
+/// its wish holds where it has one.
+pub fn runs_follow()
+    ensures { RunsFollow }
 {}
 
 /// Each handler of an accepted image runs to its end, whatever the facts, where the commands that are

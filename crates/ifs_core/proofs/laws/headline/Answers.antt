@@ -5,7 +5,7 @@ use Rattle.ifs_core.proofs.laws.headline.Goals as goal
 
 pub returns : goal.returns
 returns c = λ image accepted fits. record {
-  behaviour = exists c.handlers_end.ensures image accepted;
+  behaviour = exists c.handlers_end.ensures c.runs_follow.ensures image accepted;
   runs = λ b is. runs_hold c.handlers_end.ensures c.runs_are_unique.ensures image accepted b is fits;
   one = λ a b is_a is_b steps. run_alike c.handlers_end.ensures c.runs_are_unique.ensures image accepted a b is_a is_b fits steps;
 }
