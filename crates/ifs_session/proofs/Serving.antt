@@ -1,5 +1,5 @@
 -- Sessions line by line: what was read so far, and what was made of it.
-use Rattle.std.proofs.Common.{◌≡◌, ◌≢◌, ℕ, ◌+◌, ◌<◌, ◌≤◌, Bool, true, false, ◌==◌, nat_lt, cond, List, [], ◌∷◌, ◌++◌, length, take, count_by, Option, Err, inl, inr, subst, refl, sym, ap, ◌∙◌, append_assoc, append-nil, take_all, arith, length-append}
+use Rattle.std.proofs.Common.{◌≡◌, ◌≢◌, ◌⊎◌, ℕ, ◌+◌, ◌<◌, ◌≤◌, Bool, true, false, ◌==◌, nat_lt, cond, List, [], ◌∷◌, ◌++◌, length, take, count_by, Option, Err, inl, inr, subst, refl, sym, ap, ◌∙◌, append_assoc, append-nil, take_all, arith, length-append}
 use Rattle.std.specs.List.{onto_first}
 use Rattle.std.proofs.lemmas.Bool.Decides.{nat_tests}
 use Rattle.std.proofs.lemmas.List.Sums.{sum_by-append}
@@ -18,7 +18,7 @@ use Rattle.ifs_session.specs.declared.session.Kind.{Kind}
 use Rattle.ifs_session.specs.declared.session.Kind.TheVariants as kinds
 use Rattle.ifs_session.specs.declared.lines.Line.{Line}
 use Rattle.ifs_core.specs.Gateway.{OpenCore}
-use Rattle.ifs_session.specs.SessionText.{SessionGives, deed, kept_asked, kind_of, with_line, replies, after_lines, is_step, is_stop, GoOn, Moment, Ends, EndsLine, Completes, BreaksReading, BreaksWriting, ReadsPast}
+use Rattle.ifs_session.specs.SessionText.{SessionGives, deed, kept_asked, kind_of, with_line, replies, after_lines, is_step, is_stop, GoOn, OnlyLastMayStop, Moment, Ends, EndsLine, EndsLines, Completes, BreaksReading, BreaksWriting, ReadsPast}
 use Rattle.ifs_session.proofs.Known.{prepend_known-append, prepend_known-nil, append_known-append, append_known-nil}
 
 -- ---- lines
@@ -86,6 +86,32 @@ ArePlain-push (line ∷ lines) text plain last = (plain.0, ArePlain-push lines t
 GoOn-push : (lines : List (List ℕ)) (text : List ℕ) → GoOn lines → is_stop (asked text) ≡ false → GoOn (lines ++ text ∷ [])
 GoOn-push [] text on last = (last, tt)
 GoOn-push (line ∷ lines) text on last = (on.0, GoOn-push lines text on.1 last)
+
+GoOn-may_stop : (lines : List (List ℕ)) → GoOn lines → OnlyLastMayStop lines
+GoOn-may_stop [] on = tt
+GoOn-may_stop (line ∷ []) on = tt
+GoOn-may_stop (line ∷ next ∷ lines) on = (on.0, GoOn-may_stop (next ∷ lines) on.1)
+
+may_stop-push : (lines : List (List ℕ)) (text : List ℕ) → GoOn lines → OnlyLastMayStop (lines ++ text ∷ [])
+may_stop-push [] text on = tt
+may_stop-push (line ∷ []) text on = (on.0, tt)
+may_stop-push (line ∷ next ∷ lines) text on = (on.0, may_stop-push (next ∷ lines) text on.1)
+
+-- Lines that are each ended by a newline end with one, if there are any.
+unlines-end : (lines : List (List ℕ)) → (unlines lines ≡ []) ⊎ ((front : List ℕ) × (unlines lines ≡ front ++ 10 ∷ []))
+unlines-end [] = inl refl
+unlines-end (line ∷ lines) =
+    elim (unlines-end lines) [
+      | inl none ↦ inr (line, ap (λ rest. line ++ 10 ∷ rest) none)
+      | inr end ↦ inr (line ++ 10 ∷ end.0, ap (λ rest. line ++ 10 ∷ rest) end.1 ∙ sym (append_assoc line (10 ∷ end.0) (10 ∷ [])))
+    ]
+
+unlines-ends_lines : (lines : List (List ℕ)) (left : Option (List ℕ)) → EndsLines (unlines lines) left
+unlines-ends_lines lines left =
+    elim (unlines-end lines) [
+      | inl none ↦ inl none
+      | inr end ↦ inr (inl end)
+    ]
 
 count_by-push : {X : Type 0} (p : X → Bool) (xs : List X) (x : X) → count_by p (xs ++ x ∷ []) ≡ count_by p xs + cond (p x) 1 0
 count_by-push p xs x = sum_by-append (λ y. cond (p y) 1 0) xs (x ∷ []) ∙ omega arith
@@ -164,11 +190,13 @@ all_lines lines plain = ap lines_of (sym (append-nil (unlines lines))) ∙ lines
 pub settling_fails : {b : Behaviour} {lines : List (List ℕ)} {summary : Summary} {budget : ℕ} {before now : Moment} (written : Option (List ℕ)) (faults : Option ℕ)
     → Underway b lines summary budget before now → faults ≡ counted now.write_faults
     → BreaksWriting b (unlines lines) before (record { core = now.core; left = now.left; written = written; read_faults = now.read_faults; write_faults = faults })
-settling_fails {b} {lines} {before = before} written faults u one = record {
+settling_fails {b} {lines} {before = before} {now} written faults u one = record {
   read = record { given = u.given; within = omega (arith, u.spent) };
+  whole = unlines-ends_lines lines now.left;
   served = record { image = u.image; state = u.state ∙ ap (λ ls. after_lines b before.core.image ls before.core.state) (sym (all_lines lines u.plain)) };
   same_faults = u.read_faults;
   one_fault = one ∙ ap counted u.write_faults;
+  go_on = GoOn-may_stop _ (subst GoOn (sym (all_lines lines u.plain)) u.on);
 }
 
 -- A read failed.
@@ -319,14 +347,17 @@ advances {b} {lines} {budget = budget} {before = before} {now} {line} {text} {af
 }
 
 -- The reply could not be written.
-pub replying_fails : {b : Behaviour} {lines : List (List ℕ)} {text input : List ℕ} {before : Moment} {core : OpenCore} {after : Intake} (written : Option (List ℕ)) (faults old_faults : Option ℕ)
-    → Advances b lines text input before core after → old_faults ≡ before.write_faults → faults ≡ counted old_faults
-    → BreaksWriting b input before (record { core = core; left = after.left; written = written; read_faults = after.faults; write_faults = faults })
-replying_fails {b} {before = before} written faults old_faults a old one = record {
+pub replying_fails : {b : Behaviour} {lines : List (List ℕ)} {summary : Summary} {budget : ℕ} {before now : Moment} {line : Line} {text : List ℕ} {start after : Intake} {core : OpenCore} (written : Option (List ℕ)) (faults : Option ℕ)
+    → Underway b lines summary budget before now → ReadsLine line text start after
+    → Advances b lines text (unlines lines ++ (text ++ ending line.is_ended)) before core after → faults ≡ counted now.write_faults
+    → BreaksWriting b (unlines lines ++ (text ++ ending line.is_ended)) before (record { core = core; left = after.left; written = written; read_faults = after.faults; write_faults = faults })
+replying_fails {b} {lines} {before = before} {line = line} {text} {after = after} written faults u r a one = record {
   read = record { given = a.given; within = omega (arith, a.spent) };
+  whole = inr (line_ends (unlines lines) text line.is_ended after.left r.last);
   served = record { image = a.image; state = a.state ∙ ap (λ ls. after_lines b before.core.image ls before.core.state) (sym a.lines_are) };
   same_faults = a.read_faults;
-  one_fault = one ∙ ap counted old;
+  one_fault = one ∙ ap counted u.write_faults;
+  go_on = subst OnlyLastMayStop (sym a.lines_are) (may_stop-push lines text u.on);
 }
 
 -- And it was replied to.
@@ -448,16 +479,27 @@ out_flushed {summary = summary} {now = now} written faults (input, done) put = (
   },
 )
 
+-- Input that a session ended with was read to the end of a line, and only its last line may ask for the end.
+ends_lines : (stopped : Bool) (input : List ℕ) (now : Moment) → Ends stopped input now → EndsLines input now.left
+ends_lines false input now end = inr (inr end.1)
+ends_lines true input now end = inr end.5
+
+ends_may_stop : (stopped : Bool) (input : List ℕ) (now : Moment) → Ends stopped input now → OnlyLastMayStop (lines_of input)
+ends_may_stop false input now end = GoOn-may_stop (lines_of input) end.0
+ends_may_stop true input now end = subst OnlyLastMayStop (sym end.2) (may_stop-push end.0 end.1 end.3)
+
 -- They could not go out.
 pub out_fails : {b : Behaviour} {summary : Summary} {before now : Moment} (written : Option (List ℕ)) (faults : Option ℕ)
     → (input : List ℕ) × Completes b summary input before now → faults ≡ counted now.write_faults
     → (input : List ℕ) × BreaksWriting b input before (record { core = now.core; left = now.left; written = written; read_faults = now.read_faults; write_faults = faults })
-out_fails written faults (input, done) one = (
+out_fails {summary = summary} {now = now} written faults (input, done) one = (
   input,
   record {
     read = record { given = done.read.given; within = done.read.within };
+    whole = ends_lines summary.stopped input now done.end;
     served = record { image = done.served.image; state = done.served.state };
     same_faults = done.same_faults;
     one_fault = one ∙ ap counted done.replied.same_faults;
+    go_on = ends_may_stop summary.stopped input now done.end;
   },
 )

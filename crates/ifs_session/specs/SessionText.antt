@@ -82,6 +82,12 @@ abbrev pub GoOn : List (List ℕ) → Type 0
 GoOn [] = Unit {0}
 GoOn (line ∷ lines) = (is_stop (asked line) ≡ false) × GoOn lines
 
+-- None of these lines but the last asks for the end of the session.
+abbrev pub OnlyLastMayStop : List (List ℕ) → Type 0
+OnlyLastMayStop [] = Unit {0}
+OnlyLastMayStop (line ∷ []) = Unit {0}
+OnlyLastMayStop (line ∷ next ∷ lines) = (is_stop (asked line) ≡ false) × OnlyLastMayStop (next ∷ lines)
+
 -- A moment of a session: the core, what the reader has left and the writer has written, where they tell it, and how often each has failed.
 pub record Moment : Type 0 where
   pub core : OpenCore
@@ -109,6 +115,10 @@ pub record HasReplied (b : Behaviour) (lines : List (List ℕ)) (before after : 
 abbrev pub EndsLine : List ℕ → Option (List ℕ) → Type 0
 EndsLine input left = ((front : List ℕ) × (input ≡ front ++ 10 ∷ [])) ⊎ IsAtEnd left
 
+-- The input was read to the end of a line, if any was read.
+abbrev pub EndsLines : List ℕ → Option (List ℕ) → Type 0
+EndsLines input left = (input ≡ []) ⊎ EndsLine input left
+
 -- How a session ends that ends well: at the end of input, where no line asked for it; or with its last line, which alone asks for it. After that line's newline, where it has one, nothing more was read.
 abbrev pub Ends : Bool → List ℕ → Moment → Type 0
 Ends false input after = GoOn (lines_of input) × IsAtEnd after.left
@@ -132,12 +142,14 @@ pub record BreaksReading (b : Behaviour) (input : List ℕ) (before after : Mome
   pub one_fault : after.read_faults ≡ counted before.read_faults
   pub go_on : GoOn (whole_lines input)
 
--- A write failed: the lines that were read by then were served.
+-- A write failed: the lines that were read by then, each to its end, were served.
 pub record BreaksWriting (b : Behaviour) (input : List ℕ) (before after : Moment) : Type 0 where
   pub read : HasRead input before after
+  pub whole : EndsLines input after.left
   pub served : HasServed b (lines_of input) before after
   pub same_faults : after.read_faults ≡ before.read_faults
   pub one_fault : after.write_faults ≡ counted before.write_faults
+  pub go_on : OnlyLastMayStop (lines_of input)
 
 -- A byte was read after the 16,777,216 that a session reads: the lines that were whole before it were served.
 pub record ReadsPast (b : Behaviour) (input : List ℕ) (byte : ℕ) (before after : Moment) : Type 0 where

@@ -30,7 +30,7 @@ returns-in_default-serve g c = λ b h.
     let settled = underway_settled _ _ u.1 c.in-Ok.ensures in
     let r = rw c.in-Some.is at c.in_ok-line.ensures in
     let served = c.in_default-serve.ensures.served b (subst (λ i. IsBehaviour i b) (sym u.1.image) h) in
-    (unlines u.0 ++ (r.0 ++ ending c.in-Some.line.is_ended), replying_fails _ _ _ (advances _ settled r.1 c.in_default-serve.ensures.image served.0) settled.write_faults served.1)
+    (unlines u.0 ++ (r.0 ++ ending c.in-Some.line.is_ended), replying_fails _ _ settled r.1 (advances _ settled r.1 c.in_default-serve.ensures.image served.0) served.1)
 
 pub count-requires-clause-requests : goal.count-requires-clause-requests
 count-requires-clause-requests g c =
