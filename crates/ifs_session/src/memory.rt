@@ -5,7 +5,7 @@ ghost use Rattle.ifs_session.specs.Memory.{counted_down};
 ghost use Rattle.ifs_session.specs.Device.{NextGives, PutGives};
 
 use crate::device::{ByteIn, ByteOut, DeviceFault};
-use std::alloc::Global;
+use std::alloc::{Allocator, Global};
 use std::marker::Model;
 
 /// Counts a call down, and says whether it is the one that fails.
@@ -47,21 +47,23 @@ impl<'a> MemoryIn<'a> {
     pub fn new(bytes: &'a [u8]) -> Self
         ensures { result ≡ record { left = bytes.entry.now; faults = 0; fails_after = None } }
     {
-        MemoryIn {
-            left: bytes,
-            faults: 0,
-            fails_after: None,
-        }
+        MemoryIn::with(bytes, None)
     }
 
     /// A reader of these bytes that fails once, after as many calls as `calls` says.
     pub fn failing_after(bytes: &'a [u8], calls: u64) -> Self
         ensures { result ≡ record { left = bytes.entry.now; faults = 0; fails_after = Some calls } }
     {
+        MemoryIn::with(bytes, Some(calls))
+    }
+
+    fn with(left: &'a [u8], fails_after: Option<u64>) -> Self
+        ensures { result ≡ record { left = left.entry.now; faults = 0; fails_after = fails_after } }
+    {
         MemoryIn {
-            left: bytes,
+            left,
             faults: 0,
-            fails_after: Some(calls),
+            fails_after,
         }
     }
 
@@ -99,13 +101,13 @@ impl ByteIn for MemoryIn<'_> {
 
 /// A writer of bytes into memory, which keeps the allocator that it is made with.
 #[derive(Debug, Drop)]
-pub struct MemoryOut {
-    written: Vec<u8>,
+pub struct MemoryOut<A: Allocator = Global> {
+    written: Vec<u8, A>,
     faults: u64,
     fails_after: Option<u64>,
 }
 
-impl Model for MemoryOut {
+impl<A: Allocator> Model for MemoryOut<A> {
     ghost use Rattle.ifs_session.specs.Memory.{Output};
 
     ghost Value = { Output };
@@ -113,27 +115,29 @@ impl Model for MemoryOut {
     ghost view = { λ w. record { written = w.written.items; faults = w.faults; fails_after = w.fails_after } };
 }
 
-impl MemoryOut {
+impl<A: Allocator> MemoryOut<A> {
     /// A writer that has written nothing, and fails only where memory is refused.
-    pub fn new(alloc: Global) -> Self
+    pub fn new(alloc: A) -> Self
         ensures { result ≡ record { written = []; faults = 0; fails_after = None } }
     {
-        MemoryOut {
-            written: Vec::new(alloc),
-            faults: 0,
-            fails_after: None,
-        }
+        MemoryOut::with(alloc, None)
     }
 
     /// A writer that has written nothing and fails once, after as many calls as `calls` says; and
     /// where memory is refused.
-    pub fn failing_after(alloc: Global, calls: u64) -> Self
+    pub fn failing_after(alloc: A, calls: u64) -> Self
         ensures { result ≡ record { written = []; faults = 0; fails_after = Some calls } }
+    {
+        MemoryOut::with(alloc, Some(calls))
+    }
+
+    fn with(alloc: A, fails_after: Option<u64>) -> Self
+        ensures { result ≡ record { written = []; faults = 0; fails_after = fails_after } }
     {
         MemoryOut {
             written: Vec::new(alloc),
             faults: 0,
-            fails_after: Some(calls),
+            fails_after,
         }
     }
 
@@ -145,7 +149,7 @@ impl MemoryOut {
     }
 }
 
-impl ByteOut for MemoryOut {
+impl<A: Allocator> ByteOut for MemoryOut<A> {
     ghost written = { λ s. Some s.written };
 
     ghost faults = { λ s. Some s.faults };

@@ -1,6 +1,7 @@
 //! Sessions as bytes in and bytes out. Images are written by hand from the table of instructions.
 
 use super::*;
+use linked_list_allocator::LocalHeap;
 use std::alloc::{AllocError, Global};
 use std::test::Fail;
 
@@ -153,13 +154,32 @@ fn busy(rt: HostRuntime) -> Result<(), Fail> {
     Ok(())
 }
 
-/// What the requests of the first row write.
+/// The requests of the first row, and the reply to each.
 const FIRST_REQUESTS: &str = "link carp0 up\nlink carp0 up\ntake\ntake\nstop\n";
 
+const FIRST_REPLIES: [&str; 5] = [
+    "done \"a\" cost 6 queue 0\n",
+    "same\n",
+    "taken 0 \"echo m\"\n",
+    "empty\n",
+    "bye\n",
+];
+
+/// The replies to the first so many of these requests.
+fn first_replies(alloc: Global, count: usize) -> Result<String, AllocError> {
+    let mut replies = String::new(alloc);
+    for reply in FIRST_REPLIES.iter().take(count) {
+        replies.push_str(reply)?;
+    }
+    Ok(replies)
+}
+
+/// Each read fails in turn: the replies to the lines that were whole by then have been written.
 #[test]
 fn each_read_fails_in_turn(rt: HostRuntime) -> Result<(), Fail> {
     let bytes = input_of(rt.alloc(), FIRST_RUN, FIRST_REQUESTS)?;
-    for calls in 0..bytes.len() {
+    let mut lines: usize = 0;
+    for (calls, byte) in bytes.iter().enumerate() {
         let mut input = MemoryIn::failing_after(bytes.as_slice(), calls as u64);
         let mut output = MemoryOut::new(rt.alloc());
         let answer = run_hex(rt.alloc(), &mut input, &mut output);
@@ -168,22 +188,54 @@ fn each_read_fails_in_turn(rt: HostRuntime) -> Result<(), Fail> {
             Err(RunFault::Session(SessionFault::ReadFailed)),
             "{calls}"
         );
+        let replies = first_replies(rt.alloc(), lines.saturating_sub(1))?;
+        assert_eq!(rt; output.written(), replies.as_bytes(), "{calls}");
+        if *byte == b'\n' {
+            lines = lines.saturating_add(1);
+        }
     }
     Ok(())
 }
 
+/// Each write fails in turn: what was written is the beginning of the replies.
 #[test]
 fn each_write_fails_in_turn(rt: HostRuntime) -> Result<(), Fail> {
     let bytes = input_of(rt.alloc(), FIRST_RUN, FIRST_REQUESTS)?;
+    let replies = first_replies(rt.alloc(), FIRST_REPLIES.len())?;
     for calls in 0..100 {
         let mut input = MemoryIn::new(bytes.as_slice());
         let mut output = MemoryOut::failing_after(rt.alloc(), calls);
-        if run_hex(rt.alloc(), &mut input, &mut output).is_ok() {
+        let answer = run_hex(rt.alloc(), &mut input, &mut output);
+        assert!(rt; replies.as_bytes().starts_with(output.written()), "{calls}");
+        if answer.is_ok() {
             assert!(rt; calls > 5, "{calls}");
             return Ok(());
         }
+        assert_eq!(rt;
+            answer,
+            Err(RunFault::Session(SessionFault::WriteFailed)),
+            "{calls}"
+        );
     }
     assert!(rt; false, "some call is past the last");
+    Ok(())
+}
+
+/// A heap that has room for the first reply and not for all: the growth that is refused is a write
+/// that failed.
+#[test]
+fn growth_refused(rt: HostRuntime) -> Result<(), Fail> {
+    let heap = LocalHeap::new(rt.alloc(), 64)?;
+    let bytes = input_of(rt.alloc(), FIRST_RUN, FIRST_REQUESTS)?;
+    let mut input = MemoryIn::new(bytes.as_slice());
+    let mut output = MemoryOut::new(&heap);
+    let answer = run_hex(rt.alloc(), &mut input, &mut output);
+    assert_eq!(rt; answer, Err(RunFault::Session(SessionFault::WriteFailed)));
+    let first = first_replies(rt.alloc(), 1)?;
+    let all = first_replies(rt.alloc(), FIRST_REPLIES.len())?;
+    assert!(rt; output.written().starts_with(first.as_bytes()));
+    assert!(rt; all.as_bytes().starts_with(output.written()));
+    assert!(rt; output.written().len() < all.len());
     Ok(())
 }
 
