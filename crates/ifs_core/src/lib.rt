@@ -5,6 +5,9 @@
 //! of a test's run, a tick, or the taking of a command. An evaluation runs the always body and then
 //! the current state's body; the last wish of both leads to another state, whose init then runs in
 //! the same event.
+//!
+//! Contract: the opening, each reply and each next state are exactly those of the run, whose handlers
+//! do what the machine's table says; `laws::headline` says what holds of every such run.
 #![tactic(auto)]
 
 mod event;
