@@ -3,6 +3,7 @@
 use super::*;
 use linked_list_allocator::LocalHeap;
 use std::alloc::{AllocError, Global};
+use std::io::{self, ErrorKind, Read};
 use std::test::Fail;
 
 const FIRST_RUN: &str =
@@ -336,6 +337,36 @@ fn devices_of_std(rt: HostRuntime) -> Result<(), Fail> {
         b"done \"a\" cost 6 queue 0\nsame\ntaken 0 \"echo m\"\nempty\nbye\n".as_slice()
     );
     Ok(())
+}
+
+/// A reader that gives the byte `x` at each read after it was interrupted so many times.
+#[derive(Drop)]
+struct Interrupted {
+    times: u32,
+}
+
+impl Read for Interrupted {
+    fn read(&mut self, buffer: &mut [u8]) -> io::Result<usize> {
+        if let Some(times) = self.times.checked_sub(1) {
+            self.times = times;
+            return Err(io::Error::from(ErrorKind::Interrupted));
+        }
+        let Some(first) = buffer.first_mut() else {
+            return Ok(0);
+        };
+        *first = b'x';
+        Ok(1)
+    }
+}
+
+/// An interrupted read is tried again, 1,000 times in all, and nothing is lost by it.
+#[test]
+fn interrupted_reads(rt: HostRuntime) {
+    let mut patient = FromRead::new(Interrupted { times: 999 });
+    assert_eq!(rt; patient.next(), Ok(Some(b'x')));
+    let mut tired = FromRead::new(Interrupted { times: 1000 });
+    assert_eq!(rt; tired.next(), Err(DeviceFault));
+    assert_eq!(rt; tired.next(), Ok(Some(b'x')));
 }
 
 /// Every fault's text is its code.
