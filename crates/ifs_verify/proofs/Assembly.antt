@@ -12,8 +12,10 @@ use Rattle.ifs_image.specs.Code.{op_at}
 use Rattle.ifs_verify.specs.declared.budgets.Part.TheVariants.{Init, Body}
 use Rattle.ifs_verify.specs.Rules.{IsRoutine, IndexesFit}
 use Rattle.ifs_verify.specs.Typing.{IsTyped}
-use Rattle.ifs_verify.specs.Bounds.{AreAmounts, callee_amount, FitsEvents, FitsHandlers}
+use Rattle.ifs_verify.specs.Bounds.{AreDepths, AreAmounts, callee_amount, FitsEvents, FitsHandlers}
 use Rattle.ifs_verify.specs.Accepted.{EachWithin, StackFits, FramesFit}
+use Rattle.ifs_verify.specs.Refused.{AreOver, AreTypedHeights, AreTotals}
+use Rattle.ifs_verify.specs.declared.fault.At.TheVariants.{Head, Code}
 use Rattle.ifs_verify.specs.Passes.{IsPlain, HoldsHeight, IsHeld, IsCounted, LeastHeights, LeastDepths, LeastAmounts, Reaches}
 use Rattle.ifs_verify.proofs.Instructions.{op_at-routine}
 
@@ -65,50 +67,85 @@ chosen image heights found = choose (λ place. []) (λ routine kinds. IsHeld ima
 pub typed : (image : ImageParts) (heights : List ℕ) → LeastHeights image heights (length image.routines) → IsTyped image
 typed image heights found = let all = chosen image heights found in (all.0, λ routine is_routine. (all.1 routine is_routine).0)
 
-pub stack_fits : (image : ImageParts) (heights : List ℕ) → LeastHeights image heights (length image.routines)
-    → ((routine : ℕ) → IsRoutine image routine → slice_index heights routine ≤ 32) → FitsHandlers image (slice_index heights) image.budgets.stack → StackFits image
-stack_fits image heights found low fits =
+pub heights_are : (image : ImageParts) (heights : List ℕ) → LeastHeights image heights (length image.routines) → AreTypedHeights image (slice_index heights)
+heights_are image heights found =
     let all = chosen image heights found in
     let holds : (routine place : ℕ) (op : Op) → op_at image routine place ≡ Some op → HoldsHeight image (slice_index heights) op (all.0 routine place) (slice_index heights routine) =
     λ routine place op is. (all.1 routine (op_at-routine image routine place op is)).1 place op is in (
       all.0,
-      slice_index heights,
       λ routine is_routine. (all.1 routine is_routine).0,
       record {
         before = λ routine place op is. (holds routine place op is).before;
         after = λ routine place op next is e. (holds routine place op is).after next e;
         calls = λ routine place callee is. (holds routine place (Call callee) is).call callee refl;
       },
-      low,
-      fits,
     )
 
+pub stack_fits : (image : ImageParts) (heights : List ℕ) → LeastHeights image heights (length image.routines)
+    → ((routine : ℕ) → IsRoutine image routine → slice_index heights routine ≤ 32) → FitsHandlers image (slice_index heights) image.budgets.stack → StackFits image
+stack_fits image heights found low fits =
+    let are = heights_are image heights found in (are.0, slice_index heights, are.1, are.2, low, fits)
+
+-- Heights that pass the limit in a routine, and heights that pass what is stated.
+pub stack_over : (image : ImageParts) (heights : List ℕ) (routine : ℕ) → LeastHeights image heights (length image.routines) → IsRoutine image routine
+    → 32 < slice_index heights routine → AreOver image (AreTypedHeights image) 32 (λ heights. FitsHandlers image heights image.budgets.stack) (Code (record { 0 = routine }) 0)
+stack_over image heights routine found is_routine over = (
+  refl,
+  is_routine,
+  (slice_index heights, heights_are image heights found),
+  λ bounds are. omega (arith, found.least are.0 bounds are.1 are.2 routine is_routine, over),
+)
+
 pub stack_unfit : (image : ImageParts) (heights : List ℕ) → IndexesFit image → LeastHeights image heights (length image.routines)
-    → ¬ FitsHandlers image (slice_index heights) image.budgets.stack → ¬ StackFits image
-stack_unfit image heights indexes found unfit fits =
-    unfit (FitsHandlers-lower image fits.1 (slice_index heights) image.budgets.stack indexes (λ routine is_routine. found.least fits.0 fits.1 fits.2 fits.3 routine is_routine) fits.5)
+    → ((routine : ℕ) → IsRoutine image routine → slice_index heights routine ≤ 32) → ¬ FitsHandlers image (slice_index heights) image.budgets.stack
+    → AreOver image (AreTypedHeights image) 32 (λ heights. FitsHandlers image heights image.budgets.stack) Head
+stack_unfit image heights indexes found low unfit = (
+  (slice_index heights, heights_are image heights found, low),
+  λ bounds are fits.
+      unfit (FitsHandlers-lower image bounds (slice_index heights) image.budgets.stack indexes (λ routine is_routine. found.least are.0 bounds are.1 are.2 routine is_routine) fits),
+)
+
+-- Depths of the image that are the ones that were found.
+pub record FoundDepths (image : ImageParts) (depths : List ℕ) (all : ℕ → ℕ) : Type 0 where
+  pub are : AreDepths image all
+  pub within : EachWithin image all 32
+  pub same : (routine : ℕ) → IsRoutine image routine → all routine ≡ slice_index depths routine
+
+depths_are : (image : ImageParts) (depths : List ℕ) → IsPlain image → LeastDepths image depths (length image.routines)
+    → FoundDepths image depths (λ routine. slice_index depths routine + (1 - slice_index depths routine))
+depths_are image depths plain found = record {
+  are = record {
+    own = λ routine. omega arith;
+    calls = λ routine place callee is.
+        let is_routine = op_at-routine image routine place (Call callee) is in
+        let less = plain.calls routine place callee is in
+        let below = found.held callee.0 (omega (arith, less, is_routine)) in
+        omega (arith, (found.held routine is_routine).calls place callee is, below.own);
+  };
+  within = λ routine is_routine. omega (arith, (found.held routine is_routine).own, found.low routine);
+  same = λ routine is_routine. omega (arith, (found.held routine is_routine).own);
+}
 
 pub frames_fit : (image : ImageParts) (depths : List ℕ) → IsPlain image → LeastDepths image depths (length image.routines)
     → FitsHandlers image (slice_index depths) image.budgets.frames → FramesFit image
 frames_fit image depths plain found fits =
-    let all : ℕ → ℕ = λ routine. slice_index depths routine + (1 - slice_index depths routine) in (
+    let all : ℕ → ℕ = λ routine. slice_index depths routine + (1 - slice_index depths routine) in
+    let known = depths_are image depths plain found in (
       all,
-      record {
-        own = λ routine. omega arith;
-        calls = λ routine place callee is.
-            let is_routine = op_at-routine image routine place (Call callee) is in
-            let less = plain.calls routine place callee is in
-            let below = found.held callee.0 (omega (arith, less, is_routine)) in
-            omega (arith, (found.held routine is_routine).calls place callee is, below.own);
-      },
-      λ routine is_routine. omega (arith, (found.held routine is_routine).own, found.low routine),
-      FitsHandlers-lower image (slice_index depths) all image.budgets.frames plain.indexes (λ routine is_routine. omega (arith, (found.held routine is_routine).own)) fits,
+      known.are,
+      known.within,
+      FitsHandlers-lower image (slice_index depths) all image.budgets.frames plain.indexes (λ routine is_routine. omega (arith, known.same routine is_routine)) fits,
     )
 
-pub frames_unfit : (image : ImageParts) (depths : List ℕ) → IndexesFit image → LeastDepths image depths (length image.routines)
-    → ¬ FitsHandlers image (slice_index depths) image.budgets.frames → ¬ FramesFit image
-frames_unfit image depths indexes found unfit fits =
-    unfit (FitsHandlers-lower image fits.0 (slice_index depths) image.budgets.frames indexes (λ routine is_routine. found.least fits.0 fits.1 routine is_routine) fits.3)
+pub frames_unfit : (image : ImageParts) (depths : List ℕ) → IsPlain image → LeastDepths image depths (length image.routines)
+    → ¬ FitsHandlers image (slice_index depths) image.budgets.frames
+    → AreOver image (AreDepths image) 32 (λ depths. FitsHandlers image depths image.budgets.frames) Head
+frames_unfit image depths plain found unfit =
+    let known = depths_are image depths plain found in (
+      (λ routine. slice_index depths routine + (1 - slice_index depths routine), known.are, known.within),
+      λ bounds are fits.
+          unfit (FitsHandlers-lower image bounds (slice_index depths) image.budgets.frames plain.indexes (λ routine is_routine. found.least bounds are routine is_routine) fits),
+    )
 
 -- Some amounts fit a limit for each routine, and what is stated of each event.
 abbrev pub AmountsFit : (Op → ℕ) → ImageParts → ℕ → ℕ → Type 0
@@ -120,9 +157,16 @@ callee_amount-below : (all : ℕ → ℕ → ℕ) (old : ℕ → ℕ) (op : Op) 
 callee_amount-below all old (Call callee) le = le callee refl
 callee_amount-below all old op le = omega arith
 
-pub amounts_fit : (weight : Op → ℕ) (image : ImageParts) (limit stated : ℕ) (amounts : List ℕ) → IsPlain image
-    → LeastAmounts weight image limit amounts (length image.routines) → FitsEvents image (slice_index amounts) stated → AmountsFit weight image limit stated
-amounts_fit weight image limit stated amounts plain found fits =
+-- Amounts of the image that are the ones that were found.
+pub record FoundAmounts (weight : Op → ℕ) (image : ImageParts) (limit : ℕ) (amounts : List ℕ) : Type 0 where
+  pub all : ℕ → ℕ → ℕ
+  pub are : AreAmounts weight image all
+  pub within : EachWithin image (λ routine. all routine 0) limit
+  pub same : (routine : ℕ) → IsRoutine image routine → all routine 0 ≡ slice_index amounts routine
+
+amounts_are : (weight : Op → ℕ) (image : ImageParts) (limit : ℕ) (amounts : List ℕ) → IsPlain image
+    → LeastAmounts weight image limit amounts (length image.routines) → FoundAmounts weight image limit amounts
+amounts_are weight image limit amounts plain found =
     let all : (rows : ℕ → ℕ → ℕ) × ((k : ℕ) → k < length image.routines → IsCounted weight image (slice_index amounts) k (rows k)) =
     choose (λ place. 0) (λ routine row. IsCounted weight image (slice_index amounts) routine row) (length image.routines) found.held in
     let callee : (routine place : ℕ) (op : Op) → op_at image routine place ≡ Some op → callee_amount all.0 op ≤ callee_amount (λ r to. slice_index amounts r) op =
@@ -131,24 +175,41 @@ amounts_fit weight image limit stated amounts plain found fits =
     let less = plain.calls routine place called (is ∙ ap (λ (o : Op). Some o) e) in
     let is_routine = op_at-routine image routine place op is in
     let same = (all.1 called.0 (omega (arith, less, is_routine))).0 in
-    omega (arith, same)) in (
-      all.0,
-      record {
+    omega (arith, same)) in
+    record {
+      all = all.0;
+      are = record {
         own = λ routine place op is.
             let h = (all.1 routine (op_at-routine image routine place op is)).1 place op is in
             omega (arith, callee routine place op is, h.own);
         onward = λ routine place to op is successor.
             let h = (all.1 routine (op_at-routine image routine place op is)).1 place op is in
             omega (arith, callee routine place op is, h.onward to successor);
-      },
-      λ routine is_routine. omega (arith, (all.1 routine is_routine).0, found.low routine),
-      FitsEvents-lower image (slice_index amounts) (λ routine. all.0 routine 0) stated plain.indexes (λ routine is_routine. omega (arith, (all.1 routine is_routine).0)) fits,
+      };
+      within = λ routine is_routine. omega (arith, (all.1 routine is_routine).0, found.low routine);
+      same = λ routine is_routine. (all.1 routine is_routine).0;
+    }
+
+pub amounts_fit : (weight : Op → ℕ) (image : ImageParts) (limit stated : ℕ) (amounts : List ℕ) → IsPlain image
+    → LeastAmounts weight image limit amounts (length image.routines) → FitsEvents image (slice_index amounts) stated → AmountsFit weight image limit stated
+amounts_fit weight image limit stated amounts plain found fits =
+    let known = amounts_are weight image limit amounts plain found in (
+      known.all,
+      known.are,
+      known.within,
+      FitsEvents-lower image (slice_index amounts) (λ routine. known.all routine 0) stated plain.indexes (λ routine is_routine. omega (arith, known.same routine is_routine)) fits,
     )
 
-pub amounts_unfit : (weight : Op → ℕ) (image : ImageParts) (limit stated : ℕ) (amounts : List ℕ) → IndexesFit image
-    → LeastAmounts weight image limit amounts (length image.routines) → ¬ FitsEvents image (slice_index amounts) stated → ¬ AmountsFit weight image limit stated
-amounts_unfit weight image limit stated amounts indexes found unfit fits =
-    unfit (FitsEvents-lower image (λ routine. fits.0 routine 0) (slice_index amounts) stated indexes (λ routine is_routine. found.least fits.0 fits.1 routine is_routine) fits.3)
+pub amounts_unfit : (weight : Op → ℕ) (image : ImageParts) (limit stated : ℕ) (amounts : List ℕ) → IsPlain image
+    → LeastAmounts weight image limit amounts (length image.routines) → ¬ FitsEvents image (slice_index amounts) stated
+    → AreOver image (AreTotals weight image) limit (λ totals. FitsEvents image totals stated) Head
+amounts_unfit weight image limit stated amounts plain found unfit =
+    let known = amounts_are weight image limit amounts plain found in (
+      (λ routine. known.all routine 0, (known.all, known.are, λ routine. refl), known.within),
+      λ totals are fits.
+          unfit (FitsEvents-lower image totals (slice_index amounts) stated plain.indexes
+          (λ routine is_routine. omega (arith, found.least are.0 are.1 routine is_routine, are.2 routine)) fits),
+    )
 
 same_state : (a b : StateSpec) → Some a ≡ Some b → a ≡ b
 same_state a b e = cc

@@ -16,6 +16,7 @@ use Rattle.ifs_verify.specs.Bounds.{AreDepths, AreAmounts, callee_amount}
 use Rattle.ifs_verify.specs.Passes.{IsPlain, IsTypedUpTo, row_at, HoldsHeight, HoldsDepth, HoldsRow, IsHeld, IsCounted, LeastHeights, LeastDepths, LeastAmounts}
 use Rattle.ifs_verify.proofs.Holding.{passed_at}
 use Rattle.ifs_verify.proofs.Instructions.{op_at-routine}
+use Rattle.ifs_verify.proofs.Ways.{led}
 
 pub entry_old : (xs : List ℕ) (x k : ℕ) → k < length xs → slice_index (xs ++ x ∷ []) k ≡ slice_index xs k
 entry_old xs x k below = get_or_append_left xs (x ∷ []) 0 k below
@@ -155,7 +156,7 @@ heights_more image heights routine height rows plain found typed holds least =
                 let most : height ≤ all routine =
                 least (all routine) (λ place op before is row.
                 let is_routine : IsRoutine image routine = op_at-routine image routine place op is in
-                let same : kinds routine place ≡ before = typed.forced (kinds routine) (typings routine is_routine) place before row in
+                let same : kinds routine place ≡ before = led image routine (length (code_of image routine)) place before (kinds routine) (typings routine is_routine) (typed.leads place before row) in
                 record {
                   before = subst (λ (list : List Kind). length list ≤ all routine) same (are.before routine place op is);
                   after = λ after e. are.after routine place op after is (ap (λ (list : List Kind). effect image op list) same ∙ e);

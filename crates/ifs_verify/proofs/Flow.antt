@@ -1,5 +1,5 @@
 -- The forward pass: what its rows keep when a list of kinds is handed on, and what a refusal shows.
-use Rattle.std.proofs.Common.{ℕ, ◌≡◌, ◌≢◌, ◌<◌, ◌≤◌, ◌+◌, ◌-◌, List, [], length, Option, Some, None, arith, ap, sym, ◌∙◌, subst, inl, inr, ◌⊎◌}
+use Rattle.std.proofs.Common.{ℕ, ◌≡◌, ◌≢◌, ◌<◌, ◌≤◌, ◌+◌, ◌-◌, List, [], length, Option, Some, arith, ap, sym, ◌∙◌, subst, inl, inr, ◌⊎◌}
 use Rattle.std.proofs.Math.ListN.{set, length-set}
 use Rattle.std.proofs.lemmas.Bool.{cases_eq}
 use Rattle.std.proofs.lemmas.Option.{slice_get_within}
@@ -7,12 +7,13 @@ use Rattle.ifs_base.specs.declared.op.Kind.{Kind}
 use Rattle.ifs_base.specs.declared.op.Op.{Op}
 use Rattle.ifs_base.specs.declared.op.Op.TheVariants.{Ret, Jump, JumpFalse, JumpTrue}
 use Rattle.ifs_image.specs.declared.parts.ImageParts.{ImageParts}
-use Rattle.ifs_image.specs.Code.{op_at, code_of, results_of, target_of, effect, IsSuccessor}
+use Rattle.ifs_image.specs.Code.{op_at, code_of, target_of, effect, IsSuccessor}
 use Rattle.ifs_verify.specs.Rules.{IsRoutine, RoutinesEnd, JumpsLeadOn}
-use Rattle.ifs_verify.specs.Typing.{IsTyping, IsTyped, FlowsOn}
-use Rattle.ifs_verify.specs.Accepted.{StackFits}
+use Rattle.ifs_verify.specs.Ways.{Leads, goes_on}
+use Rattle.ifs_verify.specs.Refused.{LeavesList, Disagrees}
 use Rattle.ifs_verify.specs.Passes.{next_of, row_at, Extends, Leaves, HasPassed, IsTypedUpTo, IsPlain}
-use Rattle.ifs_verify.proofs.Rows.{Extends-set, row_at-set_cases, some_kinds}
+use Rattle.ifs_verify.proofs.Ways.{Leads-later}
+use Rattle.ifs_verify.proofs.Rows.{Extends-set, row_at-set_cases}
 
 -- A successor is the next place or the target.
 pub successor_cases : (op : Op) (place to : ℕ) → IsSuccessor op place to → (next_of op place ≡ Some to) ⊎ (target_of op ≡ Some to)
@@ -70,15 +71,12 @@ successor_within image routine place to op ends jumps is_routine here is =
       | inr target ↦ jumps routine place op to here target
     ]
 
--- What an instruction leaves is what each typing has at its successors.
-pub forced_after : (image : ImageParts) (routine : ℕ) (rows : List (Option (List Kind))) (done place to : ℕ) (op : Op) (after : List Kind) (typing : ℕ → List Kind)
-    → IsTypedUpTo image routine rows done → op_at image routine place ≡ Some op → Leaves image routine rows place op after
-    → IsTyping image routine typing → IsSuccessor op place to → typing to ≡ after
-forced_after image routine rows done place to op after typing typed here leaves is_typing successor =
-    let flow : FlowsOn image typing place op = is_typing.flows place op here in
-    let same : typing place ≡ leaves.before = typed.forced typing is_typing place leaves.before leaves.here in
-    let e : Some flow.0 ≡ Some after = sym flow.1 ∙ ap (λ (kinds : List Kind). effect image op kinds) same ∙ leaves.effect_is in
-    flow.2 to successor ∙ some_kinds flow.0 after e
+-- What an instruction leaves is left by some way to its successors.
+pub way_onward : (image : ImageParts) (routine : ℕ) (rows : List (Option (List Kind))) (place to : ℕ) (op : Op) (after : List Kind)
+    → IsTypedUpTo image routine rows place → op_at image routine place ≡ Some op → Leaves image routine rows place op after
+    → IsSuccessor op place to → Leads image routine place to after
+way_onward image routine rows place to op after typed here leaves successor =
+    goes_on place to op leaves.before after (typed.leads place leaves.before leaves.here) (omega arith) here leaves.effect_is successor
 
 pub Leaves-extended : (image : ImageParts) (routine : ℕ) (old new : List (Option (List Kind))) (place : ℕ) (op : Op) (after : List Kind)
     → Extends old new → Leaves image routine old place op after → Leaves image routine new place op after
@@ -99,11 +97,11 @@ HasPassed-extended image routine old new place op extends passed = record {
 }
 
 -- The rows after a list was handed on to a successor.
-pub handed : (image : ImageParts) (routine : ℕ) (rows : List (Option (List Kind))) (done place to : ℕ) (op : Op) (after : List Kind)
-    → IsTypedUpTo image routine rows done → op_at image routine place ≡ Some op → Leaves image routine rows place op after
+pub handed : (image : ImageParts) (routine : ℕ) (rows : List (Option (List Kind))) (place to : ℕ) (op : Op) (after : List Kind)
+    → IsTypedUpTo image routine rows place → op_at image routine place ≡ Some op → Leaves image routine rows place op after
     → IsSuccessor op place to → to < length rows → ((other : List Kind) → row_at rows to ≡ Some other → other ≡ after)
-    → IsTypedUpTo image routine (set rows to (Some after)) done
-handed image routine rows done place to op after typed here leaves successor within same =
+    → IsTypedUpTo image routine (set rows to (Some after)) place
+handed image routine rows place to op after typed here leaves successor within same =
     let extends : Extends rows (set rows to (Some after)) = Extends-set rows to after within same in
     record {
       long = length-set rows to (Some after) ∙ typed.long;
@@ -114,12 +112,13 @@ handed image routine rows done place to op after typed here leaves successor wit
             | inr old ↦ typed.within k kinds old
           ];
       passed = λ k other below is. HasPassed-extended image routine rows (set rows to (Some after)) k other extends (typed.passed k other below is);
-      forced = λ typing is_typing k kinds is.
+      leads = λ k kinds is.
           elim (row_at-set_cases rows to after within k kinds is) [
             | inl new ↦
-                subst (λ (n : ℕ). typing n ≡ kinds) (sym new.0)
-                (forced_after image routine rows done place to op after typing typed here leaves is_typing successor ∙ sym new.1)
-            | inr old ↦ typed.forced typing is_typing k kinds old
+                subst (λ (n : ℕ). Leads image routine place n kinds) (sym new.0)
+                (subst (λ (list : List Kind). Leads image routine place to list) (sym new.1)
+                (way_onward image routine rows place to op after typed here leaves successor))
+            | inr old ↦ typed.leads k kinds old
           ];
     }
 
@@ -138,7 +137,7 @@ passed_more image routine rows place op typed here passed = record {
             subst (λ (n : ℕ). HasPassed image routine rows n other) (sym e) (subst (λ (o : Op). HasPassed image routine rows place o) same passed)
         | inr ne ↦ typed.passed k other (omega arith) is
       ];
-  forced = typed.forced;
+  leads = λ k kinds is. Leads-later image routine place (place + 1) k kinds (omega arith) (typed.leads k kinds is);
 }
 
 -- A place of which all earlier ones are passed has a list.
@@ -153,44 +152,20 @@ row_found image routine place rows plain typed within =
           (p.after, p.onward place r.4)
     ]
 
--- No typing of one routine, no typing of the image.
-pub untyped : (image : ImageParts) (routine : ℕ) → IsRoutine image routine → ((typing : ℕ → List Kind) → IsTyping image routine typing → ⊥) → ¬ IsTyped image
-untyped image routine is_routine none typed = none (typed.0 routine) (typed.1 routine is_routine)
+-- What the instruction at a place leaves of its row.
+pub list_left : (image : ImageParts) (routine : ℕ) (rows : List (Option (List Kind))) (place : ℕ) (op : Op) (before after : List Kind)
+    → IsTypedUpTo image routine rows place → op_at image routine place ≡ Some op → row_at rows place ≡ Some before → effect image op before ≡ Some after
+    → LeavesList image routine place op after
+list_left image routine rows place op before after typed here row left = record {
+  before = before;
+  stands = here;
+  leads = typed.leads place before row;
+  effect_is = left;
+}
 
--- An operand that does not fit, results that are others, ways that disagree: no typing.
-pub no_effect : (image : ImageParts) (routine : ℕ) (rows : List (Option (List Kind))) (done place : ℕ) (op : Op) (before : List Kind)
-    → IsRoutine image routine → IsTypedUpTo image routine rows done → op_at image routine place ≡ Some op → row_at rows place ≡ Some before
-    → effect image op before ≡ None → ¬ IsTyped image
-no_effect image routine rows done place op before is_routine typed here row none =
-    untyped image routine is_routine (λ typing is_typing.
-    let flow : FlowsOn image typing place op = is_typing.flows place op here in
-    let same : typing place ≡ before = typed.forced typing is_typing place before row in
-    let e : None ≡ Some flow.0 = sym none ∙ ap (λ (kinds : List Kind). effect image op kinds) (sym same) ∙ flow.1 in
-    cc)
-
-pub other_results : (image : ImageParts) (routine : ℕ) (rows : List (Option (List Kind))) (done place : ℕ) (before : List Kind)
-    → IsRoutine image routine → IsTypedUpTo image routine rows done → op_at image routine place ≡ Some Ret → row_at rows place ≡ Some before
-    → before ≢ results_of image routine → ¬ IsTyped image
-other_results image routine rows done place before is_routine typed here row other =
-    untyped image routine is_routine (λ typing is_typing.
-    other (sym (typed.forced typing is_typing place before row) ∙ is_typing.results place here))
-
-pub ways_disagree : (image : ImageParts) (routine : ℕ) (rows : List (Option (List Kind))) (done place to : ℕ) (op : Op) (after other : List Kind)
-    → IsRoutine image routine → IsTypedUpTo image routine rows done → op_at image routine place ≡ Some op → Leaves image routine rows place op after
-    → IsSuccessor op place to → row_at rows to ≡ Some other → other ≢ after → ¬ IsTyped image
-ways_disagree image routine rows done place to op after other is_routine typed here leaves successor row differ =
-    untyped image routine is_routine (λ typing is_typing.
-    differ (sym (typed.forced typing is_typing to other row)
-    ∙ forced_after image routine rows done place to op after typing typed here leaves is_typing successor))
-
--- A list over the limit fits no heights within it.
-pub stack_over : (image : ImageParts) (routine : ℕ) (rows : List (Option (List Kind))) (done place : ℕ) (op : Op) (before after : List Kind)
-    → IsRoutine image routine → IsTypedUpTo image routine rows done → op_at image routine place ≡ Some op → row_at rows place ≡ Some before
-    → effect image op before ≡ Some after → 32 < length after → ¬ StackFits image
-stack_over image routine rows done place op before after is_routine typed here row leaves over fits =
-    let typing = fits.0 routine in
-    let same : typing place ≡ before = typed.forced typing (fits.2 routine is_routine) place before row in
-    let e : effect image op (typing place) ≡ Some after = ap (λ (kinds : List Kind). effect image op kinds) same ∙ leaves in
-    let high : length after ≤ fits.1 routine = fits.3.after routine place op after here e in
-    let low : fits.1 routine ≤ 32 = fits.4 routine is_routine in
-    omega arith
+-- Ways disagree where a successor has another list than the instruction leaves.
+pub ways_disagree : (image : ImageParts) (routine : ℕ) (rows : List (Option (List Kind))) (place to : ℕ) (op : Op) (after other : List Kind)
+    → IsTypedUpTo image routine rows place → op_at image routine place ≡ Some op → Leaves image routine rows place op after
+    → IsSuccessor op place to → row_at rows to ≡ Some other → other ≢ after → Disagrees image routine place
+ways_disagree image routine rows place to op after other typed here leaves successor row differ =
+    (op, after, to, other, list_left image routine rows place op leaves.before after typed here leaves.here leaves.effect_is, successor, typed.leads to other row, differ)

@@ -1,5 +1,7 @@
 pub mod Assembly
 pub mod Backward
+pub mod Existing
+pub mod Faults
 pub mod Flow
 pub mod Holding
 pub mod Instructions
@@ -8,3 +10,4 @@ pub mod Rows
 pub mod Entering
 pub mod Takings
 pub mod Verdict
+pub mod Ways

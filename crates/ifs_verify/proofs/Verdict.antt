@@ -13,8 +13,9 @@ use Rattle.ifs_image.specs.Reading.{image_of}
 use Rattle.ifs_verify.specs.declared.fault.VerifyFault.{VerifyFault}
 use Rattle.ifs_verify.specs.declared.fault.VerifyFault.TheVariants.{NoImage, NoEntry, JumpTarget, LeftAtEnd, Unreached, WrongOperand, WaysDisagree, CallNotLower, WrongResults, StackOver, FramesOver, CostOver, CommandsOver, HandlerLeaves, OutOfMemory}
 use Rattle.ifs_verify.specs.Accepted.{IsAccepted}
-use Rattle.ifs_verify.specs.Refused.{refusal_of, rule_of, IsRefusal}
+use Rattle.ifs_verify.specs.Refused.{refusal_of, IsRefusal}
 use Rattle.ifs_verify.specs.Passes.{IsSized, IsRefused}
+use Rattle.ifs_verify.proofs.Faults.{fails_of_accepted}
 
 entry_fits : (routines : List Routine) (k : ℕ) (routine : Routine) → All RoutineFits routines → slice_get routines k ≡ Some routine → RoutineFits routine
 entry_fits routines k routine fits is =
@@ -34,27 +35,9 @@ sized image fits = record {
   results = λ k routine is. (entry_fits image.routines k routine fits.routines.each is).results;
 }
 
--- Each rule holds of an image that is accepted.
-pub rule_holds : (fault : VerifyFault) (image : ImageParts) → IsAccepted image → rule_of fault image
-rule_holds (NoImage fault) image accepted = tt
-rule_holds (NoEntry at) image accepted = accepted.indexes
-rule_holds (JumpTarget at) image accepted = accepted.jumps
-rule_holds (LeftAtEnd at) image accepted = accepted.ends
-rule_holds (Unreached at) image accepted = accepted.reached
-rule_holds (WrongOperand at) image accepted = accepted.typed
-rule_holds (WaysDisagree at) image accepted = accepted.typed
-rule_holds (CallNotLower at) image accepted = accepted.calls
-rule_holds (WrongResults at) image accepted = accepted.typed
-rule_holds (StackOver at) image accepted = accepted.stack
-rule_holds (FramesOver at) image accepted = accepted.frames
-rule_holds (CostOver at) image accepted = accepted.cost
-rule_holds (CommandsOver at) image accepted = accepted.commands
-rule_holds (HandlerLeaves at) image accepted = accepted.handlers
-rule_holds OutOfMemory image accepted = tt
-
 -- A check that fails in the image that the bytes spell is a refusal of them.
 pub check_refuses : (bytes : List ℕ) (image : ImageParts) (fault : VerifyFault) → Spells bytes image → IsRefused image fault → IsRefusal bytes fault
-check_refuses bytes image (NoImage fault) spelled refused = absurd (refused (λ e. cc) tt)
+check_refuses bytes image (NoImage fault) spelled refused = absurd (refused (λ e. cc))
 check_refuses bytes image OutOfMemory spelled refused = tt
 check_refuses bytes image (NoEntry at) spelled refused = (image, spelled, refused (λ e. cc))
 check_refuses bytes image (JumpTarget at) spelled refused = (image, spelled, refused (λ e. cc))
@@ -98,4 +81,4 @@ pub refused_once : (bytes : List ℕ) (image : ImageParts) (fault : VerifyFault)
     → fault ≢ OutOfMemory → (other : ImageParts) → Spells bytes other → ¬ IsAccepted other
 refused_once bytes image fault refused only other_fault other spelled accepted =
     let same : image ≡ other = ok_same image other (only other spelled (λ e. cc)) in
-    refused other_fault (rule_holds fault image (subst IsAccepted (sym same) accepted))
+    fails_of_accepted fault image (subst IsAccepted (sym same) accepted) (refused other_fault)

@@ -1,5 +1,6 @@
 pub mod Rules
 pub mod Typing
+pub mod Ways
 pub mod Bounds
 pub mod Accepted
 pub mod Refused

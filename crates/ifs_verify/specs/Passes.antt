@@ -23,7 +23,8 @@ use Rattle.ifs_verify.specs.declared.amounts.Weight.{Weight}
 use Rattle.ifs_verify.specs.declared.amounts.Weight.TheVariants.{Cost, Commands}
 use Rattle.ifs_verify.specs.Bounds.{cost_of, commands_of, callee_amount, AreHeights, AreDepths, AreAmounts}
 use Rattle.ifs_verify.specs.Typing.{IsTyping, AreTypings}
-use Rattle.ifs_verify.specs.Refused.{rule_of}
+use Rattle.ifs_verify.specs.Refused.{Fails}
+use Rattle.ifs_verify.specs.Ways.{Leads}
 
 -- The limits of an image on which the passes rest.
 pub record IsSized (image : ImageParts) : Type 0 where
@@ -33,9 +34,9 @@ pub record IsSized (image : ImageParts) : Type 0 where
   pub code : (routine : ℕ) → length (code_of image routine) ≤ 1024
   pub results : (k : ℕ) (routine : Routine) → slice_get image.routines k ≡ Some routine → routine.results ≤ 1
 
--- A fault names a rule that fails, unless it is want of memory.
+-- A fault names a check that fails, and where, unless it is want of memory.
 abbrev pub IsRefused : ImageParts → VerifyFault → Type 0
-IsRefused image fault = fault ≢ OutOfMemory → ¬ rule_of fault image
+IsRefused image fault = fault ≢ OutOfMemory → Fails fault image
 
 -- What a rule asks of the instruction at a place.
 abbrev pub Keeps : OpRule → ImageParts → ℕ → ℕ → Op → Type 0
@@ -118,13 +119,13 @@ pub record HasPassed (image : ImageParts) (routine : ℕ) (rows : List (Option (
   pub leaves : Leaves image routine rows place op after
   pub onward : (to : ℕ) → IsSuccessor op place to → row_at rows to ≡ Some after
 
--- The rows of a routine, whose places below one are passed. What they hold is what each typing has.
+-- The rows of a routine, whose places below one are passed. What they hold is left by some way over places up to that one.
 pub record IsTypedUpTo (image : ImageParts) (routine : ℕ) (rows : List (Option (List Kind))) (done : ℕ) : Type 0 where
   pub long : length rows ≡ length (code_of image routine)
   pub start : row_at rows 0 ≡ Some []
   pub within : (place : ℕ) (kinds : List Kind) → row_at rows place ≡ Some kinds → length kinds ≤ 32
   pub passed : (place : ℕ) (op : Op) → place < done → op_at image routine place ≡ Some op → HasPassed image routine rows place op
-  pub forced : (typing : ℕ → List Kind) → IsTyping image routine typing → (place : ℕ) (kinds : List Kind) → row_at rows place ≡ Some kinds → typing place ≡ kinds
+  pub leads : (place : ℕ) (kinds : List Kind) → row_at rows place ≡ Some kinds → Leads image routine done place kinds
 
 -- What the first rows have, the others have too.
 abbrev pub Extends : List (Option (List Kind)) → List (Option (List Kind)) → Type 0

@@ -1,41 +1,126 @@
--- Refusals: what each fault of the verifier says of the image.
-use Rattle.std.specs.Prelude.{ℕ, ◌≡◌, List, Err}
+-- Refusals: what each fault of the verifier says of the image, at the place that it names.
+use Rattle.std.specs.Prelude.{ℕ, ◌≡◌, ◌≢◌, ◌-◌, ◌<◌, ◌≤◌, ◌⊎◌, List, length, Some, None, Err, slice_get}
+use Rattle.ifs_base.specs.declared.ids.RoutineId.{RoutineId}
+use Rattle.ifs_base.specs.declared.op.Kind.{Kind}
+use Rattle.ifs_base.specs.declared.op.Op.{Op}
+use Rattle.ifs_base.specs.declared.op.Op.TheVariants.{Ret, Call}
 use Rattle.ifs_image.specs.declared.fault.ImageFault.{ImageFault}
 use Rattle.ifs_image.specs.declared.fault.ImageFault.TheVariants.{Memory}
+use Rattle.ifs_image.specs.declared.parts.StateSpec.{StateSpec}
 use Rattle.ifs_image.specs.declared.parts.ImageParts.{ImageParts}
+use Rattle.ifs_image.specs.Code.{op_at, code_of, results_of, target_of, effect, IsSuccessor}
 use Rattle.ifs_image.specs.Spelling.{Spells}
 use Rattle.ifs_image.specs.Reading.{image_of}
+use Rattle.ifs_verify.specs.declared.fault.At.{At}
+use Rattle.ifs_verify.specs.declared.fault.At.TheVariants.{Head, State, Code}
 use Rattle.ifs_verify.specs.declared.fault.VerifyFault.{VerifyFault}
 use Rattle.ifs_verify.specs.declared.fault.VerifyFault.TheVariants.{NoImage, NoEntry, JumpTarget, LeftAtEnd, Unreached, WrongOperand, WaysDisagree, CallNotLower, WrongResults, StackOver, FramesOver, CostOver, CommandsOver, HandlerLeaves, OutOfMemory}
-use Rattle.ifs_verify.specs.Rules.{IndexesFit, HandlersLeaveNothing, JumpsLeadOn, RoutinesEnd, CallsGoDown, PlacesAreReached}
-use Rattle.ifs_verify.specs.Typing.{IsTyped}
-use Rattle.ifs_verify.specs.Accepted.{StackFits, FramesFit, CostFits, CommandsFit}
+use Rattle.ifs_verify.specs.Rules.{IsRoutine, AreIndexes, HasOperand, LeaveNothing, IsReached}
+use Rattle.ifs_verify.specs.Typing.{AreTypings}
+use Rattle.ifs_verify.specs.Ways.{Leads}
+use Rattle.ifs_verify.specs.Bounds.{AreHeights, AreDepths, AreAmounts, cost_of, commands_of, FitsEvents, FitsHandlers}
+use Rattle.ifs_verify.specs.Accepted.{EachWithin}
+
+-- An index is not in its table, or a mask has a bit for no test: of the initial state or the always part, of a state, of an instruction.
+abbrev pub LacksEntry : ImageParts → At → Type 0
+LacksEntry image Head = ¬ ((image.initial.0 < length image.states) × AreIndexes image image.always)
+LacksEntry image (State state) = (found : StateSpec) × (slice_get image.states state.0 ≡ Some found) × ¬ AreIndexes image found.handlers
+LacksEntry image (Code routine place) = (op : Op) × (op_at image routine.0 place ≡ Some op) × ¬ HasOperand image op
+
+-- A handler has results: of the always part, or of a state.
+abbrev pub LeavesValue : ImageParts → At → Type 0
+LeavesValue image Head = ¬ LeaveNothing image image.always
+LeavesValue image (State state) = (found : StateSpec) × (slice_get image.states state.0 ≡ Some found) × ¬ LeaveNothing image found.handlers
+LeavesValue image (Code routine place) = ⊥
+
+-- What is said of a place of a routine, and of nothing else.
+abbrev pub InCode : (ℕ → ℕ → Type 0) → At → Type 0
+InCode says Head = ⊥
+InCode says (State state) = ⊥
+InCode says (Code routine place) = says routine.0 place
+
+-- A jump stands there whose target is no later place of its routine.
+abbrev pub JumpsElsewhere : ImageParts → ℕ → ℕ → Type 0
+JumpsElsewhere image routine place = (op : Op) × (target : ℕ) × (op_at image routine place ≡ Some op) × (target_of op ≡ Some target)
+    × ¬ ((place < target) × (target < length (code_of image routine)))
+
+-- It is the last place of a routine, or place 0 of one without instructions, and no `ret` stands there.
+abbrev pub IsOpenEnd : ImageParts → ℕ → ℕ → Type 0
+IsOpenEnd image routine place = IsRoutine image routine × (place ≡ length (code_of image routine) - 1) × (op_at image routine place ≢ Some Ret)
+
+-- A call stands there of a routine whose number is not lower.
+abbrev pub CallsNoLower : ImageParts → ℕ → ℕ → Type 0
+CallsNoLower image routine place = (callee : RoutineId) × (op_at image routine place ≡ Some (Call callee)) × (routine ≤ callee.0)
+
+-- It is a place other than 0 that follows no earlier one.
+abbrev pub IsDead : ImageParts → ℕ → ℕ → Type 0
+IsDead image routine place = (0 < place) × (place < length (code_of image routine)) × ¬ IsReached image routine place
+
+-- Some way leads there with a list in which an operand is missing or of the wrong kind.
+abbrev pub LacksOperand : ImageParts → ℕ → ℕ → Type 0
+LacksOperand image routine place = (op : Op) × (kinds : List Kind) × (op_at image routine place ≡ Some op) × Leads image routine place place kinds
+    × (effect image op kinds ≡ None)
+
+-- Some way leads to a `ret` there with another list than the routine's results.
+abbrev pub ReturnsOthers : ImageParts → ℕ → ℕ → Type 0
+ReturnsOthers image routine place = (kinds : List Kind) × (op_at image routine place ≡ Some Ret) × Leads image routine place place kinds × (kinds ≢ results_of image routine)
+
+-- What the instruction there leaves, at the end of some way.
+pub record LeavesList (image : ImageParts) (routine place : ℕ) (op : Op) (after : List Kind) : Type 0 where
+  pub before : List Kind
+  pub stands : op_at image routine place ≡ Some op
+  pub leads : Leads image routine place place before
+  pub effect_is : effect image op before ≡ Some after
+
+-- It leaves more than 32 kinds.
+abbrev pub LeavesMany : ImageParts → ℕ → ℕ → Type 0
+LeavesMany image routine place = (op : Op) × (after : List Kind) × LeavesList image routine place op after × (32 < length after)
+
+-- It leaves one list to a successor, and some way over no later place leads to that successor with another.
+abbrev pub Disagrees : ImageParts → ℕ → ℕ → Type 0
+Disagrees image routine place = (op : Op) × (after : List Kind) × (to : ℕ) × (other : List Kind) × LeavesList image routine place op after × IsSuccessor op place to
+    × Leads image routine place to other × (other ≢ after)
+
+-- Bounds of one kind are over: at place 0 of a routine, where there are such bounds and each of them passes the limit there; at the head, where some are within the limit and none fits what is stated.
+abbrev pub AreOver : ImageParts → ((ℕ → ℕ) → Type 0) → ℕ → ((ℕ → ℕ) → Type 0) → At → Type 0
+AreOver image AreBounds limit Fits Head = ((bounds : ℕ → ℕ) × AreBounds bounds × EachWithin image bounds limit) × ((bounds : ℕ → ℕ) → AreBounds bounds → ¬ Fits bounds)
+AreOver image AreBounds limit Fits (State state) = ⊥
+AreOver image AreBounds limit Fits (Code routine place) = (place ≡ 0) × IsRoutine image routine.0 × ((bounds : ℕ → ℕ) × AreBounds bounds)
+    × ((bounds : ℕ → ℕ) → AreBounds bounds → limit < bounds routine.0)
+
+-- Heights of some typing.
+abbrev pub AreTypedHeights : ImageParts → (ℕ → ℕ) → Type 0
+AreTypedHeights image heights = (kinds : ℕ → ℕ → List Kind) × AreTypings image kinds × AreHeights image kinds heights
+
+-- Amounts of the routines, which are those of their first places.
+abbrev pub AreTotals : (Op → ℕ) → ImageParts → (ℕ → ℕ) → Type 0
+AreTotals weight image totals = (amounts : ℕ → ℕ → ℕ) × AreAmounts weight image amounts × ((routine : ℕ) → amounts routine 0 ≡ totals routine)
+
+-- What a fault says of an image: its check fails at its place. A fault in reading and want of memory say nothing of one.
+abbrev pub Fails : VerifyFault → ImageParts → Type 0
+Fails (NoImage fault) image = ⊥
+Fails (NoEntry at) image = LacksEntry image at
+Fails (JumpTarget at) image = InCode (JumpsElsewhere image) at
+Fails (LeftAtEnd at) image = InCode (IsOpenEnd image) at
+Fails (Unreached at) image = InCode (IsDead image) at
+Fails (WrongOperand at) image = InCode (LacksOperand image) at
+Fails (WaysDisagree at) image = InCode (Disagrees image) at
+Fails (CallNotLower at) image = InCode (CallsNoLower image) at
+Fails (WrongResults at) image = InCode (ReturnsOthers image) at
+Fails (StackOver at) image = InCode (LeavesMany image) at ⊎ AreOver image (AreTypedHeights image) 32 (λ heights. FitsHandlers image heights image.budgets.stack) at
+Fails (FramesOver at) image = AreOver image (AreDepths image) 32 (λ depths. FitsHandlers image depths image.budgets.frames) at
+Fails (CostOver at) image = AreOver image (AreTotals cost_of image) 100000 (λ costs. FitsEvents image costs image.budgets.cost) at
+Fails (CommandsOver at) image = AreOver image (AreTotals commands_of image) 64 (λ commands. FitsEvents image commands image.budgets.commands) at
+Fails (HandlerLeaves at) image = LeavesValue image at
+Fails OutOfMemory image = ⊥
 
 -- The refusal for a fault in reading: want of memory stays want of memory.
 abbrev pub refusal_of : ImageFault → VerifyFault
 refusal_of Memory = OutOfMemory
 refusal_of fault = NoImage fault
 
--- The rule that a fault names; a fault in reading and want of memory name none.
-abbrev pub rule_of : VerifyFault → ImageParts → Type 0
-rule_of (NoImage fault) image = Unit {0}
-rule_of (NoEntry at) image = IndexesFit image
-rule_of (JumpTarget at) image = JumpsLeadOn image
-rule_of (LeftAtEnd at) image = RoutinesEnd image
-rule_of (Unreached at) image = PlacesAreReached image
-rule_of (WrongOperand at) image = IsTyped image
-rule_of (WaysDisagree at) image = IsTyped image
-rule_of (CallNotLower at) image = CallsGoDown image
-rule_of (WrongResults at) image = IsTyped image
-rule_of (StackOver at) image = StackFits image
-rule_of (FramesOver at) image = FramesFit image
-rule_of (CostOver at) image = CostFits image
-rule_of (CommandsOver at) image = CommandsFit image
-rule_of (HandlerLeaves at) image = HandlersLeaveNothing image
-rule_of OutOfMemory image = Unit {0}
-
--- What a refusal says of the bytes: reading refuses them with that fault, or the rule that it names fails in the image that they spell.
+-- What a refusal says of the bytes: reading refuses them with that fault, or the check that it names fails at its place in the image that they spell.
 abbrev pub IsRefusal : List ℕ → VerifyFault → Type 0
 IsRefusal bytes OutOfMemory = Unit {0}
 IsRefusal bytes (NoImage fault) = image_of bytes ≡ Err fault
-IsRefusal bytes fault = (image : ImageParts) × Spells bytes image × ¬ rule_of fault image
+IsRefusal bytes fault = (image : ImageParts) × Spells bytes image × Fails fault image

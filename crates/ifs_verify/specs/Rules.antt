@@ -20,6 +20,10 @@ AreRoutines image handlers = IsRoutine image handlers.init.0 × IsRoutine image 
 abbrev pub IsMask : ImageParts → ℕ → Type 0
 IsMask image mask = mask < 2 ^ length image.tests
 
+-- Init and body are routines of the image, and the mask has tests of the table alone.
+abbrev pub AreIndexes : ImageParts → Handlers → Type 0
+AreIndexes image handlers = AreRoutines image handlers × IsMask image handlers.mask
+
 -- An instruction's operand is an index of its table.
 abbrev pub HasOperand : ImageParts → Op → Type 0
 HasOperand image (Link interface state) = interface.0 < length image.interfaces

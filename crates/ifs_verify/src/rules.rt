@@ -7,7 +7,7 @@ ghost use Rattle.ifs_base.specs.declared.op.Op.TheVariants.{Call};
 ghost use Rattle.ifs_image.specs.declared.parts.StateSpec.{StateSpec};
 ghost use Rattle.ifs_image.specs.Code.{op_at, target_of};
 ghost use Rattle.ifs_verify.specs.Rules.{IsRoutine, AreRoutines, IsMask, HasOperand, LeaveNothing, IndexesFit, HandlersLeaveNothing, JumpsLeadOn, RoutinesEnd, CallsGoDown, PlacesAreReached};
-ghost use Rattle.ifs_verify.specs.Refused.{rule_of};
+ghost use Rattle.ifs_verify.specs.Refused.{Fails};
 ghost use Rattle.ifs_verify.specs.Passes.{IsSized, Keeps, fault_of};
 
 use crate::fault::{At, VerifyFault};
@@ -30,7 +30,7 @@ pub enum OpRule {
 pub fn check_indexes(image: &ImageParts) -> Result<(), VerifyFault>
     requires { IsSized image.now }
     ensures kept { OnOk result (IndexesFit image.now) }
-    ensures refused { IfErr result (λ fault. ¬ rule_of fault image.now) }
+    ensures refused { IfErr result (λ fault. Fails fault image.now) }
 {
     check_head(image)?;
     check_states(image)?;
@@ -42,7 +42,7 @@ pub fn check_indexes(image: &ImageParts) -> Result<(), VerifyFault>
 pub fn check_jumps(image: &ImageParts) -> Result<(), VerifyFault>
     requires { IsSized image.now }
     ensures kept { OnOk result (JumpsLeadOn image.now) }
-    ensures refused { IfErr result (λ fault. ¬ rule_of fault image.now) }
+    ensures refused { IfErr result (λ fault. Fails fault image.now) }
 {
     check_ops(image, OpRule::Target)?;
     Ok(())
@@ -52,7 +52,7 @@ pub fn check_jumps(image: &ImageParts) -> Result<(), VerifyFault>
 pub fn check_calls(image: &ImageParts) -> Result<(), VerifyFault>
     requires { IsSized image.now }
     ensures kept { OnOk result (CallsGoDown image.now) }
-    ensures refused { IfErr result (λ fault. ¬ rule_of fault image.now) }
+    ensures refused { IfErr result (λ fault. Fails fault image.now) }
 {
     check_ops(image, OpRule::Callee)?;
     Ok(())
@@ -63,7 +63,7 @@ fn check_head(image: &ImageParts) -> Result<(), VerifyFault>
     requires { IsSized image.now }
     ensures initial { OnOk result (image.now.initial.0 < length image.now.states) }
     ensures always { OnOk result (AreRoutines image.now image.now.always × IsMask image.now image.now.always.mask) }
-    ensures refused { IfErr result (λ fault. ¬ rule_of fault image.now) }
+    ensures refused { IfErr result (λ fault. Fails fault image.now) }
 {
     if usize::from(image.initial.0) >= image.states.len() {
         return Err(VerifyFault::NoEntry(At::Head));
@@ -78,7 +78,7 @@ fn check_head(image: &ImageParts) -> Result<(), VerifyFault>
 fn check_states(image: &ImageParts) -> Result<(), VerifyFault>
     requires { IsSized image.now }
     ensures kept { OnOk result ((k : ℕ) (state : StateSpec) → slice_get image.now.states k ≡ Some state → AreRoutines image.now state.handlers × IsMask image.now state.handlers.mask) }
-    ensures refused { IfErr result (λ fault. ¬ rule_of fault image.now) }
+    ensures refused { IfErr result (λ fault. Fails fault image.now) }
 {
     for state in 0..image.states.len() {
         if !are_indexes(image, handlers_of(image, state)) {
@@ -113,7 +113,7 @@ pub fn check_handlers(image: &ImageParts) -> Result<(), VerifyFault>
     requires sized { IsSized image.now }
     requires indexes { IndexesFit image.now }
     ensures kept { OnOk result (HandlersLeaveNothing image.now) }
-    ensures refused { IfErr result (λ fault. ¬ rule_of fault image.now) }
+    ensures refused { IfErr result (λ fault. Fails fault image.now) }
 {
     if !leave_nothing(image, image.always) {
         return Err(VerifyFault::HandlerLeaves(At::Head));
@@ -139,7 +139,7 @@ fn leave_nothing(image: &ImageParts, handlers: Handlers) -> bool
 pub fn check_ends(image: &ImageParts) -> Result<(), VerifyFault>
     requires { IsSized image.now }
     ensures kept { OnOk result (RoutinesEnd image.now) }
-    ensures refused { IfErr result (λ fault. ¬ rule_of fault image.now) }
+    ensures refused { IfErr result (λ fault. Fails fault image.now) }
 {
     for routine in 0..image.routines.len() {
         let code = code(image, routine);
@@ -155,7 +155,7 @@ pub fn check_ends(image: &ImageParts) -> Result<(), VerifyFault>
 fn check_ops(image: &ImageParts, rule: OpRule) -> Result<(), VerifyFault>
     requires { IsSized image.now }
     ensures kept { OnOk result ((routine place : ℕ) (op : Op) → op_at image.now routine place ≡ Some op → Keeps rule image.now routine place op) }
-    ensures refused { IfErr result (λ fault. ¬ rule_of fault image.now) }
+    ensures refused { IfErr result (λ fault. Fails fault image.now) }
 {
     for routine in 0..image.routines.len() {
         check_ops_of(image, routine, rule)?;
@@ -168,7 +168,7 @@ fn check_ops_of(image: &ImageParts, routine: usize, rule: OpRule) -> Result<(), 
     requires sized { IsSized image.now }
     requires routine { IsRoutine image.now routine }
     ensures kept { OnOk result ((place : ℕ) (op : Op) → op_at image.now routine place ≡ Some op → Keeps rule image.now routine place op) }
-    ensures refused { IfErr result (λ fault. ¬ rule_of fault image.now) }
+    ensures refused { IfErr result (λ fault. Fails fault image.now) }
 {
     let code = code(image, routine);
     for place in 0..code.len() {

@@ -2,6 +2,8 @@ use Rattle.std.proofs.Common.{ℕ, ◌≡◌, ◌<◌, List, Option, length, Som
 use Rattle.ifs_base.specs.declared.op.Kind.{Kind}
 use Rattle.ifs_verify.specs.Passes.{row_at, IsTypedUpTo, Extends}
 use Rattle.ifs_verify.proofs.Rows.{row_at-set_same, Extends-set}
+use Rattle.ifs_verify.specs.Refused.{Disagrees}
+use Rattle.ifs_verify.proofs.Instructions.{in_code}
 use Rattle.ifs_verify.proofs.Flow.{handed, ways_disagree}
 use Rattle.ifs_verify.proofs.typing.hand_on.Goals as goal
 
@@ -18,8 +20,9 @@ returns-then-not-meets-clause-refused c _ =
     let given = c.requires.leaves in
     let s = given.3 c.in-Some.to c.in-Some.is in
     let d = c.if-not-meets.ensures.disagree in
-    ways_disagree c.args.image.now c.args.routine c.args.rows.now.items c.args.place c.args.place c.in-Some.to given.0 c.args.after.now d.0
-    c.requires.routine c.requires.typed given.1 given.2 s.0 d.1 d.2
+    in_code (Disagrees c.args.image.now) c.at.result c.args.routine c.args.place c.at.ensures
+    (ways_disagree c.args.image.now c.args.routine c.args.rows.now.items c.args.place c.in-Some.to given.0 c.args.after.now d.0
+    c.requires.typed given.1 given.2 s.0 d.1 d.2)
 
 pub returns-clause-typed : goal.returns-clause-typed
 returns-clause-typed c =
@@ -27,7 +30,7 @@ returns-clause-typed c =
     let s = given.3 c.in-Some.to c.in-Some.is in
     let within : c.in-Some.to < length c.args.rows.now.items = omega (arith, s.1, c.requires.typed.long) in
     subst (λ (rows : List (Option (List Kind))). IsTypedUpTo c.args.image.now c.args.routine rows c.args.place) (sym c.if-not-meets.ensures.met)
-    (handed c.args.image.now c.args.routine c.args.rows.now.items c.args.place c.args.place c.in-Some.to given.0 c.args.after.now
+    (handed c.args.image.now c.args.routine c.args.rows.now.items c.args.place c.in-Some.to given.0 c.args.after.now
     c.requires.typed given.1 given.2 s.0 within c.if-not-meets.ensures.same)
 
 pub returns-clause-extends : goal.returns-clause-extends
