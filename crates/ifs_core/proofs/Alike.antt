@@ -16,9 +16,9 @@ use Rattle.ifs_core.specs.declared.step.Step.TheVariants.{Link, Finished, Tick, 
 use Rattle.ifs_core.specs.declared.step.Reply.TheVariants.{Busy, Stale, Backwards}
 use Rattle.ifs_core.specs.Event.{Handler, AlwaysInit, AlwaysBody, Init, Body, Yield, Behaviour, Position, Event, kept_values, change_of, with_change, entering, evaluation}
 use Rattle.ifs_core.specs.Machine.{routine_of, followed_by, IsBehaviour, periods_in}
-use Rattle.ifs_core.specs.Gateway.{IsPositionOf, IsStateOf, opened}
+use Rattle.ifs_core.specs.Gateway.{IsPositionOf, IsStateOf, opening_of, opened}
 use Rattle.ifs_core.specs.Steps.{CoreState, Turn, at_position, unchanged, same, done, ticked_after, no_event, lacks_room, with_link, with_value, with_run_over, is_same_link, has_value, link_turn, finished_turn, tick_turn, turn, replies, after_steps}
-use Rattle.ifs_core.specs.Headline.{opening_of, RunAlike}
+use Rattle.ifs_core.specs.HeadlineParts.{RunAlike}
 use Rattle.ifs_core.proofs.Runs.{body_of, init_of}
 use Rattle.ifs_core.proofs.Exists.{state_at, room_from_nothing}
 use Rattle.ifs_core.proofs.Places.{link_stays, value_stays, run_over_stays, entering_stays, paid_stays}
@@ -120,7 +120,7 @@ module _ (ends : HandlersEnd) (unique : RunsAreUnique) (image : ImageParts) (acc
         ticked_after now false (no_event s.position) s in
         ap turned (evaluation_alike s.position is.position)
 
-    turn_alike : (step : Step) → turn a image.budgets.commands step s ≡ turn b image.budgets.commands step s
+    pub turn_alike : (step : Step) → turn a image.budgets.commands step s ≡ turn b image.budgets.commands step s
     turn_alike (Link interface link) = link_alike (Link interface link) interface.0 link (slice_get s.position.facts.links interface.0)
     turn_alike (Finished test run value) = finished_alike (Finished test run value) test.0 run value (slice_get s.position.facts.tests test.0)
     turn_alike (Tick now) = tick_alike now
@@ -151,7 +151,7 @@ module _ (ends : HandlersEnd) (unique : RunsAreUnique) (image : ImageParts) (acc
     schedule = entered always active 0 (all_off (periods_in image) 1);
   }
 
-  opening_alike : opening_of a image ≡ opening_of b image
+  pub opening_alike : opening_of a image ≡ opening_of b image
   opening_alike =
       let facts = (opening_of b image).position.facts in
       let at = first_at ends unique image accepted b is_b in

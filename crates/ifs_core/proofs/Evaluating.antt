@@ -13,8 +13,8 @@ use Rattle.ifs_machine.specs.Run.{AreFactsOf, HasRoom, Appends, IsWish, IsCostOf
 use Rattle.ifs_core.specs.Event.{Handler, AlwaysInit, AlwaysBody, Init, Body, Yield, Behaviour, Position, Event, change_of, with_change, entering, evaluation}
 use Rattle.ifs_core.specs.Machine.{routine_of, followed_by, IsBehaviour, KeepsBudgets}
 use Rattle.ifs_core.specs.Within.{RanBodies}
-use Rattle.ifs_core.specs.Gateway.{IsPositionOf}
-use Rattle.ifs_core.specs.Headline.{IsRun, EvaluationRuns, after_always, after_bodies, opening_of, OpeningHolds}
+use Rattle.ifs_core.specs.Gateway.{IsPositionOf, IsStateOf, opening_of, opened}
+use Rattle.ifs_core.specs.HeadlineParts.{IsRun, EachRun, BothRuns, after_always, after_bodies}
 use Rattle.ifs_core.proofs.Runs.{room_for_body, room_for_init, room_for_first_init, body_of, init_of, ran_bodies, ran_init, bodies_keep, change_keeps, count_after, two_known}
 use Rattle.ifs_core.proofs.Exists.{handles, state_at, room_from_nothing}
 use Rattle.ifs_core.proofs.Opening.{length-all_unknown, length-no_values, length-all_off}
@@ -34,6 +34,12 @@ change_known : (image : ImageParts) (current : StateId) (wish : Option StateId) 
     → change_of current wish ≡ Some next → next.0 < length image.states
 change_known image current None next known e = absurd (none-some next e)
 change_known image current (Some wished) next known e = change_if image (wished.0 == current.0) wished next known e
+
+-- The opening: both inits run to their ends without a trap, within the image's budgets, and leave a state of its run.
+pub record OpeningHolds (image : ImageParts) (b : Behaviour) : Type 0 where
+  pub runs : BothRuns (IsRun image b) b image
+  pub budgets : KeepsBudgets image (opening_of b image).commands (opening_of b image).cost
+  pub state : IsStateOf image (opened b image)
 
 module _ (ends : HandlersEnd) (unique : RunsAreUnique) (image : ImageParts) (accepted : IsAccepted image) (b : Behaviour) (is : IsBehaviour image b) where
   -- A handler ran: what it costs and brings about is bounded.
@@ -88,7 +94,7 @@ module _ (ends : HandlersEnd) (unique : RunsAreUnique) (image : ImageParts) (acc
         (entering_stays image b next p at (entered next e)).facts
         (room_for_init image p.current.0 next.0 state (after_bodies b p) (always_yield.cost + own_yield.cost) accepted bodies there)
 
-    pub evaluation_runs : EvaluationRuns image b p
+    pub evaluation_runs : EachRun (IsRun image b) b p
     evaluation_runs = record {
       always = always_ran.run;
       body = let here = state_at image p.current.0 at.current in (own_ran here.0 here.1).run;
@@ -168,8 +174,7 @@ module _ (ends : HandlersEnd) (unique : RunsAreUnique) (image : ImageParts) (acc
       let paid : (b.answer AlwaysInit first.facts).cost + (b.answer (Init image.initial.0) first.facts).cost ≤ image.budgets.cost =
       omega (arith, cheap.3.opening state here.1, always.within cheap.0 cheap.1, own.within cheap.0 cheap.1) in
       record {
-        always = always.run;
-        init = own.run;
+        runs = record { always = always.run; init = own.run };
         budgets = record { cost = paid; count = count; known = known };
         state = record { position = first_at; queue = omega (arith, count, fits.budgets.commands); commands = known };
       }

@@ -6,3 +6,4 @@ pub mod Places
 pub mod Evaluating
 pub mod Turning
 pub mod Alike
+pub mod Keeping

@@ -6,7 +6,7 @@ use Rattle.ifs_image.specs.declared.parts.ImageParts.{ImageParts}
 use Rattle.ifs_machine.specs.Run.{AreFactsOf, IsCommand}
 use Rattle.ifs_machine.specs.Views.{facts_of}
 use Rattle.ifs_core.specs.declared.position.Position.{Position as Standing}
-use Rattle.ifs_core.specs.Event.{Behaviour, Position, opening}
+use Rattle.ifs_core.specs.Event.{Behaviour, Position, Event, opening}
 use Rattle.ifs_core.specs.Machine.{all_unknown, periods_in}
 use Rattle.ifs_core.specs.Steps.{CoreState}
 
@@ -31,11 +31,13 @@ pub record IsStateOf (image : ImageParts) (s : CoreState) : Type 0 where
 abbrev pub position_of : Standing → Position
 position_of p = record { facts = facts_of p.facts; current = p.current; owed = p.owed; schedule = p.schedule }
 
--- The state of an image that was just opened: nothing is known of its links, and the first run number is 1.
+-- The event by which an image is opened: nothing is known of its links, and the first run number is 1.
+abbrev pub opening_of : Behaviour → ImageParts → Event
+opening_of b image = opening b (all_unknown image) (periods_in image) 1 image.initial
+
+-- The state after it: its commands are queued, and nothing is traced.
 abbrev pub opened : Behaviour → ImageParts → CoreState
-opened b image =
-    let first = opening b (all_unknown image) (periods_in image) 1 image.initial in
-    record { position = first.position; queue = first.commands; trace = [] }
+opened b image = record { position = (opening_of b image).position; queue = (opening_of b image).commands; trace = [] }
 
 -- The interface of a name, compared byte by byte, where the table has it.
 abbrev pub interface_of : List (List ℕ) → List ℕ → Option IfaceId

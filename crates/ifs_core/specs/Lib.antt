@@ -4,6 +4,7 @@ pub mod Machine
 pub mod Within
 pub mod Gateway
 pub mod Opened
+pub mod HeadlineParts
 pub mod Headline
 pub use Rattle.ifs_base.specs.Facts
 pub use Rattle.ifs_base.specs.Spelling

@@ -2,6 +2,7 @@
 use Rattle.std.specs.Prelude.{ℕ, ◌≡◌, ◌-◌, Bool, true, false, not, ◌==◌, nat_lt, if◌then◌else◌, List, [], ◌∷◌, ◌++◌, length, slice_get, slice_set, Option, Some, None}
 use Rattle.circular_buffer.specs.Buffer.{keep_last}
 use Rattle.ifs_base.specs.declared.ids.CommandId.{CommandId}
+use Rattle.ifs_base.specs.declared.ids.StateId.{StateId}
 use Rattle.ifs_base.specs.declared.op.LinkState.{LinkState}
 use Rattle.ifs_base.specs.Spelling.{code_of_link}
 use Rattle.ifs_sched.specs.Schedule.{ticked, starts, is_exhausted, is_running, finished}
@@ -29,6 +30,38 @@ pub record Turn : Type 0 where
 pub record Makes (t : Turn) (reply : Reply) (state : CoreState) : Type 0 where
   pub replied : reply ≡ t.reply
   pub came_to : state ≡ t.next
+
+-- How many instructions a reply says that its step executed; none where it tells of no evaluation.
+abbrev pub cost_told : Reply → ℕ
+cost_told (Done state queued cost) = cost
+cost_told (Ticked evaluated state queued cost starts exhausted) = cost
+cost_told _ = 0
+
+-- The commands that a reply says were queued, in order.
+abbrev pub commands_told : Reply → List CommandId
+commands_told (Done state queued cost) = queued.items
+commands_told (Ticked evaluated state queued cost starts exhausted) = queued.items
+commands_told _ = []
+
+-- The state that a reply says is the current one.
+abbrev pub state_told : Reply → Option StateId
+state_told (Done state queued cost) = Some state
+state_told (Ticked evaluated state queued cost starts exhausted) = Some state
+state_told _ = None
+
+-- The command that a reply hands out.
+abbrev pub command_taken : Reply → Option CommandId
+command_taken (Taken command) = Some command
+command_taken _ = None
+
+-- The replies that change nothing.
+abbrev pub ChangesNothing : Reply → Type 0
+ChangesNothing Empty = Unit {0}
+ChangesNothing Busy = Unit {0}
+ChangesNothing Stale = Unit {0}
+ChangesNothing Backwards = Unit {0}
+ChangesNothing NoSuch = Unit {0}
+ChangesNothing _ = ⊥
 
 -- The trace is the last 256 records.
 abbrev pub traced : Record → List Record → List Record

@@ -9,6 +9,7 @@ use ifs_base::CommandId;
 use ifs_verify::Verified;
 use std::alloc::Global;
 use std::marker::Model;
+use thiserror::Error;
 
 /// How many records the trace keeps.
 pub const TRACE: usize = 256;
@@ -35,7 +36,8 @@ impl Model for Core {
 }
 
 /// No memory was found for the trace. The image is handed back.
-#[derive(Debug, Drop)]
+#[derive(Debug, Drop, Error)]
+#[error("V0")]
 pub struct OpenFault {
     pub verified: Verified,
 }
@@ -45,6 +47,7 @@ impl Core {
     ghost use Rattle.ifs_core.specs.Event.{Behaviour};
     ghost use Rattle.ifs_core.specs.Machine.{IsBehaviour};
     ghost use Rattle.ifs_core.specs.Gateway.{opened};
+    ghost use Rattle.ifs_core.specs.Headline.{OpeningKeeps};
 
     /// Opens an image at moment 0: all links are unknown and no test has a value. The always init
     /// and the initial state's init run and their commands are queued; their wishes are dropped.
@@ -54,18 +57,22 @@ impl Core {
         ensures image { IfOk result (λ core. core.image ≡ verified) }
         ensures state { IfOk result (λ core. (b : Behaviour) → IsBehaviour verified b → core.state ≡ opened b verified) }
         ensures fault { IfErr result (λ fault. fault.verified ≡ verified) }
+        ensures kept { IfOk result (λ core. OpeningKeeps verified core.state) }
     {
         match HeapCircularBuffer::with_capacity(alloc, TRACE) {
             Err(_) => Err(OpenFault { verified }),
             Ok(trace) => {
                 let position = open_position(&verified);
                 let queue = run_inits(&verified, &position);
-                Ok(Core {
+                let core = Core {
                     verified,
                     position,
                     queue,
                     trace,
-                })
+                };
+                // The image, which is accepted, keeps what is promised of its opening.
+                core.image();
+                Ok(core)
             }
         }
     }

@@ -1,18 +1,26 @@
 //! What holds of every run, whoever makes it.
 
-ghost use Rattle.ifs_core.specs.Headline.{Headline};
+ghost use Rattle.ifs_core.specs.Headline.{AcceptedIsKept, Headline};
 
-use ifs_machine::laws::{handlers_end, runs_are_unique, runs_follow};
+use ifs_machine::laws::{handlers_end, runs_are_unique, runs_follow, runs_stay_within};
 
-/// The headline. Of every image that the verifier accepts, and of every list of steps, with any
-/// values in them, made on a core that was opened with it: no step traps; each event runs at most
-/// the stated instructions, within the stated stack and frames, and queues at most the stated number
-/// of commands, all of the image's table; it leaves a state of the image's list; `Busy` comes only
-/// where the queue lacks room for the stated commands, and changes nothing.
+/// The headline. For every byte string that `verify` accepts and every list of steps, with any values
+/// in them, no step traps; each runs at most the image's stated instructions, within its stated stack
+/// and frames, queues at most its stated number of commands, all from its table, and leaves a state of
+/// its list; states and replies are those of the machine's table; `Busy` comes only where the queue
+/// lacks that stated room, and changes nothing. Opening is included.
 pub fn headline()
     ensures { Headline }
+{
+    accepted_is_kept();
+}
+
+/// The same of every accepted image within its limits, whichever bytes spell it.
+pub fn accepted_is_kept()
+    ensures { AcceptedIsKept }
 {
     handlers_end();
     runs_are_unique();
     runs_follow();
+    runs_stay_within();
 }

@@ -4,13 +4,31 @@ ghost use Rattle.std.specs.Prelude.{◌≡◌, ◌<◌, IfSome, length, position
 ghost use Rattle.std.specs.Str.{bytes_eq};
 
 use crate::gateway::Core;
+use crate::laws::accepted_is_kept;
 use crate::step::Record;
 use ifs_base::{CommandId, IfaceId, LinkState, StateId, TestId, Text};
+use ifs_image::ImageParts;
 
 impl Core {
     ghost use Rattle.std.specs.Prelude.{◌≡◌, length, option_map, slice_get};
     ghost use Rattle.ifs_sched.specs.Schedule.{running_count};
-    ghost use Rattle.ifs_core.specs.Gateway.{interface_of};
+    ghost use Rattle.ifs_image.specs.Limits.{Fits};
+    ghost use Rattle.ifs_verify.specs.Accepted.{IsAccepted};
+    ghost use Rattle.ifs_core.specs.Gateway.{IsStateOf, interface_of};
+    ghost use Rattle.ifs_core.specs.Headline.{IsKept};
+
+    /// The image that runs. It is accepted and keeps to its limits, and so it keeps what the headline
+    /// promises; the state of the core is one of its run.
+    pub fn image(&self) -> &ImageParts
+        ensures value { result.now ≡ self.now.image }
+        ensures accepted { IsAccepted self.now.image }
+        ensures fits { Fits self.now.image }
+        ensures kept { IsKept self.now.image }
+        ensures stands { IsStateOf self.now.image self.now.state }
+    {
+        accepted_is_kept();
+        self.verified.image().parts()
+    }
 
     /// The current state.
     pub fn state(&self) -> StateId

@@ -15,6 +15,7 @@ impl Core {
     ghost use Rattle.ifs_machine.specs.Run.{IsCommand};
     ghost use Rattle.ifs_core.specs.Event.{Behaviour, IsEvent, event_of, evaluation};
     ghost use Rattle.ifs_core.specs.Machine.{IsBehaviour};
+    ghost use Rattle.ifs_core.specs.Headline.{StepKeeps};
     ghost use Rattle.ifs_core.specs.Steps.{Makes, turn, settled, ticked_after, same as nothing_new, at_position, with_link, with_value, with_run_over, lacks_room as is_without_room, done as comes_to};
 
     /// Makes a step. It takes no memory and always answers.
@@ -29,7 +30,10 @@ impl Core {
         // The reply and the next state are those of the run, whose handlers do what their runs on the machine do.
         ensures run { (b : Behaviour) → IsBehaviour self.old.image b
             → Makes (turn b self.old.image.budgets.commands step self.old.state) result self.new.state }
+        // They keep what the headline promises of each step.
+        ensures kept { StepKeeps self.old.image self.old.state step (record { reply = result; next = self.new.state }) }
     {
+        self.image();
         match step {
             Step::Link(interface, link) => self.link_changes(interface, link),
             Step::Finished(test, run, value) => self.test_finishes(test, run, value),

@@ -4,3 +4,4 @@ pub mod Ending
 pub mod Standing
 pub mod Shift
 pub mod Loop
+pub mod Within

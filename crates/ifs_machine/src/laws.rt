@@ -1,6 +1,6 @@
 //! What holds of handler runs, whoever makes them.
 
-ghost use Rattle.ifs_machine.specs.Run.{RunsAreUnique, RunsFollow, HandlersEnd, EmptyQueueHasRoom};
+ghost use Rattle.ifs_machine.specs.Run.{RunsAreUnique, RunsFollow, RunsStayWithin, HandlersEnd, EmptyQueueHasRoom};
 
 /// A handler run has one cost and one end.
 pub fn runs_are_unique()
@@ -11,6 +11,11 @@ pub fn runs_are_unique()
 /// its wish holds where it has one.
 pub fn runs_follow()
     ensures { RunsFollow }
+{}
+
+/// Each configuration that a run comes to is within the stack and the frames that the image states.
+pub fn runs_stay_within()
+    ensures { RunsStayWithin }
 {}
 
 /// Each handler of an accepted image runs to its end, whatever the facts, where the commands that are

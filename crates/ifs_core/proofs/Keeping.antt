@@ -1,0 +1,114 @@
+-- What is promised is kept: by each step from a state of an image's run, by the opening, and so by each run.
+use Rattle.std.proofs.Common.{◌≡◌, ◌≢◌, ◌-◌, ◌<◌, List, [], ◌∷◌, length, refl, sym, ap, ◌∙◌, subst, arith}
+use Rattle.ifs_base.specs.Facts.{Facts}
+use Rattle.ifs_image.specs.declared.parts.ImageParts.{ImageParts}
+use Rattle.ifs_image.specs.Limits.{Fits}
+use Rattle.ifs_verify.specs.Accepted.{IsAccepted}
+use Rattle.ifs_machine.specs.Table.{Effects}
+use Rattle.ifs_machine.specs.Run.{HandlersEnd, RunsAreUnique, RunsFollow, RunsStayWithin, nothing_yet}
+use Rattle.ifs_core.specs.declared.step.Step.{Step}
+use Rattle.ifs_core.specs.declared.step.Reply.{Reply}
+use Rattle.ifs_core.specs.declared.step.Reply.TheVariants.{Busy}
+use Rattle.ifs_core.specs.Event.{Handler, AlwaysInit, AlwaysBody, Init, Body, Behaviour, Position, entering}
+use Rattle.ifs_core.specs.Machine.{IsBehaviour, followed_by}
+use Rattle.ifs_core.specs.Gateway.{IsStateOf, opening_of, opened}
+use Rattle.ifs_core.specs.Steps.{CoreState, Turn, Makes, turn}
+use Rattle.ifs_core.specs.HeadlineParts.{IsRun, IsWithinBudgets, EachRun, BothRuns, after_always, after_bodies, changed_by}
+use Rattle.ifs_core.specs.Headline.{StepKeeps, OpeningKeeps, StepsKeep, RunKeeps, IsKept}
+use Rattle.ifs_core.proofs.Exists.{exists}
+use Rattle.ifs_core.proofs.Evaluating.{evaluation_runs, OpeningHolds, opening_holds}
+use Rattle.ifs_core.proofs.Turning.{step_holds, changed_at, state_after}
+use Rattle.ifs_core.proofs.Alike.{turn_alike, opening_alike, run_alike}
+
+module _ (ends : HandlersEnd) (unique : RunsAreUnique) (follow : RunsFollow) (stay : RunsStayWithin) (image : ImageParts) (accepted : IsAccepted image) (fits : Fits image) where
+  within : (handler : Handler) (facts : Facts) (before : Effects) → IsWithinBudgets image handler facts before
+  within handler facts before = λ routine is. stay image facts routine before
+
+  each_within : (b : Behaviour) (p : Position) → EachRun (IsWithinBudgets image) b p
+  each_within b p = record {
+    always = within AlwaysBody p.facts nothing_yet;
+    body = within (Body p.current.0) p.facts (after_always b p);
+    init = λ next e. within (Init next.0) (entering b next p).facts (after_bodies b p);
+  }
+
+  both_within : (b : Behaviour) → BothRuns (IsWithinBudgets image) b image
+  both_within b =
+      let facts = (opening_of b image).position.facts in
+      record {
+        always = within AlwaysInit facts nothing_yet;
+        init = within (Init image.initial.0) facts (followed_by nothing_yet (b.answer AlwaysInit facts));
+      }
+
+  module _ (b : Behaviour) (is_b : IsBehaviour image b) where
+    pub step_keeps : (s : CoreState) → IsStateOf image s → (step : Step) → StepKeeps image s step (turn b image.budgets.commands step s)
+    step_keeps s is step =
+        let holds = (step_holds ends unique image accepted b is_b s is step).turn in
+        record {
+          no_trap = λ a is_a. evaluation_runs ends unique image accepted a is_a (changed_by step s.position) (changed_at ends unique image accepted b is_b s is step);
+          instructions = holds.budgets.cost;
+          stack_and_frames = λ a is_a. each_within a (changed_by step s.position);
+          commands = holds.budgets.count;
+          from_table = holds.budgets.known;
+          state_of_list = holds.state.position.current;
+          of_table = λ a is_a. turn_alike ends unique image accepted b a is_b is_a s is step;
+          busy = holds.busy;
+          not_busy = λ empty e. let room = holds.busy e in absurd (omega (arith, room, ap length empty, fits.budgets.commands));
+          nothing = holds.nothing;
+          told = holds.told;
+          taken = holds.taken;
+          next = holds.state;
+        }
+
+    pub opening_keeps : OpeningKeeps image (opened b image)
+    opening_keeps =
+        let holds : (a : Behaviour) → IsBehaviour image a → OpeningHolds image a = λ a is_a. opening_holds ends unique image accepted a is_a fits in
+        let state = (holds b is_b).state in
+        record {
+          no_trap = λ a is_a. (holds a is_a).runs;
+          instructions = λ a is_a. (holds a is_a).budgets.cost;
+          stack_and_frames = λ a is_a. both_within a;
+          commands = (holds b is_b).budgets.count;
+          from_table = (holds b is_b).budgets.known;
+          state_of_list = state.position.current;
+          of_table = λ a is_a. (run_alike ends unique image accepted b a is_b is_a fits []).state;
+          state = state;
+        }
+
+    steps_keep : (steps : List Step) (s : CoreState) → IsStateOf image s → StepsKeep image b steps s
+    steps_keep [] s is = tt
+    steps_keep (step ∷ steps) s is = let one = step_keeps s is step in (one, steps_keep steps (turn b image.budgets.commands step s).next one.next)
+
+    pub run_keeps : (steps : List Step) → RunKeeps image b steps
+    run_keeps steps =
+        let opening = opening_keeps in
+        record {
+          opening = opening;
+          each = steps_keep steps (opened b image) opening.state;
+          state = state_after ends unique image accepted b is_b steps (opened b image) opening.state;
+        }
+
+  pub is_kept : IsKept image
+  is_kept = record {
+    behaviour = exists ends follow image accepted;
+    runs = λ b is. run_keeps b is;
+    one = λ a b is_a is_b steps. run_alike ends unique image accepted a b is_a is_b fits steps;
+    anywhere = λ b is s at step. step_keeps b is s at step;
+  }
+
+-- what was answered to a step in a state of an image's run, and the state after it, keep what is promised
+pub answer_keeps : (image : ImageParts) (s next : CoreState) (step : Step) (reply : Reply) → IsKept image → IsStateOf image s
+    → ((b : Behaviour) → IsBehaviour image b → Makes (turn b image.budgets.commands step s) reply next)
+    → StepKeeps image s step (record { reply = reply; next = next })
+answer_keeps image s next step reply kept is makes =
+    let b = kept.behaviour.0 in
+    let t = turn b image.budgets.commands step s in
+    let made = makes b kept.behaviour.1 in
+    let same : t ≡ record { reply = reply; next = next } =
+    sym (ap (λ (r : Reply). record { reply = r; next = next }) made.replied ∙ ap (λ (n : CoreState). record { reply = t.reply; next = n }) made.came_to) in
+    subst (StepKeeps image s step) same (kept.anywhere b kept.behaviour.1 s is step)
+
+-- what was opened keeps what is promised
+pub opened_keeps : (image : ImageParts) (s : CoreState) → IsKept image → ((b : Behaviour) → IsBehaviour image b → s ≡ opened b image) → OpeningKeeps image s
+opened_keeps image s kept is =
+    let b = kept.behaviour.0 in
+    subst (OpeningKeeps image) (sym (is b kept.behaviour.1)) (kept.runs b kept.behaviour.1 []).opening
