@@ -1,33 +1,22 @@
 -- What follows from an instruction that stands at a place.
-use Rattle.std.proofs.Common.{ℕ, ◌≡◌, ◌≢◌, ◌<◌, length, Option, Some, None, refl, ap, ◌∙◌, ◌+◌, ◌-◌, List, inl, inr, arith, subst, sym}
+use Rattle.std.proofs.Common.{ℕ, ◌≡◌, ◌≢◌, ◌<◌, length, Option, Some, None, ap, ◌∙◌, ◌+◌, ◌-◌, List, inl, inr, arith, subst, sym}
 use Rattle.std.specs.List.{slice_get}
 use Rattle.std.proofs.lemmas.Bool.{cases_lt}
 use Rattle.std.proofs.lemmas.Option.{slice_get_past, slice_get_within}
 use Rattle.ifs_base.specs.declared.op.Op.{Op}
-use Rattle.ifs_base.specs.declared.op.Op.TheVariants.{Ret, Call}
+use Rattle.ifs_base.specs.declared.op.Op.TheVariants.{Ret}
 use Rattle.ifs_image.specs.declared.parts.Handlers.{Handlers}
 use Rattle.ifs_image.specs.declared.parts.StateSpec.{StateSpec}
 use Rattle.ifs_image.specs.declared.parts.Routine.{Routine}
 use Rattle.ifs_image.specs.declared.parts.ImageParts.{ImageParts}
 use Rattle.ifs_image.specs.Code.{op_at, code_of, code_in, target_of}
-use Rattle.ifs_base.specs.declared.ids.RoutineId.{RoutineId}
-use Rattle.ifs_verify.specs.declared.fault.At.{At}
-use Rattle.ifs_verify.specs.declared.fault.At.TheVariants.{Code}
-use Rattle.ifs_verify.specs.declared.rules.OpRule.{OpRule}
-use Rattle.ifs_verify.specs.declared.rules.OpRule.TheVariants.{Operand, Target, Callee}
+use Rattle.ifs_verify.specs.declared.rules.OpRule.TheVariants.{Target}
 use Rattle.ifs_verify.specs.Rules.{IsRoutine, RoutinesEnd}
-use Rattle.ifs_verify.specs.Refused.{Fails, InCode, LacksEntry, JumpsElsewhere, CallsNoLower}
-use Rattle.ifs_verify.specs.Passes.{Keeps, fault_of}
-
--- What a fault says of a place, where it names that place.
-pub in_code : (says : ℕ → ℕ → Type 0) (at : At) (routine place : ℕ) → at ≡ Code (record { 0 = routine }) place → says routine place → InCode says at
-in_code says at routine place e it = subst (InCode says) (sym e) it
+use Rattle.ifs_verify.specs.Refused.{JumpsElsewhere}
+use Rattle.ifs_verify.specs.Passes.{Keeps}
 
 same_number : (a b : ℕ) → Some a ≡ Some b → a ≡ b
 same_number a b e = cc
-
-same_callee : (a b : RoutineId) → Call a ≡ Call b → a ≡ b
-same_callee a b e = cc
 
 found_in : (routine : Option Routine) (place : ℕ) (op : Op) → slice_get (code_in routine) place ≡ Some op → routine ≢ None
 found_in None place op h e = cc
@@ -41,27 +30,12 @@ op_at-routine image routine place op h =
       | inr past ↦ absurd (found_in (slice_get image.routines routine) place op h (slice_get_past image.routines routine past))
     ]
 
-jump_elsewhere : (image : ImageParts) (routine place : ℕ) (op : Op) (target : Option ℕ) → op_at image routine place ≡ Some op → target_of op ≡ target
+-- A jump that does not lead on stands where an instruction does not keep to leading on.
+pub jump_elsewhere : (image : ImageParts) (routine place : ℕ) (op : Op) (target : Option ℕ) → op_at image routine place ≡ Some op → target_of op ≡ target
     → ¬ Keeps Target image routine place op → JumpsElsewhere image routine place
-jump_elsewhere image routine place op None h none broken = absurd (broken (λ target e. let no : None ≡ Some target = sym none ∙ e in cc))
+jump_elsewhere image routine place op None h none broken = absurd (broken (λ target e. let never : None ≡ Some target = sym none ∙ e in cc))
 jump_elsewhere image routine place op (Some target) h some broken =
     (op, target, h, some, λ leads. broken (λ other e. subst (λ (n : ℕ). (place < n) × (n < length (code_of image routine))) (same_number target other (sym some ∙ e)) leads))
-
-call_no_lower : (image : ImageParts) (routine place : ℕ) (op : Op) → op_at image routine place ≡ Some op
-    → ¬ Keeps Callee image routine place op → CallsNoLower image routine place
-call_no_lower image routine place (Call callee) h broken =
-    elim (cases_lt callee.0 routine) [
-      | inl lower ↦ absurd (broken (λ other e. subst (λ (n : RoutineId). n.0 < routine) (same_callee callee other e) lower))
-      | inr past ↦ (callee, h, past)
-    ]
-call_no_lower image routine place op h broken = absurd (broken (λ callee e. cc))
-
--- The check of a rule fails at an instruction that breaks it.
-pub breaks : (rule : OpRule) (at : At) (image : ImageParts) (routine place : ℕ) (op : Op) → at ≡ Code (record { 0 = routine }) place
-    → op_at image routine place ≡ Some op → ¬ Keeps rule image routine place op → Fails (fault_of rule at) image
-breaks Operand at image routine place op e h broken = subst (LacksEntry image) (sym e) (op, h, broken)
-breaks Target at image routine place op e h broken = in_code (JumpsElsewhere image) at routine place e (jump_elsewhere image routine place op (target_of op) h refl broken)
-breaks Callee at image routine place op e h broken = in_code (CallsNoLower image) at routine place e (call_no_lower image routine place op h broken)
 
 some_same : (a b : StateSpec) → Some a ≡ Some b → a ≡ b
 some_same a b e = cc

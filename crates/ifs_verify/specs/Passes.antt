@@ -21,9 +21,9 @@ use Rattle.ifs_verify.specs.declared.budgets.Part.TheVariants.{Init, Body}
 use Rattle.ifs_verify.specs.Rules.{HasOperand, IndexesFit, JumpsLeadOn, RoutinesEnd, CallsGoDown, PlacesAreReached}
 use Rattle.ifs_verify.specs.declared.amounts.Weight.{Weight}
 use Rattle.ifs_verify.specs.declared.amounts.Weight.TheVariants.{Cost, Commands}
-use Rattle.ifs_verify.specs.Bounds.{cost_of, commands_of, callee_amount, AreHeights, AreDepths, AreAmounts}
+use Rattle.ifs_verify.specs.Bounds.{cost_of, commands_of, callee_amount, AreHeights, AreDepths, AreAmounts, FitsEvents}
 use Rattle.ifs_verify.specs.Typing.{IsTyping, AreTypings}
-use Rattle.ifs_verify.specs.Refused.{Fails}
+use Rattle.ifs_verify.specs.Refused.{Fails, AreOver, AreTotals}
 use Rattle.ifs_verify.specs.Ways.{Leads}
 
 -- The limits of an image on which the passes rest.
@@ -167,6 +167,20 @@ pub record HoldsDepth (image : ImageParts) (depths : ℕ → ℕ) (routine depth
 abbrev pub weight_of : Weight → Op → ℕ
 weight_of Cost = cost_of
 weight_of Commands = commands_of
+
+-- The limit of a routine, by what is counted.
+abbrev pub limit_of : Weight → ℕ
+limit_of Cost = 100000
+limit_of Commands = 64
+
+-- What is stated of one event, by what is counted.
+abbrev pub stated_of : Weight → ImageParts → ℕ
+stated_of Cost image = image.budgets.cost
+stated_of Commands image = image.budgets.commands
+
+-- What is counted is over.
+abbrev pub AmountIsOver : Weight → ImageParts → At → Type 0
+AmountIsOver weight image at = AreOver image (AreTotals (weight_of weight) image) (limit_of weight) (λ totals. FitsEvents image totals (stated_of weight image)) at
 
 -- The amount at a successor; 0 where there is none.
 abbrev pub amount_behind : (ℕ → ℕ) → Option ℕ → ℕ

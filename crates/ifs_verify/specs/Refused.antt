@@ -96,6 +96,19 @@ AreTypedHeights image heights = (kinds : ℕ → ℕ → List Kind) × AreTyping
 abbrev pub AreTotals : (Op → ℕ) → ImageParts → (ℕ → ℕ) → Type 0
 AreTotals weight image totals = (amounts : ℕ → ℕ → ℕ) × AreAmounts weight image amounts × ((routine : ℕ) → amounts routine 0 ≡ totals routine)
 
+-- The stack, the frames, the cost or the commands are over, at the head or at a routine.
+abbrev pub StackIsOver : ImageParts → At → Type 0
+StackIsOver image at = AreOver image (AreTypedHeights image) 32 (λ heights. FitsHandlers image heights image.budgets.stack) at
+
+abbrev pub FramesAreOver : ImageParts → At → Type 0
+FramesAreOver image at = AreOver image (AreDepths image) 32 (λ depths. FitsHandlers image depths image.budgets.frames) at
+
+abbrev pub CostIsOver : ImageParts → At → Type 0
+CostIsOver image at = AreOver image (AreTotals cost_of image) 100000 (λ costs. FitsEvents image costs image.budgets.cost) at
+
+abbrev pub CommandsAreOver : ImageParts → At → Type 0
+CommandsAreOver image at = AreOver image (AreTotals commands_of image) 64 (λ commands. FitsEvents image commands image.budgets.commands) at
+
 -- What a fault says of an image: its check fails at its place. A fault in reading and want of memory say nothing of one.
 abbrev pub Fails : VerifyFault → ImageParts → Type 0
 Fails (NoImage fault) image = ⊥
@@ -107,10 +120,10 @@ Fails (WrongOperand at) image = InCode (LacksOperand image) at
 Fails (WaysDisagree at) image = InCode (Disagrees image) at
 Fails (CallNotLower at) image = InCode (CallsNoLower image) at
 Fails (WrongResults at) image = InCode (ReturnsOthers image) at
-Fails (StackOver at) image = InCode (LeavesMany image) at ⊎ AreOver image (AreTypedHeights image) 32 (λ heights. FitsHandlers image heights image.budgets.stack) at
-Fails (FramesOver at) image = AreOver image (AreDepths image) 32 (λ depths. FitsHandlers image depths image.budgets.frames) at
-Fails (CostOver at) image = AreOver image (AreTotals cost_of image) 100000 (λ costs. FitsEvents image costs image.budgets.cost) at
-Fails (CommandsOver at) image = AreOver image (AreTotals commands_of image) 64 (λ commands. FitsEvents image commands image.budgets.commands) at
+Fails (StackOver at) image = InCode (LeavesMany image) at ⊎ StackIsOver image at
+Fails (FramesOver at) image = FramesAreOver image at
+Fails (CostOver at) image = CostIsOver image at
+Fails (CommandsOver at) image = CommandsAreOver image at
 Fails (HandlerLeaves at) image = LeavesValue image at
 Fails OutOfMemory image = ⊥
 

@@ -4,9 +4,10 @@ ghost use Rattle.std.specs.Prelude.{ℕ, ◌≡◌, ◌+◌, ◌<◌, ◌≤◌,
 ghost use Rattle.ifs_base.specs.declared.ids.RoutineId.{RoutineId};
 ghost use Rattle.ifs_base.specs.declared.op.Op.TheVariants.{Call};
 ghost use Rattle.ifs_image.specs.Code.{code_of, IsSuccessor};
+ghost use Rattle.ifs_verify.specs.declared.fault.At.TheVariants.{Code};
 ghost use Rattle.ifs_verify.specs.Bounds.{AreAmounts, callee_amount};
 ghost use Rattle.ifs_verify.specs.Rules.{IsRoutine};
-ghost use Rattle.ifs_verify.specs.Passes.{IsPlain, HoldsAmount, HoldsRow, IsCountedFrom, weight_of, amount_behind};
+ghost use Rattle.ifs_verify.specs.Passes.{IsPlain, HoldsAmount, HoldsRow, IsCountedFrom, LeastAmounts, AmountIsOver, weight_of, limit_of, amount_behind};
 
 use crate::places::{code, next, op_at, target};
 use crate::tables::greater;
@@ -33,10 +34,10 @@ pub fn amount_of(
 ) -> Result<u32, AllocError>
     requires plain { IsPlain image.now }
     requires routine { IsRoutine image.now routine }
-    requires long { length lower.now ≡ routine }
-    requires low { (k : ℕ) → slice_index lower.now k ≤ 100000 }
+    requires lower { LeastAmounts (weight_of weight) image.now (limit_of weight) lower.now routine }
     ensures holds { IfOk result (λ amount. (row : ℕ → ℕ) × (row 0 ≡ amount) × HoldsRow (weight_of weight) image.now (slice_index lower.now) routine row) }
     ensures least { IfOk result (λ amount. (all : ℕ → ℕ → ℕ) → AreAmounts (weight_of weight) image.now all → ((k : ℕ) → k < routine → slice_index lower.now k ≤ all k 0) → amount ≤ all routine 0) }
+    ensures over { IfOk result (λ amount. limit_of weight < amount → AmountIsOver weight image.now (Code (record { 0 = routine }) 0)) }
 {
     let count = code(image, routine).len();
     let mut amounts = zeros(alloc, count)?;

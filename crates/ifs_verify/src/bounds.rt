@@ -1,7 +1,9 @@
 //! The bounds of each routine, within the limits.
 
-ghost use Rattle.std.specs.Prelude.{◌≡◌, ◌+◌, [], length, OnOk, IfOk, IfErr};
+ghost use Rattle.std.specs.Prelude.{◌≡◌, ◌+◌, ◌<◌, slice_index, [], length, OnOk, IfOk, IfErr};
+ghost use Rattle.ifs_verify.specs.declared.fault.At.TheVariants.{Code};
 ghost use Rattle.ifs_verify.specs.Rules.{IsRoutine};
+ghost use Rattle.ifs_verify.specs.Refused.{StackIsOver};
 ghost use Rattle.ifs_verify.specs.Bounds.{cost_of, commands_of};
 ghost use Rattle.ifs_verify.specs.Passes.{IsPlain, IsRefused, LeastHeights};
 ghost use Rattle.ifs_verify.specs.Found.{AreFound};
@@ -65,7 +67,8 @@ fn find_bounds(
     ensures found { OnOk result (AreFound image.now heights.now.items bounds.new (routine + 1)) }
     ensures refused { IfErr result (IsRefused image.now) }
 {
-    if entry(heights, routine) > u32::from(limits::STACK) {
+    let height = height_found(image, routine, heights);
+    if height > u32::from(limits::STACK) {
         return Err(VerifyFault::StackOver(at(routine, 0)));
     }
     let depth = depth_of(image, routine, bounds.depths.as_slice());
@@ -90,4 +93,14 @@ fn find_bounds(
     bounds.costs.push(cost)?;
     bounds.commands.push(commands)?;
     Ok(())
+}
+
+/// The height of a routine, among those of all.
+fn height_found(image: &ImageParts, routine: usize, heights: &Vec<u32>) -> u32
+    requires heights { LeastHeights image.now heights.now.items (length image.now.routines) }
+    requires routine { IsRoutine image.now routine }
+    ensures value { result ≡ slice_index heights.now.items routine }
+    ensures over { 32 < result → StackIsOver image.now (Code (record { 0 = routine }) 0) }
+{
+    entry(heights, routine)
 }

@@ -3,10 +3,14 @@
 ghost use Rattle.std.specs.Prelude.{ℕ, ◌≡◌, ◌+◌, ◌<◌, ◌≤◌, ◌↔◌, Some, IsTrue, OnOk, IfErr, length, slice_get, slice_index};
 ghost use Rattle.ifs_image.specs.declared.parts.StateSpec.{StateSpec};
 ghost use Rattle.ifs_verify.specs.Bounds.{FitsEvents, FitsHandlers};
-ghost use Rattle.ifs_verify.specs.Rules.{AreRoutines, IndexesFit};
-ghost use Rattle.ifs_verify.specs.Passes.{IsPlain, IsRefused, LeastHeights, Reaches, part_of};
+ghost use Rattle.std.specs.Bool.{OnTrue, OnFalse};
+ghost use Rattle.ifs_verify.specs.declared.fault.At.TheVariants.{Head};
+ghost use Rattle.ifs_verify.specs.Rules.{IsRoutine, AreRoutines, IndexesFit};
+ghost use Rattle.ifs_verify.specs.Refused.{StackIsOver, FramesAreOver};
+ghost use Rattle.ifs_verify.specs.Passes.{IsPlain, IsRefused, LeastHeights, LeastDepths, LeastAmounts, AmountIsOver, Reaches, part_of, weight_of, limit_of, stated_of};
 ghost use Rattle.ifs_verify.specs.Found.{AreFound};
 
+use crate::amounts::Weight;
 use crate::bounds::Bounds;
 use crate::fault::{At, VerifyFault};
 use crate::places::handlers_of;
@@ -38,19 +42,60 @@ pub fn check_budgets(
     ensures commands { OnOk result (FitsEvents image.now (slice_index bounds.now.commands.items) image.now.budgets.commands) }
     ensures refused { IfErr result (IsRefused image.now) }
 {
-    if !fit_handlers(image, heights, image.budgets.stack) {
+    if !stack_fits(image, heights) {
         return Err(VerifyFault::StackOver(At::Head));
     }
-    if !fit_handlers(image, &bounds.depths, image.budgets.frames) {
+    if !frames_fit(image, &bounds.depths) {
         return Err(VerifyFault::FramesOver(At::Head));
     }
-    if !fit_events(image, &bounds.costs, image.budgets.cost) {
+    if !amounts_fit(image, Weight::Cost, &bounds.costs) {
         return Err(VerifyFault::CostOver(At::Head));
     }
-    if !fit_events(image, &bounds.commands, u32::from(image.budgets.commands)) {
+    if !amounts_fit(image, Weight::Commands, &bounds.commands) {
         return Err(VerifyFault::CommandsOver(At::Head));
     }
     Ok(())
+}
+
+/// V10: whether the handlers' heights are within the stated stack.
+fn stack_fits(image: &ImageParts, heights: &Vec<u32>) -> bool
+    requires plain { IsPlain image.now }
+    requires heights { LeastHeights image.now heights.now.items (length image.now.routines) }
+    requires low { (routine : ℕ) → IsRoutine image.now routine → slice_index heights.now.items routine ≤ 32 }
+    ensures fits { OnTrue result (FitsHandlers image.now (slice_index heights.now.items) image.now.budgets.stack) }
+    ensures over { OnFalse result (StackIsOver image.now Head) }
+{
+    fit_handlers(image, heights, image.budgets.stack)
+}
+
+/// V11: whether the handlers' frames are within the stated frames.
+fn frames_fit(image: &ImageParts, depths: &Vec<u32>) -> bool
+    requires plain { IsPlain image.now }
+    requires depths { LeastDepths image.now depths.now.items (length image.now.routines) }
+    ensures fits { OnTrue result (FitsHandlers image.now (slice_index depths.now.items) image.now.budgets.frames) }
+    ensures over { OnFalse result (FramesAreOver image.now Head) }
+{
+    fit_handlers(image, depths, image.budgets.frames)
+}
+
+/// V12 or V13: whether the amounts of each event are within the stated cost or commands.
+fn amounts_fit(image: &ImageParts, weight: Weight, amounts: &Vec<u32>) -> bool
+    requires plain { IsPlain image.now }
+    requires amounts { LeastAmounts (weight_of weight) image.now (limit_of weight) amounts.now.items (length image.now.routines) }
+    ensures fits { OnTrue result (FitsEvents image.now (slice_index amounts.now.items) (stated_of weight image.now)) }
+    ensures over { OnFalse result (AmountIsOver weight image.now Head) }
+{
+    fit_events(image, amounts, stated(image, weight))
+}
+
+/// What is stated of one event.
+fn stated(image: &ImageParts, weight: Weight) -> u32
+    ensures { result ≡ stated_of weight image.now }
+{
+    match weight {
+        Weight::Cost => image.budgets.cost,
+        Weight::Commands => u32::from(image.budgets.commands),
+    }
 }
 
 /// Whether what each handler reaches is within what is stated.

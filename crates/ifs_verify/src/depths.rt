@@ -3,8 +3,10 @@
 ghost use Rattle.std.specs.Prelude.{ℕ, ◌≡◌, ◌+◌, ◌<◌, ◌≤◌, length, slice_index};
 ghost use Rattle.ifs_base.specs.declared.ids.RoutineId.{RoutineId};
 ghost use Rattle.ifs_base.specs.declared.op.Op.TheVariants.{Call};
+ghost use Rattle.ifs_verify.specs.declared.fault.At.TheVariants.{Code};
 ghost use Rattle.ifs_verify.specs.Rules.{IsRoutine};
-ghost use Rattle.ifs_verify.specs.Passes.{IsPlain, HoldsDepth};
+ghost use Rattle.ifs_verify.specs.Refused.{FramesAreOver};
+ghost use Rattle.ifs_verify.specs.Passes.{IsPlain, HoldsDepth, LeastDepths};
 
 use crate::places::{code, op_at};
 use crate::tables::greater;
@@ -15,10 +17,10 @@ use ifs_image::ImageParts;
 pub fn depth_of(image: &ImageParts, routine: usize, depths: &[u32]) -> u32
     requires plain { IsPlain image.now }
     requires routine { IsRoutine image.now routine }
-    requires long { length depths.now ≡ routine }
-    requires low { (k : ℕ) → slice_index depths.now k ≤ 32 }
+    requires lower { LeastDepths image.now depths.now routine }
     ensures holds { HoldsDepth image.now (slice_index depths.now) routine result }
     ensures least { (bound : ℕ) → HoldsDepth image.now (slice_index depths.now) routine bound → result ≤ bound }
+    ensures over { 32 < result → FramesAreOver image.now (Code (record { 0 = routine }) 0) }
 {
     let code = code(image, routine);
     let mut depth = 1;

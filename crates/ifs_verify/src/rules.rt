@@ -6,6 +6,8 @@ ghost use Rattle.ifs_base.specs.declared.op.Op.{Op};
 ghost use Rattle.ifs_base.specs.declared.op.Op.TheVariants.{Call};
 ghost use Rattle.ifs_image.specs.declared.parts.StateSpec.{StateSpec};
 ghost use Rattle.ifs_image.specs.Code.{op_at, target_of};
+ghost use Rattle.std.specs.Bool.{OnTrue, OnFalse};
+ghost use Rattle.ifs_verify.specs.declared.fault.At.TheVariants.{Code};
 ghost use Rattle.ifs_verify.specs.Rules.{IsRoutine, AreRoutines, IsMask, HasOperand, LeaveNothing, IndexesFit, HandlersLeaveNothing, JumpsLeadOn, RoutinesEnd, CallsGoDown, PlacesAreReached};
 ghost use Rattle.ifs_verify.specs.Refused.{Fails};
 ghost use Rattle.ifs_verify.specs.Passes.{IsSized, Keeps, fault_of};
@@ -182,8 +184,10 @@ fn check_ops_of(image: &ImageParts, routine: usize, rule: OpRule) -> Result<(), 
 
 /// Whether an instruction keeps a rule.
 fn keeps(image: &ImageParts, routine: usize, place: usize, op: Op, rule: OpRule) -> bool
-    requires { IsRoutine image.now routine }
-    ensures { IsTrue result ↔ Keeps rule image.now routine place op }
+    requires routine { IsRoutine image.now routine }
+    requires op { op_at image.now routine place ≡ Some op }
+    ensures kept { OnTrue result (Keeps rule image.now routine place op) }
+    ensures broken { OnFalse result (Fails (fault_of rule (Code (record { 0 = routine }) place)) image.now) }
 {
     match rule {
         OpRule::Operand => has_operand(image, op),

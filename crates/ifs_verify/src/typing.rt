@@ -1,12 +1,15 @@
 //! The forward pass: the kinds on the stack at each place of a routine.
 
-ghost use Rattle.std.specs.Prelude.{ℕ, ◌≡◌, ◌≢◌, ◌+◌, ◌<◌, ◌≤◌, List, Option, Some, [], length, slice_set, IfOk, OnOk, IfErr};
+ghost use Rattle.std.specs.Prelude.{ℕ, ◌≡◌, ◌≢◌, ◌+◌, ◌<◌, ◌≤◌, List, Option, Some, None, [], length, slice_set, IfOk, OnOk, IfErr};
 ghost use Rattle.std.specs.Bool.{OnTrue, OnFalse};
 ghost use Rattle.ifs_base.specs.declared.op.Op.{Op};
 ghost use Rattle.ifs_base.specs.declared.op.Kind.{Kind};
-ghost use Rattle.ifs_image.specs.Code.{op_at, code_of, IsSuccessor};
-ghost use Rattle.ifs_verify.specs.Rules.{IsRoutine};
-ghost use Rattle.ifs_verify.specs.Passes.{IsPlain, IsRefused, IsTypedUpTo, Leaves, Extends, row_at};
+ghost use Rattle.ifs_base.specs.declared.op.Op.TheVariants.{Ret};
+ghost use Rattle.ifs_image.specs.Code.{op_at, code_of, results_of, effect, IsSuccessor};
+ghost use Rattle.ifs_verify.specs.Rules.{IsRoutine, HasOperand};
+ghost use Rattle.ifs_verify.specs.Ways.{Leads};
+ghost use Rattle.ifs_verify.specs.Refused.{ReturnsOthers, LacksOperand, LeavesMany, Disagrees};
+ghost use Rattle.ifs_verify.specs.Passes.{IsSized, IsPlain, IsRefused, IsTypedUpTo, Leaves, Extends, row_at};
 
 use crate::effects::{effect_of, keeps_results};
 use crate::fault::VerifyFault;
@@ -87,19 +90,87 @@ fn after(
     ensures leaves { IfOk result (Leaves image.now routine rows.now.items place op) }
     ensures refused { IfErr result (IsRefused image.now) }
 {
-    let Some(before) = &rows[place] else {
-        unreachable!()
-    };
-    if !keeps_results(image, routine, op, before) {
+    let before = row(image, routine, place, rows);
+    if returns_others(image, routine, place, op, before) {
         return Err(VerifyFault::WrongResults(at(routine, place)));
     }
-    let Some(after) = effect_of(image, op, before) else {
+    let Some(after) = left_at(image, routine, place, op, before) else {
         return Err(VerifyFault::WrongOperand(at(routine, place)));
     };
-    if after.len() > usize::from(limits::STACK) {
+    if leaves_many(image, routine, place, op, before, &after) {
         return Err(VerifyFault::StackOver(at(routine, place)));
     }
     Ok(after)
+}
+
+/// The list of kinds at a place of which all earlier ones are passed.
+fn row<'a>(
+    image: &ImageParts,
+    routine: usize,
+    place: usize,
+    rows: &'a Vec<Option<Stack>>,
+) -> &'a Stack
+    requires plain { IsPlain image.now }
+    requires place { place < length (code_of image.now routine) }
+    requires typed { IsTypedUpTo image.now routine rows.now.items place }
+    ensures here { row_at rows.now.items place ≡ Some result.now }
+    ensures leads { Leads image.now routine place place result.now }
+    ensures within { length result.now ≤ 32 }
+{
+    let Some(kinds) = &rows[place] else {
+        unreachable!()
+    };
+    kinds
+}
+
+/// V9: whether a way leads to a `ret` with another list than the routine's results.
+fn returns_others(image: &ImageParts, routine: usize, place: usize, op: Op, before: &Stack) -> bool
+    requires sized { IsSized image.now }
+    requires routine { IsRoutine image.now routine }
+    requires op { op_at image.now routine place ≡ Some op }
+    requires leads { Leads image.now routine place place before.now }
+    ensures others { OnTrue result (ReturnsOthers image.now routine place) }
+    ensures kept { OnFalse result (op ≡ Ret → before.now ≡ results_of image.now routine) }
+{
+    !keeps_results(image, routine, op, before)
+}
+
+/// What an instruction leaves at the end of a way. V6: `None` where an operand is missing or of the
+/// wrong kind.
+fn left_at(
+    image: &ImageParts,
+    routine: usize,
+    place: usize,
+    op: Op,
+    before: &Stack,
+) -> Option<Stack>
+    requires sized { IsSized image.now }
+    requires operand { HasOperand image.now op }
+    requires op { op_at image.now routine place ≡ Some op }
+    requires leads { Leads image.now routine place place before.now }
+    requires within { length before.now ≤ 32 }
+    ensures value { result ≡ effect image.now op before.now }
+    ensures lacks { result ≡ None → LacksOperand image.now routine place }
+{
+    effect_of(image, op, before)
+}
+
+/// V10: whether what an instruction leaves at the end of a way passes the limit.
+fn leaves_many(
+    image: &ImageParts,
+    routine: usize,
+    place: usize,
+    op: Op,
+    before: &Stack,
+    after: &Stack,
+) -> bool
+    requires op { op_at image.now routine place ≡ Some op }
+    requires leads { Leads image.now routine place place before.now }
+    requires effect { effect image.now op before.now ≡ Some after.now }
+    ensures many { OnTrue result (LeavesMany image.now routine place) }
+    ensures within { OnFalse result (length after.now ≤ 32) }
+{
+    after.len() > usize::from(limits::STACK)
 }
 
 /// Brings what the instruction at a place leaves to a successor: V7.
@@ -124,10 +195,30 @@ fn hand_on(
     let Some(to) = to else {
         return Ok(());
     };
-    if !meets(rows, to, after) {
+    if !brings(image, routine, place, to, after, rows) {
         return Err(VerifyFault::WaysDisagree(at(routine, place)));
     }
     Ok(())
+}
+
+/// Brings it to one successor. Says whether that had no list, or the same one.
+fn brings(
+    image: &ImageParts,
+    routine: usize,
+    place: usize,
+    to: usize,
+    after: &Stack,
+    rows: &mut Vec<Option<Stack>>,
+) -> bool
+    requires typed { IsTypedUpTo image.now routine rows.old.items place }
+    requires within { to < length (code_of image.now routine) }
+    requires leaves { (op : Op) × (op_at image.now routine place ≡ Some op) × Leaves image.now routine rows.old.items place op after.now × IsSuccessor op place to }
+    ensures typed { OnTrue result (IsTypedUpTo image.now routine rows.new.items place) }
+    ensures extends { OnTrue result (Extends rows.old.items rows.new.items) }
+    ensures met { OnTrue result (row_at rows.new.items to ≡ Some after.now) }
+    ensures disagree { OnFalse result (Disagrees image.now routine place) }
+{
+    meets(rows, to, after)
 }
 
 /// Brings a list of kinds to a place. Says whether the place had none, or the same one.

@@ -1,45 +1,9 @@
 use Rattle.std.proofs.Common.{ℕ, ◌≡◌, ◌+◌, List, [], ◌∷◌, ◌++◌, slice_index, arith, ap, sym, ◌∙◌, subst, inl, inr}
 use Rattle.std.proofs.lemmas.Bool.{cases_eq}
-use Rattle.ifs_verify.specs.Bounds.{AreDepths, cost_of, commands_of, FitsEvents, FitsHandlers}
-use Rattle.ifs_verify.specs.Refused.{AreOver, AreTypedHeights, AreTotals}
-use Rattle.ifs_verify.proofs.Assembly.{stack_over}
-use Rattle.ifs_verify.proofs.Existing.{cost-light, commands-light, frames_over, amounts_over}
+use Rattle.ifs_verify.specs.Bounds.{cost_of, commands_of}
 use Rattle.ifs_verify.specs.Passes.{LeastDepths, LeastAmounts}
 use Rattle.ifs_verify.proofs.Entering.{depths_more, amounts_more}
 use Rattle.ifs_verify.proofs.bounds.find_bounds.Goals as goal
-
-pub returns-then-entry-from-clause-refused : goal.returns-then-entry-from-clause-refused
-returns-then-entry-from-clause-refused c _ =
-    let image = c.args.image.now in
-    inr (subst (AreOver image (AreTypedHeights image) 32 (λ heights. FitsHandlers image heights image.budgets.stack)) (sym c.at.ensures)
-    (stack_over image c.args.heights.now.items c.args.routine c.requires.heights c.requires.routine (omega (arith, c.entry.ensures))))
-
-pub returns-then-depth-from-clause-refused : goal.returns-then-depth-from-clause-refused
-returns-then-depth-from-clause-refused c _ =
-    let image = c.args.image.now in
-    let lower : List ℕ = c.as_slice.result.now in
-    let found : LeastDepths image lower c.args.routine = subst (λ (xs : List ℕ). LeastDepths image xs c.args.routine) (sym c.as_slice.ensures.value) c.requires.lower.depths in
-    subst (AreOver image (AreDepths image) 32 (λ depths. FitsHandlers image depths image.budgets.frames)) (sym c.at-then-depth-from.ensures)
-    (frames_over image lower c.args.routine c.depth_of-depth.result c.requires.plain found c.requires.routine c.depth_of-depth.ensures.least (omega arith))
-
-pub returns-then-cost-gt-ROUTINE_COST-clause-refused : goal.returns-then-cost-gt-ROUTINE_COST-clause-refused
-returns-then-cost-gt-ROUTINE_COST-clause-refused c _ =
-    let image = c.args.image.now in
-    let lower : List ℕ = c.as_slice-2.result.now in
-    let found : LeastAmounts cost_of image 100000 lower c.args.routine =
-    subst (λ (xs : List ℕ). LeastAmounts cost_of image 100000 xs c.args.routine) (sym c.as_slice-2.ensures.value) c.requires.lower.costs in
-    subst (AreOver image (AreTotals cost_of image) 100000 (λ totals. FitsEvents image totals image.budgets.cost)) (sym c.at-then-cost-gt-ROUTINE_COST.ensures)
-    (amounts_over cost_of image 100000 image.budgets.cost lower c.args.routine c.in_ok-cost.cost c.requires.plain found c.requires.routine cost-light c.in_ok-cost.ensures.least (omega arith))
-
-pub returns-then-commands-from-clause-refused : goal.returns-then-commands-from-clause-refused
-returns-then-commands-from-clause-refused c _ =
-    let image = c.args.image.now in
-    let lower : List ℕ = c.as_slice-3.result.now in
-    let found : LeastAmounts commands_of image 64 lower c.args.routine =
-    subst (λ (xs : List ℕ). LeastAmounts commands_of image 64 xs c.args.routine) (sym c.as_slice-3.ensures.value) c.requires.lower.commands in
-    subst (AreOver image (AreTotals commands_of image) 64 (λ totals. FitsEvents image totals image.budgets.commands)) (sym c.at-then-commands-from.ensures)
-    (amounts_over commands_of image 64 image.budgets.commands lower c.args.routine c.in_ok-commands.commands c.requires.plain found c.requires.routine commands-light
-    c.in_ok-commands.ensures.least (omega arith))
 
 pub returns-clause-found : goal.returns-clause-found
 returns-clause-found c =
@@ -63,7 +27,7 @@ returns-clause-found c =
       heights_low = λ k below.
           elim (cases_eq k routine) [
             | inl e ↦
-                let here : slice_index c.args.heights.now.items k ≡ c.entry.result = ap (slice_index c.args.heights.now.items) e ∙ sym c.entry.ensures in
+                let here : slice_index c.args.heights.now.items k ≡ c.height_found-height.result = ap (slice_index c.args.heights.now.items) e ∙ sym c.height_found-height.ensures.value in
                 omega (arith, here)
             | inr ne ↦ c.requires.lower.heights_low k (omega arith)
           ];

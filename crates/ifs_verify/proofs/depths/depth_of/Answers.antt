@@ -5,6 +5,7 @@ use Rattle.std.proofs.lemmas.Option.{slice_get_within}
 use Rattle.ifs_base.specs.declared.op.Op.{Op}
 use Rattle.ifs_base.specs.declared.op.Op.TheVariants.{Call}
 use Rattle.ifs_image.specs.Code.{op_at, code_of}
+use Rattle.ifs_verify.proofs.Existing.{frames_over}
 use Rattle.ifs_verify.proofs.depths.depth_of.Goals as goal
 
 some_op : (a b : Op) → Some a ≡ Some b → a ≡ b
@@ -14,7 +15,7 @@ pub depth_at-here-requires-clause-callee : goal.depth_at-here-requires-clause-ca
 depth_at-here-requires-clause-callee c = λ callee is.
     let here : op_at c.args.image.now c.args.routine c.loop-place.place ≡ Some c.op_at.result = subst (λ (code : List Op). slice_get code c.loop-place.place ≡ Some c.op_at.result) c.code-code.ensures c.op_at.ensures in
     let lower = c.requires.plain.calls c.args.routine c.loop-place.place callee (here ∙ ap (λ (o : Op). Some o) is) in
-    omega (arith, lower, c.requires.long)
+    omega (arith, lower, c.requires.lower.long)
 
 pub loop-place-preserved : goal.loop-place-preserved
 loop-place-preserved c =
@@ -42,3 +43,7 @@ returns-clause-holds c = record {
       let below : place < length c.code-code.result.now = subst (λ (code : List Op). place < length code) (sym c.code-code.ensures) within in
       c.loop-place.invariant.calls place callee (omega arith) is;
 }
+
+pub returns-clause-over : goal.returns-clause-over
+returns-clause-over c = λ over.
+    frames_over c.args.image.now c.args.depths.now c.args.routine c.loop-place.depth c.requires.plain c.requires.lower c.requires.routine c.loop-place.invariant.least over

@@ -1,0 +1,9 @@
+use Rattle.std.proofs.lemmas.Bool.{OnFalse_from}
+use Rattle.ifs_verify.specs.declared.fault.At.TheVariants.{Head}
+use Rattle.ifs_verify.specs.Refused.{FramesAreOver}
+use Rattle.ifs_verify.proofs.Assembly.{frames_unfit}
+use Rattle.ifs_verify.proofs.budgets.frames_fit.Goals as goal
+
+pub returns-clause-over : goal.returns-clause-over
+returns-clause-over c = OnFalse_from c.fit_handlers.result (FramesAreOver c.args.image.now Head) (λ over.
+    frames_unfit c.args.image.now c.args.depths.now.items c.requires.plain c.requires.depths (λ fits. let held = c.fit_handlers.ensures.1 fits in cc))

@@ -1,0 +1,9 @@
+use Rattle.std.proofs.Common.{ltb, arith}
+use Rattle.std.proofs.lemmas.Bool.{OnTrue_from, ltb-true}
+use Rattle.ifs_verify.specs.Refused.{LeavesMany}
+use Rattle.ifs_verify.proofs.typing.leaves_many.Goals as goal
+
+pub returns-clause-many : goal.returns-clause-many
+returns-clause-many c = OnTrue_from (ltb c.from.result c.len.result) (LeavesMany c.args.image.now c.args.routine c.args.place) (λ yes.
+    let over = ltb-true c.from.result c.len.result yes in
+    (c.args.op, c.args.after.now, record { before = c.args.before.now; stands = c.requires.op; leads = c.requires.leads; effect_is = c.requires.effect }, omega (arith, over)))

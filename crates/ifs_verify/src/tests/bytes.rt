@@ -1,0 +1,88 @@
+//! Images byte by byte.
+
+use super::told;
+use crate::verify;
+use ifs_image::Budgets;
+use std::test::Fail;
+
+/// The smallest image, byte by byte.
+const SMALLEST: [u8; 61] = [
+    0x49, 0x46, 0x53, 0x56, 0x01, 0x00, 0x00, 0x00, 0x01, 0x00, 0x00, 0x00, 0x03, 0x00, 0x00, //
+    0x00, 0x00, 0x00, 0x00, 0x00, 0x00, 0x00, 0x01, 0x00, 0x01, 0x00, 0x00, //
+    0x00, 0x00, 0x00, 0x00, 0x00, 0x00, 0x00, 0x00, 0x00, 0x00, 0x00, 0x00, //
+    0x00, 0x01, 0x61, 0x00, 0x00, 0x00, 0x00, 0x00, 0x00, 0x00, 0x00, 0x00, 0x00, 0x00, 0x00, //
+    0x00, 0x00, 0x01, 0x00, 0x00, 0x00, 0x00,
+];
+
+#[test]
+fn smallest_image(rt: HostRuntime) -> Result<(), Fail> {
+    let budgets = Budgets {
+        stack: 0,
+        frames: 1,
+        cost: 3,
+        commands: 0,
+    };
+    let verified = verify(rt.alloc(), SMALLEST.as_slice())?;
+    assert_eq!(rt; verified.budgets(), budgets);
+    assert_eq!(rt; verified.image().parts().budgets, budgets);
+    assert_eq!(rt; verified.image().parts().routines.len(), 1);
+    Ok(())
+}
+
+/// The smallest image with one byte changed.
+#[test]
+fn another_byte(rt: HostRuntime) -> Result<(), Fail> {
+    for (place, byte, wanted) in [
+        (12, 2, "V12 head"),
+        (8, 0, "V11 head"),
+        (60, 1, "I8 byte 57"),
+        (4, 2, "I3 byte 4"),
+    ] {
+        let mut bytes = SMALLEST;
+        bytes[place] = byte;
+        let said = told(rt.alloc(), bytes.as_slice())?;
+        assert_eq!(rt; said.as_str(), wanted, "byte {place}");
+    }
+    Ok(())
+}
+
+#[test]
+fn other_lengths(rt: HostRuntime) -> Result<(), Fail> {
+    let mut longer = SMALLEST.to_vec(rt.alloc())?;
+    longer.push(0)?;
+    for (bytes, wanted) in [
+        (b"".as_slice(), "I1 byte 0"),
+        (b"IFSV".as_slice(), "I1 byte 4"),
+        (b"IFSX".as_slice(), "I2 byte 0"),
+        (longer.as_slice(), "I7 byte 61"),
+    ] {
+        let said = told(rt.alloc(), bytes)?;
+        assert_eq!(rt; said.as_str(), wanted);
+    }
+    Ok(())
+}
+
+/// One interface `carp0`, one command `echo m`, one state `a`, whose body is routine 1, byte by byte.
+const FIRST_RUN: [u8; 99] = [
+    0x49, 0x46, 0x53, 0x56, 0x01, 0x00, 0x01, 0x00, 0x01, 0x00, 0x00, 0x00, 0x07, 0x00, 0x01, //
+    0x00, 0x01, 0x00, 0x00, 0x00, 0x01, 0x00, 0x01, 0x00, 0x02, 0x00, 0x00, //
+    0x00, 0x00, 0x00, 0x00, 0x00, 0x00, 0x00, 0x00, 0x00, 0x00, 0x00, 0x00, //
+    0x00, 0x05, 0x63, 0x61, 0x72, 0x70, 0x30, //
+    0x00, 0x06, 0x65, 0x63, 0x68, 0x6f, 0x20, 0x6d, //
+    0x00, 0x01, 0x61, 0x00, 0x00, 0x00, 0x01, 0x00, 0x00, 0x00, 0x00, 0x00, 0x00, 0x00, 0x00, //
+    0x00, 0x00, 0x01, 0x00, 0x00, 0x00, 0x00, //
+    0x00, 0x00, 0x05, 0x03, 0x02, 0x00, 0x00, 0x11, 0x00, 0x00, 0x00, 0x09, 0x00, 0x00, 0x00, //
+    0x0b, 0x00, 0x00, 0x00, 0x00, 0x00, 0x00, 0x00,
+];
+
+/// An image with an interface is accepted; an operand that names a second one is not.
+#[test]
+fn interfaces(rt: HostRuntime) -> Result<(), Fail> {
+    let said = told(rt.alloc(), FIRST_RUN.as_slice())?;
+    assert_eq!(rt; said.as_str(), "ok");
+    let mut other = FIRST_RUN;
+    other[82] = 1;
+    let said = told(rt.alloc(), other.as_slice())?;
+    assert_eq!(rt; said.as_str(), "V2 routine 1 place 0");
+    Ok(())
+}
