@@ -81,7 +81,7 @@ fn read_some<R: Read>(reader: &mut R, buffer: &mut [u8; BUFFER]) -> Result<usize
 }
 
 /// Whether one of the first `most` of these bytes is a newline.
-fn has_newline(bytes: &[u8], most: u32) -> bool
+pub(crate) fn has_newline(bytes: &[u8], most: u32) -> bool
     ensures { IsTrue result ↔ Contains {X = ℕ} (take most bytes.now) 10 }
 {
     let most = most as usize;
