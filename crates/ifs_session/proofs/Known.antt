@@ -28,11 +28,6 @@ drop_at (y ∷ xs) (suc i) x e =
     let next : suc (i + 1) ≡ suc i + 1 = omega arith in
     drop_at xs i x e ∙ ap (λ n. x ∷ drop n (y ∷ xs)) next
 
-drop_past : {X : Type 0} (xs : List X) (i : ℕ) → slice_get xs i ≡ None → drop i xs ≡ []
-drop_past [] i e = drop_all i [] (omega arith)
-drop_past (y ∷ xs) zero e = cc
-drop_past (y ∷ xs) (suc i) e = drop_past xs i e
-
 -- The next piece of a list was written.
 pub next_piece : {X : Type 0} (f : X → List ℕ) (xs : List X) (i : ℕ) (x : X) (known known' all : Option (List ℕ)) → slice_get xs i ≡ Some x
     → append_known known (flat_map f (drop i xs)) ≡ all → known' ≡ append_known known (f x) → append_known known' (flat_map f (drop (i + 1) xs)) ≡ all
@@ -40,12 +35,6 @@ next_piece f xs i x known known' all at told written =
     ap (λ k. append_known k (flat_map f (drop (i + 1) xs))) written
     ∙ append_known-append known (f x) (flat_map f (drop (i + 1) xs))
     ∙ ap (λ rest. append_known known (flat_map f rest)) (sym (drop_at xs i x at)) ∙ told
-
--- No piece is left.
-pub last_piece : {X : Type 0} (f : X → List ℕ) (xs : List X) (i : ℕ) (known all : Option (List ℕ)) → slice_get xs i ≡ None
-    → append_known known (flat_map f (drop i xs)) ≡ all → known ≡ all
-last_piece f xs i known all past told =
-    sym (append_known-nil known) ∙ ap (λ rest. append_known known (flat_map f rest)) (sym (drop_past xs i past)) ∙ told
 
 -- The laws of written bytes.
 pub ruleset written_laws = (append_known-append, append_known-nil, append_assoc, append-nil)

@@ -410,19 +410,27 @@ session_ends {b} {before = before} a p end = record {
   end = end;
 }
 
-pub session_stops : {b : Behaviour} {lines : List (List ℕ)} {summary next : Summary} {budget : ℕ} {before now : Moment} {line : Line} {text : List ℕ} {start after : Intake} {core : OpenCore} {written : Option (List ℕ)} {faults : Option ℕ}
+session_stops : {b : Behaviour} {lines : List (List ℕ)} {summary next : Summary} {budget : ℕ} {before now : Moment} {line : Line} {text : List ℕ} {start after : Intake} {core : OpenCore} {written : Option (List ℕ)} {faults : Option ℕ}
     → Underway b lines summary budget before now → ReadsLine line text start after
     → Advances b lines text (unlines lines ++ (text ++ ending line.is_ended)) before core after → Replies b lines text next before written faults → next.stopped ≡ true
     → Completes b next (unlines lines ++ (text ++ ending line.is_ended)) before (record { core = core; left = after.left; written = written; read_faults = after.faults; write_faults = faults })
 session_stops {lines = lines} {next = next} {line = line} {text = text} {after = after} u r a p stopped =
     session_ends a p (ends_stopped lines text _ _ next.stopped stopped a.lines_are u.on (sym p.stopped ∙ stopped) (line_ends (unlines lines) text line.is_ended after.left r.last))
 
-pub session_runs_out : {b : Behaviour} {lines : List (List ℕ)} {summary next : Summary} {budget : ℕ} {before now : Moment} {line : Line} {text : List ℕ} {start after : Intake} {core : OpenCore} {written : Option (List ℕ)} {faults : Option ℕ}
+session_runs_out : {b : Behaviour} {lines : List (List ℕ)} {summary next : Summary} {budget : ℕ} {before now : Moment} {line : Line} {text : List ℕ} {start after : Intake} {core : OpenCore} {written : Option (List ℕ)} {faults : Option ℕ}
     → Underway b lines summary budget before now → ReadsLine line text start after
     → Advances b lines text (unlines lines ++ (text ++ ending line.is_ended)) before core after → Replies b lines text next before written faults → next.stopped ≡ false → line.is_ended ≡ false
     → Completes b next (unlines lines ++ (text ++ ending line.is_ended)) before (record { core = core; left = after.left; written = written; read_faults = after.faults; write_faults = faults })
 session_runs_out {lines = lines} {next = next} {line = line} {text = text} {after = after} u r a p running ended =
     session_ends a p (ends_running next.stopped _ _ running (subst GoOn (sym a.lines_are) (GoOn-push lines text u.on (sym p.stopped ∙ running)), (r.last ended).1))
+
+-- The line was the last, whichever of the two made it so.
+pub session_closes : {b : Behaviour} {lines : List (List ℕ)} {summary next : Summary} {budget : ℕ} {before now : Moment} {line : Line} {text : List ℕ} {start after : Intake} {core : OpenCore} {written : Option (List ℕ)} {faults : Option ℕ}
+    → Underway b lines summary budget before now → ReadsLine line text start after
+    → Advances b lines text (unlines lines ++ (text ++ ending line.is_ended)) before core after → Replies b lines text next before written faults → (next.stopped ≡ true) ⊎ ((next.stopped ≡ false) × (line.is_ended ≡ false))
+    → Completes b next (unlines lines ++ (text ++ ending line.is_ended)) before (record { core = core; left = after.left; written = written; read_faults = after.faults; write_faults = faults })
+session_closes u r a p (inl stopped) = session_stops u r a p stopped
+session_closes u r a p (inr runs_out) = session_runs_out u r a p runs_out.0 runs_out.1
 
 -- The session goes on after the line.
 pub session_goes_on : {b : Behaviour} {lines : List (List ℕ)} {summary next : Summary} {budget : ℕ} {before now : Moment} {line : Line} {text : List ℕ} {start after : Intake} {core : OpenCore} {written : Option (List ℕ)} {faults : Option ℕ}

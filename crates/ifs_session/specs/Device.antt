@@ -1,5 +1,5 @@
 -- Devices: what a reader and a writer of bytes tell, where they tell it, of their bytes and failures.
-use Rattle.std.specs.Prelude.{◌≡◌, ℕ, ◌+◌, ◌-◌, ◌^◌, min, List, [], ◌∷◌, Option, Some, None, Result, Ok, Err, MatchResult}
+use Rattle.std.specs.Prelude.{◌≡◌, ℕ, ◌+◌, ◌-◌, ◌^◌, min, List, [], ◌∷◌, take, Contains, Option, Some, None, Result, Ok, Err, MatchResult}
 use Rattle.std.specs.Option.{option_map}
 use Rattle.std.specs.Io.KnownBytes.{prepend_known, append_known, IsAtEnd}
 use Rattle.ifs_session.specs.declared.device.DeviceFault.{DeviceFault}
@@ -17,6 +17,33 @@ abbrev pub NextGives : Result (Option ℕ) DeviceFault → Option (List ℕ) →
 NextGives (Ok (Some byte)) left left' faults faults' = (left ≡ prepend_known (byte ∷ []) left') × (faults' ≡ faults)
 NextGives (Ok None) left left' faults faults' = (left' ≡ left) × IsAtEnd left' × (faults' ≡ faults)
 NextGives (Err fault) left left' faults faults' = (left' ≡ left) × (faults' ≡ counted faults)
+
+-- What a reader's answer says of the bytes that can be read without waiting, where it tells them: while there are any, the first of them is given.
+abbrev pub ReadyGives : Result (Option ℕ) DeviceFault → Option (List ℕ) → Option (List ℕ) → Type 0
+ReadyGives result (Some (byte ∷ bytes)) ready' = (result ≡ Ok (Some byte)) × (ready' ≡ Some bytes)
+ReadyGives result (Some []) ready' = Unit {0}
+ReadyGives result None ready' = Unit {0}
+
+-- A line of at most so many bytes, its newline among them, can be read without waiting.
+abbrev pub HasLine : ℕ → Option (List ℕ) → Type 0
+HasLine most None = ⊥
+HasLine most (Some bytes) = Contains {X = ℕ} (take most bytes) 10
+
+-- A writer holds nothing back, where it tells what it holds back.
+abbrev pub HoldsNothing : Option (List ℕ) → Type 0
+HoldsNothing None = Unit {0}
+HoldsNothing (Some bytes) = bytes ≡ []
+
+-- What a reader has left and how often it failed, where it tells.
+pub record Feed : Type 0 where
+  pub left : Option (List ℕ)
+  pub faults : Option ℕ
+
+-- What a writer was given, what of it it holds back, and how often it failed, where it tells.
+pub record Sink : Type 0 where
+  pub written : Option (List ℕ)
+  pub held : Option (List ℕ)
+  pub faults : Option ℕ
 
 -- What a writer's answer to these bytes says of what it has written and of its failures, before and after. After a failure nothing is said of how much was written.
 abbrev pub PutGives : {X E : Type 0} → Result X E → List ℕ → Option (List ℕ) → Option (List ℕ) → Option ℕ → Option ℕ → Type 0

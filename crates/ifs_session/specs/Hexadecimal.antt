@@ -1,9 +1,9 @@
 -- Images as lines of hexadecimal digits.
-use Rattle.std.specs.Prelude.{◌≡◌, ◌≢◌, ℕ, ◌/◌, ◌%◌, ◌<◌, ◌≤◌, Bool, true, false, List, [], ◌∷◌, ◌++◌, length, Option, Some, None, Result, Ok, Err}
+use Rattle.std.specs.Prelude.{◌≡◌, ◌≢◌, ℕ, ◌/◌, ◌%◌, ◌<◌, ◌≤◌, Bool, true, false, List, [], ◌∷◌, ◌++◌, length, All, Option, Some, None, Result, Ok, Err}
 use Rattle.std.specs.Io.KnownBytes.{prepend_known, IsAtEnd}
 use Rattle.ifs_session.specs.declared.hexadecimal.HexFault.{HexFault}
 use Rattle.ifs_session.specs.declared.hexadecimal.HexFault.TheVariants.{Broken, Memory, NotRead}
-use Rattle.ifs_session.specs.Device.{counted}
+use Rattle.ifs_session.specs.Device.{Feed, counted}
 use Rattle.ifs_session.specs.Session.{ending}
 use Rattle.ifs_session.specs.Words.{hex_digit}
 
@@ -15,11 +15,6 @@ hex_text (byte ∷ bytes) = hex_digit (byte / 16) ∷ hex_digit (byte % 16) ∷ 
 -- A byte is no hexadecimal digit in lower case.
 abbrev pub IsNoDigit : ℕ → Type 0
 IsNoDigit byte = (digit : ℕ) → digit < 16 → byte ≢ hex_digit digit
-
--- What a reader has left and how often it failed, where it tells.
-pub record Feed : Type 0 where
-  pub left : Option (List ℕ)
-  pub faults : Option ℕ
 
 -- These bytes were read, and no read failed.
 pub record Takes (text : List ℕ) (before after : Feed) : Type 0 where
@@ -39,21 +34,63 @@ DigitGives (Err Broken) before after = (byte : ℕ) × Takes (byte ∷ []) befor
 DigitGives (Err NotRead) before after = (after.left ≡ before.left) × (after.faults ≡ counted before.faults)
 DigitGives (Err Memory) before after = ⊥
 
--- Why a line breaks the rule of an image's line, after digits of whole bytes and perhaps one more digit: what was read next is no digit and no newline, or it is the line's end after an odd digit, or a digit too many.
-pub data Breaks (whole : ℕ) (half last : List ℕ) (after : Feed) : Type 0 where
-  NoDigit : (byte : ℕ) → last ≡ byte ∷ [] → IsNoDigit byte → byte ≢ 10 → Breaks whole half last after
-  OddDigit : (ended : Bool) (digit : ℕ) → half ≡ digit ∷ [] → last ≡ ending ended → EndsAt ended after → Breaks whole half last after
-  DigitTooMany : (digit : ℕ) → digit < 16 → last ≡ hex_digit digit ∷ [] → whole ≡ 65536 → Breaks whole half last after
+-- The high digit of a byte that is only begun, if there is one.
+abbrev pub high_digit : Option ℕ → List ℕ
+high_digit None = []
+high_digit (Some digit) = hex_digit digit ∷ []
 
--- A line that breaks the rule was read as far as the byte that breaks it: digits of whole bytes, perhaps one more digit, and that byte, if there is one.
-pub record ReadsBroken (bytes : List ℕ) (half last : List ℕ) (before after : Feed) : Type 0 where
-  pub takes : Takes (hex_text bytes ++ (half ++ last)) before after
+-- A byte may be begun after so many whole ones: its high digit is a digit, and one byte more is within the limit.
+abbrev pub MayBegin : ℕ → Option ℕ → Type 0
+MayBegin whole None = Unit {0}
+MayBegin whole (Some digit) = (digit < 16) × (whole < 65536)
+
+-- Whole bytes, at most 65,536, and perhaps the high digit of one more: what the beginning of an image's line spells.
+pub record LineBegins (bytes : List ℕ) (high : Option ℕ) : Type 0 where
+  pub are_bytes : All (λ byte. byte < 256) bytes
   pub within : length bytes ≤ 65536
-  pub breaks : Breaks (length bytes) half last after
+  pub begun : MayBegin (length bytes) high
 
--- What the reading of a line of hexadecimal digits gives: the bytes that they spell, at most 65,536. Want of memory says nothing of the line.
+-- The text of such a beginning.
+abbrev pub begun_text : List ℕ → Option ℕ → List ℕ
+begun_text bytes high = hex_text bytes ++ high_digit high
+
+-- The beginning of an image's line was read, and no more.
+pub record ReadsBeginning (bytes : List ℕ) (high : Option ℕ) (before after : Feed) : Type 0 where
+  pub begins : LineBegins bytes high
+  pub takes : Takes (begun_text bytes high) before after
+
+-- Why what is read after such a beginning breaks the rule: it is no digit and no newline; or it is the line's end, and the byte that was begun has no low digit; or it is a digit after 131,072.
+pub data Breaks (whole : ℕ) (high : Option ℕ) (last : List ℕ) (after : Feed) : Type 0 where
+  NoDigit : (byte : ℕ) → last ≡ byte ∷ [] → IsNoDigit byte → byte ≢ 10 → Breaks whole high last after
+  OddDigit : (digit : ℕ) (ended : Bool) → high ≡ Some digit → last ≡ ending ended → EndsAt ended after → Breaks whole high last after
+  DigitTooMany : (digit : ℕ) → high ≡ None → whole ≡ 65536 → digit < 16 → last ≡ hex_digit digit ∷ [] → Breaks whole high last after
+
+-- A line that breaks the rule was read as far as what breaks it, and no further.
+pub record ReadsBroken (bytes : List ℕ) (high : Option ℕ) (last : List ℕ) (before after : Feed) : Type 0 where
+  pub begins : LineBegins bytes high
+  pub takes : Takes (begun_text bytes high ++ last) before after
+  pub breaks : Breaks (length bytes) high last after
+
+-- A line that keeps the rule was read, and no more.
+pub record ReadsBytes (bytes : List ℕ) (ended : Bool) (before after : Feed) : Type 0 where
+  pub are_bytes : All (λ byte. byte < 256) bytes
+  pub within : length bytes ≤ 65536
+  pub takes : Takes (hex_text bytes ++ ending ended) before after
+  pub ends : EndsAt ended after
+
+-- A read failed in an image's line, after its beginning.
+pub record ReadingBreaksOff (bytes : List ℕ) (high : Option ℕ) (before after : Feed) : Type 0 where
+  pub begins : LineBegins bytes high
+  pub given : before.left ≡ prepend_known (begun_text bytes high) after.left
+  pub one_fault : after.faults ≡ counted before.faults
+
+-- What the reading of a line of hexadecimal digits gives: the bytes that they spell; or why there are none. Memory may be wanting after any whole byte.
 abbrev pub HexGives : Result (List ℕ) HexFault → Feed → Feed → Type 0
-HexGives (Ok bytes) before after = (ended : Bool) × Takes (hex_text bytes ++ ending ended) before after × EndsAt ended after × (length bytes ≤ 65536)
-HexGives (Err Broken) before after = (bytes : List ℕ) × (half : List ℕ) × (last : List ℕ) × ReadsBroken bytes half last before after
-HexGives (Err NotRead) before after = (text : List ℕ) × (before.left ≡ prepend_known text after.left) × (after.faults ≡ counted before.faults)
-HexGives (Err Memory) before after = (text : List ℕ) × Takes text before after
+HexGives (Ok bytes) before after = (ended : Bool) × ReadsBytes bytes ended before after
+HexGives (Err Broken) before after = (bytes : List ℕ) × (high : Option ℕ) × (last : List ℕ) × ReadsBroken bytes high last before after
+HexGives (Err NotRead) before after = (bytes : List ℕ) × (high : Option ℕ) × ReadingBreaksOff bytes high before after
+HexGives (Err Memory) before after = (bytes : List ℕ) × ReadsBeginning bytes None before after
+
+-- No first line both gives bytes and is broken.
+abbrev pub OneAnswer : Type 0
+OneAnswer = (text bytes : List ℕ) (before after other : Feed) → before.left ≡ Some text → HexGives (Ok bytes) before after → HexGives (Err Broken) before other → ⊥

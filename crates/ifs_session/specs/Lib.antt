@@ -1,3 +1,4 @@
+pub mod Buffer
 pub mod Device
 pub mod Hexadecimal
 pub mod Memory

@@ -7,9 +7,10 @@ pub record Input : Type 0 where
   pub faults : ℕ
   pub fails_after : Option ℕ
 
--- A writer: the bytes written, how often it failed, and after how many calls one fails, if any does.
+-- A writer: the bytes written, for how many there is room without asking for memory, how often it failed, and after how many calls one fails, if any does.
 pub record Output : Type 0 where
   pub written : List ℕ
+  pub capacity : ℕ
   pub faults : ℕ
   pub fails_after : Option ℕ
 

@@ -1,6 +1,6 @@
 -- Runs of an image that comes as the first line of the input, in hexadecimal digits.
-use Rattle.std.specs.Prelude.{◌≡◌, ◌⊎◌, ℕ, List, ◌++◌, codes, decimal, Option, Result, Ok, Err}
-use Rattle.std.specs.Io.KnownBytes.{prepend_known, append_known}
+use Rattle.std.specs.Prelude.{◌≡◌, ◌≢◌, ◌⊎◌, ℕ, List, ◌++◌, codes, decimal, Result, Ok, Err}
+use Rattle.std.specs.Io.KnownBytes.{append_known}
 use Rattle.ifs_image.specs.declared.fault.ImageFault.{ImageFault}
 use Rattle.ifs_image.specs.declared.fault.ImageFault.TheVariants as image_faults
 use Rattle.ifs_image.specs.Spelling.{Spells}
@@ -17,10 +17,14 @@ use Rattle.ifs_session.specs.declared.fault.SessionFault.{SessionFault}
 use Rattle.ifs_session.specs.declared.fault.SessionFault.TheVariants.{ReadFailed, WriteFailed, TooMuchInput}
 use Rattle.ifs_session.specs.declared.fault.RunFault.{RunFault}
 use Rattle.ifs_session.specs.declared.fault.RunFault.TheVariants.{X1, Verify, Memory, Session}
-use Rattle.ifs_session.specs.declared.hexadecimal.HexFault.TheVariants.{Broken}
+use Rattle.ifs_session.specs.declared.refusal.Refusal.{Refusal}
+use Rattle.ifs_session.specs.declared.refusal.Refusal.TheVariants as refusals
+use Rattle.ifs_session.specs.declared.running.Unopened.{Unopened}
+use Rattle.ifs_session.specs.declared.running.Unopened.TheVariants.{Refused, NotRead}
+use Rattle.ifs_session.specs.declared.hexadecimal.HexFault.TheVariants as hex_faults
 use Rattle.ifs_session.specs.declared.session.Summary.{Summary}
-use Rattle.ifs_session.specs.Device.{counted}
-use Rattle.ifs_session.specs.Hexadecimal.{Feed, Takes, HexGives}
+use Rattle.ifs_session.specs.Device.{counted, Feed, Sink, HoldsNothing}
+use Rattle.ifs_session.specs.Hexadecimal.{HexGives}
 use Rattle.ifs_session.specs.SessionText.{Moment, SessionGives}
 
 -- A place in an image.
@@ -59,29 +63,27 @@ verify_fault_words (faults.CommandsOver at) = codes "V13 " ++ place_words at
 verify_fault_words (faults.HandlerLeaves at) = codes "V14 " ++ place_words at
 verify_fault_words faults.OutOfMemory = codes "V0"
 
--- A fault of a session, by its code.
-abbrev pub session_fault_words : SessionFault → List ℕ
-session_fault_words ReadFailed = codes "S1"
-session_fault_words WriteFailed = codes "S2"
-session_fault_words TooMuchInput = codes "S3"
-
 -- What is refused, by its code and its place.
-abbrev pub run_fault_words : RunFault → List ℕ
-run_fault_words X1 = codes "X1"
-run_fault_words (Verify fault) = verify_fault_words fault
-run_fault_words Memory = codes "V0"
-run_fault_words (Session fault) = session_fault_words fault
+abbrev pub refusal_words : Refusal → List ℕ
+refusal_words refusals.Broken = codes "X1"
+refusal_words (refusals.NotAccepted fault) = verify_fault_words fault
+refusal_words refusals.Memory = codes "V0"
 
 -- The line of a refusal.
-abbrev pub refused_line : RunFault → List ℕ
-refused_line fault = codes "refused " ++ run_fault_words fault ++ codes "\n"
+abbrev pub refused_line : Refusal → List ℕ
+refused_line refusal = codes "refused " ++ refusal_words refusal ++ codes "\n"
 
--- What a refusal gives: the fault, after its line was written; or that the write failed. The fault of a session has no line.
-abbrev pub RefuseGives : RunFault → RunFault → Option (List ℕ) → Option (List ℕ) → Option ℕ → Option ℕ → Type 0
-RefuseGives (Session fault) result written written' faults faults' = (result ≡ Session fault) × (written' ≡ written) × (faults' ≡ faults)
-RefuseGives fault result written written' faults faults' =
-    ((result ≡ fault) × (written' ≡ append_known written (refused_line fault)) × (faults' ≡ faults))
-    ⊎ ((result ≡ Session WriteFailed) × (faults' ≡ counted faults))
+-- What a run answers where it refuses.
+abbrev pub fault_of : Refusal → RunFault
+fault_of refusals.Broken = X1
+fault_of (refusals.NotAccepted fault) = Verify fault
+fault_of refusals.Memory = Memory
+
+-- What a refusal gives: its fault, after its line was written and has gone out; or that the write failed.
+abbrev pub RefuseGives : Refusal → RunFault → Sink → Sink → Type 0
+RefuseGives refusal result before after =
+    ((result ≡ fault_of refusal) × (after.written ≡ append_known before.written (refused_line refusal)) × (after.faults ≡ before.faults) × HoldsNothing after.held)
+    ⊎ ((result ≡ Session WriteFailed) × (after.faults ≡ counted before.faults))
 
 -- A core stands at the opening of the image that these bytes spell, which is accepted.
 pub record OpensImage (bytes : List ℕ) (core : OpenCore) : Type 0 where
@@ -90,68 +92,67 @@ pub record OpensImage (bytes : List ℕ) (core : OpenCore) : Type 0 where
   pub state_is : (b : Behaviour) → IsBehaviour core.image b → core.state ≡ opened b core.image
 
 -- What the opening of the image that bytes spell gives: a core, or why there is none.
-abbrev pub ImageGives : List ℕ → Result OpenCore RunFault → Type 0
+abbrev pub ImageGives : List ℕ → Result OpenCore Refusal → Type 0
 ImageGives bytes (Ok core) = OpensImage bytes core
-ImageGives bytes (Err (Verify fault)) = IsRefusal bytes fault
-ImageGives bytes (Err Memory) = Unit {0}
-ImageGives bytes (Err _) = ⊥
+ImageGives bytes (Err (refusals.NotAccepted fault)) = IsRefusal bytes fault
+ImageGives bytes (Err refusals.Memory) = Unit {0}
+ImageGives bytes (Err refusals.Broken) = ⊥
+
+-- Why the first line is refused: it breaks its rule; or the bytes that it spells are not accepted; or no memory was found, in the line or after it.
+abbrev pub LineRefused : Refusal → Feed → Feed → Type 0
+LineRefused refusals.Broken before after = HexGives (Err hex_faults.Broken) before after
+LineRefused (refusals.NotAccepted fault) before after = (bytes : List ℕ) × HexGives (Ok bytes) before after × IsRefusal bytes fault
+LineRefused refusals.Memory before after = HexGives (Err hex_faults.Memory) before after ⊎ ((bytes : List ℕ) × HexGives (Ok bytes) before after)
 
 -- What the opening of the image of the first line gives: a core at its opening, or why there is none.
-abbrev pub OpenGives : Result OpenCore RunFault → Feed → Feed → Type 0
+abbrev pub OpenGives : Result OpenCore Unopened → Feed → Feed → Type 0
 OpenGives (Ok core) before after = (bytes : List ℕ) × HexGives (Ok bytes) before after × OpensImage bytes core
-OpenGives (Err X1) before after = HexGives (Err Broken) before after
-OpenGives (Err (Verify fault)) before after = (bytes : List ℕ) × HexGives (Ok bytes) before after × IsRefusal bytes fault
-OpenGives (Err Memory) before after = (text : List ℕ) × Takes text before after
-OpenGives (Err (Session ReadFailed)) before after = (text : List ℕ) × (before.left ≡ prepend_known text after.left) × (after.faults ≡ counted before.faults)
-OpenGives (Err (Session _)) before after = ⊥
+OpenGives (Err (Refused refusal)) before after = LineRefused refusal before after
+OpenGives (Err NotRead) before after = HexGives (Err hex_faults.NotRead) before after
 
--- What a reader has left and a writer has written, where they tell it, and how often each has failed.
+-- A reader and a writer, by what they tell.
 pub record Streams : Type 0 where
-  pub left : Option (List ℕ)
-  pub written : Option (List ℕ)
-  pub read_faults : Option ℕ
-  pub write_faults : Option ℕ
+  pub feed : Feed
+  pub sink : Sink
 
 -- The moment of a session at which the core and the streams are these.
 abbrev pub moment : OpenCore → Streams → Moment
-moment core s = record { core = core; left = s.left; written = s.written; read_faults = s.read_faults; write_faults = s.write_faults }
+moment core s = record { core = core; left = s.feed.left; written = s.sink.written; read_faults = s.feed.faults; write_faults = s.sink.faults }
 
--- The reader of these streams.
-abbrev pub feed : Streams → Feed
-feed s = record { left = s.left; faults = s.read_faults }
-
--- The image of the first line was opened, and the session on its core gave this.
+-- The image of the first line was opened, nothing was written till then, and the session on its core gave this.
 pub record Runs (result : Result Summary SessionFault) (before after : Streams) : Type 0 where
   pub opening : OpenCore
   pub ending : OpenCore
   pub start : Streams
-  pub opens : OpenGives (Ok opening) (feed before) (feed start)
-  pub same_written : start.written ≡ before.written
-  pub same_faults : start.write_faults ≡ before.write_faults
+  pub opens : OpenGives (Ok opening) before.feed start.feed
+  pub same_sink : start.sink ≡ before.sink
   pub session : (b : Behaviour) → IsBehaviour opening.image b → SessionGives b result (moment opening start) (moment ending after)
+  pub out : result ≢ Err WriteFailed → HoldsNothing after.sink.held
 
--- The first line was refused with this, and its line was written.
-pub record Refuses (fault : RunFault) (before after : Streams) : Type 0 where
-  pub why : OpenGives (Err fault) (feed before) (feed after)
-  pub written : after.written ≡ append_known before.written (refused_line fault)
-  pub same_faults : after.write_faults ≡ before.write_faults
+-- The first line was refused with this, and its line was written and has gone out.
+pub record Refuses (refusal : Refusal) (before after : Streams) : Type 0 where
+  pub why : LineRefused refusal before.feed after.feed
+  pub written : after.sink.written ≡ append_known before.sink.written (refused_line refusal)
+  pub same_faults : after.sink.faults ≡ before.sink.faults
+  pub out : HoldsNothing after.sink.held
 
--- The first line could not be read.
+-- A read failed in the first line, and nothing was written.
 pub record CannotRead (before after : Streams) : Type 0 where
-  pub why : OpenGives (Err (Session ReadFailed)) (feed before) (feed after)
-  pub same_written : after.written ≡ before.written
-  pub same_faults : after.write_faults ≡ before.write_faults
+  pub why : HexGives (Err hex_faults.NotRead) before.feed after.feed
+  pub same_sink : after.sink ≡ before.sink
 
 -- The first line was refused, and the line that says so could not be written.
 pub record CannotRefuse (before after : Streams) : Type 0 where
-  pub fault : RunFault
-  pub why : OpenGives (Err fault) (feed before) (feed after)
-  pub one_fault : after.write_faults ≡ counted before.write_faults
+  pub refusal : Refusal
+  pub why : LineRefused refusal before.feed after.feed
+  pub one_fault : after.sink.faults ≡ counted before.sink.faults
 
 -- What a run gives.
 abbrev pub RunGives : Result Summary RunFault → Streams → Streams → Type 0
 RunGives (Ok summary) before after = Runs (Ok summary) before after
+RunGives (Err X1) before after = Refuses refusals.Broken before after
+RunGives (Err (Verify fault)) before after = Refuses (refusals.NotAccepted fault) before after
+RunGives (Err Memory) before after = Refuses refusals.Memory before after
 RunGives (Err (Session ReadFailed)) before after = Runs (Err ReadFailed) before after ⊎ CannotRead before after
 RunGives (Err (Session WriteFailed)) before after = Runs (Err WriteFailed) before after ⊎ CannotRefuse before after
 RunGives (Err (Session TooMuchInput)) before after = Runs (Err TooMuchInput) before after
-RunGives (Err fault) before after = Refuses fault before after

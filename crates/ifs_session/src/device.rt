@@ -1,7 +1,7 @@
 //! Readers and writers of bytes.
 
-ghost use Rattle.std.specs.Prelude.{List, [], ℕ, Option, None};
-ghost use Rattle.ifs_session.specs.Device.{NextGives, PutGives};
+ghost use Rattle.std.specs.Prelude.{List, [], ℕ, Option, None, IsTrue, OnOk};
+ghost use Rattle.ifs_session.specs.Device.{NextGives, ReadyGives, HasLine, PutGives, HoldsNothing};
 
 use thiserror::Error;
 
@@ -12,45 +12,53 @@ pub struct DeviceFault;
 
 /// A reader of bytes, one at a time.
 ///
-/// It may tell the bytes that it has left, and how often it failed: one that tells failures counts
-/// each, up to 2^64 - 1.
+/// It may tell the bytes that it has left, those of them that can be read without waiting, and how
+/// often it failed: one that tells failures counts each, up to 2^64 - 1.
 pub trait ByteIn {
     // The bytes that are left, where they are known.
     ghost left: { Self → Option (List ℕ) } = { λ _. None };
+
+    // The bytes that can be read without waiting, where they are known.
+    ghost ready: { Self → Option (List ℕ) } = { λ _. None };
 
     // How often a read failed, where that is known.
     ghost faults: { Self → Option ℕ } = { λ _. None };
 
     /// The next byte, or `None` at the end of input. After a failure nothing is lost.
     fn next(&mut self) -> Result<Option<u8>, DeviceFault>
-        ensures { NextGives result (left self.old) (left self.new) (faults self.old) (faults self.new) };
+        ensures gives { NextGives result (left self.old) (left self.new) (faults self.old) (faults self.new) }
+        ensures at_once { ReadyGives result (ready self.old) (ready self.new) };
 
-    /// Whether the rest of a line, up to its newline, can be read without waiting. `false` where
-    /// that is not known.
-    fn has_line(&self) -> bool {
+    /// Whether a line of at most `most` bytes, its newline among them, can be read without waiting.
+    /// `false` where that is not known.
+    fn has_line(&self, most: u32) -> bool
+        ensures { IsTrue result → HasLine most (ready self.now) }
+    {
         false
     }
 }
 
 /// A writer of bytes.
 ///
-/// It may tell the bytes that were written, and how often it failed: one that tells failures counts
-/// each, up to 2^64 - 1.
+/// It may tell the bytes that were written, those of them that it holds back, and how often it
+/// failed: one that tells failures counts each, up to 2^64 - 1.
 pub trait ByteOut {
     // The bytes that were written, where they are known.
     ghost written: { Self → Option (List ℕ) } = { λ _. None };
 
+    // The bytes that were written and have not gone out, where they are known.
+    ghost held: { Self → Option (List ℕ) } = { λ _. None };
+
     // How often a write failed, where that is known.
     ghost faults: { Self → Option ℕ } = { λ _. None };
 
-    /// Writes these bytes. After a failure nothing is said of how many of them went out.
+    /// Writes these bytes, which the writer may hold back. After a failure nothing is said of how
+    /// many of them went out.
     fn put(&mut self, bytes: &[u8]) -> Result<(), DeviceFault>
         ensures { PutGives result bytes.now (written self.old) (written self.new) (faults self.old) (faults self.new) };
 
-    /// Sees that what was written goes out now, where the writer holds bytes back.
+    /// Sees that what was written goes out now.
     fn flush(&mut self) -> Result<(), DeviceFault>
-        ensures { PutGives result [] (written self.old) (written self.new) (faults self.old) (faults self.new) }
-    {
-        Ok(())
-    }
+        ensures puts { PutGives result [] (written self.old) (written self.new) (faults self.old) (faults self.new) }
+        ensures out { OnOk result (HoldsNothing (held self.new)) };
 }

@@ -10,6 +10,7 @@
 mod device;
 mod fault;
 mod hexadecimal;
+pub mod laws;
 mod lines;
 mod memory;
 mod refusal;

@@ -1,6 +1,7 @@
 //! Lines of input.
 
-ghost use Rattle.std.specs.Prelude.{◌≡◌};
+ghost use Rattle.std.specs.Prelude.{◌≡◌, IsOkAnd, IsSome};
+ghost use Rattle.ifs_session.specs.Device.{HasLine};
 ghost use Rattle.ifs_session.specs.Session.{LineGives};
 
 use crate::device::ByteIn;
@@ -22,14 +23,16 @@ pub(crate) struct Line {
 }
 
 /// Reads the next line, and takes its bytes and its newline from the budget; `None` at the end of
-/// input. It fails where a read fails, and where a byte comes after the budget is spent.
+/// input. It fails where a read fails, and where a byte comes after the budget is spent; not so where
+/// a line within the budget can be read without waiting.
 pub(crate) fn next_line<R: ByteIn>(
     reader: &mut R,
     budget: &mut u32,
 ) -> Result<Option<Line>, SessionFault>
-    ensures { LineGives result
+    ensures gives { LineGives result
         (record { left = R.left reader.old; faults = R.faults reader.old; budget = budget.old })
         (record { left = R.left reader.new; faults = R.faults reader.new; budget = budget.new }) }
+    ensures at_once { HasLine budget.old (R.ready reader.old) → IsOkAnd result (λ line. IsSome line) }
 {
     let mut kept = ArrayVec::new();
     let mut is_longer = false;

@@ -1,6 +1,6 @@
 //! Devices in memory, which tell their bytes and failures, and fail at a given call for tests.
 
-ghost use Rattle.std.specs.Prelude.{◌≡◌, ◌↔◌, ◌++◌, [], Some, None, IsTrue, IsErr};
+ghost use Rattle.std.specs.Prelude.{◌≡◌, ◌↔◌, ◌⊎◌, ◌+◌, ◌<◌, ◌≤◌, [], length, Some, None, IsTrue, IsOk, IsErr, OnErr};
 ghost use Rattle.ifs_session.specs.Memory.{counted_down};
 ghost use Rattle.ifs_session.specs.Device.{NextGives, PutGives};
 
@@ -108,17 +108,18 @@ pub struct MemoryOut<A: Allocator = Global> {
 }
 
 impl<A: Allocator> Model for MemoryOut<A> {
+    ghost use Rattle.std.specs.Prelude.{vec_capacity};
     ghost use Rattle.ifs_session.specs.Memory.{Output};
 
     ghost Value = { Output };
 
-    ghost view = { λ w. record { written = w.written.items; faults = w.faults; fails_after = w.fails_after } };
+    ghost view = { λ w. record { written = w.written.items; capacity = vec_capacity w.written; faults = w.faults; fails_after = w.fails_after } };
 }
 
 impl<A: Allocator> MemoryOut<A> {
     /// A writer that has written nothing, and fails only where memory is refused.
     pub fn new(alloc: A) -> Self
-        ensures { result ≡ record { written = []; faults = 0; fails_after = None } }
+        ensures { result ≡ record { written = []; capacity = 0; faults = 0; fails_after = None } }
     {
         MemoryOut::with(alloc, None)
     }
@@ -126,13 +127,13 @@ impl<A: Allocator> MemoryOut<A> {
     /// A writer that has written nothing and fails once, after as many calls as `calls` says; and
     /// where memory is refused.
     pub fn failing_after(alloc: A, calls: u64) -> Self
-        ensures { result ≡ record { written = []; faults = 0; fails_after = Some calls } }
+        ensures { result ≡ record { written = []; capacity = 0; faults = 0; fails_after = Some calls } }
     {
         MemoryOut::with(alloc, Some(calls))
     }
 
     fn with(alloc: A, fails_after: Option<u64>) -> Self
-        ensures { result ≡ record { written = []; faults = 0; fails_after = fails_after } }
+        ensures { result ≡ record { written = []; capacity = 0; faults = 0; fails_after = fails_after } }
     {
         MemoryOut {
             written: Vec::new(alloc),
@@ -152,19 +153,36 @@ impl<A: Allocator> MemoryOut<A> {
 impl<A: Allocator> ByteOut for MemoryOut<A> {
     ghost written = { λ s. Some s.written };
 
+    ghost held = { λ _. Some [] };
+
     ghost faults = { λ s. Some s.faults };
 
     /// Fails at the given call and where memory is refused, and then writes nothing.
     fn put(&mut self, bytes: &[u8]) -> Result<(), DeviceFault>
         ensures puts { PutGives result bytes.now (Some self.old.written) (Some self.new.written) (Some self.old.faults) (Some self.new.faults) }
         ensures failing { self.old.fails_after ≡ Some 0 → IsErr result }
+        ensures unchanged { OnErr result (self.new.written ≡ self.old.written) }
+        ensures full { OnErr result ((self.old.fails_after ≡ Some 0) ⊎ (self.old.capacity < length self.old.written + length bytes.now)) }
+        ensures capacity { self.old.capacity ≤ self.new.capacity }
         ensures counted { self.new.fails_after ≡ counted_down self.old.fails_after }
     {
-        let fails = fails_now(&mut self.fails_after);
-        if fails || self.written.extend_from_slice(bytes).is_err() {
+        if fails_now(&mut self.fails_after) {
             self.faults = self.faults.saturating_add(1);
             return Err(DeviceFault);
         }
+        if self.written.extend_from_slice(bytes).is_err() {
+            self.faults = self.faults.saturating_add(1);
+            return Err(DeviceFault);
+        }
+        Ok(())
+    }
+
+    /// Nothing is held back, so this does nothing.
+    fn flush(&mut self) -> Result<(), DeviceFault>
+        ensures puts { PutGives result [] (Some self.old.written) (Some self.new.written) (Some self.old.faults) (Some self.new.faults) }
+        ensures same { self.new ≡ self.old }
+        ensures succeeds { IsOk result }
+    {
         Ok(())
     }
 }

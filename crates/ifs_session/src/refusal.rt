@@ -1,8 +1,8 @@
 //! Lines of refusals, written piece by piece without allocation.
 
-ghost use Rattle.std.specs.Prelude.{◌≡◌, ◌++◌, decimal};
-ghost use Rattle.ifs_session.specs.Device.{PutGives};
-ghost use Rattle.ifs_session.specs.Runs.{place_words, image_fault_words, verify_fault_words, session_fault_words, run_fault_words, refused_line, RefuseGives};
+ghost use Rattle.std.specs.Prelude.{◌≡◌, ◌++◌, decimal, OnOk};
+ghost use Rattle.ifs_session.specs.Device.{PutGives, HoldsNothing};
+ghost use Rattle.ifs_session.specs.Runs.{place_words, image_fault_words, verify_fault_words, refusal_words, refused_line, RefuseGives};
 
 use crate::device::{ByteOut, DeviceFault};
 use crate::fault::{RunFault, SessionFault};
@@ -10,52 +10,55 @@ use crate::words::put_number;
 use ifs_image::ImageFault;
 use ifs_verify::{At, VerifyFault};
 
-/// Writes the line that says what was refused, and gives the fault back; where that cannot be
-/// written, that is the fault. A session's fault has no line.
-pub(crate) fn refuse<W: ByteOut>(writer: &mut W, fault: RunFault) -> RunFault
-    ensures { RefuseGives fault result (W.written writer.old) (W.written writer.new) (W.faults writer.old) (W.faults writer.new) }
+/// Why the image of the first line is refused.
+#[derive(Clone, Copy, Debug, PartialEq, Eq)]
+pub(crate) enum Refusal {
+    /// The line breaks its rule.
+    Broken,
+    /// The image is not accepted.
+    NotAccepted(VerifyFault),
+    /// No memory was found for the image or for the core.
+    Memory,
+}
+
+/// Writes the line that says what was refused, sees that it goes out, and gives its fault; where that
+/// cannot be written, that is the fault.
+pub(crate) fn refuse<W: ByteOut>(writer: &mut W, refusal: Refusal) -> RunFault
+    ensures { RefuseGives refusal result
+        (record { written = W.written writer.old; held = W.held writer.old; faults = W.faults writer.old })
+        (record { written = W.written writer.new; held = W.held writer.new; faults = W.faults writer.new }) }
 {
-    if let RunFault::Session(_) = fault {
-        return fault;
-    }
-    match put_refused(writer, fault) {
-        Ok(()) => fault,
-        Err(_) => RunFault::Session(SessionFault::WriteFailed),
+    let Ok(()) = put_refused(writer, refusal) else {
+        return RunFault::Session(SessionFault::WriteFailed);
+    };
+    match refusal {
+        Refusal::Broken => RunFault::X1,
+        Refusal::NotAccepted(fault) => RunFault::Verify(fault),
+        Refusal::Memory => RunFault::Memory,
     }
 }
 
 /// Writes the line of a refusal, and sees that it goes out.
 #[tactic(auto, using(crate::proofs::Known::written_laws))]
-fn put_refused<W: ByteOut>(out: &mut W, fault: RunFault) -> Result<(), DeviceFault>
-    ensures { PutGives result (refused_line fault) (W.written out.old) (W.written out.new) (W.faults out.old) (W.faults out.new) }
+fn put_refused<W: ByteOut>(out: &mut W, refusal: Refusal) -> Result<(), DeviceFault>
+    ensures puts { PutGives result (refused_line refusal) (W.written out.old) (W.written out.new) (W.faults out.old) (W.faults out.new) }
+    ensures out { OnOk result (HoldsNothing (W.held out.new)) }
 {
     out.put(b"refused ")?;
-    put_run_fault(out, fault)?;
+    put_refusal(out, refusal)?;
     out.put(b"\n")?;
     out.flush()?;
     Ok(())
 }
 
 /// Writes what is refused.
-fn put_run_fault<W: ByteOut>(out: &mut W, fault: RunFault) -> Result<(), DeviceFault>
-    ensures { PutGives result (run_fault_words fault) (W.written out.old) (W.written out.new) (W.faults out.old) (W.faults out.new) }
+fn put_refusal<W: ByteOut>(out: &mut W, refusal: Refusal) -> Result<(), DeviceFault>
+    ensures { PutGives result (refusal_words refusal) (W.written out.old) (W.written out.new) (W.faults out.old) (W.faults out.new) }
 {
-    match fault {
-        RunFault::X1 => out.put(b"X1"),
-        RunFault::Verify(fault) => put_verify_fault(out, fault),
-        RunFault::Memory => out.put(b"V0"),
-        RunFault::Session(fault) => put_session_fault(out, fault),
-    }
-}
-
-/// Writes a fault of a session.
-fn put_session_fault<W: ByteOut>(out: &mut W, fault: SessionFault) -> Result<(), DeviceFault>
-    ensures { PutGives result (session_fault_words fault) (W.written out.old) (W.written out.new) (W.faults out.old) (W.faults out.new) }
-{
-    match fault {
-        SessionFault::ReadFailed => out.put(b"S1"),
-        SessionFault::WriteFailed => out.put(b"S2"),
-        SessionFault::TooMuchInput => out.put(b"S3"),
+    match refusal {
+        Refusal::Broken => out.put(b"X1"),
+        Refusal::NotAccepted(fault) => put_verify_fault(out, fault),
+        Refusal::Memory => out.put(b"V0"),
     }
 }
 

@@ -6,11 +6,20 @@ ghost use Rattle.ifs_session.specs.Runs.{ImageGives, OpenGives, RunGives};
 use crate::device::{ByteIn, ByteOut};
 use crate::fault::{RunFault, SessionFault};
 use crate::hexadecimal::{HexFault, hex_line};
-use crate::refusal::refuse;
+use crate::refusal::{Refusal, refuse};
 use crate::session::{Summary, simulate};
 use ifs_core::Core;
 use ifs_verify::verify;
 use std::alloc::Global;
+
+/// Why the first line opens no core.
+#[derive(Clone, Copy, Debug, PartialEq, Eq)]
+pub(crate) enum Unopened {
+    /// Its image is refused.
+    Refused(Refusal),
+    /// A read failed.
+    NotRead,
+}
 
 /// Runs an image: the first line of the input has it in lower-case hexadecimal digits, at most
 /// 131,072 and an even number of them; then come request lines, as for `simulate`. The image's line
@@ -25,14 +34,21 @@ pub fn run_hex<R: ByteIn, W: ByteOut>(
     writer: &mut W,
 ) -> Result<Summary, RunFault>
     ensures { RunGives result
-        (record { left = R.left reader.old; written = W.written writer.old; read_faults = R.faults reader.old; write_faults = W.faults writer.old })
-        (record { left = R.left reader.new; written = W.written writer.new; read_faults = R.faults reader.new; write_faults = W.faults writer.new }) }
+        (record {
+          feed = record { left = R.left reader.old; faults = R.faults reader.old };
+          sink = record { written = W.written writer.old; held = W.held writer.old; faults = W.faults writer.old };
+        })
+        (record {
+          feed = record { left = R.left reader.new; faults = R.faults reader.new };
+          sink = record { written = W.written writer.new; held = W.held writer.new; faults = W.faults writer.new };
+        }) }
 {
     match open_line(alloc, reader) {
-        Err(fault) => {
-            let told = refuse(writer, fault);
+        Err(Unopened::Refused(refusal)) => {
+            let told = refuse(writer, refusal);
             Err(told)
         }
+        Err(Unopened::NotRead) => Err(RunFault::Session(SessionFault::ReadFailed)),
         Ok(mut core) => match simulate(&mut core, reader, writer) {
             Ok(summary) => Ok(summary),
             Err(fault) => Err(RunFault::Session(fault)),
@@ -41,28 +57,31 @@ pub fn run_hex<R: ByteIn, W: ByteOut>(
 }
 
 /// Opens the image of the first line.
-fn open_line<R: ByteIn>(alloc: Global, reader: &mut R) -> Result<Core, RunFault>
+fn open_line<R: ByteIn>(alloc: Global, reader: &mut R) -> Result<Core, Unopened>
     ensures { OpenGives result
         (record { left = R.left reader.old; faults = R.faults reader.old })
         (record { left = R.left reader.new; faults = R.faults reader.new }) }
 {
     match hex_line(alloc, reader) {
-        Ok(bytes) => open_image(alloc, bytes.as_slice()),
-        Err(HexFault::Broken) => Err(RunFault::X1),
-        Err(HexFault::Memory) => Err(RunFault::Memory),
-        Err(HexFault::NotRead) => Err(RunFault::Session(SessionFault::ReadFailed)),
+        Ok(bytes) => match open_image(alloc, bytes.as_slice()) {
+            Ok(core) => Ok(core),
+            Err(refusal) => Err(Unopened::Refused(refusal)),
+        },
+        Err(HexFault::Broken) => Err(Unopened::Refused(Refusal::Broken)),
+        Err(HexFault::Memory) => Err(Unopened::Refused(Refusal::Memory)),
+        Err(HexFault::NotRead) => Err(Unopened::NotRead),
     }
 }
 
 /// Opens the image that bytes spell.
-fn open_image(alloc: Global, bytes: &[u8]) -> Result<Core, RunFault>
+fn open_image(alloc: Global, bytes: &[u8]) -> Result<Core, Refusal>
     ensures { ImageGives bytes.now result }
 {
     match verify(alloc, bytes) {
-        Err(fault) => Err(RunFault::Verify(fault)),
+        Err(fault) => Err(Refusal::NotAccepted(fault)),
         Ok(verified) => match Core::open(alloc, verified) {
             Ok(core) => Ok(core),
-            Err(_) => Err(RunFault::Memory),
+            Err(_) => Err(Refusal::Memory),
         },
     }
 }

@@ -1,9 +1,9 @@
 //! Sessions: request lines in, reply lines out.
 
-ghost use Rattle.std.specs.Prelude.{◌≡◌, ◌+◌, ◌<◌, ◌^◌, [], Ok};
+ghost use Rattle.std.specs.Prelude.{◌≡◌, ◌≢◌, ◌⊎◌, ◌+◌, ◌<◌, ◌^◌, [], Ok, Err, OnOk};
 ghost use Rattle.ifs_core.specs.Event.{Behaviour};
 ghost use Rattle.ifs_core.specs.Machine.{IsBehaviour};
-ghost use Rattle.ifs_session.specs.Device.{PutGives};
+ghost use Rattle.ifs_session.specs.Device.{PutGives, HasLine, HoldsNothing};
 ghost use Rattle.ifs_session.specs.Requests.{ALink, told_by};
 ghost use Rattle.ifs_session.specs.SessionText.{deed, step_deed, kind_of, kept_asked, with_line, ServeGives, SessionGives};
 
@@ -45,33 +45,17 @@ pub(crate) enum Kind {
 /// line is waited for.
 ///
 /// It fails where a read or a write fails, and at byte 16,777,217. The core then stands after the
-/// steps made. A read that fails, and too much input, leave the replies to the whole lines before;
-/// a write that fails leaves open how much of its reply went out.
+/// steps made. A read that fails, and too much input, leave the replies to the whole lines before,
+/// which have gone out; a write that fails leaves open how much of its reply went out.
 pub fn simulate<R: ByteIn, W: ByteOut>(
     core: &mut Core,
     reader: &mut R,
     writer: &mut W,
 ) -> Result<Summary, SessionFault>
-    ensures { (b : Behaviour) → IsBehaviour core.old.image b → SessionGives b result
+    ensures session { (b : Behaviour) → IsBehaviour core.old.image b → SessionGives b result
         (record { core = core.old; left = R.left reader.old; written = W.written writer.old; read_faults = R.faults reader.old; write_faults = W.faults writer.old })
         (record { core = core.new; left = R.left reader.new; written = W.written writer.new; read_faults = R.faults reader.new; write_faults = W.faults writer.new }) }
-{
-    let summary = serve_lines(core, reader, writer)?;
-    let Ok(()) = writer.flush() else {
-        return Err(SessionFault::WriteFailed);
-    };
-    Ok(summary)
-}
-
-/// Serves request lines; the last reply may not have gone out yet.
-fn serve_lines<R: ByteIn, W: ByteOut>(
-    core: &mut Core,
-    reader: &mut R,
-    writer: &mut W,
-) -> Result<Summary, SessionFault>
-    ensures { (b : Behaviour) → IsBehaviour core.old.image b → SessionGives b result
-        (record { core = core.old; left = R.left reader.old; written = W.written writer.old; read_faults = R.faults reader.old; write_faults = W.faults writer.old })
-        (record { core = core.new; left = R.left reader.new; written = W.written writer.new; read_faults = R.faults reader.new; write_faults = W.faults writer.new }) }
+    ensures out { result ≢ Err SessionFault.WriteFailed → HoldsNothing (W.held writer.new) }
 {
     let mut summary = Summary {
         requests: 0,
@@ -80,7 +64,7 @@ fn serve_lines<R: ByteIn, W: ByteOut>(
     };
     let mut budget = INPUT;
     'lines: loop {
-        let Ok(()) = settle(reader, writer) else {
+        let Ok(()) = settle(reader, writer, budget) else {
             return Err(SessionFault::WriteFailed);
         };
         let Some(line) = next_line(reader, &mut budget)? else {
@@ -90,20 +74,22 @@ fn serve_lines<R: ByteIn, W: ByteOut>(
             return Err(SessionFault::WriteFailed);
         };
         count(&mut summary, kind);
-        if summary.stopped {
-            return Ok(summary);
-        }
-        if !line.is_ended {
+        if summary.stopped || !line.is_ended {
+            let Ok(()) = writer.flush() else {
+                return Err(SessionFault::WriteFailed);
+            };
             return Ok(summary);
         }
     }
 }
 
-/// Sees that what was written has gone out, unless the next line can be read without waiting.
-fn settle<R: ByteIn, W: ByteOut>(reader: &R, writer: &mut W) -> Result<(), DeviceFault>
-    ensures { PutGives result [] (W.written writer.old) (W.written writer.new) (W.faults writer.old) (W.faults writer.new) }
+/// Sees that what was written has gone out, unless the next line, within the bytes that may be read,
+/// can be read without waiting.
+fn settle<R: ByteIn, W: ByteOut>(reader: &R, writer: &mut W, budget: u32) -> Result<(), DeviceFault>
+    ensures puts { PutGives result [] (W.written writer.old) (W.written writer.new) (W.faults writer.old) (W.faults writer.new) }
+    ensures out { OnOk result (HasLine budget (R.ready reader.now) ⊎ HoldsNothing (W.held writer.new)) }
 {
-    if reader.has_line() {
+    if reader.has_line(budget) {
         return Ok(());
     }
     writer.flush()

@@ -1,6 +1,7 @@
-//! Devices over the readers and writers of std. They tell nothing.
+//! Devices over the readers and writers of std.
 
-ghost use Rattle.std.specs.Prelude.{◌≤◌, IfOk};
+ghost use Rattle.std.specs.Prelude.{◌≡◌, ℕ, ◌≤◌, ◌↔◌, [], ◌∷◌, take, Contains, length, Some, MatchOption, IfOk, IsTrue};
+ghost use Rattle.ifs_session.specs.Device.{HasLine};
 
 use crate::device::{ByteIn, ByteOut, DeviceFault};
 use std::io::{ErrorKind, Read, Write};
@@ -11,7 +12,8 @@ const BUFFER: usize = 4096;
 /// How often a read is tried again that was interrupted.
 const TRIES: u32 = 1000;
 
-/// A reader of bytes over one of std, with a buffer of 4,096 bytes.
+/// A reader of bytes over one of std, with a buffer of 4,096 bytes. It tells the bytes that stand in
+/// its buffer, which can be read without waiting.
 #[derive(Debug, Drop)]
 pub struct FromRead<R> {
     reader: R,
@@ -22,14 +24,45 @@ pub struct FromRead<R> {
 }
 
 impl<R: Read> FromRead<R> {
+    ghost use Rattle.ifs_session.specs.Buffer.{buffered};
+
     /// Over this reader, with an empty buffer.
-    pub fn new(reader: R) -> Self {
+    pub fn new(reader: R) -> Self
+        ensures { buffered result ≡ [] }
+    {
         FromRead {
             reader,
             buffer: [0; BUFFER],
             start: 0,
             end: 0,
         }
+    }
+
+    /// The bytes in the buffer.
+    fn buffered(&self) -> &[u8]
+        ensures { result.now ≡ buffered self.now }
+    {
+        &self.buffer[self.start..self.end]
+    }
+
+    /// Takes the first byte out of the buffer, if there is one.
+    fn pop(&mut self) -> Option<u8>
+        ensures { MatchOption result ((buffered self.old ≡ []) × (buffered self.new ≡ [])) (λ byte. buffered self.old ≡ byte ∷ buffered self.new) }
+    {
+        if self.start == self.end {
+            return None;
+        }
+        let byte = self.buffer[self.start];
+        self.start += 1;
+        Some(byte)
+    }
+
+    /// Fills the buffer, which is empty, with what one read gives.
+    fn fill(&mut self) -> Result<(), DeviceFault> {
+        let count = read_some(&mut self.reader, &mut self.buffer)?;
+        self.start = 0;
+        self.end = count;
+        Ok(())
     }
 }
 
@@ -47,27 +80,38 @@ fn read_some<R: Read>(reader: &mut R, buffer: &mut [u8; BUFFER]) -> Result<usize
     Err(DeviceFault)
 }
 
+/// Whether one of the first `most` of these bytes is a newline.
+pub(crate) fn has_newline(bytes: &[u8], most: u32) -> bool
+    ensures { IsTrue result ↔ Contains {X = ℕ} (take most bytes.now) 10 }
+{
+    let most = most as usize;
+    if most < bytes.len() {
+        return bytes[..most].contains(&b'\n');
+    }
+    bytes.contains(&b'\n')
+}
+
 impl<R: Read> ByteIn for FromRead<R> {
+    ghost use Rattle.ifs_session.specs.Buffer.{buffered};
+
+    ghost ready = { λ r. Some (buffered r) };
+
     fn next(&mut self) -> Result<Option<u8>, DeviceFault> {
-        if self.start == self.end {
-            let count = read_some(&mut self.reader, &mut self.buffer)?;
-            self.start = 0;
-            self.end = count;
+        if let Some(byte) = self.pop() {
+            return Ok(Some(byte));
         }
-        if self.start == self.end {
-            return Ok(None);
-        }
-        let byte = self.buffer[self.start];
-        self.start += 1;
-        Ok(Some(byte))
+        self.fill()?;
+        Ok(self.pop())
     }
 
-    fn has_line(&self) -> bool {
-        self.buffer[self.start..self.end].contains(&b'\n')
+    fn has_line(&self, most: u32) -> bool
+        ensures { IsTrue result ↔ HasLine most (Some (buffered self.now)) }
+    {
+        has_newline(self.buffered(), most)
     }
 }
 
-/// A writer of bytes over one of std. It has no buffer of its own.
+/// A writer of bytes over one of std. It has no buffer of its own, and tells nothing.
 #[derive(Debug, Drop)]
 pub struct ToWrite<W> {
     writer: W,

@@ -1,5 +1,7 @@
 //! Sessions as bytes in and bytes out. Images are written by hand from the table of instructions.
 
+mod devices;
+
 use super::*;
 use linked_list_allocator::LocalHeap;
 use std::alloc::{AllocError, Global};

@@ -7,23 +7,35 @@ pub returns-in-Ok-simulate : goal.returns-in-Ok-simulate
 returns-in-Ok-simulate g c = record {
   opening = c.in-Ok.core;
   ending = c.simulate.new.core;
-  start = record { left = g.R.ByteIn.left c.open_line.new.reader; written = g.W.ByteOut.written c.args.writer.now; read_faults = g.R.ByteIn.faults c.open_line.new.reader; write_faults = g.W.ByteOut.faults c.args.writer.now };
+  start = record {
+    feed = record { left = g.R.ByteIn.left c.open_line.new.reader; faults = g.R.ByteIn.faults c.open_line.new.reader };
+    sink = record { written = g.W.ByteOut.written c.args.writer.now; held = g.W.ByteOut.held c.args.writer.now; faults = g.W.ByteOut.faults c.args.writer.now };
+  };
   opens = c.in-Ok.ensures;
-  same_written = refl;
-  same_faults = refl;
-  session = c.in-Ok-simulate.ensures;
+  same_sink = refl;
+  session = c.in-Ok-simulate.ensures.session;
+  out = c.in-Ok-simulate.ensures.out;
 }
 
 pub returns : goal.returns
 returns g c =
-    let before : Streams = record { left = g.R.ByteIn.left c.args.reader.now; written = g.W.ByteOut.written c.args.writer.now; read_faults = g.R.ByteIn.faults c.args.reader.now; write_faults = g.W.ByteOut.faults c.args.writer.now } in
-    let after : Streams = record { left = g.R.ByteIn.left c.simulate.new.reader; written = g.W.ByteOut.written c.simulate.new.writer; read_faults = g.R.ByteIn.faults c.simulate.new.reader; write_faults = g.W.ByteOut.faults c.simulate.new.writer } in
-    run_served before after (Err c.in-Err-simulate.fault) (record {
+    let before : Streams = record {
+      feed = record { left = g.R.ByteIn.left c.args.reader.now; faults = g.R.ByteIn.faults c.args.reader.now };
+      sink = record { written = g.W.ByteOut.written c.args.writer.now; held = g.W.ByteOut.held c.args.writer.now; faults = g.W.ByteOut.faults c.args.writer.now };
+    } in
+    let after : Streams = record {
+      feed = record { left = g.R.ByteIn.left c.simulate.new.reader; faults = g.R.ByteIn.faults c.simulate.new.reader };
+      sink = record { written = g.W.ByteOut.written c.simulate.new.writer; held = g.W.ByteOut.held c.simulate.new.writer; faults = g.W.ByteOut.faults c.simulate.new.writer };
+    } in
+    run_served before after (Err c.in-Err.fault) (record {
       opening = c.in-Ok.core;
       ending = c.simulate.new.core;
-      start = record { left = g.R.ByteIn.left c.open_line.new.reader; written = g.W.ByteOut.written c.args.writer.now; read_faults = g.R.ByteIn.faults c.open_line.new.reader; write_faults = g.W.ByteOut.faults c.args.writer.now };
+      start = record {
+        feed = record { left = g.R.ByteIn.left c.open_line.new.reader; faults = g.R.ByteIn.faults c.open_line.new.reader };
+        sink = before.sink;
+      };
       opens = c.in-Ok.ensures;
-      same_written = refl;
-      same_faults = refl;
-      session = c.in-Err-simulate.ensures;
+      same_sink = refl;
+      session = c.in-Err.ensures.session;
+      out = c.in-Err.ensures.out;
     })
