@@ -1,9 +1,8 @@
 -- Each instruction is read back from its four bytes.
-use Rattle.std.proofs.Common.{◌≡◌, ℕ, ◌+◌, ◌*◌, ◌/◌, ◌%◌, Option, Some, refl, ap, arith}
+use Rattle.std.proofs.Common.{◌≡◌, ℕ, ◌+◌, ◌*◌, ◌/◌, ◌%◌, refl, ap, arith}
 use Rattle.ifs_base.specs.declared.op.LinkState.TheVariants.{Unknown, Down, Up}
-use Rattle.ifs_base.specs.declared.op.Op.{Op}
 use Rattle.ifs_base.specs.declared.op.Op.TheVariants.{Ret, Yes, No, Link, Test, Known, Negate, Both, Either, PushCommand, PushState, Queue, Want, Jump, JumpFalse, JumpTrue, Call, Pop, Dup}
-use Rattle.ifs_base.specs.Spelling.{spelling, op_of, op_with, IsReadBack}
+use Rattle.ifs_base.specs.Spelling.{op_with, IsReadBack}
 
 -- a number is made of its two bytes
 two_bytes : (n : ℕ) → 256 * (n / 256) + n % 256 ≡ n

@@ -1,5 +1,5 @@
 -- What is promised is kept: by each step from a state of an image's run, by the opening, and so by each run.
-use Rattle.std.proofs.Common.{◌≡◌, ◌≢◌, ◌-◌, ◌<◌, List, [], ◌∷◌, length, refl, sym, ap, ◌∙◌, subst, arith}
+use Rattle.std.proofs.Common.{◌≡◌, List, [], ◌∷◌, length, sym, ap, ◌∙◌, subst, arith}
 use Rattle.ifs_base.specs.Facts.{Facts}
 use Rattle.ifs_image.specs.declared.parts.ImageParts.{ImageParts}
 use Rattle.ifs_image.specs.Limits.{Fits}
@@ -8,17 +8,16 @@ use Rattle.ifs_machine.specs.Table.{Effects}
 use Rattle.ifs_machine.specs.Run.{HandlersEnd, RunsAreUnique, RunsFollow, RunsStayWithin, nothing_yet}
 use Rattle.ifs_core.specs.declared.step.Step.{Step}
 use Rattle.ifs_core.specs.declared.step.Reply.{Reply}
-use Rattle.ifs_core.specs.declared.step.Reply.TheVariants.{Busy}
 use Rattle.ifs_core.specs.Event.{Handler, AlwaysInit, AlwaysBody, Init, Body, Behaviour, Position, entering}
 use Rattle.ifs_core.specs.Machine.{IsBehaviour, followed_by}
 use Rattle.ifs_core.specs.Gateway.{IsStateOf, opening_of, opened}
-use Rattle.ifs_core.specs.Steps.{CoreState, Turn, Makes, turn}
-use Rattle.ifs_core.specs.HeadlineParts.{IsRun, IsWithinBudgets, EachRun, BothRuns, after_always, after_bodies, changed_by}
+use Rattle.ifs_core.specs.Steps.{CoreState, Makes, turn}
+use Rattle.ifs_core.specs.HeadlineParts.{IsWithinBudgets, EachRun, BothRuns, after_always, after_bodies, changed_by}
 use Rattle.ifs_core.specs.Headline.{StepKeeps, OpeningKeeps, StepsKeep, RunKeeps, IsKept}
 use Rattle.ifs_core.proofs.Exists.{exists}
 use Rattle.ifs_core.proofs.Evaluating.{evaluation_runs, OpeningHolds, opening_holds}
 use Rattle.ifs_core.proofs.Turning.{step_holds, changed_at, state_after}
-use Rattle.ifs_core.proofs.Alike.{turn_alike, opening_alike, run_alike}
+use Rattle.ifs_core.proofs.Alike.{turn_alike, run_alike}
 
 module _ (ends : HandlersEnd) (unique : RunsAreUnique) (follow : RunsFollow) (stay : RunsStayWithin) (image : ImageParts) (accepted : IsAccepted image) (fits : Fits image) where
   within : (handler : Handler) (facts : Facts) (before : Effects) → IsWithinBudgets image handler facts before
