@@ -13,6 +13,7 @@
 
 mod ids;
 mod items;
+pub mod laws;
 mod op;
 mod spelling;
 mod text;

@@ -1,7 +1,7 @@
 -- Two behaviours of an image make one run.
 use Rattle.std.proofs.Common.{◌≡◌, ℕ, ◌+◌, ◌<◌, Bool, true, false, not, List, [], ◌∷◌, ◌++◌, length, Option, Some, None, refl, sym, ap, ◌∙◌}
 use Rattle.std.specs.Prelude.{IfSome, slice_get, nat_lt, if◌then◌else◌}
-use Rattle.ifs_base.specs.Facts.{Facts}
+use Rattle.ifs_base.specs.Facts.{Facts, is_link}
 use Rattle.ifs_base.specs.declared.ids.CommandId.{CommandId}
 use Rattle.ifs_base.specs.declared.ids.StateId.{StateId}
 use Rattle.ifs_base.specs.declared.op.LinkState.{LinkState}
@@ -9,15 +9,15 @@ use Rattle.ifs_image.specs.declared.parts.ImageParts.{ImageParts}
 use Rattle.ifs_image.specs.Limits.{Fits}
 use Rattle.ifs_sched.specs.Schedule.{is_running, entered, all_off}
 use Rattle.ifs_verify.specs.Accepted.{IsAccepted}
-use Rattle.ifs_machine.specs.Table.{Effects}
-use Rattle.ifs_machine.specs.Run.{AreFactsOf, HandlersEnd, RunsAreUnique, nothing_yet, later_wish}
+use Rattle.ifs_base.specs.Effects.{Effects, nothing_yet, later_wish, followed}
+use Rattle.ifs_machine.specs.Run.{AreFactsOf, HandlersEnd, RunsAreUnique}
 use Rattle.ifs_core.specs.declared.step.Step.{Step}
 use Rattle.ifs_core.specs.declared.step.Step.TheVariants.{Link, Finished, Tick, Take}
 use Rattle.ifs_core.specs.declared.step.Reply.TheVariants.{Busy, Stale, Backwards}
-use Rattle.ifs_core.specs.Event.{Handler, AlwaysInit, AlwaysBody, Init, Body, Yield, Behaviour, Position, Event, kept_values, change_of, with_change, entering, evaluation}
-use Rattle.ifs_core.specs.Machine.{routine_of, followed_by, IsBehaviour, periods_in}
+use Rattle.ifs_core.specs.Event.{Handler, AlwaysInit, AlwaysBody, Init, Body, Behaviour, Position, Event, kept_values, change_of, with_change, entering, evaluation}
+use Rattle.ifs_core.specs.Machine.{routine_of, IsBehaviour, periods_in}
 use Rattle.ifs_core.specs.Gateway.{IsPositionOf, IsStateOf, opening_of, opened}
-use Rattle.ifs_core.specs.Steps.{CoreState, Turn, at_position, unchanged, same, done, ticked_after, no_event, lacks_room, with_link, with_value, with_run_over, is_same_link, has_value, link_turn, finished_turn, tick_turn, turn, replies, after_steps}
+use Rattle.ifs_core.specs.Steps.{CoreState, Turn, at_position, unchanged, same, done, ticked_after, no_event, lacks_room, with_link, with_value, with_run_over, has_value, changing, LinkSeen, RunEnded, link_turn, finished_turn, tick_turn, turn, replies, after_steps}
 use Rattle.ifs_core.specs.HeadlineParts.{RunAlike}
 use Rattle.ifs_core.proofs.Runs.{body_of, init_of}
 use Rattle.ifs_core.proofs.Exists.{state_at, room_from_nothing}
@@ -25,12 +25,19 @@ use Rattle.ifs_core.proofs.Places.{link_stays, value_stays, run_over_stays, ente
 use Rattle.ifs_core.proofs.Evaluating.{wish_alone, first_at, opening_holds, entered_within}
 use Rattle.ifs_core.proofs.Turning.{step_holds}
 
-abbrev yield : List CommandId → Option StateId → ℕ → Yield
-yield commands wish cost = record { commands = commands; wish = wish; cost = cost }
+-- What a handler brings about, and what that costs.
+record Paid : Type 0 where
+  effects : Effects
+  cost : ℕ
 
-one_yield : (x y : Yield) → x.commands ≡ y.commands → x.wish ≡ y.wish → x.cost ≡ y.cost → x ≡ y
-one_yield x y e f g =
-    ap (λ commands. yield commands x.wish x.cost) e ∙ ap (λ wish. yield y.commands wish x.cost) f ∙ ap (λ cost. yield y.commands y.wish cost) g
+abbrev paid : Behaviour → Handler → Facts → Paid
+paid b handler facts = record { effects = b.answer handler facts; cost = b.cost handler facts }
+
+same_effects : (x y : Effects) → x.commands ≡ y.commands → x.wish ≡ y.wish → x ≡ y
+same_effects x y e f = ap (λ commands. let made : Effects = record { commands = commands; wish = x.wish } in made) e ∙ ap (λ wish. let made : Effects = record { commands = y.commands; wish = wish } in made) f
+
+same_paid : (x y : Paid) → x.effects ≡ y.effects → x.cost ≡ y.cost → x ≡ y
+same_paid x y e f = ap (λ effects. let made : Paid = record { effects = effects; cost = x.cost } in made) e ∙ ap (λ cost. let made : Paid = record { effects = y.effects; cost = cost } in made) f
 
 -- An entry by the sets of active tests.
 abbrev entry_by : ℕ → ℕ → StateId → Position → Position
@@ -43,14 +50,15 @@ entry_by always active next p = record {
 
 module _ (ends : HandlersEnd) (unique : RunsAreUnique) (image : ImageParts) (accepted : IsAccepted image) (a b : Behaviour) (is_a : IsBehaviour image a) (is_b : IsBehaviour image b) where
   -- handlers answer alike
-  answers : (handler : Handler) (routine : ℕ) (facts : Facts) → routine_of image handler ≡ Some routine → AreFactsOf image facts → a.answer handler facts ≡ b.answer handler facts
+  answers : (handler : Handler) (routine : ℕ) (facts : Facts) → routine_of image handler ≡ Some routine → AreFactsOf image facts → paid a handler facts ≡ paid b handler facts
   answers handler routine facts is given =
       let room = room_from_nothing image handler routine accepted is in
       let x = a.answer handler facts in
       let y = b.answer handler facts in
-      let e = unique image facts routine nothing_yet (followed_by nothing_yet x) (followed_by nothing_yet y) x.cost y.cost
+      let e = unique image facts routine nothing_yet (followed nothing_yet x) (followed nothing_yet y) (a.cost handler facts) (b.cost handler facts)
       (is_a.runs handler routine facts nothing_yet is given room) (is_b.runs handler routine facts nothing_yet is given room) in
-      one_yield x y (ap (λ (z : Effects). z.commands) e.1) (sym (wish_alone x.wish) ∙ ap (λ (z : Effects). z.wish) e.1 ∙ wish_alone y.wish) e.0
+      let same = same_effects x y (ap (λ (z : Effects). z.commands) e.1) (sym (wish_alone x.wish) ∙ ap (λ (z : Effects). z.wish) e.1 ∙ wish_alone y.wish) in
+      same_paid (paid a handler facts) (paid b handler facts) same e.0
 
   always_alike : a.always ≡ b.always
   always_alike = is_a.always ∙ sym is_b.always
@@ -58,10 +66,10 @@ module _ (ends : HandlersEnd) (unique : RunsAreUnique) (image : ImageParts) (acc
   active_alike : (k : ℕ) → k < length image.states → a.active k ≡ b.active k
   active_alike k within = let s = state_at image k within in is_a.active k s.0 s.1 ∙ sym (is_b.active k s.0 s.1)
 
-  body_alike : (k : ℕ) (facts : Facts) → k < length image.states → AreFactsOf image facts → a.answer (Body k) facts ≡ b.answer (Body k) facts
+  body_alike : (k : ℕ) (facts : Facts) → k < length image.states → AreFactsOf image facts → paid a (Body k) facts ≡ paid b (Body k) facts
   body_alike k facts within given = let s = state_at image k within in answers (Body k) s.0.handlers.body.0 facts (body_of image k s.0 s.1) given
 
-  init_alike : (k : ℕ) (facts : Facts) → k < length image.states → AreFactsOf image facts → a.answer (Init k) facts ≡ b.answer (Init k) facts
+  init_alike : (k : ℕ) (facts : Facts) → k < length image.states → AreFactsOf image facts → paid a (Init k) facts ≡ paid b (Init k) facts
   init_alike k facts within given = let s = state_at image k within in answers (Init k) s.0.handlers.init.0 facts (init_of image k s.0 s.1) given
 
   entering_alike : (next : StateId) (p : Position) → next.0 < length image.states → entering a next p ≡ entering b next p
@@ -72,46 +80,50 @@ module _ (ends : HandlersEnd) (unique : RunsAreUnique) (image : ImageParts) (acc
       → with_change a o bodies ≡ with_change b o bodies
   change_alike None bodies at within = refl
   change_alike (Some next) bodies at within =
-      let joined : Position → Yield → Event = λ p y. record { position = p; commands = bodies.commands ++ y.commands; cost = bodies.cost + y.cost } in
+      let joined : Position → Paid → Event = λ p y. record { position = p; commands = bodies.commands ++ y.effects.commands; cost = bodies.cost + y.cost } in
       let entry = entering_alike next bodies.position within in
       let stays = entering_stays image b next bodies.position at within in
-      ap (λ (p : Position). joined p (a.answer (Init next.0) p.facts)) entry
+      ap (λ (p : Position). joined p (paid a (Init next.0) p.facts)) entry
       ∙ ap (λ y. joined (entering b next bodies.position) y) (init_alike next.0 (entering b next bodies.position).facts within stays.facts)
 
-  abbrev event_by : Position → Behaviour → Yield → Yield → Event
+  abbrev event_by : Position → Behaviour → Paid → Paid → Event
   event_by p made always own =
-      with_change made (change_of p.current (later_wish always.wish own.wish))
-      (record { position = record p { owed = false }; commands = always.commands ++ own.commands; cost = always.cost + own.cost })
+      with_change made (change_of p.current (later_wish always.effects.wish own.effects.wish))
+      (record { position = record p { owed = false }; commands = always.effects.commands ++ own.effects.commands; cost = always.cost + own.cost })
 
   evaluation_alike : (p : Position) → IsPositionOf image p → evaluation a p ≡ evaluation b p
   evaluation_alike p at =
       let always = answers AlwaysBody image.always.body.0 p.facts refl at.facts in
       let own = body_alike p.current.0 p.facts at.current at.facts in
-      let x = b.answer AlwaysBody p.facts in
-      let y = b.answer (Body p.current.0) p.facts in
-      ap (λ z. event_by p a z (a.answer (Body p.current.0) p.facts)) always
+      let x = paid b AlwaysBody p.facts in
+      let y = paid b (Body p.current.0) p.facts in
+      ap (λ z. event_by p a z (paid a (Body p.current.0) p.facts)) always
       ∙ ap (λ z. event_by p a x z) own
-      ∙ change_alike (change_of p.current (later_wish x.wish y.wish)) (record { position = record p { owed = false }; commands = x.commands ++ y.commands; cost = x.cost + y.cost })
+      ∙ change_alike (change_of p.current (later_wish x.effects.wish y.effects.wish)) (record { position = record p { owed = false }; commands = x.effects.commands ++ y.effects.commands; cost = x.cost + y.cost })
       (paid_stays image p at) (entered_within ends unique image accepted b is_b p at)
 
   module _ (s : CoreState) (is : IsStateOf image s) where
-    link_alike : (step : Step) (interface : ℕ) (link : LinkState) (o : Option LinkState)
-        → link_turn a image.budgets.commands step interface link o s ≡ link_turn b image.budgets.commands step interface link o s
-    link_alike step interface link None = refl
-    link_alike step interface link (Some before) =
-        let turned : Event → Turn = λ e. if is_same_link before link then same step s else
-        if lacks_room image.budgets.commands s then unchanged Busy s else done step e s in
-        ap turned (evaluation_alike (with_link interface link s.position) (link_stays image interface link s.position is.position))
+    changing_alike : (step : Step) (p : Position) → IsPositionOf image p → changing a image.budgets.commands step p s ≡ changing b image.budgets.commands step p s
+    changing_alike step p at =
+        let turned : Event → Turn = λ e. if lacks_room image.budgets.commands s then unchanged Busy s else done step e s in
+        ap turned (evaluation_alike p at)
 
-    finished_alike : (step : Step) (test run : ℕ) (value : Bool) (o : Option (Option Bool))
-        → finished_turn a image.budgets.commands step test run value o s ≡ finished_turn b image.budgets.commands step test run value o s
-    finished_alike step test run value None = refl
-    finished_alike step test run value (Some before) =
-        let turned : Event → Turn = λ e. if not (is_running test run s.position.schedule) then unchanged Stale s else
-        if has_value value before then same step (at_position (with_run_over test run s.position) s) else
-        if lacks_room image.budgets.commands s then unchanged Busy s else done step e s in
-        ap turned (evaluation_alike (with_value test value (with_run_over test run s.position))
-        (value_stays image test value (with_run_over test run s.position) (run_over_stays image test run s.position is.position)))
+    link_alike : (seen : LinkSeen) (o : Option LinkState) → link_turn a image.budgets.commands seen o s ≡ link_turn b image.budgets.commands seen o s
+    link_alike seen None = refl
+    link_alike seen (Some before) =
+        let step = Link seen.interface seen.link in
+        ap (λ (t : Turn). if is_link before seen.link then same step s else t)
+        (changing_alike step (with_link seen.interface.0 seen.link s.position) (link_stays image seen.interface.0 seen.link s.position is.position))
+
+    finished_alike : (ended : RunEnded) (o : Option (Option Bool)) → finished_turn a image.budgets.commands ended o s ≡ finished_turn b image.budgets.commands ended o s
+    finished_alike ended None = refl
+    finished_alike ended (Some before) =
+        let step = Finished ended.test ended.run ended.value in
+        let p = with_run_over ended.test.0 ended.run s.position in
+        let over = run_over_stays image ended.test.0 ended.run s.position is.position in
+        ap (λ (t : Turn). if not (is_running ended.test.0 ended.run s.position.schedule) then unchanged Stale s else
+        if has_value ended.value before then same step (at_position p s) else t)
+        (changing_alike step (with_value ended.test.0 ended.value p) (value_stays image ended.test.0 ended.value p over))
 
     tick_alike : (now : ℕ) → tick_turn a image.budgets.commands now s ≡ tick_turn b image.budgets.commands now s
     tick_alike now =
@@ -121,8 +133,8 @@ module _ (ends : HandlersEnd) (unique : RunsAreUnique) (image : ImageParts) (acc
         ap turned (evaluation_alike s.position is.position)
 
     pub turn_alike : (step : Step) → turn a image.budgets.commands step s ≡ turn b image.budgets.commands step s
-    turn_alike (Link interface link) = link_alike (Link interface link) interface.0 link (slice_get s.position.facts.links interface.0)
-    turn_alike (Finished test run value) = finished_alike (Finished test run value) test.0 run value (slice_get s.position.facts.tests test.0)
+    turn_alike (Link interface link) = link_alike (record { interface = interface; link = link }) (slice_get s.position.facts.links interface.0)
+    turn_alike (Finished test run value) = finished_alike (record { test = test; run = run; value = value }) (slice_get s.position.facts.tests test.0)
     turn_alike (Tick now) = tick_alike now
     turn_alike Take = refl
 
@@ -155,13 +167,13 @@ module _ (ends : HandlersEnd) (unique : RunsAreUnique) (image : ImageParts) (acc
   opening_alike =
       let facts = (opening_of b image).position.facts in
       let at = first_at ends unique image accepted b is_b in
-      let joined : Position → Yield → Yield → Event = λ p x y. record { position = p; commands = x.commands ++ y.commands; cost = x.cost + y.cost } in
+      let joined : Position → Paid → Paid → Event = λ p x y. record { position = p; commands = x.effects.commands ++ y.effects.commands; cost = x.cost + y.cost } in
       let always = answers AlwaysInit image.always.init.0 facts refl at.facts in
       let own = init_alike image.initial.0 facts at.current at.facts in
-      ap (λ always. joined (opened_at always (a.active image.initial.0)) (a.answer AlwaysInit facts) (a.answer (Init image.initial.0) facts)) always_alike
-      ∙ ap (λ active. joined (opened_at b.always active) (a.answer AlwaysInit facts) (a.answer (Init image.initial.0) facts)) (active_alike image.initial.0 at.current)
-      ∙ ap (λ x. joined (opened_at b.always (b.active image.initial.0)) x (a.answer (Init image.initial.0) facts)) always
-      ∙ ap (λ y. joined (opened_at b.always (b.active image.initial.0)) (b.answer AlwaysInit facts) y) own
+      ap (λ always. joined (opened_at always (a.active image.initial.0)) (paid a AlwaysInit facts) (paid a (Init image.initial.0) facts)) always_alike
+      ∙ ap (λ active. joined (opened_at b.always active) (paid a AlwaysInit facts) (paid a (Init image.initial.0) facts)) (active_alike image.initial.0 at.current)
+      ∙ ap (λ x. joined (opened_at b.always (b.active image.initial.0)) x (paid a (Init image.initial.0) facts)) always
+      ∙ ap (λ y. joined (opened_at b.always (b.active image.initial.0)) (paid b AlwaysInit facts) y) own
 
   abbrev opened_by : Event → CoreState
   opened_by e = record { position = e.position; queue = e.commands; trace = [] }

@@ -8,11 +8,11 @@ use Rattle.ifs_image.specs.declared.parts.StateSpec.{StateSpec}
 use Rattle.ifs_image.specs.declared.parts.ImageParts.{ImageParts}
 use Rattle.ifs_image.specs.Limits.{Fits}
 use Rattle.ifs_verify.specs.Accepted.{IsAccepted}
-use Rattle.ifs_machine.specs.Table.{Effects}
-use Rattle.ifs_machine.specs.Run.{AreFactsOf, HasRoom, Appends, IsWish, IsCostOf, HandlersEnd, RunsAreUnique, nothing_yet, later_wish}
-use Rattle.ifs_core.specs.Event.{Handler, AlwaysInit, AlwaysBody, Init, Body, Yield, Behaviour, Position, Event, change_of, with_change, entering, evaluation}
-use Rattle.ifs_core.specs.Machine.{routine_of, followed_by, IsBehaviour, KeepsBudgets}
-use Rattle.ifs_core.specs.Within.{RanBodies}
+use Rattle.ifs_base.specs.Effects.{Effects, nothing_yet, later_wish, followed}
+use Rattle.ifs_machine.specs.Run.{AreFactsOf, HasRoom, Appends, IsWish, IsCostOf, HandlersEnd, RunsAreUnique}
+use Rattle.ifs_core.specs.Event.{Handler, AlwaysInit, AlwaysBody, Init, Body, Behaviour, Position, Event, change_of, with_change, entering, evaluation}
+use Rattle.ifs_core.specs.Machine.{routine_of, IsBehaviour, KeepsBudgets}
+use Rattle.ifs_core.specs.inner.Within.{RanBodies}
 use Rattle.ifs_core.specs.Gateway.{IsPositionOf, IsStateOf, opening_of, opened}
 use Rattle.ifs_core.specs.HeadlineParts.{IsRun, EachRun, BothRuns, after_always, after_bodies}
 use Rattle.ifs_core.proofs.Runs.{room_for_body, room_for_init, room_for_first_init, body_of, init_of, ran_bodies, ran_init, bodies_keep, change_keeps, count_after, two_known}
@@ -45,16 +45,16 @@ module _ (ends : HandlersEnd) (unique : RunsAreUnique) (image : ImageParts) (acc
   -- A handler ran: what it costs and brings about is bounded.
   record Ran (handler : Handler) (routine : ℕ) (facts : Facts) (before : Effects) : Type 0 where
     run : IsRun image b handler facts before
-    within : IsCostOf image routine (b.answer handler facts).cost
-    commands : Appends image routine before.commands (followed_by before (b.answer handler facts)).commands
-    wish : IsWish image before.wish (followed_by before (b.answer handler facts)).wish
+    within : IsCostOf image routine (b.cost handler facts)
+    commands : Appends image routine before.commands (followed before (b.answer handler facts)).commands
+    wish : IsWish image before.wish (followed before (b.answer handler facts)).wish
 
   ran : (handler : Handler) (routine : ℕ) (facts : Facts) (before : Effects) → routine_of image handler ≡ Some routine → AreFactsOf image facts
       → HasRoom image routine (length before.commands) → Ran handler routine facts before
   ran handler routine facts before of given room =
       let e = ends image facts routine before accepted (handles image handler routine of) given room in
       let r = is.runs handler routine facts before of given room in
-      let same = unique image facts routine before e.end (followed_by before (b.answer handler facts)) e.cost (b.answer handler facts).cost e.runs r in
+      let same = unique image facts routine before e.end (followed before (b.answer handler facts)) e.cost (b.cost handler facts) e.runs r in
       record {
         run = record { routine = routine; is = of; ends = r };
         within = subst (λ (n : ℕ). IsCostOf image routine n) same.0 e.within;
@@ -63,11 +63,14 @@ module _ (ends : HandlersEnd) (unique : RunsAreUnique) (image : ImageParts) (acc
       }
 
   module _ (p : Position) (at : IsPositionOf image p) where
-    abbrev always_yield : Yield
+    abbrev always_yield : Effects
     always_yield = b.answer AlwaysBody p.facts
 
-    abbrev own_yield : Yield
+    abbrev own_yield : Effects
     own_yield = b.answer (Body p.current.0) p.facts
+
+    abbrev bodies_cost : ℕ
+    bodies_cost = b.cost AlwaysBody p.facts + b.cost (Body p.current.0) p.facts
 
     always_ran : Ran AlwaysBody image.always.body.0 p.facts nothing_yet
     always_ran = ran AlwaysBody image.always.body.0 p.facts nothing_yet refl at.facts (room_from_nothing image AlwaysBody image.always.body.0 accepted refl)
@@ -77,11 +80,11 @@ module _ (ends : HandlersEnd) (unique : RunsAreUnique) (image : ImageParts) (acc
         ran (Body p.current.0) state.handlers.body.0 p.facts (after_always b p) (body_of image p.current.0 state here) at.facts
         (room_for_body image p.current.0 state [] (after_always b p).commands accepted here refl always_ran.commands)
 
-    bodies : RanBodies image p.current.0 (after_bodies b p) (always_yield.cost + own_yield.cost)
+    bodies : RanBodies image p.current.0 (after_bodies b p) bodies_cost
     bodies =
         let here = state_at image p.current.0 at.current in
         let own = own_ran here.0 here.1 in
-        ran_bodies image p.current.0 here.0 nothing_yet (after_always b p) (after_bodies b p) always_yield.cost own_yield.cost here.1 refl
+        ran_bodies image p.current.0 here.0 nothing_yet (after_always b p) (after_bodies b p) (b.cost AlwaysBody p.facts) (b.cost (Body p.current.0) p.facts) here.1 refl
         always_ran.within own.within always_ran.commands own.commands always_ran.wish own.wish
 
     entered : (next : StateId) → change_of p.current (after_bodies b p).wish ≡ Some next → next.0 < length image.states
@@ -92,7 +95,7 @@ module _ (ends : HandlersEnd) (unique : RunsAreUnique) (image : ImageParts) (acc
     init_ran next state e there =
         ran (Init next.0) state.handlers.init.0 (entering b next p).facts (after_bodies b p) (init_of image next.0 state there)
         (entering_stays image b next p at (entered next e)).facts
-        (room_for_init image p.current.0 next.0 state (after_bodies b p) (always_yield.cost + own_yield.cost) accepted bodies there)
+        (room_for_init image p.current.0 next.0 state (after_bodies b p) bodies_cost accepted bodies there)
 
     pub evaluation_runs : EachRun (IsRun image b) b p
     evaluation_runs = record {
@@ -107,21 +110,21 @@ module _ (ends : HandlersEnd) (unique : RunsAreUnique) (image : ImageParts) (acc
       pub position : IsPositionOf image e.position
 
     abbrev bodies_event : Event
-    bodies_event = record { position = record p { owed = false }; commands = always_yield.commands ++ own_yield.commands; cost = always_yield.cost + own_yield.cost }
+    bodies_event = record { position = record p { owed = false }; commands = always_yield.commands ++ own_yield.commands; cost = bodies_cost }
 
     change_holds : (o : Option StateId) → change_of p.current (after_bodies b p).wish ≡ o → Keeps (with_change b o bodies_event)
     change_holds None e = record {
-      budgets = bodies_keep image p.current.0 (after_bodies b p) (always_yield.cost + own_yield.cost) accepted bodies;
+      budgets = bodies_keep image p.current.0 (after_bodies b p) bodies_cost accepted bodies;
       position = paid_stays image p at;
     }
     change_holds (Some next) e =
         let there = state_at image next.0 (entered next e) in
         let init = init_ran next there.0 e there.1 in
-        let paid = (b.answer (Init next.0) (entering b next p).facts).cost in
-        let end = followed_by (after_bodies b p) (b.answer (Init next.0) (entering b next p).facts) in
+        let paid = b.cost (Init next.0) (entering b next p).facts in
+        let end = followed (after_bodies b p) (b.answer (Init next.0) (entering b next p).facts) in
         record {
           budgets =
-              change_keeps image p.current.0 next.0 (after_bodies b p) end (always_yield.cost + own_yield.cost) paid accepted bodies
+              change_keeps image p.current.0 next.0 (after_bodies b p) end bodies_cost paid accepted bodies
               (ran_init image next.0 there.0 (after_bodies b p) end paid there.1 init.within init.commands);
           position = entering_stays image b next (record p { owed = false }) (paid_stays image p at) (entered next e);
         }
@@ -157,10 +160,10 @@ module _ (ends : HandlersEnd) (unique : RunsAreUnique) (image : ImageParts) (acc
       let here = state_at image image.initial.0 accepted.indexes.initial in
       let state = here.0 in
       let always = ran AlwaysInit image.always.init.0 first.facts nothing_yet refl first_at.facts (room_from_nothing image AlwaysInit image.always.init.0 accepted refl) in
-      let mid = followed_by nothing_yet (b.answer AlwaysInit first.facts) in
+      let mid = followed nothing_yet (b.answer AlwaysInit first.facts) in
       let own = ran (Init image.initial.0) state.handlers.init.0 first.facts mid (init_of image image.initial.0 state here.1) first_at.facts
       (room_for_first_init image image.initial.0 state [] mid.commands accepted refl here.1 refl always.commands) in
-      let end = followed_by mid (b.answer (Init image.initial.0) first.facts) in
+      let end = followed mid (b.answer (Init image.initial.0) first.facts) in
       let few = accepted.commands in
       let cheap = accepted.cost in
       let known = two_known image image.always.init.0 state.handlers.init.0 [] mid.commands end.commands refl always.commands own.commands in
@@ -171,7 +174,7 @@ module _ (ends : HandlersEnd) (unique : RunsAreUnique) (image : ImageParts) (acc
         count_after image image.always.init.0 [] mid.commands few.0 few.1 always.commands,
         count_after image state.handlers.init.0 mid.commands end.commands few.0 few.1 own.commands,
       ) in
-      let paid : (b.answer AlwaysInit first.facts).cost + (b.answer (Init image.initial.0) first.facts).cost ≤ image.budgets.cost =
+      let paid : b.cost AlwaysInit first.facts + b.cost (Init image.initial.0) first.facts ≤ image.budgets.cost =
       omega (arith, cheap.3.opening state here.1, always.within cheap.0 cheap.1, own.within cheap.0 cheap.1) in
       record {
         runs = record { always = always.run; init = own.run };

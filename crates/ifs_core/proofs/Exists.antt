@@ -7,10 +7,10 @@ use Rattle.ifs_base.specs.Facts.{Facts}
 use Rattle.ifs_image.specs.declared.parts.StateSpec.{StateSpec}
 use Rattle.ifs_image.specs.declared.parts.ImageParts.{ImageParts}
 use Rattle.ifs_verify.specs.Accepted.{IsAccepted}
-use Rattle.ifs_machine.specs.Table.{Effects}
-use Rattle.ifs_machine.specs.Run.{RunsTo, AreFactsOf, HasRoom, IsHandler, HandlersEnd, RunsFollow, Ends, nothing_yet}
-use Rattle.ifs_core.specs.Event.{Handler, AlwaysInit, AlwaysBody, Init, Body, Yield, Behaviour}
-use Rattle.ifs_core.specs.Machine.{routine_of, followed_by, IsBehaviour}
+use Rattle.ifs_base.specs.Effects.{Effects, nothing_yet, followed}
+use Rattle.ifs_machine.specs.Run.{RunsTo, AreFactsOf, HasRoom, IsHandler, HandlersEnd, RunsFollow, Ends}
+use Rattle.ifs_core.specs.Event.{Handler, AlwaysInit, AlwaysBody, Init, Body, Behaviour}
+use Rattle.ifs_core.specs.Machine.{routine_of, IsBehaviour}
 
 -- a state whose routine an option has
 mapped : (o : Option StateSpec) (f : StateSpec → ℕ) (routine : ℕ) → option_map f o ≡ Some routine → (s : StateSpec) × (o ≡ Some s) × (routine ≡ f s)
@@ -93,20 +93,26 @@ module _ (ends : HandlersEnd) (follow : RunsFollow) (image : ImageParts) (accept
   found handler facts a = ends image facts a.routine nothing_yet accepted (handles image handler a.routine a.is) a.given (room_from_nothing image handler a.routine accepted a.is)
 
   -- What the run from nothing does; nothing where there is none.
-  abbrev yield_of : (handler : Handler) (facts : Facts) → Answers image handler facts ⊎ (Answers image handler facts → ⊥) → Yield
-  yield_of handler facts (inl a) = record { commands = (found handler facts a).end.commands; wish = (found handler facts a).end.wish; cost = (found handler facts a).cost }
-  yield_of handler facts (inr never) = record { commands = []; wish = None; cost = 0 }
+  abbrev yield_of : (handler : Handler) (facts : Facts) → Answers image handler facts ⊎ (Answers image handler facts → ⊥) → Effects
+  yield_of handler facts (inl a) = (found handler facts a).end
+  yield_of handler facts (inr never) = nothing_yet
+
+  -- What it costs.
+  abbrev price_of : (handler : Handler) (facts : Facts) → Answers image handler facts ⊎ (Answers image handler facts → ⊥) → ℕ
+  price_of handler facts (inl a) = (found handler facts a).cost
+  price_of handler facts (inr never) = 0
 
   abbrev behaviour_of : Behaviour
   behaviour_of = record {
     answer = λ handler facts. yield_of handler facts (answers image handler facts);
+    cost = λ handler facts. price_of handler facts (answers image handler facts);
     always = image.always.mask;
     active = λ k. mask_in (slice_get image.states k);
   }
 
   runs_of : (handler : Handler) (routine : ℕ) (facts : Facts) (before : Effects) → routine_of image handler ≡ Some routine
       → AreFactsOf image facts → HasRoom image routine (length before.commands) → (d : Answers image handler facts ⊎ (Answers image handler facts → ⊥))
-      → RunsTo image facts routine before (yield_of handler facts d).cost (followed_by before (yield_of handler facts d))
+      → RunsTo image facts routine before (price_of handler facts d) (followed before (yield_of handler facts d))
   runs_of handler routine facts before is given room (inl a) =
       let same : a.routine ≡ routine = same_Some a.routine routine (sym a.is ∙ is) in
       let f = found handler facts a in

@@ -1,24 +1,23 @@
 -- What is promised is kept: by each step from a state of an image's run, by the opening, and so by each run.
-use Rattle.std.proofs.Common.{◌≡◌, ◌≢◌, ◌-◌, ◌<◌, List, [], ◌∷◌, length, refl, sym, ap, ◌∙◌, subst, arith}
+use Rattle.std.proofs.Common.{◌≡◌, List, [], ◌∷◌, length, sym, ap, ◌∙◌, subst, arith}
 use Rattle.ifs_base.specs.Facts.{Facts}
 use Rattle.ifs_image.specs.declared.parts.ImageParts.{ImageParts}
 use Rattle.ifs_image.specs.Limits.{Fits}
 use Rattle.ifs_verify.specs.Accepted.{IsAccepted}
-use Rattle.ifs_machine.specs.Table.{Effects}
-use Rattle.ifs_machine.specs.Run.{HandlersEnd, RunsAreUnique, RunsFollow, RunsStayWithin, nothing_yet}
+use Rattle.ifs_base.specs.Effects.{Effects, nothing_yet, followed}
+use Rattle.ifs_machine.specs.Run.{HandlersEnd, RunsAreUnique, RunsFollow, RunsStayWithin}
 use Rattle.ifs_core.specs.declared.step.Step.{Step}
 use Rattle.ifs_core.specs.declared.step.Reply.{Reply}
-use Rattle.ifs_core.specs.declared.step.Reply.TheVariants.{Busy}
 use Rattle.ifs_core.specs.Event.{Handler, AlwaysInit, AlwaysBody, Init, Body, Behaviour, Position, entering}
-use Rattle.ifs_core.specs.Machine.{IsBehaviour, followed_by}
+use Rattle.ifs_core.specs.Machine.{IsBehaviour}
 use Rattle.ifs_core.specs.Gateway.{IsStateOf, opening_of, opened}
-use Rattle.ifs_core.specs.Steps.{CoreState, Turn, Makes, turn}
-use Rattle.ifs_core.specs.HeadlineParts.{IsRun, IsWithinBudgets, EachRun, BothRuns, after_always, after_bodies, changed_by}
+use Rattle.ifs_core.specs.Steps.{CoreState, Makes, turn}
+use Rattle.ifs_core.specs.HeadlineParts.{IsWithinBudgets, EachRun, BothRuns, after_always, after_bodies, changed_by}
 use Rattle.ifs_core.specs.Headline.{StepKeeps, OpeningKeeps, StepsKeep, RunKeeps, IsKept}
 use Rattle.ifs_core.proofs.Exists.{exists}
 use Rattle.ifs_core.proofs.Evaluating.{evaluation_runs, OpeningHolds, opening_holds}
 use Rattle.ifs_core.proofs.Turning.{step_holds, changed_at, state_after}
-use Rattle.ifs_core.proofs.Alike.{turn_alike, opening_alike, run_alike}
+use Rattle.ifs_core.proofs.Alike.{turn_alike, run_alike}
 
 module _ (ends : HandlersEnd) (unique : RunsAreUnique) (follow : RunsFollow) (stay : RunsStayWithin) (image : ImageParts) (accepted : IsAccepted image) (fits : Fits image) where
   within : (handler : Handler) (facts : Facts) (before : Effects) → IsWithinBudgets image handler facts before
@@ -36,7 +35,7 @@ module _ (ends : HandlersEnd) (unique : RunsAreUnique) (follow : RunsFollow) (st
       let facts = (opening_of b image).position.facts in
       record {
         always = within AlwaysInit facts nothing_yet;
-        init = within (Init image.initial.0) facts (followed_by nothing_yet (b.answer AlwaysInit facts));
+        init = within (Init image.initial.0) facts (followed nothing_yet (b.answer AlwaysInit facts));
       }
 
   module _ (b : Behaviour) (is_b : IsBehaviour image b) where

@@ -9,11 +9,11 @@ use Rattle.ifs_image.specs.declared.parts.StateSpec.{StateSpec}
 use Rattle.ifs_image.specs.declared.parts.ImageParts.{ImageParts}
 use Rattle.ifs_verify.specs.Accepted.{IsAccepted}
 use Rattle.ifs_verify.specs.Bounds.{AreAmounts, commands_of}
-use Rattle.ifs_machine.specs.Table.{Effects}
-use Rattle.ifs_machine.specs.Run.{RunsTo, AreFactsOf, HasRoom, Appends, IsCommand, IsWish, IsCostOf, nothing_yet}
+use Rattle.ifs_base.specs.Effects.{Effects, nothing_yet, followed}
+use Rattle.ifs_machine.specs.Run.{RunsTo, AreFactsOf, HasRoom, Appends, IsCommand, IsWish, IsCostOf}
 use Rattle.ifs_core.specs.Event.{Handler, Init, Body, Behaviour}
-use Rattle.ifs_core.specs.Machine.{routine_of, followed_by, IsBehaviour, KeepsBudgets}
-use Rattle.ifs_core.specs.Within.{AreEffectsOf, RanBodies, RanInit}
+use Rattle.ifs_core.specs.Machine.{routine_of, IsBehaviour, KeepsBudgets}
+use Rattle.ifs_core.specs.inner.Within.{AreEffectsOf, RanBodies, RanInit}
 
 -- two values that an option has are one
 some_is : {A : Type 0} {x y : A} → Some x ≡ Some y → x ≡ y
@@ -23,9 +23,9 @@ some_is e = cc
 pub one_run : (image : ImageParts) (b : Behaviour) (handler : Handler) (routine : ℕ) (facts : Facts) (before : Effects) (cost : ℕ) (end : Effects)
     → IsBehaviour image b → routine_of image handler ≡ Some routine → AreFactsOf image facts → HasRoom image routine (length before.commands)
     → ((paid : ℕ) (other : Effects) → RunsTo image facts routine before paid other → (paid ≡ cost) × (other ≡ end))
-    → (end ≡ followed_by before (b.answer handler facts)) × (cost ≡ (b.answer handler facts).cost)
+    → (end ≡ followed before (b.answer handler facts)) × (cost ≡ b.cost handler facts)
 one_run image b handler routine facts before cost end is at facts_fit room only =
-    let found = only (b.answer handler facts).cost (followed_by before (b.answer handler facts)) (is.runs handler routine facts before at facts_fit room) in
+    let found = only (b.cost handler facts) (followed before (b.answer handler facts)) (is.runs handler routine facts before at facts_fit room) in
     (sym found.1, sym found.0)
 
 -- room for the always body, which comes first
@@ -58,12 +58,12 @@ pub two_runs : (image : ImageParts) (b : Behaviour) (h g : Handler) (facts : Fac
     → ((paid : ℕ) (other : Effects) → RunsTo image facts r before paid other → (paid ≡ first) × (other ≡ mid))
     → ((paid : ℕ) (other : Effects) → RunsTo image facts q mid paid other → (paid ≡ second) × (other ≡ end))
     → before ≡ nothing_yet
-    → (end ≡ followed_by (followed_by nothing_yet (b.answer h facts)) (b.answer g facts)) × (first + second ≡ (b.answer h facts).cost + (b.answer g facts).cost)
+    → (end ≡ followed (followed nothing_yet (b.answer h facts)) (b.answer g facts)) × (first + second ≡ b.cost h facts + b.cost g facts)
 two_runs image b h g facts r q before mid end first second is at_r at_q fit room_r room_q only_r only_q start =
     let one = one_run image b h r facts before first mid is at_r fit room_r only_r in
     let two = one_run image b g q facts mid second end is at_q fit room_q only_q in
-    let middle : mid ≡ followed_by nothing_yet (b.answer h facts) = one.0 ∙ ap (λ (e : Effects). followed_by e (b.answer h facts)) start in
-    (two.0 ∙ ap (λ (e : Effects). followed_by e (b.answer g facts)) middle, omega (arith, one.1, two.1))
+    let middle : mid ≡ followed nothing_yet (b.answer h facts) = one.0 ∙ ap (λ (e : Effects). followed e (b.answer h facts)) start in
+    (two.0 ∙ ap (λ (e : Effects). followed e (b.answer g facts)) middle, omega (arith, one.1, two.1))
 
 -- a wish stays one for a state of the list
 wish_after : (image : ImageParts) (before end : Option StateId) → IfSome before (λ state. state.0 < length image.states) → IsWish image before end → IfSome end (λ state. state.0 < length image.states)

@@ -4,6 +4,7 @@ use Rattle.std.specs.Prelude.{All, IfSome, slice_get, nat_lt, if◌then◌else�
 use Rattle.std.proofs.lemmas.Bool.{ltb-true, ltb-false}
 use Rattle.std.proofs.lemmas.List.Elements.{All-nil, All-head, All-tail}
 use Rattle.ifs_base.specs.declared.ids.CommandId.{CommandId}
+use Rattle.ifs_base.specs.Facts.{is_link}
 use Rattle.ifs_base.specs.declared.op.LinkState.{LinkState}
 use Rattle.ifs_image.specs.declared.parts.ImageParts.{ImageParts}
 use Rattle.ifs_sched.specs.Schedule.{ticked, is_running}
@@ -16,7 +17,7 @@ use Rattle.ifs_core.specs.declared.step.Reply.TheVariants.{Busy, Stale, Backward
 use Rattle.ifs_core.specs.Event.{Behaviour, Position, Event, evaluation}
 use Rattle.ifs_core.specs.Machine.{IsBehaviour, KeepsBudgets}
 use Rattle.ifs_core.specs.Gateway.{IsPositionOf, IsStateOf}
-use Rattle.ifs_core.specs.Steps.{CoreState, Turn, at_position, unchanged, same, done, ticked_after, no_event, lacks_room, with_link, with_value, with_run_over, is_same_link, has_value, link_turn, finished_turn, tick_turn, take_turn, turn, after_steps, cost_told, commands_told, state_told, command_taken, ChangesNothing}
+use Rattle.ifs_core.specs.Steps.{CoreState, Turn, at_position, unchanged, same, done, ticked_after, no_event, lacks_room, with_link, with_value, with_run_over, has_value, changing, LinkSeen, RunEnded, link_turn, finished_turn, tick_turn, take_turn, turn, after_steps, cost_told, commands_told, state_told, command_taken, ChangesNothing}
 use Rattle.ifs_core.specs.HeadlineParts.{IsRun, EachRun, changed_by}
 use Rattle.ifs_core.proofs.Places.{link_stays, value_stays, run_over_stays, ticked_stays, settled_stays}
 use Rattle.ifs_core.proofs.Evaluating.{evaluation_keeps, evaluation_runs}
@@ -117,22 +118,25 @@ module _ (ends : HandlersEnd) (unique : RunsAreUnique) (image : ImageParts) (acc
         came_to image s is step (evaluation b p) kept.budgets kept.position has
 
     if_room : (step : Step) (p : Position) → IsPositionOf image p
-        → TurnHolds image s (if lacks_room image.budgets.commands s then unchanged Busy s else done step (evaluation b p) s)
+        → TurnHolds image s (changing b image.budgets.commands step p s)
     if_room step p at = by_test image s (lacks_room image.budgets.commands s) _ _ (busy image s is) (evaluated step p at)
 
-    link_holds : (step : Step) (interface : ℕ) (link : LinkState) (o : Option LinkState) → TurnHolds image s (link_turn b image.budgets.commands step interface link o s)
-    link_holds step interface link None = no_such image s is
-    link_holds step interface link (Some before) =
-        by_test image s (is_same_link before link) _ _ (λ e. nothing_new image s is step s.position is.position)
-        (λ e. if_room step (with_link interface link s.position) (link_stays image interface link s.position is.position))
+    link_holds : (seen : LinkSeen) (o : Option LinkState) → TurnHolds image s (link_turn b image.budgets.commands seen o s)
+    link_holds seen None = no_such image s is
+    link_holds seen (Some before) =
+        let step = Link seen.interface seen.link in
+        by_test image s (is_link before seen.link) _ _ (λ e. nothing_new image s is step s.position is.position)
+        (λ e. if_room step (with_link seen.interface.0 seen.link s.position) (link_stays image seen.interface.0 seen.link s.position is.position))
 
-    finished_holds : (step : Step) (test run : ℕ) (value : Bool) (o : Option (Option Bool)) → TurnHolds image s (finished_turn b image.budgets.commands step test run value o s)
-    finished_holds step test run value None = no_such image s is
-    finished_holds step test run value (Some before) =
-        let over = run_over_stays image test run s.position is.position in
-        by_test image s (not (is_running test run s.position.schedule)) _ _ (λ e. stale image s is)
-        (λ e. by_test image s (has_value value before) _ _ (λ e. nothing_new image s is step (with_run_over test run s.position) over)
-        (λ e. if_room step (with_value test value (with_run_over test run s.position)) (value_stays image test value (with_run_over test run s.position) over)))
+    finished_holds : (ended : RunEnded) (o : Option (Option Bool)) → TurnHolds image s (finished_turn b image.budgets.commands ended o s)
+    finished_holds ended None = no_such image s is
+    finished_holds ended (Some before) =
+        let step = Finished ended.test ended.run ended.value in
+        let p = with_run_over ended.test.0 ended.run s.position in
+        let over = run_over_stays image ended.test.0 ended.run s.position is.position in
+        by_test image s (not (is_running ended.test.0 ended.run s.position.schedule)) _ _ (λ e. stale image s is)
+        (λ e. by_test image s (has_value ended.value before) _ _ (λ e. nothing_new image s is step p over)
+        (λ e. if_room step (with_value ended.test.0 ended.value p) (value_stays image ended.test.0 ended.value p over)))
 
     tick_holds : (now : ℕ) → TurnHolds image s (tick_turn b image.budgets.commands now s)
     tick_holds now =
@@ -144,8 +148,8 @@ module _ (ends : HandlersEnd) (unique : RunsAreUnique) (image : ImageParts) (acc
         (λ e. ticks image s is now false (no_event s.position) (none image) is.position (omega (arith, is.queue))))
 
     turn_holds : (step : Step) → TurnHolds image s (turn b image.budgets.commands step s)
-    turn_holds (Link interface link) = link_holds (Link interface link) interface.0 link (slice_get s.position.facts.links interface.0)
-    turn_holds (Finished test run value) = finished_holds (Finished test run value) test.0 run value (slice_get s.position.facts.tests test.0)
+    turn_holds (Link interface link) = link_holds (record { interface = interface; link = link }) (slice_get s.position.facts.links interface.0)
+    turn_holds (Finished test run value) = finished_holds (record { test = test; run = run; value = value }) (slice_get s.position.facts.tests test.0)
     turn_holds (Tick now) = tick_holds now
     turn_holds Take = takes image s is s.queue refl
 

@@ -6,7 +6,7 @@ use Rattle.ifs_base.specs.declared.ids.StateId.{StateId}
 use Rattle.ifs_base.specs.declared.op.LinkState.{LinkState}
 use Rattle.ifs_base.specs.Facts.{Facts}
 use Rattle.ifs_sched.specs.Schedule.{Timetable, all_off, entered, has_test}
-use Rattle.ifs_machine.specs.Run.{later_wish}
+use Rattle.ifs_base.specs.Effects.{Effects, later_wish}
 
 -- A handler: an init or a body, of the always part or of a state.
 pub data Handler : Type 0 where
@@ -15,15 +15,10 @@ pub data Handler : Type 0 where
   Init : (state : ℕ) → Handler
   Body : (state : ℕ) → Handler
 
--- What a handler does: the commands that it queues, in order, its last wish for a state, and its cost.
-pub record Yield : Type 0 where
-  pub commands : List CommandId
-  pub wish : Option StateId
-  pub cost : ℕ
-
--- What events are made of: what each handler does under some facts, and the sets of active tests, as masks, of the always part and of each state.
+-- What events are made of: what each handler brings about under some facts, what that costs, and the sets of active tests, as masks, of the always part and of each state.
 pub record Behaviour : Type 0 where
-  pub answer : Handler → Facts → Yield
+  pub answer : Handler → Facts → Effects
+  pub cost : Handler → Facts → ℕ
   pub always : ℕ
   pub active : ℕ → ℕ
 
@@ -54,7 +49,7 @@ opening b links periods first_run initial =
     let position = opening_position b links periods first_run initial in
     let always = b.answer AlwaysInit position.facts in
     let own = b.answer (Init initial.0) position.facts in
-    record { position = position; commands = always.commands ++ own.commands; cost = always.cost + own.cost }
+    record { position = position; commands = always.commands ++ own.commands; cost = b.cost AlwaysInit position.facts + b.cost (Init initial.0) position.facts }
 
 -- The value of a test after an entry: it is lost where the test is outside the always set.
 abbrev pub kept_value : ℕ → ℕ → Option Bool → Option Bool
@@ -84,7 +79,7 @@ with_change b None bodies = bodies
 with_change b (Some next) bodies =
     let position = entering b next bodies.position in
     let init = b.answer (Init next.0) position.facts in
-    record { position = position; commands = bodies.commands ++ init.commands; cost = bodies.cost + init.cost }
+    record { position = position; commands = bodies.commands ++ init.commands; cost = bodies.cost + b.cost (Init next.0) position.facts }
 
 -- An evaluation: the always body, then the current state's body, then the change that the last wish of both leads to.
 abbrev pub evaluation : Behaviour → Position → Event
@@ -92,7 +87,7 @@ evaluation b p =
     let always = b.answer AlwaysBody p.facts in
     let own = b.answer (Body p.current.0) p.facts in
     with_change b (change_of p.current (later_wish always.wish own.wish))
-    (record { position = record p { owed = false }; commands = always.commands ++ own.commands; cost = always.cost + own.cost })
+    (record { position = record p { owed = false }; commands = always.commands ++ own.commands; cost = b.cost AlwaysBody p.facts + b.cost (Body p.current.0) p.facts })
 
 -- An event by its parts.
 abbrev pub event_of : Position → List CommandId → ℕ → Event

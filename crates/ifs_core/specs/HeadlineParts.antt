@@ -3,12 +3,12 @@ use Rattle.std.specs.Prelude.{ℕ, ◌≡◌, List, Some}
 use Rattle.ifs_base.specs.Facts.{Facts}
 use Rattle.ifs_base.specs.declared.ids.StateId.{StateId}
 use Rattle.ifs_image.specs.declared.parts.ImageParts.{ImageParts}
-use Rattle.ifs_machine.specs.Table.{Effects}
-use Rattle.ifs_machine.specs.Run.{RunsTo, StaysWithin, nothing_yet}
+use Rattle.ifs_base.specs.Effects.{Effects, nothing_yet, followed}
+use Rattle.ifs_machine.specs.Run.{RunsTo, StaysWithin}
 use Rattle.ifs_core.specs.declared.step.Step.{Step}
 use Rattle.ifs_core.specs.declared.step.Step.TheVariants.{Link, Finished, Tick, Take}
 use Rattle.ifs_core.specs.Event.{Handler, AlwaysInit, AlwaysBody, Init, Body, Behaviour, Position, change_of, entering}
-use Rattle.ifs_core.specs.Machine.{routine_of, followed_by}
+use Rattle.ifs_core.specs.Machine.{routine_of}
 use Rattle.ifs_core.specs.Gateway.{opening_of, opened}
 use Rattle.ifs_core.specs.Steps.{with_link, with_value, with_run_over, replies, after_steps}
 
@@ -16,7 +16,7 @@ use Rattle.ifs_core.specs.Steps.{with_link, with_value, with_run_over, replies, 
 pub record IsRun (image : ImageParts) (b : Behaviour) (handler : Handler) (facts : Facts) (before : Effects) : Type 0 where
   pub routine : ℕ
   pub is : routine_of image handler ≡ Some routine
-  pub ends : RunsTo image facts routine before (b.answer handler facts).cost (followed_by before (b.answer handler facts))
+  pub ends : RunsTo image facts routine before (b.cost handler facts) (followed before (b.answer handler facts))
 
 -- A handler's run is within the stated stack and frames at each of its rows.
 abbrev pub IsWithinBudgets : ImageParts → Handler → Facts → Effects → Type 0
@@ -24,11 +24,11 @@ IsWithinBudgets image handler facts before = (routine : ℕ) → routine_of imag
 
 -- What an evaluation has brought about after the always body.
 abbrev pub after_always : Behaviour → Position → Effects
-after_always b p = followed_by nothing_yet (b.answer AlwaysBody p.facts)
+after_always b p = followed nothing_yet (b.answer AlwaysBody p.facts)
 
 -- What an evaluation has brought about after both bodies.
 abbrev pub after_bodies : Behaviour → Position → Effects
-after_bodies b p = followed_by (after_always b p) (b.answer (Body p.current.0) p.facts)
+after_bodies b p = followed (after_always b p) (b.answer (Body p.current.0) p.facts)
 
 -- It holds of each handler run of an evaluation: of the always body, then of the current state's body, and then of the init of the state that is entered, where one is.
 pub record EachRun (Holds : Handler → Facts → Effects → Type 0) (b : Behaviour) (p : Position) : Type 0 where
@@ -39,7 +39,7 @@ pub record EachRun (Holds : Handler → Facts → Effects → Type 0) (b : Behav
 -- It holds of both handler runs of the opening: of the always init, and then of the initial state's.
 pub record BothRuns (Holds : Handler → Facts → Effects → Type 0) (b : Behaviour) (image : ImageParts) : Type 0 where
   pub always : Holds AlwaysInit (opening_of b image).position.facts nothing_yet
-  pub init : Holds (Init image.initial.0) (opening_of b image).position.facts (followed_by nothing_yet (b.answer AlwaysInit (opening_of b image).position.facts))
+  pub init : Holds (Init image.initial.0) (opening_of b image).position.facts (followed nothing_yet (b.answer AlwaysInit (opening_of b image).position.facts))
 
 -- Where a step evaluates, if it does: after the change that it tells of.
 abbrev pub changed_by : Step → Position → Position

@@ -1,12 +1,12 @@
 pub mod Event
 pub mod Steps
 pub mod Machine
-pub mod Within
 pub mod Gateway
-pub mod Opened
 pub mod HeadlineParts
 pub mod Headline
+pub mod inner
 pub use Rattle.ifs_base.specs.Facts
+pub use Rattle.ifs_base.specs.Effects
 pub use Rattle.ifs_base.specs.Spelling
 pub use Rattle.ifs_sched.specs.Timer
 pub use Rattle.ifs_sched.specs.Schedule

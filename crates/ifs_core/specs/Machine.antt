@@ -6,9 +6,9 @@ use Rattle.ifs_base.specs.declared.op.LinkState.TheVariants.{Unknown}
 use Rattle.ifs_base.specs.Facts.{Facts}
 use Rattle.ifs_image.specs.declared.parts.StateSpec.{StateSpec}
 use Rattle.ifs_image.specs.declared.parts.ImageParts.{ImageParts}
-use Rattle.ifs_machine.specs.Table.{Effects}
-use Rattle.ifs_machine.specs.Run.{RunsTo, AreFactsOf, HasRoom, IsCommand, followed}
-use Rattle.ifs_core.specs.Event.{Handler, AlwaysInit, AlwaysBody, Init, Body, Yield, Behaviour}
+use Rattle.ifs_base.specs.Effects.{Effects, followed}
+use Rattle.ifs_machine.specs.Run.{RunsTo, AreFactsOf, HasRoom, IsCommand}
+use Rattle.ifs_core.specs.Event.{Handler, AlwaysInit, AlwaysBody, Init, Body, Behaviour}
 
 -- The routine of a handler; none where there is no such state.
 abbrev pub routine_of : ImageParts → Handler → Option ℕ
@@ -17,17 +17,13 @@ routine_of image AlwaysBody = Some image.always.body.0
 routine_of image (Init state) = option_map (λ s. s.handlers.init.0) (slice_get image.states state)
 routine_of image (Body state) = option_map (λ s. s.handlers.body.0) (slice_get image.states state)
 
--- What an event has brought about after one more handler: its commands follow, and its wish holds where it has one.
-abbrev pub followed_by : Effects → Yield → Effects
-followed_by before y = followed before (record { commands = y.commands; wish = y.wish })
-
 -- A behaviour is that of an image: the sets of active tests are the image's masks, and each handler does what its run does, without a trap, whatever the event has brought about before it, as long as that leaves room for its commands.
 pub record IsBehaviour (image : ImageParts) (b : Behaviour) : Type 0 where
   pub always : b.always ≡ image.always.mask
   pub active : (state : ℕ) (s : StateSpec) → slice_get image.states state ≡ Some s → b.active state ≡ s.handlers.mask
   pub runs : (handler : Handler) (routine : ℕ) (facts : Facts) (before : Effects) → routine_of image handler ≡ Some routine
       → AreFactsOf image facts → HasRoom image routine (length before.commands)
-      → RunsTo image facts routine before (b.answer handler facts).cost (followed_by before (b.answer handler facts))
+      → RunsTo image facts routine before (b.cost handler facts) (followed before (b.answer handler facts))
 
 -- What an event did stays within the image's budgets: its cost, and the number of its commands, which are of the table.
 pub record KeepsBudgets (image : ImageParts) (commands : List CommandId) (paid : ℕ) : Type 0 where

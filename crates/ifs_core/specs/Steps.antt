@@ -2,9 +2,11 @@
 use Rattle.std.specs.Prelude.{ℕ, ◌≡◌, ◌-◌, Bool, true, false, not, ◌==◌, nat_lt, if◌then◌else◌, List, [], ◌∷◌, ◌++◌, length, slice_get, slice_set, Option, Some, None}
 use Rattle.circular_buffer.specs.Buffer.{keep_last}
 use Rattle.ifs_base.specs.declared.ids.CommandId.{CommandId}
+use Rattle.ifs_base.specs.declared.ids.IfaceId.{IfaceId}
 use Rattle.ifs_base.specs.declared.ids.StateId.{StateId}
+use Rattle.ifs_base.specs.declared.ids.TestId.{TestId}
 use Rattle.ifs_base.specs.declared.op.LinkState.{LinkState}
-use Rattle.ifs_base.specs.Spelling.{code_of_link}
+use Rattle.ifs_base.specs.Facts.{is_link}
 use Rattle.ifs_sched.specs.Schedule.{ticked, starts, is_exhausted, is_running, finished}
 use Rattle.ifs_core.specs.declared.step.Step.{Step}
 use Rattle.ifs_core.specs.declared.step.Step.TheVariants.{Link, Finished, Tick, Take}
@@ -121,17 +123,22 @@ with_value test value p = record p { facts = record { links = p.facts.links; tes
 abbrev pub with_run_over : ℕ → ℕ → Position → Position
 with_run_over test run p = record p { schedule = finished test run p.schedule }
 
--- Whether two link states are one.
-abbrev pub is_same_link : LinkState → LinkState → Bool
-is_same_link before link = code_of_link before == code_of_link link
+-- A step that changes a fact, so that the position is this one: it evaluates, where the queue has room.
+abbrev pub changing : Behaviour → ℕ → Step → Position → CoreState → Turn
+changing b room step p s = if lacks_room room s then unchanged Busy s else done step (evaluation b p) s
 
--- A change of a link, by what the table has of the interface.
-abbrev pub link_turn : Behaviour → ℕ → Step → ℕ → LinkState → Option LinkState → CoreState → Turn
-link_turn b room step interface link None s = unchanged NoSuch s
-link_turn b room step interface link (Some before) s =
-    if is_same_link before link then same step s else
-    if lacks_room room s then unchanged Busy s else
-    done step (evaluation b (with_link interface link s.position)) s
+-- An interface that has a link state.
+pub record LinkSeen : Type 0 where
+  pub interface : IfaceId
+  pub link : LinkState
+
+-- That step, by what the table has of the interface.
+abbrev pub link_turn : Behaviour → ℕ → LinkSeen → Option LinkState → CoreState → Turn
+link_turn b room seen None s = unchanged NoSuch s
+link_turn b room seen (Some before) s =
+    let step = Link seen.interface seen.link in
+    if is_link before seen.link then same step s else
+    changing b room step (with_link seen.interface.0 seen.link s.position) s
 
 -- Whether a test has this value.
 abbrev pub has_value : Bool → Option Bool → Bool
@@ -139,14 +146,21 @@ has_value value None = false
 has_value true (Some before) = before
 has_value false (Some before) = not before
 
--- The end of a test's run, by what the table has of the test. The run is over, unless the reply changes nothing.
-abbrev pub finished_turn : Behaviour → ℕ → Step → ℕ → ℕ → Bool → Option (Option Bool) → CoreState → Turn
-finished_turn b room step test run value None s = unchanged NoSuch s
-finished_turn b room step test run value (Some before) s =
-    if not (is_running test run s.position.schedule) then unchanged Stale s else
-    if has_value value before then same step (at_position (with_run_over test run s.position) s) else
-    if lacks_room room s then unchanged Busy s else
-    done step (evaluation b (with_value test value (with_run_over test run s.position))) s
+-- A test's run that has ended, and the value that it found.
+pub record RunEnded : Type 0 where
+  pub test : TestId
+  pub run : ℕ
+  pub value : Bool
+
+-- That step, by what the table has of the test. The run is over, unless the reply changes nothing.
+abbrev pub finished_turn : Behaviour → ℕ → RunEnded → Option (Option Bool) → CoreState → Turn
+finished_turn b room ended None s = unchanged NoSuch s
+finished_turn b room ended (Some before) s =
+    let step = Finished ended.test ended.run ended.value in
+    let over = with_run_over ended.test.0 ended.run s.position in
+    if not (is_running ended.test.0 ended.run s.position.schedule) then unchanged Stale s else
+    if has_value ended.value before then same step (at_position over s) else
+    changing b room step (with_value ended.test.0 ended.value over) s
 
 -- A tick: the owed evaluation comes before the starts.
 abbrev pub tick_turn : Behaviour → ℕ → ℕ → CoreState → Turn
@@ -166,8 +180,8 @@ take_turn (command ∷ commands) s = record {
 
 -- The reply to a step and the state after it, where one event may queue so many commands.
 abbrev pub turn : Behaviour → ℕ → Step → CoreState → Turn
-turn b room (Link interface link) s = link_turn b room (Link interface link) interface.0 link (slice_get s.position.facts.links interface.0) s
-turn b room (Finished test run value) s = finished_turn b room (Finished test run value) test.0 run value (slice_get s.position.facts.tests test.0) s
+turn b room (Link interface link) s = link_turn b room (record { interface = interface; link = link }) (slice_get s.position.facts.links interface.0) s
+turn b room (Finished test run value) s = finished_turn b room (record { test = test; run = run; value = value }) (slice_get s.position.facts.tests test.0) s
 turn b room (Tick now) s = tick_turn b room now s
 turn b room Take s = take_turn s.queue s
 

@@ -2,11 +2,12 @@
 
 ghost use Rattle.std.specs.Prelude.{◌≡◌, ◌+◌, ◌<◌, ◌≤◌, ◌++◌, All, None, Some, length, map, slice_get};
 ghost use Rattle.ifs_image.specs.declared.parts.StateSpec.{StateSpec};
-ghost use Rattle.ifs_machine.specs.Run.{IsCommand, nothing_yet};
+ghost use Rattle.ifs_base.specs.Effects.{nothing_yet, followed};
+ghost use Rattle.ifs_machine.specs.Run.{IsCommand};
 ghost use Rattle.ifs_machine.specs.Views.{facts_of, effects_of};
 ghost use Rattle.ifs_core.specs.Event.{Behaviour, AlwaysInit, AlwaysBody, Init, Body, change_of as change_by, kept_value, kept_values, entering, evaluation, IsEvent, opening_position};
-ghost use Rattle.ifs_core.specs.Machine.{IsBehaviour, all_unknown, periods_in, KeepsBudgets, followed_by};
-ghost use Rattle.ifs_core.specs.Within.{HasInitRoom, RanBodies, RanInit};
+ghost use Rattle.ifs_core.specs.Machine.{IsBehaviour, all_unknown, periods_in, KeepsBudgets};
+ghost use Rattle.ifs_core.specs.inner.Within.{HasInitRoom, RanBodies, RanInit};
 ghost use Rattle.ifs_verify.specs.Accepted.{IsAccepted};
 ghost use Rattle.ifs_core.specs.Gateway.{IsPositionOf, position_of};
 
@@ -40,7 +41,8 @@ fn run_bodies(verified: &Verified, position: &Position, effects: &mut Effects) -
     ensures exact { (b : Behaviour) → IsBehaviour verified.now b
         → let always = b.answer AlwaysBody (facts_of position.now.facts) in
         let own = b.answer (Body position.now.current.0) (facts_of position.now.facts) in
-        (effects_of effects.new ≡ followed_by (followed_by nothing_yet always) own) × (result ≡ always.cost + own.cost) }
+        (effects_of effects.new ≡ followed (followed nothing_yet always) own)
+        × (result ≡ b.cost AlwaysBody (facts_of position.now.facts) + b.cost (Body position.now.current.0) (facts_of position.now.facts)) }
     ensures within { RanBodies verified.now position.now.current.0 (effects_of effects.new) result }
     ensures accepted { IsAccepted verified.now }
     ensures limit { verified.now.budgets.cost ≤ 300000 }
@@ -109,8 +111,8 @@ fn run_init(verified: &Verified, position: &Position, effects: &mut Effects) -> 
     requires position { IsPositionOf verified.now (position_of position.now) }
     requires room { HasInitRoom verified.now position.now.current.0 (effects_of effects.old) }
     ensures exact { (b : Behaviour) → IsBehaviour verified.now b
-        → let own = b.answer (Init position.now.current.0) (facts_of position.now.facts) in
-        (effects_of effects.new ≡ followed_by (effects_of effects.old) own) × (result ≡ own.cost) }
+        → (effects_of effects.new ≡ followed (effects_of effects.old) (b.answer (Init position.now.current.0) (facts_of position.now.facts)))
+        × (result ≡ b.cost (Init position.now.current.0) (facts_of position.now.facts)) }
     ensures within { RanInit verified.now position.now.current.0 (effects_of effects.old) (effects_of effects.new) result }
 {
     let parts = verified.image().parts();

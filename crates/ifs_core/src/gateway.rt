@@ -28,7 +28,7 @@ impl Model for Core {
 
     ghost Value = { OpenCore };
 
-    ghost use Rattle.ifs_core.specs.Opened.{core_of, IsConsistent};
+    ghost use Rattle.ifs_core.specs.inner.Opened.{core_of, IsConsistent};
 
     ghost view = { core_of };
 

@@ -1,7 +1,10 @@
 //! What holds of every run, whoever makes it.
 
+ghost use Rattle.std.specs.Prelude.{◌≡◌, ◌≤◌};
 ghost use Rattle.ifs_core.specs.Headline.{AcceptedIsKept, Headline};
 
+use crate::gateway::Core;
+use crate::step::{Reply, Step};
 use ifs_machine::laws::{handlers_end, runs_are_unique, runs_follow, runs_stay_within};
 
 /// The headline. For every byte string that `verify` accepts and every list of steps, with any values
@@ -23,4 +26,17 @@ pub fn accepted_is_kept()
     runs_are_unique();
     runs_follow();
     runs_stay_within();
+}
+
+/// Makes a step of a core that was lent, and tells how many instructions it executed: at most what the
+/// core's image states, whoever lent it and whatever was done with it before. An example of a caller
+/// that has nothing but the core.
+pub fn cost_of_step(core: &mut Core, step: Step) -> u32
+    ensures cost { result ≤ core.old.image.budgets.cost }
+    ensures image { core.new.image ≡ core.old.image }
+{
+    match core.step(step) {
+        Reply::Done { cost, .. } | Reply::Ticked { cost, .. } => cost,
+        _ => 0,
+    }
 }

@@ -1,7 +1,8 @@
 //! Steps.
 
 ghost use Rattle.std.specs.Prelude.{◌≡◌, ◌≤◌, ◌+◌, ◌++◌, length};
-ghost use Rattle.ifs_core.specs.Steps.{is_same_link as is_one_link, has_value as is_value};
+ghost use Rattle.ifs_base.specs.Facts.{is_link};
+ghost use Rattle.ifs_core.specs.Steps.{has_value as is_value};
 
 use crate::event::{Deed, evaluate};
 use crate::gateway::Core;
@@ -268,7 +269,7 @@ fn append(queue: &mut ArrayVec<CommandId, 64>, commands: &[CommandId])
 
 /// Whether two link states are one.
 fn is_same_link(before: LinkState, link: LinkState) -> bool
-    ensures { result ≡ is_one_link before link }
+    ensures { result ≡ is_link before link }
 {
     before == link
 }

@@ -8,6 +8,8 @@ use std::alloc::{AllocError, Global};
 use std::process::Abort;
 use std::test::Fail;
 
+mod lent;
+
 /// The last moment.
 const LAST: u64 = 18446744073709551615;
 

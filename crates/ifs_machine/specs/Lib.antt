@@ -1,8 +1,9 @@
 pub mod Table
 pub mod Run
 pub mod Views
-pub mod State
+pub mod inner
 pub use Rattle.ifs_base.specs.Facts
+pub use Rattle.ifs_base.specs.Effects
 pub use Rattle.ifs_image.specs.Code
 pub use Rattle.ifs_verify.specs.Rules
 pub use Rattle.ifs_verify.specs.Typing

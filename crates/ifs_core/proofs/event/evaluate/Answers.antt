@@ -1,5 +1,5 @@
 use Rattle.std.proofs.Common.{arith}
-use Rattle.ifs_machine.specs.State.{effects_of}
+use Rattle.ifs_machine.specs.Views.{effects_of}
 use Rattle.ifs_core.proofs.Runs.{room_for_init, bodies_keep, change_keeps}
 use Rattle.ifs_core.proofs.event.evaluate.Goals as goal
 

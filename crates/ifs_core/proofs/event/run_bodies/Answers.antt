@@ -1,5 +1,5 @@
 use Rattle.std.proofs.Common.{◌≡◌, length, ap, ◌∙◌, refl}
-use Rattle.ifs_machine.specs.Table.{Effects}
+use Rattle.ifs_base.specs.Effects.{Effects}
 use Rattle.ifs_machine.specs.Views.{facts_of, effects_of}
 use Rattle.ifs_core.specs.Event.{AlwaysBody, Body}
 use Rattle.ifs_core.proofs.Runs.{two_runs, ran_bodies, body_of, room_for_always_body, room_for_body}

@@ -1,7 +1,7 @@
 use Rattle.std.proofs.Common.{◌≡◌, List, None, length, ap, ◌∙◌, refl}
 use Rattle.ifs_base.specs.declared.ids.CommandId.{CommandId}
 use Rattle.ifs_base.specs.declared.ids.StateId.{StateId}
-use Rattle.ifs_machine.specs.Table.{Effects}
+use Rattle.ifs_base.specs.Effects.{Effects}
 use Rattle.ifs_machine.specs.Views.{facts_of, effects_of}
 use Rattle.ifs_core.specs.Event.{AlwaysInit, Init}
 use Rattle.ifs_core.proofs.Runs.{two_runs, init_of, room_for_always_init, room_for_first_init, two_known}

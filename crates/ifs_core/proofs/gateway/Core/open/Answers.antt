@@ -1,5 +1,5 @@
 use Rattle.std.proofs.Common.{rules}
-use Rattle.ifs_core.specs.Opened.{state_in}
+use Rattle.ifs_core.specs.inner.Opened.{state_in}
 use Rattle.ifs_core.proofs.Keeping.{opened_keeps}
 use Rattle.ifs_core.proofs.gateway.Core.open.Goals as goal
 

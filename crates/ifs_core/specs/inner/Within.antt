@@ -3,7 +3,7 @@ use Rattle.std.specs.Prelude.{ℕ, ◌≡◌, ◌+◌, ◌<◌, ◌≤◌, lengt
 use Rattle.ifs_image.specs.declared.parts.StateSpec.{StateSpec}
 use Rattle.ifs_image.specs.declared.parts.ImageParts.{ImageParts}
 use Rattle.ifs_verify.specs.Bounds.{AreAmounts, cost_of, commands_of}
-use Rattle.ifs_machine.specs.Table.{Effects}
+use Rattle.ifs_base.specs.Effects.{Effects}
 use Rattle.ifs_machine.specs.Run.{HasRoom, IsCommand}
 
 -- What handlers brought about: commands of the table, and a wish for a state of the list.
