@@ -3,7 +3,7 @@
 ghost use Rattle.std.specs.Prelude.{◌≡◌, ◌⊎◌, Ok, Err, IfOk, IfErr, filter};
 ghost use Rattle.hex.specs.Hex.{decode_of};
 ghost use Rattle.hex.specs.declared.error.FromHexError.TheVariants.{OutOfMemory};
-ghost use Rattle.ifs_rows.specs.Lines.{is_no_blank};
+ghost use Rattle.ifs_rows.specs.Blanks.{is_no_blank};
 
 use hex::FromHexError;
 use std::alloc::{AllocError, Global};

@@ -4,7 +4,7 @@ use crate::Refusal;
 use std::alloc::{AllocError, Global};
 
 /// Every refusal.
-pub const REFUSALS: &[Refusal] = &[
+const REFUSALS: &[Refusal] = &[
     Refusal {
         name: "smallest image, stated cost 2",
         image: "
@@ -14,7 +14,7 @@ pub const REFUSALS: &[Refusal] = &[
             0001 61 0000 0000 0000000000000000
             00 0001 00000000
         ",
-        answer: "refused V12 head",
+        answer: "refused V12 head\n",
     },
     Refusal {
         name: "smallest image, stated frames 0",
@@ -25,22 +25,22 @@ pub const REFUSALS: &[Refusal] = &[
             0001 61 0000 0000 0000000000000000
             00 0001 00000000
         ",
-        answer: "refused V11 head",
+        answer: "refused V11 head\n",
     },
     Refusal {
         name: "no bytes",
         image: "",
-        answer: "refused I1 byte 0",
+        answer: "refused I1 byte 0\n",
     },
     Refusal {
         name: "magic alone",
         image: "49465356",
-        answer: "refused I1 byte 4",
+        answer: "refused I1 byte 4\n",
     },
     Refusal {
         name: "another magic",
         image: "49465358",
-        answer: "refused I2 byte 0",
+        answer: "refused I2 byte 0\n",
     },
     Refusal {
         name: "ways that disagree",
@@ -51,7 +51,7 @@ pub const REFUSALS: &[Refusal] = &[
             0001 61 0000 0000 0000000000000000
             00 0008 01000000 0e000004 01000000 0d000006 02000000 02000000 11000000 00000000
         ",
-        answer: "refused V7 routine 0 place 5",
+        answer: "refused V7 routine 0 place 5\n",
     },
     Refusal {
         name: "jump to the first place",
@@ -62,7 +62,7 @@ pub const REFUSALS: &[Refusal] = &[
             0001 61 0000 0000 0000000000000000
             00 0003 01000000 0e000000 00000000
         ",
-        answer: "refused V3 routine 0 place 1",
+        answer: "refused V3 routine 0 place 1\n",
     },
     Refusal {
         name: "jump to itself",
@@ -73,7 +73,7 @@ pub const REFUSALS: &[Refusal] = &[
             0001 61 0000 0000 0000000000000000
             00 0003 01000000 0e000001 00000000
         ",
-        answer: "refused V3 routine 0 place 1",
+        answer: "refused V3 routine 0 place 1\n",
     },
     Refusal {
         name: "jump outside",
@@ -84,7 +84,7 @@ pub const REFUSALS: &[Refusal] = &[
             0001 61 0000 0000 0000000000000000
             00 0003 01000000 0e000003 00000000
         ",
-        answer: "refused V3 routine 0 place 1",
+        answer: "refused V3 routine 0 place 1\n",
     },
     Refusal {
         name: "two returns",
@@ -95,7 +95,7 @@ pub const REFUSALS: &[Refusal] = &[
             0001 61 0000 0000 0000000000000000
             00 0002 00000000 00000000
         ",
-        answer: "refused V5 routine 0 place 1",
+        answer: "refused V5 routine 0 place 1\n",
     },
     Refusal {
         name: "no operand",
@@ -106,7 +106,7 @@ pub const REFUSALS: &[Refusal] = &[
             0001 61 0000 0000 0000000000000000
             00 0002 06000000 00000000
         ",
-        answer: "refused V6 routine 0 place 0",
+        answer: "refused V6 routine 0 place 0\n",
     },
     Refusal {
         name: "call of itself",
@@ -117,7 +117,7 @@ pub const REFUSALS: &[Refusal] = &[
             0001 61 0000 0000 0000000000000000
             00 0002 10000000 00000000
         ",
-        answer: "refused V8 routine 0 place 0",
+        answer: "refused V8 routine 0 place 0\n",
     },
     Refusal {
         name: "no instruction",
@@ -128,7 +128,7 @@ pub const REFUSALS: &[Refusal] = &[
             0001 61 0000 0000 0000000000000000
             00 0000
         ",
-        answer: "refused V4 routine 0 place 0",
+        answer: "refused V4 routine 0 place 0\n",
     },
     Refusal {
         name: "handler with a result",
@@ -139,7 +139,7 @@ pub const REFUSALS: &[Refusal] = &[
             0001 61 0000 0000 0000000000000000
             01 0002 01000000 00000000
         ",
-        answer: "refused V14 head",
+        answer: "refused V14 head\n",
     },
     Refusal {
         name: "last wish straight, stated commands 1",
@@ -159,7 +159,7 @@ pub const REFUSALS: &[Refusal] = &[
             00 0003 09000001 0b000000 00000000
             00 0003 09000002 0b000000 00000000
         ",
-        answer: "refused V13 head",
+        answer: "refused V13 head\n",
     },
     Refusal {
         name: "second spelling of ret",
@@ -170,7 +170,7 @@ pub const REFUSALS: &[Refusal] = &[
             0001 61 0000 0000 0000000000000000
             00 0001 00000001
         ",
-        answer: "refused I8 byte 57",
+        answer: "refused I8 byte 57\n",
     },
     Refusal {
         name: "a byte left over",
@@ -182,9 +182,14 @@ pub const REFUSALS: &[Refusal] = &[
             00 0001 00000000
             00
         ",
-        answer: "refused I7 byte 61",
+        answer: "refused I7 byte 61\n",
     },
 ];
+
+/// Every refusal. A proof sees no row of it, and so stays short.
+pub fn refusals() -> &'static [Refusal] {
+    REFUSALS
+}
 
 /// An image in hexadecimal whose costs double from routine to routine: routine 0 is `true, ret`,
 /// routine k up to 255 is `call k-1, call k-1, and, ret`, and every handler is routine 256, `ret`.
