@@ -138,12 +138,23 @@ fn fit_events(image: &ImageParts, amounts: &Vec<u32>, stated: u32) -> bool
     requires low { (k : ℕ) → slice_index amounts.now.items k ≤ 100000 }
     ensures { IsTrue result ↔ FitsEvents image.now (slice_index amounts.now.items) stated }
 {
-    let first = handlers_of(image, usize::from(image.initial.0));
-    let opening = bound_of(amounts, image.always.init) + bound_of(amounts, first.init);
+    let opening = opening(image, amounts);
     let bodies = greatest(image, amounts, Part::Body);
     let inits = greatest(image, amounts, Part::Init);
     let always = bound_of(amounts, image.always.body);
     opening <= stated && always + bodies + inits <= stated
+}
+
+/// The amount of the opening: the always init, and the initial state's init.
+fn opening(image: &ImageParts, amounts: &Vec<u32>) -> u32
+    requires indexes { IndexesFit image.now }
+    requires long { length amounts.now.items ≡ length image.now.routines }
+    requires low { (k : ℕ) → slice_index amounts.now.items k ≤ 100000 }
+    ensures value { (first : StateSpec) × (slice_get image.now.states image.now.initial.0 ≡ Some first) × (result ≡ slice_index amounts.now.items image.now.always.init.0 + slice_index amounts.now.items first.handlers.init.0) }
+    ensures low { result ≤ 200000 }
+{
+    let first = handlers_of(image, usize::from(image.initial.0));
+    bound_of(amounts, image.always.init) + bound_of(amounts, first.init)
 }
 
 /// The greatest amount of a handler over all states.
