@@ -13,6 +13,7 @@
 
 mod ids;
 mod items;
+pub mod limits;
 mod op;
 mod spelling;
 mod text;

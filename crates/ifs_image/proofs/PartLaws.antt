@@ -19,7 +19,8 @@ use Rattle.ifs_image.specs.declared.parts.Handlers.{Handlers}
 use Rattle.ifs_image.specs.declared.parts.TestSpec.{TestSpec}
 use Rattle.ifs_image.specs.declared.parts.StateSpec.{StateSpec}
 use Rattle.ifs_image.specs.declared.parts.Routine.{Routine}
-use Rattle.ifs_image.specs.Limits.{TextFits, TestFits, HandlersInRange, StateInRange, RoutineFits, names_of}
+use Rattle.ifs_base.specs.Sizes.{TextFits}
+use Rattle.ifs_image.specs.Limits.{TestFits, HandlersInRange, StateInRange, RoutineFits, names_of}
 use Rattle.ifs_image.specs.Spelling.{handlers_bytes, text_bytes, test_bytes, state_bytes, routine_bytes}
 use Rattle.ifs_image.specs.Reading.{Place, place, ◌>>=◌, bytes_at, byte_at, number_at, number_within, handlers_at, length_at, is_text, text_of, text_at, stands_in, name_at, test_at, state_at, op_at, items_at, results_at, routine_at}
 use Rattle.ifs_image.proofs.FieldLaws.{IsBytes, bind_ok, again_bind, guard_ok, passed_ok, ok_is, or_false, Took, Took-then, IsField, bytes_again, bytes_taken, wide16, wide64, number_field, within16, within32, byte_again, byte_taken, AllAfter, table_field}
@@ -166,7 +167,7 @@ unfolding test_at test_bytes
 test_field = record {
   again = λ t at rest good.
       let regrouped : test_bytes t ++ rest ≡ to_be_bytes w32 t.period ++ (text_bytes t.text ++ rest) = append_assoc (to_be_bytes w32 t.period) (text_bytes t.text) rest in
-      let a = (within32 1 604800 (omega arith)).again t.period at (text_bytes t.text ++ rest) (good.fits.not_zero, good.fits.within) in
+      let a = (within32 1 604800 (omega arith)).again t.period at (text_bytes t.text ++ rest) (good.fits.period.not_zero, good.fits.period.within) in
       let b = text_field.again t.text (at + 4) rest (record { fits = good.fits.text; utf8 = good.utf8 }) in
       ap (λ (bytes : List ℕ). test_at (place at bytes)) regrouped
       ∙ again_bind _ _ _ _ a (again_bind _ _ _ _ b (ap (λ (k : ℕ). Ok (t, place k rest)) (omega (arith, length-append (to_be_bytes w32 t.period) (text_bytes t.text)))));
@@ -177,7 +178,7 @@ test_field = record {
       let tb = text_field.taken a.0.1 b.0 ta.0.rest_fits b.1 in
       let made : TestSpec × Place = (record { period = a.0.0; text = b.0.0 }, b.0.1) in
       subst (λ (z : TestSpec × Place). Took p.left (test_bytes z.0) z.1.left × TestGood z.0) (ok_is made y b.2)
-      (Took-then ta.0 tb.0, record { fits = record { not_zero = ta.1.0; within = ta.1.1; text = tb.1.fits }; utf8 = tb.1.utf8 });
+      (Took-then ta.0 tb.0, record { fits = record { period = record { not_zero = ta.1.0; within = ta.1.1 }; text = tb.1.fits }; utf8 = tb.1.utf8 });
 }
 
 -- a state that fits, with a name that stands not before
