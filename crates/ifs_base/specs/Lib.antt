@@ -1,3 +1,4 @@
 pub mod Facts
 pub mod Effects
+pub mod Sizes
 pub mod Spelling

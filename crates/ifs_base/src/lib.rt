@@ -14,6 +14,7 @@
 mod ids;
 mod items;
 pub mod laws;
+pub mod limits;
 mod op;
 mod spelling;
 mod text;

@@ -96,3 +96,30 @@ fn items_and_text_give_back_what_they_hold(rt: HostRuntime) -> Result<(), std::t
     assert_eq!(rt; text.as_bytes(), b"carp0".as_slice());
     Ok(())
 }
+
+#[test]
+fn sizes_of_texts(rt: HostRuntime) -> Result<(), std::test::Fail> {
+    for (length, byte, wanted) in [
+        (0, b'a', false),
+        (1, b'a', true),
+        (1, 0, false),
+        (1_024, b'a', true),
+        (1_025, b'a', false),
+    ] {
+        let mut bytes: Vec<u8> = Vec::new(rt.alloc());
+        for _byte in 0..length {
+            bytes.push(byte)?;
+        }
+        let fits = limits::text_fits(bytes.as_slice());
+        assert_eq!(rt; fits, wanted, "{length} of {byte}");
+    }
+    assert!(rt; !limits::text_fits(b"a\x00".as_slice()));
+    Ok(())
+}
+
+#[test]
+fn periods(rt: HostRuntime) {
+    for (seconds, wanted) in [(0, false), (1, true), (604_800, true), (604_801, false)] {
+        assert_eq!(rt; limits::period_fits(seconds), wanted, "{seconds}");
+    }
+}

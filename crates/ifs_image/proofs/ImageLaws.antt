@@ -20,7 +20,8 @@ use Rattle.ifs_image.specs.declared.parts.TestSpec.{TestSpec}
 use Rattle.ifs_image.specs.declared.parts.StateSpec.{StateSpec}
 use Rattle.ifs_image.specs.declared.parts.Routine.{Routine}
 use Rattle.ifs_image.specs.declared.parts.ImageParts.{ImageParts}
-use Rattle.ifs_image.specs.Limits.{BudgetsFit, CountsFit, TextFits, TestFits, RoutineFits, AreDistinct, HandlersInRange, StateInRange, names_of, instructions, Fits, InRange}
+use Rattle.ifs_base.specs.Sizes.{TextFits}
+use Rattle.ifs_image.specs.Limits.{BudgetsFit, CountsFit, TestFits, RoutineFits, AreDistinct, HandlersInRange, StateInRange, names_of, instructions, Fits, InRange}
 use Rattle.ifs_image.specs.Spelling.{front_bytes, budgets_bytes, counts_bytes, handlers_bytes, text_bytes, test_bytes, state_bytes, routine_bytes, counts, image_bytes, Spells}
 use Rattle.ifs_image.specs.Reading.{Place, place, ◌>>=◌, bytes_at, byte_at, number_at, number_within, magic_at, version_at, budgets_at, counts_at, handlers_at, text_at, stands_in, name_at, test_at, state_at, items_at, routine_at, room_after, parts_at, image_of}
 use Rattle.ifs_image.specs.Answers.{Answers}

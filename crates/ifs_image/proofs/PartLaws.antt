@@ -19,9 +19,10 @@ use Rattle.ifs_image.specs.declared.parts.Handlers.{Handlers}
 use Rattle.ifs_image.specs.declared.parts.TestSpec.{TestSpec}
 use Rattle.ifs_image.specs.declared.parts.StateSpec.{StateSpec}
 use Rattle.ifs_image.specs.declared.parts.Routine.{Routine}
-use Rattle.ifs_image.specs.Limits.{TextFits, TestFits, HandlersInRange, StateInRange, RoutineFits, names_of}
+use Rattle.ifs_base.specs.Sizes.{TextFits}
+use Rattle.ifs_image.specs.Limits.{TestFits, HandlersInRange, StateInRange, RoutineFits, names_of}
 use Rattle.ifs_image.specs.Spelling.{handlers_bytes, text_bytes, test_bytes, state_bytes, routine_bytes}
-use Rattle.ifs_image.specs.Reading.{Place, place, ◌>>=◌, bytes_at, byte_at, number_at, number_within, handlers_at, length_at, is_text, text_of, text_at, stands_in, name_at, test_at, state_at, op_at, items_at, results_at, routine_at}
+use Rattle.ifs_image.specs.Reading.{Place, place, ◌>>=◌, bytes_at, byte_at, number_at, number_within, handlers_at, length_at, is_text, text_sized, text_at, stands_in, name_at, test_at, state_at, instruction_at, items_at, results_at, routine_at}
 use Rattle.ifs_image.proofs.FieldLaws.{IsBytes, bind_ok, again_bind, guard_ok, passed_ok, ok_is, or_false, Took, Took-then, IsField, bytes_again, bytes_taken, wide16, wide64, number_field, within16, within32, byte_again, byte_taken, AllAfter, table_field}
 use Rattle.ifs_image.proofs.Ops.{op_of-spelling, op_of-spelled}
 
@@ -76,12 +77,12 @@ length_field = record {
       (t.0, (omega (arith, some), few));
 }
 
-text_of_again : (t rest : List ℕ) (at n : ℕ) → length t ≡ n → is_text t ≡ true → text_of n (place at (t ++ rest)) ≡ Ok (t, place (at + n) rest)
-unfolding text_of
+text_of_again : (t rest : List ℕ) (at n : ℕ) → length t ≡ n → is_text t ≡ true → text_sized n (place at (t ++ rest)) ≡ Ok (t, place (at + n) rest)
+unfolding text_sized
 text_of_again t rest at n len good = rw (bytes_again t rest at n len, good) refl
 
-text_of_taken : (n : ℕ) (p : Place) (y : List ℕ × Place) → IsBytes p.left → text_of n p ≡ Ok y → Took p.left y.0 y.1.left × (length y.0 ≡ n) × (is_text y.0 ≡ true)
-unfolding text_of
+text_of_taken : (n : ℕ) (p : Place) (y : List ℕ × Place) → IsBytes p.left → text_sized n p ≡ Ok y → Took p.left y.0 y.1.left × (length y.0 ≡ n) × (is_text y.0 ≡ true)
+unfolding text_sized
 text_of_taken n p y fits e =
     let b = bind_ok (bytes_at n p) (λ bytes. cond (is_text bytes.0) (Ok bytes) (Err (BadText p.at))) y e in
     let t = bytes_taken n p b.0 fits b.1 in
@@ -89,7 +90,7 @@ text_of_taken n p y fits e =
     subst (λ (z : List ℕ × Place). Took p.left z.0 z.1.left × (length z.0 ≡ n) × (is_text z.0 ≡ true)) g.1 (t.0, t.1, g.0)
 
 -- a length and the text behind it
-length_then_text : (p : Place) (n : ℕ × Place) (t : List ℕ × Place) → IsBytes p.left → length_at p ≡ Ok n → text_of n.0 n.1 ≡ Ok t → Took p.left (text_bytes t.0) t.1.left × TextGood t.0
+length_then_text : (p : Place) (n : ℕ × Place) (t : List ℕ × Place) → IsBytes p.left → length_at p ≡ Ok n → text_sized n.0 n.1 ≡ Ok t → Took p.left (text_bytes t.0) t.1.left × TextGood t.0
 unfolding text_bytes
 length_then_text p n t fits first second =
     let a = length_field.taken p n fits first in
@@ -115,7 +116,7 @@ text_field = record {
       again_bind _ _ _ _ (length_of_again t rest at good)
       (text_of_again t rest (at + 2) (length t) refl (text_true t good) ∙ ap (λ (k : ℕ). Ok (t, place k rest)) (length-text_bytes t at));
   taken = λ p y fits e.
-      let b = bind_ok (length_at p) (λ n. text_of n.0 n.1) y e in
+      let b = bind_ok (length_at p) (λ n. text_sized n.0 n.1) y e in
       length_then_text p b.0 y fits b.1 b.2;
 }
 
@@ -127,8 +128,8 @@ name_field before = record {
       (again_bind _ _ _ _ (text_of_again t rest (at + 2) (length t) refl (text_true t good.0))
       (rw good.1 (ap (λ (k : ℕ). Ok (t, place k rest)) (length-text_bytes t at))));
   taken = λ p y fits e.
-      let b = bind_ok (length_at p) (λ n. text_of n.0 n.1 >>= λ name. cond (stands_in name.0 before) (Err (RepeatedName n.1.at)) (Ok name)) y e in
-      let t = bind_ok (text_of b.0.0 b.0.1) (λ name. cond (stands_in name.0 before) (Err (RepeatedName b.0.1.at)) (Ok name)) y b.2 in
+      let b = bind_ok (length_at p) (λ n. text_sized n.0 n.1 >>= λ name. cond (stands_in name.0 before) (Err (RepeatedName n.1.at)) (Ok name)) y e in
+      let t = bind_ok (text_sized b.0.0 b.0.1) (λ name. cond (stands_in name.0 before) (Err (RepeatedName b.0.1.at)) (Ok name)) y b.2 in
       let g = guard_ok (stands_in t.0.0 before) (RepeatedName b.0.1.at) t.0 y t.2 in
       let w = length_then_text p b.0 t.0 fits b.1 t.1 in
       subst (λ (z : List ℕ × Place). Took p.left (text_bytes z.0) z.1.left × (TextGood z.0 × (stands_in z.0 before ≡ false))) g.1 (w.0, (w.1, g.0));
@@ -166,7 +167,7 @@ unfolding test_at test_bytes
 test_field = record {
   again = λ t at rest good.
       let regrouped : test_bytes t ++ rest ≡ to_be_bytes w32 t.period ++ (text_bytes t.text ++ rest) = append_assoc (to_be_bytes w32 t.period) (text_bytes t.text) rest in
-      let a = (within32 1 604800 (omega arith)).again t.period at (text_bytes t.text ++ rest) (good.fits.not_zero, good.fits.within) in
+      let a = (within32 1 604800 (omega arith)).again t.period at (text_bytes t.text ++ rest) (good.fits.period.not_zero, good.fits.period.within) in
       let b = text_field.again t.text (at + 4) rest (record { fits = good.fits.text; utf8 = good.utf8 }) in
       ap (λ (bytes : List ℕ). test_at (place at bytes)) regrouped
       ∙ again_bind _ _ _ _ a (again_bind _ _ _ _ b (ap (λ (k : ℕ). Ok (t, place k rest)) (omega (arith, length-append (to_be_bytes w32 t.period) (text_bytes t.text)))));
@@ -177,7 +178,7 @@ test_field = record {
       let tb = text_field.taken a.0.1 b.0 ta.0.rest_fits b.1 in
       let made : TestSpec × Place = (record { period = a.0.0; text = b.0.0 }, b.0.1) in
       subst (λ (z : TestSpec × Place). Took p.left (test_bytes z.0) z.1.left × TestGood z.0) (ok_is made y b.2)
-      (Took-then ta.0 tb.0, record { fits = record { not_zero = ta.1.0; within = ta.1.1; text = tb.1.fits }; utf8 = tb.1.utf8 });
+      (Took-then ta.0 tb.0, record { fits = record { period = record { not_zero = ta.1.0; within = ta.1.1 }; text = tb.1.fits }; utf8 = tb.1.utf8 });
 }
 
 -- a state that fits, with a name that stands not before
@@ -232,8 +233,8 @@ ok_or_ok : (o : Option Op) (d : ImageFault) (op : Op) → ok_or o d ≡ Ok op �
 ok_or_ok None d op e = absurd cc
 ok_or_ok (Some x) d op e = ap (λ (z : Op). Some z) (ok_is x op e)
 
-pub op_field : IsField op_at spelling HasSpelling
-unfolding op_at
+pub op_field : IsField instruction_at spelling HasSpelling
+unfolding instruction_at
 op_field = record {
   again = λ op at rest good.
       let len = length-spelling op in
@@ -263,8 +264,8 @@ pub record RoutineGood (room : ℕ) (r : Routine) : Type 0 where
   pub within : length r.code ≤ room
   pub code : AllAfter (λ _. HasSpelling) [] r.code
 
-pub code_field : (n : ℕ) → IsField (items_at (λ _. op_at) n []) (flat_map spelling) (λ code. (length code ≡ n) × AllAfter (λ _. HasSpelling) [] code)
-code_field n = table_field (λ _. op_at) spelling (λ _. HasSpelling) (λ _. op_field) n
+pub code_field : (n : ℕ) → IsField (items_at (λ _. instruction_at) n []) (flat_map spelling) (λ code. (length code ≡ n) × AllAfter (λ _. HasSpelling) [] code)
+code_field n = table_field (λ _. instruction_at) spelling (λ _. HasSpelling) (λ _. op_field) n
 
 pub routine_field : (room : ℕ) → IsField (routine_at room) routine_bytes (RoutineGood room)
 unfolding routine_at routine_bytes
@@ -277,9 +278,9 @@ routine_field room = record {
       ap (λ (bytes : List ℕ). routine_at room (place at bytes)) regrouped
       ∙ again_bind _ _ _ _ a (again_bind _ _ _ _ b (again_bind _ _ _ _ c (ap (λ (k : ℕ). Ok (r, place k rest)) (omega (arith, length-append ((r.results ∷ []) ++ to_be_bytes w16 (length r.code)) (flat_map spelling r.code))))));
   taken = λ p y fits e.
-      let a = bind_ok (results_at p) (λ results. number_within w16 0 (min room 1024) results.1 >>= λ n. items_at (λ _. op_at) n.0 [] n.1 >>= λ code. Ok (record { results = results.0; code = code.0 }, code.1)) y e in
-      let b = bind_ok (number_within w16 0 (min room 1024) a.0.1) (λ n. items_at (λ _. op_at) n.0 [] n.1 >>= λ code. Ok (record { results = a.0.0; code = code.0 }, code.1)) y a.2 in
-      let c = bind_ok (items_at (λ _. op_at) b.0.0 [] b.0.1) (λ code. Ok (record { results = a.0.0; code = code.0 }, code.1)) y b.2 in
+      let a = bind_ok (results_at p) (λ results. number_within w16 0 (min room 1024) results.1 >>= λ n. items_at (λ _. instruction_at) n.0 [] n.1 >>= λ code. Ok (record { results = results.0; code = code.0 }, code.1)) y e in
+      let b = bind_ok (number_within w16 0 (min room 1024) a.0.1) (λ n. items_at (λ _. instruction_at) n.0 [] n.1 >>= λ code. Ok (record { results = a.0.0; code = code.0 }, code.1)) y a.2 in
+      let c = bind_ok (items_at (λ _. instruction_at) b.0.0 [] b.0.1) (λ code. Ok (record { results = a.0.0; code = code.0 }, code.1)) y b.2 in
       let ta = results_field.taken p a.0 fits a.1 in
       let tb = (within16 0 (min room 1024) (omega arith)).taken a.0.1 b.0 ta.0.rest_fits b.1 in
       let tc = (code_field b.0.0).taken b.0.1 c.0 tb.0.rest_fits c.1 in

@@ -1,5 +1,6 @@
 -- What an image keeps to: numbers, counts and texts within their limits, and names that stand once.
 use Rattle.std.specs.Prelude.{ℕ, ◌≢◌, ◌<◌, ◌≤◌, ◌^◌, List, length, map, All, AllPairs, sum_by, IsUtf8}
+use Rattle.ifs_base.specs.Sizes.{TextFits, PeriodFits}
 use Rattle.ifs_base.specs.Spelling.{HasSpelling}
 use Rattle.ifs_image.specs.declared.parts.Budgets.{Budgets}
 use Rattle.ifs_image.specs.declared.parts.Handlers.{Handlers}
@@ -24,16 +25,9 @@ pub record CountsFit (p : ImageParts) : Type 0 where
   pub states : length p.states ≤ 256
   pub routines : length p.routines ≤ 1024
 
--- A text has from 1 to 1,024 bytes, none of them a NUL.
-pub record TextFits (text : List ℕ) : Type 0 where
-  pub not_empty : 1 ≤ length text
-  pub within : length text ≤ 1024
-  pub no_nul : All (λ byte. byte ≢ 0) text
-
--- A test's period is from 1 second to 604,800 (seven days).
+-- A test's period and its command.
 pub record TestFits (t : TestSpec) : Type 0 where
-  pub not_zero : 1 ≤ t.period
-  pub within : t.period ≤ 604800
+  pub period : PeriodFits t.period
   pub text : TextFits t.text
 
 -- A routine has one result at most, and at most 1,024 instructions.

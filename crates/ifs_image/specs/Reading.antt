@@ -107,8 +107,8 @@ unfoldable pub is_text : List ℕ → Bool
 is_text bytes = is_utf8 bytes && not (list_any (λ byte. byte == 0) bytes)
 
 -- A text of so many bytes.
-unfoldable pub text_of : ℕ → Place → Read (List ℕ)
-text_of n p = do
+unfoldable pub text_sized : ℕ → Place → Read (List ℕ)
+text_sized n p = do
   bytes ← bytes_at n p
   if is_text bytes.0 then Ok bytes else Err (BadText p.at)
 
@@ -116,7 +116,7 @@ text_of n p = do
 unfoldable pub text_at : Place → Read (List ℕ)
 text_at p = do
   n ← length_at p
-  text_of n.0 n.1
+  text_sized n.0 n.1
 
 -- A name stands in a table already.
 abbrev pub stands_in : List ℕ → List (List ℕ) → Bool
@@ -126,7 +126,7 @@ stands_in name names = list_any (λ other. bytes_eq other name) names
 unfoldable pub name_at : List (List ℕ) → Place → Read (List ℕ)
 name_at before p = do
   n ← length_at p
-  name ← text_of n.0 n.1
+  name ← text_sized n.0 n.1
   if stands_in name.0 before then Err (RepeatedName n.1.at) else Ok name
 
 -- A period and a command.
@@ -144,8 +144,8 @@ state_at before p = do
   Ok (record { name = name.0; handlers = handlers.0 }, handlers.1)
 
 -- Four bytes that spell an instruction.
-unfoldable pub op_at : Place → Read Op
-op_at p = do
+unfoldable pub instruction_at : Place → Read Op
+instruction_at p = do
   bytes ← bytes_at 4 p
   op ← ok_or (op_of bytes.0) (NoInstruction p.at)
   Ok (op, bytes.1)
@@ -168,7 +168,7 @@ unfoldable pub routine_at : ℕ → Place → Read Routine
 routine_at room p = do
   results ← results_at p
   n ← number_within w16 0 (min room 1024) results.1
-  code ← items_at (λ _. op_at) n.0 [] n.1
+  code ← items_at (λ _. instruction_at) n.0 [] n.1
   Ok (record { results = results.0; code = code.0 }, code.1)
 
 -- The room that routines leave to those after them.

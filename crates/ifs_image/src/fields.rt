@@ -2,7 +2,7 @@
 
 ghost use Rattle.std.specs.Prelude.{◌≡◌, ◌≤◌, ◌==◌, length, is_some, IfSome, IfOk};
 ghost use Rattle.std.specs.Int.{w16, w32, w64};
-ghost use Rattle.ifs_image.specs.Reading.{bytes_at, byte_at, number_at, number_within, length_at, is_text, text_of, text_at, op_at};
+ghost use Rattle.ifs_image.specs.Reading.{bytes_at, byte_at, number_at, number_within, length_at, is_text, text_sized, text_at, instruction_at};
 ghost use Rattle.ifs_image.specs.Answers.{Gives, GivesBy};
 
 use crate::fault::ImageFault;
@@ -147,9 +147,9 @@ impl<'a> Reader<'a> {
     }
 
     /// A text of so many bytes; I5 where it is not UTF-8 or has a NUL.
-    #[tactic(auto, unfolding(crate::specs::Reading::text_of))]
-    pub fn text_of(&mut self, alloc: Global, length: u16) -> Result<Text, ImageFault>
-        ensures { Gives result self.new (text_of length self.old) }
+    #[tactic(auto, unfolding(crate::specs::Reading::text_sized))]
+    pub fn text_sized(&mut self, alloc: Global, length: u16) -> Result<Text, ImageFault>
+        ensures { Gives result self.new (text_sized length self.old) }
     {
         let at = self.at;
         let bytes = self.take(usize::from(length))?;
@@ -165,14 +165,14 @@ impl<'a> Reader<'a> {
         ensures { Gives result self.new (text_at self.old) }
     {
         let length = self.text_length()?;
-        let text = self.text_of(alloc, length)?;
+        let text = self.text_sized(alloc, length)?;
         Ok(text)
     }
 
     /// An instruction; I8 where the four bytes spell none.
-    #[tactic(auto, unfolding(crate::specs::Reading::op_at))]
+    #[tactic(auto, unfolding(crate::specs::Reading::instruction_at))]
     pub fn op(&mut self) -> Result<Op, ImageFault>
-        ensures { Gives result self.new (op_at self.old) }
+        ensures { Gives result self.new (instruction_at self.old) }
     {
         let at = self.at;
         let bytes = self.take(4)?;

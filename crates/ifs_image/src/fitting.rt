@@ -1,7 +1,8 @@
 //! Whether parts keep to the limits of the format.
 
 ghost use Rattle.std.specs.Prelude.{◌≡◌, ◌↔◌, ◌≤◌, IsTrue};
-ghost use Rattle.ifs_image.specs.Limits.{Fits, BudgetsFit, CountsFit, TextFits, TestFits, RoutineFits, RoutinesFit, NamesFit, StatesFit, AreDistinct, names_of, instructions};
+ghost use Rattle.ifs_image.specs.Limits.{Fits, BudgetsFit, CountsFit, TestFits, RoutineFits, RoutinesFit, NamesFit, StatesFit, AreDistinct, names_of, instructions};
+ghost use Rattle.ifs_base.specs.Sizes.{TextFits};
 ghost use Rattle.std.specs.List.{list_any};
 ghost use Rattle.std.specs.Str.{bytes_eq};
 ghost use Rattle.ifs_image.specs.Reading.{stands_in};
@@ -50,16 +51,13 @@ impl Budgets {
 fn text_fits(text: &Text) -> bool
     ensures { IsTrue result ↔ TextFits text.now }
 {
-    let bytes = text.as_bytes();
-    1 <= bytes.len()
-        && bytes.len() <= usize::from(limits::TEXT)
-        && bytes.iter().all(|byte| *byte != 0)
+    limits::text_fits(text.as_bytes())
 }
 
 fn test_fits(test: &TestSpec) -> bool
     ensures { IsTrue result ↔ TestFits test.now }
 {
-    1 <= test.period && test.period <= limits::PERIOD && text_fits(&test.text)
+    limits::period_fits(test.period) && text_fits(&test.text)
 }
 
 fn routine_fits(routine: &Routine) -> bool

@@ -5,7 +5,7 @@ ghost use Rattle.std.specs.Int.{w16};
 ghost use Rattle.ifs_image.specs.declared.parts.ImageParts.{ImageParts};
 ghost use Rattle.ifs_image.specs.declared.fault.ImageFault.TheVariants.{Memory};
 ghost use Rattle.ifs_image.specs.Spelling.{Spells};
-ghost use Rattle.ifs_image.specs.Reading.{magic_at, version_at, budgets_at, counts_at, handlers_at, name_at, test_at, state_at, text_at, op_at, results_at, routine_at, room_after, items_at, parts_at, image_of};
+ghost use Rattle.ifs_image.specs.Reading.{magic_at, version_at, budgets_at, counts_at, handlers_at, name_at, test_at, state_at, text_at, instruction_at, results_at, routine_at, room_after, items_at, parts_at, image_of};
 ghost use Rattle.ifs_image.specs.Answers.{Gives, Answers};
 
 use crate::fault::ImageFault;
@@ -144,7 +144,7 @@ fn interface_of(alloc: Global, reader: &mut Reader<'_>, before: &[Text]) -> Resu
 {
     let length = reader.text_length()?;
     let at = reader.at();
-    let name = reader.text_of(alloc, length)?;
+    let name = reader.text_sized(alloc, length)?;
     if is_among(before, name.as_bytes()) {
         return Err(ImageFault::RepeatedName { at });
     }
@@ -216,7 +216,7 @@ fn state_of(
 {
     let length = reader.text_length()?;
     let at = reader.at();
-    let name = reader.text_of(alloc, length)?;
+    let name = reader.text_sized(alloc, length)?;
     if is_name_among(before, name.as_bytes()) {
         return Err(ImageFault::RepeatedName { at });
     }
@@ -281,7 +281,7 @@ fn results_of(reader: &mut Reader<'_>) -> Result<u8, ImageFault>
 }
 
 fn code_of(alloc: Global, reader: &mut Reader<'_>, count: u16) -> Result<Items<Op>, ImageFault>
-    ensures given { Gives result reader.new (items_at (λ _. op_at) count [] reader.old) }
+    ensures given { Gives result reader.new (items_at (λ _. instruction_at) count [] reader.old) }
     ensures count { IfOk result (λ code. length code ≡ count) }
 {
     let mut code = Vec::new(alloc);

@@ -16,7 +16,7 @@ use Rattle.ifs_verify.specs.Bounds.{AreDepths, AreAmounts, callee_amount, FitsEv
 use Rattle.ifs_verify.specs.Accepted.{EachWithin, StackFits, FramesFit}
 use Rattle.ifs_verify.specs.Refused.{AreOver, AreTypedHeights, AreTotals}
 use Rattle.ifs_verify.specs.declared.fault.At.TheVariants.{Head, Code}
-use Rattle.ifs_verify.specs.Passes.{IsPlain, HoldsHeight, IsHeld, IsCounted, LeastHeights, LeastDepths, LeastAmounts, Reaches}
+use Rattle.ifs_verify.specs.inner.Passes.{PlainRulesHold, HoldsHeight, IsHeld, IsCounted, LeastHeights, LeastDepths, LeastAmounts, Reaches}
 use Rattle.ifs_verify.proofs.Instructions.{op_at-routine}
 
 -- One value for each number, where there is one for each number below another.
@@ -111,7 +111,7 @@ pub record FoundDepths (image : ImageParts) (depths : List ℕ) (all : ℕ → �
   pub within : EachWithin image all 32
   pub same : (routine : ℕ) → IsRoutine image routine → all routine ≡ slice_index depths routine
 
-depths_are : (image : ImageParts) (depths : List ℕ) → IsPlain image → LeastDepths image depths (length image.routines)
+depths_are : (image : ImageParts) (depths : List ℕ) → PlainRulesHold image → LeastDepths image depths (length image.routines)
     → FoundDepths image depths (λ routine. slice_index depths routine + (1 - slice_index depths routine))
 depths_are image depths plain found = record {
   are = record {
@@ -126,7 +126,7 @@ depths_are image depths plain found = record {
   same = λ routine is_routine. omega (arith, (found.held routine is_routine).own);
 }
 
-pub frames_fit : (image : ImageParts) (depths : List ℕ) → IsPlain image → LeastDepths image depths (length image.routines)
+pub frames_fit : (image : ImageParts) (depths : List ℕ) → PlainRulesHold image → LeastDepths image depths (length image.routines)
     → FitsHandlers image (slice_index depths) image.budgets.frames → FramesFit image
 frames_fit image depths plain found fits =
     let all : ℕ → ℕ = λ routine. slice_index depths routine + (1 - slice_index depths routine) in
@@ -137,7 +137,7 @@ frames_fit image depths plain found fits =
       FitsHandlers-lower image (slice_index depths) all image.budgets.frames plain.indexes (λ routine is_routine. omega (arith, known.same routine is_routine)) fits,
     )
 
-pub frames_unfit : (image : ImageParts) (depths : List ℕ) → IsPlain image → LeastDepths image depths (length image.routines)
+pub frames_unfit : (image : ImageParts) (depths : List ℕ) → PlainRulesHold image → LeastDepths image depths (length image.routines)
     → ¬ FitsHandlers image (slice_index depths) image.budgets.frames
     → AreOver image (AreDepths image) 32 (λ depths. FitsHandlers image depths image.budgets.frames) Head
 frames_unfit image depths plain found unfit =
@@ -164,7 +164,7 @@ pub record FoundAmounts (weight : Op → ℕ) (image : ImageParts) (limit : ℕ)
   pub within : EachWithin image (λ routine. all routine 0) limit
   pub same : (routine : ℕ) → IsRoutine image routine → all routine 0 ≡ slice_index amounts routine
 
-amounts_are : (weight : Op → ℕ) (image : ImageParts) (limit : ℕ) (amounts : List ℕ) → IsPlain image
+amounts_are : (weight : Op → ℕ) (image : ImageParts) (limit : ℕ) (amounts : List ℕ) → PlainRulesHold image
     → LeastAmounts weight image limit amounts (length image.routines) → FoundAmounts weight image limit amounts
 amounts_are weight image limit amounts plain found =
     let all : (rows : ℕ → ℕ → ℕ) × ((k : ℕ) → k < length image.routines → IsCounted weight image (slice_index amounts) k (rows k)) =
@@ -190,7 +190,7 @@ amounts_are weight image limit amounts plain found =
       same = λ routine is_routine. (all.1 routine is_routine).0;
     }
 
-pub amounts_fit : (weight : Op → ℕ) (image : ImageParts) (limit stated : ℕ) (amounts : List ℕ) → IsPlain image
+pub amounts_fit : (weight : Op → ℕ) (image : ImageParts) (limit stated : ℕ) (amounts : List ℕ) → PlainRulesHold image
     → LeastAmounts weight image limit amounts (length image.routines) → FitsEvents image (slice_index amounts) stated → AmountsFit weight image limit stated
 amounts_fit weight image limit stated amounts plain found fits =
     let known = amounts_are weight image limit amounts plain found in (
@@ -200,7 +200,7 @@ amounts_fit weight image limit stated amounts plain found fits =
       FitsEvents-lower image (slice_index amounts) (λ routine. known.all routine 0) stated plain.indexes (λ routine is_routine. omega (arith, known.same routine is_routine)) fits,
     )
 
-pub amounts_unfit : (weight : Op → ℕ) (image : ImageParts) (limit stated : ℕ) (amounts : List ℕ) → IsPlain image
+pub amounts_unfit : (weight : Op → ℕ) (image : ImageParts) (limit stated : ℕ) (amounts : List ℕ) → PlainRulesHold image
     → LeastAmounts weight image limit amounts (length image.routines) → ¬ FitsEvents image (slice_index amounts) stated
     → AreOver image (AreTotals weight image) limit (λ totals. FitsEvents image totals stated) Head
 amounts_unfit weight image limit stated amounts plain found unfit =

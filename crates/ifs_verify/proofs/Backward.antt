@@ -11,7 +11,7 @@ use Rattle.ifs_image.specs.declared.parts.ImageParts.{ImageParts}
 use Rattle.ifs_image.specs.Code.{op_at, code_of, IsSuccessor}
 use Rattle.ifs_verify.specs.Rules.{IsRoutine}
 use Rattle.ifs_verify.specs.Bounds.{AreAmounts, callee_amount}
-use Rattle.ifs_verify.specs.Passes.{IsPlain, HoldsAmount, IsCountedFrom}
+use Rattle.ifs_verify.specs.inner.Passes.{PlainRulesHold, HoldsAmount, IsCountedFrom}
 use Rattle.ifs_verify.proofs.Flow.{successor_within}
 
 -- The same amount, where the successors' amounts are the same.
@@ -32,7 +32,7 @@ some_op a b e = cc
 
 -- What any amounts have at a place holds its instruction.
 all_hold : (weight : Op → ℕ) (image : ImageParts) (lower : ℕ → ℕ) (routine : ℕ) (amounts : List ℕ) (place : ℕ) (op : Op) (all : ℕ → ℕ → ℕ)
-    → IsPlain image → IsRoutine image routine → op_at image routine place ≡ Some op → IsCountedFrom weight image lower routine amounts (place + 1)
+    → PlainRulesHold image → IsRoutine image routine → op_at image routine place ≡ Some op → IsCountedFrom weight image lower routine amounts (place + 1)
     → AreAmounts weight image all → ((k : ℕ) → k < routine → lower k ≤ all k 0) → HoldsAmount weight lower (slice_index amounts) op place (all routine place)
 all_hold weight image lower routine amounts place op all plain is_routine here counted are below =
     let callee : callee_amount (λ r k. lower r) op ≤ callee_amount all op =
@@ -46,7 +46,7 @@ all_hold weight image lower routine amounts place op all plain is_routine here c
     }
 
 pub counted_more : (weight : Op → ℕ) (image : ImageParts) (lower : ℕ → ℕ) (routine : ℕ) (amounts : List ℕ) (place : ℕ) (op : Op) (amount : ℕ)
-    → IsPlain image → IsRoutine image routine → op_at image routine place ≡ Some op → IsCountedFrom weight image lower routine amounts (place + 1)
+    → PlainRulesHold image → IsRoutine image routine → op_at image routine place ≡ Some op → IsCountedFrom weight image lower routine amounts (place + 1)
     → HoldsAmount weight lower (slice_index amounts) op place amount
     → ((bound : ℕ) → HoldsAmount weight lower (slice_index amounts) op place bound → amount ≤ bound)
     → ((bound : ℕ) → ((k : ℕ) → slice_index amounts k ≤ bound) → amount ≤ 100001 + bound)

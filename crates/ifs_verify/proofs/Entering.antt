@@ -13,7 +13,7 @@ use Rattle.ifs_image.specs.Code.{op_at, code_of, effect}
 use Rattle.ifs_verify.specs.Rules.{IsRoutine}
 use Rattle.ifs_verify.specs.Typing.{IsTyping}
 use Rattle.ifs_verify.specs.Bounds.{AreDepths, AreAmounts, callee_amount}
-use Rattle.ifs_verify.specs.Passes.{IsPlain, IsTypedUpTo, row_at, HoldsHeight, HoldsDepth, HoldsRow, IsHeld, IsCounted, LeastHeights, LeastDepths, LeastAmounts}
+use Rattle.ifs_verify.specs.inner.Passes.{PlainRulesHold, IsTypedUpTo, row_at, HoldsHeight, HoldsDepth, HoldsRow, IsHeld, IsCounted, LeastHeights, LeastDepths, LeastAmounts}
 use Rattle.ifs_verify.proofs.Holding.{passed_at}
 use Rattle.ifs_verify.proofs.Instructions.{op_at-routine}
 use Rattle.ifs_verify.proofs.Ways.{led}
@@ -85,7 +85,7 @@ abbrev HeldAll : ImageParts → ℕ → List (Option (List Kind)) → List ℕ �
 HeldAll image routine rows heights height = (place : ℕ) (op : Op) (before : List Kind) → op_at image routine place ≡ Some op → row_at rows place ≡ Some before
     → HoldsHeight image (slice_index heights) op before height
 
-new_low : (image : ImageParts) (heights : List ℕ) (routine height : ℕ) (rows : List (Option (List Kind))) → IsPlain image
+new_low : (image : ImageParts) (heights : List ℕ) (routine height : ℕ) (rows : List (Option (List Kind))) → PlainRulesHold image
     → LeastHeights image heights routine → IsTypedUpTo image routine rows (length (code_of image routine))
     → ((bound : ℕ) → HeldAll image routine rows heights bound → height ≤ bound) → height ≤ 32 * (routine + 1)
 new_low image heights routine height rows plain found typed least =
@@ -104,7 +104,7 @@ new_low image heights routine height rows plain found typed least =
           omega (arith, lower, found.low callee.0);
     })
 
-pub heights_more : (image : ImageParts) (heights : List ℕ) (routine height : ℕ) (rows : List (Option (List Kind))) → IsPlain image
+pub heights_more : (image : ImageParts) (heights : List ℕ) (routine height : ℕ) (rows : List (Option (List Kind))) → PlainRulesHold image
     → LeastHeights image heights routine → IsTypedUpTo image routine rows (length (code_of image routine))
     → HeldAll image routine rows heights height → ((bound : ℕ) → HeldAll image routine rows heights bound → height ≤ bound)
     → LeastHeights image (heights ++ height ∷ []) (routine + 1)
@@ -176,7 +176,7 @@ heights_more image heights routine height rows plain found typed holds least =
     }
 
 -- A routine's depth is below every other that is large enough.
-pub new_depth : (image : ImageParts) (depths : List ℕ) (routine depth : ℕ) → IsPlain image → LeastDepths image depths routine
+pub new_depth : (image : ImageParts) (depths : List ℕ) (routine depth : ℕ) → PlainRulesHold image → LeastDepths image depths routine
     → ((bound : ℕ) → HoldsDepth image (slice_index depths) routine bound → depth ≤ bound) → (all : ℕ → ℕ) → AreDepths image all → depth ≤ all routine
 new_depth image depths routine depth plain found least all are =
     least (all routine) (record {
@@ -184,7 +184,7 @@ new_depth image depths routine depth plain found least all are =
       calls = λ place callee is. omega (arith, are.calls routine place callee is, found.least all are callee.0 (plain.calls routine place callee is));
     })
 
-pub depths_more : (image : ImageParts) (depths : List ℕ) (routine depth : ℕ) → IsPlain image → LeastDepths image depths routine
+pub depths_more : (image : ImageParts) (depths : List ℕ) (routine depth : ℕ) → PlainRulesHold image → LeastDepths image depths routine
     → HoldsDepth image (slice_index depths) routine depth → ((bound : ℕ) → HoldsDepth image (slice_index depths) routine bound → depth ≤ bound) → depth ≤ 32
     → LeastDepths image (depths ++ depth ∷ []) (routine + 1)
 depths_more image depths routine depth plain found holds least le =
@@ -230,7 +230,7 @@ callee_amount-same : (old new : ℕ → ℕ) (op : Op) → ((callee : RoutineId)
 callee_amount-same old new (Call callee) same = same callee refl
 callee_amount-same old new op same = refl
 
-pub amounts_more : (weight : Op → ℕ) (image : ImageParts) (limit : ℕ) (amounts : List ℕ) (routine amount : ℕ) → IsPlain image
+pub amounts_more : (weight : Op → ℕ) (image : ImageParts) (limit : ℕ) (amounts : List ℕ) (routine amount : ℕ) → PlainRulesHold image
     → LeastAmounts weight image limit amounts routine
     → (row : ℕ → ℕ) × (row 0 ≡ amount) × HoldsRow weight image (slice_index amounts) routine row
     → ((all : ℕ → ℕ → ℕ) → AreAmounts weight image all → ((k : ℕ) → k < routine → slice_index amounts k ≤ all k 0) → amount ≤ all routine 0) → amount ≤ limit

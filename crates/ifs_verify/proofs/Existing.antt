@@ -11,12 +11,12 @@ use Rattle.ifs_verify.specs.declared.fault.At.TheVariants.{Code}
 use Rattle.ifs_verify.specs.Rules.{IsRoutine}
 use Rattle.ifs_verify.specs.Bounds.{AreDepths, AreAmounts, callee_amount, cost_of, commands_of, FitsEvents, FitsHandlers}
 use Rattle.ifs_verify.specs.Refused.{AreOver, AreTotals}
-use Rattle.ifs_verify.specs.Passes.{IsPlain, HoldsDepth, LeastDepths, LeastAmounts}
+use Rattle.ifs_verify.specs.inner.Passes.{PlainRulesHold, HoldsDepth, LeastDepths, LeastAmounts}
 use Rattle.ifs_verify.proofs.Entering.{new_depth}
 use Rattle.ifs_verify.proofs.Flow.{successor_within}
 use Rattle.ifs_verify.proofs.Instructions.{op_at-routine}
 
-pub some_depths : (image : ImageParts) → IsPlain image → AreDepths image (λ routine. routine + 1)
+pub some_depths : (image : ImageParts) → PlainRulesHold image → AreDepths image (λ routine. routine + 1)
 some_depths image plain = record { own = λ routine. omega arith; calls = λ routine place callee is. omega (arith, plain.calls routine place callee is) }
 
 -- More than 1,025 times what any lower routine has.
@@ -64,7 +64,7 @@ counted weight routine (Call callee) light lower =
     omega (arith, light (Call callee), large-first callee.0, step-above routine callee.0 (lower callee refl))
 counted weight routine op light lower = omega (arith, light op, step-positive routine)
 
-pub some_amounts : (weight : Op → ℕ) (image : ImageParts) → IsPlain image → ((op : Op) → weight op ≤ 1) → (amounts : ℕ → ℕ → ℕ) × AreAmounts weight image amounts
+pub some_amounts : (weight : Op → ℕ) (image : ImageParts) → PlainRulesHold image → ((op : Op) → weight op ≤ 1) → (amounts : ℕ → ℕ → ℕ) × AreAmounts weight image amounts
 some_amounts weight image plain light =
     let inside : (routine place : ℕ) (op : Op) → op_at image routine place ≡ Some op → place < 1025 =
     λ routine place op is. omega (arith, slice_get_within (code_of image routine) place op is, plain.sized.code routine) in
@@ -87,7 +87,7 @@ commands-light Queue = omega arith
 commands-light op = omega arith
 
 -- A depth that passes the limit, where every other that is large enough is no smaller.
-pub frames_over : (image : ImageParts) (depths : List ℕ) (routine depth : ℕ) → IsPlain image → LeastDepths image depths routine → IsRoutine image routine
+pub frames_over : (image : ImageParts) (depths : List ℕ) (routine depth : ℕ) → PlainRulesHold image → LeastDepths image depths routine → IsRoutine image routine
     → ((bound : ℕ) → HoldsDepth image (slice_index depths) routine bound → depth ≤ bound) → 32 < depth
     → AreOver image (AreDepths image) 32 (λ depths. FitsHandlers image depths image.budgets.frames) (Code (record { 0 = routine }) 0)
 frames_over image depths routine depth plain found is_routine least over = (
@@ -98,7 +98,7 @@ frames_over image depths routine depth plain found is_routine least over = (
 )
 
 -- The same of amounts.
-pub amounts_over : (weight : Op → ℕ) (image : ImageParts) (limit stated : ℕ) (amounts : List ℕ) (routine amount : ℕ) → IsPlain image
+pub amounts_over : (weight : Op → ℕ) (image : ImageParts) (limit stated : ℕ) (amounts : List ℕ) (routine amount : ℕ) → PlainRulesHold image
     → LeastAmounts weight image limit amounts routine → IsRoutine image routine → ((op : Op) → weight op ≤ 1)
     → ((all : ℕ → ℕ → ℕ) → AreAmounts weight image all → ((k : ℕ) → k < routine → slice_index amounts k ≤ all k 0) → amount ≤ all routine 0) → limit < amount
     → AreOver image (AreTotals weight image) limit (λ totals. FitsEvents image totals stated) (Code (record { 0 = routine }) 0)

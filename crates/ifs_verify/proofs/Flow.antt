@@ -11,7 +11,7 @@ use Rattle.ifs_image.specs.Code.{op_at, code_of, target_of, effect, IsSuccessor}
 use Rattle.ifs_verify.specs.Rules.{IsRoutine, RoutinesEnd, JumpsLeadOn}
 use Rattle.ifs_verify.specs.Ways.{Leads, goes_on}
 use Rattle.ifs_verify.specs.Refused.{LeavesList, Disagrees}
-use Rattle.ifs_verify.specs.Passes.{next_of, row_at, Extends, Leaves, HasPassed, IsTypedUpTo, IsPlain}
+use Rattle.ifs_verify.specs.inner.Passes.{next_of, row_at, Extends, Leaves, HasPassed, IsTypedUpTo, PlainRulesHold}
 use Rattle.ifs_verify.proofs.Ways.{Leads-later}
 use Rattle.ifs_verify.proofs.Rows.{Extends-set, row_at-set_cases}
 
@@ -141,7 +141,7 @@ passed_more image routine rows place op typed here passed = record {
 }
 
 -- A place of which all earlier ones are passed has a list.
-pub row_found : (image : ImageParts) (routine place : ℕ) (rows : List (Option (List Kind))) → IsPlain image → IsTypedUpTo image routine rows place
+pub row_found : (image : ImageParts) (routine place : ℕ) (rows : List (Option (List Kind))) → PlainRulesHold image → IsTypedUpTo image routine rows place
     → place < length (code_of image routine) → (kinds : List Kind) × (row_at rows place ≡ Some kinds)
 row_found image routine place rows plain typed within =
     elim (cases_eq place 0) [

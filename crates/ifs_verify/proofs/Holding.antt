@@ -5,7 +5,7 @@ use Rattle.ifs_base.specs.declared.op.Kind.{Kind}
 use Rattle.ifs_base.specs.declared.op.Op.{Op}
 use Rattle.ifs_image.specs.declared.parts.ImageParts.{ImageParts}
 use Rattle.ifs_image.specs.Code.{op_at, effect}
-use Rattle.ifs_verify.specs.Passes.{HoldsHeight, IsTypedUpTo, row_at}
+use Rattle.ifs_verify.specs.inner.Passes.{HoldsHeight, IsTypedUpTo, row_at}
 
 pub HoldsHeight-higher : (image : ImageParts) (heights : ℕ → ℕ) (op : Op) (kinds : List Kind) (low high : ℕ) → low ≤ high
     → HoldsHeight image heights op kinds low → HoldsHeight image heights op kinds high

@@ -13,7 +13,7 @@ use Rattle.ifs_image.specs.Code.{op_at, code_of, code_in, target_of}
 use Rattle.ifs_verify.specs.declared.rules.OpRule.TheVariants.{Target}
 use Rattle.ifs_verify.specs.Rules.{IsRoutine, RoutinesEnd}
 use Rattle.ifs_verify.specs.Refused.{JumpsElsewhere}
-use Rattle.ifs_verify.specs.Passes.{Keeps}
+use Rattle.ifs_verify.specs.inner.Passes.{Keeps}
 
 same_number : (a b : ℕ) → Some a ≡ Some b → a ≡ b
 same_number a b e = cc

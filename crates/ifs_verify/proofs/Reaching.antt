@@ -6,7 +6,7 @@ use Rattle.ifs_base.specs.declared.op.Op.{Op}
 use Rattle.ifs_image.specs.declared.parts.ImageParts.{ImageParts}
 use Rattle.ifs_image.specs.Code.{op_at, code_of, code_in, target_of, IsSuccessor}
 use Rattle.ifs_verify.specs.Rules.{IsRoutine}
-use Rattle.ifs_verify.specs.Passes.{next_of, IsMarked, FollowsBelow}
+use Rattle.ifs_verify.specs.inner.Passes.{next_of, IsMarked, FollowsBelow}
 use Rattle.ifs_verify.proofs.Flow.{successor_cases, next_successor, target_successor}
 
 -- A routine with an instruction is one of the image.

@@ -7,7 +7,7 @@ use Rattle.std.proofs.lemmas.Bool.{cases_eq, cases_lt}
 use Rattle.std.proofs.lemmas.Option.{slice_get-get_or, slice_get_read, slice_get_past}
 use Rattle.std.proofs.lemmas.List.{get_or-set_same, get_or-set_other}
 use Rattle.ifs_base.specs.declared.op.Kind.{Kind}
-use Rattle.ifs_verify.specs.Passes.{row_at, Extends}
+use Rattle.ifs_verify.specs.inner.Passes.{row_at, Extends}
 
 pub slice_get-set_same : {A : Type 0} (xs : List A) (k : ℕ) (x : A) → k < length xs → slice_get (set xs k x) k ≡ Some x
 slice_get-set_same xs k x below =

@@ -6,7 +6,7 @@ use Rattle.ifs_base.specs.declared.op.Op.{Op}
 use Rattle.ifs_base.specs.declared.op.Op.TheVariants.{Negate, Both, Either, Queue, Want, JumpFalse, JumpTrue, Pop, Dup}
 use Rattle.ifs_image.specs.declared.parts.ImageParts.{ImageParts}
 use Rattle.ifs_image.specs.Code.{effect}
-use Rattle.ifs_verify.specs.Passes.{without, below_top, top_twice, left_by}
+use Rattle.ifs_verify.specs.inner.Passes.{without, below_top, top_twice, left_by}
 
 pub without-same : (kind : Kind) (below : List Kind) → without kind (kind ∷ below) ≡ Some below
 unfolding without

@@ -14,7 +14,7 @@ use Rattle.ifs_verify.specs.declared.fault.VerifyFault.{VerifyFault}
 use Rattle.ifs_verify.specs.declared.fault.VerifyFault.TheVariants.{NoImage, NoEntry, JumpTarget, LeftAtEnd, Unreached, WrongOperand, WaysDisagree, CallNotLower, WrongResults, StackOver, FramesOver, CostOver, CommandsOver, HandlerLeaves, OutOfMemory}
 use Rattle.ifs_verify.specs.Accepted.{IsAccepted}
 use Rattle.ifs_verify.specs.Refused.{refusal_of, IsRefusal}
-use Rattle.ifs_verify.specs.Passes.{IsSized, IsRefused}
+use Rattle.ifs_verify.specs.inner.Passes.{IsSized, IsRefused}
 use Rattle.ifs_verify.proofs.Faults.{fails_of_accepted}
 
 entry_fits : (routines : List Routine) (k : ℕ) (routine : Routine) → All RoutineFits routines → slice_get routines k ≡ Some routine → RoutineFits routine

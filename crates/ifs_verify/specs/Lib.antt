@@ -4,8 +4,7 @@ pub mod Ways
 pub mod Bounds
 pub mod Accepted
 pub mod Refused
-pub mod Passes
-pub mod Found
+pub mod inner
 pub mod Laws
 pub use Rattle.ifs_image.specs.Code
 pub use Rattle.ifs_image.specs.Limits

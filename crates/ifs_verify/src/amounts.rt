@@ -7,7 +7,7 @@ ghost use Rattle.ifs_image.specs.Code.{code_of, IsSuccessor};
 ghost use Rattle.ifs_verify.specs.declared.fault.At.TheVariants.{Code};
 ghost use Rattle.ifs_verify.specs.Bounds.{AreAmounts, callee_amount};
 ghost use Rattle.ifs_verify.specs.Rules.{IsRoutine};
-ghost use Rattle.ifs_verify.specs.Passes.{IsPlain, HoldsAmount, HoldsRow, IsCountedFrom, LeastAmounts, AmountIsOver, weight_of, limit_of, amount_behind};
+ghost use Rattle.ifs_verify.specs.inner.Passes.{PlainRulesHold, HoldsAmount, HoldsRow, IsCountedFrom, LeastAmounts, AmountIsOver, weight_of, limit_of, amount_behind};
 
 use crate::places::{code, next, op_at, target};
 use crate::tables::greater;
@@ -32,7 +32,7 @@ pub fn amount_of(
     weight: Weight,
     lower: &[u32],
 ) -> Result<u32, AllocError>
-    requires plain { IsPlain image.now }
+    requires plain { PlainRulesHold image.now }
     requires routine { IsRoutine image.now routine }
     requires lower { LeastAmounts (weight_of weight) image.now (limit_of weight) lower.now routine }
     ensures holds { IfOk result (λ amount. (row : ℕ → ℕ) × (row 0 ≡ amount) × HoldsRow (weight_of weight) image.now (slice_index lower.now) routine row) }
@@ -63,7 +63,7 @@ fn count_at(
     lower: &[u32],
     amounts: &mut Vec<u32>,
 )
-    requires plain { IsPlain image.now }
+    requires plain { PlainRulesHold image.now }
     requires routine { IsRoutine image.now routine }
     requires place { place < length (code_of image.now routine) }
     requires long { length lower.now ≡ routine }

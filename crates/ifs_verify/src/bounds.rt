@@ -5,8 +5,8 @@ ghost use Rattle.ifs_verify.specs.declared.fault.At.TheVariants.{Code};
 ghost use Rattle.ifs_verify.specs.Rules.{IsRoutine};
 ghost use Rattle.ifs_verify.specs.Refused.{StackIsOver};
 ghost use Rattle.ifs_verify.specs.Bounds.{cost_of, commands_of};
-ghost use Rattle.ifs_verify.specs.Passes.{IsPlain, IsRefused, LeastHeights};
-ghost use Rattle.ifs_verify.specs.Found.{AreFound};
+ghost use Rattle.ifs_verify.specs.inner.Passes.{PlainRulesHold, IsRefused, LeastHeights};
+ghost use Rattle.ifs_verify.specs.inner.Found.{AreFound};
 
 use crate::amounts::{Weight, amount_of};
 use crate::depths::depth_of;
@@ -36,7 +36,7 @@ pub fn check_bounds(
     image: &ImageParts,
     heights: &Vec<u32>,
 ) -> Result<Bounds, VerifyFault>
-    requires plain { IsPlain image.now }
+    requires plain { PlainRulesHold image.now }
     requires heights { LeastHeights image.now heights.now.items (length image.now.routines) }
     ensures found { IfOk result (λ bounds. AreFound image.now heights.now.items bounds (length image.now.routines)) }
     ensures refused { IfErr result (IsRefused image.now) }
@@ -60,7 +60,7 @@ fn find_bounds(
     heights: &Vec<u32>,
     bounds: &mut Bounds,
 ) -> Result<(), VerifyFault>
-    requires plain { IsPlain image.now }
+    requires plain { PlainRulesHold image.now }
     requires heights { LeastHeights image.now heights.now.items (length image.now.routines) }
     requires routine { IsRoutine image.now routine }
     requires lower { AreFound image.now heights.now.items bounds.old routine }

@@ -7,8 +7,8 @@ ghost use Rattle.std.specs.Bool.{OnTrue, OnFalse};
 ghost use Rattle.ifs_verify.specs.declared.fault.At.TheVariants.{Head};
 ghost use Rattle.ifs_verify.specs.Rules.{IsRoutine, AreRoutines, IndexesFit};
 ghost use Rattle.ifs_verify.specs.Refused.{StackIsOver, FramesAreOver};
-ghost use Rattle.ifs_verify.specs.Passes.{IsPlain, IsRefused, LeastHeights, LeastDepths, LeastAmounts, AmountIsOver, Reaches, part_of, weight_of, limit_of, stated_of};
-ghost use Rattle.ifs_verify.specs.Found.{AreFound};
+ghost use Rattle.ifs_verify.specs.inner.Passes.{PlainRulesHold, IsRefused, LeastHeights, LeastDepths, LeastAmounts, AmountIsOver, Reaches, part_of, weight_of, limit_of, stated_of};
+ghost use Rattle.ifs_verify.specs.inner.Found.{AreFound};
 
 use crate::amounts::Weight;
 use crate::bounds::Bounds;
@@ -33,7 +33,7 @@ pub fn check_budgets(
     heights: &Vec<u32>,
     bounds: &Bounds,
 ) -> Result<(), VerifyFault>
-    requires plain { IsPlain image.now }
+    requires plain { PlainRulesHold image.now }
     requires heights { LeastHeights image.now heights.now.items (length image.now.routines) }
     requires found { AreFound image.now heights.now.items bounds.now (length image.now.routines) }
     ensures stack { OnOk result (FitsHandlers image.now (slice_index heights.now.items) image.now.budgets.stack) }
@@ -59,7 +59,7 @@ pub fn check_budgets(
 
 /// V10: whether the handlers' heights are within the stated stack.
 fn stack_fits(image: &ImageParts, heights: &Vec<u32>) -> bool
-    requires plain { IsPlain image.now }
+    requires plain { PlainRulesHold image.now }
     requires heights { LeastHeights image.now heights.now.items (length image.now.routines) }
     requires low { (routine : ℕ) → IsRoutine image.now routine → slice_index heights.now.items routine ≤ 32 }
     ensures fits { OnTrue result (FitsHandlers image.now (slice_index heights.now.items) image.now.budgets.stack) }
@@ -70,7 +70,7 @@ fn stack_fits(image: &ImageParts, heights: &Vec<u32>) -> bool
 
 /// V11: whether the handlers' frames are within the stated frames.
 fn frames_fit(image: &ImageParts, depths: &Vec<u32>) -> bool
-    requires plain { IsPlain image.now }
+    requires plain { PlainRulesHold image.now }
     requires depths { LeastDepths image.now depths.now.items (length image.now.routines) }
     ensures fits { OnTrue result (FitsHandlers image.now (slice_index depths.now.items) image.now.budgets.frames) }
     ensures over { OnFalse result (FramesAreOver image.now Head) }
@@ -80,7 +80,7 @@ fn frames_fit(image: &ImageParts, depths: &Vec<u32>) -> bool
 
 /// V12 or V13: whether the amounts of each event are within the stated cost or commands.
 fn amounts_fit(image: &ImageParts, weight: Weight, amounts: &Vec<u32>) -> bool
-    requires plain { IsPlain image.now }
+    requires plain { PlainRulesHold image.now }
     requires amounts { LeastAmounts (weight_of weight) image.now (limit_of weight) amounts.now.items (length image.now.routines) }
     ensures fits { OnTrue result (FitsEvents image.now (slice_index amounts.now.items) (stated_of weight image.now)) }
     ensures over { OnFalse result (AmountIsOver weight image.now Head) }
@@ -138,12 +138,23 @@ fn fit_events(image: &ImageParts, amounts: &Vec<u32>, stated: u32) -> bool
     requires low { (k : ℕ) → slice_index amounts.now.items k ≤ 100000 }
     ensures { IsTrue result ↔ FitsEvents image.now (slice_index amounts.now.items) stated }
 {
-    let first = handlers_of(image, usize::from(image.initial.0));
-    let opening = bound_of(amounts, image.always.init) + bound_of(amounts, first.init);
+    let opening = opening(image, amounts);
     let bodies = greatest(image, amounts, Part::Body);
     let inits = greatest(image, amounts, Part::Init);
     let always = bound_of(amounts, image.always.body);
     opening <= stated && always + bodies + inits <= stated
+}
+
+/// The amount of the opening: the always init, and the initial state's init.
+fn opening(image: &ImageParts, amounts: &Vec<u32>) -> u32
+    requires indexes { IndexesFit image.now }
+    requires long { length amounts.now.items ≡ length image.now.routines }
+    requires low { (k : ℕ) → slice_index amounts.now.items k ≤ 100000 }
+    ensures value { (first : StateSpec) × (slice_get image.now.states image.now.initial.0 ≡ Some first) × (result ≡ slice_index amounts.now.items image.now.always.init.0 + slice_index amounts.now.items first.handlers.init.0) }
+    ensures low { result ≤ 200000 }
+{
+    let first = handlers_of(image, usize::from(image.initial.0));
+    bound_of(amounts, image.always.init) + bound_of(amounts, first.init)
 }
 
 /// The greatest amount of a handler over all states.

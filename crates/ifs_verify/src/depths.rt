@@ -6,7 +6,7 @@ ghost use Rattle.ifs_base.specs.declared.op.Op.TheVariants.{Call};
 ghost use Rattle.ifs_verify.specs.declared.fault.At.TheVariants.{Code};
 ghost use Rattle.ifs_verify.specs.Rules.{IsRoutine};
 ghost use Rattle.ifs_verify.specs.Refused.{FramesAreOver};
-ghost use Rattle.ifs_verify.specs.Passes.{IsPlain, HoldsDepth, LeastDepths};
+ghost use Rattle.ifs_verify.specs.inner.Passes.{PlainRulesHold, HoldsDepth, LeastDepths};
 
 use crate::places::{code, op_at};
 use crate::tables::greater;
@@ -15,7 +15,7 @@ use ifs_image::ImageParts;
 
 /// One frame, or one more than the greatest number of a callee's.
 pub fn depth_of(image: &ImageParts, routine: usize, depths: &[u32]) -> u32
-    requires plain { IsPlain image.now }
+    requires plain { PlainRulesHold image.now }
     requires routine { IsRoutine image.now routine }
     requires lower { LeastDepths image.now depths.now routine }
     ensures holds { HoldsDepth image.now (slice_index depths.now) routine result }

@@ -4,7 +4,7 @@ ghost use Rattle.std.specs.Prelude.{ℕ, ◌≡◌, ◌≤◌, ◌<◌, ◌↔�
 ghost use Rattle.ifs_base.specs.declared.op.Op.TheVariants.{Ret};
 ghost use Rattle.ifs_image.specs.Code.{effect, results_of};
 ghost use Rattle.ifs_verify.specs.Rules.{IsRoutine, HasOperand};
-ghost use Rattle.ifs_verify.specs.Passes.{IsSized, left_by};
+ghost use Rattle.ifs_verify.specs.inner.Passes.{IsSized, left_by};
 
 use crate::places::result_count;
 use crate::stack::Stack;

@@ -5,7 +5,7 @@ ghost use Rattle.ifs_base.specs.declared.op.Op.{Op};
 ghost use Rattle.ifs_base.specs.declared.op.Kind.{Kind};
 ghost use Rattle.ifs_image.specs.Code.{op_at, code_of, effect};
 ghost use Rattle.ifs_verify.specs.Rules.{IsRoutine};
-ghost use Rattle.ifs_verify.specs.Passes.{IsPlain, IsTypedUpTo, row_at, HoldsHeight, AreLow};
+ghost use Rattle.ifs_verify.specs.inner.Passes.{PlainRulesHold, IsTypedUpTo, row_at, HoldsHeight, AreLow};
 
 use crate::effects::effect_of;
 use crate::places::{code, op_at};
@@ -22,7 +22,7 @@ pub fn height_of(
     rows: &Vec<Option<Stack>>,
     heights: &[u32],
 ) -> u32
-    requires plain { IsPlain image.now }
+    requires plain { PlainRulesHold image.now }
     requires routine { IsRoutine image.now routine }
     requires typed { IsTypedUpTo image.now routine rows.now.items (length (code_of image.now routine)) }
     requires long { length heights.now ≡ routine }
@@ -44,7 +44,7 @@ pub fn height_of(
 
 /// The height that one instruction needs, with what stands before it.
 fn height_at(image: &ImageParts, routine: usize, op: Op, before: &Stack, heights: &[u32]) -> u32
-    requires plain { IsPlain image.now }
+    requires plain { PlainRulesHold image.now }
     requires op { (place : ℕ) × (op_at image.now routine place ≡ Some op) }
     requires fits { (after : List Kind) × (effect image.now op before.now ≡ Some after) × (length after ≤ 32) }
     requires within { length before.now ≤ 32 }

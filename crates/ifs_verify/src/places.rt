@@ -6,7 +6,7 @@ ghost use Rattle.ifs_image.specs.declared.parts.Routine.{Routine};
 ghost use Rattle.ifs_image.specs.declared.parts.StateSpec.{StateSpec};
 ghost use Rattle.ifs_verify.specs.declared.fault.At.TheVariants.{State, Code};
 ghost use Rattle.ifs_verify.specs.Rules.{IsRoutine};
-ghost use Rattle.ifs_verify.specs.Passes.{next_of};
+ghost use Rattle.ifs_verify.specs.inner.Passes.{next_of};
 
 use crate::fault::At;
 use ifs_base::{Op, RoutineId, StateId};

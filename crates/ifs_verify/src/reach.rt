@@ -3,7 +3,7 @@
 ghost use Rattle.std.specs.Prelude.{ℕ, ◌≡◌, ◌<◌, ◌⊎◌, ◌↔◌, Option, Some, IsTrue, length, OnOk, IfErr, IfOk};
 ghost use Rattle.ifs_image.specs.Code.{code_of};
 ghost use Rattle.ifs_verify.specs.Rules.{IsRoutine, IsReached, PlacesAreReached};
-ghost use Rattle.ifs_verify.specs.Passes.{IsSized, IsRefused, IsMarked};
+ghost use Rattle.ifs_verify.specs.inner.Passes.{IsSized, IsRefused, IsMarked};
 
 use crate::fault::VerifyFault;
 use crate::places::{at, code, next, op_at, target};

@@ -10,7 +10,7 @@ ghost use Rattle.std.specs.Bool.{OnTrue, OnFalse};
 ghost use Rattle.ifs_verify.specs.declared.fault.At.TheVariants.{Code};
 ghost use Rattle.ifs_verify.specs.Rules.{IsRoutine, AreRoutines, IsMask, HasOperand, LeaveNothing, IndexesFit, HandlersLeaveNothing, JumpsLeadOn, RoutinesEnd, CallsGoDown, PlacesAreReached};
 ghost use Rattle.ifs_verify.specs.Refused.{Fails};
-ghost use Rattle.ifs_verify.specs.Passes.{IsSized, Keeps, fault_of};
+ghost use Rattle.ifs_verify.specs.inner.Passes.{IsSized, Keeps, fault_of};
 
 use crate::fault::{At, VerifyFault};
 use crate::places::{at, at_state, code, handlers_of, op_at, result_count, target};

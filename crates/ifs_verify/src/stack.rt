@@ -24,7 +24,7 @@ impl Model for Stack {
 
 impl Stack {
     ghost use Rattle.std.specs.Prelude.{◌≡◌, ◌<◌, ◌≤◌, ◌↔◌, IsTrue, [], ◌∷◌, length, IfSome, MatchOption};
-    ghost use Rattle.ifs_verify.specs.Passes.{without, below_top, top_twice};
+    ghost use Rattle.ifs_verify.specs.inner.Passes.{without, below_top, top_twice};
 
     /// The empty list.
     pub fn new() -> Self

@@ -1,7 +1,7 @@
 //! The stacks of all routines: their kinds and heights.
 
 ghost use Rattle.std.specs.Prelude.{length, IfOk, IfErr};
-ghost use Rattle.ifs_verify.specs.Passes.{IsPlain, IsRefused, LeastHeights};
+ghost use Rattle.ifs_verify.specs.inner.Passes.{PlainRulesHold, IsRefused, LeastHeights};
 
 use crate::fault::VerifyFault;
 use crate::heights::height_of;
@@ -11,7 +11,7 @@ use std::alloc::Global;
 
 /// V6, V7, V9, and V10 at an instruction: the height of each routine, all of which have a typing.
 pub fn check_stacks(alloc: Global, image: &ImageParts) -> Result<Vec<u32>, VerifyFault>
-    requires { IsPlain image.now }
+    requires { PlainRulesHold image.now }
     ensures found { IfOk result (λ heights. LeastHeights image.now heights.items (length image.now.routines)) }
     ensures refused { IfErr result (IsRefused image.now) }
 {

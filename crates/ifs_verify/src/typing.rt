@@ -9,7 +9,7 @@ ghost use Rattle.ifs_image.specs.Code.{op_at, code_of, results_of, effect, IsSuc
 ghost use Rattle.ifs_verify.specs.Rules.{IsRoutine, HasOperand};
 ghost use Rattle.ifs_verify.specs.Ways.{Leads};
 ghost use Rattle.ifs_verify.specs.Refused.{ReturnsOthers, LacksOperand, LeavesMany, Disagrees};
-ghost use Rattle.ifs_verify.specs.Passes.{IsSized, IsPlain, IsRefused, IsTypedUpTo, Leaves, Extends, row_at};
+ghost use Rattle.ifs_verify.specs.inner.Passes.{IsSized, PlainRulesHold, IsRefused, IsTypedUpTo, Leaves, Extends, row_at};
 
 use crate::effects::{effect_of, keeps_results};
 use crate::fault::VerifyFault;
@@ -25,7 +25,7 @@ pub fn typing_of(
     image: &ImageParts,
     routine: usize,
 ) -> Result<Vec<Option<Stack>>, VerifyFault>
-    requires plain { IsPlain image.now }
+    requires plain { PlainRulesHold image.now }
     requires routine { IsRoutine image.now routine }
     ensures typed { IfOk result (λ rows. IsTypedUpTo image.now routine rows.items (length (code_of image.now routine))) }
     ensures refused { IfErr result (IsRefused image.now) }
@@ -60,7 +60,7 @@ fn pass(
     place: usize,
     rows: &mut Vec<Option<Stack>>,
 ) -> Result<(), VerifyFault>
-    requires plain { IsPlain image.now }
+    requires plain { PlainRulesHold image.now }
     requires routine { IsRoutine image.now routine }
     requires place { place < length (code_of image.now routine) }
     requires typed { IsTypedUpTo image.now routine rows.old.items place }
@@ -82,7 +82,7 @@ fn after(
     op: Op,
     rows: &Vec<Option<Stack>>,
 ) -> Result<Stack, VerifyFault>
-    requires plain { IsPlain image.now }
+    requires plain { PlainRulesHold image.now }
     requires routine { IsRoutine image.now routine }
     requires op { op_at image.now routine place ≡ Some op }
     requires place { place < length (code_of image.now routine) }
@@ -110,7 +110,7 @@ fn row<'a>(
     place: usize,
     rows: &'a Vec<Option<Stack>>,
 ) -> &'a Stack
-    requires plain { IsPlain image.now }
+    requires plain { PlainRulesHold image.now }
     requires place { place < length (code_of image.now routine) }
     requires typed { IsTypedUpTo image.now routine rows.now.items place }
     ensures here { row_at rows.now.items place ≡ Some result.now }
@@ -182,7 +182,7 @@ fn hand_on(
     after: &Stack,
     rows: &mut Vec<Option<Stack>>,
 ) -> Result<(), VerifyFault>
-    requires plain { IsPlain image.now }
+    requires plain { PlainRulesHold image.now }
     requires routine { IsRoutine image.now routine }
     requires place { place < length (code_of image.now routine) }
     requires typed { IsTypedUpTo image.now routine rows.old.items place }

@@ -5,7 +5,7 @@ ghost use Rattle.ifs_image.specs.declared.parts.ImageParts.{ImageParts};
 ghost use Rattle.ifs_image.specs.Spelling.{Spells};
 ghost use Rattle.ifs_verify.specs.declared.fault.VerifyFault.TheVariants.{OutOfMemory};
 ghost use Rattle.ifs_verify.specs.Accepted.{IsAccepted};
-ghost use Rattle.ifs_verify.specs.Passes.{IsSized, IsRefused};
+ghost use Rattle.ifs_verify.specs.inner.Passes.{IsSized, IsRefused};
 ghost use Rattle.ifs_verify.specs.Refused.{IsRefusal};
 
 use crate::bounds::check_bounds;

@@ -1,5 +1,5 @@
 use Rattle.std.proofs.Common.{◌+◌, ◌-◌, ◌≤◌, length, slice_index, arith, sym}
-use Rattle.ifs_verify.specs.Passes.{IsCountedFrom, weight_of, limit_of, stated_of}
+use Rattle.ifs_verify.specs.inner.Passes.{IsCountedFrom, weight_of, limit_of, stated_of}
 use Rattle.ifs_base.specs.declared.op.Op.{Op}
 use Rattle.ifs_verify.specs.declared.amounts.Weight.{Weight}
 use Rattle.ifs_verify.specs.declared.amounts.Weight.TheVariants.{Cost, Commands}

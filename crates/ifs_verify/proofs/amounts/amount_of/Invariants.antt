@@ -1,5 +1,5 @@
 use Rattle.std.proofs.Common.{ℕ, ◌≡◌, ◌+◌, slice_index}
-use Rattle.ifs_verify.specs.Passes.{IsCountedFrom, weight_of}
+use Rattle.ifs_verify.specs.inner.Passes.{IsCountedFrom, weight_of}
 use Rattle.ifs_verify.proofs.amounts.amount_of.Given as goal
 
 abbrev pub invariant-loop-done : goal.invariant-loop-done

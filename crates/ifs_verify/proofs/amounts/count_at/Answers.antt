@@ -2,7 +2,7 @@ use Rattle.std.proofs.Common.{ℕ, ◌≡◌, List, Some, slice_index, arith, ap
 use Rattle.std.specs.List.{slice_get}
 use Rattle.ifs_base.specs.declared.op.Op.{Op}
 use Rattle.ifs_image.specs.Code.{op_at}
-use Rattle.ifs_verify.specs.Passes.{IsCountedFrom, weight_of}
+use Rattle.ifs_verify.specs.inner.Passes.{IsCountedFrom, weight_of}
 use Rattle.ifs_verify.proofs.Flow.{successor_within}
 use Rattle.ifs_verify.proofs.Backward.{counted_more}
 use Rattle.ifs_verify.proofs.amounts.count_at.Goals as goal

@@ -1,4 +1,4 @@
-use Rattle.ifs_verify.specs.Found.{AreFound}
+use Rattle.ifs_verify.specs.inner.Found.{AreFound}
 use Rattle.ifs_verify.proofs.bounds.check_bounds.Given as goal
 
 abbrev pub invariant-loop-routine : goal.invariant-loop-routine

@@ -1,7 +1,7 @@
 use Rattle.std.proofs.Common.{ℕ, ◌≡◌, ◌+◌, List, [], ◌∷◌, ◌++◌, slice_index, arith, ap, sym, ◌∙◌, subst, inl, inr}
 use Rattle.std.proofs.lemmas.Bool.{cases_eq}
 use Rattle.ifs_verify.specs.Bounds.{cost_of, commands_of}
-use Rattle.ifs_verify.specs.Passes.{LeastDepths, LeastAmounts}
+use Rattle.ifs_verify.specs.inner.Passes.{LeastDepths, LeastAmounts}
 use Rattle.ifs_verify.proofs.Entering.{depths_more, amounts_more}
 use Rattle.ifs_verify.proofs.bounds.find_bounds.Goals as goal
 

@@ -2,7 +2,7 @@ use Rattle.std.proofs.Common.{slice_index, sym, subst}
 use Rattle.std.proofs.lemmas.Bool.{OnFalse_from}
 use Rattle.ifs_verify.specs.declared.fault.At.TheVariants.{Head}
 use Rattle.ifs_verify.specs.Bounds.{FitsEvents}
-use Rattle.ifs_verify.specs.Passes.{AmountIsOver, weight_of, limit_of, stated_of}
+use Rattle.ifs_verify.specs.inner.Passes.{AmountIsOver, weight_of, limit_of, stated_of}
 use Rattle.ifs_verify.proofs.Assembly.{amounts_unfit}
 use Rattle.ifs_verify.proofs.budgets.amounts_fit.Goals as goal
 

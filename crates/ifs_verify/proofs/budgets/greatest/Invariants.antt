@@ -1,7 +1,7 @@
 use Rattle.std.proofs.Common.{ℕ, ◌≡◌, ◌<◌, ◌≤◌, Some, slice_index}
 use Rattle.std.specs.List.{slice_get}
 use Rattle.ifs_image.specs.declared.parts.StateSpec.{StateSpec}
-use Rattle.ifs_verify.specs.Passes.{part_of, Reaches}
+use Rattle.ifs_verify.specs.inner.Passes.{part_of, Reaches}
 use Rattle.ifs_verify.proofs.budgets.greatest.Given as goal
 
 abbrev pub invariant-loop-state : goal.invariant-loop-state

@@ -2,7 +2,7 @@ use Rattle.std.proofs.Common.{ℕ, ◌≡◌, ◌<◌, ◌≤◌, ◌+◌, Some,
 use Rattle.ifs_base.specs.declared.ids.RoutineId.{RoutineId}
 use Rattle.ifs_base.specs.declared.op.Op.TheVariants.{Call}
 use Rattle.ifs_image.specs.Code.{op_at}
-use Rattle.ifs_verify.specs.Passes.{HoldsDepth}
+use Rattle.ifs_verify.specs.inner.Passes.{HoldsDepth}
 use Rattle.ifs_verify.proofs.depths.depth_of.Given as goal
 
 abbrev pub invariant-loop-place : goal.invariant-loop-place

@@ -5,7 +5,7 @@ use Rattle.ifs_base.specs.declared.op.Kind.{Kind}
 use Rattle.ifs_base.specs.declared.op.Op.{Op}
 use Rattle.ifs_image.specs.declared.parts.ImageParts.{ImageParts}
 use Rattle.ifs_image.specs.Code.{op_at, code_of}
-use Rattle.ifs_verify.specs.Passes.{row_at, IsTypedUpTo}
+use Rattle.ifs_verify.specs.inner.Passes.{row_at, IsTypedUpTo}
 use Rattle.ifs_verify.proofs.Rows.{row_at-read}
 use Rattle.ifs_verify.proofs.Holding.{row_there, passed_at, holds_more}
 use Rattle.ifs_verify.proofs.heights.height_of.Goals as goal

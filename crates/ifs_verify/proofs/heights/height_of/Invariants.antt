@@ -2,7 +2,7 @@ use Rattle.std.proofs.Common.{ℕ, ◌≡◌, ◌<◌, ◌≤◌, List, Some, sl
 use Rattle.ifs_base.specs.declared.op.Op.{Op}
 use Rattle.ifs_base.specs.declared.op.Kind.{Kind}
 use Rattle.ifs_image.specs.Code.{op_at}
-use Rattle.ifs_verify.specs.Passes.{row_at, HoldsHeight}
+use Rattle.ifs_verify.specs.inner.Passes.{row_at, HoldsHeight}
 use Rattle.ifs_verify.proofs.heights.height_of.Given as goal
 
 abbrev pub invariant-loop-place : goal.invariant-loop-place

@@ -4,7 +4,7 @@ use Rattle.ifs_base.specs.declared.op.Op.{Op}
 use Rattle.ifs_image.specs.Code.{op_at, target_of}
 use Rattle.std.proofs.lemmas.Bool.{cases_eq}
 use Rattle.ifs_verify.specs.Rules.{IsReached}
-use Rattle.ifs_verify.specs.Passes.{next_of}
+use Rattle.ifs_verify.specs.inner.Passes.{next_of}
 use Rattle.ifs_verify.proofs.Reaching.{Marks, follows_more, marked_more}
 use Rattle.ifs_verify.proofs.reach.check_reached_in.Goals as goal
 

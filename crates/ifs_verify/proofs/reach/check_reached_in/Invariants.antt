@@ -1,6 +1,6 @@
 use Rattle.std.proofs.Common.{ℕ, ◌≡◌, ◌<◌, length}
 use Rattle.ifs_verify.specs.Rules.{IsReached}
-use Rattle.ifs_verify.specs.Passes.{IsMarked, FollowsBelow}
+use Rattle.ifs_verify.specs.inner.Passes.{IsMarked, FollowsBelow}
 use Rattle.ifs_verify.proofs.reach.check_reached_in.Given as goal
 
 abbrev pub invariant-loop-place : goal.invariant-loop-place

@@ -1,5 +1,5 @@
 use Rattle.std.proofs.Common.{ℕ, ◌≡◌, length}
-use Rattle.ifs_verify.specs.Passes.{IsMarked}
+use Rattle.ifs_verify.specs.inner.Passes.{IsMarked}
 use Rattle.ifs_verify.proofs.reach.no_marks.Given as goal
 
 abbrev pub invariant-loop-place : goal.invariant-loop-place

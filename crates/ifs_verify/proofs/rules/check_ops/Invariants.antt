@@ -1,7 +1,7 @@
 use Rattle.std.proofs.Common.{ℕ, ◌≡◌, ◌<◌, Some}
 use Rattle.ifs_base.specs.declared.op.Op.{Op}
 use Rattle.ifs_image.specs.Code.{op_at}
-use Rattle.ifs_verify.specs.Passes.{Keeps}
+use Rattle.ifs_verify.specs.inner.Passes.{Keeps}
 use Rattle.ifs_verify.proofs.rules.check_ops.Given as goal
 
 abbrev pub invariant-loop-routine : goal.invariant-loop-routine

@@ -5,7 +5,7 @@ use Rattle.ifs_image.specs.Code.{target_of}
 use Rattle.ifs_verify.specs.declared.fault.At.TheVariants.{Code}
 use Rattle.ifs_verify.specs.declared.rules.OpRule.{OpRule}
 use Rattle.ifs_verify.specs.Refused.{Fails}
-use Rattle.ifs_verify.specs.Passes.{fault_of}
+use Rattle.ifs_verify.specs.inner.Passes.{fault_of}
 use Rattle.ifs_verify.proofs.Instructions.{jump_elsewhere}
 use Rattle.ifs_verify.proofs.rules.keeps.Goals as goal
 

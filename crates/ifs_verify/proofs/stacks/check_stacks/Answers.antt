@@ -1,5 +1,5 @@
 use Rattle.std.proofs.Common.{ℕ, ◌≡◌, ◌+◌, List, [], ◌∷◌, ◌++◌, ap, sym, ◌∙◌, subst}
-use Rattle.ifs_verify.specs.Passes.{LeastHeights}
+use Rattle.ifs_verify.specs.inner.Passes.{LeastHeights}
 use Rattle.ifs_verify.proofs.Entering.{heights_more}
 use Rattle.ifs_verify.proofs.stacks.check_stacks.Goals as goal
 

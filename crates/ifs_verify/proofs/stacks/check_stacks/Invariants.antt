@@ -1,4 +1,4 @@
-use Rattle.ifs_verify.specs.Passes.{LeastHeights}
+use Rattle.ifs_verify.specs.inner.Passes.{LeastHeights}
 use Rattle.ifs_verify.proofs.stacks.check_stacks.Given as goal
 
 abbrev pub invariant-loop-routine : goal.invariant-loop-routine

@@ -1,6 +1,6 @@
 use Rattle.std.proofs.Common.{◌≡◌, ◌<◌, List, Option, length, Some, arith, sym, subst}
 use Rattle.ifs_base.specs.declared.op.Kind.{Kind}
-use Rattle.ifs_verify.specs.Passes.{row_at, IsTypedUpTo, Extends}
+use Rattle.ifs_verify.specs.inner.Passes.{row_at, IsTypedUpTo, Extends}
 use Rattle.std.proofs.lemmas.Bool.{OnTrue_from, OnTrue_at, OnFalse_from, OnFalse_at}
 use Rattle.ifs_verify.specs.Refused.{Disagrees}
 use Rattle.ifs_verify.proofs.Rows.{row_at-set_same, Extends-set}

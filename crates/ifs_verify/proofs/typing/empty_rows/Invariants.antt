@@ -1,6 +1,6 @@
 use Rattle.std.proofs.Common.{ℕ, ◌≡◌, List, [], length, Some}
 use Rattle.ifs_base.specs.declared.op.Kind.{Kind}
-use Rattle.ifs_verify.specs.Passes.{row_at}
+use Rattle.ifs_verify.specs.inner.Passes.{row_at}
 use Rattle.ifs_verify.proofs.typing.empty_rows.Given as goal
 
 abbrev pub invariant-loop-place : goal.invariant-loop-place

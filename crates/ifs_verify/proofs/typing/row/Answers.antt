@@ -2,7 +2,7 @@ use Rattle.std.proofs.Common.{ℕ, ◌≡◌, ◌<◌, List, Option, length, get
 use Rattle.ifs_base.specs.declared.op.Kind.{Kind}
 use Rattle.ifs_image.specs.declared.parts.ImageParts.{ImageParts}
 use Rattle.ifs_image.specs.Code.{code_of}
-use Rattle.ifs_verify.specs.Passes.{row_at, IsTypedUpTo}
+use Rattle.ifs_verify.specs.inner.Passes.{row_at, IsTypedUpTo}
 use Rattle.ifs_verify.proofs.Rows.{row_at-read}
 use Rattle.ifs_verify.proofs.Flow.{row_found}
 use Rattle.ifs_verify.proofs.typing.row.Goals as goal

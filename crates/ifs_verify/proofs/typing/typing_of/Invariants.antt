@@ -1,4 +1,4 @@
-use Rattle.ifs_verify.specs.Passes.{IsTypedUpTo}
+use Rattle.ifs_verify.specs.inner.Passes.{IsTypedUpTo}
 use Rattle.ifs_verify.proofs.typing.typing_of.Given as goal
 
 abbrev pub invariant-loop-place : goal.invariant-loop-place

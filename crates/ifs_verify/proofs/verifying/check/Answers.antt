@@ -1,5 +1,5 @@
 use Rattle.ifs_verify.specs.Bounds.{cost_of, commands_of}
-use Rattle.ifs_verify.specs.Passes.{IsPlain}
+use Rattle.ifs_verify.specs.inner.Passes.{PlainRulesHold}
 use Rattle.ifs_verify.proofs.Assembly.{typed, stack_fits, frames_fit, amounts_fit}
 use Rattle.ifs_verify.proofs.verifying.check.Goals as goal
 
@@ -9,7 +9,7 @@ returns-clause-accepted c =
     let heights = c.in_ok-heights.heights.items in
     let found = c.in_ok-bounds.ensures.found in
     let fits = c.in_ok-check_budgets.ensures in
-    let plain : IsPlain c.args.image.now = record {
+    let plain : PlainRulesHold c.args.image.now = record {
       sized = c.requires;
       indexes = c.in_ok-check_indexes.ensures.kept;
       jumps = c.in_ok-check_jumps.ensures.kept;

@@ -1,6 +1,6 @@
 use Rattle.std.proofs.Common.{subst}
 use Rattle.ifs_image.specs.declared.parts.ImageParts.{ImageParts}
-use Rattle.ifs_verify.specs.Passes.{IsRefused}
+use Rattle.ifs_verify.specs.inner.Passes.{IsRefused}
 use Rattle.ifs_verify.proofs.Verdict.{check_refuses, refused_once}
 use Rattle.ifs_verify.proofs.verifying.verify.Goals as goal
 

@@ -132,7 +132,7 @@ abbrev pub Extends : List (Option (List Kind)) → List (Option (List Kind)) →
 Extends old new = (place : ℕ) (kinds : List Kind) → row_at old place ≡ Some kinds → row_at new place ≡ Some kinds
 
 -- The rules that stand when the stacks are looked at.
-pub record IsPlain (image : ImageParts) : Type 0 where
+pub record PlainRulesHold (image : ImageParts) : Type 0 where
   pub sized : IsSized image
   pub indexes : IndexesFit image
   pub jumps : JumpsLeadOn image
