@@ -1,26 +1,26 @@
-# make run    builds the proved program and makes the first run
-# make test   the gate: every proof from nothing, must-fail edits, tests, the program's runs
-# make bench  times the proved program
-# make check  proves what changed since the last check, crate by crate
-# make clean  drops what the checks kept
+# make run     builds the proved program and makes the first run
+# make test    the gate: every proof from nothing, must-fail edits, tests, the program's runs, the examples
+# make plants  tries further wrong bodies; of one crate by CRATE=NAME
+# make bench   times the proved program
+# make check   proves what changed since the last check, crate by crate
+# make clean   drops what the checks kept
 
-.PHONY: run test bench check examples clean
+.PHONY: run test plants bench check clean
 
 run:
-	@cd crates/ifsvm && rt run < stdin
+	@tools/run
 
-test: examples
-	rt ci
+test:
+	@tools/gate
 
-bench:
-	@cd crates/ifsvm && rt run < stdin > /dev/null
+plants:
+	@tools/plants $(CRATE)
+
+bench: run
 	@tools/bench
 
 check:
 	rt all check
 
-examples:
-	@tools/run_examples
-
 clean:
-	rm -rf crates/*/out
+	rm -rf out crates/*/out

@@ -3,8 +3,8 @@
 ghost use Rattle.std.specs.Prelude.{◌≡◌, ◌≢◌, IfOk};
 ghost use Rattle.ifsvm.specs.Answers.{AreAccepted};
 
-use crate::ending::Ending;
-use crate::files::contents;
+use crate::ending::{Ending, out_of_memory};
+use crate::files::{FileFault, contents};
 use crate::task::{Answer, Task};
 use ifs_image::Budgets;
 use ifs_verify::{VerifyFault, verify};
@@ -68,29 +68,30 @@ fn refused(alloc: Global, fault: VerifyFault) -> Result<Answer, AllocError>
 }
 
 /// Verifies the image of a file, and prints the answer.
-pub fn verify_file<R: Files + Print + Alloc<A = Global>>(rt: &R, path: &str) -> Ending {
-    match verified_file(rt, path) {
-        Ok(ending) | Err(ending) => ending,
-    }
+pub fn verify_file<R: Files + Print + Alloc<A = Global>>(
+    rt: &R,
+    path: String,
+) -> Result<Ending, Ending> {
+    let image = image_at(rt, path)?;
+    let Ok(answer) = answer(rt.alloc(), Task::Verify, image.as_slice(), &[]) else {
+        return out_of_memory(rt);
+    };
+    rt.print(&answer.text)?;
+    Ok(if answer.status == 0 {
+        Ending::Done
+    } else {
+        Ending::Refused
+    })
 }
 
-fn verified_file<R: Files + Print + Alloc<A = Global>>(
+/// The bytes of an image's file. Want of memory for them is told as a refusal of the image.
+pub fn image_at<R: Files + Print + Alloc<A = Global>>(
     rt: &R,
-    path: &str,
-) -> Result<Ending, Ending> {
-    let image = contents(rt, path)?;
-    match answer(rt.alloc(), Task::Verify, image.as_slice(), &[]) {
-        Ok(answer) => {
-            rt.print(&answer.text)?;
-            if answer.status == 0 {
-                Ok(Ending::Done)
-            } else {
-                Ok(Ending::Refused)
-            }
-        }
-        Err(AllocError) => {
-            rt.print("refused V0\n")?;
-            Ok(Ending::Refused)
-        }
+    path: String,
+) -> Result<Vec<u8>, Ending> {
+    match contents(rt, path.as_str()) {
+        Ok(image) => Ok(image),
+        Err(FileFault::Memory) => Err(out_of_memory(rt)?),
+        Err(fault) => Err(Ending::File { path, fault }),
     }
 }

@@ -1,5 +1,7 @@
 //! The words of the command line.
 
+use crate::ending::Ending;
+use clap::error::ErrorKind;
 use clap::{Arg, ArgAction, Command, Error};
 use std::alloc::Global;
 use std::rt::Env;
@@ -14,69 +16,73 @@ const ABOUT: &str =
 pub enum Asked {
     /// No words: a session whose first line is the image.
     Session,
-    /// A word with its operands.
-    Words(Words),
-    /// Help or the version, which was printed.
-    Shown,
-    /// Words that ask for nothing; the message was printed.
-    Wrong,
-}
-
-/// A word with its operands.
-#[derive(Debug, Drop)]
-pub enum Words {
     /// Verify the image of a file, and tell its stated budgets.
     Verify { image: String },
     /// A session on the image of a file.
     Sim { image: String },
 }
 
-/// Reads the words that the program was called with. Help and the version go to standard output, a
-/// message on wrong words to standard error. Words that are not UTF-8 are wrong, and so is want of
-/// memory in reading them.
-pub fn read<R: Env + Print + Eprint + Alloc<A = Global>>(rt: &R) -> Asked {
-    let words: Vec<String> = match words_of(rt) {
-        Ok(words) => words,
-        Err(error) => {
-            // the status tells all the same where standard error fails too
-            let _printed = eprintln!(rt; "error: {error}");
-            return Asked::Wrong;
-        }
-    };
-    match asked_by(rt.alloc(), words.as_slice()) {
-        Ok(asked) => asked,
-        Err(error) => {
-            let shown = !error.use_stderr();
-            let printed = error.print(rt);
-            if shown && printed.is_ok() {
-                Asked::Shown
-            } else {
-                Asked::Wrong
-            }
-        }
+/// Reads the words that the program was called with. The program ends where they ask for help or the
+/// version, which go to standard output, and where they ask for nothing: then the message goes to
+/// standard error. Want of memory in reading them is a fault of theirs.
+pub fn read<R: Env + Print + Eprint + Alloc<A = Global>>(rt: &R) -> Result<Asked, Ending> {
+    match asked_of(rt) {
+        Ok(asked) => Ok(asked),
+        Err(error) => Err(shown(rt, &error)),
     }
 }
 
-/// The program's words.
-fn words_of<R: Env + Alloc<A = Global>>(rt: &R) -> io::Result<Vec<String>> {
-    Ok(env::args(rt)?.collect(rt.alloc())?)
+/// Prints the text of what is no task.
+fn shown<R: Print + Eprint>(rt: &R, error: &Error) -> Ending {
+    let printed = error.print(rt);
+    if error.use_stderr() {
+        // the status tells all the same where standard error fails too
+        return Ending::CommandLine;
+    }
+    match printed {
+        Ok(()) => Ending::Done,
+        Err(cause) => Ending::Output(cause),
+    }
+}
+
+/// What the program's words ask for.
+fn asked_of<R: Env + Alloc<A = Global>>(rt: &R) -> Result<Asked, Error> {
+    let mut command = command(rt.alloc())?;
+    let words: Vec<String> = match env::args(rt) {
+        Ok(words) => words.collect(rt.alloc())?,
+        Err(error) => return Err(unread(&mut command, &error)?),
+    };
+    asked_by(rt.alloc(), command, words.as_slice())
+}
+
+/// Why the words could not be read.
+fn unread(command: &mut Command<'_>, error: &io::Error) -> Result<Error, Error> {
+    let (kind, message) = if error.kind() == io::ErrorKind::InvalidData {
+        (
+            ErrorKind::InvalidValue,
+            "invalid UTF-8 was detected in one or more arguments",
+        )
+    } else {
+        (ErrorKind::Io, "the arguments could not be read")
+    };
+    Ok(command.error(kind, message)?)
 }
 
 /// What these words ask for; an error where they ask for nothing, or for help or the version.
-fn asked_by<'a>(alloc: Global, words: &'a [String]) -> Result<Asked, Error> {
-    let matches = command(alloc)?.try_get_matches_from(words)?;
+fn asked_by<'a>(
+    alloc: Global,
+    mut command: Command<'a>,
+    words: &'a [String],
+) -> Result<Asked, Error> {
+    let matches = command.try_get_matches_from_mut(words)?;
     let Some((word, operands)) = matches.subcommand() else {
         return Ok(Asked::Session);
     };
-    let Some(image) = operands.get_str("IMAGE") else {
-        return Ok(Asked::Wrong);
-    };
-    let image = String::from_str(alloc, image)?;
-    match word {
-        "verify" => Ok(Asked::Words(Words::Verify { image })),
-        "sim" => Ok(Asked::Words(Words::Sim { image })),
-        _ => Ok(Asked::Wrong),
-    }
+    let image = String::from_str(alloc, operands.get_str("IMAGE").unwrap_or_default())?;
+    Ok(match word {
+        "verify" => Asked::Verify { image },
+        _ => Asked::Sim { image },
+    })
 }
 
 /// The command line that is understood.

@@ -1,5 +1,6 @@
 //! How the program ends.
 
+use crate::files::FileFault;
 use ifs_session::SessionFault;
 use std::io;
 use std::process::ExitCode;
@@ -13,10 +14,10 @@ pub enum Ending {
     Refused,
     /// The command line was wrong, and its message was printed: status 2.
     CommandLine,
-    /// A file or stream failed: status 3, with the system's words.
-    System(io::Error),
-    /// A file is over 16,777,216 bytes: status 3.
-    TooLarge,
+    /// The bytes of a file could not be had: status 3.
+    File { path: String, fault: FileFault },
+    /// Standard output failed: status 3, with the system's words.
+    Output(io::Error),
     /// A session ended by a fault: status 3, with its code.
     Session(SessionFault),
 }
@@ -29,8 +30,8 @@ impl Ending {
             Ending::Done => (0, Ok(())),
             Ending::Refused => (1, Ok(())),
             Ending::CommandLine => (2, Ok(())),
-            Ending::System(error) => (3, eprintln!(rt; "device {error}")),
-            Ending::TooLarge => (3, eprintln!(rt; "device too large")),
+            Ending::File { path, fault } => (3, eprintln!(rt; "device {path}: {fault}")),
+            Ending::Output(error) => (3, eprintln!(rt; "device standard output: {error}")),
             Ending::Session(fault) => (3, eprintln!(rt; "device {fault}")),
         };
         ExitCode::from(status)
@@ -39,6 +40,12 @@ impl Ending {
 
 impl From<io::Error> for Ending {
     fn from(error: io::Error) -> Ending {
-        Ending::System(error)
+        Ending::Output(error)
     }
+}
+
+/// Prints the line that refuses for want of memory.
+pub fn out_of_memory(rt: &impl Print) -> Result<Ending, Ending> {
+    rt.print("refused V0\n")?;
+    Ok(Ending::Refused)
 }

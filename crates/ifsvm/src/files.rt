@@ -1,25 +1,65 @@
 //! Files.
 
-ghost use Rattle.std.specs.Prelude.{◌≤◌, IfOk, vec_len};
+ghost use Rattle.std.specs.Prelude.{◌≡◌, ◌≢◌, IfOk, IfErr, IfSome};
+ghost use Rattle.ifsvm.specs.Files.{IsWithinLimit};
+ghost use Rattle.ifsvm.specs.declared.files.FileFault.TheVariants.{TooLarge};
 
-use crate::ending::Ending;
 use std::alloc::Global;
 use std::fs;
-use std::io::Read;
+use std::io::{self, ErrorKind, Read};
 use std::rt::Files;
+use thiserror::Error;
 
 /// How many bytes a file has at most.
 const LIMIT: u64 = 16_777_216;
 
-/// The bytes of a file; a device's cause where it cannot be read whole or is too large.
-pub fn contents<R: Files + Alloc<A = Global>>(rt: &R, path: &str) -> Result<Vec<u8>, Ending>
-    ensures { IfOk result (λ bytes. vec_len bytes ≤ LIMIT) }
+/// Why the bytes of a file cannot be had.
+#[derive(Debug, Drop, Error)]
+pub enum FileFault {
+    /// It could not be opened, or a read failed.
+    #[error("{0}")]
+    System(io::Error),
+    /// It has over 16,777,216 bytes.
+    #[error("too large")]
+    TooLarge,
+    /// No memory was found for its bytes.
+    #[error("V0")]
+    Memory,
+}
+
+/// The bytes of a file.
+pub fn contents<R: Files + Alloc<A = Global>>(rt: &R, path: &str) -> Result<Vec<u8>, FileFault>
+    ensures { IfOk result (λ bytes. IsWithinLimit bytes.items) }
 {
-    let file = fs::open(rt, path)?;
-    let mut bytes = Vec::new(rt.alloc());
-    file.take(LIMIT + 1).read_to_end(&mut bytes)?;
-    if LIMIT < bytes.len() as u64 {
-        return Err(Ending::TooLarge);
+    match fs::open(rt, path) {
+        Ok(file) => whole(rt.alloc(), file),
+        Err(error) => Err(fault_of(error)),
     }
-    Ok(bytes)
+}
+
+/// Every byte that a reader has left, where they are at most 16,777,216.
+pub fn whole<R: Read + Drop>(alloc: Global, reader: R) -> Result<Vec<u8>, FileFault>
+    ensures limit { IfOk result (λ bytes. IsWithinLimit bytes.items) }
+    // Nothing is cut off.
+    ensures every_byte { IfSome (R.remaining reader)
+        (λ left. IfOk result (λ bytes. bytes.items ≡ left)) }
+    ensures too_large { IfSome (R.remaining reader)
+        (λ left. IfErr result (λ fault. fault ≡ TooLarge → ¬ IsWithinLimit left)) }
+{
+    let mut bytes = Vec::new(alloc);
+    match reader.take(LIMIT + 1).read_to_end(&mut bytes) {
+        Err(error) => Err(fault_of(error)),
+        Ok(_count) if LIMIT < bytes.len() as u64 => Err(FileFault::TooLarge),
+        Ok(_count) => Ok(bytes),
+    }
+}
+
+fn fault_of(error: io::Error) -> FileFault
+    ensures { result ≢ TooLarge }
+{
+    if error.kind() == ErrorKind::OutOfMemory {
+        FileFault::Memory
+    } else {
+        FileFault::System(error)
+    }
 }

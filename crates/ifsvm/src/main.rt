@@ -14,17 +14,24 @@ mod task;
 #[cfg(test)]
 mod tests;
 
-use command_line::{Asked, Words};
+use command_line::Asked;
 use ending::Ending;
+use std::alloc::Global;
 use std::process::ExitCode;
+use std::rt::{Env, Files};
 
 fn main(rt: HostRuntime) -> ExitCode {
-    let ending = match command_line::read(&rt) {
-        Asked::Session => sessions::by_hexadecimal(&rt),
-        Asked::Words(Words::Verify { image }) => answering::verify_file(&rt, image.as_str()),
-        Asked::Words(Words::Sim { image }) => sessions::on_file(&rt, image.as_str()),
-        Asked::Shown => Ending::Done,
-        Asked::Wrong => Ending::CommandLine,
-    };
+    let (Ok(ending) | Err(ending)) = run(&rt);
     ending.told(&rt)
+}
+
+/// Does what the command line asks for. An error is what keeps it from being done.
+fn run<R: Env + Files + Input + Print + Eprint + Alloc<A = Global>>(
+    rt: &R,
+) -> Result<Ending, Ending> {
+    match command_line::read(rt)? {
+        Asked::Session => sessions::by_hexadecimal(rt),
+        Asked::Verify { image } => answering::verify_file(rt, image),
+        Asked::Sim { image } => sessions::on_file(rt, image),
+    }
 }

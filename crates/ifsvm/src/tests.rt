@@ -1,50 +1,91 @@
-//! What the program answers to the smallest image, and to bytes that are no image.
+//! What the program answers to the bytes of a file.
 
 use crate::answering::answer;
+use crate::files::{FileFault, whole};
 use crate::task::Task;
+use ifs_rows::{bytes_of, cost_through_calls, refusals, rows};
+use std::alloc::Global;
+use std::io::{self, ErrorKind, Read};
+use std::process::Abort;
 use std::test::Fail;
 
-/// One state `a`, one routine: `ret`.
-const SMALLEST: [u8; 61] = [
-    0x49, 0x46, 0x53, 0x56, 0x01, 0x00, 0x00, 0x00, 0x01, 0x00, 0x00, 0x00, 0x03, 0x00, 0x00, 0x00,
-    0x00, 0x00, 0x00, 0x00, 0x00, 0x00, 0x01, 0x00, 0x01, 0x00, 0x00, 0x00, 0x00, 0x00, 0x00, 0x00,
-    0x00, 0x00, 0x00, 0x00, 0x00, 0x00, 0x00, 0x00, 0x01, 0x61, 0x00, 0x00, 0x00, 0x00, 0x00, 0x00,
-    0x00, 0x00, 0x00, 0x00, 0x00, 0x00, 0x00, 0x00, 0x01, 0x00, 0x00, 0x00, 0x00,
-];
-
-/// In each row: a byte of the smallest image, what stands there in its place, and the answer.
-const ROWS: [(usize, u8, &str, u8); 5] = [
-    (0, 0x49, "ok stack 0 frames 1 cost 3 commands 0\n", 0),
-    (12, 0x02, "refused V12 head\n", 1),
-    (8, 0x00, "refused V11 head\n", 1),
-    (3, 0x58, "refused I2 byte 0\n", 1),
-    (60, 0x01, "refused I8 byte 57\n", 1),
-];
+/// The answer to bytes in hexadecimal is this line and this status, and no file.
+fn check(
+    rt: &impl Abort,
+    alloc: Global,
+    name: &str,
+    image: &str,
+    line: &str,
+    status: u8,
+) -> Result<(), Fail> {
+    let bytes = bytes_of(alloc, image)?;
+    let answer = answer(alloc, Task::Verify, bytes.as_slice(), &[])?;
+    assert_eq!(rt; answer.text.as_str(), line, "{name}");
+    assert_eq!(rt; answer.status, status, "{name}");
+    assert!(rt; answer.file.is_none(), "{name}");
+    Ok(())
+}
 
 #[test]
-fn smallest_image(rt: HostRuntime) -> Result<(), Fail> {
-    for (at, byte, text, status) in ROWS {
-        let mut image = SMALLEST;
-        assert!(rt; at < 61);
-        image[at] = byte;
-        let answer = answer(rt.alloc(), Task::Verify, image.as_slice(), &[])?;
-        assert_eq!(rt; answer.text.as_str(), text);
-        assert_eq!(rt; answer.status, status, "{text}");
-        assert!(rt; answer.file.is_none());
+fn accepted(rt: HostRuntime) -> Result<(), Fail> {
+    for row in rows() {
+        check(&rt, rt.alloc(), row.name, row.image, row.answer, 0)?;
     }
     Ok(())
 }
 
 #[test]
-fn truncated(rt: HostRuntime) -> Result<(), Fail> {
-    for (image, text) in [
-        ("", "refused I1 byte 0\n"),
-        ("IFSV", "refused I1 byte 4\n"),
-        ("IFSX", "refused I2 byte 0\n"),
-    ] {
-        let answer = answer(rt.alloc(), Task::Verify, image.as_bytes(), &[])?;
-        assert_eq!(rt; answer.text.as_str(), text);
-        assert_eq!(rt; answer.status, 1, "{text}");
+fn refused(rt: HostRuntime) -> Result<(), Fail> {
+    for row in refusals() {
+        check(&rt, rt.alloc(), row.name, row.image, row.answer, 1)?;
     }
+    let doubling = cost_through_calls(rt.alloc())?;
+    check(
+        &rt,
+        rt.alloc(),
+        "cost_through_calls",
+        doubling.as_str(),
+        "refused V12 routine 15 place 0\n",
+        1,
+    )
+}
+
+/// A reader whose reads all fail so.
+#[derive(Drop)]
+struct Failing {
+    kind: ErrorKind,
+}
+
+impl Read for Failing {
+    fn read(&mut self, _buffer: &mut [u8]) -> io::Result<usize> {
+        Err(io::Error::from(self.kind))
+    }
+}
+
+/// Of a reader every byte is there up to the limit; one more is refused, and so are its faults.
+#[test]
+fn whole_files(rt: HostRuntime) -> Result<(), Fail> {
+    let Ok(short) = whole(rt.alloc(), b"IFSV".as_slice()) else {
+        return Err(Fail::from("a short file"));
+    };
+    assert_eq!(rt; short.as_slice(), b"IFSV".as_slice());
+    let longest = whole(rt.alloc(), io::repeat(b'x').take(16_777_216));
+    assert!(rt; longest.is_ok_and(|bytes| bytes.len() == 16_777_216));
+    let longer = whole(rt.alloc(), io::repeat(b'x').take(16_777_217));
+    assert!(rt; matches!(longer, Err(FileFault::TooLarge)));
+    let closed = whole(
+        rt.alloc(),
+        Failing {
+            kind: ErrorKind::BrokenPipe,
+        },
+    );
+    assert!(rt; matches!(closed, Err(FileFault::System(_))));
+    let starved = whole(
+        rt.alloc(),
+        Failing {
+            kind: ErrorKind::OutOfMemory,
+        },
+    );
+    assert!(rt; matches!(starved, Err(FileFault::Memory)));
     Ok(())
 }
