@@ -5,9 +5,10 @@ use Rattle.std.specs.Io.KnownBytes.{prepend_known, IsAtEnd}
 use Rattle.ifs_session.specs.declared.hexadecimal.HexFault.{HexFault}
 use Rattle.ifs_session.specs.declared.hexadecimal.HexFault.TheVariants.{Broken, Memory, NotRead}
 use Rattle.ifs_session.specs.Device.{Feed, counted}
-use Rattle.ifs_session.specs.Session.{ending}
+use Rattle.ifs_session.specs.Lines.{ending}
 use Rattle.ifs_session.specs.Words.{hex_digit}
-use Rattle.ifs_session.specs.Hexadecimal.{hex_text, Takes, DigitGives, HexGives, begun_text, ReadsBeginning, NoDigit, OddDigit, DigitTooMany}
+use Rattle.ifs_session.specs.Hexadecimal.{hex_text, Takes, HexGives, begun_text, ReadsBeginning, NoDigit, OddDigit, DigitTooMany}
+use Rattle.ifs_session.specs.Inner.Reading.{DigitGives}
 use Rattle.ifs_session.proofs.Known.{prepend_known-append, prepend_known-nil}
 
 takes_more : {text more : List ℕ} {before at after : Feed} → Takes text before at → Takes more at after → Takes (text ++ more) before after

@@ -6,21 +6,21 @@ use Rattle.std.specs.Io.KnownBytes.{prepend_known, IsAtEnd}
 use Rattle.arrayvec.specs.ArrayVec.{ArrayVec}
 use Rattle.ifs_session.specs.Device.{counted, HasLine, ReadyGives}
 use Rattle.ifs_session.specs.declared.device.DeviceFault.{DeviceFault}
-use Rattle.ifs_session.specs.Session.{IsPlain, Intake, ReadsLine, ReadsNothing, ReadFails, ReadsTooMuch}
+use Rattle.ifs_session.specs.Inner.Reading.{HasNoNewline, Intake, ReadsLine, ReadsNothing, ReadFails, ReadsTooMuch}
 use Rattle.ifs_session.proofs.Known.{prepend_known-append, prepend_known-nil}
 
 -- Partway in a line: this text was read, and this is kept of it.
 pub record Partway (kept : List ℕ) (is_longer : Bool) (text : List ℕ) (before after : Intake) : Type 0 where
-  pub plain : IsPlain text
+  pub plain : HasNoNewline text
   pub kept_is : kept ≡ take 256 text
   pub longer : is_longer ≡ nat_lt 256 (length text)
   pub given : before.left ≡ prepend_known text after.left
   pub spent : before.budget ≡ length text + after.budget
   pub same_faults : after.faults ≡ before.faults
 
-IsPlain-push : (text : List ℕ) (byte : ℕ) → IsPlain text → byte ≢ 10 → IsPlain (text ++ byte ∷ [])
-IsPlain-push [] byte plain other = (other, tt)
-IsPlain-push (x ∷ text) byte plain other = (plain.0, IsPlain-push text byte plain.1 other)
+HasNoNewline-push : (text : List ℕ) (byte : ℕ) → HasNoNewline text → byte ≢ 10 → HasNoNewline (text ++ byte ∷ [])
+HasNoNewline-push [] byte plain other = (other, tt)
+HasNoNewline-push (x ∷ text) byte plain other = (plain.0, HasNoNewline-push text byte plain.1 other)
 
 pub is_full : (n : ℕ) → true ≡ (n == 256) → n ≡ 256
 is_full n h = grind (arith, nat_tests)
@@ -63,7 +63,7 @@ pub partway_push : {kept : List ℕ} {is_longer : Bool} {text : List ℕ} {befor
     → byte ≢ 10 → at.budget ≢ 0 → at.left ≡ prepend_known (byte ∷ []) left → faults ≡ at.faults → length kept < 256
     → Partway (kept ++ byte ∷ []) is_longer (text ++ byte ∷ []) before (record { left = left; faults = faults; budget = at.budget - 1 })
 partway_push {kept} {is_longer} {text} {before} {at} byte left faults h other more given same room = record {
-  plain = IsPlain-push text byte h.plain other;
+  plain = HasNoNewline-push text byte h.plain other;
   kept_is =
       let short = short_text text kept h.kept_is room in
       ap (λ t. t ++ byte ∷ []) (h.kept_is ∙ take_all 256 text (omega arith)) ∙ sym (take_all 256 (text ++ byte ∷ []) (omega (arith, length-append text (byte ∷ []))));
@@ -78,7 +78,7 @@ pub partway_drop : {kept : List ℕ} {is_longer : Bool} {text : List ℕ} {befor
     → byte ≢ 10 → at.budget ≢ 0 → at.left ≡ prepend_known (byte ∷ []) left → faults ≡ at.faults → length kept ≡ 256
     → Partway kept true (text ++ byte ∷ []) before (record { left = left; faults = faults; budget = at.budget - 1 })
 partway_drop {kept} {is_longer} {text} {before} {at} byte left faults h other more given same full = record {
-  plain = IsPlain-push text byte h.plain other;
+  plain = HasNoNewline-push text byte h.plain other;
   kept_is = h.kept_is ∙ sym (take-append-le 256 text (byte ∷ []) (long_text text kept h.kept_is full));
   longer = longer_true (length text) (long_text text kept h.kept_is full) ∙ ap (nat_lt 256) (sym (length-append text (byte ∷ [])));
   given = h.given ∙ ap (prepend_known text) given ∙ prepend_known-append left text (byte ∷ []);

@@ -11,14 +11,16 @@ use Rattle.std.specs.Io.KnownBytes.{prepend_known, append_known, IsAtEnd}
 use Rattle.ifs_image.specs.declared.parts.ImageParts.{ImageParts}
 use Rattle.ifs_core.specs.Event.{Behaviour}
 use Rattle.ifs_core.specs.Steps.{CoreState}
-use Rattle.ifs_session.specs.Session.{LineGives, lines_of, whole_lines, onto_line, IsPlain, ending, Intake, ReadsLine, ReadsNothing, ReadFails, ReadsTooMuch}
+use Rattle.ifs_session.specs.Inner.Reading.{LineGives, HasNoNewline, Intake, ReadsLine, ReadsNothing, ReadFails, ReadsTooMuch}
+use Rattle.ifs_session.specs.Lines.{lines_of, whole_lines, onto_line, ending}
 use Rattle.ifs_session.specs.Requests.{Asked, ALink, AResult, ATick, ATake, AStatus, ATrace, AStop, AFault, asked, short_asked}
 use Rattle.ifs_session.specs.declared.request.RequestFault.TheVariants.{TooLong}
-use Rattle.ifs_session.specs.declared.session.Kind.{Kind}
-use Rattle.ifs_session.specs.declared.session.Kind.TheVariants as kinds
+use Rattle.ifs_session.specs.declared.session.LineKind.{LineKind}
+use Rattle.ifs_session.specs.declared.session.LineKind.TheVariants as kinds
 use Rattle.ifs_session.specs.declared.lines.Line.{Line}
 use Rattle.ifs_core.specs.Gateway.{OpenCore}
-use Rattle.ifs_session.specs.SessionText.{SessionGives, deed, kept_asked, kind_of, with_line, replies, after_lines, is_step, is_stop, GoOn, OnlyLastMayStop, Moment, Ends, EndsLine, EndsLines, Completes, BreaksReading, BreaksWriting, ReadsPast}
+use Rattle.ifs_session.specs.Sessions.{SessionGives, deed, replies, after_lines, is_step, is_stop, GoOn, OnlyLastMayStop, Moment, Closes, EndsLine, EndsLines, Completes, BreaksReading, BreaksWriting, ReadsPast}
+use Rattle.ifs_session.specs.Inner.Serving.{kept_asked, kind_of, with_line}
 use Rattle.ifs_session.proofs.Known.{prepend_known-append, prepend_known-nil, append_known-append, append_known-nil}
 
 -- ---- lines
@@ -31,7 +33,7 @@ unlines (line ∷ lines) = line ++ 10 ∷ unlines lines
 -- Each of these lines is without newline.
 abbrev pub ArePlain : List (List ℕ) → Type 0
 ArePlain [] = Unit {0}
-ArePlain (line ∷ lines) = IsPlain line × ArePlain lines
+ArePlain (line ∷ lines) = HasNoNewline line × ArePlain lines
 
 -- A byte that is no newline goes on a line.
 short_length : (n : ℕ) → false ≡ nat_lt 256 n → n ≤ 256
@@ -40,24 +42,24 @@ short_length n h = grind (arith, nat_tests)
 other_byte : {X : Type 0} (byte : ℕ) (x y : X) → byte ≢ 10 → cond (byte == 10) x y ≡ y
 other_byte byte x y h = grind (arith, nat_tests)
 
-lines_of-ended : (text rest : List ℕ) → IsPlain text → lines_of (text ++ 10 ∷ rest) ≡ text ∷ lines_of rest
+lines_of-ended : (text rest : List ℕ) → HasNoNewline text → lines_of (text ++ 10 ∷ rest) ≡ text ∷ lines_of rest
 lines_of-ended [] rest plain = refl
 lines_of-ended (byte ∷ text) rest plain =
     other_byte byte _ _ plain.0 ∙ ap (onto_first byte) (lines_of-ended text rest plain.1)
 
-whole_lines-ended : (text rest : List ℕ) → IsPlain text → whole_lines (text ++ 10 ∷ rest) ≡ text ∷ whole_lines rest
+whole_lines-ended : (text rest : List ℕ) → HasNoNewline text → whole_lines (text ++ 10 ∷ rest) ≡ text ∷ whole_lines rest
 whole_lines-ended [] rest plain = refl
 whole_lines-ended (byte ∷ text) rest plain =
     other_byte byte _ _ plain.0 ∙ ap (onto_line byte) (whole_lines-ended text rest plain.1)
 
 -- A rest without newline is a line if it has a byte, and no whole line.
-lines_of-rest : (text : List ℕ) → IsPlain text → 0 < length text → lines_of text ≡ text ∷ []
+lines_of-rest : (text : List ℕ) → HasNoNewline text → 0 < length text → lines_of text ≡ text ∷ []
 lines_of-rest [] plain some = absurd (omega arith)
 lines_of-rest (byte ∷ []) plain some = other_byte byte _ _ plain.0
 lines_of-rest (byte ∷ other ∷ text) plain some =
     other_byte byte _ _ plain.0 ∙ ap (onto_first byte) (lines_of-rest (other ∷ text) plain.1 (omega arith))
 
-whole_lines-rest : (text : List ℕ) → IsPlain text → whole_lines text ≡ []
+whole_lines-rest : (text : List ℕ) → HasNoNewline text → whole_lines text ≡ []
 whole_lines-rest [] plain = refl
 whole_lines-rest (byte ∷ text) plain = other_byte byte _ _ plain.0 ∙ ap (onto_line byte) (whole_lines-rest text plain.1)
 
@@ -68,7 +70,7 @@ lines_of-unlines (line ∷ lines) rest plain =
     ∙ lines_of-ended line (unlines lines ++ rest) plain.0
     ∙ ap (λ ls. line ∷ ls) (lines_of-unlines lines rest plain.1)
 
-pub whole_lines-unlines : (lines : List (List ℕ)) (rest : List ℕ) → ArePlain lines → IsPlain rest → whole_lines (unlines lines ++ rest) ≡ lines
+pub whole_lines-unlines : (lines : List (List ℕ)) (rest : List ℕ) → ArePlain lines → HasNoNewline rest → whole_lines (unlines lines ++ rest) ≡ lines
 whole_lines-unlines [] rest plain rest_plain = whole_lines-rest rest rest_plain
 whole_lines-unlines (line ∷ lines) rest plain rest_plain =
     ap whole_lines (append_assoc line (10 ∷ unlines lines) rest)
@@ -79,7 +81,7 @@ unlines-push : (lines : List (List ℕ)) (text : List ℕ) → unlines (lines ++
 unlines-push [] text = refl
 unlines-push (line ∷ lines) text = ap (λ rest. line ++ 10 ∷ rest) (unlines-push lines text) ∙ sym (append_assoc line (10 ∷ unlines lines) (text ++ 10 ∷ []))
 
-ArePlain-push : (lines : List (List ℕ)) (text : List ℕ) → ArePlain lines → IsPlain text → ArePlain (lines ++ text ∷ [])
+ArePlain-push : (lines : List (List ℕ)) (text : List ℕ) → ArePlain lines → HasNoNewline text → ArePlain (lines ++ text ∷ [])
 ArePlain-push [] text plain last = (last, tt)
 ArePlain-push (line ∷ lines) text plain last = (plain.0, ArePlain-push lines text plain.1 last)
 
@@ -165,10 +167,10 @@ underway_start b now = record {
 }
 
 -- What was written has gone out.
-pub underway_settled : {b : Behaviour} {lines : List (List ℕ)} {summary : Summary} {budget : ℕ} {before now : Moment} (written : Option (List ℕ)) (faults : Option ℕ)
+pub underway_flushed : {b : Behaviour} {lines : List (List ℕ)} {summary : Summary} {budget : ℕ} {before now : Moment} (written : Option (List ℕ)) (faults : Option ℕ)
     → Underway b lines summary budget before now → (written ≡ append_known now.written []) × (faults ≡ now.write_faults)
     → Underway b lines summary budget before (record { core = now.core; left = now.left; written = written; read_faults = now.read_faults; write_faults = faults })
-underway_settled {now = now} written faults u put = record {
+underway_flushed {now = now} written faults u put = record {
   plain = u.plain;
   on = u.on;
   given = u.given;
@@ -187,10 +189,10 @@ all_lines : (lines : List (List ℕ)) → ArePlain lines → lines_of (unlines l
 all_lines lines plain = ap lines_of (sym (append-nil (unlines lines))) ∙ lines_of-unlines lines [] plain ∙ append-nil lines
 
 -- What was written could not go out.
-pub settling_fails : {b : Behaviour} {lines : List (List ℕ)} {summary : Summary} {budget : ℕ} {before now : Moment} (written : Option (List ℕ)) (faults : Option ℕ)
+pub flushing_fails : {b : Behaviour} {lines : List (List ℕ)} {summary : Summary} {budget : ℕ} {before now : Moment} (written : Option (List ℕ)) (faults : Option ℕ)
     → Underway b lines summary budget before now → faults ≡ counted now.write_faults
     → BreaksWriting b (unlines lines) before (record { core = now.core; left = now.left; written = written; read_faults = now.read_faults; write_faults = faults })
-settling_fails {b} {lines} {before = before} {now} written faults u one = record {
+flushing_fails {b} {lines} {before = before} {now} written faults u one = record {
   read = record { given = u.given; within = omega (arith, u.spent) };
   whole = unlines-ends_lines lines now.left;
   served = record { image = u.image; state = u.state ∙ ap (λ ls. after_lines b before.core.image ls before.core.state) (sym (all_lines lines u.plain)) };
@@ -232,7 +234,7 @@ reading_past {b} {lines} {before = before} text byte after u r =
       go_on = subst GoOn whole u.on;
     }
 
-ends_running : (stopped : Bool) (input : List ℕ) (after : Moment) → stopped ≡ false → GoOn (lines_of input) × IsAtEnd after.left → Ends stopped input after
+ends_running : (stopped : Bool) (input : List ℕ) (after : Moment) → stopped ≡ false → GoOn (lines_of input) × IsAtEnd after.left → Closes stopped input after
 ends_running false input after e end = end
 ends_running true input after e end = cc
 
@@ -308,7 +310,7 @@ counted_line image AStop s running = record { requests = refl; steps = omega ari
 counted_line image (AFault fault) s running = counted_other image (AFault fault) false s refl refl running
 
 -- The last line of an input, whatever ends it.
-last_line : (text : List ℕ) (ended : Bool) (P : Type 0) → IsPlain text → (ended ≡ false → (0 < length text) × P) → lines_of (text ++ ending ended) ≡ text ∷ []
+last_line : (text : List ℕ) (ended : Bool) (P : Type 0) → HasNoNewline text → (ended ≡ false → (0 < length text) × P) → lines_of (text ++ ending ended) ≡ text ∷ []
 last_line text true P plain last = lines_of-ended text [] plain
 last_line text false P plain last = ap lines_of (append-nil text) ∙ lines_of-rest text plain (last refl).0
 
@@ -368,7 +370,7 @@ pub record Replies (b : Behaviour) (lines : List (List ℕ)) (text : List ℕ) (
   pub steps : summary.steps ≡ count_by (λ line. is_step before.core.image (asked line)) (lines ++ text ∷ [])
   pub stopped : summary.stopped ≡ is_stop (asked text)
 
-pub replied_to : {b : Behaviour} {lines : List (List ℕ)} {summary : Summary} {budget : ℕ} {before now : Moment} {line : Line} {text : List ℕ} {start after : Intake} (next : Summary) (kind : Kind) (written : Option (List ℕ)) (faults : Option ℕ)
+pub replied_to : {b : Behaviour} {lines : List (List ℕ)} {summary : Summary} {budget : ℕ} {before now : Moment} {line : Line} {text : List ℕ} {start after : Intake} (next : Summary) (kind : LineKind) (written : Option (List ℕ)) (faults : Option ℕ)
     → Underway b lines summary budget before now → ReadsLine line text start after
     → (written ≡ append_known now.written (deed b now.core.image (kept_asked line) now.core.state).reply) × (faults ≡ now.write_faults)
     → kind ≡ kind_of now.core.image (kept_asked line) → next ≡ with_line kind summary
@@ -391,14 +393,14 @@ replied_to {b} {lines} {summary} {before = before} {now} {line} {text} next kind
     }
 
 ends_stopped : (lines : List (List ℕ)) (text input : List ℕ) (after : Moment) (stopped : Bool) → stopped ≡ true → lines_of input ≡ lines ++ text ∷ [] → GoOn lines → is_stop (asked text) ≡ true → EndsLine input after.left
-    → Ends stopped input after
+    → Closes stopped input after
 ends_stopped lines text input after true e are on stop line = (lines, text, are, on, stop, line)
 ends_stopped lines text input after false e are on stop line = cc
 
 -- The line was `stop`, or the input ended with it.
 session_ends : {b : Behaviour} {lines : List (List ℕ)} {text input : List ℕ} {next : Summary} {before : Moment} {core : OpenCore} {after : Intake} {written : Option (List ℕ)} {faults : Option ℕ}
     → Advances b lines text input before core after → Replies b lines text next before written faults
-    → Ends next.stopped input (record { core = core; left = after.left; written = written; read_faults = after.faults; write_faults = faults })
+    → Closes next.stopped input (record { core = core; left = after.left; written = written; read_faults = after.faults; write_faults = faults })
     → Completes b next input before (record { core = core; left = after.left; written = written; read_faults = after.faults; write_faults = faults })
 session_ends {b} {before = before} a p end = record {
   read = record { given = a.given; within = omega (arith, a.spent) };
@@ -456,17 +458,17 @@ session_goes_on {lines = lines} {line = line} {text = text} {after = after} u r 
 
 -- ---- counts, and what is written at the end
 
-pub line_total : (kind : Kind) (s next : Summary) → next ≡ with_line kind s → next.requests ≡ s.requests + 1
+pub line_total : (kind : LineKind) (s next : Summary) → next ≡ with_line kind s → next.requests ≡ s.requests + 1
 line_total kinds.Step s next e = ap (λ x. x.requests) e
 line_total kinds.Other s next e = ap (λ x. x.requests) e
 line_total kinds.Stop s next e = ap (λ x. x.requests) e
 
-pub line_steps : (kind : Kind) (s next : Summary) → next ≡ with_line kind s → next.steps ≤ s.steps + 1
+pub line_steps : (kind : LineKind) (s next : Summary) → next ≡ with_line kind s → next.steps ≤ s.steps + 1
 line_steps kinds.Step s next e = omega (arith, ap (λ x. x.steps) e)
 line_steps kinds.Other s next e = omega (arith, ap (λ x. x.steps) e)
 line_steps kinds.Stop s next e = omega (arith, ap (λ x. x.steps) e)
 
-ends_alike : (stopped : Bool) (input : List ℕ) (now after : Moment) → after.left ≡ now.left → Ends stopped input now → Ends stopped input after
+ends_alike : (stopped : Bool) (input : List ℕ) (now after : Moment) → after.left ≡ now.left → Closes stopped input now → Closes stopped input after
 ends_alike false input now after same end = (end.0, subst IsAtEnd (sym same) end.1)
 ends_alike true input now after same end = (end.0, end.1, end.2, end.3, end.4, subst (EndsLine input) (sym same) end.5)
 
@@ -488,11 +490,11 @@ out_flushed {summary = summary} {now = now} written faults (input, done) put = (
 )
 
 -- Input that a session ended with was read to the end of a line, and only its last line may ask for the end.
-ends_lines : (stopped : Bool) (input : List ℕ) (now : Moment) → Ends stopped input now → EndsLines input now.left
+ends_lines : (stopped : Bool) (input : List ℕ) (now : Moment) → Closes stopped input now → EndsLines input now.left
 ends_lines false input now end = inr (inr end.1)
 ends_lines true input now end = inr end.5
 
-ends_may_stop : (stopped : Bool) (input : List ℕ) (now : Moment) → Ends stopped input now → OnlyLastMayStop (lines_of input)
+ends_may_stop : (stopped : Bool) (input : List ℕ) (now : Moment) → Closes stopped input now → OnlyLastMayStop (lines_of input)
 ends_may_stop false input now end = GoOn-may_stop (lines_of input) end.0
 ends_may_stop true input now end = subst OnlyLastMayStop (sym end.2) (may_stop-push end.0 end.1 end.3)
 

@@ -4,7 +4,7 @@ use Rattle.std.specs.Io.KnownBytes.{prepend_known, IsAtEnd}
 use Rattle.ifs_session.specs.declared.hexadecimal.HexFault.{HexFault}
 use Rattle.ifs_session.specs.declared.hexadecimal.HexFault.TheVariants.{Broken, Memory, NotRead}
 use Rattle.ifs_session.specs.Device.{Feed, counted}
-use Rattle.ifs_session.specs.Session.{ending}
+use Rattle.ifs_session.specs.Lines.{ending}
 use Rattle.ifs_session.specs.Words.{hex_digit}
 
 -- The hexadecimal digits of bytes, two each, the high one first.
@@ -25,14 +25,6 @@ pub record Takes (text : List ℕ) (before after : Feed) : Type 0 where
 abbrev pub EndsAt : Bool → Feed → Type 0
 EndsAt true after = Unit {0}
 EndsAt false after = IsAtEnd after.left
-
--- What the reading of a digit gives: the digit, or none at the end of the line.
-abbrev pub DigitGives : Result (Option ℕ) HexFault → Feed → Feed → Type 0
-DigitGives (Ok (Some digit)) before after = (digit < 16) × Takes (hex_digit digit ∷ []) before after
-DigitGives (Ok None) before after = (ended : Bool) × Takes (ending ended) before after × EndsAt ended after
-DigitGives (Err Broken) before after = (byte : ℕ) × Takes (byte ∷ []) before after × IsNoDigit byte × (byte ≢ 10)
-DigitGives (Err NotRead) before after = (after.left ≡ before.left) × (after.faults ≡ counted before.faults)
-DigitGives (Err Memory) before after = ⊥
 
 -- The high digit of a byte that is only begun, if there is one.
 abbrev pub high_digit : Option ℕ → List ℕ

@@ -1,10 +1,12 @@
-pub mod Buffer
-pub mod Device
-pub mod Hexadecimal
-pub mod Memory
-pub mod Replies
-pub mod Requests
+-- From the top down: a run, a session, its lines, their requests and replies, and what these stand on.
 pub mod Runs
-pub mod Session
-pub mod SessionText
+pub mod Sessions
+pub mod Lines
+pub mod Requests
+pub mod Replies
 pub mod Words
+pub mod Hexadecimal
+pub mod Device
+pub mod Memory
+pub mod Buffer
+pub mod Inner

@@ -21,11 +21,11 @@ use Rattle.ifs_session.specs.declared.request.RequestFault.TheVariants.{NoReques
 use Rattle.ifs_session.specs.Words.{quoted, listed}
 
 -- The name of a state of an image, and the text of a command.
-abbrev pub name_of : ImageParts → ℕ → List ℕ
-name_of image state = unwrap_or (option_map (λ s. s.name) (slice_get image.states state)) []
+abbrev pub state_name : ImageParts → ℕ → List ℕ
+state_name image state = unwrap_or (option_map (λ s. s.name) (slice_get image.states state)) []
 
-abbrev pub text_of : ImageParts → ℕ → List ℕ
-text_of image command = unwrap_or (slice_get image.commands command) []
+abbrev pub command_text : ImageParts → ℕ → List ℕ
+command_text image command = unwrap_or (slice_get image.commands command) []
 
 -- The numbers of commands.
 abbrev pub command_numbers : List CommandId → List (List ℕ)
@@ -34,7 +34,7 @@ command_numbers commands = map (λ command. decimal command.0) commands
 -- A state, a cost and the queued commands of an evaluation.
 abbrev pub evaluation_words : ImageParts → ℕ → ℕ → List CommandId → List ℕ
 evaluation_words image state cost commands =
-    quoted (name_of image state) ++ codes " cost " ++ decimal cost ++ codes " queue " ++ listed (command_numbers commands)
+    quoted (state_name image state) ++ codes " cost " ++ decimal cost ++ codes " queue " ++ listed (command_numbers commands)
 
 -- A test and the number of its run.
 abbrev pub start_word : Start → List ℕ
@@ -60,7 +60,7 @@ tick_line evaluated evaluation starts = line_of (codes "tick " ++ before_starts 
 
 -- The line of a command that was taken.
 abbrev pub taken_line : ImageParts → ℕ → List ℕ
-taken_line image command = line_of (codes "taken " ++ decimal command ++ codes " " ++ quoted (text_of image command))
+taken_line image command = line_of (codes "taken " ++ decimal command ++ codes " " ++ quoted (command_text image command))
 
 -- The line of a reply to a step.
 abbrev pub reply_line : ImageParts → Reply → List ℕ
@@ -87,7 +87,7 @@ status_numbers s = codes " queue " ++ decimal (length s.queue)
 
 -- The line of a status.
 abbrev pub status_line : ImageParts → CoreState → List ℕ
-status_line image s = line_of (codes "status " ++ quoted (name_of image s.position.current.0)
+status_line image s = line_of (codes "status " ++ quoted (state_name image s.position.current.0)
     ++ codes " owed " ++ yes_or_no s.position.owed ++ status_numbers s)
 
 -- A link state.
@@ -116,7 +116,7 @@ answer_word answers.Taken = codes "taken"
 
 -- What a record says of the answer: its name, the state after it, the cost and the number of commands queued.
 abbrev pub answer_words : ImageParts → Record → List ℕ
-answer_words image r = answer_word r.answer ++ codes " " ++ quoted (name_of image r.state.0)
+answer_words image r = answer_word r.answer ++ codes " " ++ quoted (state_name image r.state.0)
     ++ codes " cost " ++ decimal r.cost ++ codes " queue " ++ decimal r.queued
 
 -- The line of a record of the trace.

@@ -1,5 +1,5 @@
 -- Requests: what a line asks for, or its fault.
-use Rattle.std.specs.Prelude.{ℕ, ◌+◌, ◌-◌, ◌*◌, ◌^◌, Bool, true, false, ◌&&◌, ◌==◌, nat_lt, if◌then◌else◌, List, [], ◌∷◌, length, take, drop, codes, Option, Some, None, Result, Ok, Err}
+use Rattle.std.specs.Prelude.{ℕ, ◌+◌, ◌-◌, ◌*◌, ◌^◌, Bool, true, false, ◌&&◌, ◌==◌, nat_lt, if◌then◌else◌, List, [], ◌∷◌, length, take, drop, codes, Option, Some, None}
 use Rattle.std.specs.Char.{is_ascii_digit}
 use Rattle.std.specs.List.{before_first, after_first}
 use Rattle.std.specs.Str.{bytes_eq}
@@ -7,10 +7,6 @@ use Rattle.ifs_base.specs.declared.op.LinkState.{LinkState}
 use Rattle.ifs_base.specs.declared.op.LinkState.TheVariants.{Unknown, Down, Up}
 use Rattle.ifs_session.specs.declared.request.RequestFault.{RequestFault}
 use Rattle.ifs_session.specs.declared.request.RequestFault.TheVariants.{NoRequest, TooLong, OutOfRange}
-use Rattle.ifs_session.specs.declared.request.Number.{Number}
-use Rattle.ifs_session.specs.declared.request.Number.TheVariants.{Within, TooGreat}
-use Rattle.ifs_session.specs.declared.request.Request.{Request}
-use Rattle.ifs_session.specs.declared.request.Request.TheVariants as requests
 
 -- What a line asks for, or its fault.
 pub data Asked : Type 0 where
@@ -39,11 +35,11 @@ link_named [] link = AFault NoRequest
 link_named (byte ∷ name) link = ALink (byte ∷ name) link
 
 -- Whether a text begins with a word, and whether it ends with one.
-abbrev pub begins : List ℕ → List ℕ → Bool
-begins word text = bytes_eq (take (length word) text) word
+abbrev pub begins_with : List ℕ → List ℕ → Bool
+begins_with word text = bytes_eq (take (length word) text) word
 
-abbrev pub ends : List ℕ → List ℕ → Bool
-ends word text = bytes_eq (drop (length text - length word) text) word
+abbrev pub ends_with : List ℕ → List ℕ → Bool
+ends_with word text = bytes_eq (drop (length text - length word) text) word
 
 -- What stands after the word that a text begins with, and before the one that it ends with.
 abbrev pub after_word : List ℕ → List ℕ → List ℕ
@@ -55,9 +51,9 @@ before_word word text = take (length text - length word) text
 -- What is asked by `link` and this: a name, a space and a link state.
 abbrev pub link_asked : List ℕ → Asked
 link_asked text =
-    if ends (codes " up") text then link_named (before_word (codes " up") text) Up else
-    if ends (codes " down") text then link_named (before_word (codes " down") text) Down else
-    if ends (codes " unknown") text then link_named (before_word (codes " unknown") text) Unknown else
+    if ends_with (codes " up") text then link_named (before_word (codes " up") text) Up else
+    if ends_with (codes " down") text then link_named (before_word (codes " down") text) Down else
+    if ends_with (codes " unknown") text then link_named (before_word (codes " unknown") text) Unknown else
     AFault NoRequest
 
 -- What is asked by `result`, a test, a run and a value: the test's number is below 2 ^ 16, the run's below 2 ^ 64.
@@ -74,8 +70,8 @@ result_valued text value =
 -- What is asked by `result` and this: two numbers, and `ok` or `fail`.
 abbrev pub result_asked : List ℕ → Asked
 result_asked text =
-    if ends (codes " ok") text then result_valued (before_word (codes " ok") text) true else
-    if ends (codes " fail") text then result_valued (before_word (codes " fail") text) false else
+    if ends_with (codes " ok") text then result_valued (before_word (codes " ok") text) true else
+    if ends_with (codes " fail") text then result_valued (before_word (codes " fail") text) false else
     AFault NoRequest
 
 -- What is asked by `tick` and a number, which is below 2 ^ 64.
@@ -95,37 +91,11 @@ word_asked word =
 -- What is asked by a line that is not too long.
 abbrev pub short_asked : List ℕ → Asked
 short_asked line =
-    if begins (codes "link ") line then link_asked (after_word (codes "link ") line) else
-    if begins (codes "result ") line then result_asked (after_word (codes "result ") line) else
-    if begins (codes "tick ") line then tick_asked (number_of (after_word (codes "tick ") line)) else
+    if begins_with (codes "link ") line then link_asked (after_word (codes "link ") line) else
+    if begins_with (codes "result ") line then result_asked (after_word (codes "result ") line) else
+    if begins_with (codes "tick ") line then tick_asked (number_of (after_word (codes "tick ") line)) else
     word_asked line
 
 -- What a line asks for, or its fault: a line of over 256 bytes is too long, whatever it says.
 abbrev pub asked : List ℕ → Asked
 asked line = if nat_lt 256 (length line) then AFault TooLong else short_asked line
-
--- What an answer of the parser says.
-abbrev pub told_by : Result Request RequestFault → Asked
-told_by (Ok (requests.Link name link)) = ALink name.now link
-told_by (Ok (requests.Result test run value)) = AResult test.0 run value
-told_by (Ok (requests.Tick moment)) = ATick moment
-told_by (Ok requests.Take) = ATake
-told_by (Ok requests.Status) = AStatus
-told_by (Ok requests.Trace) = ATrace
-told_by (Ok requests.Stop) = AStop
-told_by (Err fault) = AFault fault
-
--- What is kept of a number: itself, or that it is too great.
-abbrev pub sized : ℕ → Number
-sized n = if nat_lt n (2 ^ 64) then Within n else TooGreat
-
--- What is asked by `result` with these numbers, of which enough is kept.
-abbrev pub result_kept : Option Number → Option Number → Bool → Asked
-result_kept (Some (Within test)) (Some (Within run)) value = if nat_lt test (2 ^ 16) then AResult test run value else AFault OutOfRange
-result_kept (Some _) (Some _) value = AFault OutOfRange
-result_kept _ _ value = AFault NoRequest
-
--- A number with one more digit at its end, where it is below 2 ^ 64.
-abbrev pub with_digit : Option ℕ → ℕ → Option ℕ
-with_digit None digit = None
-with_digit (Some n) digit = if nat_lt (10 * n + digit) (2 ^ 64) then Some (10 * n + digit) else None

@@ -19,13 +19,11 @@ use Rattle.ifs_session.specs.declared.fault.RunFault.{RunFault}
 use Rattle.ifs_session.specs.declared.fault.RunFault.TheVariants.{X1, Verify, Memory, Session}
 use Rattle.ifs_session.specs.declared.refusal.Refusal.{Refusal}
 use Rattle.ifs_session.specs.declared.refusal.Refusal.TheVariants as refusals
-use Rattle.ifs_session.specs.declared.running.Unopened.{Unopened}
-use Rattle.ifs_session.specs.declared.running.Unopened.TheVariants.{Refused, NotRead}
 use Rattle.ifs_session.specs.declared.hexadecimal.HexFault.TheVariants as hex_faults
 use Rattle.ifs_session.specs.declared.session.Summary.{Summary}
 use Rattle.ifs_session.specs.Device.{counted, Feed, Sink, HoldsNothing}
 use Rattle.ifs_session.specs.Hexadecimal.{HexGives}
-use Rattle.ifs_session.specs.SessionText.{Moment, SessionGives}
+use Rattle.ifs_session.specs.Sessions.{Moment, SessionGives}
 
 -- A place in an image.
 abbrev pub place_words : At → List ℕ
@@ -79,36 +77,17 @@ fault_of refusals.Broken = X1
 fault_of (refusals.NotAccepted fault) = Verify fault
 fault_of refusals.Memory = Memory
 
--- What a refusal gives: its fault, after its line was written and has gone out; or that the write failed.
-abbrev pub RefuseGives : Refusal → RunFault → Sink → Sink → Type 0
-RefuseGives refusal result before after =
-    ((result ≡ fault_of refusal) × (after.written ≡ append_known before.written (refused_line refusal)) × (after.faults ≡ before.faults) × HoldsNothing after.held)
-    ⊎ ((result ≡ Session WriteFailed) × (after.faults ≡ counted before.faults))
-
 -- A core stands at the opening of the image that these bytes spell, which is accepted.
 pub record OpensImage (bytes : List ℕ) (core : OpenCore) : Type 0 where
   pub spelled : Spells bytes core.image
   pub accepted : IsAccepted core.image
   pub state_is : (b : Behaviour) → IsBehaviour core.image b → core.state ≡ opened b core.image
 
--- What the opening of the image that bytes spell gives: a core, or why there is none.
-abbrev pub ImageGives : List ℕ → Result OpenCore Refusal → Type 0
-ImageGives bytes (Ok core) = OpensImage bytes core
-ImageGives bytes (Err (refusals.NotAccepted fault)) = IsRefusal bytes fault
-ImageGives bytes (Err refusals.Memory) = Unit {0}
-ImageGives bytes (Err refusals.Broken) = ⊥
-
 -- Why the first line is refused: it breaks its rule; or the bytes that it spells are not accepted; or no memory was found, in the line or after it.
 abbrev pub LineRefused : Refusal → Feed → Feed → Type 0
 LineRefused refusals.Broken before after = HexGives (Err hex_faults.Broken) before after
 LineRefused (refusals.NotAccepted fault) before after = (bytes : List ℕ) × HexGives (Ok bytes) before after × IsRefusal bytes fault
 LineRefused refusals.Memory before after = HexGives (Err hex_faults.Memory) before after ⊎ ((bytes : List ℕ) × HexGives (Ok bytes) before after)
-
--- What the opening of the image of the first line gives: a core at its opening, or why there is none.
-abbrev pub OpenGives : Result OpenCore Unopened → Feed → Feed → Type 0
-OpenGives (Ok core) before after = (bytes : List ℕ) × HexGives (Ok bytes) before after × OpensImage bytes core
-OpenGives (Err (Refused refusal)) before after = LineRefused refusal before after
-OpenGives (Err NotRead) before after = HexGives (Err hex_faults.NotRead) before after
 
 -- A reader and a writer, by what they tell.
 pub record Streams : Type 0 where
@@ -124,7 +103,9 @@ pub record Runs (result : Result Summary SessionFault) (before after : Streams) 
   pub opening : OpenCore
   pub ending : OpenCore
   pub start : Streams
-  pub opens : OpenGives (Ok opening) before.feed start.feed
+  pub bytes : List ℕ
+  pub line : HexGives (Ok bytes) before.feed start.feed
+  pub opens : OpensImage bytes opening
   pub same_sink : start.sink ≡ before.sink
   pub session : (b : Behaviour) → IsBehaviour opening.image b → SessionGives b result (moment opening start) (moment ending after)
   pub out : result ≢ Err WriteFailed → HoldsNothing after.sink.held

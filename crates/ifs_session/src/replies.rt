@@ -4,7 +4,7 @@ ghost use Rattle.std.specs.Prelude.{◌≡◌, ◌<◌, decimal, map, length};
 ghost use Rattle.std.specs.List.{flat_map};
 ghost use Rattle.ifs_session.specs.Device.{PutGives};
 ghost use Rattle.ifs_session.specs.Words.{listed, quoted};
-ghost use Rattle.ifs_session.specs.Replies.{name_of, text_of, evaluation_words, start_word, starts_words, before_starts, taken_line, reply_line, status_numbers, status_line, yes_or_no, link_word, value_word, step_words, answer_word, answer_words, record_line, trace_lines, fault_line};
+ghost use Rattle.ifs_session.specs.Replies.{state_name, command_text, evaluation_words, start_word, starts_words, before_starts, taken_line, reply_line, status_numbers, status_line, yes_or_no, link_word, value_word, step_words, answer_word, answer_words, record_line, trace_lines, fault_line};
 
 use crate::device::{ByteOut, DeviceFault};
 use crate::request::RequestFault;
@@ -15,7 +15,7 @@ use ifs_sched::Start;
 
 /// Writes the name of a state in quotes.
 fn put_state<W: ByteOut>(out: &mut W, core: &Core, state: StateId) -> Result<(), DeviceFault>
-    ensures { PutGives result (quoted (name_of core.now.image state.0)) (W.written out.old) (W.written out.new) (W.faults out.old) (W.faults out.new) }
+    ensures { PutGives result (quoted (state_name core.now.image state.0)) (W.written out.old) (W.written out.new) (W.faults out.old) (W.faults out.new) }
 {
     let name = match core.state_name(state) {
         Some(name) => name.as_bytes(),
@@ -26,7 +26,7 @@ fn put_state<W: ByteOut>(out: &mut W, core: &Core, state: StateId) -> Result<(),
 
 /// Writes the text of a command in quotes.
 fn put_command<W: ByteOut>(out: &mut W, core: &Core, command: CommandId) -> Result<(), DeviceFault>
-    ensures { PutGives result (quoted (text_of core.now.image command.0)) (W.written out.old) (W.written out.new) (W.faults out.old) (W.faults out.new) }
+    ensures { PutGives result (quoted (command_text core.now.image command.0)) (W.written out.old) (W.written out.new) (W.faults out.old) (W.faults out.new) }
 {
     let text = match core.command_text(command) {
         Some(text) => text.as_bytes(),

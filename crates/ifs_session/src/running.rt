@@ -1,7 +1,8 @@
 //! Runs of an image that comes as the first line of the input.
 
 ghost use Rattle.std.specs.Prelude.{◌≡◌};
-ghost use Rattle.ifs_session.specs.Runs.{ImageGives, OpenGives, RunGives};
+ghost use Rattle.ifs_session.specs.Inner.Opening.{ImageGives, OpenGives};
+ghost use Rattle.ifs_session.specs.Runs.{RunGives};
 
 use crate::device::{ByteIn, ByteOut};
 use crate::fault::{RunFault, SessionFault};

@@ -4,8 +4,10 @@ ghost use Rattle.std.specs.Prelude.{◌≡◌, ◌≢◌, ◌⊎◌, ◌+◌, �
 ghost use Rattle.ifs_core.specs.Event.{Behaviour};
 ghost use Rattle.ifs_core.specs.Machine.{IsBehaviour};
 ghost use Rattle.ifs_session.specs.Device.{PutGives, HasLine, HoldsNothing};
-ghost use Rattle.ifs_session.specs.Requests.{ALink, told_by};
-ghost use Rattle.ifs_session.specs.SessionText.{deed, step_deed, kind_of, kept_asked, with_line, ServeGives, SessionGives};
+ghost use Rattle.ifs_session.specs.Requests.{ALink};
+ghost use Rattle.ifs_session.specs.Inner.Parsing.{told_by};
+ghost use Rattle.ifs_session.specs.Sessions.{deed, step_deed, SessionGives};
+ghost use Rattle.ifs_session.specs.Inner.Serving.{kind_of, kept_asked, with_line, ServeGives};
 
 use crate::device::{ByteIn, ByteOut, DeviceFault};
 use crate::fault::SessionFault;
@@ -31,7 +33,7 @@ pub struct Summary {
 
 /// What a line was.
 #[derive(Clone, Copy, Debug, PartialEq, Eq)]
-pub(crate) enum Kind {
+pub(crate) enum LineKind {
     /// A step of the core.
     Step,
     /// A question, or no request.
@@ -64,7 +66,7 @@ pub fn simulate<R: ByteIn, W: ByteOut>(
     };
     let mut budget = INPUT;
     'lines: loop {
-        let Ok(()) = settle(reader, writer, budget) else {
+        let Ok(()) = flush_before_wait(reader, writer, budget) else {
             return Err(SessionFault::WriteFailed);
         };
         let Some(line) = next_line(reader, &mut budget)? else {
@@ -85,7 +87,11 @@ pub fn simulate<R: ByteIn, W: ByteOut>(
 
 /// Sees that what was written has gone out, unless the next line, within the bytes that may be read,
 /// can be read without waiting.
-fn settle<R: ByteIn, W: ByteOut>(reader: &R, writer: &mut W, budget: u32) -> Result<(), DeviceFault>
+fn flush_before_wait<R: ByteIn, W: ByteOut>(
+    reader: &R,
+    writer: &mut W,
+    budget: u32,
+) -> Result<(), DeviceFault>
     ensures puts { PutGives result [] (W.written writer.old) (W.written writer.new) (W.faults writer.old) (W.faults writer.new) }
     ensures out { OnOk result (HasLine budget (R.ready reader.now) ⊎ HoldsNothing (W.held writer.new)) }
 {
@@ -96,21 +102,21 @@ fn settle<R: ByteIn, W: ByteOut>(reader: &R, writer: &mut W, budget: u32) -> Res
 }
 
 /// Counts a line of this kind.
-fn count(summary: &mut Summary, kind: Kind)
+fn count(summary: &mut Summary, kind: LineKind)
     requires requests { summary.old.requests + 1 < 2 ^ 32 }
     requires steps { summary.old.steps + 1 < 2 ^ 32 }
     ensures { summary.new ≡ with_line kind summary.old }
 {
     summary.requests += 1;
     match kind {
-        Kind::Step => summary.steps += 1,
-        Kind::Other => {}
-        Kind::Stop => summary.stopped = true,
+        LineKind::Step => summary.steps += 1,
+        LineKind::Other => {}
+        LineKind::Stop => summary.stopped = true,
     }
 }
 
 /// Serves a line, and says of what kind it was.
-fn serve<W: ByteOut>(core: &mut Core, writer: &mut W, line: &Line) -> Result<Kind, DeviceFault>
+fn serve<W: ByteOut>(core: &mut Core, writer: &mut W, line: &Line) -> Result<LineKind, DeviceFault>
     ensures image { core.new.image ≡ core.old.image }
     ensures served { (b : Behaviour) → IsBehaviour core.old.image b
         → ServeGives (deed b core.old.image (kept_asked line.now) core.old.state) (kind_of core.old.image (kept_asked line.now)) result core.new.state
@@ -118,12 +124,12 @@ fn serve<W: ByteOut>(core: &mut Core, writer: &mut W, line: &Line) -> Result<Kin
 {
     if line.is_longer {
         put_fault(writer, RequestFault::TooLong)?;
-        return Ok(Kind::Other);
+        return Ok(LineKind::Other);
     }
     match parse_request(line.kept.as_slice()) {
         Err(fault) => {
             put_fault(writer, fault)?;
-            Ok(Kind::Other)
+            Ok(LineKind::Other)
         }
         Ok(request) => serve_request(core, writer, request),
     }
@@ -134,7 +140,7 @@ fn serve_request<W: ByteOut>(
     core: &mut Core,
     writer: &mut W,
     request: Request<'_>,
-) -> Result<Kind, DeviceFault>
+) -> Result<LineKind, DeviceFault>
     ensures image { core.new.image ≡ core.old.image }
     ensures served { (b : Behaviour) → IsBehaviour core.old.image b
         → ServeGives (deed b core.old.image (told_by (Ok request.entry)) core.old.state) (kind_of core.old.image (told_by (Ok request.entry))) result core.new.state
@@ -151,15 +157,15 @@ fn serve_request<W: ByteOut>(
         Request::Take => make_step(core, writer, Step::Take),
         Request::Status => {
             put_status(writer, core)?;
-            Ok(Kind::Other)
+            Ok(LineKind::Other)
         }
         Request::Trace => {
             put_trace(writer, core)?;
-            Ok(Kind::Other)
+            Ok(LineKind::Other)
         }
         Request::Stop => {
             writer.put(b"bye\n")?;
-            Ok(Kind::Stop)
+            Ok(LineKind::Stop)
         }
     }
 }
@@ -170,7 +176,7 @@ fn serve_link<W: ByteOut>(
     writer: &mut W,
     name: &[u8],
     link: LinkState,
-) -> Result<Kind, DeviceFault>
+) -> Result<LineKind, DeviceFault>
     ensures image { core.new.image ≡ core.old.image }
     ensures served { (b : Behaviour) → IsBehaviour core.old.image b
         → ServeGives (deed b core.old.image (ALink name.now link) core.old.state) (kind_of core.old.image (ALink name.now link)) result core.new.state
@@ -179,20 +185,24 @@ fn serve_link<W: ByteOut>(
     match core.iface_of(name) {
         None => {
             put_fault(writer, RequestFault::NoInterface)?;
-            Ok(Kind::Other)
+            Ok(LineKind::Other)
         }
         Some(interface) => make_step(core, writer, Step::Link(interface, link)),
     }
 }
 
 /// Makes a step and writes its reply.
-fn make_step<W: ByteOut>(core: &mut Core, writer: &mut W, step: Step) -> Result<Kind, DeviceFault>
+fn make_step<W: ByteOut>(
+    core: &mut Core,
+    writer: &mut W,
+    step: Step,
+) -> Result<LineKind, DeviceFault>
     ensures image { core.new.image ≡ core.old.image }
     ensures served { (b : Behaviour) → IsBehaviour core.old.image b
-        → ServeGives (step_deed b core.old.image step core.old.state) Kind.Step result core.new.state
+        → ServeGives (step_deed b core.old.image step core.old.state) LineKind.Step result core.new.state
         (W.written writer.old) (W.written writer.new) (W.faults writer.old) (W.faults writer.new) }
 {
     let reply = core.step(step);
     put_reply(writer, core, &reply)?;
-    Ok(Kind::Step)
+    Ok(LineKind::Step)
 }

@@ -1,5 +1,7 @@
 //! Devices: what readers and writers pass on, and when replies go out.
 
+ghost use Rattle.std.specs.Prelude.{Some};
+
 use super::{FIRST_REPLIES, FIRST_REQUESTS, FIRST_RUN, REFUSED, first_replies, input_of};
 use crate::std_devices::has_newline;
 use crate::{ByteIn, ByteOut, DeviceFault, FromRead, RunFault, SessionFault, ToWrite, run_hex};
@@ -236,15 +238,20 @@ struct Waiting<'a> {
     late: u32,
 }
 
-impl Waiting<'_> {
+impl<'a> Waiting<'a> {
     /// Waits for the next piece, and gives its first byte.
     fn wait(&mut self) -> Option<u8> {
         if self.shown.get() > 0 {
             self.late = self.late.saturating_add(1);
         }
-        let (piece, later) = self.later.split_first()?;
+        let [piece, later @ ..] = self.later else {
+            return None;
+        };
+        let bytes: &'a [u8] = *piece;
+        let [byte, ready @ ..] = bytes else {
+            return None;
+        };
         self.later = later;
-        let (byte, ready) = piece.split_first()?;
         self.ready = ready;
         Some(*byte)
     }

@@ -11,7 +11,9 @@ returns-in-Ok-simulate g c = record {
     feed = record { left = g.R.ByteIn.left c.open_line.new.reader; faults = g.R.ByteIn.faults c.open_line.new.reader };
     sink = record { written = g.W.ByteOut.written c.args.writer.now; held = g.W.ByteOut.held c.args.writer.now; faults = g.W.ByteOut.faults c.args.writer.now };
   };
-  opens = c.in-Ok.ensures;
+  bytes = c.in-Ok.ensures.0;
+  line = c.in-Ok.ensures.1;
+  opens = c.in-Ok.ensures.2;
   same_sink = refl;
   session = c.in-Ok-simulate.ensures.session;
   out = c.in-Ok-simulate.ensures.out;
@@ -34,7 +36,9 @@ returns g c =
         feed = record { left = g.R.ByteIn.left c.open_line.new.reader; faults = g.R.ByteIn.faults c.open_line.new.reader };
         sink = before.sink;
       };
-      opens = c.in-Ok.ensures;
+      bytes = c.in-Ok.ensures.0;
+      line = c.in-Ok.ensures.1;
+      opens = c.in-Ok.ensures.2;
       same_sink = refl;
       session = c.in-Err.ensures.session;
       out = c.in-Err.ensures.out;

@@ -1,5 +1,5 @@
 -- Session text: the replies to the lines of an input, and the core after them.
-use Rattle.std.specs.Prelude.{◌≡◌, ◌⊎◌, ℕ, ◌+◌, ◌≤◌, Bool, true, false, if◌then◌else◌, is_some, List, [], ◌∷◌, ◌++◌, length, count_by, Option, Some, None, Result, Ok, Err, IfOk}
+use Rattle.std.specs.Prelude.{◌≡◌, ◌⊎◌, ℕ, ◌≤◌, Bool, true, false, is_some, List, [], ◌∷◌, ◌++◌, length, count_by, Option, Some, None, Result, Ok, Err}
 use Rattle.std.specs.Io.KnownBytes.{prepend_known, append_known, IsAtEnd}
 use Rattle.ifs_base.specs.declared.ids.IfaceId.{IfaceId}
 use Rattle.ifs_base.specs.declared.op.LinkState.{LinkState}
@@ -11,32 +11,27 @@ use Rattle.ifs_core.specs.Steps.{CoreState, turn}
 use Rattle.ifs_core.specs.Gateway.{OpenCore, interface_of}
 use Rattle.ifs_session.specs.declared.fault.SessionFault.{SessionFault}
 use Rattle.ifs_session.specs.declared.fault.SessionFault.TheVariants.{ReadFailed, WriteFailed, TooMuchInput}
-use Rattle.ifs_session.specs.declared.request.RequestFault.TheVariants.{NoInterface, TooLong}
+use Rattle.ifs_session.specs.declared.request.RequestFault.TheVariants.{NoInterface}
 use Rattle.ifs_session.specs.declared.session.Summary.{Summary}
-use Rattle.ifs_session.specs.declared.session.Kind.{Kind}
-use Rattle.ifs_session.specs.declared.session.Kind.TheVariants as kinds
-use Rattle.ifs_session.specs.declared.lines.Line.{Line}
-use Rattle.ifs_session.specs.declared.device.DeviceFault.{DeviceFault}
-use Rattle.ifs_session.specs.Device.{counted, PutGives}
-use Rattle.ifs_session.specs.Requests.{Asked, ALink, AResult, ATick, ATake, AStatus, ATrace, AStop, AFault, asked, short_asked}
+use Rattle.ifs_session.specs.Device.{counted}
+use Rattle.ifs_session.specs.Requests.{Asked, ALink, AResult, ATick, ATake, AStatus, ATrace, AStop, AFault, asked}
 use Rattle.ifs_session.specs.Replies.{reply_line, status_line, trace_lines, fault_line, bye_line}
-use Rattle.ifs_session.specs.Session.{lines_of, whole_lines}
+use Rattle.ifs_session.specs.Lines.{lines_of, whole_lines}
 
--- What a line makes: the bytes of its reply, the state after it, and whether it was a step.
+-- What a line makes: the bytes of its reply, and the state after it.
 pub record Deed : Type 0 where
   pub reply : List ℕ
   pub next : CoreState
-  pub is_step : Bool
 
 -- A step is made.
 abbrev pub step_deed : Behaviour → ImageParts → Step → CoreState → Deed
 step_deed b image step s =
     let t = turn b image.budgets.commands step s in
-    record { reply = reply_line image t.reply; next = t.next; is_step = true }
+    record { reply = reply_line image t.reply; next = t.next }
 
 -- Nothing changes, and this is replied.
 abbrev pub told : List ℕ → CoreState → Deed
-told reply s = record { reply = reply; next = s; is_step = false }
+told reply s = record { reply = reply; next = s }
 
 -- A link state was asked for an interface, which may not be in the table.
 abbrev pub link_deed : Behaviour → ImageParts → LinkState → Option IfaceId → CoreState → Deed
@@ -120,9 +115,9 @@ abbrev pub EndsLines : List ℕ → Option (List ℕ) → Type 0
 EndsLines input left = (input ≡ []) ⊎ EndsLine input left
 
 -- How a session ends that ends well: at the end of input, where no line asked for it; or with its last line, which alone asks for it. After that line's newline, where it has one, nothing more was read.
-abbrev pub Ends : Bool → List ℕ → Moment → Type 0
-Ends false input after = GoOn (lines_of input) × IsAtEnd after.left
-Ends true input after = (earlier : List (List ℕ)) × (stop : List ℕ) × (lines_of input ≡ earlier ++ stop ∷ []) × GoOn earlier × (is_stop (asked stop) ≡ true) × EndsLine input after.left
+abbrev pub Closes : Bool → List ℕ → Moment → Type 0
+Closes false input after = GoOn (lines_of input) × IsAtEnd after.left
+Closes true input after = (earlier : List (List ℕ)) × (stop : List ℕ) × (lines_of input ≡ earlier ++ stop ∷ []) × GoOn earlier × (is_stop (asked stop) ≡ true) × EndsLine input after.left
 
 -- A session has ended.
 pub record Completes (b : Behaviour) (summary : Summary) (input : List ℕ) (before after : Moment) : Type 0 where
@@ -132,7 +127,7 @@ pub record Completes (b : Behaviour) (summary : Summary) (input : List ℕ) (bef
   pub same_faults : after.read_faults ≡ before.read_faults
   pub requests : summary.requests ≡ length (lines_of input)
   pub steps : summary.steps ≡ count_by (λ line. is_step before.core.image (asked line)) (lines_of input)
-  pub end : Ends summary.stopped input after
+  pub end : Closes summary.stopped input after
 
 -- A read failed: the lines that were whole by then were served.
 pub record BreaksReading (b : Behaviour) (input : List ℕ) (before after : Moment) : Type 0 where
@@ -166,23 +161,3 @@ SessionGives b (Ok summary) before after = (input : List ℕ) × Completes b sum
 SessionGives b (Err ReadFailed) before after = (input : List ℕ) × BreaksReading b input before after
 SessionGives b (Err WriteFailed) before after = (input : List ℕ) × BreaksWriting b input before after
 SessionGives b (Err TooMuchInput) before after = (input : List ℕ) × (byte : ℕ) × ReadsPast b input byte before after
-
--- What is asked by a line of which the first 256 bytes are kept.
-abbrev pub kept_asked : Line → Asked
-kept_asked line = if line.is_longer then AFault TooLong else short_asked line.kept.items
-
--- Of what kind a line is, by what it asks.
-abbrev pub kind_of : ImageParts → Asked → Kind
-kind_of image AStop = kinds.Stop
-kind_of image a = if is_step image a then kinds.Step else kinds.Other
-
--- What the serving of a line gives: the core after it, its kind, and its reply, of which nothing is known where a write failed.
-abbrev pub ServeGives : Deed → Kind → Result Kind DeviceFault → CoreState → Option (List ℕ) → Option (List ℕ) → Option ℕ → Option ℕ → Type 0
-ServeGives d kind result state written written' faults faults' =
-    (state ≡ d.next) × PutGives result d.reply written written' faults faults' × IfOk result (λ k. k ≡ kind)
-
--- A summary with one more line of this kind.
-abbrev pub with_line : Kind → Summary → Summary
-with_line kinds.Step s = record { requests = s.requests + 1; steps = s.steps + 1; stopped = s.stopped }
-with_line kinds.Other s = record { requests = s.requests + 1; steps = s.steps; stopped = s.stopped }
-with_line kinds.Stop s = record { requests = s.requests + 1; steps = s.steps; stopped = true }

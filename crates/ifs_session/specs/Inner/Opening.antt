@@ -1,0 +1,35 @@
+-- What the functions that open the image of the first line, or refuse it, give.
+use Rattle.std.specs.Prelude.{◌≡◌, ◌⊎◌, ℕ, List, Result, Ok, Err}
+use Rattle.std.specs.Io.KnownBytes.{append_known}
+use Rattle.ifs_verify.specs.Refused.{IsRefusal}
+use Rattle.ifs_core.specs.Gateway.{OpenCore}
+use Rattle.ifs_session.specs.declared.fault.SessionFault.TheVariants.{WriteFailed}
+use Rattle.ifs_session.specs.declared.fault.RunFault.{RunFault}
+use Rattle.ifs_session.specs.declared.fault.RunFault.TheVariants.{Session}
+use Rattle.ifs_session.specs.declared.refusal.Refusal.{Refusal}
+use Rattle.ifs_session.specs.declared.refusal.Refusal.TheVariants.{Broken, NotAccepted, Memory}
+use Rattle.ifs_session.specs.declared.running.Unopened.{Unopened}
+use Rattle.ifs_session.specs.declared.running.Unopened.TheVariants.{Refused, NotRead}
+use Rattle.ifs_session.specs.declared.hexadecimal.HexFault.TheVariants as hex_faults
+use Rattle.ifs_session.specs.Device.{counted, Feed, Sink, HoldsNothing}
+use Rattle.ifs_session.specs.Hexadecimal.{HexGives}
+use Rattle.ifs_session.specs.Runs.{refused_line, fault_of, LineRefused, OpensImage}
+
+-- What a refusal gives: its fault, after its line was written and has gone out; or that the write failed.
+abbrev pub RefuseGives : Refusal → RunFault → Sink → Sink → Type 0
+RefuseGives refusal result before after =
+    ((result ≡ fault_of refusal) × (after.written ≡ append_known before.written (refused_line refusal)) × (after.faults ≡ before.faults) × HoldsNothing after.held)
+    ⊎ ((result ≡ Session WriteFailed) × (after.faults ≡ counted before.faults))
+
+-- What the opening of the image that bytes spell gives: a core, or why there is none.
+abbrev pub ImageGives : List ℕ → Result OpenCore Refusal → Type 0
+ImageGives bytes (Ok core) = OpensImage bytes core
+ImageGives bytes (Err (NotAccepted fault)) = IsRefusal bytes fault
+ImageGives bytes (Err Memory) = Unit {0}
+ImageGives bytes (Err Broken) = ⊥
+
+-- What the opening of the image of the first line gives: a core at its opening, or why there is none.
+abbrev pub OpenGives : Result OpenCore Unopened → Feed → Feed → Type 0
+OpenGives (Ok core) before after = (bytes : List ℕ) × HexGives (Ok bytes) before after × OpensImage bytes core
+OpenGives (Err (Refused refusal)) before after = LineRefused refusal before after
+OpenGives (Err NotRead) before after = HexGives (Err hex_faults.NotRead) before after

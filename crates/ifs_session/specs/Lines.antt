@@ -1,0 +1,23 @@
+-- Lines: how input is cut.
+use Rattle.std.specs.Prelude.{ℕ, Bool, true, false, ◌==◌, if◌then◌else◌, List, [], ◌∷◌}
+use Rattle.std.specs.List.{onto_first}
+
+-- The lines of an input: it is cut at newlines, and a last rest of at least one byte is a line.
+abbrev pub lines_of : List ℕ → List (List ℕ)
+lines_of [] = []
+lines_of (byte ∷ input) = if byte == 10 then [] ∷ lines_of input else onto_first byte (lines_of input)
+
+-- A byte put before the first line, if there is one.
+abbrev pub onto_line : ℕ → List (List ℕ) → List (List ℕ)
+onto_line byte [] = []
+onto_line byte (line ∷ lines) = (byte ∷ line) ∷ lines
+
+-- The lines of an input that a newline ends.
+abbrev pub whole_lines : List ℕ → List (List ℕ)
+whole_lines [] = []
+whole_lines (byte ∷ input) = if byte == 10 then [] ∷ whole_lines input else onto_line byte (whole_lines input)
+
+-- What ends a line: a newline, or nothing at the end of input.
+abbrev pub ending : Bool → List ℕ
+ending true = 10 ∷ []
+ending false = []
