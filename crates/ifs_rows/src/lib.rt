@@ -1,0 +1,39 @@
+//! The worked rows: images with sessions on them, and bytes that are refused. A library for tests alone.
+#![tactic(auto)]
+
+mod hexadecimal;
+pub mod images;
+mod refused;
+pub mod sessions;
+
+pub use hexadecimal::{bytes_of, digits_of};
+pub use refused::{cost_through_calls, refusals};
+pub use sessions::rows;
+
+/// An image that is accepted, with a session on it.
+#[derive(Clone, Copy, Debug)]
+pub struct Row {
+    /// What a failing test calls it.
+    pub name: &'static str,
+    /// The policy that compiles to the image, where there is one.
+    pub policy: Option<&'static str>,
+    /// The image's bytes in hexadecimal.
+    pub image: &'static str,
+    /// What `verify` prints of the image.
+    pub answer: &'static str,
+    /// Request lines, from a fresh core on.
+    pub requests: &'static str,
+    /// Their reply lines: one for each request, save that a trace has several.
+    pub replies: &'static str,
+}
+
+/// Bytes that are refused.
+#[derive(Clone, Copy, Debug)]
+pub struct Refusal {
+    /// What a failing test calls it.
+    pub name: &'static str,
+    /// The bytes in hexadecimal.
+    pub image: &'static str,
+    /// The line that is printed.
+    pub answer: &'static str,
+}
