@@ -2,7 +2,6 @@
 use Rattle.std.proofs.Common.{◌≡◌, ℕ, ◌+◌, ◌<◌, Bool, true, false, not, List, [], ◌∷◌, ◌++◌, length, Option, Some, None, refl, sym, ap, ◌∙◌}
 use Rattle.std.specs.Prelude.{IfSome, slice_get, nat_lt, if◌then◌else◌}
 use Rattle.ifs_base.specs.Facts.{Facts, is_link}
-use Rattle.ifs_base.specs.declared.ids.CommandId.{CommandId}
 use Rattle.ifs_base.specs.declared.ids.StateId.{StateId}
 use Rattle.ifs_base.specs.declared.op.LinkState.{LinkState}
 use Rattle.ifs_image.specs.declared.parts.ImageParts.{ImageParts}

@@ -54,12 +54,12 @@ module _ (ends : HandlersEnd) (unique : RunsAreUnique) (image : ImageParts) (acc
   ran handler routine facts before of given room =
       let e = ends image facts routine before accepted (handles image handler routine of) given room in
       let r = is.runs handler routine facts before of given room in
-      let same = unique image facts routine before e.end (followed before (b.answer handler facts)) e.cost (b.cost handler facts) e.runs r in
+      let same = unique image facts routine before e.end (followed before (b.answer handler facts)) e.cost (b.cost handler facts) e.ran.runs r in
       record {
         run = record { routine = routine; is = of; ends = r };
-        within = subst (λ (n : ℕ). IsCostOf image routine n) same.0 e.within;
-        commands = subst (λ (x : Effects). Appends image routine before.commands x.commands) same.1 e.commands;
-        wish = subst (λ (x : Effects). IsWish image before.wish x.wish) same.1 e.wish;
+        within = subst (λ (n : ℕ). IsCostOf image routine n) same.0 e.ran.within;
+        commands = subst (λ (x : Effects). Appends image routine before.commands x.commands) same.1 e.ran.commands;
+        wish = subst (λ (x : Effects). IsWish image before.wish x.wish) same.1 e.ran.wish;
       }
 
   module _ (p : Position) (at : IsPositionOf image p) where

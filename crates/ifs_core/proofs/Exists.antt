@@ -1,5 +1,5 @@
 -- Each accepted image has a behaviour.
-use Rattle.std.proofs.Common.{◌≡◌, ℕ, ◌<◌, ◌⊎◌, inl, inr, ⊎_elim, [], length, Option, Some, None, refl, sym, ap, ◌∙◌, subst, arith, option_map}
+use Rattle.std.proofs.Common.{◌≡◌, ℕ, ◌<◌, ◌⊎◌, inl, inr, ⊎_elim, length, Option, Some, None, refl, sym, ap, ◌∙◌, subst, arith, option_map}
 use Rattle.std.specs.Prelude.{slice_get}
 use Rattle.std.proofs.lemmas.Bool.{cases_lt}
 use Rattle.std.proofs.lemmas.Option.{none-some, same_Some, slice_get_cases}
@@ -117,8 +117,8 @@ module _ (ends : HandlersEnd) (follow : RunsFollow) (image : ImageParts) (accept
       let same : a.routine ≡ routine = same_Some a.routine routine (sym a.is ∙ is) in
       let f = found handler facts a in
       let e = ends image facts routine before accepted (handles image handler routine is) given room in
-      let run : RunsTo image facts routine nothing_yet f.cost f.end = subst (λ r. RunsTo image facts r nothing_yet f.cost f.end) same f.runs in
-      follow image facts routine before f.end e.end f.cost e.cost run e.runs
+      let run : RunsTo image facts routine nothing_yet f.cost f.end = subst (λ r. RunsTo image facts r nothing_yet f.cost f.end) same f.ran.runs in
+      follow image facts routine before f.end e.end f.cost e.cost run e.ran.runs
   runs_of handler routine facts before is given room (inr never) = absurd (never (record { routine = routine; is = is; given = given }))
 
   pub exists : (b : Behaviour) × IsBehaviour image b

@@ -43,6 +43,7 @@ module _ (ends : HandlersEnd) (unique : RunsAreUnique) (follow : RunsFollow) (st
     step_keeps s is step =
         let holds = (step_holds ends unique image accepted b is_b s is step).turn in
         record {
+          behaviour = (b, is_b);
           no_trap = λ a is_a. evaluation_runs ends unique image accepted a is_a (changed_by step s.position) (changed_at ends unique image accepted b is_b s is step);
           instructions = holds.budgets.cost;
           stack_and_frames = λ a is_a. each_within a (changed_by step s.position);
@@ -63,6 +64,7 @@ module _ (ends : HandlersEnd) (unique : RunsAreUnique) (follow : RunsFollow) (st
         let holds : (a : Behaviour) → IsBehaviour image a → OpeningHolds image a = λ a is_a. opening_holds ends unique image accepted a is_a fits in
         let state = (holds b is_b).state in
         record {
+          behaviour = (b, is_b);
           no_trap = λ a is_a. (holds a is_a).runs;
           instructions = λ a is_a. (holds a is_a).budgets.cost;
           stack_and_frames = λ a is_a. both_within a;

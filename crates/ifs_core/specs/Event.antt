@@ -44,6 +44,7 @@ opening_position b links periods first_run initial = record {
   schedule = entered b.always (b.active initial.0) 0 (all_off periods first_run);
 }
 
+-- The event of the opening: the commands and the cost are those of the always init, then of the initial state's.
 abbrev pub opening : Behaviour → List LinkState → List ℕ → ℕ → StateId → Event
 opening b links periods first_run initial =
     let position = opening_position b links periods first_run initial in

@@ -21,6 +21,8 @@ pub record IsVerified (bytes : List ℕ) (image : ImageParts) : Type 0 where
 
 -- What holds of a step made in a state: of its reply, and of the state after it.
 pub record StepKeeps (image : ImageParts) (s : CoreState) (step : Step) (t : Turn) : Type 0 where
+  -- what the image's handlers do is what their runs on the machine's table do
+  pub behaviour : (b : Behaviour) × IsBehaviour image b
   -- it does not trap: each handler that it may run comes to its end on the machine's table
   pub no_trap : (b : Behaviour) → IsBehaviour image b → EachRun (IsRun image b) b (changed_by step s.position)
   -- it runs at most the image's stated instructions,
@@ -50,6 +52,7 @@ pub record StepKeeps (image : ImageParts) (s : CoreState) (step : Step) (t : Tur
 
 -- The same of the opening, which leaves this state.
 pub record OpeningKeeps (image : ImageParts) (s : CoreState) : Type 0 where
+  pub behaviour : (b : Behaviour) × IsBehaviour image b
   pub no_trap : (b : Behaviour) → IsBehaviour image b → BothRuns (IsRun image b) b image
   pub instructions : (b : Behaviour) → IsBehaviour image b → (opening_of b image).cost ≤ image.budgets.cost
   pub stack_and_frames : (b : Behaviour) → IsBehaviour image b → BothRuns (IsWithinBudgets image) b image

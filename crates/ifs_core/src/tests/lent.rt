@@ -40,7 +40,7 @@ fn verified(alloc: Global, bytes: &[u8]) -> Result<Verified, VerifyFault>
 
 #[test]
 fn lent_core(rt: HostRuntime) -> Result<(), Fail> {
-    let mut core = opened(&rt, rt.alloc(), FIRST_RUN.as_slice());
+    let mut core = opened(&rt, rt.alloc(), images::FIRST_RUN);
     let steps = [LINK_UP, LINK_UP, Step::Take, Step::Take];
     let replies = replies(rt.alloc(), &mut core, steps.as_slice())?;
     let answers = replies.as_slice();
@@ -63,7 +63,8 @@ fn lent_core(rt: HostRuntime) -> Result<(), Fail> {
 
 #[test]
 fn fault_of_the_opening(rt: HostRuntime) -> Result<(), Fail> {
-    match verified(rt.alloc(), FIRST_RUN.as_slice()) {
+    let bytes = bytes_of(rt.alloc(), images::FIRST_RUN)?;
+    match verified(rt.alloc(), bytes.as_slice()) {
         Err(fault) => panic!(rt; "not accepted: {fault}"),
         Ok(verified) => {
             let fault = OpenFault { verified };

@@ -1,6 +1,5 @@
-use Rattle.std.proofs.Common.{◌≡◌, length, ap, ◌∙◌}
-use Rattle.ifs_sched.specs.Schedule.{Timetable}
-use Rattle.ifs_core.proofs.Opening.{length-all_unknown, length-no_values, length-all_off}
+use Rattle.std.proofs.Common.{◌≡◌, ◌∙◌}
+use Rattle.ifs_core.proofs.Opening.{length-all_unknown, length-no_values, length-periods_in}
 use Rattle.ifs_core.proofs.event.open_position.Goals as goal
 
 pub returns-clause-position : goal.returns-clause-position
@@ -13,5 +12,5 @@ returns-clause-position c =
         tests = rw (c.no_values.ensures, e) (length-no_values image);
       };
       current = rw e c.image.ensures.accepted.indexes.initial;
-      tests = c.enter.ensures.same_number ∙ ap (λ (s : Timetable). length s.tests) c.new-schedule.ensures.value ∙ (rw (c.periods_of.ensures, e) (length-all_off image 1));
+      tests = c.enter.ensures.same_number ∙ c.new-schedule.ensures.same_number ∙ rw (c.periods_of.ensures, e) (length-periods_in image);
     }
