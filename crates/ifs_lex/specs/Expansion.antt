@@ -1,5 +1,5 @@
 -- From the items of a text to its tokens: definitions are taken out, uses replaced.
-use Rattle.std.specs.Prelude.{ℕ, ◌+◌, Bool, true, false, ◌&&◌, ◌||◌, not, nat_lt, nat_le, if◌then◌else◌, List, [], ◌∷◌, ◌++◌, length, map, Option, Some, None, option_map, is_some, Result, Ok, Err}
+use Rattle.std.specs.Prelude.{ℕ, zero, suc, ◌+◌, Bool, true, false, ◌&&◌, ◌||◌, not, nat_lt, nat_le, if◌then◌else◌, List, [], ◌∷◌, ◌++◌, length, map, Option, Some, None, option_map, is_some, Result, Ok, Err}
 use Rattle.std.specs.Option.{option_map_or, ok_or}
 use Rattle.std.specs.Str.{bytes_eq}
 use Rattle.ifs_base.specs.declared.span.Span.{Span}
@@ -106,3 +106,77 @@ abbrev pub given_text : List Placed → Option (List ℕ)
 given_text [] = None
 given_text (e ∷ []) = None
 given_text (e ∷ v ∷ rest) = if is_equals e.item then text_of v.item else None
+
+-- The definition that begins with an item, by the items after it.
+abbrev pub definition_at : Placed → List Placed → Option Part
+definition_at p rest =
+    option_map_or (λ name. option_map (λ text. Defines name text p.span) (given_text rest)) (name_of p.item) None
+
+-- The parts of a text, so many items left out; a definition is three items.
+abbrev pub parts_from : ℕ → List Placed → List Part
+parts_from left_out [] = []
+parts_from (suc left_out) (p ∷ rest) = parts_from left_out rest
+parts_from zero (p ∷ rest) =
+    option_map_or (λ part. part ∷ parts_from 2 rest) (definition_at p rest) (Stands p ∷ parts_from 0 rest)
+
+-- The tokens so far and the macros known.
+pub record State : Type 0 where
+  pub tokens : List Token
+  pub macros : Macros
+
+abbrev pub state : List Token → Macros → State
+state tokens macros = record { tokens = tokens; macros = macros }
+
+-- A token and where it stands.
+abbrev pub token : Span → What → Token
+token span what = record { what = what; span = span }
+
+-- With these tokens, at most 16,384 in all.
+abbrev pub given_out : Span → List What → State → Result State LexFault
+given_out span whats s =
+    if nat_lt 16384 (length s.tokens + length whats) then Err (OverLimit span.line)
+    else Ok (state (s.tokens ++ map (token span) whats) s.macros)
+
+-- With the tokens of a macro, where it is known.
+abbrev pub used : Span → Option Macro → State → Result State LexFault
+used span None s = Err (UnknownMacro span.line)
+used span (Some known) s = given_out span known.whats s
+
+-- With what an item gives. The token at the end does not count.
+abbrev pub after_item : Span → Item → State → Result State LexFault
+after_item span (One End) s = Ok (state (s.tokens ++ (token span End ∷ [])) s.macros)
+after_item span (One what) s = given_out span (what ∷ []) s
+after_item span (Uses name) s = used span (s.macros.known name) s
+after_item span Astray s = Err (Stray span.line)
+after_item span Open s = Err (Unclosed span.line)
+
+-- Goes on where nothing was wrong.
+infixl 10 ◌>>=◌
+abbrev pub ◌>>=◌ : {A B : Type 0} → Result A LexFault → (A → Result B LexFault) → Result B LexFault
+(Ok x) >>= f = f x
+(Err fault) >>= f = Err fault
+
+-- With what a part gives.
+unfoldable pub after_part : Part → State → Result State LexFault
+after_part (Defines name value span) s = defined span.line false name value s.macros >>= λ m. Ok (state s.tokens m)
+after_part (Stands p) s = after_item p.span p.item s
+
+-- The tokens after these parts.
+abbrev pub tokens_after : State → List Part → Result (List Token) LexFault
+tokens_after s [] = Ok s.tokens
+tokens_after s (part ∷ rest) = after_part part s >>= λ next. tokens_after next rest
+
+-- The macros after a definition that is given beside the text, at line 0.
+abbrev pub given_one : List ℕ → List ℕ → Macros → Result Macros LexFault
+given_one name value m = if is_macro_name name then defined 0 true name value m else Err (BadMacro 0)
+
+-- The macros after all of them, in order.
+abbrev pub given_from : Macros → List (List ℕ × List ℕ) → Result Macros LexFault
+given_from m [] = Ok m
+given_from m (def ∷ rest) = given_one def.0 def.1 m >>= λ next. given_from next rest
+
+-- The tokens of a text under what is given beside it: faults of that come first, then the text's size.
+unfoldable pub tokens_of : List ℕ → List (List ℕ × List ℕ) → Result (List Token) LexFault
+tokens_of text defs =
+    given_from no_macros defs >>= λ m.
+    if nat_lt 1048576 (length text) then Err (OverLimit 1) else tokens_after (state [] m) (parts_from 0 (items_of text))

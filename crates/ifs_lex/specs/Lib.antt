@@ -1,3 +1,5 @@
 pub mod Characters
 pub mod Items
+pub mod Expansion
 pub mod Pieces
+pub mod Ropes

@@ -10,6 +10,7 @@ mod fault;
 mod limits;
 mod pieces;
 mod place;
+mod ropes;
 mod scans;
 mod token;
 
