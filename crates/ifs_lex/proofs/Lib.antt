@@ -1,3 +1,6 @@
 pub mod Boundaries
 pub mod Values
 pub mod RopeLaws
+pub mod Signs
+pub mod Tables
+pub mod Unrolled

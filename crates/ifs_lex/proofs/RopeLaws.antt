@@ -201,3 +201,9 @@ pub turn_lighter : (before popped after : List ℕ) (n : ℕ) → before ≡ pop
 turn_lighter before popped after n b l =
     let same = ap weights b ∙ weights-push popped n in
     omega arith
+
+pub kept_same : (cells after : List Cell) (old : List (List What)) → ropes_from [] cells ≡ old → after ≡ cells → Keeps old (ropes_from [] after)
+kept_same cells after old e a =
+    let all = ap (ropes_from []) a ∙ e in
+    let size = ap length all in
+    record { room = omega arith; same = λ n l. ap (λ rs. whats_at rs n) all }

@@ -1,5 +1,5 @@
 -- From the items of a text to its tokens: definitions are taken out, uses replaced.
-use Rattle.std.specs.Prelude.{ℕ, zero, suc, ◌+◌, Bool, true, false, ◌&&◌, ◌||◌, not, nat_lt, nat_le, if◌then◌else◌, List, [], ◌∷◌, ◌++◌, length, map, Option, Some, None, option_map, is_some, Result, Ok, Err}
+use Rattle.std.specs.Prelude.{ℕ, zero, suc, ◌+◌, Bool, true, false, ◌&&◌, ◌||◌, not, nat_lt, if◌then◌else◌, List, [], ◌∷◌, ◌++◌, length, map, Option, Some, None, option_map, is_some, Result, Ok, Err}
 use Rattle.std.specs.Option.{option_map_or, ok_or}
 use Rattle.std.specs.Str.{bytes_eq}
 use Rattle.ifs_base.specs.declared.span.Span.{Span}
@@ -64,8 +64,8 @@ is_given m name = option_map_or (λ known. known.given) (m.known name) false
 abbrev pub known_as : ℕ → Bool → List ℕ → Option (List What) → Macros → Result Macros LexFault
 known_as line given name None m = Err (BadMacro line)
 known_as line given name (Some whats) m =
-    if not (is_some (m.known name)) && nat_le 256 m.count then Err (OverLimit line)
-    else Ok (with_macro name (record { whats = whats; given = given }) m)
+    if is_some (m.known name) || nat_lt m.count 256 then Ok (with_macro name (record { whats = whats; given = given }) m)
+    else Err (OverLimit line)
 
 -- The macros after a definition. Where the name was given beside the text it is not read.
 unfoldable pub defined : ℕ → Bool → List ℕ → List ℕ → Macros → Result Macros LexFault
@@ -132,23 +132,23 @@ abbrev pub token : Span → What → Token
 token span what = record { what = what; span = span }
 
 -- With these tokens, at most 16,384 in all.
-abbrev pub given_out : Span → List What → State → Result State LexFault
-given_out span whats s =
+abbrev pub with_whats : Span → List What → State → Result State LexFault
+with_whats span whats s =
     if nat_lt 16384 (length s.tokens + length whats) then Err (OverLimit span.line)
     else Ok (state (s.tokens ++ map (token span) whats) s.macros)
 
 -- With the tokens of a macro, where it is known.
-abbrev pub used : Span → Option Macro → State → Result State LexFault
-used span None s = Err (UnknownMacro span.line)
-used span (Some known) s = given_out span known.whats s
+abbrev pub with_use : Span → Option Macro → State → Result State LexFault
+with_use span None s = Err (UnknownMacro span.line)
+with_use span (Some known) s = with_whats span known.whats s
 
 -- With what an item gives. The token at the end does not count.
-abbrev pub after_item : Span → Item → State → Result State LexFault
-after_item span (One End) s = Ok (state (s.tokens ++ (token span End ∷ [])) s.macros)
-after_item span (One what) s = given_out span (what ∷ []) s
-after_item span (Uses name) s = used span (s.macros.known name) s
-after_item span Astray s = Err (Stray span.line)
-after_item span Open s = Err (Unclosed span.line)
+abbrev pub with_item : Span → Item → State → Result State LexFault
+with_item span (One End) s = Ok (state (s.tokens ++ (token span End ∷ [])) s.macros)
+with_item span (One what) s = with_whats span (what ∷ []) s
+with_item span (Uses name) s = with_use span (s.macros.known name) s
+with_item span Astray s = Err (Stray span.line)
+with_item span Open s = Err (Unclosed span.line)
 
 -- Goes on where nothing was wrong.
 infixl 10 ◌>>=◌
@@ -157,14 +157,14 @@ abbrev pub ◌>>=◌ : {A B : Type 0} → Result A LexFault → (A → Result B 
 (Err fault) >>= f = Err fault
 
 -- With what a part gives.
-unfoldable pub after_part : Part → State → Result State LexFault
-after_part (Defines name value span) s = defined span.line false name value s.macros >>= λ m. Ok (state s.tokens m)
-after_part (Stands p) s = after_item p.span p.item s
+unfoldable pub with_part : Part → State → Result State LexFault
+with_part (Defines name value span) s = defined span.line false name value s.macros >>= λ m. Ok (state s.tokens m)
+with_part (Stands p) s = with_item p.span p.item s
 
 -- The tokens after these parts.
 abbrev pub tokens_after : State → List Part → Result (List Token) LexFault
 tokens_after s [] = Ok s.tokens
-tokens_after s (part ∷ rest) = after_part part s >>= λ next. tokens_after next rest
+tokens_after s (part ∷ rest) = with_part part s >>= λ next. tokens_after next rest
 
 -- The macros after a definition that is given beside the text, at line 0.
 abbrev pub given_one : List ℕ → List ℕ → Macros → Result Macros LexFault

@@ -8,8 +8,10 @@
 mod characters;
 mod fault;
 mod limits;
+mod macros;
 mod pieces;
 mod place;
+mod reading;
 mod ropes;
 mod scans;
 mod token;

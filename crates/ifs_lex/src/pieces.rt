@@ -2,16 +2,31 @@
 
 ghost use Rattle.std.specs.Prelude.{◌≡◌, ◌<◌, ◌≤◌, ◌+◌, ◌++◌, ◌∷◌, length, IfOk, IfSome, MatchOption};
 ghost use Rattle.ifs_lex.specs.Items as items;
-ghost use Rattle.ifs_lex.specs.Pieces.{item_of, kept_len};
+ghost use Rattle.ifs_lex.specs.Pieces.{item_of, kept_len, what_of};
 
-use crate::characters::{begins_name, begins_word, is_quote, name_run, word_run};
+use crate::characters::{
+    begins_name, begins_word, is_macro_name, is_quote, is_reserved, name_run, word_run,
+};
 use crate::scans::{begins_with, inside_len, is_dropped};
 use crate::token::What;
 use ifs_base::Text;
 use std::alloc::{AllocError, Global};
 
+/// A sign other than `=`.
+#[derive(Clone, Copy, Debug)]
+pub enum Sign {
+    OpenBrace,
+    CloseBrace,
+    OpenParen,
+    CloseParen,
+    Point,
+    Not,
+    Both,
+    Either,
+}
+
 /// A piece of a text, lent by it.
-#[derive(Debug, Drop)]
+#[derive(Clone, Copy, Debug)]
 pub enum Piece<'a> {
     /// A word.
     Bare(&'a str),
@@ -19,12 +34,122 @@ pub enum Piece<'a> {
     Between(u8, &'a str),
     /// A use of the macro of this name.
     Named(&'a str),
-    /// A sign, or the end of the text.
-    Sign(What),
+    /// `=`
+    Equal,
+    /// Another sign.
+    Plain(Sign),
+    /// The end of the text.
+    Last,
     /// A character that begins nothing.
     Nothing,
     /// A quote that opens and is not closed.
     Unclosed,
+}
+
+/// What a sign is as a token.
+pub fn what_of(sign: Sign) -> What
+    ensures { result ≡ what_of sign }
+{
+    match sign {
+        Sign::OpenBrace => What::BraceOpen,
+        Sign::CloseBrace => What::BraceClose,
+        Sign::OpenParen => What::ParenOpen,
+        Sign::CloseParen => What::ParenClose,
+        Sign::Point => What::Dot,
+        Sign::Not => What::Bang,
+        Sign::Both => What::And,
+        Sign::Either => What::Or,
+    }
+}
+
+/// The text once more.
+pub fn text_from(alloc: Global, text: &str) -> Result<Text, AllocError>
+    ensures { IfOk result (λ made. made ≡ text.now) }
+{
+    Ok(Text::new(String::from_str(alloc, text)?))
+}
+
+impl<'a> Piece<'a> {
+    ghost use Rattle.ifs_lex.specs.Expansion as expansion;
+    ghost use Rattle.std.specs.Prelude.{option_map};
+
+    /// The name that the piece can give to a macro.
+    #[tactic(auto, using(crate::proofs::Signs::sign_name))]
+    pub fn name(&self) -> Option<&'a str>
+        ensures { option_map (λ name. name.now) result ≡ expansion.name_of (item_of self.now) }
+    {
+        match *self {
+            Piece::Bare(word) => {
+                if is_macro_name(word.as_bytes()) && !is_reserved(word) {
+                    return Some(word);
+                }
+                None
+            }
+            Piece::Between(_, _) => None,
+            Piece::Named(_) => None,
+            Piece::Equal => None,
+            Piece::Plain(_) => None,
+            Piece::Last => None,
+            Piece::Nothing => None,
+            Piece::Unclosed => None,
+        }
+    }
+
+    /// Whether the piece is the sign `=`.
+    #[tactic(auto, using(crate::proofs::Signs::sign_equals))]
+    pub fn is_equals(&self) -> bool
+        ensures { result ≡ expansion.is_equals (item_of self.now) }
+    {
+        match *self {
+            Piece::Bare(_) => false,
+            Piece::Between(_, _) => false,
+            Piece::Named(_) => false,
+            Piece::Equal => true,
+            Piece::Plain(_) => false,
+            Piece::Last => false,
+            Piece::Nothing => false,
+            Piece::Unclosed => false,
+        }
+    }
+
+    /// Whether nothing is read after the piece.
+    #[tactic(auto, using(crate::proofs::Signs::sign_last))]
+    pub fn is_last(&self) -> bool
+        ensures { result ≡ items.is_last (item_of self.now) }
+    {
+        match *self {
+            Piece::Bare(_) => false,
+            Piece::Between(_, _) => false,
+            Piece::Named(_) => false,
+            Piece::Equal => false,
+            Piece::Plain(_) => false,
+            Piece::Last => true,
+            Piece::Nothing => true,
+            Piece::Unclosed => true,
+        }
+    }
+
+    /// The text that the piece can give to a macro.
+    #[tactic(auto, using(crate::proofs::Signs::sign_text))]
+    pub fn text(&self, alloc: Global) -> Result<Option<Text>, AllocError>
+        ensures { IfOk result (λ text. text ≡ expansion.text_of (item_of self.now)) }
+    {
+        match *self {
+            Piece::Bare(word) => {
+                if is_reserved(word) {
+                    return Ok(None);
+                }
+                Ok(Some(text_from(alloc, word)?))
+            }
+            Piece::Between(quote, inside) => Ok(Some(quoted_value(alloc, quote, inside)?)),
+            Piece::Named(_) => Ok(None),
+            Piece::Equal => Ok(None),
+            Piece::Plain(_) => Ok(None),
+            Piece::Last => Ok(None),
+            Piece::Nothing => Ok(None),
+            Piece::Unclosed => Ok(None),
+        }
+    }
 }
 
 /// How many bytes stand before the first one that has no part in the value, where there is one.
@@ -106,12 +231,12 @@ fn use_here(rest: &str) -> (Piece<'_>, usize)
     }
 }
 
-fn twice(byte: u8, what: What, rest: &[u8]) -> (Piece<'static>, usize)
-    ensures item { item_of result.0 ≡ (items.twice byte what rest.now).item }
-    ensures len { result.1 ≡ (items.twice byte what rest.now).len }
+fn twice(byte: u8, sign: Sign, rest: &[u8]) -> (Piece<'static>, usize)
+    ensures item { item_of result.0 ≡ (items.twice byte (what_of sign) rest.now).item }
+    ensures len { result.1 ≡ (items.twice byte (what_of sign) rest.now).len }
 {
     if begins_with(byte, rest) {
-        (Piece::Sign(what), 2)
+        (Piece::Plain(sign), 2)
     } else {
         (Piece::Nothing, 0)
     }
@@ -122,15 +247,15 @@ fn sign_here(byte: u8, rest: &[u8]) -> (Piece<'static>, usize)
     ensures len { result.1 ≡ (items.sign_here byte rest.now).len }
 {
     match byte {
-        b'{' => (Piece::Sign(What::BraceOpen), 1),
-        b'}' => (Piece::Sign(What::BraceClose), 1),
-        b'(' => (Piece::Sign(What::ParenOpen), 1),
-        b')' => (Piece::Sign(What::ParenClose), 1),
-        b'.' => (Piece::Sign(What::Dot), 1),
-        b'=' => (Piece::Sign(What::Equals), 1),
-        b'!' => (Piece::Sign(What::Bang), 1),
-        b'&' => twice(b'&', What::And, rest),
-        b'|' => twice(b'|', What::Or, rest),
+        b'{' => (Piece::Plain(Sign::OpenBrace), 1),
+        b'}' => (Piece::Plain(Sign::CloseBrace), 1),
+        b'(' => (Piece::Plain(Sign::OpenParen), 1),
+        b')' => (Piece::Plain(Sign::CloseParen), 1),
+        b'.' => (Piece::Plain(Sign::Point), 1),
+        b'=' => (Piece::Equal, 1),
+        b'!' => (Piece::Plain(Sign::Not), 1),
+        b'&' => twice(b'&', Sign::Both, rest),
+        b'|' => twice(b'|', Sign::Either, rest),
         _ => (Piece::Nothing, 0),
     }
 }
@@ -142,7 +267,7 @@ pub fn piece_here(text: &str) -> (Piece<'_>, usize)
     ensures len { result.1 ≡ (items.item_here text.now).len }
 {
     match text.as_bytes() {
-        [] => (Piece::Sign(What::End), 0),
+        [] => (Piece::Last, 0),
         [first, ..] if begins_word(*first) => word_here(text),
         [first, ..] if is_quote(*first) => quoted_here(*first, text.split_at(1).1),
         [b'$', ..] => use_here(text.split_at(1).1),

@@ -10,7 +10,7 @@ use ifs_base::Span;
 use std::marker::Model;
 
 /// What was found in a text, and where.
-#[derive(Debug, Drop)]
+#[derive(Clone, Copy, Debug)]
 pub struct Found<'a> {
     pub piece: Piece<'a>,
     pub span: Span,

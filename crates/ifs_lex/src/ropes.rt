@@ -5,8 +5,9 @@ ghost use Rattle.std.specs.List.{All};
 ghost use Rattle.ifs_lex.specs.Expansion.{token};
 ghost use Rattle.ifs_lex.specs.Ropes.{whats_at, stacked, weight, weights, Holds, Keeps};
 
+use crate::pieces::text_from;
 use crate::token::{Token, What};
-use ifs_base::{Span, Text};
+use ifs_base::Span;
 use std::alloc::{AllocError, Global};
 use std::marker::Model;
 
@@ -25,19 +26,13 @@ pub struct Rope {
     pub count: usize,
 }
 
-fn copied_text(alloc: Global, text: &Text) -> Result<Text, AllocError>
-    ensures { IfOk result (λ made. made ≡ text.now) }
-{
-    Ok(Text::new(String::from_str(alloc, text.as_str())?))
-}
-
 /// The same once more.
 fn copied(alloc: Global, what: &What) -> Result<What, AllocError>
     ensures { IfOk result (λ made. made ≡ what.now) }
 {
     Ok(match what {
-        What::Word(text) => What::Word(copied_text(alloc, text)?),
-        What::Quoted(text) => What::Quoted(copied_text(alloc, text)?),
+        What::Word(text) => What::Word(text_from(alloc, text.as_str())?),
+        What::Quoted(text) => What::Quoted(text_from(alloc, text.as_str())?),
         What::BraceOpen => What::BraceOpen,
         What::BraceClose => What::BraceClose,
         What::ParenOpen => What::ParenOpen,
@@ -69,6 +64,11 @@ impl Model for Ropes {
     ghost invariant = { λ r. AreEarlier r.cells.items };
 }
 
+impl Rope {
+    /// No token: the first cell.
+    pub const EMPTY: Rope = Rope { root: 0, count: 0 };
+}
+
 impl Ropes {
     /// Ropes with the empty one at 0.
     pub fn new(alloc: Global) -> Result<Self, AllocError>
@@ -83,7 +83,7 @@ impl Ropes {
     pub fn leaf(&mut self, what: What) -> Result<Rope, AllocError>
         ensures made { IfOk result (λ rope. Holds self.new rope) }
         ensures whats { IfOk result (λ rope. whats_at self.new rope.root ≡ what ∷ []) }
-        ensures keeps { OnOk result (Keeps self.old self.new) }
+        ensures keeps { Keeps self.old self.new }
     {
         let root = self.cells.len();
         self.cells.push(Cell::Leaf(what))?;
@@ -97,7 +97,7 @@ impl Ropes {
         requires fits { left.count + right.count < 2 ^ 64 }
         ensures made { IfOk result (λ rope. Holds self.new rope) }
         ensures whats { IfOk result (λ rope. whats_at self.new rope.root ≡ whats_at self.old left.root ++ whats_at self.old right.root) }
-        ensures keeps { OnOk result (Keeps self.old self.new) }
+        ensures keeps { Keeps self.old self.new }
     {
         if left.count == 0 {
             return Ok(right);

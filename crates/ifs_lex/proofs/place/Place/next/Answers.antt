@@ -14,4 +14,4 @@ skip-requires-2 c =
     let e = c.as_bytes.ensures.value ∙ ap left c.self.view_is in
     let b = gap_boundary _ _ _ c.as_bytes.ensures.utf8 e c.gap_len-gap.ensures in
     let u = rest_utf8 _ _ _ _ c.as_bytes.ensures.utf8 e b (ap left c.skip.ensures) in
-    item_boundary _ _ u (c.piece_here-piece.ensures.len ∙ ap (λ xs. (items.item_here xs).len) (ap left c.self-2.view_is))
+    item_boundary _ _ u (c.piece_here-len.ensures.len ∙ ap (λ xs. (items.item_here xs).len) (ap left c.self-2.view_is))

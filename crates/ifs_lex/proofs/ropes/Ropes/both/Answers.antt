@@ -1,5 +1,5 @@
 use Rattle.std.proofs.Common.{arith}
-use Rattle.ifs_lex.proofs.RopeLaws.{pushed, earlier_push, cells_within, counted}
+use Rattle.ifs_lex.proofs.RopeLaws.{kept_same, pushed, earlier_push, cells_within, counted}
 use Rattle.ifs_lex.proofs.ropes.Ropes.both.Goals as goal
 
 pub invariant_of-self-2 : goal.invariant_of-self-2
@@ -20,3 +20,7 @@ returns-clause-whats c =
 pub returns-clause-keeps : goal.returns-clause-keeps
 returns-clause-keeps c =
     (pushed c.self.inside.cells.items _ _ c.len-root.result _ c.self.view_is c.in_ok-push.ensures.items (omega (arith, c.self.inside.cells.ok.0))).keeps
+
+pub returns-in_err-push-clause-keeps : goal.returns-in_err-push-clause-keeps
+returns-in_err-push-clause-keeps c =
+    kept_same c.self.inside.cells.items _ _ c.self.view_is c.in_err-push.ensures.items
