@@ -4,3 +4,4 @@ pub mod RopeLaws
 pub mod Signs
 pub mod Tables
 pub mod Unrolled
+pub mod Parts

@@ -73,6 +73,13 @@ fewer_left p e =
     let second = length-drop len q.left in
     omega arith
 
+pub no_more_left : (p : Place) → length (after_item p).left ≤ length p.left
+no_more_left p =
+    let q = past_gap p in
+    let first = length-drop (gap_len Blanks p.left) p.left in
+    let second = length-drop (item_here q.left).len q.left in
+    omega arith
+
 same_rest : (t : Bool) (a b : List Placed) → (t ≡ false → a ≡ b) → cond t [] a ≡ cond t [] b
 same_rest true a b h = refl
 same_rest false a b h = h refl

@@ -17,4 +17,5 @@ mod scans;
 mod token;
 
 pub use fault::LexFault;
+pub use reading::tokens;
 pub use token::{Token, What};

@@ -1,10 +1,14 @@
 //! A text to its tokens.
 
-ghost use Rattle.std.specs.Prelude.{◌≡◌, ◌≢◌, [], ◌∷◌, option_map, is_some, not, map, MatchResult, Ok, Err, IfOk};
-ghost use Rattle.ifs_lex.specs.declared.fault.LexFault.TheVariants.{Memory};
+ghost use Rattle.std.specs.Prelude.{◌≡◌, ◌≤◌, [], ◌∷◌, length, option_map, is_some, map, IfOk};
+ghost use Rattle.ifs_lex.specs.Items.{items_of};
+ghost use Rattle.ifs_lex.specs.Expansion.{state, tokens_after, parts_from, given_one, given_from, tokens_of};
+ghost use Rattle.ifs_lex.specs.Kept.{Answers};
+ghost use Rattle.ifs_lex.specs.Known.{macros_of};
 ghost use Rattle.ifs_lex.specs.Pieces.{item_of};
 ghost use Rattle.ifs_lex.specs.Turns.{definition_here, after_definition};
 
+use crate::characters::is_macro_name;
 use crate::fault::LexFault;
 use crate::limits::{MAX_TEXT, MAX_TOKENS};
 use crate::macros::MacroTable;
@@ -51,8 +55,14 @@ pub struct Reading<'a> {
 impl<'a> Reading<'a> {
     ghost use Rattle.ifs_lex.specs.Items as items;
     ghost use Rattle.ifs_lex.specs.Expansion.{with_whats, with_use, with_item};
-    ghost use Rattle.ifs_lex.specs.Kept.{Answers};
     ghost use Rattle.ifs_lex.specs.Turns.{state_of, with_turn};
+
+    fn into_tokens(self) -> Vec<Token>
+        ensures { result.items ≡ self.entry.tokens.items }
+    {
+        let Reading { tokens, macros: _ } = self;
+        tokens
+    }
 
     fn put(&mut self, span: Span, what: What) -> Result<(), LexFault>
         ensures { Answers (λ done. state_of self.new) result (with_whats span (what ∷ []) (state_of self.old)) }
@@ -127,5 +137,91 @@ impl<'a> Reading<'a> {
                 .define(alloc, found.span.line, false, name, text.as_str()),
             None => self.stand(alloc, found),
         }
+    }
+}
+
+/// The tokens of a text under the macros that are given beside it.
+#[tactic(auto, using(crate::proofs::Parts::some_same))]
+fn read<'a>(alloc: Global, text: &'a str, macros: MacroTable<'a>) -> Result<Vec<Token>, LexFault>
+    requires { length text.now ≤ 1048576 }
+    ensures { Answers
+        (λ tokens. tokens.items)
+        result
+        (tokens_after (state [] (macros_of macros.entry)) (parts_from 0 (items_of text.now))) }
+{
+    let mut reading = Reading {
+        tokens: Vec::new(alloc),
+        macros,
+    };
+    let mut place = Place::start(text);
+    'items: loop {
+        let found = place.next();
+        let made = definition(alloc, &mut place, &found.piece)?;
+        match reading.with(alloc, found, made) {
+            Ok(()) => {}
+            Err(fault) => return Err(fault),
+        }
+        if found.piece.is_last() {
+            return Ok(reading.into_tokens());
+        }
+    }
+}
+
+fn define_given<'a>(
+    alloc: Global,
+    macros: &mut MacroTable<'a>,
+    name: &'a str,
+    value: &str,
+) -> Result<(), LexFault>
+    ensures { Answers (λ done. macros_of macros.new) result (given_one name.now value.now (macros_of macros.old)) }
+{
+    if is_macro_name(name.as_bytes()) {
+        return macros.define(alloc, 0, true, name, value);
+    }
+    Err(LexFault::BadMacro { line: 0 })
+}
+
+/// Reads the definitions that are given beside a text, in order.
+fn read_given<'a>(
+    alloc: Global,
+    macros: &mut MacroTable<'a>,
+    defs: &[(&'a str, &'a str)],
+) -> Result<(), LexFault>
+    ensures { Answers (λ done. macros_of macros.new) result (given_from (macros_of macros.old) (map (λ d. (d.0.now, d.1.now)) defs.now)) }
+{
+    let mut left = defs;
+    while let [(name, value), rest @ ..] = left {
+        match define_given(alloc, macros, name, value) {
+            Ok(()) => left = rest,
+            Err(fault) => return Err(fault),
+        }
+    }
+    Ok(())
+}
+
+/// The tokens of a policy text, the one `End` last. `defs` are definitions that win over the text's:
+/// of two with one name the first holds.
+///
+/// A refusal is the first fault from the left, with its line; faults of `defs` come before the text
+/// and have line 0. P0 comes where a growth was refused, wherever that is.
+#[tactic(auto, unfolding(crate::specs::Expansion::tokens_of))]
+pub fn tokens<'a>(
+    alloc: Global,
+    text: &'a str,
+    defs: &'a [(&'a str, &'a str)],
+) -> Result<Vec<Token>, LexFault>
+    ensures { Answers (λ tokens. tokens.items) result (tokens_of text.now (map (λ d. (d.0.now, d.1.now)) defs.now)) }
+{
+    let mut macros = MacroTable::new(alloc)?;
+    match read_given(alloc, &mut macros, defs) {
+        Ok(()) => {}
+        Err(fault) => return Err(fault),
+    }
+    if text.len() > MAX_TEXT {
+        return Err(LexFault::OverLimit { line: 1 });
+    }
+    match read(alloc, text, macros) {
+        Ok(tokens) => Ok(tokens),
+        Err(fault) => Err(fault),
     }
 }
