@@ -16,12 +16,14 @@ mod items;
 pub mod laws;
 pub mod limits;
 mod op;
+mod span;
 mod spelling;
 mod text;
 
 pub use ids::{CommandId, IfaceId, RoutineId, StateId, TestId};
 pub use items::Items;
 pub use op::{Kind, LinkState, Op};
+pub use span::Span;
 pub use spelling::{decode_op, encode_op};
 pub use text::Text;
 

@@ -1,0 +1,164 @@
+-- The items of a text, read from the left.
+use Rattle.std.specs.Prelude.{ℕ, zero, suc, ◌+◌, ◌-◌, Bool, true, false, ◌&&◌, ◌||◌, not, ◌==◌, if◌then◌else◌, List, [], ◌∷◌, length, take, drop, Option, Some, None, option_map, count_by}
+use Rattle.std.specs.Option.{option_map_or}
+use Rattle.std.specs.List.{prefix_len}
+use Rattle.ifs_base.specs.declared.span.Span.{Span}
+use Rattle.ifs_lex.specs.declared.token.What.{What}
+use Rattle.ifs_lex.specs.declared.token.What.TheVariants.{Word, Quoted, BraceOpen, BraceClose, ParenOpen, ParenClose, Dot, Equals, Bang, And, Or, End}
+use Rattle.ifs_lex.specs.declared.scans.Gap.{Gap}
+use Rattle.ifs_lex.specs.declared.scans.Gap.TheVariants.{Blanks, Comment}
+use Rattle.ifs_lex.specs.Characters.{is_blank, is_quote, begins_name, continues_name, begins_word, continues_word}
+
+-- The first byte is this one.
+abbrev pub begins_with : ℕ → List ℕ → Bool
+begins_with byte [] = false
+begins_with byte (b ∷ rest) = b == byte
+
+-- Where a byte of a gap leads: `#` begins a comment, a newline ends it but after a backslash; a
+-- backslash before a newline is a blank. There is none where the gap ends before the byte.
+abbrev pub gap_after : Gap → ℕ → List ℕ → Option Gap
+gap_after Blanks b rest =
+    if b == 35 then Some (Comment false) else
+    if is_blank b || ((b == 92) && begins_with 10 rest) then Some Blanks else None
+gap_after (Comment escaped) b rest =
+    if (b == 10) && not escaped then Some Blanks else Some (Comment (b == 92))
+
+-- How many bytes of blanks and comments come first.
+abbrev pub gap_len : Gap → List ℕ → ℕ
+gap_len gap [] = 0
+gap_len gap (b ∷ rest) = option_map_or (λ next. 1 + gap_len next rest) (gap_after gap b rest) 0
+
+-- How many bytes stand before the quote that closes: the first one that is not after a backslash.
+abbrev pub inside_len : ℕ → Bool → List ℕ → Option ℕ
+inside_len quote escaped [] = None
+inside_len quote escaped (b ∷ rest) =
+    if (b == quote) && not escaped then Some 0 else option_map (λ n. 1 + n) (inside_len quote (b == 92) rest)
+
+-- A backslash is dropped before the same quote, a space, a tab or a newline, and a newline always is.
+unfoldable pub is_dropped : ℕ → ℕ → List ℕ → Bool
+is_dropped quote b rest =
+    (b == 10) || ((b == 92) && (begins_with quote rest || begins_with 32 rest || begins_with 9 rest || begins_with 10 rest))
+
+-- The value of what stands between two quotes.
+abbrev pub quoted_value : ℕ → List ℕ → List ℕ
+quoted_value quote [] = []
+quoted_value quote (b ∷ rest) = if is_dropped quote b rest then quoted_value quote rest else b ∷ quoted_value quote rest
+
+-- An item: a token, a use of a macro by its name, a character that begins nothing, a quote that opens
+-- and is not closed.
+pub data Item : Type 0 where
+  One : What → Item
+  Uses : List ℕ → Item
+  Astray : Item
+  Open : Item
+
+-- An item and the number of its bytes.
+pub record Scan : Type 0 where
+  pub item : Item
+  pub len : ℕ
+
+abbrev pub scan : Item → ℕ → Scan
+scan item len = record { item = item; len = len }
+
+-- A word, as far as it can go on.
+abbrev pub word_here : List ℕ → Scan
+word_here bytes = let n = prefix_len continues_word bytes in scan (One (Word (take n bytes))) n
+
+-- A quoted text, by what comes after its quote.
+abbrev pub quoted_here : ℕ → List ℕ → Scan
+quoted_here quote rest =
+    option_map_or (λ n. scan (One (Quoted (quoted_value quote (take n rest)))) (n + 2)) (inside_len quote false rest) (scan Open 0)
+
+-- A macro name begins here.
+abbrev pub begins_macro : List ℕ → Bool
+begins_macro [] = false
+begins_macro (b ∷ rest) = begins_name b
+
+-- A use, by what comes after its `$`: a macro name, as far as it can go on.
+abbrev pub use_here : List ℕ → Scan
+use_here rest =
+    let n = prefix_len continues_name rest in if begins_macro rest then scan (Uses (take n rest)) (1 + n) else scan Astray 0
+
+-- A sign of one character twice.
+abbrev pub twice : ℕ → What → List ℕ → Scan
+twice byte what rest = if begins_with byte rest then scan (One what) 2 else scan Astray 0
+
+-- A sign.
+abbrev pub sign_here : ℕ → List ℕ → Scan
+sign_here b rest =
+    if b == 123 then scan (One BraceOpen) 1 else
+    if b == 125 then scan (One BraceClose) 1 else
+    if b == 40 then scan (One ParenOpen) 1 else
+    if b == 41 then scan (One ParenClose) 1 else
+    if b == 46 then scan (One Dot) 1 else
+    if b == 61 then scan (One Equals) 1 else
+    if b == 33 then scan (One Bang) 1 else
+    if b == 38 then twice 38 And rest else
+    if b == 124 then twice 124 Or rest else scan Astray 0
+
+-- The item that comes first where no gap does.
+unfoldable pub item_here : List ℕ → Scan
+item_here [] = scan (One End) 0
+item_here (b ∷ rest) =
+    if begins_word b then word_here (b ∷ rest) else
+    if is_quote b then quoted_here b rest else
+    if b == 36 then use_here rest else sign_here b rest
+
+-- A place in a text: how many bytes stand before it, its line, and the bytes that are left.
+pub record Place : Type 0 where
+  pub at : ℕ
+  pub line : ℕ
+  pub left : List ℕ
+
+-- The place so many bytes on.
+abbrev pub past : ℕ → Place → Place
+past n p = record {
+  at = p.at + n;
+  line = p.line + count_by (λ b. b == 10) (take n p.left);
+  left = drop n p.left;
+}
+
+-- Past blanks and comments.
+abbrev pub past_gap : Place → Place
+past_gap p = past (gap_len Blanks p.left) p
+
+-- An item and where it stands.
+pub record Placed : Type 0 where
+  pub item : Item
+  pub span : Span
+
+-- The next item.
+abbrev pub item_at : Place → Placed
+item_at p =
+    let q = past_gap p in let here = item_here q.left in
+    record { item = here.item; span = record { line = q.line; start = q.at; end = q.at + here.len } }
+
+-- The place after it.
+abbrev pub after_item : Place → Place
+after_item p = let q = past_gap p in past (item_here q.left).len q
+
+-- Nothing is read after the end of the text, nor after what begins no item.
+abbrev pub is_last : Item → Bool
+is_last (One End) = true
+is_last (One _) = false
+is_last (Uses _) = false
+is_last Astray = true
+is_last Open = true
+
+-- The items from a place on, at most so many.
+abbrev pub items_from : ℕ → Place → List Placed
+items_from zero p = []
+items_from (suc most) p =
+    let found = item_at p in found ∷ (if is_last found.item then [] else items_from most (after_item p))
+
+-- The items from a place on; each has a byte at least.
+unfoldable pub items_at : Place → List Placed
+items_at p = items_from (1 + length p.left) p
+
+-- The place at which a text begins.
+abbrev pub start : List ℕ → Place
+start text = record { at = 0; line = 1; left = text }
+
+-- The items of a text.
+abbrev pub items_of : List ℕ → List Placed
+items_of text = items_at (start text)

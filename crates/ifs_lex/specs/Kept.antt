@@ -1,0 +1,26 @@
+-- What the code keeps of a macro: a rope for its value.
+use Rattle.std.specs.Prelude.{◌≡◌, ◌≢◌, ℕ, ◌≤◌, List, Result, Ok, Err, MatchResult}
+use Rattle.ifs_lex.specs.declared.token.What.{What}
+use Rattle.ifs_lex.specs.declared.fault.LexFault.{LexFault}
+use Rattle.ifs_lex.specs.declared.fault.LexFault.TheVariants.{Memory}
+use Rattle.ifs_lex.specs.declared.ropes.Rope.{Rope}
+use Rattle.ifs_lex.specs.declared.macros.Entry.{Entry}
+use Rattle.ifs_lex.specs.Ropes.{whats_at, Holds}
+use Rattle.ifs_lex.specs.Expansion.{Macro}
+
+-- What a rope stands for.
+abbrev pub whats_of_rope : List (List What) → Rope → List What
+whats_of_rope ropes rope = whats_at ropes rope.root
+
+-- The macro of an entry.
+abbrev pub macro_of : List (List What) → Entry → Macro
+macro_of ropes entry = record { whats = whats_of_rope ropes entry.rope; given = entry.given }
+
+-- A rope that is kept, of a value's length at most.
+pub record IsValue (ropes : List (List What)) (rope : Rope) : Type 0 where
+  pub holds : Holds ropes rope
+  pub within : rope.count ≤ 16384
+
+-- A result is what is wanted, and a fault is the one wanted unless memory ran out.
+abbrev pub Answers : {X Y : Type 0} → (X → Y) → Result X LexFault → Result Y LexFault → Type 0
+Answers view result wanted = MatchResult result (λ x. wanted ≡ Ok (view x)) (λ fault. fault ≢ Memory → wanted ≡ Err fault)

@@ -1,0 +1,41 @@
+-- What the code's pieces of a text stand for.
+use Rattle.std.specs.Prelude.{ℕ, ◌+◌, ◌==◌, if◌then◌else◌, List, [], ◌∷◌, Option, Some, None, option_map}
+use Rattle.ifs_lex.specs.declared.token.What.TheVariants.{Word, Quoted, BraceOpen, BraceClose, ParenOpen, ParenClose, Dot, Equals, Bang, And, Or, End}
+use Rattle.ifs_lex.specs.declared.pieces.Piece.{Piece}
+use Rattle.ifs_lex.specs.declared.pieces.Piece.TheVariants.{Bare, Between, Named, Equal, Plain, Last, Nothing, Unclosed}
+use Rattle.ifs_lex.specs.declared.pieces.Sign.{Sign}
+use Rattle.ifs_lex.specs.declared.pieces.Sign.TheVariants.{OpenBrace, CloseBrace, OpenParen, CloseParen, Point, Not, Both, Either}
+use Rattle.ifs_lex.specs.declared.token.What.{What}
+use Rattle.ifs_lex.specs.declared.place.Found.{Found}
+use Rattle.ifs_lex.specs.Items.{Item, Placed, One, Uses, Astray, Open, is_dropped, quoted_value}
+
+-- How many bytes between quotes stand before the first one that has no part in the value.
+abbrev pub kept_len : ℕ → List ℕ → Option ℕ
+kept_len quote [] = None
+kept_len quote (b ∷ rest) = if is_dropped quote b rest then Some 0 else option_map (λ n. 1 + n) (kept_len quote rest)
+
+-- The token of a sign.
+abbrev pub what_of : Sign → What
+what_of OpenBrace = BraceOpen
+what_of CloseBrace = BraceClose
+what_of OpenParen = ParenOpen
+what_of CloseParen = ParenClose
+what_of Point = Dot
+what_of Not = Bang
+what_of Both = And
+what_of Either = Or
+
+-- The item that a piece is.
+abbrev pub item_of : Piece → Item
+item_of (Bare word) = One (Word word.now)
+item_of (Between quote inside) = One (Quoted (quoted_value quote inside.now))
+item_of (Named name) = Uses name.now
+item_of Equal = One Equals
+item_of (Plain sign) = One (what_of sign)
+item_of Last = One End
+item_of Nothing = Astray
+item_of Unclosed = Open
+
+-- The item that was found, where it stands.
+abbrev pub placed_of : Found → Placed
+placed_of found = record { item = item_of found.piece; span = found.span }

@@ -1,0 +1,104 @@
+//! The characters of words, names and blanks.
+
+ghost use Rattle.std.specs.Prelude.{◌≡◌};
+ghost use Rattle.std.specs.List.{prefix_len};
+ghost use Rattle.ifs_lex.specs.Characters as characters;
+
+/// Whether the byte is a letter.
+fn is_letter(byte: u8) -> bool
+    ensures { result ≡ characters.is_letter byte }
+{
+    matches!(byte, b'A'..=b'Z' | b'a'..=b'z')
+}
+
+/// Whether the byte is a digit.
+fn is_digit(byte: u8) -> bool
+    ensures { result ≡ characters.is_digit byte }
+{
+    matches!(byte, b'0'..=b'9')
+}
+
+/// Whether the byte is a blank by itself.
+pub fn is_blank(byte: u8) -> bool
+    ensures { result ≡ characters.is_blank byte }
+{
+    matches!(byte, b' ' | b'\t' | b'\r' | b'\n')
+}
+
+/// Whether the byte opens a quoted text.
+pub fn is_quote(byte: u8) -> bool
+    ensures { result ≡ characters.is_quote byte }
+{
+    matches!(byte, b'"' | b'\'')
+}
+
+/// Whether a macro name can begin with the byte.
+pub fn begins_name(byte: u8) -> bool
+    ensures { result ≡ characters.begins_name byte }
+{
+    is_letter(byte) || byte == b'_'
+}
+
+/// Whether a macro name can go on with the byte.
+pub fn continues_name(byte: u8) -> bool
+    ensures { result ≡ characters.continues_name byte }
+{
+    is_letter(byte) || is_digit(byte) || byte == b'_'
+}
+
+/// Whether a word can begin with the byte.
+pub fn begins_word(byte: u8) -> bool
+    ensures { result ≡ characters.begins_word byte }
+{
+    is_letter(byte) || is_digit(byte) || byte == b'_' || byte == b'/'
+}
+
+/// Whether a word can go on with the byte.
+pub fn continues_word(byte: u8) -> bool
+    ensures { result ≡ characters.continues_word byte }
+{
+    begins_word(byte) || matches!(byte, b'-' | b':' | b'+' | b'@' | b'%' | b'*' | b'~')
+}
+
+/// How many bytes a macro name goes on for.
+pub fn name_run(bytes: &[u8]) -> usize
+    ensures { result ≡ prefix_len characters.continues_name bytes.now }
+{
+    bytes
+        .iter()
+        .take_while(|byte| continues_name(**byte))
+        .count()
+}
+
+/// How many bytes a word goes on for.
+pub fn word_run(bytes: &[u8]) -> usize
+    ensures { result ≡ prefix_len characters.continues_word bytes.now }
+{
+    bytes
+        .iter()
+        .take_while(|byte| continues_word(**byte))
+        .count()
+}
+
+/// Whether a word is a macro name.
+pub fn is_macro_name(word: &[u8]) -> bool
+    ensures { result ≡ characters.is_macro_name word.now }
+{
+    match word {
+        [] => false,
+        [first, rest @ ..] => begins_name(*first) && name_run(rest) == rest.len(),
+    }
+}
+
+/// Whether a word is reserved.
+pub fn is_reserved(word: &str) -> bool
+    ensures { result ≡ characters.is_reserved word.now }
+{
+    word == "state"
+        || word == "init-state"
+        || word == "init"
+        || word == "if"
+        || word == "run"
+        || word == "set-state"
+        || word == "every"
+}

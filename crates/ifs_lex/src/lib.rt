@@ -1,0 +1,21 @@
+//! The first step from a policy text: its tokens, with macros replaced.
+//!
+//! A text is read from the left into items: words, quoted texts, signs and uses of macros. Definitions
+//! are taken out, and each use becomes the tokens of its macro as known at that place.
+//! Contract: `tokens` answers the tokens of the text, or the first fault from the left with its line.
+#![tactic(auto)]
+
+mod characters;
+mod fault;
+mod limits;
+mod macros;
+mod pieces;
+mod place;
+mod reading;
+mod ropes;
+mod scans;
+mod token;
+
+pub use fault::LexFault;
+pub use reading::tokens;
+pub use token::{Token, What};

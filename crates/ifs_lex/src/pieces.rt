@@ -1,0 +1,276 @@
+//! The piece that comes first in a text.
+
+ghost use Rattle.std.specs.Prelude.{◌≡◌, ◌<◌, ◌≤◌, ◌+◌, ◌++◌, ◌∷◌, length, IfOk, IfSome, MatchOption};
+ghost use Rattle.ifs_lex.specs.Items as items;
+ghost use Rattle.ifs_lex.specs.Pieces.{item_of, kept_len, what_of};
+
+use crate::characters::{
+    begins_name, begins_word, is_macro_name, is_quote, is_reserved, name_run, word_run,
+};
+use crate::scans::{begins_with, inside_len, is_dropped};
+use crate::token::What;
+use ifs_base::Text;
+use std::alloc::{AllocError, Global};
+
+/// A sign other than `=`.
+#[derive(Clone, Copy, Debug)]
+pub enum Sign {
+    OpenBrace,
+    CloseBrace,
+    OpenParen,
+    CloseParen,
+    Point,
+    Not,
+    Both,
+    Either,
+}
+
+/// A piece of a text, lent by it.
+#[derive(Clone, Copy, Debug)]
+pub enum Piece<'a> {
+    /// A word.
+    Bare(&'a str),
+    /// A quoted text: its quote, and what stands between.
+    Between(u8, &'a str),
+    /// A use of the macro of this name.
+    Named(&'a str),
+    /// `=`
+    Equal,
+    /// Another sign.
+    Plain(Sign),
+    /// The end of the text.
+    Last,
+    /// A character that begins nothing.
+    Nothing,
+    /// A quote that opens and is not closed.
+    Unclosed,
+}
+
+/// What a sign is as a token.
+pub fn what_of(sign: Sign) -> What
+    ensures { result ≡ what_of sign }
+{
+    match sign {
+        Sign::OpenBrace => What::BraceOpen,
+        Sign::CloseBrace => What::BraceClose,
+        Sign::OpenParen => What::ParenOpen,
+        Sign::CloseParen => What::ParenClose,
+        Sign::Point => What::Dot,
+        Sign::Not => What::Bang,
+        Sign::Both => What::And,
+        Sign::Either => What::Or,
+    }
+}
+
+/// The text once more.
+pub fn text_from(alloc: Global, text: &str) -> Result<Text, AllocError>
+    ensures { IfOk result (λ made. made ≡ text.now) }
+{
+    Ok(Text::new(String::from_str(alloc, text)?))
+}
+
+impl<'a> Piece<'a> {
+    ghost use Rattle.ifs_lex.specs.Expansion as expansion;
+    ghost use Rattle.std.specs.Prelude.{option_map};
+
+    /// The name that the piece can give to a macro.
+    #[tactic(auto, using(crate::proofs::Signs::sign_name))]
+    pub fn name(&self) -> Option<&'a str>
+        ensures { option_map (λ name. name.now) result ≡ expansion.name_of (item_of self.now) }
+    {
+        match *self {
+            Piece::Bare(word) => {
+                if is_macro_name(word.as_bytes()) && !is_reserved(word) {
+                    return Some(word);
+                }
+                None
+            }
+            Piece::Between(_, _) => None,
+            Piece::Named(_) => None,
+            Piece::Equal => None,
+            Piece::Plain(_) => None,
+            Piece::Last => None,
+            Piece::Nothing => None,
+            Piece::Unclosed => None,
+        }
+    }
+
+    /// Whether the piece is the sign `=`.
+    #[tactic(auto, using(crate::proofs::Signs::sign_equals))]
+    pub fn is_equals(&self) -> bool
+        ensures { result ≡ expansion.is_equals (item_of self.now) }
+    {
+        match *self {
+            Piece::Bare(_) => false,
+            Piece::Between(_, _) => false,
+            Piece::Named(_) => false,
+            Piece::Equal => true,
+            Piece::Plain(_) => false,
+            Piece::Last => false,
+            Piece::Nothing => false,
+            Piece::Unclosed => false,
+        }
+    }
+
+    /// Whether nothing is read after the piece.
+    #[tactic(auto, using(crate::proofs::Signs::sign_last))]
+    pub fn is_last(&self) -> bool
+        ensures { result ≡ items.is_last (item_of self.now) }
+    {
+        match *self {
+            Piece::Bare(_) => false,
+            Piece::Between(_, _) => false,
+            Piece::Named(_) => false,
+            Piece::Equal => false,
+            Piece::Plain(_) => false,
+            Piece::Last => true,
+            Piece::Nothing => true,
+            Piece::Unclosed => true,
+        }
+    }
+
+    /// The text that the piece can give to a macro.
+    #[tactic(auto, using(crate::proofs::Signs::sign_text))]
+    pub fn text(&self, alloc: Global) -> Result<Option<Text>, AllocError>
+        ensures { IfOk result (λ text. text ≡ expansion.text_of (item_of self.now)) }
+    {
+        match *self {
+            Piece::Bare(word) => {
+                if is_reserved(word) {
+                    return Ok(None);
+                }
+                Ok(Some(text_from(alloc, word)?))
+            }
+            Piece::Between(quote, inside) => Ok(Some(quoted_value(alloc, quote, inside)?)),
+            Piece::Named(_) => Ok(None),
+            Piece::Equal => Ok(None),
+            Piece::Plain(_) => Ok(None),
+            Piece::Last => Ok(None),
+            Piece::Nothing => Ok(None),
+            Piece::Unclosed => Ok(None),
+        }
+    }
+}
+
+/// How many bytes stand before the first one that has no part in the value, where there is one.
+fn kept_len(quote: u8, bytes: &[u8]) -> Option<usize>
+    ensures { result ≡ kept_len quote bytes.now }
+{
+    let mut len = 0;
+    let mut left = bytes;
+    while let [byte, rest @ ..] = left {
+        if is_dropped(quote, *byte, rest) {
+            return Some(len);
+        }
+        len += 1;
+        left = rest;
+    }
+    None
+}
+
+/// What stands before the first byte that has no part in the value, and what stands after it.
+fn split_kept(quote: u8, text: &str) -> Option<(&str, &str)>
+    ensures value { MatchOption
+        result
+        (items.quoted_value quote text.now ≡ text.now)
+        (λ parts. items.quoted_value quote text.now ≡ parts.0.now ++ items.quoted_value quote parts.1.now) }
+    ensures shorter { IfSome result (λ parts. length parts.1.now < length text.now) }
+{
+    match kept_len(quote, text.as_bytes()) {
+        Some(len) => {
+            let (kept, dropped) = text.split_at(len);
+            Some((kept, dropped.split_at(1).1))
+        }
+        None => None,
+    }
+}
+
+/// The value of what stands between two quotes.
+pub fn quoted_value(alloc: Global, quote: u8, inside: &str) -> Result<Text, AllocError>
+    ensures { IfOk result (λ value. value ≡ items.quoted_value quote inside.now) }
+{
+    let mut value = String::new(alloc);
+    let mut left = inside;
+    while let Some((kept, rest)) = split_kept(quote, left) {
+        value.push_str(kept)?;
+        left = rest;
+    }
+    value.push_str(left)?;
+    Ok(Text::new(value))
+}
+
+fn word_here(text: &str) -> (Piece<'_>, usize)
+    ensures item { item_of result.0 ≡ (items.word_here text.now).item }
+    ensures len { result.1 ≡ (items.word_here text.now).len }
+{
+    let len = word_run(text.as_bytes());
+    (Piece::Bare(text.split_at(len).0), len)
+}
+
+fn quoted_here(quote: u8, rest: &str) -> (Piece<'_>, usize)
+    requires { quote < 128 }
+    ensures item { item_of result.0 ≡ (items.quoted_here quote rest.now).item }
+    ensures len { result.1 ≡ (items.quoted_here quote rest.now).len }
+{
+    match inside_len(quote, rest.as_bytes()) {
+        Some(len) => (Piece::Between(quote, rest.split_at(len).0), len + 2),
+        None => (Piece::Unclosed, 0),
+    }
+}
+
+fn use_here(rest: &str) -> (Piece<'_>, usize)
+    ensures item { item_of result.0 ≡ (items.use_here rest.now).item }
+    ensures len { result.1 ≡ (items.use_here rest.now).len }
+{
+    match rest.as_bytes() {
+        [first, ..] if begins_name(*first) => {
+            let len = name_run(rest.as_bytes());
+            (Piece::Named(rest.split_at(len).0), 1 + len)
+        }
+        _ => (Piece::Nothing, 0),
+    }
+}
+
+fn twice(byte: u8, sign: Sign, rest: &[u8]) -> (Piece<'static>, usize)
+    ensures item { item_of result.0 ≡ (items.twice byte (what_of sign) rest.now).item }
+    ensures len { result.1 ≡ (items.twice byte (what_of sign) rest.now).len }
+{
+    if begins_with(byte, rest) {
+        (Piece::Plain(sign), 2)
+    } else {
+        (Piece::Nothing, 0)
+    }
+}
+
+fn sign_here(byte: u8, rest: &[u8]) -> (Piece<'static>, usize)
+    ensures item { item_of result.0 ≡ (items.sign_here byte rest.now).item }
+    ensures len { result.1 ≡ (items.sign_here byte rest.now).len }
+{
+    match byte {
+        b'{' => (Piece::Plain(Sign::OpenBrace), 1),
+        b'}' => (Piece::Plain(Sign::CloseBrace), 1),
+        b'(' => (Piece::Plain(Sign::OpenParen), 1),
+        b')' => (Piece::Plain(Sign::CloseParen), 1),
+        b'.' => (Piece::Plain(Sign::Point), 1),
+        b'=' => (Piece::Equal, 1),
+        b'!' => (Piece::Plain(Sign::Not), 1),
+        b'&' => twice(b'&', Sign::Both, rest),
+        b'|' => twice(b'|', Sign::Either, rest),
+        _ => (Piece::Nothing, 0),
+    }
+}
+
+#[tactic(auto, unfolding(crate::specs::Items::item_here), using(crate::proofs::Boundaries::quote_ascii))]
+/// The piece that comes first, where no blank and no comment does, and its number of bytes.
+pub fn piece_here(text: &str) -> (Piece<'_>, usize)
+    ensures item { item_of result.0 ≡ (items.item_here text.now).item }
+    ensures len { result.1 ≡ (items.item_here text.now).len }
+{
+    match text.as_bytes() {
+        [] => (Piece::Last, 0),
+        [first, ..] if begins_word(*first) => word_here(text),
+        [first, ..] if is_quote(*first) => quoted_here(*first, text.split_at(1).1),
+        [b'$', ..] => use_here(text.split_at(1).1),
+        [first, rest @ ..] => sign_here(*first, rest),
+    }
+}

@@ -1,0 +1,100 @@
+//! A place in a text, from which items are read.
+
+ghost use Rattle.std.specs.Prelude.{◌≡◌, ◌==◌, ◌≤◌, count_by, length};
+ghost use Rattle.std.specs.Str.{IsCharBoundary};
+ghost use Rattle.ifs_lex.specs.Pieces.{placed_of};
+
+use crate::pieces::{Piece, piece_here};
+use crate::scans::gap_len;
+use ifs_base::Span;
+use std::marker::Model;
+
+/// What was found in a text, and where.
+#[derive(Clone, Copy, Debug)]
+pub struct Found<'a> {
+    pub piece: Piece<'a>,
+    pub span: Span,
+}
+
+/// How many newlines there are.
+fn newlines(bytes: &[u8]) -> usize
+    ensures { result ≡ count_by (λ b. b == 10) bytes.now }
+{
+    bytes.iter().filter(|byte| **byte == b'\n').count()
+}
+
+/// A place in a text of at most 1,048,576 bytes: what is left of it, how many bytes stand before, and the line.
+#[derive(Drop)]
+pub struct Place<'a> {
+    left: &'a str,
+    at: u32,
+    line: u32,
+}
+
+impl<'a> Model for Place<'a> {
+    ghost use Rattle.std.specs.Prelude.{◌+◌, ◌≤◌, length};
+    ghost use Rattle.ifs_lex.specs.Items as items;
+
+    ghost Value = { items.Place };
+
+    ghost view = { λ p. record { at = p.at; line = p.line; left = p.left.now } };
+
+    ghost invariant = { λ p. (p.at + length p.left.now ≤ 1048576) × (p.line ≤ p.at + 1) };
+}
+
+impl<'a> Place<'a> {
+    ghost use Rattle.ifs_lex.specs.Items as items;
+
+    /// Where a text begins.
+    pub fn start(text: &'a str) -> Self
+        requires { length text.now ≤ 1048576 }
+        ensures { result ≡ items.start text.now }
+    {
+        Place {
+            left: text,
+            at: 0,
+            line: 1,
+        }
+    }
+
+    /// The same place, to look ahead from.
+    pub fn again(&self) -> Self
+        ensures { result ≡ self.now }
+    {
+        Place {
+            left: self.left,
+            at: self.at,
+            line: self.line,
+        }
+    }
+
+    fn skip(&mut self, count: usize)
+        requires { IsCharBoundary self.old.left count }
+        ensures { self.new ≡ items.past count self.old }
+    {
+        let (front, left) = self.left.split_at(count);
+        self.line += newlines(front.as_bytes()) as u32;
+        self.at += count as u32;
+        self.left = left;
+    }
+
+    /// The next item, past blanks and comments, and goes on after it.
+    pub fn next(&mut self) -> Found<'a>
+        ensures found { placed_of result ≡ items.item_at self.old }
+        ensures after { self.new ≡ items.after_item self.old }
+    {
+        let gap = gap_len(self.left.as_bytes());
+        self.skip(gap);
+        let (line, start) = (self.line, self.at);
+        let (piece, len) = piece_here(self.left);
+        self.skip(len);
+        Found {
+            piece,
+            span: Span {
+                line,
+                start,
+                end: self.at,
+            },
+        }
+    }
+}

@@ -1,0 +1,227 @@
+//! A text to its tokens.
+
+ghost use Rattle.std.specs.Prelude.{◌≡◌, ◌≤◌, [], ◌∷◌, length, option_map, is_some, map, IfOk};
+ghost use Rattle.ifs_lex.specs.Items.{items_of};
+ghost use Rattle.ifs_lex.specs.Expansion.{state, tokens_after, parts_from, given_one, given_from, tokens_of};
+ghost use Rattle.ifs_lex.specs.Kept.{Answers};
+ghost use Rattle.ifs_lex.specs.Known.{macros_of};
+ghost use Rattle.ifs_lex.specs.Pieces.{item_of};
+ghost use Rattle.ifs_lex.specs.Turns.{definition_here, after_definition};
+
+use crate::characters::is_macro_name;
+use crate::fault::LexFault;
+use crate::limits::{MAX_TEXT, MAX_TOKENS};
+use crate::macros::MacroTable;
+use crate::pieces::{Piece, quoted_value, text_from, what_of};
+use crate::place::{Found, Place};
+use crate::token::{Token, What};
+use ifs_base::{Span, Text};
+use std::alloc::{AllocError, Global};
+
+/// The name and the text of the definition that begins with a piece, where one does; the place goes on after it.
+fn definition<'a>(
+    alloc: Global,
+    place: &mut Place<'a>,
+    piece: &Piece<'a>,
+) -> Result<Option<(&'a str, Text)>, AllocError>
+    ensures found { IfOk result (λ made. option_map (λ d. (d.0.now, d.1)) made ≡ definition_here place.old (item_of piece.now)) }
+    ensures after { IfOk result (λ made. place.new ≡ after_definition place.old (is_some made)) }
+{
+    let mut ahead = place.again();
+    match piece.name() {
+        Some(name) => {
+            if !ahead.next().piece.is_equals() {
+                return Ok(None);
+            }
+            match ahead.next().piece.text(alloc)? {
+                Some(text) => {
+                    *place = ahead;
+                    Ok(Some((name, text)))
+                }
+                None => Ok(None),
+            }
+        }
+        None => Ok(None),
+    }
+}
+
+/// The tokens so far and the macros known.
+#[derive(Drop)]
+pub struct Reading<'a> {
+    pub tokens: Vec<Token>,
+    pub macros: MacroTable<'a>,
+}
+
+impl<'a> Reading<'a> {
+    ghost use Rattle.ifs_lex.specs.Items as items;
+    ghost use Rattle.ifs_lex.specs.Expansion.{with_whats, with_use, with_item};
+    ghost use Rattle.ifs_lex.specs.Turns.{state_of, with_turn};
+
+    fn into_tokens(self) -> Vec<Token>
+        ensures { result.items ≡ self.entry.tokens.items }
+    {
+        let Reading { tokens, macros: _ } = self;
+        tokens
+    }
+
+    fn put(&mut self, span: Span, what: What) -> Result<(), LexFault>
+        ensures { Answers (λ done. state_of self.new) result (with_whats span (what ∷ []) (state_of self.old)) }
+    {
+        if self.tokens.len() >= MAX_TOKENS {
+            return Err(LexFault::OverLimit { line: span.line });
+        }
+        self.tokens.push(Token { what, span })?;
+        Ok(())
+    }
+
+    fn use_macro(&mut self, alloc: Global, span: Span, name: &str) -> Result<(), LexFault>
+        ensures { Answers (λ done. state_of self.new) result (with_use span ((state_of self.old).macros.known name.now) (state_of self.old)) }
+    {
+        match self.macros.get(name) {
+            Some(entry) => {
+                if self.tokens.len() + entry.rope.count > MAX_TOKENS {
+                    return Err(LexFault::OverLimit { line: span.line });
+                }
+                self.macros
+                    .give_out(alloc, entry.rope, span, &mut self.tokens)?;
+                Ok(())
+            }
+            None => Err(LexFault::UnknownMacro { line: span.line }),
+        }
+    }
+
+    #[tactic(auto, using(crate::proofs::Signs::sign_item))]
+    fn stand(&mut self, alloc: Global, found: Found<'_>) -> Result<(), LexFault>
+        ensures { Answers (λ done. state_of self.new) result (with_item found.entry.span (item_of found.entry.piece) (state_of self.old)) }
+    {
+        let span = found.span;
+        match found.piece {
+            Piece::Bare(word) => {
+                let text = text_from(alloc, word)?;
+                self.put(span, What::Word(text))
+            }
+            Piece::Between(quote, inside) => {
+                let value = quoted_value(alloc, quote, inside)?;
+                self.put(span, What::Quoted(value))
+            }
+            Piece::Named(name) => self.use_macro(alloc, span, name),
+            Piece::Equal => self.put(span, What::Equals),
+            Piece::Plain(sign) => self.put(span, what_of(sign)),
+            Piece::Last => {
+                self.tokens.push(Token {
+                    what: What::End,
+                    span,
+                })?;
+                Ok(())
+            }
+            Piece::Nothing => Err(LexFault::Stray { line: span.line }),
+            Piece::Unclosed => Err(LexFault::Unclosed { line: span.line }),
+        }
+    }
+
+    /// With a definition, or with what a piece gives.
+    fn with(
+        &mut self,
+        alloc: Global,
+        found: Found<'_>,
+        definition: Option<(&'a str, Text)>,
+    ) -> Result<(), LexFault>
+        ensures { Answers
+            (λ done. state_of self.new)
+            result
+            (with_turn (record { item = item_of found.entry.piece; span = found.entry.span }) (option_map (λ d. (d.0.now, d.1)) definition.entry) (state_of self.old)) }
+    {
+        match definition {
+            Some((name, text)) => self
+                .macros
+                .define(alloc, found.span.line, false, name, text.as_str()),
+            None => self.stand(alloc, found),
+        }
+    }
+}
+
+/// The tokens of a text under the macros that are given beside it.
+#[tactic(auto, using(crate::proofs::Parts::some_same))]
+fn read<'a>(alloc: Global, text: &'a str, macros: MacroTable<'a>) -> Result<Vec<Token>, LexFault>
+    requires { length text.now ≤ 1048576 }
+    ensures { Answers
+        (λ tokens. tokens.items)
+        result
+        (tokens_after (state [] (macros_of macros.entry)) (parts_from 0 (items_of text.now))) }
+{
+    let mut reading = Reading {
+        tokens: Vec::new(alloc),
+        macros,
+    };
+    let mut place = Place::start(text);
+    'items: loop {
+        let found = place.next();
+        let made = definition(alloc, &mut place, &found.piece)?;
+        match reading.with(alloc, found, made) {
+            Ok(()) => {}
+            Err(fault) => return Err(fault),
+        }
+        if found.piece.is_last() {
+            return Ok(reading.into_tokens());
+        }
+    }
+}
+
+fn define_given<'a>(
+    alloc: Global,
+    macros: &mut MacroTable<'a>,
+    name: &'a str,
+    value: &str,
+) -> Result<(), LexFault>
+    ensures { Answers (λ done. macros_of macros.new) result (given_one name.now value.now (macros_of macros.old)) }
+{
+    if is_macro_name(name.as_bytes()) {
+        return macros.define(alloc, 0, true, name, value);
+    }
+    Err(LexFault::BadMacro { line: 0 })
+}
+
+/// Reads the definitions that are given beside a text, in order.
+fn read_given<'a>(
+    alloc: Global,
+    macros: &mut MacroTable<'a>,
+    defs: &[(&'a str, &'a str)],
+) -> Result<(), LexFault>
+    ensures { Answers (λ done. macros_of macros.new) result (given_from (macros_of macros.old) (map (λ d. (d.0.now, d.1.now)) defs.now)) }
+{
+    let mut left = defs;
+    while let [(name, value), rest @ ..] = left {
+        match define_given(alloc, macros, name, value) {
+            Ok(()) => left = rest,
+            Err(fault) => return Err(fault),
+        }
+    }
+    Ok(())
+}
+
+/// The tokens of a policy text, the one `End` last. `defs` are definitions that win over the text's:
+/// of two with one name the first holds.
+///
+/// A refusal is the first fault from the left, with its line; faults of `defs` come before the text
+/// and have line 0. P0 comes where a growth was refused, wherever that is.
+#[tactic(auto, unfolding(crate::specs::Expansion::tokens_of))]
+pub fn tokens<'a>(
+    alloc: Global,
+    text: &'a str,
+    defs: &'a [(&'a str, &'a str)],
+) -> Result<Vec<Token>, LexFault>
+    ensures { Answers (λ tokens. tokens.items) result (tokens_of text.now (map (λ d. (d.0.now, d.1.now)) defs.now)) }
+{
+    let mut macros = MacroTable::new(alloc)?;
+    match read_given(alloc, &mut macros, defs) {
+        Ok(()) => {}
+        Err(fault) => return Err(fault),
+    }
+    if text.len() > MAX_TEXT {
+        return Err(LexFault::OverLimit { line: 1 });
+    }
+    match read(alloc, text, macros) {
+        Ok(tokens) => Ok(tokens),
+        Err(fault) => Err(fault),
+    }
+}
