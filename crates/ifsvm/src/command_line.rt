@@ -2,7 +2,7 @@
 
 use crate::ending::Ending;
 use clap::error::ErrorKind;
-use clap::{Arg, ArgAction, Command, Error};
+use clap::{Arg, Command, Error};
 use std::alloc::Global;
 use std::rt::Env;
 use std::{env, io};
@@ -106,5 +106,4 @@ fn image<'a>(alloc: Global) -> Arg<'a> {
     Arg::new(alloc, "IMAGE")
         .help("a file of at most 16,777,216 bytes")
         .required(true)
-        .action(ArgAction::Set)
 }

@@ -4,7 +4,7 @@ use crate::answering::image_at;
 use crate::ending::{Ending, out_of_memory};
 use ifs_core::Core;
 use ifs_session::{FromRead, RunFault, ToWrite, run_hex, simulate};
-use ifs_verify::verify;
+use ifs_verify::{VerifyFault, verify};
 use std::alloc::Global;
 use std::io::{self, BufWriter};
 use std::rt::Files;
@@ -29,22 +29,34 @@ pub fn on_file<R: Files + Input + Print + Alloc<A = Global>>(
     path: String,
 ) -> Result<Ending, Ending> {
     let image = image_at(rt, path)?;
-    let verified = match verify(rt.alloc(), image.as_slice()) {
-        Ok(verified) => verified,
+    match opened(rt.alloc(), image.as_slice()) {
+        Ok(mut core) => simulated(rt, &mut core),
         Err(fault) => {
             println!(rt; "refused {fault}")?;
-            return Ok(Ending::Refused);
+            Ok(Ending::Refused)
         }
-    };
-    let Ok(mut core) = Core::open(rt.alloc(), verified) else {
-        return out_of_memory(rt);
-    };
+    }
+}
+
+/// A core on the image of these bytes.
+fn opened(alloc: Global, image: &[u8]) -> Result<Core, VerifyFault> {
+    match Core::open(alloc, verify(alloc, image)?) {
+        Ok(core) => Ok(core),
+        Err(_fault) => Err(VerifyFault::OutOfMemory),
+    }
+}
+
+/// A session on a core.
+fn simulated<R: Input + Print + Alloc<A = Global>>(
+    rt: &R,
+    core: &mut Core,
+) -> Result<Ending, Ending> {
     let Ok(writer) = BufWriter::new(rt.alloc(), io::writer(rt)) else {
         return out_of_memory(rt);
     };
     let mut input = FromRead::new(rt.reader());
     let mut output = ToWrite::new(writer);
-    match simulate(&mut core, &mut input, &mut output) {
+    match simulate(core, &mut input, &mut output) {
         Ok(_summary) => Ok(Ending::Done),
         Err(fault) => Err(Ending::Session(fault)),
     }
