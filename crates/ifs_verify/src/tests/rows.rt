@@ -12,10 +12,7 @@ fn budgets_of(alloc: Global, bytes: &[u8]) -> Result<String, Fail> {
     let budgets = verify(alloc, bytes)?.budgets();
     Ok(format!(in alloc;
         "ok stack {} frames {} cost {} commands {}\n",
-        budgets.stack,
-        budgets.frames,
-        budgets.cost,
-        budgets.commands
+        budgets.stack, budgets.frames, budgets.cost, budgets.commands
     )?)
 }
 
