@@ -2,44 +2,10 @@
 
 use super::*;
 use ifs_base::{CommandId, IfaceId, Items, LinkState, Op, RoutineId, StateId, Text};
+use ifs_rows::{bytes_of, images};
 use std::alloc::{AllocError, Global};
 use std::process::Abort;
 use std::test::Fail;
-
-/// One state `a`, one routine: `ret`. Each word is a field, in hexadecimal.
-const SMALLEST: &str = "
-    49465356 01 0000 0001 00000003 0000
-    0000 0000 0000 0001 0001 0000
-    0000 0000 0000000000000000
-    0001 61 0000 0000 0000000000000000
-    00 0001 00000000
-";
-
-/// Body `link 0 up, pop, cmd 0, queue, ret`.
-const FIRST_RUN: &str = "
-    49465356 01 0001 0001 00000007 0001
-    0001 0000 0001 0001 0002 0000
-    0000 0000 0000000000000000
-    0005 6361727030
-    0006 6563686f206d
-    0001 61 0000 0001 0000000000000000
-    00 0001 00000000
-    00 0005 03020000 11000000 09000000 0b000000 00000000
-";
-
-/// Body `link 0 up, jf 4, cmd 0, queue, ret`.
-const FIRST_POLICY: &str = "
-    49465356 01 0001 0001 00000007 0001
-    0001 0000 0001 0001 0004 0000
-    0000 0001 0000000000000000
-    0005 6361727030
-    0006 6563686f206d
-    0001 61 0002 0003 0000000000000000
-    00 0001 00000000
-    00 0001 00000000
-    00 0001 00000000
-    00 0005 03020000 0e000004 09000000 0b000000 00000000
-";
 
 /// In each row: at an offset of the smallest image so many bytes give way to others; the fault then.
 const FAULTS: &str = "
@@ -72,30 +38,6 @@ const FAULTS: &str = "
 15 24 000200000000000100010000000000000000000000000000000161000161: I6 byte 44
 15 39 000000000000000200010000000000000000000000000000000161000000000000000000000000000161: I6 byte 56
 ";
-
-fn digit_of(byte: u8) -> Option<u8> {
-    match byte {
-        b'0'..=b'9' => Some(byte - b'0'),
-        b'a'..=b'f' => Some(byte - b'a' + 10),
-        _ => None,
-    }
-}
-
-/// The bytes of a text in hexadecimal; all but digits is passed over.
-fn bytes_of(alloc: Global, hex: &str) -> Result<Vec<u8>, AllocError> {
-    let mut bytes = Vec::new(alloc);
-    let mut high: Option<u8> = None;
-    for byte in hex.as_bytes() {
-        let Some(digit) = digit_of(*byte) else {
-            continue;
-        };
-        match high.take() {
-            None => high = Some(digit),
-            Some(high) => bytes.push(high.wrapping_mul(16).wrapping_add(digit))?,
-        }
-    }
-    Ok(bytes)
-}
 
 /// An image of which so many bytes at an offset give way to others.
 fn changed(
@@ -139,9 +81,9 @@ fn cut_off(rt: &impl Abort, alloc: Global, hex: &str) -> Result<(), Fail> {
 
 #[test]
 fn every_byte_cut_off(rt: HostRuntime) -> Result<(), Fail> {
-    cut_off(&rt, rt.alloc(), SMALLEST)?;
-    cut_off(&rt, rt.alloc(), FIRST_RUN)?;
-    cut_off(&rt, rt.alloc(), FIRST_POLICY)
+    cut_off(&rt, rt.alloc(), images::SMALLEST_IMAGE)?;
+    cut_off(&rt, rt.alloc(), images::FIRST_RUN)?;
+    cut_off(&rt, rt.alloc(), images::FIRST_POLICY)
 }
 
 fn check_fault(rt: &impl Abort, alloc: Global, row: &str) -> Result<(), Fail> {
@@ -150,7 +92,13 @@ fn check_fault(rt: &impl Abort, alloc: Global, row: &str) -> Result<(), Fail> {
     let at = words.next().ok_or("an offset")?.parse::<usize>()?;
     let removed = words.next().ok_or("a number of bytes")?.parse::<usize>()?;
     let put = bytes_of(alloc, words.next().ok_or("bytes")?)?;
-    let bytes = changed(alloc, &bytes_of(alloc, SMALLEST)?, at, removed, &put)?;
+    let bytes = changed(
+        alloc,
+        &bytes_of(alloc, images::SMALLEST_IMAGE)?,
+        at,
+        removed,
+        &put,
+    )?;
     let fault = read(alloc, &bytes).err().ok_or("a fault")?;
     let told = format!(in alloc; "{fault}")?;
     assert_eq!(rt; told.as_str(), expected, "{row}");
@@ -169,7 +117,13 @@ fn first_faults(rt: HostRuntime) -> Result<(), Fail> {
 
 #[test]
 fn instructions_in_all(rt: HostRuntime) -> Result<(), Fail> {
-    let mut bytes = changed(rt.alloc(), &bytes_of(rt.alloc(), SMALLEST)?, 24, 1, b"\x09")?;
+    let mut bytes = changed(
+        rt.alloc(),
+        &bytes_of(rt.alloc(), images::SMALLEST_IMAGE)?,
+        24,
+        1,
+        b"\x09",
+    )?;
     bytes.truncate(54);
     for _ in 0..8 {
         bytes.extend_from_slice(b"\x00\x04\x00")?;
@@ -195,7 +149,13 @@ fn tests_and_commands_may_repeat(rt: HostRuntime) -> Result<(), Fail> {
         "0000 0002 0002 0001 0001 0000 0000 0000 0000000000000000
          00093a80 0001 78 00093a80 0001 78 0001 79 0001 79",
     )?;
-    let bytes = changed(rt.alloc(), &bytes_of(rt.alloc(), SMALLEST)?, 15, 24, &put)?;
+    let bytes = changed(
+        rt.alloc(),
+        &bytes_of(rt.alloc(), images::SMALLEST_IMAGE)?,
+        15,
+        24,
+        &put,
+    )?;
     let image = read(rt.alloc(), &bytes)?;
     for test in image.parts().tests.as_slice() {
         assert_eq!(rt; test.period, 604_800);
@@ -236,13 +196,13 @@ fn read_and_written(rt: &impl Abort, alloc: Global, hex: &str) -> Result<Image, 
 
 #[test]
 fn first_run(rt: HostRuntime) -> Result<(), Fail> {
-    let image = read_and_written(&rt, rt.alloc(), FIRST_RUN)?;
+    let image = read_and_written(&rt, rt.alloc(), images::FIRST_RUN)?;
     check_first(&rt, &image, 2, 0, 1, &RUN)
 }
 
 #[test]
 fn first_policy(rt: HostRuntime) -> Result<(), Fail> {
-    let image = read_and_written(&rt, rt.alloc(), FIRST_POLICY)?;
+    let image = read_and_written(&rt, rt.alloc(), images::FIRST_POLICY)?;
     check_first(&rt, &image, 4, 2, 3, &POLICY)
 }
 
@@ -323,7 +283,7 @@ fn smallest_parts(alloc: Global, stack: u16) -> Result<ImageParts, AllocError> {
 
 #[test]
 fn smallest_image(rt: HostRuntime) -> Result<(), Fail> {
-    let image = read_and_written(&rt, rt.alloc(), SMALLEST)?;
+    let image = read_and_written(&rt, rt.alloc(), images::SMALLEST_IMAGE)?;
     let parts = smallest_parts(rt.alloc(), 0)?;
     assert!(rt; parts.fits());
     let made = write(rt.alloc(), &Image::new(parts))?;
@@ -332,11 +292,4 @@ fn smallest_image(rt: HostRuntime) -> Result<(), Fail> {
     let too_high = smallest_parts(rt.alloc(), 33)?;
     assert!(rt; !too_high.fits());
     Ok(())
-}
-
-#[test]
-fn laws_are_called() {
-    laws::prefix_free();
-    laws::one_image();
-    laws::one_spelling();
 }

@@ -6,9 +6,9 @@ use std::process::Abort;
 use std::test::Fail;
 
 mod accepted;
-mod bytes;
 mod draft;
 mod order;
+mod rows;
 mod texts;
 
 /// A name, an image as [`draft::image`] reads it, and what the verifier says of it: `ok`, or the text

@@ -1,9 +1,9 @@
-//! Images at their limits and one past them, and the worked ones.
+//! Images at their limits and one past them, and images of several parts.
 
 use super::{Row, agree};
 use std::test::Fail;
 
-const LIMITS: [Row; 26] = [
+const LIMITS: [Row; 25] = [
     ("height", "0 up 32, down 32, ret", "ok"),
     (
         "height through a call",
@@ -17,11 +17,6 @@ const LIMITS: [Row; 26] = [
         "ok",
     ),
     ("commands", "0 ret; 0 order 64, ret", "ok"),
-    (
-        "commands of one way",
-        "0 ret; 0 true, jf 67, order 32, pop, ret",
-        "V6 routine 1 place 66",
-    ),
     ("mask", "always 0 0 1; 0 ret", "ok"),
     (
         "mask of 64 tests",
@@ -88,42 +83,8 @@ const LIMITS: [Row; 26] = [
     ("a last wish", "0 state 0, want, ret", "ok"),
 ];
 
-/// Images with names of their own.
-const WORKED: [Row; 18] = [
-    (
-        "smallest image",
-        "stack 0; frames 1; cost 3; commands 0; tests 0; texts 0; 0 ret",
-        "ok",
-    ),
-    (
-        "ways that meet",
-        "stack 1; frames 1; cost 18; commands 0; 0 true, jf 4, true, jump 5, false, pop, ret",
-        "ok",
-    ),
-    (
-        "ways that meet, dearer than stated",
-        "cost 17; 0 true, jf 4, true, jump 5, false, pop, ret",
-        "V12 head",
-    ),
-    (
-        "ways that disagree",
-        "0 true, jf 4, true, jump 6, false, false, pop, ret",
-        "V7 routine 0 place 5",
-    ),
-    ("jf 0", "0 true, jf 0, ret", "V3 routine 0 place 1"),
-    ("jf 1", "0 true, jf 1, ret", "V3 routine 0 place 1"),
-    ("jf 2", "0 true, jf 2, ret", "ok"),
-    ("jf 3", "0 true, jf 3, ret", "V3 routine 0 place 1"),
-    ("ret, ret", "0 ret, ret", "V5 routine 0 place 1"),
-    ("not, ret", "0 not, ret", "V6 routine 0 place 0"),
-    ("call 0, ret", "0 call 0, ret", "V8 routine 0 place 0"),
-    ("nothing", "0", "V4 routine 0 place 0"),
-    ("a handler with a result", "1 true, ret", "V14 head"),
-    (
-        "cost through calls",
-        "stack 0; frames 1; cost 3; commands 0; always 256 256 0; state 256 256 0; 1 true, ret; double 255; 0 ret",
-        "V12 routine 15 place 0",
-    ),
+/// Images with several states, and with a routine that asks a test.
+const SEVERAL: [Row; 4] = [
     (
         "cost through fewer calls",
         "always 15 15 0; state 15 15 0; 1 true, ret; double 14; 0 ret",
@@ -152,6 +113,6 @@ fn limits(rt: HostRuntime) -> Result<(), Fail> {
 }
 
 #[test]
-fn worked(rt: HostRuntime) -> Result<(), Fail> {
-    agree(&rt, rt.alloc(), WORKED.as_slice())
+fn several(rt: HostRuntime) -> Result<(), Fail> {
+    agree(&rt, rt.alloc(), SEVERAL.as_slice())
 }
