@@ -180,7 +180,7 @@ fn a_failed_read_ends_the_session(rt: HostRuntime) -> Result<(), Fail> {
         rt.alloc(),
         &mut FromRead::new(Pieces {
             left: bytes.as_slice(),
-            most: bytes.len() - row.requests.len() / 2,
+            most: bytes.len().saturating_sub(row.requests.len() / 2),
             reads: 0,
             fails_at: 1,
             kind: ErrorKind::Other,
