@@ -2,9 +2,10 @@
 
 ghost use Rattle.std.specs.Prelude.{Some};
 
-use super::{FIRST_REPLIES, FIRST_REQUESTS, FIRST_RUN, REFUSED, first_replies, input_of};
+use super::{first_replies, input_of, row_input};
 use crate::std_devices::has_newline;
 use crate::{ByteIn, ByteOut, DeviceFault, FromRead, RunFault, SessionFault, ToWrite, run_hex};
+use ifs_rows::{refusals, sessions};
 use std::alloc::{AllocError, Global};
 use std::cell::Cell;
 use std::io::{self, ErrorKind, Read, Write};
@@ -172,14 +173,14 @@ fn writes_and_flushes(rt: HostRuntime) -> Result<(), Fail> {
 /// A session over the devices of std: a read that fails is S1, after the replies to the lines before.
 #[test]
 fn a_failed_read_ends_the_session(rt: HostRuntime) -> Result<(), Fail> {
-    let bytes = input_of(rt.alloc(), FIRST_RUN, FIRST_REQUESTS)?;
-    let length = FIRST_RUN.len() + 1 + FIRST_REQUESTS.len() / 2;
+    let row = sessions::first_run();
+    let bytes = row_input(rt.alloc(), row)?;
     let mut log = Vec::new(rt.alloc());
     let answer = run_hex(
         rt.alloc(),
         &mut FromRead::new(Pieces {
             left: bytes.as_slice(),
-            most: length,
+            most: bytes.len().saturating_sub(row.requests.len() / 2),
             reads: 0,
             fails_at: 1,
             kind: ErrorKind::Other,
@@ -187,7 +188,10 @@ fn a_failed_read_ends_the_session(rt: HostRuntime) -> Result<(), Fail> {
         &mut ToWrite::new(&mut log),
     );
     assert_eq!(rt; answer, Err(RunFault::Session(SessionFault::ReadFailed)));
-    assert_eq!(rt; log.as_slice(), first_replies(rt.alloc(), 1)?.as_bytes());
+    assert_eq!(rt;
+        log.as_slice(),
+        first_replies(rt.alloc(), row, 1)?.as_bytes()
+    );
     Ok(())
 }
 
@@ -228,30 +232,35 @@ impl ByteOut for Holding<'_> {
     }
 }
 
-/// A reader whose bytes come in pieces, each of which but the first is waited for. It counts the
-/// waits at which the writer holds something back.
+/// A reader whose bytes come in pieces of these lengths, and then the rest, each of which is waited
+/// for. It counts the waits at which the writer holds something back.
 #[derive(Drop)]
 struct Waiting<'a> {
     ready: &'a [u8],
-    later: &'a [&'a [u8]],
+    later: &'a [u8],
+    lengths: &'a [usize],
     shown: &'a Cell<usize>,
     late: u32,
 }
 
-impl<'a> Waiting<'a> {
+impl Waiting<'_> {
     /// Waits for the next piece, and gives its first byte.
     fn wait(&mut self) -> Option<u8> {
         if self.shown.get() > 0 {
             self.late = self.late.saturating_add(1);
         }
-        let [piece, later @ ..] = self.later else {
+        let length = match self.lengths {
+            [] => self.later.len(),
+            [length, others @ ..] => {
+                self.lengths = others;
+                self.later.len().min(*length)
+            }
+        };
+        self.ready = &self.later[..length];
+        self.later = &self.later[length..];
+        let [byte, ready @ ..] = self.ready else {
             return None;
         };
-        let bytes: &'a [u8] = *piece;
-        let [byte, ready @ ..] = bytes else {
-            return None;
-        };
-        self.later = later;
         self.ready = ready;
         Some(*byte)
     }
@@ -275,47 +284,26 @@ impl ByteIn for Waiting<'_> {
     }
 }
 
-/// How the requests come after the image, and how often the writer is flushed.
-const TALKS: [(&str, &[&[u8]], u32); 3] = [
-    (
-        "one by one",
-        &[
-            b"link carp0 up\n",
-            b"link carp0 up\n",
-            b"take\n",
-            b"take\n",
-            b"stop\n",
-        ],
-        6,
-    ),
-    (
-        "all at once",
-        &[b"link carp0 up\nlink carp0 up\ntake\ntake\nstop\n"],
-        2,
-    ),
-    (
-        "cut within lines",
-        &[
-            b"link carp0 up\nli",
-            b"nk carp0 up\ntake",
-            b"\ntake\nst",
-            b"op\n",
-        ],
-        5,
-    ),
+/// How the requests of a row come after its image, in pieces of these lengths and the rest, and how
+/// often the writer is flushed.
+const COMINGS: [(&str, &[usize], u32); 3] = [
+    ("one by one", &[14, 14, 5, 5, 5], 6),
+    ("all at once", &[], 2),
+    ("cut within lines", &[16, 16, 8], 5),
 ];
 
 /// No reply is held back where a byte is waited for, nor at the end; and lines that stand ready are
 /// served without a flush between them.
 #[test]
 fn replies_go_out_before_a_wait(rt: HostRuntime) -> Result<(), Fail> {
-    let image = input_of(rt.alloc(), FIRST_RUN, "")?;
-    let replies = first_replies(rt.alloc(), FIRST_REPLIES.len())?;
-    for (name, pieces, flushes) in TALKS {
+    let row = sessions::first_run();
+    let image = input_of(rt.alloc(), row.image, "")?;
+    for (name, lengths, flushes) in COMINGS {
         let shown = Cell::new(0);
         let mut input = Waiting {
             ready: image.as_slice(),
-            later: pieces,
+            later: row.requests.as_bytes(),
+            lengths,
             shown: &shown,
             late: 0,
         };
@@ -323,7 +311,7 @@ fn replies_go_out_before_a_wait(rt: HostRuntime) -> Result<(), Fail> {
         let answer = run_hex(rt.alloc(), &mut input, &mut output);
         assert!(rt; answer.is_ok(), "{name}");
         assert_eq!(rt; input.late, 0, "{name}");
-        assert_eq!(rt; output.gone.as_slice(), replies.as_bytes(), "{name}");
+        assert_eq!(rt; output.gone.as_slice(), row.replies.as_bytes(), "{name}");
         assert!(rt; output.held.is_empty(), "{name}");
         assert_eq!(rt; output.flushes, flushes, "{name}");
     }
@@ -333,13 +321,20 @@ fn replies_go_out_before_a_wait(rt: HostRuntime) -> Result<(), Fail> {
 /// The line of a refusal has gone out.
 #[test]
 fn refusals_go_out(rt: HostRuntime) -> Result<(), Fail> {
-    for (line, reply) in REFUSED {
+    for refusal in refusals() {
+        let line = input_of(rt.alloc(), refusal.image, "")?;
         let shown = Cell::new(0);
+        let mut input = FromRead::new(line.as_slice());
         let mut output = Holding::new(rt.alloc(), &shown);
-        let answer = run_hex(rt.alloc(), &mut FromRead::new(line.as_bytes()), &mut output);
-        assert!(rt; answer.is_err(), "{line}");
-        assert_eq!(rt; output.gone.as_slice(), reply.as_bytes(), "{line}");
-        assert!(rt; output.held.is_empty(), "{line}");
+        let answer = run_hex(rt.alloc(), &mut input, &mut output);
+        assert!(rt; answer.is_err(), "{}", refusal.name);
+        assert_eq!(rt;
+            output.gone.as_slice(),
+            refusal.answer.as_bytes(),
+            "{}",
+            refusal.name
+        );
+        assert!(rt; output.held.is_empty(), "{}", refusal.name);
     }
     Ok(())
 }
