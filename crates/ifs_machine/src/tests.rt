@@ -9,10 +9,11 @@ mod plain;
 
 use super::*;
 use arrayvec::ArrayVec;
-use ifs_base::{CommandId, IfaceId, LinkState, Op, RoutineId, StateId, TestId, encode_op};
-use ifs_image::ImageParts;
+use ifs_base::{CommandId, IfaceId, Items, LinkState, Op, RoutineId, StateId, TestId, Text};
+use ifs_image::{Budgets, Handlers, Image, ImageParts, Routine, StateSpec, TestSpec, write};
+use ifs_rows::{bytes_of, images};
 use ifs_verify::{Verified, verify};
-use std::alloc::{AllocFailed, Global};
+use std::alloc::{AllocError, Global};
 use std::process::Abort;
 use std::test::Fail;
 
@@ -22,62 +23,75 @@ const DOWN: [LinkState; 2] = [LinkState::Down, LinkState::Unknown];
 
 const UP: [LinkState; 2] = [LinkState::Up, LinkState::Unknown];
 
-/// The bytes of an image with two interfaces, two tests, two commands and two states, whose handlers
-/// are all the last routine. The others have one result.
-fn spelled(alloc: Global, routines: &[&[Op]]) -> Result<Vec<u8>, AllocFailed<u8>> {
-    let count = routines.len().saturating_sub(1);
-    let high = (count / 256 % 256) as u8;
-    let low = (count % 256) as u8;
-    let mut bytes = Vec::new(alloc);
-    put(
-        &mut bytes,
-        b"IFSV\x01\x00\x20\x00\x20\x00\x04\x93\xe0\x00\x40\x00\x02\x00\x02\x00\x02\x00\x02",
-    )?;
-    let routine_count = count.saturating_add(1);
-    put(
-        &mut bytes,
-        &[
-            (routine_count / 256 % 256) as u8,
-            (routine_count % 256) as u8,
-            0,
-            0,
-        ],
-    )?;
-    put(&mut bytes, &[high, low, high, low, 0, 0, 0, 0, 0, 0, 0, 0])?;
-    put(&mut bytes, b"\x00\x01a\x00\x01b")?;
-    put(
-        &mut bytes,
-        b"\x00\x00\x00\x01\x00\x01t\x00\x00\x00\x01\x00\x01u",
-    )?;
-    put(&mut bytes, b"\x00\x01c\x00\x01d")?;
-    for name in b"st" {
-        put(
-            &mut bytes,
-            &[0, 1, *name, high, low, high, low, 0, 0, 0, 0, 0, 0, 0, 0],
-        )?;
+/// A list of texts.
+fn texts(alloc: Global, words: [&str; 2]) -> Result<Items<Text>, AllocError> {
+    let mut texts = Vec::new(alloc);
+    for word in words {
+        texts.push(Text::new(String::from_str(alloc, word)?))?;
     }
-    for (i, code) in routines.iter().enumerate() {
-        let length = code.len();
-        put(
-            &mut bytes,
-            &[
-                if i < count { 1 } else { 0 },
-                (length / 256 % 256) as u8,
-                (length % 256) as u8,
-            ],
-        )?;
-        for op in *code {
-            put(&mut bytes, &encode_op(*op))?;
-        }
-    }
-    Ok(bytes)
+    Ok(Items::new(texts))
 }
 
-fn put(bytes: &mut Vec<u8>, more: &[u8]) -> Result<(), AllocFailed<u8>> {
-    for byte in more {
-        bytes.push(*byte)?;
+/// Two tests, `t` and `u`.
+fn two_tests(alloc: Global) -> Result<Items<TestSpec>, AllocError> {
+    let mut tests = Vec::new(alloc);
+    for word in ["t", "u"] {
+        let text = Text::new(String::from_str(alloc, word)?);
+        tests.push(TestSpec { period: 1, text })?;
     }
-    Ok(())
+    Ok(Items::new(tests))
+}
+
+/// Two states, `a` and `b`, with these handlers.
+fn two_states(alloc: Global, handlers: Handlers) -> Result<Items<StateSpec>, AllocError> {
+    let mut states = Vec::new(alloc);
+    for word in ["a", "b"] {
+        let name = Text::new(String::from_str(alloc, word)?);
+        states.push(StateSpec { name, handlers })?;
+    }
+    Ok(Items::new(states))
+}
+
+/// Routines of these instructions. All but the last have one result.
+fn routines_of(alloc: Global, codes: &[&[Op]]) -> Result<Items<Routine>, AllocError> {
+    let mut routines = Vec::new(alloc);
+    for (index, code) in codes.iter().enumerate() {
+        routines.push(Routine {
+            results: if index < codes.len() - 1 { 1 } else { 0 },
+            code: Items::new(code.to_vec(alloc)?),
+        })?;
+    }
+    Ok(Items::new(routines))
+}
+
+/// The bytes of an image with two interfaces, two tests, two commands and two states, whose handlers
+/// are all the last routine.
+fn spelled(alloc: Global, codes: &[&[Op]]) -> Result<Vec<u8>, Fail> {
+    let last = RoutineId(u16::try_from(codes.len().saturating_sub(1)).unwrap_or(0));
+    let handlers = Handlers {
+        init: last,
+        body: last,
+        mask: 0,
+    };
+    let parts = ImageParts {
+        budgets: Budgets {
+            stack: 32,
+            frames: 32,
+            cost: 300_000,
+            commands: 64,
+        },
+        initial: StateId(0),
+        always: handlers,
+        interfaces: texts(alloc, ["a", "b"])?,
+        tests: two_tests(alloc)?,
+        commands: texts(alloc, ["c", "d"])?,
+        states: two_states(alloc, handlers)?,
+        routines: routines_of(alloc, codes)?,
+    };
+    if !parts.fits() {
+        return Err(Fail::from("no image"));
+    }
+    Ok(write(alloc, &Image::new(parts))?)
 }
 
 /// Facts for an image: the first entry of each table has the first value, and so on by turns.
@@ -153,28 +167,27 @@ fn check(
     Ok(())
 }
 
+/// Worked images whose every handler is one routine, and what it costs.
 #[test]
-fn ways_that_meet(rt: HostRuntime) -> Result<(), Fail> {
-    let code = [
-        Op::Yes,
-        Op::JumpFalse(4),
-        Op::Yes,
-        Op::Jump(5),
-        Op::No,
-        Op::Pop,
-        Op::Ret,
-    ];
-    check(&rt, rt.alloc(), &code, (DOWN, NEVER), (6, &[], None))
+fn worked_rows(rt: HostRuntime) -> Result<(), Fail> {
+    for (name, image, cost) in [
+        ("smallest_image", images::SMALLEST_IMAGE, 1),
+        ("ways_that_meet", images::WAYS_THAT_MEET, 6),
+        ("short_jump", images::SHORT_JUMP, 3),
+    ] {
+        let bytes = bytes_of(rt.alloc(), image)?;
+        let verified = verify(rt.alloc(), bytes.as_slice())?;
+        let run = compared(&rt, rt.alloc(), &verified, DOWN, NEVER)?;
+        assert_eq!(rt; run.cost, cost, "{name}");
+        assert_eq!(rt; run.commands.len(), 0, "{name}");
+        assert_eq!(rt; run.wish, None, "{name}");
+    }
+    Ok(())
 }
 
+/// One command, whatever the link is.
 #[test]
-fn jumps(rt: HostRuntime) -> Result<(), Fail> {
-    let code = [Op::Yes, Op::JumpFalse(2), Op::Ret];
-    check(&rt, rt.alloc(), &code, (DOWN, NEVER), (3, &[], None))
-}
-
-#[test]
-fn first_run(rt: HostRuntime) -> Result<(), Fail> {
+fn queues(rt: HostRuntime) -> Result<(), Fail> {
     let code = [
         Op::Link(IfaceId(0), LinkState::Up),
         Op::Pop,
