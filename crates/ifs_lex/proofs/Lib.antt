@@ -5,3 +5,4 @@ pub mod Signs
 pub mod Tables
 pub mod Unrolled
 pub mod Parts
+pub mod Endings

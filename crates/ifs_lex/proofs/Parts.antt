@@ -1,14 +1,12 @@
 -- The parts of a text from a place on: the next one, and those after it.
-use Rattle.std.proofs.Common.{◌≡◌, ℕ, Bool, true, false, cond, List, [], ◌∷◌, Option, Some, None, option_map, Result, Ok, Err, refl, sym, ◌∙◌, ap, subst, ◌<◌, ◌≤◌, length, arith}
+use Rattle.std.proofs.Common.{◌≡◌, ℕ, Bool, true, false, cond, List, [], ◌∷◌, Option, Some, None, option_map, Result, Ok, Err, refl, sym, ◌∙◌, ap, ◌<◌, ◌≤◌, length, arith}
 use Rattle.std.specs.Prelude.{is_some}
 use Rattle.std.specs.Option.{option_map_or}
-use Rattle.ifs_base.specs.declared.span.Span.{Span}
-use Rattle.ifs_lex.specs.declared.token.What.{What}
-use Rattle.ifs_lex.specs.declared.token.What.TheVariants.{Word, Quoted, BraceOpen, BraceClose, ParenOpen, ParenClose, Dot, Equals, Bang, And, Or, End}
+use Rattle.ifs_lex.specs.declared.token.What.TheVariants.{End}
 use Rattle.ifs_lex.specs.declared.token.Token.{Token}
 use Rattle.ifs_lex.specs.declared.fault.LexFault.{LexFault}
 use Rattle.ifs_lex.specs.Items.{Item, One, Uses, Astray, Open, Place, Placed, item_at, after_item, is_last, items_at}
-use Rattle.ifs_lex.specs.Expansion.{Part, Defines, Stands, State, state, name_of, is_equals, text_of, given_text, definition_at, parts_from, defined, with_item, with_part, tokens_after, ◌>>=◌}
+use Rattle.ifs_lex.specs.Expansion.{Part, Defines, Stands, State, name_of, is_equals, text_of, given_text, parts_from, with_item, with_part, tokens_after, ◌>>=◌}
 use Rattle.ifs_lex.specs.Turns.{text_here, definition_here, after_definition, with_turn}
 use Rattle.ifs_lex.proofs.Unrolled.{items_unroll, fewer_left, no_more_left}
 
@@ -78,7 +76,7 @@ bind_same (Ok x) f g h = h x
 bind_same (Err fault) f g h = refl
 
 -- Ends at the last item, or goes on from a place.
-ending : Bool → Place → State → Result (List Token) LexFault
+unfoldable pub ending : Bool → Place → State → Result (List Token) LexFault
 ending last r next = cond last (Ok next.tokens) (tokens_after next (parts_from 0 (items_at r)))
 
 ends_or : (t : Bool) (xs : List Placed) (next : State) → tokens_after next (parts_from 0 (cond t [] xs)) ≡ cond t (Ok next.tokens) (tokens_after next (parts_from 0 xs))
@@ -117,7 +115,8 @@ by_name s p (Some name) e =
     let given = ap given_text (after_is p last) ∙ given_here (after_item p) in
     ap (λ t. tokens_after s (parts_by (item_at p) (after p) (Some name) t)) given ∙ by_text s p name _ last refl
 
-turn_is : (s : State) (p : Place) → tokens_after s (parts_from 0 (items_at p)) ≡ (with_turn (item_at p) (definition_here (after_item p) (item_at p).item) s >>= ending (is_last (item_at p).item) (after_definition (after_item p) (is_some (definition_here (after_item p) (item_at p).item))))
+-- The tokens from a place on are those of its first part, then of what comes after it.
+pub turn_is : (s : State) (p : Place) → tokens_after s (parts_from 0 (items_at p)) ≡ (with_turn (item_at p) (definition_here (after_item p) (item_at p).item) s >>= ending (is_last (item_at p).item) (after_definition (after_item p) (is_some (definition_here (after_item p) (item_at p).item))))
 unfolding parts_by
 turn_is s p = ap (λ xs. tokens_after s (parts_from 0 xs)) (unrolled p) ∙ by_name s p _ refl
 

@@ -1,7 +1,6 @@
 -- What ropes stand for, cell by cell.
-use Rattle.std.proofs.Common.{◌≡◌, ℕ, zero, suc, ◌+◌, ◌-◌, ◌*◌, ◌<◌, ◌≤◌, List, [], ◌∷◌, ◌++◌, length, map, get_or, Option, Some, None, refl, sym, ◌∙◌, ap, subst, arith, append_assoc, length-append, ◌⊎◌, inl, inr}
+use Rattle.std.proofs.Common.{◌≡◌, ℕ, zero, suc, ◌+◌, ◌*◌, ◌<◌, ◌≤◌, List, [], ◌∷◌, ◌++◌, length, map, get_or, refl, sym, ◌∙◌, ap, subst, arith, append_assoc, length-append, ◌⊎◌, inl, inr}
 use Rattle.std.proofs.lemmas.Bool.{cases_lt}
-use Rattle.std.specs.Prelude.{slice_get}
 use Rattle.std.proofs.lemmas.Grind.{common_steps, elements}
 use Rattle.std.specs.List.{All}
 use Rattle.ifs_base.specs.declared.span.Span.{Span}
@@ -10,8 +9,7 @@ use Rattle.ifs_lex.specs.Expansion.{token}
 use Rattle.ifs_lex.specs.declared.token.What.{What}
 use Rattle.ifs_lex.specs.declared.ropes.Cell.{Cell}
 use Rattle.ifs_lex.specs.declared.ropes.Cell.TheVariants.{Nothing, Leaf, Both}
-use Rattle.ifs_lex.specs.declared.ropes.Rope.{Rope}
-use Rattle.ifs_lex.specs.Ropes.{whats_at, whats_in, ropes_from, IsEarlier, AreEarlier, Holds, Keeps, stacked, weight, weights}
+use Rattle.ifs_lex.specs.Ropes.{whats_at, whats_in, ropes_from, IsEarlier, AreEarlier, Keeps, stacked, weight, weights}
 
 pub length-ropes_from : (before : List (List What)) (cells : List Cell) → length (ropes_from before cells) ≡ length before + length cells
 length-ropes_from before [] = omega arith

@@ -1,5 +1,5 @@
 -- A table of macros while ropes are added.
-use Rattle.std.proofs.Common.{◌≡◌, ℕ, ◌+◌, ◌<◌, ◌≤◌, List, [], ◌∷◌, ◌++◌, length, Bool, true, false, cond, ltb, ◌||◌, Option, Some, None, option_map, Result, Ok, Err, refl, sym, ◌∙◌, ap, subst, arith, length-append}
+use Rattle.std.proofs.Common.{◌≡◌, ℕ, ◌+◌, ◌≤◌, List, ◌++◌, length, Bool, true, false, cond, ltb, ◌||◌, Option, Some, None, option_map, Result, Ok, Err, refl, sym, ◌∙◌, ap, subst, arith, length-append}
 use Rattle.std.specs.Prelude.{IfSome, OnOk, OnErr, is_some}
 use mathlib.Core.Path.{fun_ext}
 use Rattle.std.specs.HashMap as hash
@@ -10,7 +10,6 @@ use Rattle.std.proofs.lemmas.Map.Text.{hash_map_updates_str}
 use denote.Ref.{Bor}
 use Rattle.ifs_lex.specs.declared.token.What.{What}
 use Rattle.ifs_lex.specs.declared.macros.Entry.{Entry}
-use Rattle.ifs_lex.specs.declared.macros.MacroTable.{MacroTable}
 use Rattle.ifs_lex.specs.declared.ropes.Rope.{Rope}
 use Rattle.ifs_lex.specs.declared.fault.LexFault.{LexFault}
 use Rattle.ifs_lex.specs.declared.fault.LexFault.TheVariants.{OverLimit}

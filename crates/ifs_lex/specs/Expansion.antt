@@ -1,6 +1,6 @@
 -- From the items of a text to its tokens: definitions are taken out, uses replaced.
-use Rattle.std.specs.Prelude.{ℕ, zero, suc, ◌+◌, Bool, true, false, ◌&&◌, ◌||◌, not, nat_lt, if◌then◌else◌, List, [], ◌∷◌, ◌++◌, length, map, Option, Some, None, option_map, is_some, Result, Ok, Err}
-use Rattle.std.specs.Option.{option_map_or, ok_or}
+use Rattle.std.specs.Prelude.{◌≡◌, ℕ, zero, suc, ◌+◌, Bool, true, false, ◌&&◌, ◌||◌, not, nat_lt, if◌then◌else◌, List, [], ◌∷◌, ◌++◌, length, map, Option, Some, None, option_map, is_some, Result, Ok, Err}
+use Rattle.std.specs.Option.{option_map_or}
 use Rattle.std.specs.Str.{bytes_eq}
 use Rattle.ifs_base.specs.declared.span.Span.{Span}
 use Rattle.ifs_lex.specs.declared.token.What.{What}
@@ -180,3 +180,25 @@ unfoldable pub tokens_of : List ℕ → List (List ℕ × List ℕ) → Result (
 tokens_of text defs =
     given_from no_macros defs >>= λ m.
     if nat_lt 1048576 (length text) then Err (OverLimit 1) else tokens_after (state [] m) (parts_from 0 (items_of text))
+
+-- The tokens that a text spells under what is given beside it.
+abbrev pub Spells : List ℕ → List (List ℕ × List ℕ) → List Token → Type 0
+Spells text defs tokens = tokens_of text defs ≡ Ok tokens
+
+-- The end of a text.
+abbrev pub is_end : What → Bool
+is_end End = true
+is_end _ = false
+
+-- No token is the end.
+abbrev pub Endless : List Token → Type 0
+Endless [] = Unit {0}
+Endless (first ∷ rest) = (is_end first.what ≡ false) × Endless rest
+
+-- The one end stands last.
+pub record EndsOnce (tokens : List Token) : Type 0 where
+  pub front : List Token
+  pub last : Token
+  pub whole : tokens ≡ front ++ last ∷ []
+  pub ends : last.what ≡ End
+  pub once : Endless front

@@ -1,5 +1,5 @@
 -- The macros that the code's table knows.
-use Rattle.std.specs.Prelude.{List, ℕ, option_map}
+use Rattle.std.specs.Prelude.{option_map}
 use Rattle.std.specs.HashMap as hash
 use Rattle.std.specs.Str.{bytes_eq}
 use Rattle.ifs_lex.specs.declared.macros.MacroTable.{MacroTable}

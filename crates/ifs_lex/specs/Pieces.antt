@@ -1,5 +1,5 @@
 -- What the code's pieces of a text stand for.
-use Rattle.std.specs.Prelude.{ℕ, ◌+◌, ◌==◌, if◌then◌else◌, List, [], ◌∷◌, Option, Some, None, option_map}
+use Rattle.std.specs.Prelude.{ℕ, ◌+◌, if◌then◌else◌, List, [], ◌∷◌, Option, Some, None, option_map}
 use Rattle.ifs_lex.specs.declared.token.What.TheVariants.{Word, Quoted, BraceOpen, BraceClose, ParenOpen, ParenClose, Dot, Equals, Bang, And, Or, End}
 use Rattle.ifs_lex.specs.declared.pieces.Piece.{Piece}
 use Rattle.ifs_lex.specs.declared.pieces.Piece.TheVariants.{Bare, Between, Named, Equal, Plain, Last, Nothing, Unclosed}

@@ -1,5 +1,5 @@
 -- One turn of the code: a definition or an item, from a place on.
-use Rattle.std.specs.Prelude.{ℕ, Bool, false, if◌then◌else◌, List, Option, Some, None, option_map, Result, Ok, Err}
+use Rattle.std.specs.Prelude.{ℕ, Bool, false, if◌then◌else◌, List, Option, Some, None, option_map, Result, Ok}
 use Rattle.std.specs.Option.{option_map_or}
 use Rattle.ifs_lex.specs.declared.fault.LexFault.{LexFault}
 use Rattle.ifs_lex.specs.declared.reading.Reading.{Reading}

@@ -7,6 +7,7 @@
 
 mod characters;
 mod fault;
+pub mod laws;
 mod limits;
 mod macros;
 mod pieces;
@@ -19,3 +20,6 @@ mod token;
 pub use fault::LexFault;
 pub use reading::tokens;
 pub use token::{Token, What};
+
+#[cfg(test)]
+mod tests;

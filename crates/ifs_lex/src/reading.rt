@@ -1,8 +1,10 @@
 //! A text to its tokens.
 
-ghost use Rattle.std.specs.Prelude.{◌≡◌, ◌≤◌, [], ◌∷◌, length, option_map, is_some, map, IfOk};
+ghost use Rattle.std.specs.Prelude.{◌≡◌, ◌≤◌, [], ◌∷◌, length, option_map, is_some, map, Err, IfOk, IfErr, IsOkAnd, ◌≢◌, List};
+ghost use Rattle.ifs_lex.specs.declared.token.Token.{Token};
+ghost use Rattle.ifs_lex.specs.declared.fault.LexFault.TheVariants.{Memory};
 ghost use Rattle.ifs_lex.specs.Items.{items_of};
-ghost use Rattle.ifs_lex.specs.Expansion.{state, tokens_after, parts_from, given_one, given_from, tokens_of};
+ghost use Rattle.ifs_lex.specs.Expansion.{state, tokens_after, parts_from, given_one, given_from, tokens_of, Spells, EndsOnce};
 ghost use Rattle.ifs_lex.specs.Kept.{Answers};
 ghost use Rattle.ifs_lex.specs.Known.{macros_of};
 ghost use Rattle.ifs_lex.specs.Pieces.{item_of};
@@ -199,13 +201,8 @@ fn read_given<'a>(
     Ok(())
 }
 
-/// The tokens of a policy text, the one `End` last. `defs` are definitions that win over the text's:
-/// of two with one name the first holds.
-///
-/// A refusal is the first fault from the left, with its line; faults of `defs` come before the text
-/// and have line 0. P0 comes where a growth was refused, wherever that is.
 #[tactic(auto, unfolding(crate::specs::Expansion::tokens_of))]
-pub fn tokens<'a>(
+fn answer<'a>(
     alloc: Global,
     text: &'a str,
     defs: &'a [(&'a str, &'a str)],
@@ -221,6 +218,32 @@ pub fn tokens<'a>(
         return Err(LexFault::OverLimit { line: 1 });
     }
     match read(alloc, text, macros) {
+        Ok(tokens) => Ok(tokens),
+        Err(fault) => Err(fault),
+    }
+}
+
+/// The tokens of a policy text, the one `End` last. `defs` are definitions that win over the text's:
+/// of two with one name the first holds.
+///
+/// A refusal is the first fault from the left, with its line; faults of `defs` come before the text
+/// and have line 0. P0 comes where a growth was refused, wherever that is.
+pub fn tokens<'a>(
+    alloc: Global,
+    text: &'a str,
+    defs: &'a [(&'a str, &'a str)],
+) -> Result<Vec<Token>, LexFault>
+    // What is answered are the tokens that the text spells.
+    ensures found { IfOk result (λ tokens. Spells text.now (map (λ d. (d.0.now, d.1.now)) defs.now) tokens.items) }
+    // The one end stands last.
+    ensures ended { IfOk result (λ tokens. EndsOnce tokens.items) }
+    // Tokens that the text spells are answered, unless memory runs out.
+    ensures only { (spelled : List Token) → Spells text.now (map (λ d. (d.0.now, d.1.now)) defs.now) spelled
+        → result ≢ Err Memory → IsOkAnd result (λ tokens. tokens.items ≡ spelled) }
+    // Any other refusal is the first fault.
+    ensures first_fault { IfErr result (λ fault. fault ≢ Memory → tokens_of text.now (map (λ d. (d.0.now, d.1.now)) defs.now) ≡ Err fault) }
+{
+    match answer(alloc, text, defs) {
         Ok(tokens) => Ok(tokens),
         Err(fault) => Err(fault),
     }

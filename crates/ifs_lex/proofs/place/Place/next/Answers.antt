@@ -1,4 +1,4 @@
-use Rattle.std.proofs.Common.{ap, sym, ◌∙◌}
+use Rattle.std.proofs.Common.{ap, ◌∙◌}
 use Rattle.ifs_lex.specs.Items as items
 use Rattle.ifs_lex.proofs.Boundaries.{gap_boundary, item_boundary, rest_utf8}
 use Rattle.ifs_lex.proofs.place.Place.next.Goals as goal

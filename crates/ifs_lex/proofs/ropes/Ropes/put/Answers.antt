@@ -1,7 +1,6 @@
-use Rattle.std.proofs.Common.{arith, ap, ◌++◌, map, ◌∙◌, sym}
-use Rattle.std.proofs.lemmas.Grind.{common_steps}
+use Rattle.std.proofs.Common.{arith, ap, ◌++◌, map, sym}
 use Rattle.ifs_lex.specs.Expansion.{token}
-use Rattle.ifs_lex.specs.Ropes.{stacked, whats_at}
+use Rattle.ifs_lex.specs.Ropes.{stacked}
 use Rattle.ifs_lex.proofs.RopeLaws.{cells_within, cell_at, none_put, leaf_put, both_put, both_earlier, both_lighter, weight_some, leaf_out, all_two}
 use Rattle.ifs_lex.proofs.ropes.Ropes.put.Goals as goal
 

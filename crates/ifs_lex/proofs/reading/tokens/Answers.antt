@@ -1,0 +1,12 @@
+use Rattle.std.proofs.Common.{ap, Err}
+use Rattle.ifs_lex.proofs.Endings.{spelled_ends_once, spelled_once, spelled_none}
+use Rattle.ifs_lex.proofs.reading.tokens.Goals as goal
+
+pub returns-in-Ok-clause-ended : goal.returns-in-Ok-clause-ended
+returns-in-Ok-clause-ended c = spelled_ends_once _ _ _ c.in-Ok.ensures
+
+pub returns-in-Ok-clause-only : goal.returns-in-Ok-clause-only
+returns-in-Ok-clause-only c = λ spelled h other. spelled_once _ _ _ spelled c.in-Ok.ensures h
+
+pub returns-in-Err-clause-only : goal.returns-in-Err-clause-only
+returns-in-Err-clause-only c = λ spelled h other. absurd (spelled_none _ _ spelled _ h (c.in-Err.ensures (λ e. other (ap (λ f. Err f) e))))
