@@ -25,9 +25,7 @@ pub const PERIOD: u32 = 604_800;
 pub fn text_fits(bytes: &[u8]) -> bool
     ensures { IsTrue result ↔ TextFits bytes.now }
 {
-    1 <= bytes.len()
-        && bytes.len() <= usize::from(TEXT)
-        && bytes.iter().all(|byte| *byte != 0)
+    1 <= bytes.len() && bytes.len() <= usize::from(TEXT) && bytes.iter().all(|byte| *byte != 0)
 }
 
 /// Whether a number of seconds is a period.

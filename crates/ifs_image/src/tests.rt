@@ -2,7 +2,7 @@
 
 use super::*;
 use ifs_base::{CommandId, IfaceId, Items, LinkState, Op, RoutineId, StateId, Text};
-use ifs_rows::{bytes_of, images};
+use ifs_rows::{bytes_of, images, rows};
 use std::alloc::{AllocError, Global};
 use std::process::Abort;
 use std::test::Fail;
@@ -156,15 +156,22 @@ fn tests_and_commands_may_repeat(rt: HostRuntime) -> Result<(), Fail> {
         24,
         &put,
     )?;
-    let image = read(rt.alloc(), &bytes)?;
+    let image = written_again(&rt, rt.alloc(), &bytes)?;
+    check_repeated(&rt, &image);
+    Ok(())
+}
+
+/// Two tests of the longest period and two commands, of one text each.
+fn check_repeated(rt: &impl Abort, image: &Image) {
     for test in image.parts().tests.as_slice() {
         assert_eq!(rt; test.period, 604_800);
         assert_eq!(rt; test.text.as_str(), "x");
     }
+    for text in image.parts().commands.as_slice() {
+        assert_eq!(rt; text.as_str(), "y");
+    }
     assert_eq!(rt; image.parts().tests.len(), 2);
     assert_eq!(rt; image.parts().commands.len(), 2);
-    assert_eq!(rt; write(rt.alloc(), &image)?.as_slice(), bytes.as_slice());
-    Ok(())
 }
 
 /// The body of the first run.
@@ -185,13 +192,26 @@ const POLICY: [Op; 5] = [
     Op::Ret,
 ];
 
-/// What the bytes are read to is written as those bytes again.
+/// What bytes are read to is written as those bytes again.
+fn written_again(rt: &impl Abort, alloc: Global, bytes: &[u8]) -> Result<Image, Fail> {
+    let image = read(alloc, bytes)?;
+    let written = write(alloc, &image)?;
+    assert_eq!(rt; written.as_slice(), bytes);
+    Ok(image)
+}
+
+/// The same of an image in hexadecimal.
 fn read_and_written(rt: &impl Abort, alloc: Global, hex: &str) -> Result<Image, Fail> {
     let bytes = bytes_of(alloc, hex)?;
-    let image = read(alloc, &bytes)?;
-    let written = write(alloc, &image)?;
-    assert_eq!(rt; written.as_slice(), bytes.as_slice());
-    Ok(image)
+    written_again(rt, alloc, bytes.as_slice())
+}
+
+#[test]
+fn every_row_again(rt: HostRuntime) -> Result<(), Fail> {
+    for row in rows() {
+        let _image = read_and_written(&rt, rt.alloc(), row.image)?;
+    }
+    Ok(())
 }
 
 #[test]
@@ -216,7 +236,13 @@ fn check_first(
     body: u16,
     last: &[Op],
 ) -> Result<(), Fail> {
-    let parts = image.parts();
+    check_front(rt, image.parts());
+    check_state(rt, image.parts(), init, body);
+    check_code(rt, image.parts(), routines, usize::from(body), last);
+    Ok(())
+}
+
+fn check_front(rt: &impl Abort, parts: &ImageParts) {
     let budgets = Budgets {
         stack: 1,
         frames: 1,
@@ -233,22 +259,28 @@ fn check_first(
     for text in parts.commands.as_slice() {
         assert_eq!(rt; text.as_str(), "echo m");
     }
+}
+
+fn check_state(rt: &impl Abort, parts: &ImageParts, init: u16, body: u16) {
     assert_eq!(rt; parts.states.len(), 1);
     for state in parts.states.as_slice() {
         assert_eq!(rt; state.name.as_str(), "a");
         assert_eq!(rt; state.handlers.init, RoutineId(init));
         assert_eq!(rt; state.handlers.body, RoutineId(body));
     }
+}
+
+/// So many routines, each of them `ret` but for one.
+fn check_code(rt: &impl Abort, parts: &ImageParts, routines: usize, body: usize, last: &[Op]) {
     assert_eq!(rt; parts.routines.len(), routines);
     for (i, routine) in parts.routines.as_slice().iter().enumerate() {
         let code = routine.code.as_slice();
-        if i == usize::from(body) {
+        if i == body {
             assert_eq!(rt; code, last);
         } else {
             assert_eq!(rt; code, [Op::Ret].as_slice());
         }
     }
-    Ok(())
 }
 
 /// The parts of the smallest image, with a stated stack.
@@ -281,15 +313,24 @@ fn smallest_parts(alloc: Global, stack: u16) -> Result<ImageParts, AllocError> {
     })
 }
 
+/// The bytes of the parts of the smallest image.
+fn made(rt: &impl Abort, alloc: Global) -> Result<Vec<u8>, Fail> {
+    let parts = smallest_parts(alloc, 0)?;
+    assert!(rt; parts.fits());
+    Ok(write(alloc, &Image::new(parts))?)
+}
+
 #[test]
 fn smallest_image(rt: HostRuntime) -> Result<(), Fail> {
-    let image = read_and_written(&rt, rt.alloc(), images::SMALLEST_IMAGE)?;
-    let parts = smallest_parts(rt.alloc(), 0)?;
-    assert!(rt; parts.fits());
-    let made = write(rt.alloc(), &Image::new(parts))?;
-    let again = write(rt.alloc(), &image)?;
-    assert_eq!(rt; made.as_slice(), again.as_slice());
-    let too_high = smallest_parts(rt.alloc(), 33)?;
-    assert!(rt; !too_high.fits());
+    let made = made(&rt, rt.alloc())?;
+    let bytes = bytes_of(rt.alloc(), images::SMALLEST_IMAGE)?;
+    assert_eq!(rt; made.as_slice(), bytes.as_slice());
+    Ok(())
+}
+
+#[test]
+fn a_stack_over_the_limit(rt: HostRuntime) -> Result<(), Fail> {
+    let parts = smallest_parts(rt.alloc(), 33)?;
+    assert!(rt; !parts.fits());
     Ok(())
 }

@@ -44,7 +44,7 @@ abbrev pub JumpsElsewhere : ImageParts → ℕ → ℕ → Type 0
 JumpsElsewhere image routine place = (op : Op) × (target : ℕ) × (op_at image routine place ≡ Some op) × (target_of op ≡ Some target)
     × ¬ ((place < target) × (target < length (code_of image routine)))
 
--- It is the last place of a routine, or place 0 of one without instructions, and no `ret` stands there.
+-- The last place of a routine, or place 0 of one without instructions, where no `ret` stands.
 abbrev pub IsOpenEnd : ImageParts → ℕ → ℕ → Type 0
 IsOpenEnd image routine place = IsRoutine image routine × (place ≡ length (code_of image routine) - 1) × (op_at image routine place ≢ Some Ret)
 
@@ -52,7 +52,7 @@ IsOpenEnd image routine place = IsRoutine image routine × (place ≡ length (co
 abbrev pub CallsNoLower : ImageParts → ℕ → ℕ → Type 0
 CallsNoLower image routine place = (callee : RoutineId) × (op_at image routine place ≡ Some (Call callee)) × (routine ≤ callee.0)
 
--- It is a place other than 0 that follows no earlier one.
+-- A place of a routine, other than 0, that follows no earlier one.
 abbrev pub IsDead : ImageParts → ℕ → ℕ → Type 0
 IsDead image routine place = (0 < place) × (place < length (code_of image routine)) × ¬ IsReached image routine place
 
@@ -65,18 +65,18 @@ LacksOperand image routine place = (op : Op) × (kinds : List Kind) × (op_at im
 abbrev pub ReturnsOthers : ImageParts → ℕ → ℕ → Type 0
 ReturnsOthers image routine place = (kinds : List Kind) × (op_at image routine place ≡ Some Ret) × Leads image routine place place kinds × (kinds ≢ results_of image routine)
 
--- What the instruction there leaves, at the end of some way.
+-- What the instruction at a place leaves, at the end of some way to it.
 pub record LeavesList (image : ImageParts) (routine place : ℕ) (op : Op) (after : List Kind) : Type 0 where
   pub before : List Kind
   pub stands : op_at image routine place ≡ Some op
   pub leads : Leads image routine place place before
   pub effect_is : effect image op before ≡ Some after
 
--- It leaves more than 32 kinds.
+-- At the end of some way, the instruction there leaves more than 32 kinds.
 abbrev pub LeavesMany : ImageParts → ℕ → ℕ → Type 0
 LeavesMany image routine place = (op : Op) × (after : List Kind) × LeavesList image routine place op after × (32 < length after)
 
--- It leaves one list to a successor, and some way over no later place leads to that successor with another.
+-- At the end of some way, the instruction there leaves a list to a successor to which another way, over no later place, leads with another list.
 abbrev pub Disagrees : ImageParts → ℕ → ℕ → Type 0
 Disagrees image routine place = (op : Op) × (after : List Kind) × (to : ℕ) × (other : List Kind) × LeavesList image routine place op after × IsSuccessor op place to
     × Leads image routine place to other × (other ≢ after)
@@ -96,16 +96,19 @@ AreTypedHeights image heights = (kinds : ℕ → ℕ → List Kind) × AreTyping
 abbrev pub AreTotals : (Op → ℕ) → ImageParts → (ℕ → ℕ) → Type 0
 AreTotals weight image totals = (amounts : ℕ → ℕ → ℕ) × AreAmounts weight image amounts × ((routine : ℕ) → amounts routine 0 ≡ totals routine)
 
--- The stack, the frames, the cost or the commands are over, at the head or at a routine.
+-- The heights are over, of a routine or of a handler.
 abbrev pub StackIsOver : ImageParts → At → Type 0
 StackIsOver image at = AreOver image (AreTypedHeights image) 32 (λ heights. FitsHandlers image heights image.budgets.stack) at
 
+-- The frames are over.
 abbrev pub FramesAreOver : ImageParts → At → Type 0
 FramesAreOver image at = AreOver image (AreDepths image) 32 (λ depths. FitsHandlers image depths image.budgets.frames) at
 
+-- The costs are over, of a routine or of an event.
 abbrev pub CostIsOver : ImageParts → At → Type 0
 CostIsOver image at = AreOver image (AreTotals cost_of image) 100000 (λ costs. FitsEvents image costs image.budgets.cost) at
 
+-- The numbers of commands are over.
 abbrev pub CommandsAreOver : ImageParts → At → Type 0
 CommandsAreOver image at = AreOver image (AreTotals commands_of image) 64 (λ commands. FitsEvents image commands image.budgets.commands) at
 

@@ -3,7 +3,8 @@
 //! [`verify`] reads an image from its bytes and makes each check over the whole image before the next
 //! begins. The plain checks look at instructions and handlers by themselves; a forward pass finds the
 //! kinds on the stack at each place of a routine, and a backward pass what may be executed from each
-//! place on. A [`Verified`] is accepted, and a refusal but for memory names a check that fails.
+//! place on. A [`Verified`] is accepted, and a refusal but for memory names a check that fails and the place
+//! where it does.
 #![tactic(auto)]
 
 mod amounts;

@@ -30,7 +30,7 @@ pub fn verify(alloc: Global, bytes: &[u8]) -> Result<Verified, VerifyFault>
     ensures accepted { IfOk result (λ image. IsAccepted image) }
     // A refusal but for memory comes only where the bytes are not accepted,
     ensures not_accepted { IfErr result (λ fault. fault ≢ OutOfMemory → (image : ImageParts) → Spells bytes.now image → ¬ IsAccepted image) }
-    // and the check that it names fails: in reading, or in the image that they spell.
+    // and the check that it names fails: in reading, or at its place in the image that they spell.
     ensures refused { IfErr result (IsRefusal bytes.now) }
 {
     let image = read(alloc, bytes)?;
