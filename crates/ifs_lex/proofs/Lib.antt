@@ -6,3 +6,4 @@ pub mod Tables
 pub mod Unrolled
 pub mod Parts
 pub mod Endings
+pub mod Spelt

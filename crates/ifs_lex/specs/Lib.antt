@@ -6,3 +6,4 @@ pub mod Ropes
 pub mod Kept
 pub mod Known
 pub mod Turns
+pub mod Spelling

@@ -1,8 +1,12 @@
 //! Laws of the tokens, over their definitions alone: each is the contract of a function that does nothing.
 
-ghost use Rattle.std.specs.Prelude.{◌≡◌, ℕ, List};
+ghost use Rattle.std.specs.Prelude.{◌≡◌, ℕ, Bool, true, List};
 ghost use Rattle.ifs_lex.specs.declared.token.Token.{Token};
 ghost use Rattle.ifs_lex.specs.Expansion.{Spells, EndsOnce};
+ghost use Rattle.ifs_lex.specs.Characters.{is_quote};
+ghost use Rattle.ifs_lex.specs.Items.{quoted_value};
+ghost use Rattle.ifs_lex.specs.Spelling.{Longest, Says};
+ghost use Rattle.std.specs.List.{prefix_len};
 
 /// A text spells at most one list of tokens under what is given beside it.
 pub fn one_list()
@@ -14,4 +18,16 @@ pub fn one_list()
 pub fn ends_once()
     ensures { (text : List ℕ) (defs : List (List ℕ × List ℕ)) (tokens : List Token)
         → Spells text defs tokens → EndsOnce tokens }
+{}
+
+/// A run of bytes that is as long as it can be is the one that is read, of words and of names.
+pub fn longest_runs()
+    ensures some { (passes : ℕ → Bool) (bytes : List ℕ) → Longest passes bytes (prefix_len passes bytes) }
+    ensures only { (passes : ℕ → Bool) (bytes : List ℕ) (n : ℕ) → Longest passes bytes n → n ≡ prefix_len passes bytes }
+{}
+
+/// A text between quotes has one value, the one that is read.
+pub fn one_value()
+    ensures some { (quote : ℕ) (inside : List ℕ) → is_quote quote ≡ true → Says quote inside (quoted_value quote inside) }
+    ensures only { (quote : ℕ) (inside value : List ℕ) → is_quote quote ≡ true → Says quote inside value → value ≡ quoted_value quote inside }
 {}
