@@ -1,6 +1,9 @@
 //! What holds of every run, whoever makes it.
 
 ghost use Rattle.std.specs.Prelude.{◌≡◌, ◌≤◌};
+ghost use Rattle.ifs_core.specs.Event.{Behaviour};
+ghost use Rattle.ifs_core.specs.Machine.{IsBehaviour};
+ghost use Rattle.ifs_core.specs.Steps.{cost_told, turn};
 ghost use Rattle.ifs_core.specs.Headline.{AcceptedIsKept, Headline};
 
 use crate::gateway::Core;
@@ -33,6 +36,9 @@ pub fn accepted_is_kept()
 /// that has nothing but the core.
 pub fn cost_of_step(core: &mut Core, step: Step) -> u32
     ensures cost { result ≤ core.old.image.budgets.cost }
+    // It is the cost that the run's reply tells.
+    ensures told { (b : Behaviour) → IsBehaviour core.old.image b
+        → result ≡ cost_told (turn b core.old.image.budgets.commands step core.old.state).reply }
     ensures image { core.new.image ≡ core.old.image }
 {
     match core.step(step) {

@@ -206,21 +206,16 @@ fn check_truth(
     facts: ([LinkState; 2], [Option<bool>; 2]),
     truth: bool,
 ) -> Result<(), Fail> {
-    let mut all = Vec::new(alloc);
-    for op in code {
-        all.push(*op)?;
-    }
     let end = (code.len() % 1000).saturating_add(3) as u16;
-    for op in [
+    let mut all = code.to_vec(alloc)?;
+    all.extend_from_slice(&[
         Op::JumpTrue(end),
         Op::PushCommand(CommandId(0)),
         Op::Queue,
         Op::PushCommand(CommandId(1)),
         Op::Queue,
         Op::Ret,
-    ] {
-        all.push(op)?;
-    }
+    ])?;
     let verified = verify(alloc, &spelled(alloc, &[all.as_slice()])?)?;
     let run = compared(rt, alloc, &verified, facts.0, facts.1)?;
     let queued: &[u16] = if truth { &[1] } else { &[0, 1] };
