@@ -1,7 +1,7 @@
 -- Reading a line of hexadecimal digits.
-use Rattle.std.proofs.Common.{◌≡◌, ℕ, ◌+◌, ◌*◌, ◌/◌, ◌%◌, ◌<◌, true, false, List, [], ◌∷◌, ◌++◌, length, Option, Some, None, Ok, Err, refl, sym, ap, ◌∙◌, append-nil, arith, length-append}
+use Rattle.std.proofs.Common.{◌≡◌, ℕ, ◌+◌, ◌*◌, ◌/◌, ◌%◌, ◌<◌, true, false, List, [], ◌∷◌, ◌++◌, length, Option, Some, None, Ok, Err, refl, sym, subst, ap, ◌∙◌, append-nil, arith, length-append}
 use Rattle.std.proofs.lemmas.List.Elements.{All-push}
-use Rattle.std.specs.Io.KnownBytes.{prepend_known, IsAtEnd}
+use Rattle.std.specs.Io.KnownBytes.{Keeps, Consumes, IsAtEnd}
 use Rattle.ifs_session.specs.declared.hexadecimal.HexFault.{HexFault}
 use Rattle.ifs_session.specs.declared.hexadecimal.HexFault.TheVariants.{Broken, Memory, NotRead}
 use Rattle.ifs_session.specs.Device.{Feed, counted}
@@ -9,16 +9,16 @@ use Rattle.ifs_session.specs.Lines.{ending}
 use Rattle.ifs_session.specs.Words.{hex_digit}
 use Rattle.ifs_session.specs.Hexadecimal.{hex_text, Takes, HexGives, begun_text, ReadsBeginning, NoDigit, OddDigit, DigitTooMany}
 use Rattle.ifs_session.specs.Inner.Reading.{DigitGives}
-use Rattle.ifs_session.proofs.Known.{prepend_known-append, prepend_known-nil}
+use Rattle.ifs_session.proofs.Known.{consumes_nothing, consumes_more, consumes_kept, kept_consumes}
 
 takes_more : {text more : List ℕ} {before at after : Feed} → Takes text before at → Takes more at after → Takes (text ++ more) before after
-takes_more {text} {more} {after = after} first then_more = record {
-  given = first.given ∙ ap (prepend_known text) then_more.given ∙ prepend_known-append after.left text more;
+takes_more {text} {more} {before} {at} {after} first then_more = record {
+  given = consumes_more before.left at.left after.left text more first.given then_more.given;
   same_faults = then_more.same_faults ∙ first.same_faults;
 }
 
 takes_same : {text other : List ℕ} {before after : Feed} → text ≡ other → Takes text before after → Takes other before after
-takes_same {after = after} same takes = record { given = takes.given ∙ ap (λ t. prepend_known t after.left) same; same_faults = takes.same_faults }
+takes_same {before = before} {after} same takes = record { given = subst (λ t. Consumes before.left after.left t) same takes.given; same_faults = takes.same_faults }
 
 -- The high digit of a byte was read, and a byte more is within the limit.
 pub high_read : {bytes : List ℕ} {before at after : Feed} (digit : ℕ) → ReadsBeginning bytes None before at → (digit < 16) × Takes (hex_digit digit ∷ []) at after → length bytes < 65536
@@ -36,12 +36,12 @@ digit_fails {bytes} {high} after Broken reads (byte, more, no_digit, no_newline)
   byte ∷ [],
   record { begins = reads.begins; takes = takes_more reads.takes more; breaks = NoDigit byte refl no_digit no_newline },
 )
-digit_fails {bytes} {high} after NotRead reads (same, one) = (
+digit_fails {bytes} {high} {before} {at} after NotRead reads (same, one) = (
   bytes,
   high,
   record {
     begins = reads.begins;
-    given = reads.takes.given ∙ ap (prepend_known (begun_text bytes high)) (sym same);
+    given = consumes_kept before.left at.left after.left (begun_text bytes high) reads.takes.given same;
     one_fault = one ∙ ap counted reads.takes.same_faults;
   },
 )
@@ -93,9 +93,17 @@ low_read {bytes} {high} low reads (small, more) =
     }
 
 -- The input is at its end.
-pub at_the_end : {before after : Feed} → (after.left ≡ before.left) × IsAtEnd after.left × (after.faults ≡ before.faults) → DigitGives (Ok None) before after
-at_the_end {before} {after} h = (false, record { given = sym h.0 ∙ sym (prepend_known-nil after.left); same_faults = h.2 }, h.1)
+pub at_the_end : {before after : Feed} → Keeps before.left after.left × IsAtEnd after.left × (after.faults ≡ before.faults) → DigitGives (Ok None) before after
+at_the_end {before} {after} h = (false, record { given = kept_consumes before.left after.left h.0; same_faults = h.2 }, h.1)
 
 -- A newline ends the line.
-pub at_a_newline : {before after : Feed} (byte : ℕ) → (before.left ≡ prepend_known (byte ∷ []) after.left) × (after.faults ≡ before.faults) → byte ≡ 10 → DigitGives (Ok None) before after
-at_a_newline {after = after} byte h e = (true, record { given = h.0 ∙ ap (λ b. prepend_known (b ∷ []) after.left) e; same_faults = h.1 }, tt)
+pub at_a_newline : {before after : Feed} (byte : ℕ) → Consumes before.left after.left (byte ∷ []) × (after.faults ≡ before.faults) → byte ≡ 10 → DigitGives (Ok None) before after
+at_a_newline {before} {after} byte h e = (true, record { given = subst (λ b. Consumes before.left after.left (b ∷ [])) e h.0; same_faults = h.1 }, tt)
+
+-- Nothing was read yet.
+pub line_start : (bytes : List ℕ) (at : Feed) → bytes ≡ [] → ReadsBeginning bytes None at at
+line_start [] at none = record {
+  begins = record { are_bytes = λ k d h. absurd (omega arith); within = omega arith; begun = tt };
+  takes = record { given = consumes_nothing at.left; same_faults = refl };
+}
+line_start (byte ∷ bytes) at none = cc

@@ -2,7 +2,7 @@
 use Rattle.std.proofs.Common.{◌≡◌, ℕ, zero, suc, ◌+◌, List, [], ◌∷◌, ◌++◌, drop, slice_get, Option, Some, None, refl, sym, ap, ◌∙◌, append_assoc, append-nil, arith}
 use Rattle.std.proofs.lemmas.List.{drop_all}
 use Rattle.std.specs.List.{flat_map}
-use Rattle.std.specs.Io.KnownBytes.{prepend_known, append_known}
+use Rattle.std.specs.Io.KnownBytes.{append_known, Keeps, Consumes}
 
 pub append_known-append : (known : Option (List ℕ)) (a b : List ℕ) → append_known (append_known known a) b ≡ append_known known (a ++ b)
 append_known-append None a b = refl
@@ -12,13 +12,34 @@ pub append_known-nil : (known : Option (List ℕ)) → append_known known [] ≡
 append_known-nil None = refl
 append_known-nil (Some bytes) = ap Some (append-nil bytes)
 
-pub prepend_known-append : (known : Option (List ℕ)) (a b : List ℕ) → prepend_known a (prepend_known b known) ≡ prepend_known (a ++ b) known
-prepend_known-append None a b = refl
-prepend_known-append (Some bytes) a b = ap Some (sym (append_assoc a b bytes))
+pub consumes_nothing : (known : Option (List ℕ)) → Consumes known known []
+consumes_nothing None = tt
+consumes_nothing (Some bytes) = refl
 
-pub prepend_known-nil : (known : Option (List ℕ)) → prepend_known [] known ≡ known
-prepend_known-nil None = refl
-prepend_known-nil (Some bytes) = refl
+-- What is read in turn.
+pub consumes_more : (a b c : Option (List ℕ)) (first then_more : List ℕ) → Consumes a b first → Consumes b c then_more → Consumes a c (first ++ then_more)
+consumes_more None b c first then_more p q = tt
+consumes_more (Some xs) None c first then_more p q = absurd p
+consumes_more (Some xs) (Some ys) None first then_more p q = absurd q
+consumes_more (Some xs) (Some ys) (Some zs) first then_more p q = p ∙ ap (λ r. first ++ r) q ∙ sym (append_assoc first then_more zs)
+
+pub consumes_kept : (a b c : Option (List ℕ)) (text : List ℕ) → Consumes a b text → Keeps b c → Consumes a c text
+consumes_kept None b c text p q = tt
+consumes_kept (Some xs) None c text p q = absurd p
+consumes_kept (Some xs) (Some ys) None text p q = absurd q
+consumes_kept (Some xs) (Some ys) (Some zs) text p q = p ∙ ap (λ r. text ++ r) (sym q)
+
+pub kept_consumes : (a b : Option (List ℕ)) → Keeps a b → Consumes a b []
+kept_consumes None b p = tt
+kept_consumes (Some xs) None p = absurd p
+kept_consumes (Some xs) (Some ys) p = sym p
+
+-- Nothing was read, and then nothing more.
+pub keeps_nothing_read : (a b c : Option (List ℕ)) (text : List ℕ) → Consumes a b text → text ≡ [] → Keeps b c → Keeps a c
+keeps_nothing_read None b c text p none q = tt
+keeps_nothing_read (Some xs) None c text p none q = absurd p
+keeps_nothing_read (Some xs) (Some ys) None text p none q = absurd q
+keeps_nothing_read (Some xs) (Some ys) (Some zs) text p none q = q ∙ sym (p ∙ ap (λ t. t ++ ys) none)
 
 -- What follows an item of a list, and what follows its last.
 drop_at : {X : Type 0} (xs : List X) (i : ℕ) (x : X) → slice_get xs i ≡ Some x → drop i xs ≡ x ∷ drop (i + 1) xs

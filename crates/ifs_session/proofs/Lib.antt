@@ -1,3 +1,4 @@
+pub mod Buffering
 pub mod FirstLine
 pub mod HexReading
 pub mod Known

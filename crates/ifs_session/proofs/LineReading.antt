@@ -1,20 +1,20 @@
 -- Reading a line, byte by byte.
-use Rattle.std.proofs.Common.{◌≡◌, ◌≢◌, ℕ, ◌+◌, ◌-◌, ◌<◌, ◌≤◌, Bool, true, false, ◌==◌, nat_lt, List, [], ◌∷◌, ◌++◌, length, take, Contains, Option, Some, None, Ok, Err, zero, suc, refl, sym, ap, ◌∙◌, append-nil, take_all, arith, length-append, length-take, sub-one}
+use Rattle.std.proofs.Common.{◌≡◌, ◌≢◌, ℕ, ◌+◌, ◌-◌, ◌<◌, ◌≤◌, Bool, true, false, ◌==◌, nat_lt, List, [], ◌∷◌, ◌++◌, length, take, Contains, Option, Some, None, Ok, Err, zero, suc, refl, sym, subst, ap, ◌∙◌, append-nil, take_all, arith, length-append, length-take, sub-one}
 use Rattle.std.proofs.lemmas.Bool.Decides.{nat_tests}
 use Rattle.std.proofs.lemmas.List.{take-append-le}
-use Rattle.std.specs.Io.KnownBytes.{prepend_known, IsAtEnd}
+use Rattle.std.specs.Io.KnownBytes.{Keeps, Consumes, IsAtEnd}
 use Rattle.arrayvec.specs.ArrayVec.{ArrayVec}
 use Rattle.ifs_session.specs.Device.{counted, HasLine, ReadyGives}
 use Rattle.ifs_session.specs.declared.device.DeviceFault.{DeviceFault}
 use Rattle.ifs_session.specs.Inner.Reading.{HasNoNewline, Intake, ReadsLine, ReadsNothing, ReadFails, ReadsTooMuch}
-use Rattle.ifs_session.proofs.Known.{prepend_known-append, prepend_known-nil}
+use Rattle.ifs_session.proofs.Known.{consumes_nothing, consumes_more, consumes_kept, keeps_nothing_read}
 
 -- Partway in a line: this text was read, and this is kept of it.
 pub record Partway (kept : List ℕ) (is_longer : Bool) (text : List ℕ) (before after : Intake) : Type 0 where
   pub plain : HasNoNewline text
   pub kept_is : kept ≡ take 256 text
   pub longer : is_longer ≡ nat_lt 256 (length text)
-  pub given : before.left ≡ prepend_known text after.left
+  pub given : Consumes before.left after.left text
   pub spent : before.budget ≡ length text + after.budget
   pub same_faults : after.faults ≡ before.faults
 
@@ -34,7 +34,7 @@ partway_start kept at e = record {
   plain = tt;
   kept_is = e;
   longer = refl;
-  given = sym (prepend_known-nil at.left);
+  given = consumes_nothing at.left;
   spent = omega arith;
   same_faults = refl;
 }
@@ -60,7 +60,7 @@ none_kept n h = grind (arith, nat_tests)
 
 -- A byte more, which is kept.
 pub partway_push : {kept : List ℕ} {is_longer : Bool} {text : List ℕ} {before at : Intake} (byte : ℕ) (left : Option (List ℕ)) (faults : Option ℕ) → Partway kept is_longer text before at
-    → byte ≢ 10 → at.budget ≢ 0 → at.left ≡ prepend_known (byte ∷ []) left → faults ≡ at.faults → length kept < 256
+    → byte ≢ 10 → at.budget ≢ 0 → Consumes at.left left (byte ∷ []) → faults ≡ at.faults → length kept < 256
     → Partway (kept ++ byte ∷ []) is_longer (text ++ byte ∷ []) before (record { left = left; faults = faults; budget = at.budget - 1 })
 partway_push {kept} {is_longer} {text} {before} {at} byte left faults h other more given same room = record {
   plain = HasNoNewline-push text byte h.plain other;
@@ -68,29 +68,29 @@ partway_push {kept} {is_longer} {text} {before} {at} byte left faults h other mo
       let short = short_text text kept h.kept_is room in
       ap (λ t. t ++ byte ∷ []) (h.kept_is ∙ take_all 256 text (omega arith)) ∙ sym (take_all 256 (text ++ byte ∷ []) (omega (arith, length-append text (byte ∷ []))));
   longer = h.longer ∙ longer_false (length text) (short_text text kept h.kept_is room) ∙ ap (nat_lt 256) (sym (length-append text (byte ∷ [])));
-  given = h.given ∙ ap (prepend_known text) given ∙ prepend_known-append left text (byte ∷ []);
+  given = consumes_more before.left at.left left text (byte ∷ []) h.given given;
   spent = omega (arith, h.spent, length-append text (byte ∷ []));
   same_faults = same ∙ h.same_faults;
 }
 
 -- A byte more, for which there is no room.
 pub partway_drop : {kept : List ℕ} {is_longer : Bool} {text : List ℕ} {before at : Intake} (byte : ℕ) (left : Option (List ℕ)) (faults : Option ℕ) → Partway kept is_longer text before at
-    → byte ≢ 10 → at.budget ≢ 0 → at.left ≡ prepend_known (byte ∷ []) left → faults ≡ at.faults → length kept ≡ 256
+    → byte ≢ 10 → at.budget ≢ 0 → Consumes at.left left (byte ∷ []) → faults ≡ at.faults → length kept ≡ 256
     → Partway kept true (text ++ byte ∷ []) before (record { left = left; faults = faults; budget = at.budget - 1 })
 partway_drop {kept} {is_longer} {text} {before} {at} byte left faults h other more given same full = record {
   plain = HasNoNewline-push text byte h.plain other;
   kept_is = h.kept_is ∙ sym (take-append-le 256 text (byte ∷ []) (long_text text kept h.kept_is full));
   longer = longer_true (length text) (long_text text kept h.kept_is full) ∙ ap (nat_lt 256) (sym (length-append text (byte ∷ [])));
-  given = h.given ∙ ap (prepend_known text) given ∙ prepend_known-append left text (byte ∷ []);
+  given = consumes_more before.left at.left left text (byte ∷ []) h.given given;
   spent = omega (arith, h.spent, length-append text (byte ∷ []));
   same_faults = same ∙ h.same_faults;
 }
 
 pub line_fails : {kept : List ℕ} {is_longer : Bool} {text : List ℕ} {before at : Intake} (left : Option (List ℕ)) (faults : Option ℕ) → Partway kept is_longer text before at
-    → left ≡ at.left → faults ≡ counted at.faults → ReadFails text before (record { left = left; faults = faults; budget = at.budget })
-line_fails {text = text} left faults h same one = record {
+    → Keeps at.left left → faults ≡ counted at.faults → ReadFails text before (record { left = left; faults = faults; budget = at.budget })
+line_fails {text = text} {before} {at} left faults h same one = record {
   plain = h.plain;
-  given = h.given ∙ ap (prepend_known text) (sym same);
+  given = consumes_kept before.left at.left left text h.given same;
   within = omega (arith, h.spent);
   one_fault = one ∙ ap counted h.same_faults;
 }
@@ -100,49 +100,49 @@ length_zero [] h = refl
 length_zero (x ∷ text) h = absurd (omega arith)
 
 pub no_line : {kept : List ℕ} {is_longer : Bool} {text : List ℕ} {before at : Intake} (left : Option (List ℕ)) (faults : Option ℕ) → Partway kept is_longer text before at
-    → true ≡ (length kept == 0) → (left ≡ at.left) × IsAtEnd left × (faults ≡ at.faults) → ReadsNothing before (record { left = left; faults = faults; budget = at.budget })
+    → true ≡ (length kept == 0) → Keeps at.left left × IsAtEnd left × (faults ≡ at.faults) → ReadsNothing before (record { left = left; faults = faults; budget = at.budget })
 no_line {kept} {is_longer} {text} {before} {at} left faults h empty end =
     let none = none_kept (length kept) empty in
     let nothing : text ≡ [] = length_zero text (ap length (sym h.kept_is) ∙ none) in
     record {
       at_end = end.1;
-      same = end.0 ∙ sym (h.given ∙ ap (λ t. prepend_known t at.left) nothing ∙ prepend_known-nil at.left);
+      same = keeps_nothing_read before.left at.left left text h.given nothing end.0;
       same_budget = omega (arith, h.spent, ap length nothing);
       same_faults = end.2 ∙ h.same_faults;
     }
 
 pub last_line : {kept : ArrayVec ℕ} {is_longer : Bool} {text : List ℕ} {before at : Intake} (left : Option (List ℕ)) (faults : Option ℕ) → Partway kept.items is_longer text before at
-    → false ≡ (length kept.items == 0) → (left ≡ at.left) × IsAtEnd left × (faults ≡ at.faults)
+    → false ≡ (length kept.items == 0) → Keeps at.left left × IsAtEnd left × (faults ≡ at.faults)
     → ReadsLine (record { kept = kept; is_longer = is_longer; is_ended = false }) text before (record { left = left; faults = faults; budget = at.budget })
 last_line {kept} {is_longer} {text} {before} {at} left faults h some end = record {
   plain = h.plain;
   kept = h.kept_is;
   longer = h.longer;
-  given = h.given ∙ ap (prepend_known text) (sym end.0) ∙ ap (λ t. prepend_known t left) (sym (append-nil text));
+  given = subst (λ t. Consumes before.left left t) (sym (append-nil text)) (consumes_kept before.left at.left left text h.given end.0);
   spent = omega (arith, h.spent, ap length (append-nil text));
   same_faults = end.2 ∙ h.same_faults;
   last = λ _. (omega (arith, some_kept _ some, ap length h.kept_is, length-take 256 text), end.1);
 }
 
 pub ended_line : {kept : ArrayVec ℕ} {is_longer : Bool} {text : List ℕ} {before at : Intake} (byte : ℕ) (left : Option (List ℕ)) (faults : Option ℕ) → Partway kept.items is_longer text before at
-    → byte ≡ 10 → at.budget ≢ 0 → at.left ≡ prepend_known (byte ∷ []) left → faults ≡ at.faults
+    → byte ≡ 10 → at.budget ≢ 0 → Consumes at.left left (byte ∷ []) → faults ≡ at.faults
     → ReadsLine (record { kept = kept; is_longer = is_longer; is_ended = true }) text before (record { left = left; faults = faults; budget = at.budget - 1 })
 ended_line {kept} {is_longer} {text} {before} {at} byte left faults h newline more given same = record {
   plain = h.plain;
   kept = h.kept_is;
   longer = h.longer;
-  given = h.given ∙ ap (prepend_known text) (given ∙ ap (λ b. prepend_known (b ∷ []) left) newline) ∙ prepend_known-append left text (10 ∷ []);
+  given = consumes_more before.left at.left left text (10 ∷ []) h.given (subst (λ b. Consumes at.left left (b ∷ [])) newline given);
   spent = omega (arith, h.spent, length-append text (10 ∷ []));
   same_faults = same ∙ h.same_faults;
   last = λ e. cc;
 }
 
 pub too_much : {kept : List ℕ} {is_longer : Bool} {text : List ℕ} {before at : Intake} (byte : ℕ) (left : Option (List ℕ)) (faults : Option ℕ) → Partway kept is_longer text before at
-    → at.budget ≡ 0 → at.left ≡ prepend_known (byte ∷ []) left → faults ≡ at.faults
+    → at.budget ≡ 0 → Consumes at.left left (byte ∷ []) → faults ≡ at.faults
     → ReadsTooMuch text byte before (record { left = left; faults = faults; budget = at.budget })
-too_much {text = text} byte left faults h none given same = record {
+too_much {text = text} {before} {at} byte left faults h none given same = record {
   plain = h.plain;
-  given = h.given ∙ ap (prepend_known text) given ∙ prepend_known-append left text (byte ∷ []);
+  given = consumes_more before.left at.left left text (byte ∷ []) h.given given;
   spent = omega (arith, h.spent);
   same_faults = same ∙ h.same_faults;
 }

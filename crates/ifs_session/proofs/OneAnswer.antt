@@ -2,7 +2,7 @@
 use Rattle.std.proofs.Common.{◌≡◌, ◌≢◌, ℕ, ◌+◌, ◌/◌, ◌%◌, ◌<◌, ◌≤◌, Bool, true, false, All, List, [], ◌∷◌, ◌++◌, length, Option, Some, None, refl, sym, subst, ap, ◌∙◌, append_assoc, arith}
 use Rattle.std.proofs.lemmas.Bool.Decides.{nat_tests}
 use Rattle.std.proofs.lemmas.List.Elements.{All-head, All-tail}
-use Rattle.std.specs.Io.KnownBytes.{prepend_known, IsAtEnd}
+use Rattle.std.specs.Io.KnownBytes.{Consumes, IsAtEnd}
 use Rattle.ifs_session.specs.Device.{Feed}
 use Rattle.ifs_session.specs.Lines.{ending}
 use Rattle.ifs_session.specs.Words.{hex_digit}
@@ -72,9 +72,11 @@ apart whole (byte ∷ bytes) (other ∷ others) high last left ended rest after 
     apart (whole + 1) bytes others high last left ended rest after (All-tail (λ b. b < 256) byte bytes small) (omega arith) end known (subst (λ n. Breaks n high last after) more breaks) (cc)
 
 -- What follows a text that known bytes begin with is known.
-known_rest : (text bytes : List ℕ) (known : Option (List ℕ)) → Some bytes ≡ prepend_known text known → (rest : List ℕ) × (known ≡ Some rest) × (bytes ≡ text ++ rest)
-known_rest text bytes None same = cc
-known_rest text bytes (Some rest) same = (rest, refl, cc)
+known_rest : (text bytes : List ℕ) (known : Option (List ℕ)) → (start : Option (List ℕ)) → start ≡ Some bytes → Consumes start known text → (rest : List ℕ) × (known ≡ Some rest) × (bytes ≡ text ++ rest)
+known_rest text bytes None None is takes = cc
+known_rest text bytes None (Some all) is takes = absurd takes
+known_rest text bytes (Some rest) None is takes = cc
+known_rest text bytes (Some rest) (Some all) is takes = let e : all ≡ bytes = cc in (rest, refl, sym e ∙ takes)
 
 at_the_end : (ended : Bool) (after : Feed) (rest : List ℕ) → after.left ≡ Some rest → EndsAt ended after → ended ≡ false → rest ≡ []
 at_the_end true after rest known end is = cc
@@ -82,8 +84,8 @@ at_the_end false after rest known end is = subst IsAtEnd known end
 
 pub one_answer : OneAnswer
 one_answer text bytes before after other known (ended, good) (others, high, last, broken) =
-    let a = known_rest (hex_text bytes ++ ending ended) text after.left (sym known ∙ good.takes.given) in
-    let b = known_rest (begun_text others high ++ last) text other.left (sym known ∙ broken.takes.given) in
+    let a = known_rest (hex_text bytes ++ ending ended) text after.left before.left known good.takes.given in
+    let b = known_rest (begun_text others high ++ last) text other.left before.left known broken.takes.given in
     apart 0 bytes others high last b.0 ended a.0 other good.are_bytes (omega (arith, good.within)) (at_the_end ended after a.0 a.1 good.ends) b.1
     (subst (λ n. Breaks n high last other) (omega arith) broken.breaks)
     (sym (append_assoc (hex_text bytes) (ending ended) a.0) ∙ sym a.2 ∙ b.2 ∙ append_assoc (begun_text others high) last b.0 ∙ append_assoc (hex_text others) (high_digit high) (last ++ b.0) ∙ ap (λ t. hex_text others ++ t) (sym (append_assoc (high_digit high) last b.0)))

@@ -7,7 +7,7 @@ use Rattle.ifs_session.specs.declared.session.Summary.{Summary}
 use Rattle.ifs_session.specs.Device.{counted}
 use Rattle.ifs_session.specs.declared.fault.SessionFault.{SessionFault}
 use Rattle.ifs_session.specs.declared.fault.SessionFault.TheVariants.{ReadFailed, WriteFailed, TooMuchInput}
-use Rattle.std.specs.Io.KnownBytes.{prepend_known, append_known, IsAtEnd}
+use Rattle.std.specs.Io.KnownBytes.{append_known, Consumes, IsAtEnd}
 use Rattle.ifs_image.specs.declared.parts.ImageParts.{ImageParts}
 use Rattle.ifs_core.specs.Event.{Behaviour}
 use Rattle.ifs_core.specs.Steps.{CoreState}
@@ -21,7 +21,7 @@ use Rattle.ifs_session.specs.declared.lines.Line.{Line}
 use Rattle.ifs_core.specs.Gateway.{OpenCore}
 use Rattle.ifs_session.specs.Sessions.{SessionGives, deed, replies, after_lines, is_step, is_stop, GoOn, OnlyLastMayStop, Moment, Closes, EndsLine, EndsLines, Completes, BreaksReading, BreaksWriting, ReadsPast}
 use Rattle.ifs_session.specs.Inner.Serving.{kept_asked, kind_of, with_line}
-use Rattle.ifs_session.proofs.Known.{prepend_known-append, prepend_known-nil, append_known-append, append_known-nil}
+use Rattle.ifs_session.proofs.Known.{consumes_nothing, consumes_more, consumes_kept, append_known-append, append_known-nil}
 
 -- ---- lines
 
@@ -138,7 +138,7 @@ after_lines-append b image (line ∷ lines) others s = after_lines-append b imag
 pub record Underway (b : Behaviour) (lines : List (List ℕ)) (summary : Summary) (budget : ℕ) (before now : Moment) : Type 0 where
   pub plain : ArePlain lines
   pub on : GoOn lines
-  pub given : before.left ≡ prepend_known (unlines lines) now.left
+  pub given : Consumes before.left now.left (unlines lines)
   pub spent : 16777216 ≡ length (unlines lines) + budget
   pub read_faults : now.read_faults ≡ before.read_faults
   pub write_faults : now.write_faults ≡ before.write_faults
@@ -154,7 +154,7 @@ pub underway_start : (b : Behaviour) (now : Moment) → Underway b [] (record { 
 underway_start b now = record {
   plain = tt;
   on = tt;
-  given = sym (prepend_known-nil now.left);
+  given = consumes_nothing now.left;
   spent = omega arith;
   read_faults = refl;
   write_faults = refl;
@@ -205,11 +205,11 @@ flushing_fails {b} {lines} {before = before} {now} written faults u one = record
 pub reading_fails : {b : Behaviour} {lines : List (List ℕ)} {summary : Summary} {budget : ℕ} {before now : Moment} (text : List ℕ) (after : Intake)
     → Underway b lines summary budget before now → ReadFails text (record { left = now.left; faults = now.read_faults; budget = budget }) after
     → BreaksReading b (unlines lines ++ text) before (record { core = now.core; left = after.left; written = now.written; read_faults = after.faults; write_faults = now.write_faults })
-reading_fails {b} {lines} {before = before} text after u r =
+reading_fails {b} {lines} {before = before} {now} text after u r =
     let whole = sym (whole_lines-unlines lines text u.plain r.plain) in
     record {
       read = record {
-        given = u.given ∙ ap (prepend_known (unlines lines)) r.given ∙ prepend_known-append after.left (unlines lines) text;
+        given = consumes_more before.left now.left after.left (unlines lines) text u.given r.given;
         within = omega (arith, u.spent, r.within, length-append (unlines lines) text);
       };
       served = record { image = u.image; state = u.state ∙ ap (λ ls. after_lines b before.core.image ls before.core.state) whole };
@@ -222,11 +222,11 @@ reading_fails {b} {lines} {before = before} text after u r =
 pub reading_past : {b : Behaviour} {lines : List (List ℕ)} {summary : Summary} {budget : ℕ} {before now : Moment} (text : List ℕ) (byte : ℕ) (after : Intake)
     → Underway b lines summary budget before now → ReadsTooMuch text byte (record { left = now.left; faults = now.read_faults; budget = budget }) after
     → ReadsPast b (unlines lines ++ text) byte before (record { core = now.core; left = after.left; written = now.written; read_faults = after.faults; write_faults = now.write_faults })
-reading_past {b} {lines} {before = before} text byte after u r =
+reading_past {b} {lines} {before = before} {now} text byte after u r =
     let whole = sym (whole_lines-unlines lines text u.plain r.plain) in
     record {
-      given = u.given ∙ ap (prepend_known (unlines lines)) r.given ∙ prepend_known-append after.left (unlines lines) (text ++ byte ∷ [])
-          ∙ ap (λ t. prepend_known t after.left) (sym (append_assoc (unlines lines) text (byte ∷ [])));
+      given = subst (λ t. Consumes before.left after.left t) (sym (append_assoc (unlines lines) text (byte ∷ [])))
+          (consumes_more before.left now.left after.left (unlines lines) (text ++ byte ∷ []) u.given r.given);
       full = omega (arith, u.spent, r.spent, length-append (unlines lines) text);
       served = record { image = u.image; state = u.state ∙ ap (λ ls. after_lines b before.core.image ls before.core.state) whole };
       replied = record { written = u.written ∙ ap (λ ls. append_known before.written (replies b before.core.image ls before.core.state)) whole; same_faults = u.write_faults };
@@ -262,7 +262,7 @@ nothing_left {b} {lines} {summary} {budget} {before} {now} after u r =
     let all = sym (all_lines lines u.plain) in
     let left : Option (List ℕ) = after.left in
     record {
-      read = record { given = u.given ∙ ap (prepend_known (unlines lines)) (sym r.same); within = omega (arith, u.spent) };
+      read = record { given = consumes_kept before.left now.left after.left (unlines lines) u.given r.same; within = omega (arith, u.spent) };
       served = record { image = u.image; state = u.state ∙ ap (λ ls. after_lines b before.core.image ls before.core.state) all };
       replied = record { written = u.written ∙ ap (λ ls. append_known before.written (replies b before.core.image ls before.core.state)) all; same_faults = u.write_faults };
       same_faults = r.same_faults ∙ u.read_faults;
@@ -328,7 +328,7 @@ same_deed {b} {lines} {before = before} {now} {line} {text} u r =
 
 -- A line was read and its step, if it is one, was made: the state is that after this line too.
 pub record Advances (b : Behaviour) (lines : List (List ℕ)) (text input : List ℕ) (before : Moment) (core : OpenCore) (after : Intake) : Type 0 where
-  pub given : before.left ≡ prepend_known input after.left
+  pub given : Consumes before.left after.left input
   pub spent : 16777216 ≡ length input + after.budget
   pub read_faults : after.faults ≡ before.read_faults
   pub lines_are : lines_of input ≡ lines ++ text ∷ []
@@ -340,7 +340,7 @@ pub advances : {b : Behaviour} {lines : List (List ℕ)} {summary : Summary} {bu
     → core.image ≡ now.core.image → core.state ≡ (deed b now.core.image (kept_asked line) now.core.state).next
     → Advances b lines text (unlines lines ++ (text ++ ending line.is_ended)) before core after
 advances {b} {lines} {budget = budget} {before = before} {now} {line} {text} {after} core u r image state = record {
-  given = u.given ∙ ap (prepend_known (unlines lines)) r.given ∙ prepend_known-append after.left (unlines lines) (text ++ ending line.is_ended);
+  given = consumes_more before.left now.left after.left (unlines lines) (text ++ ending line.is_ended) u.given r.given;
   spent = omega (arith, u.spent, r.spent, length-append (unlines lines) (text ++ ending line.is_ended));
   read_faults = r.same_faults ∙ u.read_faults;
   lines_are = lines_of-unlines lines (text ++ ending line.is_ended) u.plain ∙ ap (λ ls. lines ++ ls) (last_line text line.is_ended (IsAtEnd after.left) r.plain r.last);
@@ -439,12 +439,12 @@ pub session_goes_on : {b : Behaviour} {lines : List (List ℕ)} {summary next : 
     → Underway b lines summary budget before now → ReadsLine line text start after
     → Advances b lines text (unlines lines ++ (text ++ ending line.is_ended)) before core after → Replies b lines text next before written faults → next.stopped ≡ false → line.is_ended ≡ true
     → Underway b (lines ++ text ∷ []) next after.budget before (record { core = core; left = after.left; written = written; read_faults = after.faults; write_faults = faults })
-session_goes_on {lines = lines} {line = line} {text = text} {after = after} u r a p running ended =
+session_goes_on {lines = lines} {before = before} {line = line} {text = text} {after = after} u r a p running ended =
     let all : unlines lines ++ (text ++ ending line.is_ended) ≡ unlines (lines ++ text ∷ []) = ap (λ e. unlines lines ++ (text ++ ending e)) ended ∙ sym (unlines-push lines text) in
     record {
       plain = ArePlain-push lines text u.plain r.plain;
       on = GoOn-push lines text u.on (sym p.stopped ∙ running);
-      given = a.given ∙ ap (λ t. prepend_known t after.left) all;
+      given = subst (λ t. Consumes before.left after.left t) all a.given;
       spent = a.spent ∙ ap (λ t. length t + after.budget) all;
       read_faults = a.read_faults;
       write_faults = p.faults_are;

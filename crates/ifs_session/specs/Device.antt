@@ -1,7 +1,7 @@
 -- Devices: what a reader and a writer of bytes tell, where they tell it, of their bytes and failures.
 use Rattle.std.specs.Prelude.{◌≡◌, ℕ, ◌+◌, ◌-◌, ◌^◌, min, List, [], ◌∷◌, take, Contains, Option, Some, None, Result, Ok, Err, MatchResult}
 use Rattle.std.specs.Option.{option_map}
-use Rattle.std.specs.Io.KnownBytes.{prepend_known, append_known, IsAtEnd}
+use Rattle.std.specs.Io.KnownBytes.{append_known, Keeps, Consumes, IsAtEnd}
 use Rattle.ifs_session.specs.declared.device.DeviceFault.{DeviceFault}
 
 -- A count of failures after one more. It stays at its greatest, 2 ^ 64 - 1.
@@ -14,9 +14,9 @@ counted faults = option_map one_more faults
 
 -- What a reader's answer says of the bytes that it has left and of its failures, before and after.
 abbrev pub NextGives : Result (Option ℕ) DeviceFault → Option (List ℕ) → Option (List ℕ) → Option ℕ → Option ℕ → Type 0
-NextGives (Ok (Some byte)) left left' faults faults' = (left ≡ prepend_known (byte ∷ []) left') × (faults' ≡ faults)
-NextGives (Ok None) left left' faults faults' = (left' ≡ left) × IsAtEnd left' × (faults' ≡ faults)
-NextGives (Err fault) left left' faults faults' = (left' ≡ left) × (faults' ≡ counted faults)
+NextGives (Ok (Some byte)) left left' faults faults' = Consumes left left' (byte ∷ []) × (faults' ≡ faults)
+NextGives (Ok None) left left' faults faults' = Keeps left left' × IsAtEnd left' × (faults' ≡ faults)
+NextGives (Err fault) left left' faults faults' = Keeps left left' × (faults' ≡ counted faults)
 
 -- What a reader's answer says of the bytes that can be read without waiting, where it tells them: while there are any, the first of them is given.
 abbrev pub ReadyGives : Result (Option ℕ) DeviceFault → Option (List ℕ) → Option (List ℕ) → Type 0

@@ -1,6 +1,6 @@
 -- Images as lines of hexadecimal digits.
 use Rattle.std.specs.Prelude.{◌≡◌, ◌≢◌, ℕ, ◌/◌, ◌%◌, ◌<◌, ◌≤◌, Bool, true, false, List, [], ◌∷◌, ◌++◌, length, All, Option, Some, None, Result, Ok, Err}
-use Rattle.std.specs.Io.KnownBytes.{prepend_known, IsAtEnd}
+use Rattle.std.specs.Io.KnownBytes.{Consumes, IsAtEnd}
 use Rattle.ifs_session.specs.declared.hexadecimal.HexFault.{HexFault}
 use Rattle.ifs_session.specs.declared.hexadecimal.HexFault.TheVariants.{Broken, Memory, NotRead}
 use Rattle.ifs_session.specs.Device.{Feed, counted}
@@ -18,7 +18,7 @@ IsNoDigit byte = (digit : ℕ) → digit < 16 → byte ≢ hex_digit digit
 
 -- These bytes were read, and no read failed.
 pub record Takes (text : List ℕ) (before after : Feed) : Type 0 where
-  pub given : before.left ≡ prepend_known text after.left
+  pub given : Consumes before.left after.left text
   pub same_faults : after.faults ≡ before.faults
 
 -- A line ends: with a newline, or at the end of input.
@@ -73,7 +73,7 @@ pub record ReadsBytes (bytes : List ℕ) (ended : Bool) (before after : Feed) : 
 -- A read failed in an image's line, after its beginning.
 pub record ReadingBreaksOff (bytes : List ℕ) (high : Option ℕ) (before after : Feed) : Type 0 where
   pub begins : LineBegins bytes high
-  pub given : before.left ≡ prepend_known (begun_text bytes high) after.left
+  pub given : Consumes before.left after.left (begun_text bytes high)
   pub one_fault : after.faults ≡ counted before.faults
 
 -- What the reading of a line of hexadecimal digits gives: the bytes that they spell; or why there are none. Memory may be wanting after any whole byte.

@@ -1,6 +1,6 @@
 -- Session text: the replies to the lines of an input, and the core after them.
 use Rattle.std.specs.Prelude.{◌≡◌, ◌⊎◌, ℕ, ◌≤◌, Bool, true, false, is_some, List, [], ◌∷◌, ◌++◌, length, count_by, Option, Some, None, Result, Ok, Err}
-use Rattle.std.specs.Io.KnownBytes.{prepend_known, append_known, IsAtEnd}
+use Rattle.std.specs.Io.KnownBytes.{append_known, Consumes, IsAtEnd}
 use Rattle.ifs_base.specs.declared.ids.IfaceId.{IfaceId}
 use Rattle.ifs_base.specs.declared.op.LinkState.{LinkState}
 use Rattle.ifs_image.specs.declared.parts.ImageParts.{ImageParts}
@@ -93,7 +93,7 @@ pub record Moment : Type 0 where
 
 -- From one moment to another these bytes were read, at most as many as a session reads.
 pub record HasRead (input : List ℕ) (before after : Moment) : Type 0 where
-  pub given : before.left ≡ prepend_known input after.left
+  pub given : Consumes before.left after.left input
   pub within : length input ≤ 16777216
 
 -- From one moment to another these lines were served: each made its step, if it was one.
@@ -148,7 +148,7 @@ pub record BreaksWriting (b : Behaviour) (input : List ℕ) (before after : Mome
 
 -- A byte was read after the 16,777,216 that a session reads: the lines that were whole before it were served.
 pub record ReadsPast (b : Behaviour) (input : List ℕ) (byte : ℕ) (before after : Moment) : Type 0 where
-  pub given : before.left ≡ prepend_known (input ++ byte ∷ []) after.left
+  pub given : Consumes before.left after.left (input ++ byte ∷ [])
   pub full : length input ≡ 16777216
   pub served : HasServed b (whole_lines input) before after
   pub replied : HasReplied b (whole_lines input) before after

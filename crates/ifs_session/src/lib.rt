@@ -1,7 +1,7 @@
 //! Sessions: lines of requests in, lines of replies out.
 //!
 //! A request asks for a step of the core, or for what the core says of itself; each line of input
-//! has one reply, written to the output before the next line is waited for.
+//! has one reply, which has gone out before the next line is waited for.
 //!
 //! Contract: the bytes written are exactly the replies of the run over the lines that were read,
 //! for every reader and every writer that tells its bytes.

@@ -1,6 +1,7 @@
 //! Devices over the readers and writers of std.
 
-ghost use Rattle.std.specs.Prelude.{◌≡◌, ℕ, ◌≤◌, ◌↔◌, [], ◌∷◌, take, Contains, length, Some, MatchOption, IfOk, IsTrue};
+ghost use Rattle.std.specs.Prelude.{◌≡◌, ℕ, ◌≤◌, ◌↔◌, [], ◌∷◌, take, Contains, length, Some, MatchOption, IfOk, OnOk, OnErr, IsTrue};
+ghost use Rattle.std.specs.Io.KnownBytes.{Keeps, IsAtEnd, ReadConsumes};
 ghost use Rattle.ifs_session.specs.Device.{HasLine};
 
 use crate::device::{ByteIn, ByteOut, DeviceFault};
@@ -13,7 +14,8 @@ const BUFFER: usize = 4096;
 const TRIES: u32 = 1000;
 
 /// A reader of bytes over one of std, with a buffer of 4,096 bytes. It tells the bytes that stand in
-/// its buffer, which can be read without waiting.
+/// its buffer, which can be read without waiting, and where that reader tells its own, all that are
+/// left.
 #[derive(Debug, Drop)]
 pub struct FromRead<R> {
     reader: R,
@@ -24,11 +26,12 @@ pub struct FromRead<R> {
 }
 
 impl<R: Read> FromRead<R> {
-    ghost use Rattle.ifs_session.specs.Buffer.{buffered};
+    ghost use Rattle.ifs_session.specs.Buffer.{buffered, left_over};
 
     /// Over this reader, with an empty buffer.
     pub fn new(reader: R) -> Self
-        ensures { buffered result ≡ [] }
+        ensures buffer { buffered result ≡ [] }
+        ensures left { left_over R.remaining result ≡ R.remaining reader }
     {
         FromRead {
             reader,
@@ -47,7 +50,8 @@ impl<R: Read> FromRead<R> {
 
     /// Takes the first byte out of the buffer, if there is one.
     fn pop(&mut self) -> Option<u8>
-        ensures { MatchOption result ((buffered self.old ≡ []) × (buffered self.new ≡ [])) (λ byte. buffered self.old ≡ byte ∷ buffered self.new) }
+        ensures gives { MatchOption result ((buffered self.old ≡ []) × (buffered self.new ≡ [])) (λ byte. buffered self.old ≡ byte ∷ buffered self.new) }
+        ensures reader { self.new.reader ≡ self.old.reader }
     {
         if self.start == self.end {
             return None;
@@ -58,7 +62,12 @@ impl<R: Read> FromRead<R> {
     }
 
     /// Fills the buffer, which is empty, with what one read gives.
-    fn fill(&mut self) -> Result<(), DeviceFault> {
+    fn fill(&mut self) -> Result<(), DeviceFault>
+        requires { buffered self.old ≡ [] }
+        ensures kept { Keeps (left_over R.remaining self.old) (left_over R.remaining self.new) }
+        ensures end { OnOk result (buffered self.new ≡ [] → IsAtEnd (left_over R.remaining self.new)) }
+        ensures failed { OnErr result (buffered self.new ≡ []) }
+    {
         let count = read_some(&mut self.reader, &mut self.buffer)?;
         self.start = 0;
         self.end = count;
@@ -68,7 +77,9 @@ impl<R: Read> FromRead<R> {
 
 /// Reads into a buffer. A read that was interrupted is tried again, up to 1,000 times.
 fn read_some<R: Read>(reader: &mut R, buffer: &mut [u8; BUFFER]) -> Result<usize, DeviceFault>
-    ensures { IfOk result (λ count. count ≤ BUFFER) }
+    ensures within { IfOk result (λ count. count ≤ BUFFER) }
+    ensures bytes { ReadConsumes (R.remaining reader.old) (R.remaining reader.new) result buffer.new }
+    ensures length { length buffer.new ≡ BUFFER }
 {
     for _ in 0..TRIES {
         match reader.read(buffer) {
@@ -92,7 +103,9 @@ pub(crate) fn has_newline(bytes: &[u8], most: u32) -> bool
 }
 
 impl<R: Read> ByteIn for FromRead<R> {
-    ghost use Rattle.ifs_session.specs.Buffer.{buffered};
+    ghost use Rattle.ifs_session.specs.Buffer.{buffered, left_over};
+
+    ghost left = { left_over R.remaining };
 
     ghost ready = { λ r. Some (buffered r) };
 

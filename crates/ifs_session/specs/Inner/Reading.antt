@@ -1,6 +1,6 @@
 -- What the functions that read a line of requests and a digit give.
 use Rattle.std.specs.Prelude.{◌≡◌, ◌≢◌, ℕ, ◌+◌, ◌<◌, ◌≤◌, Bool, false, nat_lt, List, [], ◌∷◌, ◌++◌, length, take, Option, Some, None, Result, Ok, Err}
-use Rattle.std.specs.Io.KnownBytes.{prepend_known, IsAtEnd}
+use Rattle.std.specs.Io.KnownBytes.{Keeps, Consumes, IsAtEnd}
 use Rattle.ifs_session.specs.declared.fault.SessionFault.{SessionFault}
 use Rattle.ifs_session.specs.declared.fault.SessionFault.TheVariants.{ReadFailed, WriteFailed, TooMuchInput}
 use Rattle.ifs_session.specs.declared.hexadecimal.HexFault.{HexFault}
@@ -27,7 +27,7 @@ pub record ReadsLine (line : Line) (text : List ℕ) (before after : Intake) : T
   pub plain : HasNoNewline text
   pub kept : line.kept.items ≡ take 256 text
   pub longer : line.is_longer ≡ nat_lt 256 (length text)
-  pub given : before.left ≡ prepend_known (text ++ ending line.is_ended) after.left
+  pub given : Consumes before.left after.left (text ++ ending line.is_ended)
   pub spent : before.budget ≡ length (text ++ ending line.is_ended) + after.budget
   pub same_faults : after.faults ≡ before.faults
   pub last : line.is_ended ≡ false → (0 < length text) × IsAtEnd after.left
@@ -35,21 +35,21 @@ pub record ReadsLine (line : Line) (text : List ℕ) (before after : Intake) : T
 -- The input was at its end.
 pub record ReadsNothing (before after : Intake) : Type 0 where
   pub at_end : IsAtEnd after.left
-  pub same : after.left ≡ before.left
+  pub same : Keeps before.left after.left
   pub same_budget : after.budget ≡ before.budget
   pub same_faults : after.faults ≡ before.faults
 
 -- A read failed after this text, the beginning of a line.
 pub record ReadFails (text : List ℕ) (before after : Intake) : Type 0 where
   pub plain : HasNoNewline text
-  pub given : before.left ≡ prepend_known text after.left
+  pub given : Consumes before.left after.left text
   pub within : length text ≤ before.budget
   pub one_fault : after.faults ≡ counted before.faults
 
 -- A byte was read after this text, the beginning of a line, with which the bytes that may be read were spent.
 pub record ReadsTooMuch (text : List ℕ) (byte : ℕ) (before after : Intake) : Type 0 where
   pub plain : HasNoNewline text
-  pub given : before.left ≡ prepend_known (text ++ byte ∷ []) after.left
+  pub given : Consumes before.left after.left (text ++ byte ∷ [])
   pub spent : length text ≡ before.budget
   pub same_faults : after.faults ≡ before.faults
 
@@ -66,5 +66,5 @@ abbrev pub DigitGives : Result (Option ℕ) HexFault → Feed → Feed → Type 
 DigitGives (Ok (Some digit)) before after = (digit < 16) × Takes (hex_digit digit ∷ []) before after
 DigitGives (Ok None) before after = (ended : Bool) × Takes (ending ended) before after × EndsAt ended after
 DigitGives (Err Broken) before after = (byte : ℕ) × Takes (byte ∷ []) before after × IsNoDigit byte × (byte ≢ 10)
-DigitGives (Err NotRead) before after = (after.left ≡ before.left) × (after.faults ≡ counted before.faults)
+DigitGives (Err NotRead) before after = Keeps before.left after.left × (after.faults ≡ counted before.faults)
 DigitGives (Err Memory) before after = ⊥

@@ -1,7 +1,10 @@
 use Rattle.std.proofs.Common.{arith}
 use Rattle.std.proofs.lemmas.Result.{err_from_is_err_and}
-use Rattle.ifs_session.proofs.HexReading.{high_read, low_read, digit_fails, odd_digit, digit_too_many}
+use Rattle.ifs_session.proofs.HexReading.{line_start, high_read, low_read, digit_fails, odd_digit, digit_too_many}
 use Rattle.ifs_session.proofs.hexadecimal.hex_line.Goals as goal
+
+pub digits-init : goal.digits-init
+digits-init g c = line_start _ _ c.new-bytes.ensures.items
 
 pub returns-in_err-high : goal.returns-in_err-high
 returns-in_err-high g c =
