@@ -1,12 +1,12 @@
 -- What the functions on bytes read is what the relations say, and nothing else.
-use Rattle.std.proofs.Common.{◌≡◌, ◌≢◌, ℕ, zero, suc, ◌+◌, ◌<◌, ◌≤◌, Bool, true, false, cond, eqb, ltb, ◌&&◌, ◌||◌, not, List, [], ◌∷◌, length, get_or, refl, sym, ◌∙◌, ap, subst, arith, ◌⊎◌, inl, inr}
+use Rattle.std.proofs.Common.{Option, Some, None, option_map, ◌≡◌, ◌≢◌, ℕ, zero, suc, ◌+◌, ◌<◌, ◌≤◌, Bool, true, false, cond, eqb, ◌&&◌, ◌||◌, not, List, [], ◌∷◌, get_or, refl, sym, ◌∙◌, ap, subst, arith, ◌⊎◌, inl, inr}
 use Rattle.std.specs.List.{prefix_len}
 use Rattle.std.proofs.lemmas.Bool.{cases_lt, eqb-true, eq-eqb}
 use Rattle.std.proofs.lemmas.Bool.Decides.{nat_tests}
 use Rattle.std.proofs.lemmas.List.Sums.{prefix_len-le-length, prefix_len_passes, prefix_len_stops}
 use Rattle.ifs_lex.specs.Characters.{is_quote}
-use Rattle.ifs_lex.specs.Items.{begins_with, is_dropped, quoted_value}
-use Rattle.ifs_lex.specs.Spelling.{Longest, is_given, escapes, Says, nothing, newline, continued, escaped, itself}
+use Rattle.ifs_lex.specs.Items.{begins_with, inside_len, is_dropped, quoted_value}
+use Rattle.ifs_lex.specs.Spelling.{Longest, is_given, escapes, after_backslash, Closes, Says, nothing, newline, continued, escaped, itself}
 
 pub prefix_longest : (p : ℕ → Bool) (bs : List ℕ) → Longest p bs (prefix_len p bs)
 prefix_longest p bs = record {
@@ -106,3 +106,87 @@ pub says : (q : ℕ) (inside : List ℕ) → is_quote q ≡ true → Says q insi
 says q [] u = nothing
 says q (b ∷ []) u = says_one q b [] _ refl (λ _. refl) nothing
 says q (b ∷ c ∷ more) u = says_two q b c more _ _ u refl refl (says q (c ∷ more) u) (says q more u)
+
+shift : (before : Bool) (b : ℕ) (rest : List ℕ) (k : ℕ) → after_backslash before (b ∷ rest) (suc k) ≡ after_backslash (eqb b 92) rest k
+shift before b rest zero = refl
+shift before b rest (suc j) = refl
+
+both_parts : (b q : ℕ) (e : Bool) → (eqb b q && not e) ≡ true → (b ≡ q) × (e ≡ false)
+both_parts b q true h = (grind (arith, nat_tests), absurd (both_no _ h))
+  where
+    both_no : (a : Bool) → (a && false) ≡ true → ⊥
+    both_no true k = cc
+    both_no false k = cc
+both_parts b q false h = (grind (arith, nat_tests), refl)
+
+one_part : (b q : ℕ) (e : Bool) → (eqb b q && not e) ≡ false → b ≡ q → e ≡ true
+one_part b q true h same = refl
+one_part b q false h same = absurd (only_one _ (eq-eqb b q same) h)
+  where
+    only_one : (a : Bool) → a ≡ true → (a && true) ≡ false → ⊥
+    only_one true g k = cc
+    only_one false g k = cc
+
+first_later : (q : ℕ) (e : Bool) (b : ℕ) (rest : List ℕ) (k : ℕ) → (eqb b q && not e) ≡ false → Closes q (eqb b 92) rest k → (i : ℕ) → i < suc k → get_or (b ∷ rest) i 0 ≡ q → after_backslash e (b ∷ rest) i ≡ true
+first_later q e b rest k t h zero l same = one_part b q e t same
+first_later q e b rest k t h (suc j) l same = shift e b rest j ∙ h.first j (omega arith) same
+
+later : (q : ℕ) (e : Bool) (b : ℕ) (rest : List ℕ) (k : ℕ) → (eqb b q && not e) ≡ false → Closes q (eqb b 92) rest k → Closes q e (b ∷ rest) (suc k)
+later q e b rest k t h = record {
+  within = omega (arith, h.within);
+  closes = h.closes;
+  free = shift e b rest k ∙ h.free;
+  first = first_later q e b rest k t h;
+}
+
+at_once : (q : ℕ) (e : Bool) (b : ℕ) (rest : List ℕ) → (eqb b q && not e) ≡ true → Closes q e (b ∷ rest) 0
+at_once q e b rest t =
+    let parts = both_parts b q e t in record {
+      within = omega arith;
+      closes = parts.0;
+      free = parts.1;
+      first = λ k l same. absurd (omega arith);
+    }
+
+closes_case : (q : ℕ) (e : Bool) (b : ℕ) (rest : List ℕ) (n : ℕ) (t : Bool) (m : Option ℕ) → (eqb b q && not e) ≡ t → ((k : ℕ) → m ≡ Some k → Closes q (eqb b 92) rest k) → cond t (Some 0) (option_map (λ i. 1 + i) m) ≡ Some n → Closes q e (b ∷ rest) n
+closes_case q e b rest n true m t f h =
+    let z : 0 ≡ n = cc in
+    let P : ℕ → Type 0 = λ i. Closes q e (b ∷ rest) i in
+    subst P z (at_once q e b rest t)
+closes_case q e b rest n false None t f h = absurd (cc)
+closes_case q e b rest n false (Some k) t f h =
+    let z : 1 + k ≡ n = cc in
+    let s : suc k ≡ n = omega arith in
+    let P : ℕ → Type 0 = λ i. Closes q e (b ∷ rest) i in
+    subst P s (later q e b rest k t (f k refl))
+
+pub closes : (q : ℕ) (e : Bool) (bs : List ℕ) (n : ℕ) → inside_len q e bs ≡ Some n → Closes q e bs n
+closes q e [] n h = absurd (cc)
+closes q e (b ∷ rest) n h = closes_case q e b rest n _ _ refl (λ k s. closes q (eqb b 92) rest k s) h
+
+test_later : (q : ℕ) (e : Bool) (b : ℕ) (rest : List ℕ) (k : ℕ) (t : Bool) → (eqb b q && not e) ≡ t → Closes q e (b ∷ rest) (suc k) → t ≡ false
+test_later q e b rest k true t h =
+    let parts = both_parts b q e t in
+    absurd (true_false _ _ (h.first 0 (omega arith) parts.0) parts.1 refl)
+test_later q e b rest k false t h = refl
+
+earlier : (q : ℕ) (e : Bool) (b : ℕ) (rest : List ℕ) (k : ℕ) → Closes q e (b ∷ rest) (suc k) → Closes q (eqb b 92) rest k
+earlier q e b rest k h = record {
+  within = omega (arith, h.within);
+  closes = h.closes;
+  free = sym (shift e b rest k) ∙ h.free;
+  first = λ i l same. sym (shift e b rest i) ∙ h.first (suc i) (omega arith) same;
+}
+
+both_hold : (b q : ℕ) (e : Bool) → b ≡ q → e ≡ false → (eqb b q && not e) ≡ true
+both_hold b q true same f = absurd (cc)
+both_hold b q false same f = grind (arith, nat_tests)
+
+pub closed : (q : ℕ) (e : Bool) (bs : List ℕ) (n : ℕ) → Closes q e bs n → inside_len q e bs ≡ Some n
+closed q e [] n h = absurd (omega (arith, h.within))
+closed q e (b ∷ rest) zero h =
+    ap (λ t. cond t (Some 0) (option_map (λ i. 1 + i) (inside_len q (eqb b 92) rest))) (both_hold b q e h.closes h.free)
+closed q e (b ∷ rest) (suc k) h =
+    let one : 1 + k ≡ suc k = omega arith in
+    ap (λ t. cond t (Some 0) (option_map (λ i. 1 + i) (inside_len q (eqb b 92) rest))) (test_later q e b rest k _ refl h) ∙
+    ap (option_map (λ i. 1 + i)) (closed q (eqb b 92) rest k (earlier q e b rest k h)) ∙ ap (λ i. Some i) one

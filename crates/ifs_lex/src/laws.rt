@@ -1,11 +1,11 @@
 //! Laws of the tokens, over their definitions alone: each is the contract of a function that does nothing.
 
-ghost use Rattle.std.specs.Prelude.{◌≡◌, ℕ, Bool, true, List};
+ghost use Rattle.std.specs.Prelude.{◌≡◌, ℕ, Bool, true, false, Some, List};
 ghost use Rattle.ifs_lex.specs.declared.token.Token.{Token};
 ghost use Rattle.ifs_lex.specs.Expansion.{Spells, EndsOnce};
 ghost use Rattle.ifs_lex.specs.Characters.{is_quote};
-ghost use Rattle.ifs_lex.specs.Items.{quoted_value};
-ghost use Rattle.ifs_lex.specs.Spelling.{Longest, Says};
+ghost use Rattle.ifs_lex.specs.Items.{inside_len, quoted_value};
+ghost use Rattle.ifs_lex.specs.Spelling.{Closes, Longest, Says};
 ghost use Rattle.std.specs.List.{prefix_len};
 
 /// A text spells at most one list of tokens under what is given beside it.
@@ -30,4 +30,10 @@ pub fn longest_runs()
 pub fn one_value()
     ensures some { (quote : ℕ) (inside : List ℕ) → is_quote quote ≡ true → Says quote inside (quoted_value quote inside) }
     ensures only { (quote : ℕ) (inside value : List ℕ) → is_quote quote ≡ true → Says quote inside value → value ≡ quoted_value quote inside }
+{}
+
+/// The quote that closes a text is the first one that is not after a backslash.
+pub fn one_closing_quote()
+    ensures some { (quote : ℕ) (bytes : List ℕ) (n : ℕ) → inside_len quote false bytes ≡ Some n → Closes quote false bytes n }
+    ensures only { (quote : ℕ) (bytes : List ℕ) (n : ℕ) → Closes quote false bytes n → inside_len quote false bytes ≡ Some n }
 {}

@@ -1,4 +1,4 @@
-use Rattle.ifs_lex.proofs.Spelt.{prefix_longest, longest_once, said}
+use Rattle.ifs_lex.proofs.Spelt.{prefix_longest, longest_once}
 use Rattle.ifs_lex.proofs.laws.longest_runs.Goals as goal
 
 pub returns-clause-some : goal.returns-clause-some
