@@ -1,0 +1,117 @@
+"""What tools/bench runs the programs on: images, request lines and policy texts."""
+import struct
+
+RET, TRUE, LINK, TEST, KNOWN, NOT, AND, OR = 0x00, 0x01, 0x03, 0x04, 0x05, 0x06, 0x07, 0x08
+CMD, STATE, QUEUE, WANT, JF, JT, CALL, POP = 0x09, 0x0A, 0x0B, 0x0C, 0x0E, 0x0F, 0x10, 0x11
+DOWN, UP = 1, 2
+MOST_BYTES = 1_048_576
+MOST_BLOCKS = 341
+BLOCK = 3_072
+COMMENT = "# the gateway that holds the address answers, and the other one waits until its peer is gone\n"
+
+
+def op(code, operand=0, link=0):
+    return struct.pack(">BBH", code, link, operand)
+
+
+def text(words):
+    return struct.pack(">H", len(words)) + words.encode()
+
+
+def state(name, init, body, mask=0):
+    return text(name) + struct.pack(">HHQ", init, body, mask)
+
+
+def image(routines, states, always=0, tests=(), commands=()):
+    """One interface, and an always body of that number; its init is routine 0."""
+    return b"".join([
+        b"IFSV\x01",
+        struct.pack(">HHIH", 32, 32, 300_000, len(commands)),
+        struct.pack(">HHHHH", 1, len(tests), len(commands), len(states), len(routines)),
+        struct.pack(">HHHQ", 0, 0, always, 0),
+        text("carp0"),
+        *[struct.pack(">I", 1) + text(test) for test in tests],
+        *[text(command) for command in commands],
+        *states,
+        *[struct.pack(">BH", 0, len(code)) + b"".join(code) for code in routines],
+    ])
+
+
+def gateway():
+    """Two tests, due each second. A command is queued where both hold and the link is up, and another one where
+    neither holds and it is down."""
+    body = [
+        op(KNOWN, 0), op(JF, 20), op(KNOWN, 1), op(JF, 20),
+        op(TEST, 0), op(TEST, 1), op(AND), op(LINK, 0, UP), op(AND), op(JF, 12), op(CMD, 0), op(QUEUE),
+        op(TEST, 0), op(TEST, 1), op(OR), op(JT, 20), op(LINK, 0, DOWN), op(JF, 20), op(CMD, 1), op(QUEUE),
+        op(RET),
+    ]
+    tests, commands = ["ping -q -c 1 192.0.2.1", "ping -q -c 1 192.0.2.2"], ["echo up", "echo down"]
+    return image([[op(RET)], body], [state("a", 0, 1, 3)], 0, tests, commands)
+
+
+def gateway_requests(count):
+    """In turn a tick, which starts both tests, a link, the results of both tests, and a take."""
+    lines = []
+    for second in range(1, count // 5 + 1):
+        link, ends = ("up", "ok") if second % 2 else ("down", "fail")
+        lines += [
+            f"tick {second}", f"link carp0 {link}",
+            f"result 0 {2 * second - 1} {ends}", f"result 1 {2 * second} {ends}", "take",
+        ]
+    return lines
+
+
+def straight(instructions):
+    """So many instructions, from 3 on: truths that are made of facts and taken by jumps to the next place."""
+    turn = [op(LINK, 0, UP), op(LINK, 0, DOWN), op(OR), op(NOT), op(TRUE), op(AND)]
+    code = []
+    for _ in range((instructions - 3) // 7):
+        code += turn + [op(JF, len(code) + 7)]
+    return code + [op(LINK, 0, UP)] + [op(NOT)] * (instructions - len(code) - 3) + [op(POP), op(RET)]
+
+
+def heavy():
+    """Each event executes 297,989 instructions, in the always body, the state's and the init of the other one,
+    which is entered. Each calls a routine of 1,023 instructions 97 times."""
+    calls = [op(CALL, 1)] * 97
+    leaving = [calls + [op(STATE, other), op(WANT), op(RET)] for other in (1, 0)]
+    routines = [[op(RET)], straight(1_023), calls + [op(RET)], *leaving]
+    return image(routines, [state("a", 2, 3), state("b", 2, 4)], 2)
+
+
+def links(count):
+    return [f"link carp0 {('up', 'down')[turn % 2]}" for turn in range(count)]
+
+
+def wide(routines):
+    """So many routines of 1,024 instructions, of which 8 are all that an image may have."""
+    return image([straight(1_024)] * routines, [state("a", 0, 0)])
+
+
+def block(number):
+    """A state of 46 tokens, filled up with comments to 3,072 bytes."""
+    code = (
+        f"state gateway_{number:04} {{\n"
+        f"\tinit {{ run \"logger -t gateway 'state {number:04} is entered, and the address is ours'\" }}\n"
+        f"\tif $carp_up && ! $peer_up {{ set-state gateway_{number + 1:04} }}\n"
+        f"\tif ( em0.link.up || \"ping -q -c 1 -w 1 192.0.2.7 > /dev/null\" every 10 ) && $carp_up {{\n"
+        f"\t\trun \"ifconfig carp0 advskew {number:04}\"\n\t}}\n}}\n"
+    )
+    fill = BLOCK - len(code)
+    comments = COMMENT * (fill // len(COMMENT) + 1)
+    return comments[:fill - 1] + "\n" + code
+
+
+def policy(blocks):
+    """A policy text whose size is that of so many blocks."""
+    macros = "carp_up = 'carp0.link.up'\npeer_up = '\"ping -q -c 1 192.0.2.2 > /dev/null\" every 5'\n"
+    head = macros + "#" * (BLOCK - len(macros) - 1) + "\n"
+    return head + "".join(block(number) for number in range(1, blocks))
+
+
+def uses(size):
+    """Lines, up to this size in all, that each define a macro as another one, which has 16,384 tokens."""
+    line = "x = '$y'\n"
+    value = "y = '" + "a " * 16_384 + "'\n"
+    return value + line * ((size - len(value)) // len(line))
