@@ -468,3 +468,10 @@ fn values_are_not_copied(rt: HostRuntime) -> Result<(), Fail> {
     );
     Ok(())
 }
+
+#[test]
+fn want_of_memory_has_no_line(rt: HostRuntime) -> Result<(), Fail> {
+    let text = format!(in rt.alloc(); "{}", LexFault::Memory)?;
+    assert_eq!(rt; text.as_str(), "P0");
+    Ok(())
+}
