@@ -6,7 +6,7 @@ use Rattle.std.specs.Io.KnownBytes.{Keeps, Consumes, IsAtEnd}
 use Rattle.arrayvec.specs.ArrayVec.{ArrayVec}
 use Rattle.ifs_session.specs.Device.{counted, HasLine, ReadyGives}
 use Rattle.ifs_session.specs.declared.device.DeviceFault.{DeviceFault}
-use Rattle.ifs_session.specs.Inner.Reading.{HasNoNewline, Intake, ReadsLine, ReadsNothing, ReadFails, ReadsTooMuch}
+use Rattle.ifs_session.specs.inner.Reading.{HasNoNewline, Intake, ReadsLine, ReadsNothing, ReadFails, ReadsTooMuch}
 use Rattle.ifs_session.proofs.Known.{consumes_nothing, consumes_more, consumes_kept, keeps_nothing_read}
 
 -- Partway in a line: this text was read, and this is kept of it.

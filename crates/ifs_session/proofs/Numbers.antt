@@ -2,7 +2,7 @@
 use Rattle.std.proofs.Common.{◌≡◌, ℕ, ◌^◌, ◌≤◌, Bool, Option, Some, None, refl, arith}
 use Rattle.std.specs.Option.{option_map}
 use Rattle.std.proofs.lemmas.Bool.Decides.{nat_tests}
-use Rattle.ifs_session.specs.Inner.Parsing.{result_kept, sized}
+use Rattle.ifs_session.specs.inner.Parsing.{result_kept, sized}
 use Rattle.ifs_session.specs.Requests.{result_numbered}
 
 -- What is kept of the number n that was spelled so far: n itself below 2 ^ 64, and nothing above.

@@ -11,7 +11,7 @@ use Rattle.std.specs.Io.KnownBytes.{append_known, Consumes, IsAtEnd}
 use Rattle.ifs_image.specs.declared.parts.ImageParts.{ImageParts}
 use Rattle.ifs_core.specs.Event.{Behaviour}
 use Rattle.ifs_core.specs.Steps.{CoreState}
-use Rattle.ifs_session.specs.Inner.Reading.{LineGives, HasNoNewline, Intake, ReadsLine, ReadsNothing, ReadFails, ReadsTooMuch}
+use Rattle.ifs_session.specs.inner.Reading.{LineGives, HasNoNewline, Intake, ReadsLine, ReadsNothing, ReadFails, ReadsTooMuch}
 use Rattle.ifs_session.specs.Lines.{lines_of, whole_lines, onto_line, ending}
 use Rattle.ifs_session.specs.Requests.{Asked, ALink, AResult, ATick, ATake, AStatus, ATrace, AStop, AFault, asked, short_asked}
 use Rattle.ifs_session.specs.declared.request.RequestFault.TheVariants.{TooLong}
@@ -20,7 +20,7 @@ use Rattle.ifs_session.specs.declared.session.LineKind.TheVariants as kinds
 use Rattle.ifs_session.specs.declared.lines.Line.{Line}
 use Rattle.ifs_core.specs.Gateway.{OpenCore}
 use Rattle.ifs_session.specs.Sessions.{SessionGives, deed, replies, after_lines, is_step, is_stop, GoOn, OnlyLastMayStop, Moment, Closes, EndsLine, EndsLines, Completes, BreaksReading, BreaksWriting, ReadsPast}
-use Rattle.ifs_session.specs.Inner.Serving.{kept_asked, kind_of, with_line}
+use Rattle.ifs_session.specs.inner.Serving.{kept_asked, kind_of, with_line}
 use Rattle.ifs_session.proofs.Known.{consumes_nothing, consumes_more, consumes_kept, append_known-append, append_known-nil}
 
 -- ---- lines

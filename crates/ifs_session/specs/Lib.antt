@@ -9,4 +9,4 @@ pub mod Hexadecimal
 pub mod Device
 pub mod Memory
 pub mod Buffer
-pub mod Inner
+pub mod inner

@@ -2,7 +2,7 @@
 
 ghost use Rattle.std.specs.Prelude.{◌≡◌, ◌<◌, MatchOption};
 ghost use Rattle.ifs_session.specs.Words.{hex_digit};
-ghost use Rattle.ifs_session.specs.Inner.Reading.{DigitGives};
+ghost use Rattle.ifs_session.specs.inner.Reading.{DigitGives};
 ghost use Rattle.ifs_session.specs.Hexadecimal.{HexGives, IsNoDigit};
 
 use crate::device::ByteIn;

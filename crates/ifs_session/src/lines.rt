@@ -2,7 +2,7 @@
 
 ghost use Rattle.std.specs.Prelude.{◌≡◌, IsOkAnd, IsSome};
 ghost use Rattle.ifs_session.specs.Device.{HasLine};
-ghost use Rattle.ifs_session.specs.Inner.Reading.{LineGives};
+ghost use Rattle.ifs_session.specs.inner.Reading.{LineGives};
 
 use crate::device::ByteIn;
 use crate::fault::SessionFault;

@@ -3,7 +3,7 @@
 ghost use Rattle.std.specs.Prelude.{◌≡◌, ◌++◌, decimal, OnOk};
 ghost use Rattle.ifs_session.specs.Device.{PutGives, HoldsNothing};
 ghost use Rattle.ifs_session.specs.Runs.{place_words, image_fault_words, verify_fault_words, refusal_words, refused_line};
-ghost use Rattle.ifs_session.specs.Inner.Opening.{RefuseGives};
+ghost use Rattle.ifs_session.specs.inner.Opening.{RefuseGives};
 
 use crate::device::{ByteOut, DeviceFault};
 use crate::fault::{RunFault, SessionFault};

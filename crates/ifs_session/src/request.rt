@@ -3,7 +3,7 @@
 ghost use Rattle.std.specs.Prelude.{◌≡◌, ◌==◌};
 ghost use Rattle.std.specs.List.{before_first, after_first, position};
 ghost use Rattle.std.specs.Option.{option_map};
-ghost use Rattle.ifs_session.specs.Inner.Parsing.{told_by, result_kept, sized, with_digit};
+ghost use Rattle.ifs_session.specs.inner.Parsing.{told_by, result_kept, sized, with_digit};
 ghost use Rattle.ifs_session.specs.Requests.{short_asked, link_asked, result_asked, result_valued, word_asked, link_named, tick_asked, number_of};
 
 use ifs_base::{LinkState, TestId};

@@ -1,7 +1,7 @@
 //! Runs of an image that comes as the first line of the input.
 
 ghost use Rattle.std.specs.Prelude.{◌≡◌};
-ghost use Rattle.ifs_session.specs.Inner.Opening.{ImageGives, OpenGives};
+ghost use Rattle.ifs_session.specs.inner.Opening.{ImageGives, OpenGives};
 ghost use Rattle.ifs_session.specs.Runs.{RunGives};
 
 use crate::device::{ByteIn, ByteOut};

@@ -5,9 +5,9 @@ ghost use Rattle.ifs_core.specs.Event.{Behaviour};
 ghost use Rattle.ifs_core.specs.Machine.{IsBehaviour};
 ghost use Rattle.ifs_session.specs.Device.{PutGives, HasLine, HoldsNothing};
 ghost use Rattle.ifs_session.specs.Requests.{ALink};
-ghost use Rattle.ifs_session.specs.Inner.Parsing.{told_by};
+ghost use Rattle.ifs_session.specs.inner.Parsing.{told_by};
 ghost use Rattle.ifs_session.specs.Sessions.{deed, step_deed, SessionGives};
-ghost use Rattle.ifs_session.specs.Inner.Serving.{kind_of, kept_asked, with_line, ServeGives};
+ghost use Rattle.ifs_session.specs.inner.Serving.{kind_of, kept_asked, with_line, ServeGives};
 
 use crate::device::{ByteIn, ByteOut, DeviceFault};
 use crate::fault::SessionFault;
