@@ -7,3 +7,6 @@ pub mod Unrolled
 pub mod Parts
 pub mod Endings
 pub mod Spelt
+pub mod Gaps
+pub mod Scanned
+pub mod Spellings

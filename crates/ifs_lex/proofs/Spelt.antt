@@ -15,7 +15,7 @@ prefix_longest p bs = record {
   stops = λ l. prefix_len_stops p bs 0 l;
 }
 
-true_false : (a b : Bool) → a ≡ true → b ≡ false → a ≡ b → ⊥
+pub true_false : (a b : Bool) → a ≡ true → b ≡ false → a ≡ b → ⊥
 true_false a b h g e = cc
 
 longest_case : (p : ℕ → Bool) (bs : List ℕ) (m n : ℕ) → Longest p bs m → Longest p bs n → (m < n) ⊎ (n ≤ m) → n ≤ m
@@ -107,7 +107,7 @@ says q [] u = nothing
 says q (b ∷ []) u = says_one q b [] _ refl (λ _. refl) nothing
 says q (b ∷ c ∷ more) u = says_two q b c more _ _ u refl refl (says q (c ∷ more) u) (says q more u)
 
-shift : (before : Bool) (b : ℕ) (rest : List ℕ) (k : ℕ) → after_backslash before (b ∷ rest) (suc k) ≡ after_backslash (eqb b 92) rest k
+pub shift : (before : Bool) (b : ℕ) (rest : List ℕ) (k : ℕ) → after_backslash before (b ∷ rest) (suc k) ≡ after_backslash (eqb b 92) rest k
 shift before b rest zero = refl
 shift before b rest (suc j) = refl
 
@@ -119,7 +119,7 @@ both_parts b q true h = (grind (arith, nat_tests), absurd (both_no _ h))
     both_no false k = cc
 both_parts b q false h = (grind (arith, nat_tests), refl)
 
-one_part : (b q : ℕ) (e : Bool) → (eqb b q && not e) ≡ false → b ≡ q → e ≡ true
+pub one_part : (b q : ℕ) (e : Bool) → (eqb b q && not e) ≡ false → b ≡ q → e ≡ true
 one_part b q true h same = refl
 one_part b q false h same = absurd (only_one _ (eq-eqb b q same) h)
   where

@@ -1,5 +1,9 @@
--- Words, names and quotes in words of their own, beside the functions that read them.
-use Rattle.std.specs.Prelude.{◌≡◌, ◌≢◌, ℕ, zero, suc, ◌<◌, ◌≤◌, Bool, true, false, ◌||◌, ◌==◌, List, [], ◌∷◌, length, slice_index}
+-- The items of a text in words of their own, beside the functions that read them.
+use Rattle.std.specs.Prelude.{◌≡◌, ◌≢◌, ℕ, zero, suc, ◌+◌, ◌<◌, ◌≤◌, Bool, true, false, ◌||◌, ◌==◌, List, [], ◌∷◌, ◌++◌, length, take, drop, count_by, slice_index, codes}
+use Rattle.ifs_lex.specs.declared.token.What.{What}
+use Rattle.ifs_lex.specs.declared.token.What.TheVariants.{Word, Quoted, BraceOpen, BraceClose, ParenOpen, ParenClose, Dot, Equals, Bang, And, Or, End}
+use Rattle.ifs_lex.specs.Characters.{is_blank, is_quote, begins_name, continues_name, begins_word, continues_word}
+use Rattle.ifs_lex.specs.Items.{Item, One, Uses, Placed}
 
 -- So many bytes pass, and the next one, where there is one, does not.
 pub record Longest (passes : ℕ → Bool) (bytes : List ℕ) (n : ℕ) : Type 0 where
@@ -29,9 +33,66 @@ abbrev pub after_backslash : Bool → List ℕ → ℕ → Bool
 after_backslash before bytes zero = before
 after_backslash before bytes (suc k) = slice_index bytes k == 92
 
--- The first quote that is not after a backslash stands at a place.
+-- The first one of a byte that is not after a backslash stands at a place: the quote that closes, the newline that ends a comment.
 pub record Closes (quote : ℕ) (before : Bool) (bytes : List ℕ) (n : ℕ) : Type 0 where
   pub within : n < length bytes
   pub closes : slice_index bytes n ≡ quote
   pub free : after_backslash before bytes n ≡ false
   pub first : (k : ℕ) → k < n → slice_index bytes k ≡ quote → after_backslash before bytes k ≡ true
+
+-- No newline ends what is left of a comment: each one stands right after a backslash.
+abbrev pub Unended : List ℕ → Type 0
+Unended bytes = (k : ℕ) → k < length bytes → slice_index bytes k ≡ 10 → after_backslash false bytes k ≡ true
+
+-- So many bytes of blanks and comments come first.
+pub data IsGap : List ℕ → ℕ → Type 0 where
+  -- none
+  empty : (bytes : List ℕ) → IsGap bytes 0
+  -- a blank, and then more
+  blank : (b : ℕ) (rest : List ℕ) (n : ℕ) → is_blank b ≡ true → IsGap rest n → IsGap (b ∷ rest) (suc n)
+  -- a backslash and its newline, and then more
+  joined : (rest : List ℕ) (n : ℕ) → IsGap rest n → IsGap (92 ∷ 10 ∷ rest) (suc (suc n))
+  -- `#`, so many bytes and the newline that ends them, and then more
+  comment : (rest : List ℕ) (inside n : ℕ) → Closes 10 false rest inside → IsGap (drop (suc inside) rest) n → IsGap (35 ∷ rest) (suc (suc inside + n))
+  -- `#` and a comment to the end of the text
+  last_comment : (rest : List ℕ) → Unended rest → IsGap (35 ∷ rest) (suc (length rest))
+
+-- The signs and their tokens.
+pub data IsSign : List ℕ → What → Type 0 where
+  brace_open : IsSign (codes "{") BraceOpen
+  brace_close : IsSign (codes "}") BraceClose
+  paren_open : IsSign (codes "(") ParenOpen
+  paren_close : IsSign (codes ")") ParenClose
+  point : IsSign (codes ".") Dot
+  equals : IsSign (codes "=") Equals
+  bang : IsSign (codes "!") Bang
+  conjunction : IsSign (codes "&&") And
+  disjunction : IsSign (codes "||") Or
+
+-- An item comes first, of so many bytes.
+pub data IsItem : List ℕ → Item → ℕ → Type 0 where
+  -- a word, as far as it can go on
+  word : (b : ℕ) (rest : List ℕ) (n : ℕ) → begins_word b ≡ true → Longest continues_word (b ∷ rest) n → IsItem (b ∷ rest) (One (Word (take n (b ∷ rest)))) n
+  -- two quotes, and the value of what stands between
+  quoted : (quote : ℕ) (rest value : List ℕ) (n : ℕ) → is_quote quote ≡ true → Closes quote false rest n → Says quote (take n rest) value → IsItem (quote ∷ rest) (One (Quoted value)) (n + 2)
+  -- `$` and a name, as far as it can go on
+  uses : (b : ℕ) (rest : List ℕ) (n : ℕ) → begins_name b ≡ true → Longest continues_name (b ∷ rest) n → IsItem (36 ∷ b ∷ rest) (Uses (take n (b ∷ rest))) (1 + n)
+  -- a sign
+  sign : (own rest : List ℕ) (what : What) → IsSign own what → IsItem (own ++ rest) (One what) (length own)
+
+-- An item that stands from one byte of a text to another: on line 1, or as many lines on as newlines come before it.
+abbrev pub stands : List ℕ → Item → ℕ → ℕ → Placed
+stands text item first next = record { item = item; span = record { line = 1 + count_by (λ b. b == 10) (take first text); start = first; end = next } }
+
+-- The items of a text from a place on.
+pub data Spelling (text : List ℕ) : ℕ → List Placed → Type 0 where
+  -- blanks and comments, and the end
+  ends : (at gap : ℕ) → IsGap (drop at text) gap → at + gap ≡ length text → Spelling text at (stands text (One End) (at + gap) (at + gap) ∷ [])
+  -- blanks and comments, an item, and the items after it
+  goes_on : (at gap own : ℕ) (item : Item) (items : List Placed) → IsGap (drop at text) gap → IsItem (drop (at + gap) text) item own → Spelling text (at + gap + own) items → Spelling text at (stands text item (at + gap) (at + gap + own) ∷ items)
+
+-- The last item is the end of the text.
+abbrev pub Ended : List Placed → Type 0
+Ended [] = ⊥
+Ended (p ∷ []) = p.item ≡ One End
+Ended (p ∷ q ∷ rest) = Ended (q ∷ rest)

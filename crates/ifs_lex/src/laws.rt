@@ -4,8 +4,8 @@ ghost use Rattle.std.specs.Prelude.{◌≡◌, ℕ, Bool, true, false, Some, Lis
 ghost use Rattle.ifs_lex.specs.declared.token.Token.{Token};
 ghost use Rattle.ifs_lex.specs.Expansion.{Spells, EndsOnce};
 ghost use Rattle.ifs_lex.specs.Characters.{is_quote};
-ghost use Rattle.ifs_lex.specs.Items.{inside_len, quoted_value};
-ghost use Rattle.ifs_lex.specs.Spelling.{Closes, Longest, Says};
+ghost use Rattle.ifs_lex.specs.Items.{Placed, inside_len, items_of, quoted_value};
+ghost use Rattle.ifs_lex.specs.Spelling.{Closes, Ended, Longest, Says, Spelling};
 ghost use Rattle.std.specs.List.{prefix_len};
 
 /// A text spells at most one list of tokens under what is given beside it.
@@ -36,4 +36,10 @@ pub fn one_value()
 pub fn one_closing_quote()
     ensures some { (quote : ℕ) (bytes : List ℕ) (n : ℕ) → inside_len quote false bytes ≡ Some n → Closes quote false bytes n }
     ensures only { (quote : ℕ) (bytes : List ℕ) (n : ℕ) → Closes quote false bytes n → inside_len quote false bytes ≡ Some n }
+{}
+
+/// The items that are read are those of the text, where they come to its end; so it has at most one list of items.
+pub fn one_spelling()
+    ensures found { (text : List ℕ) (items : List Placed) → items_of text ≡ items → Ended items → Spelling text 0 items }
+    ensures only { (text : List ℕ) (items : List Placed) → Spelling text 0 items → (items_of text ≡ items) × Ended items }
 {}
