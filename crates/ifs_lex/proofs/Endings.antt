@@ -191,7 +191,7 @@ end_once span s next ts g h k =
       once = g.tokens;
     }
 
-no_definition : (i : Item) → is_last i ≡ true → name_of i ≡ None
+pub no_definition : (i : Item) → is_last i ≡ true → name_of i ≡ None
 no_definition (One End) l = refl
 no_definition (One _) l = absurd (cc)
 no_definition (Uses _) l = absurd (cc)

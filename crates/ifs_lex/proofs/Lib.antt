@@ -10,3 +10,4 @@ pub mod Spelt
 pub mod Gaps
 pub mod Scanned
 pub mod Spellings
+pub mod Whole

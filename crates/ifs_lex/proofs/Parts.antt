@@ -21,14 +21,14 @@ name_last (Uses _) n h = refl
 name_last Astray n h = absurd (cc)
 name_last Open n h = absurd (cc)
 
-equals_last : (i : Item) → is_equals i ≡ true → is_last i ≡ false
+pub equals_last : (i : Item) → is_equals i ≡ true → is_last i ≡ false
 equals_last (One End) h = absurd (cc)
 equals_last (One _) h = refl
 equals_last (Uses _) h = refl
 equals_last Astray h = absurd (cc)
 equals_last Open h = absurd (cc)
 
-text_last : (i : Item) (t : List ℕ) → text_of i ≡ Some t → is_last i ≡ false
+pub text_last : (i : Item) (t : List ℕ) → text_of i ≡ Some t → is_last i ≡ false
 text_last (One End) t h = absurd (cc)
 text_last (One _) t h = refl
 text_last (Uses _) t h = refl

@@ -46,7 +46,7 @@ ended_rest : (p : Placed) (more : List Placed) → is_last p.item ≡ false → 
 ended_rest p [] e h = true_false _ _ (ap is_last h) e refl
 ended_rest p (q ∷ rest) e h = h
 
-ended_more : (p : Placed) (more : List Placed) → Ended more → Ended (p ∷ more)
+pub ended_more : (p : Placed) (more : List Placed) → Ended more → Ended (p ∷ more)
 ended_more p [] h = absurd h
 ended_more p (q ∷ rest) h = h
 

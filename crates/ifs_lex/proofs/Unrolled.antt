@@ -100,11 +100,11 @@ items_unroll p =
     ap (λ rest. item_at p ∷ rest)
     (same_rest (is_last (item_at p).item) _ _ (λ e. let less = fewer_left p e in same_fuel (length p.left) (1 + length (after_item p).left) (after_item p) less (omega arith)))
 
-value_none : (m : Macros) (items : List Placed) → value_from m None items ≡ None
+pub value_none : (m : Macros) (items : List Placed) → value_from m None items ≡ None
 value_none m [] = refl
 value_none m (p ∷ rest) = refl
 
-value_turn : (m : Macros) (before : List What) (p : Place) → value_from m (Some before) (items_at p) ≡ value_from m (joined before (whats_of m (item_at p).item)) (cond (is_last (item_at p).item) [] (items_at (after_item p)))
+pub value_turn : (m : Macros) (before : List What) (p : Place) → value_from m (Some before) (items_at p) ≡ value_from m (joined before (whats_of m (item_at p).item)) (cond (is_last (item_at p).item) [] (items_at (after_item p)))
 value_turn m before p = ap (value_from m (Some before)) (items_unroll p)
 
 step_by : (m : Macros) (a b : Item) (before : List What) (rest : List Placed) (o : Option (List What)) → a ≡ b → o ≡ joined before (whats_of m a) → value_from m (joined before (whats_of m b)) (cond (is_last b) [] rest) ≡ value_from m o (cond (is_last a) [] rest)

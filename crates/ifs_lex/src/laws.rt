@@ -2,7 +2,8 @@
 
 ghost use Rattle.std.specs.Prelude.{◌≡◌, ℕ, Bool, true, false, Some, List};
 ghost use Rattle.ifs_lex.specs.declared.token.Token.{Token};
-ghost use Rattle.ifs_lex.specs.Expansion.{Spells, EndsOnce};
+ghost use Rattle.ifs_lex.specs.declared.token.What.{What};
+ghost use Rattle.ifs_lex.specs.Expansion.{EndsOnce, Macros, Spells, value_of};
 ghost use Rattle.ifs_lex.specs.Characters.{is_quote};
 ghost use Rattle.ifs_lex.specs.Items.{Placed, inside_len, items_of, quoted_value};
 ghost use Rattle.ifs_lex.specs.Spelling.{Closes, Ended, Longest, Says, Spelling};
@@ -42,4 +43,11 @@ pub fn one_closing_quote()
 pub fn one_spelling()
     ensures found { (text : List ℕ) (items : List Placed) → items_of text ≡ items → Ended items → Spelling text 0 items }
     ensures only { (text : List ℕ) (items : List Placed) → Spelling text 0 items → (items_of text ≡ items) × Ended items }
+{}
+
+/// A text that spells tokens has a list of items, and so has one that is the value of a macro.
+pub fn spelled_items()
+    ensures text { (text : List ℕ) (defs : List (List ℕ × List ℕ)) (tokens : List Token)
+        → Spells text defs tokens → Spelling text 0 (items_of text) }
+    ensures value { (known : Macros) (text : List ℕ) (whats : List What) → value_of known text ≡ Some whats → Spelling text 0 (items_of text) }
 {}

@@ -134,7 +134,7 @@ const QUOTES: [(&str, &str, &str); 15] = [
     ),
 ];
 
-const DEFINITIONS: [(&str, &str, &str); 18] = [
+const DEFINITIONS: [(&str, &str, &str); 19] = [
     ("taken out", "x = y", "end "),
     ("used", "x = 'a b' $x c", "a b c end "),
     ("word as value", "x = em0 $x.link", "em0 . link end "),
@@ -153,6 +153,7 @@ const DEFINITIONS: [(&str, &str, &str); 18] = [
     ("redefined", "x = a $x x = b $x", "a b end "),
     ("redefined with itself", "x = a x = '$x b' $x", "a b end "),
     ("as known then", "x = a y = '$x $x' x = b $y", "a a end "),
+    ("one use as known then", "x = a y = '$x' x = b $y", "a end "),
     ("used before", "$x x = a", "P3 line 1"),
     ("longest name", "x = a $xy", "P3 line 1"),
     ("name ends at a sign", "x = a $x-b", "P1 line 1"),
