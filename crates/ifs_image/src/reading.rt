@@ -21,6 +21,7 @@ use std::alloc::Global;
 ///
 /// I1 to I8 name the first fault from the left, with the offset of the first byte of its field. I0
 /// comes where a growth was refused, wherever that is.
+#[tactic(auto, unfolding(crate::specs::Reading::image_of))]
 pub fn read(alloc: Global, bytes: &[u8]) -> Result<Image, ImageFault>
     // What is read is spelled by the bytes, all of them.
     ensures found { IfOk result (λ image. Spells bytes.now image) }
@@ -28,13 +29,6 @@ pub fn read(alloc: Global, bytes: &[u8]) -> Result<Image, ImageFault>
     ensures only { (image : ImageParts) → Spells bytes.now image → result ≢ Err Memory → result ≡ Ok image }
     // Any other refusal is the first fault from the left.
     ensures first_fault { Answers result (image_of bytes.now) }
-{
-    image_in(alloc, bytes)
-}
-
-#[tactic(auto, unfolding(crate::specs::Reading::image_of))]
-fn image_in(alloc: Global, bytes: &[u8]) -> Result<Image, ImageFault>
-    ensures { Answers result (image_of bytes.now) }
 {
     let mut reader = Reader::new(bytes);
     let parts = parts_of(alloc, &mut reader)?;

@@ -8,6 +8,5 @@ pub mod Instructions
 pub mod Reaching
 pub mod Rows
 pub mod Entering
-pub mod Takings
 pub mod Verdict
 pub mod Ways

@@ -4,7 +4,7 @@ ghost use Rattle.std.specs.Prelude.{ℕ, ◌≡◌, ◌≤◌, ◌<◌, ◌↔�
 ghost use Rattle.ifs_base.specs.declared.op.Op.TheVariants.{Ret};
 ghost use Rattle.ifs_image.specs.Code.{effect, results_of};
 ghost use Rattle.ifs_verify.specs.Rules.{IsRoutine, HasOperand};
-ghost use Rattle.ifs_verify.specs.inner.Passes.{IsSized, left_by};
+ghost use Rattle.ifs_verify.specs.inner.Passes.{IsSized};
 
 use crate::places::result_count;
 use crate::stack::Stack;
@@ -12,23 +12,13 @@ use ifs_base::{Kind, Op};
 use ifs_image::ImageParts;
 
 /// The kinds after an instruction. `None` where an operand is missing or of the wrong kind.
-#[tactic(auto, using(crate::proofs::Takings::left_by_is))]
 pub fn effect_of(image: &ImageParts, op: Op, before: &Stack) -> Option<Stack>
     requires sized { IsSized image.now }
     requires operand { HasOperand image.now op }
     requires within { length before.now ≤ 32 }
     ensures { result ≡ effect image.now op before.now }
 {
-    left(image, op, before.copied())
-}
-
-/// The same, by what the instruction takes off and puts on.
-fn left(image: &ImageParts, op: Op, stack: Stack) -> Option<Stack>
-    requires sized { IsSized image.now }
-    requires operand { HasOperand image.now op }
-    requires within { length stack ≤ 32 }
-    ensures { result ≡ left_by image.now op stack }
-{
+    let mut stack = before.copied();
     match op {
         Op::Ret | Op::Jump(_) => Some(stack),
         Op::Yes | Op::No | Op::Link(_, _) | Op::Test(_) | Op::Known(_) => {
@@ -45,8 +35,14 @@ fn left(image: &ImageParts, op: Op, stack: Stack) -> Option<Stack>
         Op::Want => stack.without(Kind::StateName),
         Op::JumpFalse(_) | Op::JumpTrue(_) => stack.without(Kind::Truth),
         Op::Call(callee) => Some(with_results(image, usize::from(callee.0), stack)),
-        Op::Pop => stack.below_top(),
-        Op::Dup => stack.top_twice(),
+        Op::Pop => {
+            let _ = stack.pop()?;
+            Some(stack)
+        }
+        Op::Dup => {
+            let top = stack.pop()?;
+            Some(stack.with(top).with(top))
+        }
     }
 }
 

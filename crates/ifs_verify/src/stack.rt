@@ -23,8 +23,8 @@ impl Model for Stack {
 }
 
 impl Stack {
-    ghost use Rattle.std.specs.Prelude.{◌≡◌, ◌<◌, ◌≤◌, ◌↔◌, IsTrue, [], ◌∷◌, length, IfSome, MatchOption};
-    ghost use Rattle.ifs_verify.specs.inner.Passes.{without, below_top, top_twice};
+    ghost use Rattle.std.specs.Prelude.{◌≡◌, ◌<◌, ◌≤◌, ◌↔◌, IsTrue, [], ◌∷◌, length, MatchOption};
+    ghost use Rattle.ifs_verify.specs.inner.Passes.{LacksTop};
 
     /// The empty list.
     pub fn new() -> Self
@@ -84,36 +84,13 @@ impl Stack {
     }
 
     /// The list below a kind that is wanted on top.
-    #[tactic(auto, using(crate::proofs::Takings::taken))]
     pub fn without(mut self, kind: Kind) -> Option<Self>
-        ensures value { result ≡ without kind self }
-        ensures shorter { IfSome result (λ below. length below ≤ length self) }
+        ensures { MatchOption result (LacksTop kind self) (λ below. self ≡ kind ∷ below) }
     {
         let top = self.pop()?;
         if top != kind {
             return None;
         }
-        Some(self)
-    }
-
-    /// The list below the topmost kind.
-    #[tactic(auto, using(crate::proofs::Takings::taken))]
-    pub fn below_top(mut self) -> Option<Self>
-        ensures { result ≡ below_top self }
-    {
-        let _ = self.pop()?;
-        Some(self)
-    }
-
-    /// The list with its topmost kind once more.
-    #[tactic(auto, using(crate::proofs::Takings::taken))]
-    pub fn top_twice(mut self) -> Option<Self>
-        requires { length self < 33 }
-        ensures { result ≡ top_twice self }
-    {
-        let top = self.pop()?;
-        self.push(top);
-        self.push(top);
         Some(self)
     }
 

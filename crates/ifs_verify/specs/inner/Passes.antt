@@ -1,11 +1,10 @@
 -- What the verifier's passes find, and what they rest on.
-use Rattle.std.specs.Prelude.{ℕ, ◌≡◌, ◌≢◌, ◌+◌, ◌<◌, ◌≤◌, Bool, true, List, [], ◌∷◌, ◌++◌, length, Option, Some, None, slice_get, slice_index, ◌*◌}
+use Rattle.std.specs.Prelude.{ℕ, ◌≡◌, ◌≢◌, ◌+◌, ◌<◌, ◌≤◌, Bool, true, List, [], ◌∷◌, length, Option, Some, None, slice_get, slice_index, ◌*◌}
 use Rattle.std.specs.Option.{option_flatten}
 use Rattle.ifs_base.specs.declared.ids.RoutineId.{RoutineId}
 use Rattle.ifs_base.specs.declared.op.Kind.{Kind}
-use Rattle.ifs_base.specs.declared.op.Kind.TheVariants.{Truth, Command, StateName}
 use Rattle.ifs_base.specs.declared.op.Op.{Op}
-use Rattle.ifs_base.specs.declared.op.Op.TheVariants.{Ret, Yes, No, Link, Test, Known, Negate, Both, Either, PushCommand, PushState, Queue, Want, Jump, JumpFalse, JumpTrue, Call, Pop, Dup}
+use Rattle.ifs_base.specs.declared.op.Op.TheVariants.{Ret, Jump, Call}
 use Rattle.ifs_image.specs.declared.parts.Handlers.{Handlers}
 use Rattle.ifs_image.specs.declared.parts.StateSpec.{StateSpec}
 use Rattle.ifs_image.specs.declared.parts.Routine.{Routine}
@@ -56,50 +55,9 @@ next_of Ret place = None
 next_of (Jump target) place = None
 next_of _ place = Some (place + 1)
 
--- The list below a kind that is wanted on top; none where another or nothing is there.
-unfoldable pub without : Kind → List Kind → Option (List Kind)
-without kind [] = None
-without Truth (Truth ∷ below) = Some below
-without Command (Command ∷ below) = Some below
-without StateName (StateName ∷ below) = Some below
-without kind (other ∷ below) = None
-
--- The list below the topmost kind.
-unfoldable pub below_top : List Kind → Option (List Kind)
-below_top [] = None
-below_top (kind ∷ below) = Some below
-
--- The topmost kind once more.
-unfoldable pub top_twice : List Kind → Option (List Kind)
-top_twice [] = None
-top_twice (kind ∷ below) = Some (kind ∷ kind ∷ below)
-
--- Both lists, one after the other, where each is there.
-abbrev pub and_then : Option (List Kind) → (List Kind → Option (List Kind)) → Option (List Kind)
-and_then None next = None
-and_then (Some kinds) next = next kinds
-
--- The kinds after an instruction, said by what it takes off and puts on.
-abbrev pub left_by : ImageParts → Op → List Kind → Option (List Kind)
-left_by image Ret kinds = Some kinds
-left_by image Yes kinds = Some (Truth ∷ kinds)
-left_by image No kinds = Some (Truth ∷ kinds)
-left_by image (Link n s) kinds = Some (Truth ∷ kinds)
-left_by image (Test n) kinds = Some (Truth ∷ kinds)
-left_by image (Known n) kinds = Some (Truth ∷ kinds)
-left_by image Negate kinds = and_then (without Truth kinds) (λ below. Some (Truth ∷ below))
-left_by image Both kinds = and_then (without Truth kinds) (λ below. and_then (without Truth below) (λ rest. Some (Truth ∷ rest)))
-left_by image Either kinds = and_then (without Truth kinds) (λ below. and_then (without Truth below) (λ rest. Some (Truth ∷ rest)))
-left_by image (PushCommand n) kinds = Some (Command ∷ kinds)
-left_by image (PushState n) kinds = Some (StateName ∷ kinds)
-left_by image Queue kinds = without Command kinds
-left_by image Want kinds = without StateName kinds
-left_by image (Jump target) kinds = Some kinds
-left_by image (JumpFalse target) kinds = without Truth kinds
-left_by image (JumpTrue target) kinds = without Truth kinds
-left_by image (Call n) kinds = Some (results_of image n.0 ++ kinds)
-left_by image Pop kinds = below_top kinds
-left_by image Dup kinds = top_twice kinds
+-- Nothing or another kind is on top.
+abbrev pub LacksTop : Kind → List Kind → Type 0
+LacksTop kind kinds = (below : List Kind) → kinds ≢ kind ∷ below
 
 -- The list of kinds at a place, where one is found.
 abbrev pub row_at : List (Option (List Kind)) → ℕ → Option (List Kind)
