@@ -15,17 +15,21 @@ mod ids;
 mod items;
 pub mod laws;
 pub mod limits;
+mod numbers;
 mod op;
 mod span;
 mod spelling;
 mod text;
+mod words;
 
 pub use ids::{CommandId, IfaceId, RoutineId, StateId, TestId};
 pub use items::Items;
+pub use numbers::{Number, parse_number};
 pub use op::{Kind, LinkState, Op};
 pub use span::Span;
 pub use spelling::{decode_op, encode_op};
 pub use text::Text;
+pub use words::{QuotedByte, digit_value, hex_digit, quote_byte};
 
 #[cfg(test)]
 mod tests;

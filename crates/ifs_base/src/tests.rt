@@ -123,3 +123,55 @@ fn periods(rt: HostRuntime) {
         assert_eq!(rt; limits::period_fits(seconds), wanted, "{seconds}");
     }
 }
+
+#[test]
+fn bytes_of_quoted_texts(rt: HostRuntime) {
+    for (byte, wanted) in [
+        (b'"', QuotedByte::Escaped(b'"')),
+        (b'\\', QuotedByte::Escaped(b'\\')),
+        (0x00, QuotedByte::Hexadecimal(b'0', b'0')),
+        (0x0a, QuotedByte::Hexadecimal(b'0', b'a')),
+        (0x1f, QuotedByte::Hexadecimal(b'1', b'f')),
+        (0x7f, QuotedByte::Hexadecimal(b'7', b'f')),
+        (b' ', QuotedByte::Plain(b' ')),
+        (b'~', QuotedByte::Plain(b'~')),
+        (0x80, QuotedByte::Plain(0x80)),
+        (0xff, QuotedByte::Plain(0xff)),
+    ] {
+        assert_eq!(rt; quote_byte(byte), wanted, "{byte}");
+    }
+}
+
+#[test]
+fn hexadecimal_digits(rt: HostRuntime) {
+    for (value, digit) in [(0, b'0'), (9, b'9'), (10, b'a'), (15, b'f')] {
+        assert_eq!(rt; hex_digit(value), digit, "{value}");
+        assert_eq!(rt; digit_value(digit), Some(value), "{digit}");
+    }
+    for byte in [b'/', b':', b'`', b'g', b'A', b'F', 0x00, 0xff] {
+        assert_eq!(rt; digit_value(byte), None, "{byte}");
+    }
+}
+
+#[test]
+fn decimal_numbers(rt: HostRuntime) {
+    for (text, wanted) in [
+        ("", None),
+        ("0", Some(Number::Within(0))),
+        ("007", Some(Number::Within(7))),
+        ("1024", Some(Number::Within(1_024))),
+        (
+            "18446744073709551615",
+            Some(Number::Within(18_446_744_073_709_551_615)),
+        ),
+        ("18446744073709551616", Some(Number::TooGreat)),
+        ("99999999999999999999999", Some(Number::TooGreat)),
+        ("99999999999999999999999x", None),
+        ("1 2", None),
+        ("+1", None),
+        ("-1", None),
+        ("0x1", None),
+    ] {
+        assert_eq!(rt; parse_number(text.as_bytes()), wanted, "{text}");
+    }
+}

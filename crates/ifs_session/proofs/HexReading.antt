@@ -6,7 +6,7 @@ use Rattle.ifs_session.specs.declared.hexadecimal.HexFault.{HexFault}
 use Rattle.ifs_session.specs.declared.hexadecimal.HexFault.TheVariants.{Broken, Memory, NotRead}
 use Rattle.ifs_session.specs.Device.{Feed, counted}
 use Rattle.ifs_session.specs.Lines.{ending}
-use Rattle.ifs_session.specs.Words.{hex_digit}
+use Rattle.ifs_base.specs.Words.{hex_digit}
 use Rattle.ifs_session.specs.Hexadecimal.{hex_text, Takes, HexGives, begun_text, ReadsBeginning, NoDigit, OddDigit, DigitTooMany}
 use Rattle.ifs_session.specs.inner.Reading.{DigitGives}
 use Rattle.ifs_session.proofs.Known.{consumes_nothing, consumes_more, consumes_kept, kept_consumes}

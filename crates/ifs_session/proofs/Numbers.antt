@@ -1,14 +1,10 @@
--- Numbers of requests, read digit by digit.
-use Rattle.std.proofs.Common.{◌≡◌, ℕ, ◌^◌, ◌≤◌, Bool, Option, Some, None, refl, arith}
+-- The numbers of results.
+use Rattle.std.proofs.Common.{◌≡◌, ℕ, Bool, Option, Some, None, refl, arith}
 use Rattle.std.specs.Option.{option_map}
 use Rattle.std.proofs.lemmas.Bool.Decides.{nat_tests}
-use Rattle.ifs_session.specs.inner.Parsing.{result_kept, sized}
+use Rattle.ifs_base.specs.Numbers.{sized}
+use Rattle.ifs_session.specs.inner.Parsing.{result_kept}
 use Rattle.ifs_session.specs.Requests.{result_numbered}
-
--- What is kept of the number n that was spelled so far: n itself below 2 ^ 64, and nothing above.
-abbrev pub Keeps : Option ℕ → ℕ → Type 0
-Keeps None n = 2 ^ 64 ≤ n
-Keeps (Some m) n = m ≡ n
 
 kept_pair : (test run : ℕ) (value : Bool) → result_kept (Some (sized test)) (Some (sized run)) value ≡ result_numbered (Some test) (Some run) value
 kept_pair test run value = grind (arith, nat_tests)

@@ -5,7 +5,7 @@ use Rattle.std.proofs.lemmas.List.Elements.{All-head, All-tail}
 use Rattle.std.specs.Io.KnownBytes.{Consumes, IsAtEnd}
 use Rattle.ifs_session.specs.Device.{Feed}
 use Rattle.ifs_session.specs.Lines.{ending}
-use Rattle.ifs_session.specs.Words.{hex_digit}
+use Rattle.ifs_base.specs.Words.{hex_digit}
 use Rattle.ifs_session.specs.Hexadecimal.{hex_text, high_digit, begun_text, EndsAt, Breaks, NoDigit, OddDigit, DigitTooMany, OneAnswer}
 
 no_newline : (digit : ℕ) → hex_digit digit ≢ 10

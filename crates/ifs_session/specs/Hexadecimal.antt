@@ -5,16 +5,12 @@ use Rattle.ifs_session.specs.declared.hexadecimal.HexFault.{HexFault}
 use Rattle.ifs_session.specs.declared.hexadecimal.HexFault.TheVariants.{Broken, Memory, NotRead}
 use Rattle.ifs_session.specs.Device.{Feed, counted}
 use Rattle.ifs_session.specs.Lines.{ending}
-use Rattle.ifs_session.specs.Words.{hex_digit}
+use Rattle.ifs_base.specs.Words.{hex_digit, IsNoDigit}
 
 -- The hexadecimal digits of bytes, two each, the high one first.
 abbrev pub hex_text : List ℕ → List ℕ
 hex_text [] = []
 hex_text (byte ∷ bytes) = hex_digit (byte / 16) ∷ hex_digit (byte % 16) ∷ hex_text bytes
-
--- A byte is no hexadecimal digit in lower case.
-abbrev pub IsNoDigit : ℕ → Type 0
-IsNoDigit byte = (digit : ℕ) → digit < 16 → byte ≢ hex_digit digit
 
 -- These bytes were read, and no read failed.
 pub record Takes (text : List ℕ) (before after : Feed) : Type 0 where

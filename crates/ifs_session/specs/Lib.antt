@@ -4,7 +4,6 @@ pub mod Sessions
 pub mod Lines
 pub mod Requests
 pub mod Replies
-pub mod Words
 pub mod Hexadecimal
 pub mod Device
 pub mod Memory

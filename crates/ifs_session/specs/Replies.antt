@@ -3,8 +3,6 @@ use Rattle.std.specs.Prelude.{ℕ, Bool, true, false, if◌then◌else◌, List,
 use Rattle.std.specs.Option.{option_map}
 use Rattle.std.specs.List.{flat_map}
 use Rattle.ifs_base.specs.declared.ids.CommandId.{CommandId}
-use Rattle.ifs_base.specs.declared.op.LinkState.{LinkState}
-use Rattle.ifs_base.specs.declared.op.LinkState.TheVariants.{Unknown, Down, Up}
 use Rattle.ifs_image.specs.declared.parts.ImageParts.{ImageParts}
 use Rattle.ifs_sched.specs.declared.start.Start.{Start}
 use Rattle.ifs_sched.specs.Schedule.{running_count}
@@ -18,7 +16,7 @@ use Rattle.ifs_core.specs.declared.step.Record.{Record}
 use Rattle.ifs_core.specs.Steps.{CoreState}
 use Rattle.ifs_session.specs.declared.request.RequestFault.{RequestFault}
 use Rattle.ifs_session.specs.declared.request.RequestFault.TheVariants.{NoRequest, TooLong, OutOfRange, NoInterface}
-use Rattle.ifs_session.specs.Words.{quoted, listed}
+use Rattle.ifs_base.specs.Words.{quoted, listed, link_word}
 
 -- The name of a state of an image, and the text of a command.
 abbrev pub state_name : ImageParts → ℕ → List ℕ
@@ -89,12 +87,6 @@ status_numbers s = codes " queue " ++ decimal (length s.queue)
 abbrev pub status_line : ImageParts → CoreState → List ℕ
 status_line image s = line_of (codes "status " ++ quoted (state_name image s.position.current.0)
     ++ codes " owed " ++ yes_or_no s.position.owed ++ status_numbers s)
-
--- A link state.
-abbrev pub link_word : LinkState → List ℕ
-link_word Unknown = codes "unknown"
-link_word Down = codes "down"
-link_word Up = codes "up"
 
 -- The value of a test.
 abbrev pub value_word : Bool → List ℕ

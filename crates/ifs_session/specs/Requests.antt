@@ -1,10 +1,10 @@
 -- Requests: what a line asks for, or its fault.
-use Rattle.std.specs.Prelude.{ℕ, ◌+◌, ◌-◌, ◌*◌, ◌^◌, Bool, true, false, ◌&&◌, ◌==◌, nat_lt, if◌then◌else◌, List, [], ◌∷◌, length, take, drop, codes, Option, Some, None}
-use Rattle.std.specs.Char.{is_ascii_digit}
+use Rattle.std.specs.Prelude.{ℕ, ◌-◌, ◌^◌, Bool, true, false, ◌&&◌, ◌==◌, nat_lt, if◌then◌else◌, List, [], ◌∷◌, length, take, drop, codes, Option, Some, None}
 use Rattle.std.specs.List.{before_first, after_first}
 use Rattle.std.specs.Str.{bytes_eq}
 use Rattle.ifs_base.specs.declared.op.LinkState.{LinkState}
 use Rattle.ifs_base.specs.declared.op.LinkState.TheVariants.{Unknown, Down, Up}
+use Rattle.ifs_base.specs.Numbers.{number_of}
 use Rattle.ifs_session.specs.declared.request.RequestFault.{RequestFault}
 use Rattle.ifs_session.specs.declared.request.RequestFault.TheVariants.{NoRequest, TooLong, OutOfRange}
 
@@ -18,16 +18,6 @@ pub data Asked : Type 0 where
   ATrace : Asked
   AStop : Asked
   AFault : (fault : RequestFault) → Asked
-
--- The number that decimal digits spell after those that spell n; none where a byte is no digit.
-abbrev pub number_from : ℕ → List ℕ → Option ℕ
-number_from n [] = Some n
-number_from n (digit ∷ digits) = if is_ascii_digit digit then number_from (10 * n + (digit - 48)) digits else None
-
--- The number that a text spells: one or more decimal digits.
-abbrev pub number_of : List ℕ → Option ℕ
-number_of [] = None
-number_of (digit ∷ digits) = number_from 0 (digit ∷ digits)
 
 -- A request for the link state of an interface, whose name has at least one byte.
 abbrev pub link_named : List ℕ → LinkState → Asked

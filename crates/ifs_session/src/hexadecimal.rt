@@ -1,12 +1,10 @@
 //! Images as lines of hexadecimal digits.
 
-ghost use Rattle.std.specs.Prelude.{◌≡◌, ◌<◌, MatchOption};
-ghost use Rattle.ifs_session.specs.Words.{hex_digit};
 ghost use Rattle.ifs_session.specs.inner.Reading.{DigitGives};
-ghost use Rattle.ifs_session.specs.Hexadecimal.{HexGives, IsNoDigit};
+ghost use Rattle.ifs_session.specs.Hexadecimal.{HexGives};
 
 use crate::device::ByteIn;
-use ifs_base::Items;
+use ifs_base::{Items, digit_value};
 use std::alloc::Global;
 
 /// The most bytes of an image's line: 131,072 digits.
@@ -65,16 +63,5 @@ fn read_digit<R: ByteIn>(reader: &mut R) -> Result<Option<u8>, HexFault>
     match digit_value(byte) {
         Some(digit) => Ok(Some(digit)),
         None => Err(HexFault::Broken),
-    }
-}
-
-/// The value of a hexadecimal digit in lower case.
-fn digit_value(byte: u8) -> Option<u8>
-    ensures { MatchOption result (IsNoDigit byte) (λ digit. (digit < 16) × (byte ≡ hex_digit digit)) }
-{
-    match byte {
-        b'0'..=b'9' => Some(byte - b'0'),
-        b'a'..=b'f' => Some(byte - b'a' + 10),
-        _ => None,
     }
 }

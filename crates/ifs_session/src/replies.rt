@@ -3,8 +3,8 @@
 ghost use Rattle.std.specs.Prelude.{◌≡◌, ◌<◌, decimal, map, length};
 ghost use Rattle.std.specs.List.{flat_map};
 ghost use Rattle.ifs_session.specs.Device.{PutGives};
-ghost use Rattle.ifs_session.specs.Words.{listed, quoted};
-ghost use Rattle.ifs_session.specs.Replies.{state_name, command_text, evaluation_words, start_word, starts_words, before_starts, taken_line, reply_line, status_numbers, status_line, yes_or_no, link_word, value_word, step_words, answer_word, answer_words, record_line, trace_lines, fault_line};
+ghost use Rattle.ifs_base.specs.Words.{link_word, listed, quoted};
+ghost use Rattle.ifs_session.specs.Replies.{state_name, command_text, evaluation_words, start_word, starts_words, before_starts, taken_line, reply_line, status_numbers, status_line, yes_or_no, value_word, step_words, answer_word, answer_words, record_line, trace_lines, fault_line};
 
 use crate::device::{ByteOut, DeviceFault};
 use crate::request::RequestFault;

@@ -2,11 +2,11 @@
 
 ghost use Rattle.std.specs.Prelude.{◌≡◌, ◌==◌};
 ghost use Rattle.std.specs.List.{before_first, after_first, position};
-ghost use Rattle.std.specs.Option.{option_map};
-ghost use Rattle.ifs_session.specs.inner.Parsing.{told_by, result_kept, sized, with_digit};
-ghost use Rattle.ifs_session.specs.Requests.{short_asked, link_asked, result_asked, result_valued, word_asked, link_named, tick_asked, number_of};
+ghost use Rattle.ifs_base.specs.Numbers.{number_of};
+ghost use Rattle.ifs_session.specs.inner.Parsing.{told_by, result_kept};
+ghost use Rattle.ifs_session.specs.Requests.{short_asked, link_asked, result_asked, result_valued, word_asked, link_named, tick_asked};
 
-use ifs_base::{LinkState, TestId};
+use ifs_base::{LinkState, Number, TestId, parse_number};
 use thiserror::Error;
 
 /// What a line asks for.
@@ -173,37 +173,4 @@ fn numbered_result<'a>(
         Ok(test) => Ok(Request::Result(TestId(test), run, value)),
         Err(_) => Err(RequestFault::OutOfRange),
     }
-}
-
-/// A number that digits spell.
-#[derive(Clone, Copy, Debug, PartialEq, Eq)]
-enum Number {
-    /// One below 2^64.
-    Within(u64),
-    /// One of 2^64 or more.
-    TooGreat,
-}
-
-/// The number that decimal digits spell; `None` where a text is empty or has another byte.
-fn parse_number(text: &[u8]) -> Option<Number>
-    ensures { result ≡ option_map sized (number_of text.now) }
-{
-    if text.is_empty() {
-        return None;
-    }
-    let mut value = Some(0);
-    for digit in text {
-        if !digit.is_ascii_digit() {
-            return None;
-        }
-        value = with_digit(value, *digit - b'0');
-    }
-    Some(value.map_or(Number::TooGreat, Number::Within))
-}
-
-/// A number with one more digit at its end, while it is below 2^64.
-fn with_digit(value: Option<u64>, digit: u8) -> Option<u64>
-    ensures { result ≡ with_digit value digit }
-{
-    value?.checked_mul(10)?.checked_add(u64::from(digit))
 }

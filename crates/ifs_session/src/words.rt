@@ -1,12 +1,12 @@
 //! Words of replies, written piece by piece: numbers, quoted texts and lists.
 
-ghost use Rattle.std.specs.Prelude.{◌≡◌, ◌<◌, ◌∷◌, [], decimal, map};
+ghost use Rattle.std.specs.Prelude.{decimal, map};
 ghost use Rattle.std.specs.List.{flat_map};
+ghost use Rattle.ifs_base.specs.Words.{quoted_byte, quoted, listed};
 ghost use Rattle.ifs_session.specs.Device.{PutGives};
-ghost use Rattle.ifs_session.specs.Words.{hex_digit, quoted_byte, quoted, listed};
 
 use crate::device::{ByteOut, DeviceFault};
-use ifs_base::CommandId;
+use ifs_base::{CommandId, QuotedByte, quote_byte};
 use itoa::Buffer;
 
 /// Writes a number in decimal digits.
@@ -40,22 +40,10 @@ fn put_escaped<W: ByteOut>(out: &mut W, text: &[u8]) -> Result<(), DeviceFault>
 fn put_quoted_byte<W: ByteOut>(out: &mut W, byte: u8) -> Result<(), DeviceFault>
     ensures { PutGives result (quoted_byte byte) (W.written out.old) (W.written out.new) (W.faults out.old) (W.faults out.new) }
 {
-    match byte {
-        b'"' | b'\\' => out.put(&[b'\\', byte]),
-        0..=31 | 127 => out.put(&[b'\\', b'x', hex_digit(byte / 16), hex_digit(byte % 16)]),
-        _ => out.put(&[byte]),
-    }
-}
-
-/// The hexadecimal digit of a number below 16, in lower case.
-fn hex_digit(digit: u8) -> u8
-    requires { digit < 16 }
-    ensures { result ≡ hex_digit digit }
-{
-    if digit < 10 {
-        b'0' + digit
-    } else {
-        b'a' + (digit - 10)
+    match quote_byte(byte) {
+        QuotedByte::Plain(byte) => out.put(&[byte]),
+        QuotedByte::Escaped(byte) => out.put(&[b'\\', byte]),
+        QuotedByte::Hexadecimal(high, low) => out.put(&[b'\\', b'x', high, low]),
     }
 }
 

@@ -1,9 +1,9 @@
 -- What the functions that take a line apart give.
-use Rattle.std.specs.Prelude.{ℕ, ◌+◌, ◌*◌, ◌^◌, Bool, nat_lt, if◌then◌else◌, Option, Some, None, Result, Ok, Err}
+use Rattle.std.specs.Prelude.{◌^◌, Bool, nat_lt, if◌then◌else◌, Option, Some, None, Result, Ok, Err}
 use Rattle.ifs_session.specs.declared.request.RequestFault.{RequestFault}
 use Rattle.ifs_session.specs.declared.request.RequestFault.TheVariants.{OutOfRange, NoRequest}
-use Rattle.ifs_session.specs.declared.request.Number.{Number}
-use Rattle.ifs_session.specs.declared.request.Number.TheVariants.{Within, TooGreat}
+use Rattle.ifs_base.specs.declared.numbers.Number.{Number}
+use Rattle.ifs_base.specs.declared.numbers.Number.TheVariants.{Within, TooGreat}
 use Rattle.ifs_session.specs.declared.request.Request.{Request}
 use Rattle.ifs_session.specs.declared.request.Request.TheVariants as requests
 use Rattle.ifs_session.specs.Requests.{Asked, ALink, AResult, ATick, ATake, AStatus, ATrace, AStop, AFault}
@@ -19,17 +19,8 @@ told_by (Ok requests.Trace) = ATrace
 told_by (Ok requests.Stop) = AStop
 told_by (Err fault) = AFault fault
 
--- What is kept of a number: itself, or that it is too great.
-abbrev pub sized : ℕ → Number
-sized n = if nat_lt n (2 ^ 64) then Within n else TooGreat
-
 -- What is asked by `result` with these numbers, of which enough is kept.
 abbrev pub result_kept : Option Number → Option Number → Bool → Asked
 result_kept (Some (Within test)) (Some (Within run)) value = if nat_lt test (2 ^ 16) then AResult test run value else AFault OutOfRange
 result_kept (Some _) (Some _) value = AFault OutOfRange
 result_kept _ _ value = AFault NoRequest
-
--- A number with one more digit at its end, where it is below 2 ^ 64.
-abbrev pub with_digit : Option ℕ → ℕ → Option ℕ
-with_digit None digit = None
-with_digit (Some n) digit = if nat_lt (10 * n + digit) (2 ^ 64) then Some (10 * n + digit) else None

@@ -7,9 +7,9 @@ use Rattle.ifs_session.specs.declared.hexadecimal.HexFault.{HexFault}
 use Rattle.ifs_session.specs.declared.hexadecimal.HexFault.TheVariants.{Broken, Memory, NotRead}
 use Rattle.ifs_session.specs.declared.lines.Line.{Line}
 use Rattle.ifs_session.specs.Device.{counted, Feed}
-use Rattle.ifs_session.specs.Words.{hex_digit}
+use Rattle.ifs_base.specs.Words.{hex_digit, IsNoDigit}
 use Rattle.ifs_session.specs.Lines.{ending}
-use Rattle.ifs_session.specs.Hexadecimal.{IsNoDigit, Takes, EndsAt}
+use Rattle.ifs_session.specs.Hexadecimal.{Takes, EndsAt}
 
 -- A text without newline.
 abbrev pub HasNoNewline : List ℕ → Type 0

@@ -1,7 +1,7 @@
 use Rattle.std.proofs.Common.{◌≡◌, drop}
 use Rattle.std.specs.List.{flat_map}
 use Rattle.std.specs.Io.KnownBytes.{append_known}
-use Rattle.ifs_session.specs.Words.{quoted_byte}
+use Rattle.ifs_base.specs.Words.{quoted_byte}
 use Rattle.ifs_session.proofs.words.put_escaped.Given as goal
 
 abbrev pub invariant-loop-byte : goal.invariant-loop-byte

@@ -1,0 +1,2 @@
+-- What only private functions promise one another.
+pub mod Digits

@@ -1,0 +1,49 @@
+//! Words of lines and texts: hexadecimal digits, and the bytes of quoted texts.
+
+ghost use Rattle.std.specs.Prelude.{◌≡◌, ◌<◌, MatchOption};
+ghost use Rattle.ifs_base.specs.Words.{hex_digit, IsNoDigit, quoted_byte, bytes_of};
+
+/// A byte as it stands in a quoted text.
+#[derive(Clone, Copy, Debug, PartialEq, Eq)]
+pub enum QuotedByte {
+    /// The byte as it is.
+    Plain(u8),
+    /// The byte after a backslash.
+    Escaped(u8),
+    /// Its two hexadecimal digits after a backslash and an `x`, the high one first.
+    Hexadecimal(u8, u8),
+}
+
+/// How a byte stands in a quoted text.
+pub fn quote_byte(byte: u8) -> QuotedByte
+    ensures { bytes_of result ≡ quoted_byte byte }
+{
+    match byte {
+        b'"' | b'\\' => QuotedByte::Escaped(byte),
+        0..=31 | 127 => QuotedByte::Hexadecimal(hex_digit(byte / 16), hex_digit(byte % 16)),
+        _ => QuotedByte::Plain(byte),
+    }
+}
+
+/// The hexadecimal digit of a number below 16, in lower case.
+pub fn hex_digit(digit: u8) -> u8
+    requires { digit < 16 }
+    ensures { result ≡ hex_digit digit }
+{
+    if digit < 10 {
+        b'0' + digit
+    } else {
+        b'a' + (digit - 10)
+    }
+}
+
+/// The value of a hexadecimal digit in lower case.
+pub fn digit_value(byte: u8) -> Option<u8>
+    ensures { MatchOption result (IsNoDigit byte) (λ digit. (digit < 16) × (byte ≡ hex_digit digit)) }
+{
+    match byte {
+        b'0'..=b'9' => Some(byte - b'0'),
+        b'a'..=b'f' => Some(byte - b'a' + 10),
+        _ => None,
+    }
+}
