@@ -97,6 +97,27 @@ fn names_of_a_lent_core(rt: HostRuntime) -> Result<(), Fail> {
     Ok(())
 }
 
+/// The first four requests of the row *First run*, with one place for the lists of all of them.
+#[test]
+fn lent_lists(rt: HostRuntime) -> Result<(), Fail> {
+    let mut core = opened(&rt, rt.alloc(), images::FIRST_RUN);
+    let mut lists = Lists::new();
+    let done = Outcome::Done {
+        state: StateId(0),
+        cost: 6,
+    };
+    assert_eq!(rt; core.step_into(LINK_UP, &mut lists), done);
+    assert_eq!(rt;
+        commands_text(rt.alloc(), lists.effects.queued.as_slice())?.as_str(),
+        "0"
+    );
+    assert_eq!(rt; core.step_into(LINK_UP, &mut lists), Outcome::Same);
+    assert_eq!(rt; core.take(), Some(CommandId(0)));
+    assert_eq!(rt; core.step_into(Step::Take, &mut lists), Outcome::Empty);
+    assert_eq!(rt; core.trace_len(), 3);
+    Ok(())
+}
+
 #[test]
 fn lent_core(rt: HostRuntime) -> Result<(), Fail> {
     let mut core = opened(&rt, rt.alloc(), images::FIRST_RUN);
