@@ -41,7 +41,7 @@ fn verified(alloc: Global, bytes: &[u8]) -> Result<Verified, VerifyFault>
 }
 
 /// The name of a state of the image's list.
-fn name_of(core: &Core, state: StateId) -> &str
+fn listed_name(core: &Core, state: StateId) -> &str
     requires { IsListed core.now.image state }
 {
     let Some(name) = core.state_name(state) else {
@@ -51,7 +51,7 @@ fn name_of(core: &Core, state: StateId) -> &str
 }
 
 /// The text of a command of the image's table.
-fn text_of(core: &Core, command: CommandId) -> &str
+fn known_text(core: &Core, command: CommandId) -> &str
     requires { IsCommand core.now.image command }
 {
     let Some(text) = core.command_text(command) else {
@@ -63,15 +63,15 @@ fn text_of(core: &Core, command: CommandId) -> &str
 /// What a step names: the state that its reply tells, or the command that it hands out.
 fn named(core: &mut Core, step: Step) -> Option<&str> {
     match core.step(step) {
-        Reply::Done { state, .. } | Reply::Ticked { state, .. } => Some(name_of(core, state)),
-        Reply::Taken(command) => Some(text_of(core, command)),
+        Reply::Done { state, .. } | Reply::Ticked { state, .. } => Some(listed_name(core, state)),
+        Reply::Taken(command) => Some(known_text(core, command)),
         _ => None,
     }
 }
 
 /// The name of the state in which a core stands.
 fn current_name(core: &Core) -> &str {
-    name_of(core, core.state())
+    listed_name(core, core.state())
 }
 
 /// The names of the states in the trace, one after the other.
@@ -81,7 +81,7 @@ fn traced_names(alloc: Global, core: &Core) -> Result<String, AllocError> {
         let Some(record) = core.trace_at(index) else {
             unreachable!()
         };
-        names.push_str(name_of(core, record.state))?;
+        names.push_str(listed_name(core, record.state))?;
     }
     Ok(names)
 }
