@@ -5,7 +5,6 @@ ghost use Rattle.ifs_verify.specs.inner.Passes.{PlainRulesHold, IsRefused, Least
 
 use crate::fault::VerifyFault;
 use crate::heights::height_of;
-use crate::typing::typing_of;
 use ifs_image::ImageParts;
 use std::alloc::Global;
 
@@ -17,8 +16,7 @@ pub fn check_stacks(alloc: Global, image: &ImageParts) -> Result<Vec<u32>, Verif
 {
     let mut heights: Vec<u32> = Vec::new(alloc);
     for routine in 0..image.routines.len() {
-        let rows = typing_of(alloc, image, routine)?;
-        let height = height_of(image, routine, &rows, heights.as_slice());
+        let height = height_of(alloc, image, routine, heights.as_slice())?;
         heights.push(height)?;
     }
     Ok(heights)
