@@ -98,9 +98,7 @@ fn zeros(alloc: Global, count: usize) -> Result<Vec<u32>, AllocError>
     ensures zero { IfOk result (λ amounts. (k : ℕ) → slice_index amounts.items k ≡ 0) }
 {
     let mut amounts: Vec<u32> = Vec::new(alloc);
-    for _place in 0..count {
-        amounts.push(0)?;
-    }
+    amounts.resize(count, 0)?;
     Ok(amounts)
 }
 
