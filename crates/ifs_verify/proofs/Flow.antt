@@ -1,8 +1,10 @@
 -- The forward pass: what its rows keep when a list of kinds is handed on, and what a refusal shows.
-use Rattle.std.proofs.Common.{ℕ, ◌≡◌, ◌≢◌, ◌<◌, ◌≤◌, ◌+◌, ◌-◌, List, [], length, Option, Some, None, arith, ap, sym, ◌∙◌, subst, inl, inr, ◌⊎◌}
+use Rattle.std.proofs.Common.{ℕ, ◌≡◌, ◌≢◌, ◌<◌, ◌≤◌, ◌+◌, ◌-◌, List, [], length, replicate, Option, Some, None, arith, ap, sym, ◌∙◌, subst, inl, inr, ◌⊎◌}
 use Rattle.std.proofs.Math.ListN.{set, length-set}
-use Rattle.std.proofs.lemmas.Bool.{cases_eq}
-use Rattle.std.proofs.lemmas.Option.{slice_get_within}
+use Rattle.std.proofs.lemmas.Bool.{cases_eq, cases_lt}
+use Rattle.std.proofs.lemmas.Option.{slice_get_within, slice_get_past}
+use Rattle.std.specs.Option.{option_flatten}
+use Rattle.std.proofs.lemmas.List.{length-replicate}
 use Rattle.ifs_base.specs.declared.op.Kind.{Kind}
 use Rattle.ifs_base.specs.declared.op.Op.{Op}
 use Rattle.ifs_base.specs.declared.op.Op.TheVariants.{Ret, Jump, JumpFalse, JumpTrue}
@@ -11,10 +13,10 @@ use Rattle.ifs_image.specs.Code.{op_at, code_of, target_of, effect, IsSuccessor}
 use Rattle.ifs_verify.specs.Rules.{IsRoutine, RoutinesEnd, JumpsLeadOn}
 use Rattle.ifs_verify.specs.Ways.{Leads, begins, goes_on}
 use Rattle.ifs_verify.specs.Refused.{LeavesList, Disagrees}
-use Rattle.ifs_verify.specs.inner.Passes.{next_of, row_at, Extends, Leaves, HasPassed, IsTypedUpTo, PlainRulesHold, Yields, AreAhead, Stands, IsLeft}
+use Rattle.ifs_verify.specs.inner.Passes.{next_of, row_at, Extends, Leaves, HasPassed, IsTypedUpTo, PlainRulesHold, Yields, AreAhead, AreClear, IsCleared, Stands, IsLeft}
 use Rattle.ifs_verify.proofs.Ways.{Leads-later}
 use Rattle.ifs_verify.proofs.Instructions.{op_at-routine}
-use Rattle.ifs_verify.proofs.Rows.{Extends-set, row_at-set_same, row_at-set_other, row_at-set_cases, some_kinds}
+use Rattle.ifs_verify.proofs.Rows.{Extends-set, row_at-set_same, row_at-set_other, row_at-set_cases, row_at-none, some_kinds}
 
 -- A successor is the next place or the target.
 pub successor_cases : (op : Op) (place to : ℕ) → IsSuccessor op place to → (next_of op place ≡ Some to) ⊎ (target_of op ≡ Some to)
@@ -204,16 +206,18 @@ left_of image routine place op before after brought within stands yields = recor
   ahead = stands.ahead;
 }
 
-ahead-set : (rows brought : List (Option (List Kind))) (place to : ℕ) (after : List Kind) → to < length rows → AreAhead rows brought place
+ahead-set : (rows brought : List (Option (List Kind))) (place to : ℕ) (after : List Kind) → to < length rows → place < to → AreAhead rows brought place
     → AreAhead (set rows to (Some after)) (set brought to (Some after)) place
-ahead-set rows brought place to after within ahead = record {
+ahead-set rows brought place to after within above ahead = record {
   long = omega (arith, length-set rows to (Some after), length-set brought to (Some after), ahead.long);
+  room = omega (arith, length-set brought to (Some after), ahead.room);
+  passed = λ k le. row_at-set_other brought to k (Some after) (omega arith) ∙ ahead.passed k le;
   later = λ k past.
       elim (cases_eq k to) [
         | inl e ↦
             subst (λ (n : ℕ). row_at (set rows to (Some after)) n ≡ row_at (set brought to (Some after)) n) (sym e)
             (row_at-set_same rows to after within ∙ sym (row_at-set_same brought to after (omega (arith, ahead.long))))
-        | inr ne ↦ row_at-set_other rows to k after ne ∙ ahead.later k past ∙ sym (row_at-set_other brought to k after ne)
+        | inr ne ↦ row_at-set_other rows to k (Some after) ne ∙ ahead.later k past ∙ sym (row_at-set_other brought to k (Some after) ne)
       ];
 }
 
@@ -228,7 +232,7 @@ left_brought image routine place to op after brought here left successor later w
       rows = set left.rows to (Some after);
       typed = handed image routine left.rows place to op after left.typed here left.leaves successor inside same_row;
       leaves = Leaves-extended image routine left.rows (set left.rows to (Some after)) place op after (Extends-set left.rows to after inside same_row) left.leaves;
-      ahead = ahead-set left.rows brought place to after inside left.ahead;
+      ahead = ahead-set left.rows brought place to after inside later left.ahead;
     }
 
 -- Ways disagree where another list was brought to a later successor.
@@ -239,11 +243,11 @@ left_disagrees image routine place to op after other brought here left successor
     ways_disagree image routine left.rows place to op after other left.typed here left.leaves successor (left.ahead.later to later ∙ row) differ
 
 -- The pass falls through to the next place.
-pub falls_through : (image : ImageParts) (routine place to : ℕ) (op : Op) (after : List Kind) (brought : List (Option (List Kind))) → op_at image routine place ≡ Some op
+pub falls_through : (image : ImageParts) (routine place to : ℕ) (op : Op) (after : List Kind) (brought new : List (Option (List Kind))) → op_at image routine place ≡ Some op
     → IsLeft image routine place op after brought → next_of op place ≡ Some to → to < length (code_of image routine)
     → ((other : List Kind) → row_at brought to ≡ Some other → other ≡ after) → ((k : ℕ) → target_of op ≡ Some k → place < k)
-    → ((k : ℕ) → target_of op ≡ Some k → row_at brought k ≡ Some after) → Stands image routine (place + 1) after brought
-falls_through image routine place to op after brought here left next within same later met =
+    → ((k : ℕ) → target_of op ≡ Some k → row_at brought k ≡ Some after) → IsCleared brought new to → Stands image routine (place + 1) after new
+falls_through image routine place to op after brought new here left next within same later met clear =
     let e : to ≡ place + 1 = (next_is op place to next).1 in
     let inside : to < length left.rows = omega (arith, left.typed.long) in
     let same_row : (other : List Kind) → row_at left.rows to ≡ Some other → other ≡ after = λ other is. same other (sym (left.ahead.later to (omega arith)) ∙ is) in
@@ -264,17 +268,25 @@ falls_through image routine place to op after brought here left next within same
           });
       at_place = λ _. subst (λ (n : ℕ). row_at (set left.rows to (Some after)) n ≡ Some after) e written;
       ahead = record {
-        long = left.ahead.long ∙ sym (length-set left.rows to (Some after));
-        later = λ k past. row_at-set_other left.rows to k after (omega arith) ∙ left.ahead.later k (omega arith);
+        long = omega (arith, left.ahead.long, length-set left.rows to (Some after), clear.long);
+        room = omega (arith, left.ahead.room, clear.long);
+        passed = λ k le.
+            elim (cases_eq k to) [
+              | inl at_to ↦ subst (λ (n : ℕ). row_at new n ≡ None) (sym at_to) clear.at_place
+              | inr ne ↦ clear.others k ne ∙ left.ahead.passed k (omega arith)
+            ];
+        later = λ k past.
+            row_at-set_other left.rows to k (Some after) (omega arith) ∙ left.ahead.later k (omega arith) ∙ sym (clear.others k (omega arith));
       };
     }
 
 -- The pass goes on with what was brought to the next place.
-pub takes_up : (image : ImageParts) (routine place : ℕ) (op : Op) (after here : List Kind) (brought : List (Option (List Kind))) → PlainRulesHold image
+pub takes_up : (image : ImageParts) (routine place : ℕ) (op : Op) (after here : List Kind) (brought new : List (Option (List Kind))) → PlainRulesHold image
     → op_at image routine place ≡ Some op → IsLeft image routine place op after brought → next_of op place ≡ None
     → ((k : ℕ) → target_of op ≡ Some k → place < k) → ((k : ℕ) → target_of op ≡ Some k → row_at brought k ≡ Some after)
-    → ((kinds : List Kind) → row_at brought (place + 1) ≡ Some kinds → here ≡ kinds) → Stands image routine (place + 1) here brought
-takes_up image routine place op after here brought plain is left none later met taken =
+    → ((kinds : List Kind) → row_at brought (place + 1) ≡ Some kinds → here ≡ kinds) → IsCleared brought new (place + 1)
+    → Stands image routine (place + 1) here new
+takes_up image routine place op after here brought new plain is left none later met taken clear =
     let typed : IsTypedUpTo image routine left.rows (place + 1) =
     passed_more image routine left.rows place op left.typed is
     (record {
@@ -292,25 +304,36 @@ takes_up image routine place op after here brought plain is left none later met 
       at_place = λ within.
           let found = row_found image routine (place + 1) left.rows plain typed within in
           found.1 ∙ ap (λ (k : List Kind). Some k) (sym (taken found.0 (sym (left.ahead.later (place + 1) (omega arith)) ∙ found.1)));
-      ahead = record { long = left.ahead.long; later = λ k past. left.ahead.later k (omega arith) };
+      ahead = record {
+        long = omega (arith, left.ahead.long, clear.long);
+        room = omega (arith, left.ahead.room, clear.long);
+        passed = λ k le.
+            elim (cases_eq k (place + 1)) [
+              | inl e ↦ subst (λ (n : ℕ). row_at new n ≡ None) (sym e) clear.at_place
+              | inr ne ↦ clear.others k ne ∙ left.ahead.passed k (omega arith)
+            ];
+        later = λ k past. left.ahead.later k (omega arith) ∙ sym (clear.others k (omega arith));
+      };
     }
 
 -- Before the first place, with the empty list and none that was brought to another place.
-pub stands_first : (image : ImageParts) (routine : ℕ) (brought : List (Option (List Kind))) → 0 < length (code_of image routine) → length brought ≡ length (code_of image routine)
-    → ((place : ℕ) → row_at brought place ≡ None) → Stands image routine 0 [] brought
-stands_first image routine brought some long none =
-    let within : 0 < length brought = omega arith in
-    let written : row_at (set brought 0 (Some [])) 0 ≡ Some [] = row_at-set_same brought 0 [] within in
-    let only : (place : ℕ) (kinds : List Kind) → row_at (set brought 0 (Some [])) place ≡ Some kinds → (place ≡ 0) × (kinds ≡ []) =
+pub stands_first : (image : ImageParts) (routine : ℕ) (brought : List (Option (List Kind))) → 0 < length (code_of image routine) → length (code_of image routine) ≤ 1024
+    → AreClear brought → Stands image routine 0 [] brought
+stands_first image routine brought some most clear =
+    let empty : List (Option (List Kind)) = replicate (length (code_of image routine)) None in
+    let long : length empty ≡ length (code_of image routine) = length-replicate (length (code_of image routine)) None in
+    let within : 0 < length empty = omega arith in
+    let written : row_at (set empty 0 (Some [])) 0 ≡ Some [] = row_at-set_same empty 0 [] within in
+    let only : (place : ℕ) (kinds : List Kind) → row_at (set empty 0 (Some [])) place ≡ Some kinds → (place ≡ 0) × (kinds ≡ []) =
     λ place kinds is.
-    elim (row_at-set_cases brought 0 [] within place kinds is) [
+    elim (row_at-set_cases empty 0 [] within place kinds is) [
       | inl new ↦ new
-      | inr old ↦ let never : None ≡ Some kinds = sym (none place) ∙ old in cc
+      | inr old ↦ let never : None ≡ Some kinds = sym (row_at-none (length (code_of image routine)) place) ∙ old in cc
     ] in
     record {
-      rows = set brought 0 (Some []);
+      rows = set empty 0 (Some []);
       typed = record {
-        long = length-set brought 0 (Some []) ∙ long;
+        long = length-set empty 0 (Some []) ∙ long;
         start = written;
         within = λ place kinds is. subst (λ (list : List Kind). length list ≤ 32) (sym (only place kinds is).1) (omega arith);
         passed = λ place op below. absurd (omega arith);
@@ -320,7 +343,23 @@ stands_first image routine brought some long none =
       };
       at_place = λ _. written;
       ahead = record {
-        long = sym (length-set brought 0 (Some []));
-        later = λ to past. row_at-set_other brought 0 to [] (omega arith);
+        long = omega (arith, length-set empty 0 (Some []), clear.0);
+        room = clear.0;
+        passed = λ to le. clear.1 to;
+        later = λ to past.
+            row_at-set_other empty 0 to (Some []) (omega arith) ∙ row_at-none (length (code_of image routine)) to ∙ sym (clear.1 to);
       };
     }
+
+-- Behind the last place nothing is kept.
+pub clear_behind : (image : ImageParts) (routine : ℕ) (here : List Kind) (brought : List (Option (List Kind))) → Stands image routine (length (code_of image routine)) here brought
+    → AreClear brought
+clear_behind image routine here brought stands = (
+  stands.ahead.room,
+  λ place.
+      elim (cases_lt (length (code_of image routine)) place) [
+        | inl past ↦
+            sym (stands.ahead.later place past) ∙ ap option_flatten (slice_get_past stands.rows place (omega (arith, stands.typed.long)))
+        | inr le ↦ stands.ahead.passed place le
+      ],
+)

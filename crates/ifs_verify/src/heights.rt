@@ -1,45 +1,48 @@
 //! How high the stack grows in a routine.
 
-ghost use Rattle.std.specs.Prelude.{ℕ, ◌≡◌, ◌≤◌, ◌<◌, ◌*◌, ◌+◌, length, slice_index, IfOk, IfErr};
+ghost use Rattle.std.specs.Prelude.{ℕ, ◌≡◌, ◌≤◌, ◌<◌, ◌*◌, ◌+◌, length, slice_index, IfOk, OnOk, IfErr};
 ghost use Rattle.ifs_base.specs.declared.ids.RoutineId.{RoutineId};
 ghost use Rattle.ifs_base.specs.declared.op.Op.TheVariants.{Call};
 ghost use Rattle.ifs_image.specs.Code.{code_of};
 ghost use Rattle.ifs_verify.specs.Rules.{IsRoutine};
-ghost use Rattle.ifs_verify.specs.inner.Passes.{PlainRulesHold, IsRefused, IsTypable, AllHold, IsHighEnough, AreLow};
+ghost use Rattle.ifs_verify.specs.inner.Passes.{PlainRulesHold, IsRefused, IsTypable, AllHold, IsHighEnough, AreLow, AreClear};
 
 use crate::fault::VerifyFault;
-use crate::places::code;
+use crate::places::{code, op_at};
 use crate::stack::Stack;
 use crate::tables::greater;
-use crate::typing::{no_lists, pass};
+use crate::typing::pass;
 use ifs_base::Op;
 use ifs_image::ImageParts;
-use std::alloc::Global;
 
 /// The greatest length of a list at any place or after any instruction, and at a call the length
 /// before it and the callee's height, where the routine has a typing: V6, V7, V9, and V10 at an
 /// instruction.
+///
+/// `brought` is room for lists, without any before and, where an `Ok` is answered, after.
 pub fn height_of(
-    alloc: Global,
     image: &ImageParts,
     routine: usize,
     heights: &[u32],
+    brought: &mut Vec<Option<Stack>>,
 ) -> Result<u32, VerifyFault>
     requires plain { PlainRulesHold image.now }
     requires routine { IsRoutine image.now routine }
     requires long { length heights.now ≡ routine }
     requires low { AreLow heights.now }
+    requires clear { AreClear brought.old.items }
+    ensures clear { OnOk result (AreClear brought.new.items) }
     ensures typed { IfOk result (λ height. IsTypable image.now routine) }
     ensures holds { IfOk result (λ height. AllHold image.now routine (slice_index heights.now) (length (code_of image.now routine)) height) }
     ensures least { IfOk result (λ height. (bound : ℕ) → AllHold image.now routine (slice_index heights.now) (length (code_of image.now routine)) bound → height ≤ bound) }
     ensures refused { IfErr result (IsRefused image.now) }
 {
-    let count = code(image, routine).len();
-    let mut brought = no_lists(alloc, count)?;
     let mut here = Stack::new();
     let mut height = 0;
-    for place in 0..count {
-        let needed = pass(image, routine, place, heights, &mut here, &mut brought)?;
+    let code = code(image, routine);
+    for place in 0..code.len() {
+        let op = op_at(code, place);
+        let needed = pass(image, routine, place, op, heights, &mut here, brought)?;
         height = greater(height, needed);
     }
     Ok(height)

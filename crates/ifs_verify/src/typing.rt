@@ -12,24 +12,23 @@ ghost use Rattle.ifs_image.specs.Code.{op_at, code_of, results_of, target_of, ef
 ghost use Rattle.ifs_verify.specs.Rules.{IsRoutine, HasOperand};
 ghost use Rattle.ifs_verify.specs.Ways.{Leads};
 ghost use Rattle.ifs_verify.specs.Refused.{ReturnsOthers, LacksOperand, LeavesList, LeavesMany, Disagrees};
-ghost use Rattle.ifs_verify.specs.inner.Passes.{IsSized, PlainRulesHold, IsRefused, Yields, Stands, IsLeft, NeedsHeight, AreLow, row_at};
+ghost use Rattle.ifs_verify.specs.inner.Passes.{IsSized, PlainRulesHold, IsRefused, Yields, Stands, IsLeft, IsCleared, AreClear, NeedsHeight, AreLow, row_at};
 
 use crate::effects::{apply, keeps_results};
 use crate::fault::VerifyFault;
 use crate::heights::height_at;
-use crate::places::{at, code, next, op_at, target};
+use crate::places::{at, next, target};
 use crate::stack::Stack;
 use ifs_base::Op;
 use ifs_image::{ImageParts, limits};
 use std::alloc::{AllocError, Global};
 
-/// So many places, to none of which a list was brought.
-pub fn no_lists(alloc: Global, count: usize) -> Result<Vec<Option<Stack>>, AllocError>
-    ensures long { IfOk result (λ brought. length brought.items ≡ count) }
-    ensures none { IfOk result (λ brought. (place : ℕ) → row_at brought.items place ≡ None) }
+/// Room for the lists that are brought to the places of a routine, and to the one after its last.
+pub fn no_lists(alloc: Global) -> Result<Vec<Option<Stack>>, AllocError>
+    ensures { IfOk result (λ brought. AreClear brought.items) }
 {
     let mut brought: Vec<Option<Stack>> = Vec::new(alloc);
-    for _place in 0..count {
+    for _place in 0..=limits::CODE_OF_ROUTINE {
         brought.push(None)?;
     }
     Ok(brought)
@@ -41,12 +40,14 @@ pub fn pass(
     image: &ImageParts,
     routine: usize,
     place: usize,
+    op: Op,
     heights: &[u32],
     here: &mut Stack,
     brought: &mut Vec<Option<Stack>>,
 ) -> Result<u32, VerifyFault>
     requires plain { PlainRulesHold image.now }
     requires routine { IsRoutine image.now routine }
+    requires op { op_at image.now routine place ≡ Some op }
     requires place { place < length (code_of image.now routine) }
     requires long { length heights.now ≡ routine }
     requires low { AreLow heights.now }
@@ -55,7 +56,6 @@ pub fn pass(
     ensures needs { IfOk result (λ needed. NeedsHeight image.now routine (slice_index heights.now) place needed) }
     ensures refused { IfErr result (IsRefused image.now) }
 {
-    let op = op_at(code(image, routine), place);
     let before = here.len();
     leave(image, routine, place, op, here)?;
     let needed = height_at(op, before, here.len(), heights);
@@ -244,18 +244,22 @@ fn go_on(
     place: usize,
     op: Op,
     here: &mut Stack,
-    brought: &Vec<Option<Stack>>,
+    brought: &mut Vec<Option<Stack>>,
 ) -> bool
     requires plain { PlainRulesHold image.now }
     requires routine { IsRoutine image.now routine }
     requires op { op_at image.now routine place ≡ Some op }
-    requires left { IsLeft image.now routine place op here.old brought.now.items }
-    requires met { (to : ℕ) → target_of op ≡ Some to → row_at brought.now.items to ≡ Some here.old }
-    ensures stands { OnTrue result (Stands image.now routine (place + 1) here.new brought.now.items) }
+    requires left { IsLeft image.now routine place op here.old brought.old.items }
+    requires met { (to : ℕ) → target_of op ≡ Some to → row_at brought.old.items to ≡ Some here.old }
+    ensures stands { OnTrue result (Stands image.now routine (place + 1) here.new brought.new.items) }
     ensures disagree { OnFalse result (Disagrees image.now routine place) }
 {
     match next(op, place) {
-        Some(to) => agrees(image, routine, place, op, to, here, brought),
+        Some(to) => {
+            let agree = agrees(image, routine, place, op, to, here, brought);
+            clear(brought, to);
+            agree
+        }
         None => {
             take_up(here, brought, place + 1);
             true
@@ -263,11 +267,23 @@ fn go_on(
     }
 }
 
-/// Goes on with the list that was brought to a place, where there is one.
-fn take_up(here: &mut Stack, brought: &Vec<Option<Stack>>, place: usize)
-    ensures { (kinds : List Kind) → row_at brought.now.items place ≡ Some kinds → here.new ≡ kinds }
+/// Keeps what was brought to a place no longer.
+fn clear(brought: &mut Vec<Option<Stack>>, place: usize)
+    requires { place < length brought.old.items }
+    ensures { IsCleared brought.old.items brought.new.items place }
 {
-    if let Some(Some(kinds)) = brought.get(place) {
-        *here = kinds.copied();
+    if brought[place].is_some() {
+        brought[place] = None;
+    }
+}
+
+/// Goes on with the list that was brought to a place, where there is one, and keeps it there no longer.
+fn take_up(here: &mut Stack, brought: &mut Vec<Option<Stack>>, place: usize)
+    requires { place < length brought.old.items }
+    ensures taken { (kinds : List Kind) → row_at brought.old.items place ≡ Some kinds → here.new ≡ kinds }
+    ensures cleared { IsCleared brought.old.items brought.new.items place }
+{
+    if let Some(kinds) = brought[place].take() {
+        *here = kinds;
     }
 }

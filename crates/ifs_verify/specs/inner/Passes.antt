@@ -91,10 +91,22 @@ pub record Yields (image : ImageParts) (routine : ℕ) (op : Op) (before after :
   pub within : length after ≤ 32
   pub results : op ≡ Ret → before ≡ results_of image routine
 
--- The lists that were brought to places after one are those of the rows.
+-- The lists that were brought to places after one are those of the rows, and no other is kept. There is room for each place of a routine, and one after them.
 pub record AreAhead (rows brought : List (Option (List Kind))) (place : ℕ) : Type 0 where
-  pub long : length brought ≡ length rows
+  pub long : length rows < length brought
+  pub room : 1024 < length brought
+  pub passed : (to : ℕ) → to ≤ place → row_at brought to ≡ None
   pub later : (to : ℕ) → place < to → row_at rows to ≡ row_at brought to
+
+-- No list is kept at any place.
+abbrev pub AreClear : List (Option (List Kind)) → Type 0
+AreClear brought = (1024 < length brought) × ((place : ℕ) → row_at brought place ≡ None)
+
+-- What was brought to a place is kept no longer.
+pub record IsCleared (old new : List (Option (List Kind))) (place : ℕ) : Type 0 where
+  pub long : length new ≡ length old
+  pub at_place : row_at new place ≡ None
+  pub others : (to : ℕ) → to ≢ place → row_at new to ≡ row_at old to
 
 -- Before a place is passed: some rows, whose places below it are passed, have a list there and those that were brought to later places.
 pub record Stands (image : ImageParts) (routine place : ℕ) (here : List Kind) (brought : List (Option (List Kind))) : Type 0 where
