@@ -215,10 +215,15 @@ pub record HoldsAmount (weight : Op → ℕ) (lower row : ℕ → ℕ) (op : Op)
 abbrev pub HoldsRow : (Op → ℕ) → ImageParts → (ℕ → ℕ) → ℕ → (ℕ → ℕ) → Type 0
 HoldsRow weight image lower routine row = (place : ℕ) (op : Op) → op_at image routine place ≡ Some op → HoldsAmount weight lower row op place (row place)
 
+-- There is room for the amounts of a routine's places. What stands there is small, whatever it is.
+pub record IsRoom (amounts : List ℕ) : Type 0 where
+  pub long : 1024 ≤ length amounts
+  pub small : (k : ℕ) → slice_index amounts k ≤ 102401024
+
 -- The amounts of the places from one on, each a bound and below every bound.
 pub record IsCountedFrom (weight : Op → ℕ) (image : ImageParts) (lower : ℕ → ℕ) (routine : ℕ) (amounts : List ℕ) (place : ℕ) : Type 0 where
-  pub long : length amounts ≡ length (code_of image routine)
-  pub low : (k : ℕ) → slice_index amounts k + 100001 * place ≤ 100001 * length (code_of image routine)
+  pub room : IsRoom amounts
+  pub low : (k : ℕ) → k < length (code_of image routine) → place ≤ k → slice_index amounts k + 100001 * place ≤ 100001 * length (code_of image routine)
   pub holds : (k : ℕ) (op : Op) → place ≤ k → op_at image routine k ≡ Some op → HoldsAmount weight lower (slice_index amounts) op k (slice_index amounts k)
   pub least : (all : ℕ → ℕ → ℕ) → AreAmounts weight image all → ((k : ℕ) → k < routine → lower k ≤ all k 0)
       → (k : ℕ) → k < length (code_of image routine) → place ≤ k → slice_index amounts k ≤ all routine k
