@@ -53,7 +53,7 @@ pub counted_more : (weight : Op → ℕ) (image : ImageParts) (lower : ℕ → �
     → IsCountedFrom weight image lower routine (set amounts place amount) place
 counted_more weight image lower routine amounts place op amount plain is_routine here counted holds least more =
     let within : place < length (code_of image routine) = slice_get_within (code_of image routine) place op here in
-    let inside : place < length amounts = omega (arith, counted.room.long, plain.sized.code routine) in
+    let inside : place < length amounts = omega (arith, counted.room.long routine) in
     let same : get_or (set amounts place amount) place 0 ≡ amount = get_or-set_same amounts place amount 0 inside in
     let at_place : (k : ℕ) → k ≡ place → get_or (set amounts place amount) k 0 ≡ amount =
     λ k e. subst (λ (n : ℕ). get_or (set amounts place amount) n 0 ≡ amount) (sym e) same in
@@ -63,7 +63,7 @@ counted_more weight image lower routine amounts place op amount plain is_routine
     omega (arith, counted.low to later.1 (omega (arith, later.0)))) in
     record {
       room = record {
-        long = omega (arith, length-set amounts place amount, counted.room.long);
+        long = λ other. omega (arith, length-set amounts place amount, counted.room.long other);
         small = λ k.
             elim (cases_eq k place) [
               | inl e ↦ omega (arith, at_place k e, most, plain.sized.code routine)

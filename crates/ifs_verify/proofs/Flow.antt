@@ -206,11 +206,11 @@ left_of image routine place op before after brought within stands yields = recor
   ahead = stands.ahead;
 }
 
-ahead-set : (rows brought : List (Option (List Kind))) (place to : ℕ) (after : List Kind) → to < length rows → place < to → AreAhead rows brought place
-    → AreAhead (set rows to (Some after)) (set brought to (Some after)) place
-ahead-set rows brought place to after within above ahead = record {
+ahead-set : (image : ImageParts) (rows brought : List (Option (List Kind))) (place to : ℕ) (after : List Kind) → to < length rows → place < to → AreAhead image rows brought place
+    → AreAhead image (set rows to (Some after)) (set brought to (Some after)) place
+ahead-set image rows brought place to after within above ahead = record {
   long = omega (arith, length-set rows to (Some after), length-set brought to (Some after), ahead.long);
-  room = omega (arith, length-set brought to (Some after), ahead.room);
+  room = λ routine. omega (arith, length-set brought to (Some after), ahead.room routine);
   passed = λ k le. row_at-set_other brought to k (Some after) (omega arith) ∙ ahead.passed k le;
   later = λ k past.
       elim (cases_eq k to) [
@@ -232,7 +232,7 @@ left_brought image routine place to op after brought here left successor later w
       rows = set left.rows to (Some after);
       typed = handed image routine left.rows place to op after left.typed here left.leaves successor inside same_row;
       leaves = Leaves-extended image routine left.rows (set left.rows to (Some after)) place op after (Extends-set left.rows to after inside same_row) left.leaves;
-      ahead = ahead-set left.rows brought place to after inside later left.ahead;
+      ahead = ahead-set image left.rows brought place to after inside later left.ahead;
     }
 
 -- Ways disagree where another list was brought to a later successor.
@@ -269,7 +269,7 @@ falls_through image routine place to op after brought new here left next within 
       at_place = λ _. subst (λ (n : ℕ). row_at (set left.rows to (Some after)) n ≡ Some after) e written;
       ahead = record {
         long = omega (arith, left.ahead.long, length-set left.rows to (Some after), clear.long);
-        room = omega (arith, left.ahead.room, clear.long);
+        room = λ other. omega (arith, left.ahead.room other, clear.long);
         passed = λ k le.
             elim (cases_eq k to) [
               | inl at_to ↦ subst (λ (n : ℕ). row_at new n ≡ None) (sym at_to) clear.at_place
@@ -306,7 +306,7 @@ takes_up image routine place op after here brought new plain is left none later 
           found.1 ∙ ap (λ (k : List Kind). Some k) (sym (taken found.0 (sym (left.ahead.later (place + 1) (omega arith)) ∙ found.1)));
       ahead = record {
         long = omega (arith, left.ahead.long, clear.long);
-        room = omega (arith, left.ahead.room, clear.long);
+        room = λ other. omega (arith, left.ahead.room other, clear.long);
         passed = λ k le.
             elim (cases_eq k (place + 1)) [
               | inl e ↦ subst (λ (n : ℕ). row_at new n ≡ None) (sym e) clear.at_place
@@ -317,9 +317,9 @@ takes_up image routine place op after here brought new plain is left none later 
     }
 
 -- Before the first place, with the empty list and none that was brought to another place.
-pub stands_first : (image : ImageParts) (routine : ℕ) (brought : List (Option (List Kind))) → 0 < length (code_of image routine) → length (code_of image routine) ≤ 1024
-    → AreClear brought → Stands image routine 0 [] brought
-stands_first image routine brought some most clear =
+pub stands_first : (image : ImageParts) (routine : ℕ) (brought : List (Option (List Kind))) → 0 < length (code_of image routine)
+    → AreClear image brought → Stands image routine 0 [] brought
+stands_first image routine brought some clear =
     let empty : List (Option (List Kind)) = replicate (length (code_of image routine)) None in
     let long : length empty ≡ length (code_of image routine) = length-replicate (length (code_of image routine)) None in
     let within : 0 < length empty = omega arith in
@@ -343,23 +343,23 @@ stands_first image routine brought some most clear =
       };
       at_place = λ _. written;
       ahead = record {
-        long = omega (arith, length-set empty 0 (Some []), clear.0);
-        room = clear.0;
-        passed = λ to le. clear.1 to;
+        long = omega (arith, length-set empty 0 (Some []), clear.room routine);
+        room = clear.room;
+        passed = λ to le. clear.none to;
         later = λ to past.
-            row_at-set_other empty 0 to (Some []) (omega arith) ∙ row_at-none (length (code_of image routine)) to ∙ sym (clear.1 to);
+            row_at-set_other empty 0 to (Some []) (omega arith) ∙ row_at-none (length (code_of image routine)) to ∙ sym (clear.none to);
       };
     }
 
 -- Behind the last place nothing is kept.
 pub clear_behind : (image : ImageParts) (routine : ℕ) (here : List Kind) (brought : List (Option (List Kind))) → Stands image routine (length (code_of image routine)) here brought
-    → AreClear brought
-clear_behind image routine here brought stands = (
-  stands.ahead.room,
-  λ place.
+    → AreClear image brought
+clear_behind image routine here brought stands = record {
+  room = stands.ahead.room;
+  none = λ place.
       elim (cases_lt (length (code_of image routine)) place) [
         | inl past ↦
             sym (stands.ahead.later place past) ∙ ap option_flatten (slice_get_past stands.rows place (omega (arith, stands.typed.long)))
         | inr le ↦ stands.ahead.passed place le
-      ],
-)
+      ];
+}

@@ -7,13 +7,13 @@ ghost use Rattle.ifs_image.specs.Code.{op_at, IsSuccessor};
 ghost use Rattle.ifs_verify.specs.declared.amounts.Weight.TheVariants.{Cost, Commands};
 ghost use Rattle.ifs_verify.specs.Bounds.{callee_amount, cost_of, commands_of};
 ghost use Rattle.ifs_verify.specs.Rules.{IsRoutine};
-ghost use Rattle.ifs_verify.specs.inner.Passes.{PlainRulesHold, HoldsAmount, IsRoom, IsCountedFrom, LeastAmounts, weight_of, limit_of, amount_behind};
+ghost use Rattle.ifs_verify.specs.inner.Passes.{IsSized, PlainRulesHold, HoldsAmount, IsCountedFrom, LeastAmounts, weight_of, limit_of, amount_behind};
 ghost use Rattle.ifs_verify.specs.inner.Found.{IsAmount, HaveRoom};
 
-use crate::places::{code, next, op_at, target};
+use crate::places::{code, next, op_at, room, target};
 use crate::tables::greater;
 use ifs_base::Op;
-use ifs_image::{ImageParts, limits};
+use ifs_image::ImageParts;
 use std::alloc::{AllocError, Global};
 
 /// What is counted.
@@ -44,22 +44,25 @@ pub struct Rows {
 }
 
 impl Rows {
-    /// Room for the amounts of any routine.
-    pub fn new(alloc: Global) -> Result<Self, AllocError>
-        ensures { IfOk result HaveRoom }
+    /// Room for the amounts of each routine of an image.
+    pub fn new(alloc: Global, image: &ImageParts) -> Result<Self, AllocError>
+        requires { IsSized image.now }
+        ensures { IfOk result (HaveRoom image.now) }
     {
-        let costs = zeros(alloc)?;
-        let commands = zeros(alloc)?;
+        let places = room(image);
+        let costs = zeros(alloc, places)?;
+        let commands = zeros(alloc, places)?;
         Ok(Rows { costs, commands })
     }
 }
 
-/// So many zeros as a routine may have instructions.
-fn zeros(alloc: Global) -> Result<Vec<u32>, AllocError>
-    ensures { IfOk result (λ amounts. IsRoom amounts.items) }
+/// So many zeros.
+fn zeros(alloc: Global, count: usize) -> Result<Vec<u32>, AllocError>
+    ensures long { IfOk result (λ amounts. length amounts.items ≡ count) }
+    ensures zero { IfOk result (λ amounts. (k : ℕ) → slice_index amounts.items k ≡ 0) }
 {
     let mut amounts: Vec<u32> = Vec::new(alloc);
-    amounts.resize(usize::from(limits::CODE_OF_ROUTINE), 0)?;
+    amounts.resize(count, 0)?;
     Ok(amounts)
 }
 
@@ -76,10 +79,10 @@ pub fn amounts_of(
     requires routine { IsRoutine image.now routine }
     requires costs { LeastAmounts cost_of image.now 100000 costs.now routine }
     requires commands { LeastAmounts commands_of image.now 64 commands.now routine }
-    requires room { HaveRoom rows.old }
+    requires room { HaveRoom image.now rows.old }
     ensures cost { IsAmount Cost image.now costs.now routine result.cost }
     ensures commands { IsAmount Commands image.now commands.now routine result.commands }
-    ensures room { HaveRoom rows.new }
+    ensures room { HaveRoom image.now rows.new }
 {
     let code = code(image, routine);
     let count = code.len();

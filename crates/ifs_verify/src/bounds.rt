@@ -46,7 +46,7 @@ pub fn check_bounds(
         costs: Vec::new(alloc),
         commands: Vec::new(alloc),
     };
-    let mut rows = Rows::new(alloc)?;
+    let mut rows = Rows::new(alloc, image)?;
     for routine in 0..image.routines.len() {
         find_bounds(image, routine, heights, &mut rows, &mut bounds)?;
     }
@@ -65,8 +65,8 @@ fn find_bounds(
     requires heights { LeastHeights image.now heights.now.items (length image.now.routines) }
     requires routine { IsRoutine image.now routine }
     requires lower { AreFound image.now heights.now.items bounds.old routine }
-    requires room { HaveRoom rows.old }
-    ensures room { HaveRoom rows.new }
+    requires room { HaveRoom image.now rows.old }
+    ensures room { HaveRoom image.now rows.new }
     ensures found { OnOk result (AreFound image.now heights.now.items bounds.new (routine + 1)) }
     ensures refused { IfErr result (IsRefused image.now) }
 {

@@ -30,8 +30,8 @@ pub fn height_of(
     requires routine { IsRoutine image.now routine }
     requires long { length heights.now ≡ routine }
     requires low { AreLow heights.now }
-    requires clear { AreClear brought.old.items }
-    ensures clear { OnOk result (AreClear brought.new.items) }
+    requires clear { AreClear image.now brought.old.items }
+    ensures clear { OnOk result (AreClear image.now brought.new.items) }
     ensures typed { IfOk result (λ height. IsTypable image.now routine) }
     ensures holds { IfOk result (λ height. AllHold image.now routine (slice_index heights.now) (length (code_of image.now routine)) height) }
     ensures least { IfOk result (λ height. (bound : ℕ) → AllHold image.now routine (slice_index heights.now) (length (code_of image.now routine)) bound → height ≤ bound) }

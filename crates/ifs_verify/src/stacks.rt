@@ -16,7 +16,7 @@ pub fn check_stacks(alloc: Global, image: &ImageParts) -> Result<Vec<u32>, Verif
     ensures refused { IfErr result (IsRefused image.now) }
 {
     let mut heights: Vec<u32> = Vec::new(alloc);
-    let mut brought = no_lists(alloc)?;
+    let mut brought = no_lists(alloc, image)?;
     for routine in 0..image.routines.len() {
         let height = height_of(image, routine, heights.as_slice(), &mut brought)?;
         heights.push(height)?;

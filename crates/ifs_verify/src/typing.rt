@@ -17,18 +17,20 @@ ghost use Rattle.ifs_verify.specs.inner.Passes.{IsSized, PlainRulesHold, IsRefus
 use crate::effects::{apply, keeps_results};
 use crate::fault::VerifyFault;
 use crate::heights::height_at;
-use crate::places::{at, next, target};
+use crate::places::{at, next, room, target};
 use crate::stack::Stack;
 use ifs_base::Op;
 use ifs_image::{ImageParts, limits};
 use std::alloc::{AllocError, Global};
 
-/// Room for the lists that are brought to the places of a routine, and to the one after its last.
-pub fn no_lists(alloc: Global) -> Result<Vec<Option<Stack>>, AllocError>
-    ensures { IfOk result (λ brought. AreClear brought.items) }
+/// Room for the lists that are brought to the places of each routine, and to the one after its last.
+pub fn no_lists(alloc: Global, image: &ImageParts) -> Result<Vec<Option<Stack>>, AllocError>
+    requires { IsSized image.now }
+    ensures { IfOk result (λ brought. AreClear image.now brought.items) }
 {
-    let mut brought: Vec<Option<Stack>> = Vec::new(alloc);
-    for _place in 0..=limits::CODE_OF_ROUTINE {
+    let places = room(image);
+    let mut brought: Vec<Option<Stack>> = Vec::with_capacity(alloc, places)?;
+    for _place in 0..places {
         brought.push(None)?;
     }
     Ok(brought)

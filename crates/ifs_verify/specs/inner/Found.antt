@@ -15,8 +15,8 @@ pub record IsAmount (weight : Weight) (image : ImageParts) (lower : List ℕ) (r
   pub over : limit_of weight < amount → AmountIsOver weight image (Code (record { 0 = routine }) 0)
 
 -- There is room for the amounts of both kinds.
-abbrev pub HaveRoom : Rows → Type 0
-HaveRoom rows = IsRoom rows.costs.items × IsRoom rows.commands.items
+abbrev pub HaveRoom : ImageParts → Rows → Type 0
+HaveRoom image rows = IsRoom image rows.costs.items × IsRoom image rows.commands.items
 
 pub record AreFound (image : ImageParts) (heights : List ℕ) (bounds : Bounds) (done : ℕ) : Type 0 where
   pub heights_low : (routine : ℕ) → routine < done → slice_index heights routine ≤ 32

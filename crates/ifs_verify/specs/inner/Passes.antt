@@ -91,16 +91,21 @@ pub record Yields (image : ImageParts) (routine : ℕ) (op : Op) (before after :
   pub within : length after ≤ 32
   pub results : op ≡ Ret → before ≡ results_of image routine
 
--- The lists that were brought to places after one are those of the rows, and no other is kept. There is room for each place of a routine, and one after them.
-pub record AreAhead (rows brought : List (Option (List Kind))) (place : ℕ) : Type 0 where
+-- Each routine has fewer instructions than that.
+abbrev pub RoutinesAreShorter : ImageParts → ℕ → Type 0
+RoutinesAreShorter image size = (routine : ℕ) → length (code_of image routine) < size
+
+-- The lists that were brought to places after one are those of the rows, and no other is kept. There is room for the places of each routine, and one after them.
+pub record AreAhead (image : ImageParts) (rows brought : List (Option (List Kind))) (place : ℕ) : Type 0 where
   pub long : length rows < length brought
-  pub room : 1024 < length brought
+  pub room : RoutinesAreShorter image (length brought)
   pub passed : (to : ℕ) → to ≤ place → row_at brought to ≡ None
   pub later : (to : ℕ) → place < to → row_at rows to ≡ row_at brought to
 
--- No list is kept at any place.
-abbrev pub AreClear : List (Option (List Kind)) → Type 0
-AreClear brought = (1024 < length brought) × ((place : ℕ) → row_at brought place ≡ None)
+-- There is room for the places of each routine, and no list is kept at any place.
+pub record AreClear (image : ImageParts) (brought : List (Option (List Kind))) : Type 0 where
+  pub room : RoutinesAreShorter image (length brought)
+  pub none : (place : ℕ) → row_at brought place ≡ None
 
 -- What was brought to a place is kept no longer.
 pub record IsCleared (old new : List (Option (List Kind))) (place : ℕ) : Type 0 where
@@ -113,14 +118,14 @@ pub record Stands (image : ImageParts) (routine place : ℕ) (here : List Kind) 
   pub rows : List (Option (List Kind))
   pub typed : IsTypedUpTo image routine rows place
   pub at_place : place < length (code_of image routine) → row_at rows place ≡ Some here
-  pub ahead : AreAhead rows brought place
+  pub ahead : AreAhead image rows brought place
 
 -- While a place is passed: some rows have what its instruction leaves, and the lists that were brought to later places.
 pub record IsLeft (image : ImageParts) (routine place : ℕ) (op : Op) (after : List Kind) (brought : List (Option (List Kind))) : Type 0 where
   pub rows : List (Option (List Kind))
   pub typed : IsTypedUpTo image routine rows place
   pub leaves : Leaves image routine rows place op after
-  pub ahead : AreAhead rows brought place
+  pub ahead : AreAhead image rows brought place
 
 -- All places of a routine are passed by some rows.
 abbrev pub IsTypable : ImageParts → ℕ → Type 0
@@ -215,14 +220,14 @@ pub record HoldsAmount (weight : Op → ℕ) (lower row : ℕ → ℕ) (op : Op)
 abbrev pub HoldsRow : (Op → ℕ) → ImageParts → (ℕ → ℕ) → ℕ → (ℕ → ℕ) → Type 0
 HoldsRow weight image lower routine row = (place : ℕ) (op : Op) → op_at image routine place ≡ Some op → HoldsAmount weight lower row op place (row place)
 
--- There is room for the amounts of a routine's places. What stands there is small, whatever it is.
-pub record IsRoom (amounts : List ℕ) : Type 0 where
-  pub long : 1024 ≤ length amounts
+-- There is room for the amounts of each routine's places. What stands there is small, whatever it is.
+pub record IsRoom (image : ImageParts) (amounts : List ℕ) : Type 0 where
+  pub long : RoutinesAreShorter image (length amounts)
   pub small : (k : ℕ) → slice_index amounts k ≤ 102401024
 
 -- The amounts of the places from one on, each a bound and below every bound.
 pub record IsCountedFrom (weight : Op → ℕ) (image : ImageParts) (lower : ℕ → ℕ) (routine : ℕ) (amounts : List ℕ) (place : ℕ) : Type 0 where
-  pub room : IsRoom amounts
+  pub room : IsRoom image amounts
   pub low : (k : ℕ) → k < length (code_of image routine) → place ≤ k → slice_index amounts k + 100001 * place ≤ 100001 * length (code_of image routine)
   pub holds : (k : ℕ) (op : Op) → place ≤ k → op_at image routine k ≡ Some op → HoldsAmount weight lower (slice_index amounts) op k (slice_index amounts k)
   pub least : (all : ℕ → ℕ → ℕ) → AreAmounts weight image all → ((k : ℕ) → k < routine → lower k ≤ all k 0)

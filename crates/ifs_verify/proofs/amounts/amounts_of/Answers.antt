@@ -16,13 +16,13 @@ pub first-requires : goal.first-requires
 first-requires c =
     let counted : IsCountedFrom cost_of c.args.image.now (slice_index c.args.costs.now) c.args.routine c.loop-done.rows.costs.items 0 =
     c.loop-done.invariant.costs 0 (omega (arith, c.loop-done-test.false, c.loop-done.auto)) in
-    omega (arith, counted.room.long)
+    omega (arith, counted.room.long c.args.routine)
 
 pub first-requires-2 : goal.first-requires-2
 first-requires-2 c =
     let counted : IsCountedFrom commands_of c.args.image.now (slice_index c.args.commands.now) c.args.routine c.loop-done.rows.commands.items 0 =
     c.loop-done.invariant.commands 0 (omega (arith, c.loop-done-test.false, c.loop-done.auto)) in
-    omega (arith, counted.room.long)
+    omega (arith, counted.room.long c.args.routine)
 
 pub returns-clause-cost : goal.returns-clause-cost
 returns-clause-cost c =

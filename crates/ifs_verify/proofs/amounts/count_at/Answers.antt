@@ -13,7 +13,7 @@ amount_at-amount-requires-clause-callee c = λ callee is.
 pub amount_at-amount-requires-clause-within : goal.amount_at-amount-requires-clause-within
 amount_at-amount-requires-clause-within c = λ to is.
     let s = successor_within c.args.image.now c.args.routine c.args.place to c.args.op c.requires.plain.ends c.requires.plain.jumps c.requires.routine c.requires.op is in
-    omega (arith, s.1, c.requires.counted.room.long, c.requires.plain.sized.code c.args.routine)
+    omega (arith, s.1, c.requires.counted.room.long c.args.routine)
 
 pub amount_at-amount-requires-clause-room : goal.amount_at-amount-requires-clause-room
 amount_at-amount-requires-clause-room c = λ k. omega (arith, c.requires.counted.room.small k)

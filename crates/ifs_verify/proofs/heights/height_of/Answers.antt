@@ -13,7 +13,7 @@ loop-place-init c =
     record {
       stands = subst (λ (list : List Kind). Stands image c.args.routine 0 list c.args.brought.now.items) (sym c.new-here.ensures)
           (stands_first image c.args.routine c.args.brought.now.items (some_code image c.args.routine c.requires.plain.ends c.requires.routine)
-          (c.requires.plain.sized.code c.args.routine) c.requires.clear);
+          c.requires.clear);
       holds = λ place below. absurd (omega arith);
       least = λ bound all. omega arith;
     }
