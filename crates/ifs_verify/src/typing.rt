@@ -4,7 +4,7 @@
 //! lists that jumps brought to later places; where the pass comes to such a place by falling through,
 //! both have to be the same.
 
-ghost use Rattle.std.specs.Prelude.{ℕ, ◌≡◌, ◌≢◌, ◌+◌, ◌^◌, ◌<◌, ◌≤◌, List, Option, Some, None, [], length, slice_index, slice_set, IfOk, OnOk, IfErr};
+ghost use Rattle.std.specs.Prelude.{ℕ, ◌≡◌, ◌≢◌, ◌+◌, ◌^◌, ◌<◌, ◌≤◌, List, Option, Some, None, length, slice_index, IfOk, OnOk, IfErr};
 ghost use Rattle.std.specs.Bool.{OnTrue, OnFalse};
 ghost use Rattle.ifs_base.specs.declared.op.Kind.{Kind};
 ghost use Rattle.ifs_base.specs.declared.op.Op.TheVariants.{Ret};
