@@ -1,2 +1,6 @@
 mod Mentioned
+mod Decided
 mod Places
+mod Filled
+mod Fitting
+mod Refusals
