@@ -22,7 +22,7 @@ use Rattle.ifs_policy.specs.Faults.{IsFull, IsSound, AreSound, IsKnown, AreKnown
 use Rattle.ifs_policy.specs.Fits.{TableFits, TestsFit, TablesFit}
 
 -- An entry that is inserted was there already, or goes last.
-insert_cases : {T : Type 0} (eq : T → T → Bool) (Q : List T → Type 0) (xs : List T) (x : T)
+pub insert_cases : {T : Type 0} (eq : T → T → Bool) (Q : List T → Type 0) (xs : List T) (x : T)
     → (list_any (eq x) xs ≡ true → Q xs) → (list_any (eq x) xs ≡ false → Q (xs ++ x ∷ [])) → Q (insert_key eq xs x)
 insert_cases {T} eq Q xs x there absent = by (list_any (eq x) xs) there absent
   where

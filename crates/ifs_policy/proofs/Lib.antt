@@ -4,3 +4,5 @@ mod Places
 mod Filled
 mod Fitting
 mod Refusals
+mod OneRefusal
+mod Ordered

@@ -11,7 +11,7 @@ use Rattle.ifs_policy.specs.Faults.{AreSound, FirstBroken, AreKnown, FirstUnknow
 use Rattle.ifs_policy.specs.Placed.{place_items, Resolves}
 use Rattle.ifs_policy.specs.inner.Entries.{IsFirst}
 
-broken_not_sound : (names : Names) (mentions : List Mentioned) (fault : ResolveFault) → FirstBroken names mentions fault → ¬ AreSound names mentions
+pub broken_not_sound : (names : Names) (mentions : List Mentioned) (fault : ResolveFault) → FirstBroken names mentions fault → ¬ AreSound names mentions
 broken_not_sound names [] fault h sound = h
 broken_not_sound names (mention ∷ rest) fault (inl lowest) sound = sound.0 fault lowest.broken
 broken_not_sound names (mention ∷ rest) fault (inr later) sound = broken_not_sound (after names mention) rest fault later.1 sound.1
