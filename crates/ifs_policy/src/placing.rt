@@ -7,7 +7,7 @@ ghost use Rattle.ifs_policy.specs.inner.Sized.{IsSized, lent, place_statement};
 
 use crate::policy::{Handlers, PolicyBlock, PolicyParts, Single};
 use crate::table::Table;
-use crate::tables::{ExternalTest, Tables};
+use crate::tables::{Tables, test_of};
 use ifs_base::{CommandId, IfaceId, Items, StateId, TestId, Text};
 use ifs_parse::{Action, Actions, Condition, Item, Name, Node, Part, Statement, Test};
 use std::alloc::{AllocError, Global};
@@ -31,10 +31,7 @@ fn place_single(tables: &Tables, test: &Test) -> Result<Single, AllocError>
             Ok(Single::LinkIs(interface, *state))
         }
         Test::External(command, period) => {
-            let entry = ExternalTest {
-                command: command.text.clone()?,
-                period: *period,
-            };
+            let entry = test_of(command, *period)?;
             let place = tables.tests.place_of(&entry) as u16;
             Ok(Single::TestIs(TestId(place)))
         }
