@@ -17,6 +17,7 @@ mod ropes;
 mod scans;
 mod token;
 
+pub use characters::is_reserved;
 pub use fault::LexFault;
 pub use reading::tokens;
 pub use token::{Token, What};
