@@ -17,3 +17,6 @@ pub use condition::{Condition, Node};
 pub use fault::ParseFault;
 pub use parsing::parse;
 pub use tree::{Action, Actions, Item, Name, Part, Test, Tree, Wish};
+
+#[cfg(test)]
+mod tests;
