@@ -1,6 +1,7 @@
 //! The tree of a policy.
 
 ghost use Rattle.std.specs.Prelude.{◌≡◌};
+ghost use Rattle.ifs_parse.specs.Files.{file};
 
 use crate::block::{Block, Statement};
 use ifs_base::{Items, LinkState, Span, Text};
@@ -75,6 +76,13 @@ impl Model for Tree {
 }
 
 impl Tree {
+    /// The tree of these items and notes. Takes no memory.
+    pub(crate) fn new(items: Vec<Item>, notes: Vec<u32>) -> Self
+        ensures { result ≡ file items.items notes.items }
+    {
+        Tree { items, notes }
+    }
+
     /// What the policy is made of, in text order.
     pub fn items(&self) -> &[Item]
         ensures { result.now ≡ self.now.items }
