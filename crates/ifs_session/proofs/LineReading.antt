@@ -115,26 +115,30 @@ pub last_line : {kept : ArrayVec ℕ} {is_longer : Bool} {text : List ℕ} {befo
     → false ≡ (length kept.items == 0) → Keeps at.left left × IsAtEnd left × (faults ≡ at.faults)
     → ReadsLine (record { kept = kept; is_longer = is_longer; is_ended = false }) text before (record { left = left; faults = faults; budget = at.budget })
 last_line {kept} {is_longer} {text} {before} {at} left faults h some end = record {
-  plain = h.plain;
+  read = record {
+    plain = h.plain;
+    given = subst (λ t. Consumes before.left left t) (sym (append-nil text)) (consumes_kept before.left at.left left text h.given end.0);
+    spent = omega (arith, h.spent, ap length (append-nil text));
+    same_faults = end.2 ∙ h.same_faults;
+    last = λ _. (omega (arith, some_kept _ some, ap length h.kept_is, length-take 256 text), end.1);
+  };
   kept = h.kept_is;
   longer = h.longer;
-  given = subst (λ t. Consumes before.left left t) (sym (append-nil text)) (consumes_kept before.left at.left left text h.given end.0);
-  spent = omega (arith, h.spent, ap length (append-nil text));
-  same_faults = end.2 ∙ h.same_faults;
-  last = λ _. (omega (arith, some_kept _ some, ap length h.kept_is, length-take 256 text), end.1);
 }
 
 pub ended_line : {kept : ArrayVec ℕ} {is_longer : Bool} {text : List ℕ} {before at : Intake} (byte : ℕ) (left : Option (List ℕ)) (faults : Option ℕ) → Partway kept.items is_longer text before at
     → byte ≡ 10 → at.budget ≢ 0 → Consumes at.left left (byte ∷ []) → faults ≡ at.faults
     → ReadsLine (record { kept = kept; is_longer = is_longer; is_ended = true }) text before (record { left = left; faults = faults; budget = at.budget - 1 })
 ended_line {kept} {is_longer} {text} {before} {at} byte left faults h newline more given same = record {
-  plain = h.plain;
+  read = record {
+    plain = h.plain;
+    given = consumes_more before.left at.left left text (10 ∷ []) h.given (subst (λ b. Consumes at.left left (b ∷ [])) newline given);
+    spent = omega (arith, h.spent, length-append text (10 ∷ []));
+    same_faults = same ∙ h.same_faults;
+    last = λ e. cc;
+  };
   kept = h.kept_is;
   longer = h.longer;
-  given = consumes_more before.left at.left left text (10 ∷ []) h.given (subst (λ b. Consumes at.left left (b ∷ [])) newline given);
-  spent = omega (arith, h.spent, length-append text (10 ∷ []));
-  same_faults = same ∙ h.same_faults;
-  last = λ e. cc;
 }
 
 pub too_much : {kept : List ℕ} {is_longer : Bool} {text : List ℕ} {before at : Intake} (byte : ℕ) (left : Option (List ℕ)) (faults : Option ℕ) → Partway kept is_longer text before at

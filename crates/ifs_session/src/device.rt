@@ -1,7 +1,7 @@
 //! Readers and writers of bytes.
 
 ghost use Rattle.std.specs.Prelude.{List, [], ℕ, Option, None, IsTrue, OnOk};
-ghost use Rattle.ifs_session.specs.Device.{NextGives, ReadyGives, HasLine, PutGives, HoldsNothing};
+ghost use Rattle.ifs_session.specs.Device.{NextGives, ReadyGives, AreAtHand, MaySkip, SkipGives, HasLine, PutGives, HoldsNothing};
 
 use thiserror::Error;
 
@@ -28,6 +28,24 @@ pub trait ByteIn {
     fn next(&mut self) -> Result<Option<u8>, DeviceFault>
         ensures gives { NextGives result (left self.old) (left self.new) (faults self.old) (faults self.new) }
         ensures at_once { ReadyGives result (ready self.old) (ready self.new) };
+
+    /// The first of the bytes that can be read without waiting, as many as the reader has at hand; none
+    /// where that is not known.
+    fn peek(&self) -> &[u8]
+        ensures { AreAtHand result.now (ready self.now) }
+    {
+        &[]
+    }
+
+    /// Takes so many bytes, which can be read without waiting.
+    fn skip(&mut self, count: usize)
+        requires { MaySkip count (ready self.old) }
+        ensures { SkipGives count (ready self.old) (ready self.new) (left self.old) (left self.new) (faults self.old) (faults self.new) }
+    {
+        for _ in 0..count {
+            let _byte = self.next();
+        }
+    }
 
     /// Whether a line of at most `most` bytes, its newline among them, can be read without waiting.
     /// `false` where that is not known.

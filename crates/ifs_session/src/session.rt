@@ -1,19 +1,19 @@
 //! Sessions: request lines in, reply lines out.
 
-ghost use Rattle.std.specs.Prelude.{◌≡◌, ◌≢◌, ◌⊎◌, ◌+◌, ◌<◌, ◌^◌, [], Ok, Err, OnOk};
+ghost use Rattle.std.specs.Prelude.{◌≡◌, ◌≢◌, ◌⊎◌, ◌+◌, ◌<◌, ◌^◌, [], None, Ok, Err, OnOk, IfOk, IfSome, MatchResult};
 ghost use Rattle.ifs_core.specs.Event.{Behaviour};
 ghost use Rattle.ifs_core.specs.Machine.{IsBehaviour};
 ghost use Rattle.ifs_session.specs.Device.{PutGives, HasLine, HoldsNothing};
 ghost use Rattle.ifs_session.specs.Requests.{ALink};
 ghost use Rattle.ifs_session.specs.inner.Parsing.{told_by};
 ghost use Rattle.ifs_session.specs.Sessions.{deed, step_deed, SessionGives};
-ghost use Rattle.ifs_session.specs.inner.Serving.{kind_of, kept_asked, with_line, ServeGives};
+ghost use Rattle.ifs_session.specs.inner.Serving.{kind_of, with_line, ServeGives, NextServed};
 
 use crate::device::{ByteIn, ByteOut, DeviceFault};
 use crate::fault::SessionFault;
-use crate::lines::{Line, next_line};
+use crate::lines::{line_at_hand, next_line};
 use crate::replies::{put_fault, put_reply, put_status, put_trace};
-use crate::request::{Request, RequestFault, parse_request};
+use crate::request::{Request, RequestFault, request_of};
 use ifs_base::LinkState;
 use ifs_core::{Core, Step};
 
@@ -42,6 +42,15 @@ pub(crate) enum LineKind {
     Stop,
 }
 
+/// A line that was served.
+#[derive(Clone, Copy, Debug, PartialEq, Eq)]
+pub(crate) struct Served {
+    /// What it was.
+    pub kind: LineKind,
+    /// Whether a newline ends it; else the input does.
+    pub is_ended: bool,
+}
+
 /// Serves request lines until `stop`, whose rest is left unread, or to the end of input: makes their
 /// steps and writes their replies, one after the other. Each reply has gone out before the next
 /// line is waited for.
@@ -66,22 +75,77 @@ pub fn simulate<R: ByteIn, W: ByteOut>(
     };
     let mut budget = INPUT;
     'lines: loop {
-        let Ok(()) = flush_before_wait(reader, writer, budget) else {
-            return Err(SessionFault::WriteFailed);
-        };
-        let Some(line) = next_line(reader, &mut budget)? else {
+        let Some(served) = serve_next(core, reader, writer, &mut budget)? else {
             return Ok(summary);
         };
-        let Ok(kind) = serve(core, writer, &line) else {
-            return Err(SessionFault::WriteFailed);
-        };
-        count(&mut summary, kind);
-        if summary.stopped || !line.is_ended {
+        count(&mut summary, served.kind);
+        if summary.stopped || !served.is_ended {
             let Ok(()) = writer.flush() else {
                 return Err(SessionFault::WriteFailed);
             };
             return Ok(summary);
         }
+    }
+}
+
+/// Serves the next line; `None` at the end of input. A line that stands whole among the bytes at hand
+/// is served from where it stands.
+fn serve_next<R: ByteIn, W: ByteOut>(
+    core: &mut Core,
+    reader: &mut R,
+    writer: &mut W,
+    budget: &mut u32,
+) -> Result<Option<Served>, SessionFault>
+    ensures next { (b : Behaviour) → IsBehaviour core.old.image b → NextServed b result
+        (record { core = core.old; left = R.left reader.old; written = W.written writer.old; read_faults = R.faults reader.old; write_faults = W.faults writer.old }) budget.old
+        (record { core = core.new; left = R.left reader.new; written = W.written writer.new; read_faults = R.faults reader.new; write_faults = W.faults writer.new }) budget.new }
+    ensures counts { IfOk result (λ next. IfSome next (λ _. budget.new < budget.old)) }
+    ensures out { MatchResult result (λ next. next ≡ None → HoldsNothing (W.held writer.new)) (λ fault. fault ≢ SessionFault.WriteFailed → HoldsNothing (W.held writer.new)) }
+{
+    let Some(line) = line_at_hand(reader.peek(), *budget) else {
+        return serve_read(core, reader, writer, budget);
+    };
+    let length = line.len() + 1;
+    let served = serve(core, writer, request_of(line));
+    reader.skip(length);
+    *budget -= length as u32;
+    match served {
+        Ok(kind) => Ok(Some(Served {
+            kind,
+            is_ended: true,
+        })),
+        Err(_) => Err(SessionFault::WriteFailed),
+    }
+}
+
+/// Reads the next line byte by byte and serves it, once what was written has gone out if the line is
+/// to be waited for; `None` at the end of input.
+#[cold]
+#[inline(never)]
+fn serve_read<R: ByteIn, W: ByteOut>(
+    core: &mut Core,
+    reader: &mut R,
+    writer: &mut W,
+    budget: &mut u32,
+) -> Result<Option<Served>, SessionFault>
+    ensures next { (b : Behaviour) → IsBehaviour core.old.image b → NextServed b result
+        (record { core = core.old; left = R.left reader.old; written = W.written writer.old; read_faults = R.faults reader.old; write_faults = W.faults writer.old }) budget.old
+        (record { core = core.new; left = R.left reader.new; written = W.written writer.new; read_faults = R.faults reader.new; write_faults = W.faults writer.new }) budget.new }
+    ensures counts { IfOk result (λ next. IfSome next (λ _. budget.new < budget.old)) }
+    ensures out { MatchResult result (λ next. next ≡ None → HoldsNothing (W.held writer.new)) (λ fault. fault ≢ SessionFault.WriteFailed → HoldsNothing (W.held writer.new)) }
+{
+    let Ok(()) = flush_before_wait(reader, writer, *budget) else {
+        return Err(SessionFault::WriteFailed);
+    };
+    let Some(line) = next_line(reader, budget)? else {
+        return Ok(None);
+    };
+    match serve(core, writer, line.request()) {
+        Ok(kind) => Ok(Some(Served {
+            kind,
+            is_ended: line.is_ended,
+        })),
+        Err(_) => Err(SessionFault::WriteFailed),
     }
 }
 
@@ -115,18 +179,18 @@ fn count(summary: &mut Summary, kind: LineKind)
     }
 }
 
-/// Serves a line, and says of what kind it was.
-fn serve<W: ByteOut>(core: &mut Core, writer: &mut W, line: &Line) -> Result<LineKind, DeviceFault>
+/// Serves what a line asks for, and says of what kind the line was.
+fn serve<W: ByteOut>(
+    core: &mut Core,
+    writer: &mut W,
+    asked: Result<Request<'_>, RequestFault>,
+) -> Result<LineKind, DeviceFault>
     ensures image { core.new.image ≡ core.old.image }
     ensures served { (b : Behaviour) → IsBehaviour core.old.image b
-        → ServeGives (deed b core.old.image (kept_asked line.now) core.old.state) (kind_of core.old.image (kept_asked line.now)) result core.new.state
+        → ServeGives (deed b core.old.image (told_by asked.entry) core.old.state) (kind_of core.old.image (told_by asked.entry)) result core.new.state
         (W.written writer.old) (W.written writer.new) (W.faults writer.old) (W.faults writer.new) }
 {
-    if line.is_longer {
-        put_fault(writer, RequestFault::TooLong)?;
-        return Ok(LineKind::Other);
-    }
-    match parse_request(line.kept.as_slice()) {
+    match asked {
         Err(fault) => {
             put_fault(writer, fault)?;
             Ok(LineKind::Other)

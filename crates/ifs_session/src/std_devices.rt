@@ -1,19 +1,19 @@
 //! Devices over the readers and writers of std.
 
-ghost use Rattle.std.specs.Prelude.{◌≡◌, ℕ, ◌≤◌, ◌↔◌, [], ◌∷◌, take, Contains, length, Some, MatchOption, IfOk, OnOk, OnErr, IsTrue};
+ghost use Rattle.std.specs.Prelude.{◌≡◌, ℕ, ◌≤◌, ◌↔◌, [], ◌∷◌, take, Contains, length, None, Some, MatchOption, IfOk, OnOk, OnErr, IsTrue};
 ghost use Rattle.std.specs.Io.KnownBytes.{Keeps, IsAtEnd, ReadConsumes};
-ghost use Rattle.ifs_session.specs.Device.{HasLine};
+ghost use Rattle.ifs_session.specs.Device.{NextGives, HasLine};
 
 use crate::device::{ByteIn, ByteOut, DeviceFault};
 use std::io::{ErrorKind, Read, Write};
 
 /// How many bytes a reader asks for at once.
-const BUFFER: usize = 4096;
+const BUFFER: usize = 65_536;
 
 /// How often a read is tried again that was interrupted.
 const TRIES: u32 = 1000;
 
-/// A reader of bytes over one of std, with a buffer of 4,096 bytes. It tells the bytes that stand in
+/// A reader of bytes over one of std, with a buffer of 65,536 bytes. It tells the bytes that stand in
 /// its buffer, which can be read without waiting, and where that reader tells its own, all that are
 /// left.
 #[derive(Debug, Drop)]
@@ -22,7 +22,7 @@ pub struct FromRead<R> {
     buffer: [u8; BUFFER],
     start: usize,
     end: usize,
-    ghost within: { (start ≤ end) × (end ≤ 4096) },
+    ghost within: { (start ≤ end) × (end ≤ 65536) },
 }
 
 impl<R: Read> FromRead<R> {
@@ -59,6 +59,17 @@ impl<R: Read> FromRead<R> {
         let byte = self.buffer[self.start];
         self.start += 1;
         Some(byte)
+    }
+
+    /// The next byte after the buffer, which is empty, is filled anew. It stands apart, so that `next` is short.
+    #[cold]
+    #[inline(never)]
+    fn refilled(&mut self) -> Result<Option<u8>, DeviceFault>
+        requires { buffered self.old ≡ [] }
+        ensures { NextGives result (left_over R.remaining self.old) (left_over R.remaining self.new) None None }
+    {
+        self.fill()?;
+        Ok(self.pop())
     }
 
     /// Fills the buffer, which is empty, with what one read gives.
@@ -113,8 +124,15 @@ impl<R: Read> ByteIn for FromRead<R> {
         if let Some(byte) = self.pop() {
             return Ok(Some(byte));
         }
-        self.fill()?;
-        Ok(self.pop())
+        self.refilled()
+    }
+
+    fn peek(&self) -> &[u8] {
+        self.buffered()
+    }
+
+    fn skip(&mut self, count: usize) {
+        self.start += count;
     }
 
     fn has_line(&self, most: u32) -> bool

@@ -22,15 +22,26 @@ pub record Intake : Type 0 where
   pub faults : Option ℕ
   pub budget : ℕ
 
--- A line was read: this text, of which the first 256 bytes are kept. A line that no newline ends has at least one byte and stands at the end of input.
-pub record ReadsLine (line : Line) (text : List ℕ) (before after : Intake) : Type 0 where
+-- A line was read, this text. One that no newline ends has at least one byte and stands at the end of input.
+pub record ReadsText (text : List ℕ) (ended : Bool) (before after : Intake) : Type 0 where
   pub plain : HasNoNewline text
+  pub given : Consumes before.left after.left (text ++ ending ended)
+  pub spent : before.budget ≡ length (text ++ ending ended) + after.budget
+  pub same_faults : after.faults ≡ before.faults
+  pub last : ended ≡ false → (0 < length text) × IsAtEnd after.left
+
+-- A line was read, of whose text the first 256 bytes are kept.
+pub record ReadsLine (line : Line) (text : List ℕ) (before after : Intake) : Type 0 where
+  pub read : ReadsText text line.is_ended before after
   pub kept : line.kept.items ≡ take 256 text
   pub longer : line.is_longer ≡ nat_lt 256 (length text)
-  pub given : Consumes before.left after.left (text ++ ending line.is_ended)
-  pub spent : before.budget ≡ length (text ++ ending line.is_ended) + after.budget
-  pub same_faults : after.faults ≡ before.faults
-  pub last : line.is_ended ≡ false → (0 < length text) × IsAtEnd after.left
+
+-- A line of at most so many bytes, its newline among them, stands whole at the front of these bytes.
+pub record StandsFirst (line : List ℕ) (most : ℕ) (bytes : List ℕ) : Type 0 where
+  pub plain : HasNoNewline line
+  pub within : length line < most
+  pub rest : List ℕ
+  pub front : bytes ≡ line ++ 10 ∷ rest
 
 -- The input was at its end.
 pub record ReadsNothing (before after : Intake) : Type 0 where
