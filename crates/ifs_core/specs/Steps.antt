@@ -12,6 +12,9 @@ use Rattle.ifs_core.specs.declared.step.Step.{Step}
 use Rattle.ifs_core.specs.declared.step.Step.TheVariants.{Link, Finished, Tick, Take}
 use Rattle.ifs_core.specs.declared.step.Reply.{Reply}
 use Rattle.ifs_core.specs.declared.step.Reply.TheVariants.{Done, Same, Ticked, Taken, Empty, Busy, Stale, Backwards, NoSuch}
+use Rattle.ifs_core.specs.declared.step.Outcome.{Outcome}
+use Rattle.ifs_core.specs.declared.step.Outcome.TheVariants as outcomes
+use Rattle.ifs_core.specs.declared.step.Lists.{Lists}
 use Rattle.ifs_core.specs.declared.step.Answer.{Answer}
 use Rattle.ifs_core.specs.declared.step.Answer.TheVariants as answers
 use Rattle.ifs_core.specs.declared.step.Record.{Record}
@@ -32,6 +35,23 @@ pub record Turn : Type 0 where
 pub record Makes (t : Turn) (reply : Reply) (state : CoreState) : Type 0 where
   pub replied : reply ≡ t.reply
   pub came_to : state ≡ t.next
+
+-- The reply that an outcome makes with the lists that were lent to its step.
+abbrev pub reply_of : Outcome → Lists → Reply
+reply_of (outcomes.Done state cost) lists = Done state lists.effects.queued cost
+reply_of outcomes.Same lists = Same
+reply_of (outcomes.Ticked evaluated state cost exhausted) lists = Ticked evaluated state lists.effects.queued cost lists.starts exhausted
+reply_of (outcomes.Taken command) lists = Taken command
+reply_of outcomes.Empty lists = Empty
+reply_of outcomes.Busy lists = Busy
+reply_of outcomes.Stale lists = Stale
+reply_of outcomes.Backwards lists = Backwards
+reply_of outcomes.NoSuch lists = NoSuch
+
+-- The reply to the taking of a command, by the command that is answered.
+abbrev pub taken_reply : Option CommandId → Reply
+taken_reply None = Empty
+taken_reply (Some command) = Taken command
 
 -- How many instructions a reply says that its step executed; none where it tells of no evaluation.
 abbrev pub cost_told : Reply → ℕ

@@ -1,6 +1,8 @@
 //! Callers that have nothing but a core that was lent to them, or nothing but bytes.
 
 ghost use Rattle.std.specs.Prelude.{◌≡◌, All, IfOk};
+ghost use Rattle.ifs_machine.specs.Run.{IsCommand};
+ghost use Rattle.ifs_core.specs.Gateway.{IsListed};
 ghost use Rattle.ifs_core.specs.Machine.{KeepsBudgets};
 ghost use Rattle.ifs_core.specs.Steps.{cost_told, commands_told};
 ghost use Rattle.ifs_core.specs.Headline.{IsVerified, IsKept};
@@ -36,6 +38,63 @@ fn verified(alloc: Global, bytes: &[u8]) -> Result<Verified, VerifyFault>
     headline();
     let image = verify(alloc, bytes)?;
     Ok(image)
+}
+
+/// The name of a state of the image's list.
+fn name_of(core: &Core, state: StateId) -> &str
+    requires { IsListed core.now.image state }
+{
+    let Some(name) = core.state_name(state) else {
+        unreachable!()
+    };
+    name
+}
+
+/// The text of a command of the image's table.
+fn text_of(core: &Core, command: CommandId) -> &str
+    requires { IsCommand core.now.image command }
+{
+    let Some(text) = core.command_text(command) else {
+        unreachable!()
+    };
+    text
+}
+
+/// What a step names: the state that its reply tells, or the command that it hands out.
+fn named(core: &mut Core, step: Step) -> Option<&str> {
+    match core.step(step) {
+        Reply::Done { state, .. } | Reply::Ticked { state, .. } => Some(name_of(core, state)),
+        Reply::Taken(command) => Some(text_of(core, command)),
+        _ => None,
+    }
+}
+
+/// The name of the state in which a core stands.
+fn current_name(core: &Core) -> &str {
+    name_of(core, core.state())
+}
+
+/// The names of the states in the trace, one after the other.
+fn traced_names(alloc: Global, core: &Core) -> Result<String, AllocError> {
+    let mut names = String::new(alloc);
+    for index in 0..core.trace_len() {
+        let Some(record) = core.trace_at(index) else {
+            unreachable!()
+        };
+        names.push_str(name_of(core, record.state))?;
+    }
+    Ok(names)
+}
+
+#[test]
+fn names_of_a_lent_core(rt: HostRuntime) -> Result<(), Fail> {
+    let mut core = opened(&rt, rt.alloc(), images::FIRST_RUN);
+    assert_eq!(rt; current_name(&core), "a");
+    assert_eq!(rt; named(&mut core, LINK_UP), Some("a"));
+    assert_eq!(rt; named(&mut core, LINK_UP), None);
+    assert_eq!(rt; named(&mut core, Step::Take), Some("echo m"));
+    assert_eq!(rt; traced_names(rt.alloc(), &core)?.as_str(), "aaa");
+    Ok(())
 }
 
 #[test]
