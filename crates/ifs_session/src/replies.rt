@@ -2,6 +2,8 @@
 
 ghost use Rattle.std.specs.Prelude.{◌≡◌, ◌<◌, decimal, map, length};
 ghost use Rattle.std.specs.List.{flat_map};
+ghost use Rattle.ifs_core.specs.Gateway.{IsListed, IsReplyOf};
+ghost use Rattle.ifs_core.specs.Steps.{reply_of};
 ghost use Rattle.ifs_session.specs.Device.{PutGives};
 ghost use Rattle.ifs_base.specs.Words.{link_word, listed, quoted};
 ghost use Rattle.ifs_session.specs.Replies.{state_name, command_text, evaluation_words, start_word, starts_words, before_starts, taken_line, reply_line, status_numbers, status_line, yes_or_no, value_word, step_words, answer_word, answer_words, record_line, trace_lines, fault_line};
@@ -10,29 +12,29 @@ use crate::device::{ByteOut, DeviceFault};
 use crate::request::RequestFault;
 use crate::words::{put_commands, put_number, put_quoted};
 use ifs_base::{CommandId, LinkState, StateId};
-use ifs_core::{Answer, Core, Record, Reply, Step};
+use ifs_core::{Answer, Core, Lists, Outcome, Record, Step};
 use ifs_sched::Start;
 
 /// Writes the name of a state in quotes.
 fn put_state<W: ByteOut>(out: &mut W, core: &Core, state: StateId) -> Result<(), DeviceFault>
+    requires { IsListed core.now.image state }
     ensures { PutGives result (quoted (state_name core.now.image state.0)) (W.written out.old) (W.written out.new) (W.faults out.old) (W.faults out.new) }
 {
-    let name = match core.state_name(state) {
-        Some(name) => name.as_bytes(),
-        None => &[],
+    let Some(name) = core.state_name(state) else {
+        unreachable!()
     };
-    put_quoted(out, name)
+    put_quoted(out, name.as_bytes())
 }
 
 /// Writes the text of a command in quotes.
 fn put_command<W: ByteOut>(out: &mut W, core: &Core, command: CommandId) -> Result<(), DeviceFault>
+    requires { command.0 < length core.now.image.commands }
     ensures { PutGives result (quoted (command_text core.now.image command.0)) (W.written out.old) (W.written out.new) (W.faults out.old) (W.faults out.new) }
 {
-    let text = match core.command_text(command) {
-        Some(text) => text.as_bytes(),
-        None => &[],
+    let Some(text) = core.command_text(command) else {
+        unreachable!()
     };
-    put_quoted(out, text)
+    put_quoted(out, text.as_bytes())
 }
 
 /// Writes the state, the cost and the queued commands of an evaluation.
@@ -44,6 +46,7 @@ fn put_evaluation<W: ByteOut>(
     cost: u32,
     queued: &[CommandId],
 ) -> Result<(), DeviceFault>
+    requires { IsListed core.now.image state }
     ensures { PutGives result (evaluation_words core.now.image state.0 cost queued.now) (W.written out.old) (W.written out.new) (W.faults out.old) (W.faults out.new) }
 {
     put_state(out, core, state)?;
@@ -94,47 +97,44 @@ fn put_starts<W: ByteOut>(out: &mut W, starts: &[Start], exhausted: bool) -> Res
     Ok(())
 }
 
-/// Writes the reply line of a step.
+/// Writes the reply line of a step, by its outcome and its lists.
 #[tactic(auto, using(crate::proofs::Known::written_laws))]
 pub(crate) fn put_reply<W: ByteOut>(
     out: &mut W,
     core: &Core,
-    reply: &Reply,
+    outcome: Outcome,
+    lists: &Lists,
 ) -> Result<(), DeviceFault>
-    ensures { PutGives result (reply_line core.now.image reply.now) (W.written out.old) (W.written out.new) (W.faults out.old) (W.faults out.new) }
+    requires { IsReplyOf core.now.image (reply_of outcome lists.now) }
+    ensures { PutGives result (reply_line core.now.image (reply_of outcome lists.now)) (W.written out.old) (W.written out.new) (W.faults out.old) (W.faults out.new) }
 {
-    match reply {
-        Reply::Done {
-            state,
-            queued,
-            cost,
-        } => {
+    let queued = lists.effects.queued.as_slice();
+    match outcome {
+        Outcome::Done { state, cost } => {
             out.put(b"done ")?;
-            put_evaluation(out, core, *state, *cost, queued.as_slice())?;
+            put_evaluation(out, core, state, cost, queued)?;
             out.put(b"\n")?;
             Ok(())
         }
-        Reply::Ticked {
+        Outcome::Ticked {
             evaluated,
             state,
-            queued,
             cost,
-            starts,
             exhausted,
         } => {
             out.put(b"tick ")?;
-            put_before_starts(out, core, *evaluated, *state, *cost, queued.as_slice())?;
-            put_starts(out, starts.as_slice(), *exhausted)?;
+            put_before_starts(out, core, evaluated, state, cost, queued)?;
+            put_starts(out, lists.starts.as_slice(), exhausted)?;
             out.put(b"\n")?;
             Ok(())
         }
-        Reply::Taken(command) => put_taken(out, core, *command),
-        Reply::Same => out.put(b"same\n"),
-        Reply::Empty => out.put(b"empty\n"),
-        Reply::Busy => out.put(b"busy\n"),
-        Reply::Stale => out.put(b"stale\n"),
-        Reply::Backwards => out.put(b"backwards\n"),
-        Reply::NoSuch => out.put(b"nosuch\n"),
+        Outcome::Taken(command) => put_taken(out, core, command),
+        Outcome::Same => out.put(b"same\n"),
+        Outcome::Empty => out.put(b"empty\n"),
+        Outcome::Busy => out.put(b"busy\n"),
+        Outcome::Stale => out.put(b"stale\n"),
+        Outcome::Backwards => out.put(b"backwards\n"),
+        Outcome::NoSuch => out.put(b"nosuch\n"),
     }
 }
 
@@ -148,6 +148,7 @@ fn put_before_starts<W: ByteOut>(
     cost: u32,
     queued: &[CommandId],
 ) -> Result<(), DeviceFault>
+    requires { IsListed core.now.image state }
     ensures { PutGives result (before_starts evaluated (evaluation_words core.now.image state.0 cost queued.now)) (W.written out.old) (W.written out.new) (W.faults out.old) (W.faults out.new) }
 {
     if !evaluated {
@@ -161,6 +162,7 @@ fn put_before_starts<W: ByteOut>(
 /// Writes the reply line of a command that was taken.
 #[tactic(auto, using(crate::proofs::Known::written_laws))]
 fn put_taken<W: ByteOut>(out: &mut W, core: &Core, command: CommandId) -> Result<(), DeviceFault>
+    requires { command.0 < length core.now.image.commands }
     ensures { PutGives result (taken_line core.now.image command.0) (W.written out.old) (W.written out.new) (W.faults out.old) (W.faults out.new) }
 {
     out.put(b"taken ")?;
@@ -278,6 +280,7 @@ fn put_answer<W: ByteOut>(out: &mut W, answer: Answer) -> Result<(), DeviceFault
 /// Writes the line of a record of the trace.
 #[tactic(auto, using(crate::proofs::Known::written_laws))]
 fn put_record<W: ByteOut>(out: &mut W, core: &Core, item: &Record) -> Result<(), DeviceFault>
+    requires { IsListed core.now.image item.now.state }
     ensures { PutGives result (record_line core.now.image item.now) (W.written out.old) (W.written out.new) (W.faults out.old) (W.faults out.new) }
 {
     put_step(out, item.step)?;
@@ -290,6 +293,7 @@ fn put_record<W: ByteOut>(out: &mut W, core: &Core, item: &Record) -> Result<(),
 /// Writes what a record says of the answer.
 #[tactic(auto, using(crate::proofs::Known::written_laws))]
 fn put_answer_words<W: ByteOut>(out: &mut W, core: &Core, item: &Record) -> Result<(), DeviceFault>
+    requires { IsListed core.now.image item.now.state }
     ensures { PutGives result (answer_words core.now.image item.now) (W.written out.old) (W.written out.new) (W.faults out.old) (W.faults out.new) }
 {
     put_answer(out, item.answer)?;
@@ -321,7 +325,7 @@ fn put_records<W: ByteOut>(out: &mut W, core: &Core) -> Result<(), DeviceFault>
 {
     for index in 0..core.trace_len() {
         let Some(item) = core.trace_at(index) else {
-            return Ok(());
+            unreachable!()
         };
         put_record(out, core, &item)?;
     }

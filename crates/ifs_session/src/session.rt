@@ -15,7 +15,7 @@ use crate::lines::{line_at_hand, next_line};
 use crate::replies::{put_fault, put_reply, put_status, put_trace};
 use crate::request::{Request, RequestFault, request_of};
 use ifs_base::LinkState;
-use ifs_core::{Core, Step};
+use ifs_core::{Core, Lists, Step};
 
 /// The most bytes of requests that a session reads.
 const INPUT: u32 = 16_777_216;
@@ -73,9 +73,10 @@ pub fn simulate<R: ByteIn, W: ByteOut>(
         steps: 0,
         stopped: false,
     };
+    let mut lists = Lists::new();
     let mut budget = INPUT;
     'lines: loop {
-        let Some(served) = serve_next(core, reader, writer, &mut budget)? else {
+        let Some(served) = serve_next(core, &mut lists, reader, writer, &mut budget)? else {
             return Ok(summary);
         };
         count(&mut summary, served.kind);
@@ -92,6 +93,7 @@ pub fn simulate<R: ByteIn, W: ByteOut>(
 /// is served from where it stands.
 fn serve_next<R: ByteIn, W: ByteOut>(
     core: &mut Core,
+    lists: &mut Lists,
     reader: &mut R,
     writer: &mut W,
     budget: &mut u32,
@@ -103,10 +105,10 @@ fn serve_next<R: ByteIn, W: ByteOut>(
     ensures out { MatchResult result (λ next. next ≡ None → HoldsNothing (W.held writer.new)) (λ fault. fault ≢ SessionFault.WriteFailed → HoldsNothing (W.held writer.new)) }
 {
     let Some(line) = line_at_hand(reader.peek(), *budget) else {
-        return serve_read(core, reader, writer, budget);
+        return serve_read(core, lists, reader, writer, budget);
     };
     let length = line.len() + 1;
-    let served = serve(core, writer, request_of(line));
+    let served = serve(core, lists, writer, request_of(line));
     reader.skip(length);
     *budget -= length as u32;
     match served {
@@ -124,6 +126,7 @@ fn serve_next<R: ByteIn, W: ByteOut>(
 #[inline(never)]
 fn serve_read<R: ByteIn, W: ByteOut>(
     core: &mut Core,
+    lists: &mut Lists,
     reader: &mut R,
     writer: &mut W,
     budget: &mut u32,
@@ -140,7 +143,7 @@ fn serve_read<R: ByteIn, W: ByteOut>(
     let Some(line) = next_line(reader, budget)? else {
         return Ok(None);
     };
-    match serve(core, writer, line.request()) {
+    match serve(core, lists, writer, line.request()) {
         Ok(kind) => Ok(Some(Served {
             kind,
             is_ended: line.is_ended,
@@ -182,6 +185,7 @@ fn count(summary: &mut Summary, kind: LineKind)
 /// Serves what a line asks for, and says of what kind the line was.
 fn serve<W: ByteOut>(
     core: &mut Core,
+    lists: &mut Lists,
     writer: &mut W,
     asked: Result<Request<'_>, RequestFault>,
 ) -> Result<LineKind, DeviceFault>
@@ -195,13 +199,14 @@ fn serve<W: ByteOut>(
             put_fault(writer, fault)?;
             Ok(LineKind::Other)
         }
-        Ok(request) => serve_request(core, writer, request),
+        Ok(request) => serve_request(core, lists, writer, request),
     }
 }
 
 /// Serves a request, and says of what kind it was.
 fn serve_request<W: ByteOut>(
     core: &mut Core,
+    lists: &mut Lists,
     writer: &mut W,
     request: Request<'_>,
 ) -> Result<LineKind, DeviceFault>
@@ -211,14 +216,15 @@ fn serve_request<W: ByteOut>(
         (W.written writer.old) (W.written writer.new) (W.faults writer.old) (W.faults writer.new) }
 {
     match request {
-        Request::Link(name, link) => serve_link(core, writer, name, link),
+        Request::Link(name, link) => serve_link(core, lists, writer, name, link),
         Request::Result(test, run, value) => make_step(
             core,
+            lists,
             writer,
             Step::Finished(test, run, value),
         ),
-        Request::Tick(now) => make_step(core, writer, Step::Tick(now)),
-        Request::Take => make_step(core, writer, Step::Take),
+        Request::Tick(now) => make_step(core, lists, writer, Step::Tick(now)),
+        Request::Take => make_step(core, lists, writer, Step::Take),
         Request::Status => {
             put_status(writer, core)?;
             Ok(LineKind::Other)
@@ -237,6 +243,7 @@ fn serve_request<W: ByteOut>(
 /// Serves a request for the link state of the interface of this name.
 fn serve_link<W: ByteOut>(
     core: &mut Core,
+    lists: &mut Lists,
     writer: &mut W,
     name: &[u8],
     link: LinkState,
@@ -251,13 +258,14 @@ fn serve_link<W: ByteOut>(
             put_fault(writer, RequestFault::NoInterface)?;
             Ok(LineKind::Other)
         }
-        Some(interface) => make_step(core, writer, Step::Link(interface, link)),
+        Some(interface) => make_step(core, lists, writer, Step::Link(interface, link)),
     }
 }
 
-/// Makes a step and writes its reply.
+/// Makes a step, whose lists go into the place that is lent, and writes its reply.
 fn make_step<W: ByteOut>(
     core: &mut Core,
+    lists: &mut Lists,
     writer: &mut W,
     step: Step,
 ) -> Result<LineKind, DeviceFault>
@@ -266,7 +274,7 @@ fn make_step<W: ByteOut>(
         → ServeGives (step_deed b core.old.image step core.old.state) LineKind.Step result core.new.state
         (W.written writer.old) (W.written writer.new) (W.faults writer.old) (W.faults writer.new) }
 {
-    let reply = core.step(step);
-    put_reply(writer, core, &reply)?;
+    let outcome = core.step_into(step, lists);
+    put_reply(writer, core, outcome, lists)?;
     Ok(LineKind::Step)
 }
