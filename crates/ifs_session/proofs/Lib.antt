@@ -11,4 +11,5 @@ pub mod Quoting
 pub mod OneAnswer
 pub mod Serving
 pub mod Skipping
+pub mod Spelling
 pub mod Spaces

@@ -49,10 +49,10 @@ const NEVER: u32 = u32::MAX;
 
 /// How many bytes a read gives at most, which read fails and how, and how often the reader fails.
 const READERS: [(&str, usize, u32, ErrorKind, u32); 6] = [
-    ("whole buffers", 4096, NEVER, ErrorKind::Other, 0),
+    ("whole buffers", 65_536, NEVER, ErrorKind::Other, 0),
     (
         "a byte less than a buffer",
-        4095,
+        65_535,
         NEVER,
         ErrorKind::Other,
         0,
@@ -60,20 +60,20 @@ const READERS: [(&str, usize, u32, ErrorKind, u32); 6] = [
     ("single bytes", 1, NEVER, ErrorKind::Other, 0),
     (
         "interrupted between buffers",
-        4096,
+        65_536,
         1,
         ErrorKind::Interrupted,
         0,
     ),
-    ("failing at once", 4096, 0, ErrorKind::Other, 1),
-    ("failing between buffers", 4096, 2, ErrorKind::Other, 1),
+    ("failing at once", 65_536, 0, ErrorKind::Other, 1),
+    ("failing between buffers", 65_536, 2, ErrorKind::Other, 1),
 ];
 
 /// Each byte comes, in its order, over several buffers; a read that fails is told as such, once, and
 /// is not the end of input.
 #[test]
 fn bytes_over_several_buffers(rt: HostRuntime) -> Result<(), Fail> {
-    let bytes = pattern(rt.alloc(), 10_000)?;
+    let bytes = pattern(rt.alloc(), 150_000)?;
     for (name, most, fails_at, kind, failures) in READERS {
         let mut input = FromRead::new(Pieces {
             left: bytes.as_slice(),
@@ -119,6 +119,40 @@ fn lines_without_waiting(rt: HostRuntime) -> Result<(), Fail> {
         }
         assert_eq!(rt; input.has_line(most), expected, "{name}");
     }
+    Ok(())
+}
+
+/// The bytes at hand are those of the buffer, and the ones that are taken are not given again.
+#[test]
+fn bytes_at_hand(rt: HostRuntime) -> Result<(), Fail> {
+    let mut input = FromRead::new(b"abcdef".as_slice());
+    assert!(rt; input.peek().is_empty());
+    assert_eq!(rt; input.next(), Ok(Some(b'a')));
+    assert_eq!(rt; input.peek(), b"bcdef".as_slice());
+    if input.peek().len() >= 2 {
+        input.skip(2);
+    }
+    assert_eq!(rt; input.next(), Ok(Some(b'd')));
+    assert_eq!(rt; input.peek(), b"ef".as_slice());
+    Ok(())
+}
+
+/// A reader that lends nothing takes bytes one by one.
+#[test]
+fn bytes_taken_one_by_one(rt: HostRuntime) -> Result<(), Fail> {
+    let shown = Cell::new(0);
+    let mut input = Waiting {
+        ready: b"abc",
+        later: b"",
+        lengths: &[],
+        shown: &shown,
+        late: 0,
+    };
+    assert!(rt; input.peek().is_empty());
+    if input.ready.len() >= 2 {
+        input.skip(2);
+    }
+    assert_eq!(rt; input.next(), Ok(Some(b'c')));
     Ok(())
 }
 
