@@ -1,5 +1,5 @@
 -- Devices: what a reader and a writer of bytes tell, where they tell it, of their bytes and failures.
-use Rattle.std.specs.Prelude.{◌≡◌, ℕ, ◌+◌, ◌-◌, ◌^◌, ◌≤◌, min, List, [], ◌∷◌, ◌++◌, length, take, drop, Contains, Option, Some, None, Result, Ok, Err, MatchResult}
+use Rattle.std.specs.Prelude.{◌≡◌, ℕ, ◌+◌, ◌-◌, ◌^◌, ◌≤◌, min, List, [], ◌∷◌, ◌++◌, length, take, drop, Option, Some, None, Result, Ok, Err, MatchResult}
 use Rattle.std.specs.Option.{option_map}
 use Rattle.std.specs.Io.KnownBytes.{append_known, Keeps, Consumes, IsAtEnd}
 use Rattle.ifs_session.specs.declared.device.DeviceFault.{DeviceFault}
@@ -39,11 +39,6 @@ abbrev pub SkipGives : ℕ → Option (List ℕ) → Option (List ℕ) → Optio
 SkipGives count None ready' left left' faults faults' = Keeps left left' × (faults' ≡ faults)
 SkipGives count (Some ready) ready' left left' faults faults' =
     (ready' ≡ Some (drop count ready)) × Consumes left left' (take count ready) × (faults' ≡ faults)
-
--- A line of at most so many bytes, its newline among them, can be read without waiting.
-abbrev pub HasLine : ℕ → Option (List ℕ) → Type 0
-HasLine most None = ⊥
-HasLine most (Some bytes) = Contains {X = ℕ} (take most bytes) 10
 
 -- A writer holds nothing back, where it tells what it holds back.
 abbrev pub HoldsNothing : Option (List ℕ) → Type 0

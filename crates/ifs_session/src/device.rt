@@ -1,7 +1,7 @@
 //! Readers and writers of bytes.
 
-ghost use Rattle.std.specs.Prelude.{List, [], ℕ, Option, None, IsTrue, OnOk};
-ghost use Rattle.ifs_session.specs.Device.{NextGives, ReadyGives, AreAtHand, MaySkip, SkipGives, HasLine, PutGives, HoldsNothing};
+ghost use Rattle.std.specs.Prelude.{List, [], ℕ, Option, None, OnOk};
+ghost use Rattle.ifs_session.specs.Device.{NextGives, ReadyGives, AreAtHand, MaySkip, SkipGives, PutGives, HoldsNothing};
 
 use thiserror::Error;
 
@@ -45,14 +45,6 @@ pub trait ByteIn {
         for _ in 0..count {
             let _byte = self.next();
         }
-    }
-
-    /// Whether a line of at most `most` bytes, its newline among them, can be read without waiting.
-    /// `false` where that is not known.
-    fn has_line(&self, most: u32) -> bool
-        ensures { IsTrue result → HasLine most (ready self.now) }
-    {
-        false
     }
 }
 

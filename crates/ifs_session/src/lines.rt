@@ -1,8 +1,7 @@
 //! Lines of input.
 
-ghost use Rattle.std.specs.Prelude.{◌≡◌, ◌==◌, IsOkAnd, IsSome, IfSome};
+ghost use Rattle.std.specs.Prelude.{◌≡◌, ◌==◌, IfSome};
 ghost use Rattle.std.specs.List.{position};
-ghost use Rattle.ifs_session.specs.Device.{HasLine};
 ghost use Rattle.ifs_session.specs.inner.Reading.{LineGives, StandsFirst};
 
 use crate::device::ByteIn;
@@ -57,16 +56,14 @@ fn newline(bytes: &[u8]) -> Option<usize>
 }
 
 /// Reads the next line, and takes its bytes and its newline from the budget; `None` at the end of
-/// input. It fails where a read fails, and where a byte comes after the budget is spent; not so where
-/// a line within the budget can be read without waiting.
+/// input. It fails where a read fails, and where a byte comes after the budget is spent.
 pub(crate) fn next_line<R: ByteIn>(
     reader: &mut R,
     budget: &mut u32,
 ) -> Result<Option<Line>, SessionFault>
-    ensures gives { LineGives result
+    ensures { LineGives result
         (record { left = R.left reader.old; faults = R.faults reader.old; budget = budget.old })
         (record { left = R.left reader.new; faults = R.faults reader.new; budget = budget.new }) }
-    ensures at_once { HasLine budget.old (R.ready reader.old) → IsOkAnd result (λ line. IsSome line) }
 {
     let mut kept = ArrayVec::new();
     let mut is_longer = false;

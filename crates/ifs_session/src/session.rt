@@ -1,9 +1,9 @@
 //! Sessions: request lines in, reply lines out.
 
-ghost use Rattle.std.specs.Prelude.{◌≡◌, ◌≢◌, ◌⊎◌, ◌+◌, ◌<◌, ◌^◌, [], None, Ok, Err, OnOk, IfOk, IfSome, MatchResult};
+ghost use Rattle.std.specs.Prelude.{◌≡◌, ◌≢◌, ◌+◌, ◌<◌, ◌^◌, None, Ok, Err, IfOk, IfSome, MatchResult};
 ghost use Rattle.ifs_core.specs.Event.{Behaviour};
 ghost use Rattle.ifs_core.specs.Machine.{IsBehaviour};
-ghost use Rattle.ifs_session.specs.Device.{PutGives, HasLine, HoldsNothing};
+ghost use Rattle.ifs_session.specs.Device.{HoldsNothing};
 ghost use Rattle.ifs_session.specs.Requests.{ALink};
 ghost use Rattle.ifs_session.specs.inner.Parsing.{told_by};
 ghost use Rattle.ifs_session.specs.Sessions.{deed, step_deed, SessionGives};
@@ -120,8 +120,8 @@ fn serve_next<R: ByteIn, W: ByteOut>(
     }
 }
 
-/// Reads the next line byte by byte and serves it, once what was written has gone out if the line is
-/// to be waited for; `None` at the end of input.
+/// Reads the next line byte by byte, once what was written has gone out, and serves it; `None` at the
+/// end of input.
 #[cold]
 #[inline(never)]
 fn serve_read<R: ByteIn, W: ByteOut>(
@@ -137,7 +137,7 @@ fn serve_read<R: ByteIn, W: ByteOut>(
     ensures counts { IfOk result (λ next. IfSome next (λ _. budget.new < budget.old)) }
     ensures out { MatchResult result (λ next. next ≡ None → HoldsNothing (W.held writer.new)) (λ fault. fault ≢ SessionFault.WriteFailed → HoldsNothing (W.held writer.new)) }
 {
-    let Ok(()) = flush_before_wait(reader, writer, *budget) else {
+    let Ok(()) = writer.flush() else {
         return Err(SessionFault::WriteFailed);
     };
     let Some(line) = next_line(reader, budget)? else {
@@ -150,22 +150,6 @@ fn serve_read<R: ByteIn, W: ByteOut>(
         })),
         Err(_) => Err(SessionFault::WriteFailed),
     }
-}
-
-/// Sees that what was written has gone out, unless the next line, within the bytes that may be read,
-/// can be read without waiting.
-fn flush_before_wait<R: ByteIn, W: ByteOut>(
-    reader: &R,
-    writer: &mut W,
-    budget: u32,
-) -> Result<(), DeviceFault>
-    ensures puts { PutGives result [] (W.written writer.old) (W.written writer.new) (W.faults writer.old) (W.faults writer.new) }
-    ensures out { OnOk result (HasLine budget (R.ready reader.now) ⊎ HoldsNothing (W.held writer.new)) }
-{
-    if reader.has_line(budget) {
-        return Ok(());
-    }
-    writer.flush()
 }
 
 /// Counts a line of this kind.

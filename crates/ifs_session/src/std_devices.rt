@@ -1,8 +1,8 @@
 //! Devices over the readers and writers of std.
 
-ghost use Rattle.std.specs.Prelude.{◌≡◌, ℕ, ◌≤◌, ◌↔◌, [], ◌∷◌, take, Contains, length, None, Some, MatchOption, IfOk, OnOk, OnErr, IsTrue};
+ghost use Rattle.std.specs.Prelude.{◌≡◌, ℕ, ◌≤◌, [], ◌∷◌, length, None, Some, MatchOption, IfOk, OnOk, OnErr};
 ghost use Rattle.std.specs.Io.KnownBytes.{Keeps, IsAtEnd, ReadConsumes};
-ghost use Rattle.ifs_session.specs.Device.{NextGives, HasLine};
+ghost use Rattle.ifs_session.specs.Device.{NextGives};
 
 use crate::device::{ByteIn, ByteOut, DeviceFault};
 use std::io::{ErrorKind, Read, Write};
@@ -102,17 +102,6 @@ fn read_some<R: Read>(reader: &mut R, buffer: &mut [u8; BUFFER]) -> Result<usize
     Err(DeviceFault)
 }
 
-/// Whether one of the first `most` of these bytes is a newline.
-pub(crate) fn has_newline(bytes: &[u8], most: u32) -> bool
-    ensures { IsTrue result ↔ Contains {X = ℕ} (take most bytes.now) 10 }
-{
-    let most = most as usize;
-    if most < bytes.len() {
-        return bytes[..most].contains(&b'\n');
-    }
-    bytes.contains(&b'\n')
-}
-
 impl<R: Read> ByteIn for FromRead<R> {
     ghost use Rattle.ifs_session.specs.Buffer.{buffered, left_over};
 
@@ -133,12 +122,6 @@ impl<R: Read> ByteIn for FromRead<R> {
 
     fn skip(&mut self, count: usize) {
         self.start += count;
-    }
-
-    fn has_line(&self, most: u32) -> bool
-        ensures { IsTrue result ↔ HasLine most (Some (buffered self.now)) }
-    {
-        has_newline(self.buffered(), most)
     }
 }
 

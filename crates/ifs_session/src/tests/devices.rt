@@ -3,7 +3,7 @@
 ghost use Rattle.std.specs.Prelude.{Some};
 
 use super::{first_replies, input_of, row_input};
-use crate::std_devices::has_newline;
+use crate::lines::line_at_hand;
 use crate::{ByteIn, ByteOut, DeviceFault, FromRead, RunFault, SessionFault, ToWrite, run_hex};
 use ifs_rows::{refusals, sessions};
 use std::alloc::{AllocError, Global};
@@ -98,26 +98,27 @@ fn bytes_over_several_buffers(rt: HostRuntime) -> Result<(), Fail> {
     Ok(())
 }
 
-/// After so many bytes of a text, whether a line of at most so many bytes can be read without waiting.
-const LINES: [(&str, &str, u32, u32, bool); 8] = [
-    ("nothing read yet", "ab\ncd", 0, 9, false),
-    ("a line", "ab\ncd", 1, 9, true),
-    ("a line as long as may be", "ab\ncd", 1, 2, true),
-    ("a line that is longer", "ab\ncd", 1, 1, false),
-    ("an empty line", "ab\ncd", 2, 1, true),
-    ("an empty line, and no byte", "ab\ncd", 2, 0, false),
-    ("a line without its end", "ab\ncd", 4, 9, false),
-    ("nothing left", "ab\n", 3, 9, false),
+/// After so many bytes of a text, the line of at most so many bytes that stands at hand.
+const LINES: [(&str, &str, u32, u32, Option<&str>); 8] = [
+    ("nothing read yet", "ab\ncd", 0, 9, None),
+    ("a line", "ab\ncd", 1, 9, Some("b")),
+    ("a line as long as may be", "ab\ncd", 1, 2, Some("b")),
+    ("a line that is longer", "ab\ncd", 1, 1, None),
+    ("an empty line", "ab\ncd", 2, 1, Some("")),
+    ("an empty line, and no byte", "ab\ncd", 2, 0, None),
+    ("a line without its end", "ab\ncd", 4, 9, None),
+    ("nothing left", "ab\n", 3, 9, None),
 ];
 
 #[test]
-fn lines_without_waiting(rt: HostRuntime) -> Result<(), Fail> {
+fn lines_at_hand(rt: HostRuntime) -> Result<(), Fail> {
     for (name, text, read, most, expected) in LINES {
         let mut input = FromRead::new(text.as_bytes());
         for _ in 0..read {
             assert!(rt; input.next().is_ok(), "{name}");
         }
-        assert_eq!(rt; input.has_line(most), expected, "{name}");
+        let line = line_at_hand(input.peek(), most);
+        assert_eq!(rt; line, expected.map(|line| line.as_bytes()), "{name}");
     }
     Ok(())
 }
@@ -137,7 +138,7 @@ fn bytes_at_hand(rt: HostRuntime) -> Result<(), Fail> {
     Ok(())
 }
 
-/// A reader that lends nothing takes bytes one by one.
+/// A reader that takes no bytes at once takes them one by one.
 #[test]
 fn bytes_taken_one_by_one(rt: HostRuntime) -> Result<(), Fail> {
     let shown = Cell::new(0);
@@ -148,8 +149,7 @@ fn bytes_taken_one_by_one(rt: HostRuntime) -> Result<(), Fail> {
         shown: &shown,
         late: 0,
     };
-    assert!(rt; input.peek().is_empty());
-    if input.ready.len() >= 2 {
+    if input.peek().len() >= 2 {
         input.skip(2);
     }
     assert_eq!(rt; input.next(), Ok(Some(b'c')));
@@ -313,8 +313,8 @@ impl ByteIn for Waiting<'_> {
         }
     }
 
-    fn has_line(&self, most: u32) -> bool {
-        has_newline(self.ready, most)
+    fn peek(&self) -> &[u8] {
+        self.ready
     }
 }
 
