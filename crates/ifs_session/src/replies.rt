@@ -10,7 +10,7 @@ ghost use Rattle.ifs_session.specs.Replies.{state_name, command_text, evaluation
 
 use crate::device::{ByteOut, DeviceFault};
 use crate::request::RequestFault;
-use crate::words::{put_commands, put_number, put_quoted};
+use crate::words::{put_commands, put_number, put_numbered, put_quoted};
 use ifs_base::{CommandId, LinkState, StateId};
 use ifs_core::{Answer, Core, Lists, Outcome, Record, Step};
 use ifs_sched::Start;
@@ -50,8 +50,7 @@ fn put_evaluation<W: ByteOut>(
     ensures { PutGives result (evaluation_words core.now.image state.0 cost queued.now) (W.written out.old) (W.written out.new) (W.faults out.old) (W.faults out.new) }
 {
     put_state(out, core, state)?;
-    out.put(b" cost ")?;
-    put_number(out, u64::from(cost))?;
+    put_numbered(out, b" cost ", u64::from(cost))?;
     out.put(b" queue ")?;
     put_commands(out, queued)?;
     Ok(())
@@ -63,8 +62,7 @@ fn put_start<W: ByteOut>(out: &mut W, start: &Start) -> Result<(), DeviceFault>
     ensures { PutGives result (start_word start.now) (W.written out.old) (W.written out.new) (W.faults out.old) (W.faults out.new) }
 {
     put_number(out, u64::from(start.test.0))?;
-    out.put(b":")?;
-    put_number(out, start.run)?;
+    put_numbered(out, b":", start.run)?;
     Ok(())
 }
 
@@ -165,8 +163,7 @@ fn put_taken<W: ByteOut>(out: &mut W, core: &Core, command: CommandId) -> Result
     requires { command.0 < length core.now.image.commands }
     ensures { PutGives result (taken_line core.now.image command.0) (W.written out.old) (W.written out.new) (W.faults out.old) (W.faults out.new) }
 {
-    out.put(b"taken ")?;
-    put_number(out, u64::from(command.0))?;
+    put_numbered(out, b"taken ", u64::from(command.0))?;
     out.put(b" ")?;
     put_command(out, core, command)?;
     out.put(b"\n")?;
@@ -192,12 +189,9 @@ pub(crate) fn put_status<W: ByteOut>(out: &mut W, core: &Core) -> Result<(), Dev
 fn put_status_numbers<W: ByteOut>(out: &mut W, core: &Core) -> Result<(), DeviceFault>
     ensures { PutGives result (status_numbers core.now.state) (W.written out.old) (W.written out.new) (W.faults out.old) (W.faults out.new) }
 {
-    out.put(b" queue ")?;
-    put_number(out, core.queue_len() as u64)?;
-    out.put(b" running ")?;
-    put_number(out, u64::from(core.running()))?;
-    out.put(b" now ")?;
-    put_number(out, core.now())?;
+    put_numbered(out, b" queue ", core.queue_len() as u64)?;
+    put_numbered(out, b" running ", u64::from(core.running()))?;
+    put_numbered(out, b" now ", core.now())?;
     Ok(())
 }
 
@@ -208,24 +202,20 @@ fn put_step<W: ByteOut>(out: &mut W, step: Step) -> Result<(), DeviceFault>
 {
     match step {
         Step::Link(interface, link) => {
-            out.put(b"link ")?;
-            put_number(out, u64::from(interface.0))?;
+            put_numbered(out, b"link ", u64::from(interface.0))?;
             out.put(b" ")?;
             put_link(out, link)?;
             Ok(())
         }
         Step::Finished(test, run, value) => {
-            out.put(b"result ")?;
-            put_number(out, u64::from(test.0))?;
-            out.put(b" ")?;
-            put_number(out, run)?;
+            put_numbered(out, b"result ", u64::from(test.0))?;
+            put_numbered(out, b" ", run)?;
             out.put(b" ")?;
             put_value(out, value)?;
             Ok(())
         }
         Step::Tick(now) => {
-            out.put(b"tick ")?;
-            put_number(out, now)?;
+            put_numbered(out, b"tick ", now)?;
             Ok(())
         }
         Step::Take => out.put(b"take"),
@@ -299,10 +289,8 @@ fn put_answer_words<W: ByteOut>(out: &mut W, core: &Core, item: &Record) -> Resu
     put_answer(out, item.answer)?;
     out.put(b" ")?;
     put_state(out, core, item.state)?;
-    out.put(b" cost ")?;
-    put_number(out, u64::from(item.cost))?;
-    out.put(b" queue ")?;
-    put_number(out, u64::from(item.queued))?;
+    put_numbered(out, b" cost ", u64::from(item.cost))?;
+    put_numbered(out, b" queue ", u64::from(item.queued))?;
     Ok(())
 }
 
@@ -311,8 +299,7 @@ fn put_answer_words<W: ByteOut>(out: &mut W, core: &Core, item: &Record) -> Resu
 pub(crate) fn put_trace<W: ByteOut>(out: &mut W, core: &Core) -> Result<(), DeviceFault>
     ensures { PutGives result (trace_lines core.now.image core.now.state.trace) (W.written out.old) (W.written out.new) (W.faults out.old) (W.faults out.new) }
 {
-    out.put(b"trace ")?;
-    put_number(out, core.trace_len() as u64)?;
+    put_numbered(out, b"trace ", core.trace_len() as u64)?;
     out.put(b"\n")?;
     put_records(out, core)?;
     Ok(())

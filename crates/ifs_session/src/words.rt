@@ -1,6 +1,6 @@
 //! Words of replies, written piece by piece: numbers, quoted texts and lists.
 
-ghost use Rattle.std.specs.Prelude.{◌≡◌, ◌≤◌, [], ◌∷◌, length, take, decimal, map};
+ghost use Rattle.std.specs.Prelude.{◌≡◌, ◌≤◌, [], ◌∷◌, ◌++◌, length, take, decimal, map};
 ghost use Rattle.std.specs.Bool.{OnTrue};
 ghost use Rattle.std.specs.List.{flat_map};
 ghost use Rattle.ifs_base.specs.Words.{quoted_byte, quoted, listed};
@@ -15,6 +15,21 @@ pub(crate) fn put_number<W: ByteOut>(out: &mut W, number: u64) -> Result<(), Dev
     ensures { PutGives result (decimal number) (W.written out.old) (W.written out.new) (W.faults out.old) (W.faults out.new) }
 {
     out.put(Buffer::new().format(number).as_bytes())
+}
+
+/// Writes words and a number.
+#[tactic(auto, using(crate::proofs::Known::written_laws))]
+#[inline(always)]
+pub(crate) fn put_numbered<W: ByteOut>(
+    out: &mut W,
+    words: &[u8],
+    number: u64,
+) -> Result<(), DeviceFault>
+    ensures { PutGives result (words.now ++ decimal number) (W.written out.old) (W.written out.new) (W.faults out.old) (W.faults out.new) }
+{
+    out.put(words)?;
+    put_number(out, number)?;
+    Ok(())
 }
 
 /// Writes a text in quotes.
