@@ -36,5 +36,5 @@ stands_first bytes end most e below =
       rest = drop (end + 1) bytes;
       front = sym (take-append-drop end bytes) ∙ ap (λ rest. take end bytes ++ rest)
           (drop_more bytes end 0 within ∙ ap (λ byte. byte ∷ drop (end + 1) bytes)
-            (ap (λ n. get_or bytes n 0) (sym at.0) ∙ a_newline _ (prefix_len_stops other bytes 0 at.1)));
+          (ap (λ n. get_or bytes n 0) (sym at.0) ∙ a_newline _ (prefix_len_stops other bytes 0 at.1)));
     }

@@ -23,8 +23,8 @@ front_taken bytes start end count within =
     let fits : count ≤ end - start = omega (arith, within, length-take {A = ℕ} (end - start) (drop start bytes)) in
     let rest : end - start ≡ count + (end - (start + count)) = omega arith in
     sym (ap (λ n. drop count (take n (drop start bytes))) rest
-      ∙ drop-take count (end - (start + count)) (drop start bytes)
-      ∙ ap (take (end - (start + count))) (drop-drop count start bytes))
+    ∙ drop-take count (end - (start + count)) (drop start bytes)
+    ∙ ap (take (end - (start + count))) (drop-drop count start bytes))
 
 left_taken : (bytes : List ℕ) (count : ℕ) (known : Option (List ℕ)) → Consumes (prepend_known bytes known) (prepend_known (drop count bytes) known) (take count bytes)
 left_taken bytes count None = tt
@@ -32,7 +32,7 @@ left_taken bytes count (Some rest) = ap (λ b. b ++ rest) (sym (take-append-drop
 
 pub skipped : (bytes : List ℕ) (start end count : ℕ) (known : Option (List ℕ)) → count ≤ length (slice_range bytes start end)
     → (Some (slice_range bytes (start + count) end) ≡ Some (drop count (slice_range bytes start end)))
-      × Consumes (prepend_known (slice_range bytes start end) known) (prepend_known (slice_range bytes (start + count) end) known) (take count (slice_range bytes start end))
+    × Consumes (prepend_known (slice_range bytes start end) known) (prepend_known (slice_range bytes (start + count) end) known) (take count (slice_range bytes start end))
 skipped bytes start end count known within =
     let e = front_taken bytes start end count within in
     (ap Some e, subst (λ b. Consumes (prepend_known (slice_range bytes start end) known) (prepend_known b known) (take count (slice_range bytes start end))) (sym e) (left_taken (slice_range bytes start end) count known))

@@ -44,7 +44,7 @@ line_unreplied b text ended before budget after budget' a faults r asks same ima
 front_of : (line bytes more : List ℕ) (most : ℕ) → StandsFirst line most bytes → take (length line + 1) (bytes ++ more) ≡ line ++ 10 ∷ []
 front_of line bytes more most first =
     let whole : bytes ++ more ≡ (line ++ 10 ∷ []) ++ (first.rest ++ more) =
-        ap (λ t. t ++ more) first.front ∙ append_assoc line (10 ∷ first.rest) more ∙ sym (append_assoc line (10 ∷ []) (first.rest ++ more)) in
+    ap (λ t. t ++ more) first.front ∙ append_assoc line (10 ∷ first.rest) more ∙ sym (append_assoc line (10 ∷ []) (first.rest ++ more)) in
     ap (take (length line + 1)) whole ∙ ap (λ n. take n ((line ++ 10 ∷ []) ++ (first.rest ++ more))) (sym (length-append line (10 ∷ []))) ∙ take-append_seam (line ++ 10 ∷ []) (first.rest ++ more)
 
 long_enough : (line bytes more : List ℕ) (most : ℕ) → StandsFirst line most bytes → length line + 1 ≤ length (bytes ++ more)

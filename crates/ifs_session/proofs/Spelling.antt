@@ -33,8 +33,8 @@ one_spelled {text} {left} {bytes} {bytes'} first second high low rest s at (high
   whole =
       s.whole ∙ ap (λ t. hex_text s.more ++ t) (at ∙ ap (λ a. a ∷ second ∷ rest) high_is ∙ ap (λ a. hex_digit high ∷ a ∷ rest) low_is)
       ∙ sym (ap (λ t. t ++ rest) (hex_text-push s.more high low low_small)
-        ∙ append_assoc (hex_text s.more ++ hex_digit high ∷ []) (hex_digit low ∷ []) rest
-        ∙ append_assoc (hex_text s.more) (hex_digit high ∷ []) (hex_digit low ∷ rest));
+      ∙ append_assoc (hex_text s.more ++ hex_digit high ∷ []) (hex_digit low ∷ []) rest
+      ∙ append_assoc (hex_text s.more) (hex_digit high ∷ []) (hex_digit low ∷ rest));
 }
 
 -- A text by its first two bytes.
@@ -60,9 +60,6 @@ spelled_front {text} {left} s =
 pub may_take : (count : ℕ) (text : List ℕ) (ready : Option (List ℕ)) → AreAtHand text ready → count ≤ length text → MaySkip count ready
 may_take count text None none fits = omega (arith, ap length none)
 may_take count text (Some ready) (more, is) fits = omega (arith, ap length is, length-append text more)
-
-
-
 
 pub spelled_taken : (count : ℕ) (text digits : List ℕ) (ready ready' left left' : Option (List ℕ)) (faults faults' : Option ℕ) → AreAtHand text ready → count ≤ length text → take count text ≡ digits
     → SkipGives count ready ready' left left' faults faults' → Takes digits (record { left = left; faults = faults }) (record { left = left'; faults = faults' })

@@ -6,7 +6,9 @@ use super::*;
 use ifs_rows::{Row, digits_of, images, refusals, sessions};
 use linked_list_allocator::LocalHeap;
 use std::alloc::{AllocError, Global};
+use std::fmt::Display;
 use std::io::{self, ErrorKind, Read};
+use std::process::Abort;
 use std::test::Fail;
 
 /// One state, whose name and whose init's command have bytes that stand escaped in quotes.
@@ -125,22 +127,27 @@ fn first_replies(alloc: Global, row: Row, count: usize) -> Result<String, AllocE
     Ok(replies)
 }
 
+/// Whether a run in which the read after so many calls fails is told so, after these replies.
+fn breaks_reading(alloc: Global, bytes: &[u8], calls: u64, replies: &str) -> bool {
+    let mut output = MemoryOut::new(alloc);
+    let answer = run_hex(
+        alloc,
+        &mut MemoryIn::failing_after(bytes, calls),
+        &mut output,
+    );
+    answer == Err(RunFault::Session(SessionFault::ReadFailed))
+        && output.written() == replies.as_bytes()
+}
+
 /// Each read fails in turn: the replies to the lines that were whole by then have been written.
 #[test]
 fn each_read_fails_in_turn(rt: HostRuntime) -> Result<(), Fail> {
     let bytes = row_input(rt.alloc(), sessions::first_run())?;
     let mut lines: usize = 0;
     for (calls, byte) in bytes.iter().enumerate() {
-        let mut input = MemoryIn::failing_after(bytes.as_slice(), calls as u64);
-        let mut output = MemoryOut::new(rt.alloc());
-        let answer = run_hex(rt.alloc(), &mut input, &mut output);
-        assert_eq!(rt;
-            answer,
-            Err(RunFault::Session(SessionFault::ReadFailed)),
-            "{calls}"
-        );
         let replies = first_replies(rt.alloc(), sessions::first_run(), lines.saturating_sub(1))?;
-        assert_eq!(rt; output.written(), replies.as_bytes(), "{calls}");
+        let is_so = breaks_reading(rt.alloc(), bytes.as_slice(), calls as u64, replies.as_str());
+        assert!(rt; is_so, "{calls}");
         if *byte == b'\n' {
             lines = lines.saturating_add(1);
         }
@@ -333,21 +340,29 @@ fn interrupted_reads(rt: HostRuntime) {
     assert_eq!(rt; tired.next(), Ok(Some(b'x')));
 }
 
-/// Every fault's text is its code.
+/// A fault's text is this code.
+fn check_code<T: Display>(
+    rt: &impl Abort,
+    alloc: Global,
+    fault: &T,
+    code: &str,
+) -> Result<(), Fail> {
+    let text = fault.to_string(alloc)?;
+    assert_eq!(rt; text.as_str(), code);
+    Ok(())
+}
+
 #[test]
 fn texts_of_faults(rt: HostRuntime) -> Result<(), Fail> {
-    assert_eq!(rt;
-        SessionFault::ReadFailed.to_string(rt.alloc())?.as_str(),
-        "S1"
-    );
-    assert_eq!(rt;
-        RunFault::Session(SessionFault::TooMuchInput)
-            .to_string(rt.alloc())?
-            .as_str(),
-        "S3"
-    );
-    assert_eq!(rt; RunFault::X1.to_string(rt.alloc())?.as_str(), "X1");
-    assert_eq!(rt; RunFault::Memory.to_string(rt.alloc())?.as_str(), "V0");
-    assert_eq!(rt; RequestFault::TooLong.to_string(rt.alloc())?.as_str(), "C2");
+    check_code(&rt, rt.alloc(), &SessionFault::ReadFailed, "S1")?;
+    check_code(
+        &rt,
+        rt.alloc(),
+        &RunFault::Session(SessionFault::TooMuchInput),
+        "S3",
+    )?;
+    check_code(&rt, rt.alloc(), &RunFault::X1, "X1")?;
+    check_code(&rt, rt.alloc(), &RunFault::Memory, "V0")?;
+    check_code(&rt, rt.alloc(), &RequestFault::TooLong, "C2")?;
     Ok(())
 }

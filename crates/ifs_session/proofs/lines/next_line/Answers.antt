@@ -33,6 +33,7 @@ loop-next-preserved-then-is_full g c =
 
 pub loop-next-preserved : goal.loop-next-preserved
 loop-next-preserved g c =
-    let given = (rw c.in-Some.is at c.in-Ok.ensures).gives in
-    (c.loop-next.invariant.0 ++ c.in-Some.byte ∷ [],
-      rw c.push.ensures.items (partway_push c.in-Some.byte _ _ c.loop-next.invariant.1 c.if-byte-eq10.false c.if-budget-eq0.false given.0 given.1 (has_room _ c.if-is_full.ensures.value c.if-is_full.ensures.fits)))
+    let given = (rw c.in-Some.is at c.in-Ok.ensures).gives in (
+      c.loop-next.invariant.0 ++ c.in-Some.byte ∷ [],
+      rw c.push.ensures.items (partway_push c.in-Some.byte _ _ c.loop-next.invariant.1 c.if-byte-eq10.false c.if-budget-eq0.false given.0 given.1 (has_room _ c.if-is_full.ensures.value c.if-is_full.ensures.fits)),
+    )
