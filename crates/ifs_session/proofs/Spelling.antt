@@ -1,10 +1,10 @@
 -- The bytes that the front of a text spells.
-use Rattle.std.proofs.Common.{◌≡◌, ℕ, ◌+◌, ◌-◌, ◌*◌, ◌<◌, ◌≤◌, List, [], ◌∷◌, ◌++◌, length, take, drop, get_or, All, Option, Some, None, Ok, refl, sym, subst, ap, ◌∙◌, append_assoc, append-nil, arith, length-append}
+use Rattle.std.proofs.Common.{◌≡◌, ℕ, ◌+◌, ◌-◌, ◌*◌, ◌<◌, ◌≤◌, List, [], ◌∷◌, ◌++◌, length, take, drop, get_or, All, Option, Some, None, refl, sym, subst, ap, ◌∙◌, append_assoc, append-nil, arith, length-append}
 use Rattle.std.proofs.Math.Seq.{take-append_seam, take-nil}
 use Rattle.std.proofs.lemmas.List.{take-append-le, take_rest, drop_more}
 use Rattle.std.proofs.lemmas.List.Elements.{All-push}
 use Rattle.std.specs.Io.KnownBytes.{Consumes}
-use Rattle.ifs_session.specs.Device.{Feed, AreAtHand, MaySkip, SkipGives}
+use Rattle.ifs_session.specs.Device.{AreAtHand, MaySkip, SkipGives}
 use Rattle.ifs_base.specs.Words.{hex_digit}
 use Rattle.ifs_session.specs.Hexadecimal.{hex_text, Takes}
 use Rattle.ifs_session.specs.inner.Reading.{SpellsFront}

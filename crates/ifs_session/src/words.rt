@@ -1,6 +1,6 @@
 //! Words of replies, written piece by piece: numbers, quoted texts and lists.
 
-ghost use Rattle.std.specs.Prelude.{◌≡◌, ◌≤◌, [], ◌∷◌, ◌++◌, length, take, decimal, map};
+ghost use Rattle.std.specs.Prelude.{◌≡◌, ◌<◌, ◌≤◌, [], ◌∷◌, ◌++◌, length, take, decimal, map};
 ghost use Rattle.std.specs.Bool.{OnTrue};
 ghost use Rattle.std.specs.List.{flat_map};
 ghost use Rattle.ifs_base.specs.Words.{quoted_byte, quoted, listed};
@@ -14,7 +14,18 @@ use itoa::Buffer;
 pub(crate) fn put_number<W: ByteOut>(out: &mut W, number: u64) -> Result<(), DeviceFault>
     ensures { PutGives result (decimal number) (W.written out.old) (W.written out.new) (W.faults out.old) (W.faults out.new) }
 {
+    if number < 10 {
+        return out.put(&[digit(number as u8)]);
+    }
     out.put(Buffer::new().format(number).as_bytes())
+}
+
+/// The decimal digit of a number below 10.
+fn digit(number: u8) -> u8
+    requires { number < 10 }
+    ensures { decimal number ≡ result ∷ [] }
+{
+    b'0' + number
 }
 
 /// Writes words and a number.

@@ -1,4 +1,4 @@
-use Rattle.std.proofs.Common.{◌∷◌, [], arith}
+use Rattle.std.proofs.Common.{arith}
 use Rattle.ifs_session.proofs.Spelling.{nothing_spelled, one_spelled, by_two, spelled_front}
 use Rattle.ifs_session.proofs.hexadecimal.append_spelled.Goals as goal
 
