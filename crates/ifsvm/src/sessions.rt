@@ -10,9 +10,12 @@ use std::alloc::Global;
 use std::io::{self, BufWriter};
 use std::rt::Files;
 
+/// How many bytes of replies are held back at most, until input is waited for.
+const HELD: usize = 65_536;
+
 /// A session whose first line is the image.
 pub fn by_hexadecimal<R: Input + Print + Alloc<A = Global>>(rt: &R) -> Result<Ending, Ending> {
-    let Ok(writer) = BufWriter::new(rt.alloc(), io::writer(rt)) else {
+    let Ok(writer) = BufWriter::with_capacity(rt.alloc(), HELD, io::writer(rt)) else {
         return out_of_memory(rt, Task::Verify);
     };
     let mut input = FromRead::new(rt.reader());
@@ -52,7 +55,7 @@ fn simulated<R: Input + Print + Alloc<A = Global>>(
     rt: &R,
     core: &mut Core,
 ) -> Result<Ending, Ending> {
-    let Ok(writer) = BufWriter::new(rt.alloc(), io::writer(rt)) else {
+    let Ok(writer) = BufWriter::with_capacity(rt.alloc(), HELD, io::writer(rt)) else {
         return out_of_memory(rt, Task::Verify);
     };
     let mut input = FromRead::new(rt.reader());

@@ -1,6 +1,6 @@
 use Rattle.std.proofs.Common.{◌-◌, length, None}
 use Rattle.ifs_session.specs.Hexadecimal.{ReadsBeginning}
-use Rattle.ifs_session.proofs.hexadecimal.hex_line.Given as goal
+use Rattle.ifs_session.proofs.hexadecimal.read_line.Given as goal
 
 abbrev pub invariant-digits : goal.invariant-digits
 invariant-digits g l = ReadsBeginning l.bytes.items None
