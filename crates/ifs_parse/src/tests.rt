@@ -16,7 +16,9 @@ fn show_test(alloc: Global, out: &mut String, test: &Test) -> Result<(), Fail> {
         )?,
         Test::Link(name, LinkState::Down) => format!(in alloc; "{}.down", name.text.as_str())?,
         Test::Link(name, LinkState::Up) => format!(in alloc; "{}.up", name.text.as_str())?,
-        Test::External(name, period) => format!(in alloc; "{}/{period}", name.text.as_str())?,
+        Test::External(name, period) => {
+            format!(in alloc; "{}/{}", name.text.as_str(), period.seconds())?
+        }
     };
     out.push_str(shown.as_str())?;
     Ok(())
