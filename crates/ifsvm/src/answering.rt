@@ -1,8 +1,7 @@
 //! What the words on files answer, apart from the files themselves.
 
-ghost use Rattle.std.specs.Prelude.{◌≡◌, ◌≢◌, IfOk};
-ghost use Rattle.ifsvm.specs.Answers.{AreAccepted};
-ghost use Rattle.ifsvm.specs.declared.task.Task.TheVariants.{Verify};
+ghost use Rattle.std.specs.Prelude.{◌≡◌, ◌≢◌, map, IfOk};
+ghost use Rattle.ifsvm.specs.Answers.{AreAccepted, AreGood, ArePolicy};
 
 use crate::checking::{CheckFault, lines_of};
 use crate::ending::{Ending, out_of_memory};
@@ -22,9 +21,9 @@ pub fn answer(
     input: &[u8],
     defs: &[(&str, &str)],
 ) -> Result<Answer, AllocError>
-    // An image is told to be good exactly where its bytes are accepted.
-    ensures good { task ≡ Verify → IfOk result (λ answer. answer.status ≡ 0 → AreAccepted input.now) }
-    ensures refused { task ≡ Verify → IfOk result (λ answer. answer.status ≢ 0 → ¬ AreAccepted input.now) }
+    // Bytes are told to be good exactly where they are what the task asks for.
+    ensures good { IfOk result (λ answer. answer.status ≡ 0 → AreGood task input.now (map (λ d. (d.0.now, d.1.now)) defs.now)) }
+    ensures refused { IfOk result (λ answer. answer.status ≢ 0 → ¬ AreGood task input.now (map (λ d. (d.0.now, d.1.now)) defs.now)) }
 {
     match task {
         Task::Check => check_answer(alloc, input, defs),
@@ -32,7 +31,10 @@ pub fn answer(
     }
 }
 
-fn check_answer(alloc: Global, policy: &[u8], defs: &[(&str, &str)]) -> Result<Answer, AllocError> {
+fn check_answer(alloc: Global, policy: &[u8], defs: &[(&str, &str)]) -> Result<Answer, AllocError>
+    ensures good { IfOk result (λ answer. answer.status ≡ 0 → ArePolicy policy.now (map (λ d. (d.0.now, d.1.now)) defs.now)) }
+    ensures refused { IfOk result (λ answer. answer.status ≢ 0 → ¬ ArePolicy policy.now (map (λ d. (d.0.now, d.1.now)) defs.now)) }
+{
     match lines_of(alloc, policy, defs) {
         Ok(lines) => Ok(good(lines)),
         Err(CheckFault::Memory) => Err(AllocError),
