@@ -3,3 +3,5 @@ pub mod Alternatives
 pub mod Exact
 pub mod Read
 pub mod Whole
+pub mod Stuck
+pub mod First

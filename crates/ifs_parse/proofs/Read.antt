@@ -219,7 +219,7 @@ module _ (all : Parse Operand) (All : Rule Operand) (exact_a : Exact all All (λ
   no_and : {X : Type 0} (Q : Span → Rule X) (x : X) (p : List Token) (ns : List ℕ) (next : List Token) → (TheMark mark.Or ⨟ Q) p x ns → No mark.And (p ++ next)
   no_and Q x p ns next h = (begins_apart mark.Or mark.And Q and_or x p ns next h, tt)
 
-  reads_more : (begun : reading.Others) → Reads (No mark.And) (many (reading.next_operand mark.Or all) reading.with_operand begun)
+  pub reads_more : (begun : reading.Others) → Reads (No mark.And) (many (reading.next_operand mark.Or all) reading.with_operand begun)
       (Many (TheMark mark.Or ⨟ λ _. All) reading.with_operand begun) (λ b. Over)
   reads_more begun =
       reads_many (reading.next_operand mark.Or all) reading.with_operand (TheMark mark.Or ⨟ λ _. All) (No mark.Or) (No mark.And)
@@ -416,15 +416,15 @@ exact_braced part P none exact_p longer ended closes =
     (λ xs. exact_map (expected mark.BraceClose) (λ _. xs) (TheMark mark.BraceClose) (exact_mark mark.BraceClose)) (λ xs next s. tt)
     (λ xs x back ns next h s. (closes (λ _. Gives xs) x back ns next h, tt)) (λ xs x back ns next h a b. tt)
 
-close_if : is mark.BraceClose mark.If ≡ false
+pub close_if : is mark.BraceClose mark.If ≡ false
 unfolding is
 close_if = refl
 
-close_run : is mark.BraceClose mark.Run ≡ false
+pub close_run : is mark.BraceClose mark.Run ≡ false
 unfolding is
 close_run = refl
 
-close_set : is mark.BraceClose mark.SetState ≡ false
+pub close_set : is mark.BraceClose mark.SetState ≡ false
 unfolding is
 close_set = refl
 
@@ -616,7 +616,7 @@ module _ (statement : Parse (Option (Statement Test Name Wish))) (S : Rule (Stat
       (exact_option statement Do S NoStatement k.exact)
       (then_apart mark.Init S (λ s. Gives (Do s)) (k.apart mark.Init apart_if_init.0 apart_if_init.1 apart_if_init.2))
 
-  part_longer : (x : Part) (p : List Token) (ns : List ℕ) → grammar.IsPart S p x ns → 1 ≤ length p
+  pub part_longer : (x : Part) (p : List Token) (ns : List ℕ) → grammar.IsPart S p x ns → 1 ≤ length p
   part_longer x p ns (inl h) = begins_longer mark.Init InitRule p x ns h
   part_longer x p ns (inr h) = let l : 1 ≤ length h.front = k.longer h.x h.front h.before h.first in rw h.tokens_are (omega (arith, length-append h.front h.back))
 
@@ -624,7 +624,7 @@ module _ (statement : Parse (Option (Statement Test Name Wish))) (S : Rule (Stat
       → grammar.IsPart S p x ns → accepted m (p ++ next) ≡ None
   part_apart m a b c d = or_apart m (TheMark mark.Init ⨟ InitRule) DoRule (begins_apart mark.Init m InitRule a) (then_apart m S (λ s. Gives (Do s)) (k.apart m b c d))
 
-  closes_part : {X : Type 0} (Q : Span → Rule X) (x : X) (p : List Token) (ns : List ℕ) (next : List Token) → (TheMark mark.BraceClose ⨟ Q) p x ns → NoPart (p ++ next)
+  pub closes_part : {X : Type 0} (Q : Span → Rule X) (x : X) (p : List Token) (ns : List ℕ) (next : List Token) → (TheMark mark.BraceClose ⨟ Q) p x ns → NoPart (p ++ next)
   closes_part Q x p ns next h = (begins_apart mark.BraceClose mark.Init Q apart_close x p ns next h, not_statement mark.BraceClose close_if close_run close_set Q x p ns next h)
 
   abbrev InitStateRule : Span → Rule Item
@@ -654,7 +654,7 @@ module _ (statement : Parse (Option (Statement Test Name Wish))) (S : Rule (Stat
       (or_apart mark.InitState (TheMark mark.State ⨟ λ _. StateRule) AlwaysRule (begins_apart mark.State mark.InitState (λ _. StateRule) apart_init_state.4)
       (then_apart mark.InitState (grammar.IsPart S) (λ p. Gives (AlwaysItem p)) (part_apart mark.InitState apart_init_state.0 apart_init_state.1 apart_init_state.2 apart_init_state.3)))
 
-  item_longer : (x : Item) (p : List Token) (ns : List ℕ) → grammar.IsItem (grammar.IsPart S) p x ns → 1 ≤ length p
+  pub item_longer : (x : Item) (p : List Token) (ns : List ℕ) → grammar.IsItem (grammar.IsPart S) p x ns → 1 ≤ length p
   item_longer x p ns (inl h) = begins_longer mark.InitState InitStateRule p x ns h
   item_longer x p ns (inr (inl h)) = begins_longer mark.State (λ _. StateRule) p x ns h
   item_longer x p ns (inr (inr h)) = let l : 1 ≤ length h.front = part_longer h.x h.front h.before h.first in rw h.tokens_are (omega (arith, length-append h.front h.back))

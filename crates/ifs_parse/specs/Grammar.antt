@@ -1,5 +1,5 @@
 -- The grammar of policies: which tokens say which file, with which notes; one rule a line of the grammar.
-use Rattle.std.specs.Prelude.{ℕ, zero, suc, Bool, true, false, ◌||◌, if◌then◌else◌, List, [], ◌∷◌, Option, Some, None}
+use Rattle.std.specs.Prelude.{◌≡◌, ℕ, zero, suc, Bool, true, false, ◌||◌, if◌then◌else◌, List, [], ◌∷◌, Option, Some, None, ◌⊎◌, ◌++◌}
 use Rattle.ifs_base.specs.declared.op.LinkState.{LinkState}
 use Rattle.ifs_lex.specs.declared.token.Token.{Token}
 use Rattle.ifs_parse.specs.declared.mark.Mark.TheVariants as mark
@@ -19,6 +19,9 @@ use Rattle.ifs_parse.specs.Views.{all_of, any_of, block_of}
 use Rattle.ifs_parse.specs.Files.{File}
 use Rattle.ifs_parse.specs.Marks.{mark_of}
 use Rattle.ifs_parse.specs.Reading.{fits_period, name_of, link_state_of, number_of_what, operand, others, with_last, with_operand}
+use Rattle.ifs_parse.specs.declared.fault.ParseFault.{ParseFault}
+use Rattle.ifs_parse.specs.declared.fault.ParseFault.TheVariants.{Unexpected, Period, Nesting}
+use Rattle.ifs_parse.specs.Combined.{found, line_of}
 use Rattle.ifs_parse.specs.Rules.{Rule, Gives, OneToken, TheMark, ◌⨟◌, ◌or◌, Never, Noted, Many}
 
 -- string : a word that is not reserved | a quoted text
@@ -131,3 +134,23 @@ Says = SaysWithin fits_period 32
 -- Some tokens say the file.
 abbrev pub IsSaid : File → Type 0
 IsSaid f = ∥ ((tokens : List Token) × Says tokens f) ∥₁
+
+-- The next token, where there is one.
+abbrev pub next_token : List Token → Option Token
+next_token = found (λ t. Some t)
+
+-- A fault at a line.
+abbrev pub IsAt : ParseFault → ℕ → Type 0
+IsAt fault line = (fault ≡ Unexpected line) ⊎ (fault ≡ Period line) ⊎ (fault ≡ Nesting line)
+
+-- Tokens stop at a place: those before it can go on so that they say a file, but not with the next token, whatever comes
+-- after it; the fault has that token's line.
+pub record StopsAt (tokens : List Token) (fault : ParseFault) : Type 0 where
+  pub front : List Token
+  pub left : List Token
+  pub whole : tokens ≡ front ++ left
+  pub line : IsAt fault (line_of left)
+  pub tail : List Token
+  pub file : File
+  pub can : Says (front ++ tail) file
+  pub cannot : (more : List Token) (other : File) → next_token more ≡ next_token left → Says (front ++ more) other → ⊥

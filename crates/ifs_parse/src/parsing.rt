@@ -4,7 +4,7 @@ ghost use Rattle.std.specs.Prelude.{◌≡◌, ◌≢◌, Err, IfOk, IfErr, IsOk
 ghost use Rattle.ifs_lex.specs.Expansion.{EndsOnce};
 ghost use Rattle.ifs_parse.specs.Combined.{Answers};
 ghost use Rattle.ifs_parse.specs.Files.{File, file};
-ghost use Rattle.ifs_parse.specs.Grammar.{Says};
+ghost use Rattle.ifs_parse.specs.Grammar.{Says, StopsAt};
 ghost use Rattle.ifs_parse.specs.Reading.{fits_period, read_within};
 ghost use Rattle.ifs_parse.specs.declared.fault.ParseFault.TheVariants.{Memory};
 
@@ -48,7 +48,9 @@ pub fn parse(alloc: Global, tokens: &[Token]) -> Result<Tree, ParseFault>
     ensures found { IfOk result (λ tree. Says tokens.now tree) }
     // What the tokens say is answered, unless memory runs out.
     ensures only { (file : File) → Says tokens.now file → result ≢ Err Memory → IsOkAnd result (λ tree. tree ≡ file) }
-    // Any other refusal is that of the first token that cannot go on.
+    // Any other refusal is at the first token that cannot go on: what stands before it can, with it nothing can.
+    ensures stops { IfErr result (λ fault. fault ≢ Memory → StopsAt tokens.now fault) }
+    // Which one it is, and its line, is that of reading from the left.
     ensures first_fault { IfErr result (λ fault. fault ≢ Memory → read_within fits_period 32 tokens.now ≡ Err fault) }
 {
     match read(alloc, tokens) {

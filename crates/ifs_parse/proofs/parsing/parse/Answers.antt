@@ -2,6 +2,7 @@ use Rattle.std.proofs.Common.{◌∙◌, sym, ap, subst, Err}
 use Rattle.ifs_parse.specs.Grammar.{Says}
 use Rattle.ifs_parse.specs.Reading.{fits_period}
 use Rattle.ifs_parse.proofs.Exact.{inside}
+use Rattle.ifs_parse.proofs.First.{stops_at}
 use Rattle.ifs_parse.proofs.Whole.{says_read, read_says, says_no_fault}
 use Rattle.ifs_parse.proofs.parsing.parse.Goals as goal
 
@@ -16,3 +17,6 @@ returns-in-Ok-clause-only c = λ file h other. c.new.ensures ∙ ap (inside file
 
 pub returns-in-Err-clause-only : goal.returns-in-Err-clause-only
 returns-in-Err-clause-only c = λ file h other. says_no_fault fits_period 32 _ file c.in-Err.fault h (c.in-Err.ensures (λ e. other (ap (λ f. Err f) e)))
+
+pub returns-in-Err-clause-stops : goal.returns-in-Err-clause-stops
+returns-in-Err-clause-stops c = λ other. stops_at _ c.in-Err.fault (c.in-Err.ensures other)
