@@ -127,3 +127,7 @@ SaysWithin fits room tokens file = AreItems (IsItem (IsPart (IsStatement fits ro
 -- Tokens, up to their end, say a file: periods are from 1 to 604,800, and at most 32 `if`, `!` and `(` are open at once.
 abbrev pub Says : List Token → File → Type 0
 Says = SaysWithin fits_period 32
+
+-- Some tokens say the file.
+abbrev pub IsSaid : File → Type 0
+IsSaid f = ∥ ((tokens : List Token) × Says tokens f) ∥₁

@@ -82,10 +82,10 @@ impl<'a> Parser<'a> {
     fn next_one(&mut self, room: u32) -> Result<Option<Condition<Test>>, ParseFault>
         ensures { Answers (λ c. (c, state_of self.new)) result (reading.next_operand mark.And (reading.one reading.fits_period room) (state_of self.old)) }
     {
-        if self.accept(Mark::And).is_none() {
-            return Ok(None);
+        match self.accept(Mark::And) {
+            Some(_) => Ok(Some(self.one(room)?)),
+            None => Ok(None),
         }
-        Ok(Some(self.one(room)?))
     }
 
     /// The operands of `{ "&&" one }`.
@@ -134,10 +134,10 @@ impl<'a> Parser<'a> {
     fn next_all(&mut self, room: u32) -> Result<Option<Operand>, ParseFault>
         ensures { Answers (λ o. (o, state_of self.new)) result (reading.next_operand mark.Or (reading.all (reading.one reading.fits_period room)) (state_of self.old)) }
     {
-        if self.accept(Mark::Or).is_none() {
-            return Ok(None);
+        match self.accept(Mark::Or) {
+            Some(_) => Ok(Some(self.all(room)?)),
+            None => Ok(None),
         }
-        Ok(Some(self.all(room)?))
     }
 
     /// The operands of `{ "||" all }`.

@@ -6,12 +6,13 @@ ghost use Rattle.ifs_parse.specs.Combined as combined;
 ghost use Rattle.ifs_parse.specs.Combined.{Answers, accepted, expected, line_of, past, found};
 ghost use Rattle.ifs_parse.specs.Reading as reading;
 ghost use Rattle.ifs_parse.specs.Parsers.{state_of};
-ghost use Rattle.ifs_parse.specs.declared.fault.ParseFault.TheVariants.{Unexpected, Period};
+ghost use Rattle.ifs_parse.specs.declared.fault.ParseFault.TheVariants as fault;
 ghost use Rattle.ifs_base.specs.Numbers.{sized};
 
 use crate::condition::Condition;
 use crate::fault::ParseFault;
 use crate::mark::{Mark, mark_of};
+use crate::period::Period;
 use crate::tree::{Name, Test};
 use ifs_base::limits::PERIOD;
 use ifs_base::{LinkState, Number, Span, Text, parse_number};
@@ -72,13 +73,13 @@ fn number_of(what: &What) -> Option<Number>
 }
 
 /// A number as a period, which stands at a span.
-fn period_of(number: Number, span: Span) -> Result<u32, ParseFault>
-    ensures { (n : ℕ) → sized n ≡ number → result ≡ (if reading.fits_period n then Ok n else Err (Period span.line)) }
+fn period_of(number: Number, span: Span) -> Result<Period, ParseFault>
+    ensures { (n : ℕ) → sized n ≡ number → result ≡ (if reading.fits_period n then Ok n else Err (fault.Period span.line)) }
 {
     match number {
         Number::Within(seconds) => {
             if 1 <= seconds && seconds <= u64::from(PERIOD) {
-                return Ok(seconds as u32);
+                return Ok(Period::new(seconds as u32));
             }
             Err(ParseFault::Period { line: span.line })
         }
@@ -99,7 +100,7 @@ impl<'a> Parser<'a> {
 
     /// That nothing goes on with the first token.
     pub fn unexpected(&self) -> ParseFault
-        ensures { result ≡ Unexpected (line_of self.now.left.now) }
+        ensures { result ≡ fault.Unexpected (line_of self.now.left.now) }
     {
         ParseFault::Unexpected { line: self.line() }
     }
@@ -162,14 +163,14 @@ impl<'a> Parser<'a> {
     }
 
     /// number : an unquoted word of digits, from 1 to 604,800
-    pub fn period(&mut self) -> Result<u32, ParseFault>
+    pub fn period(&mut self) -> Result<Period, ParseFault>
         ensures { Answers (λ n. (n, state_of self.new)) result (reading.period reading.fits_period (state_of self.old)) }
     {
         if let [token, rest @ ..] = self.left {
             if let Some(number) = number_of(&token.what) {
-                let seconds = period_of(number, token.span)?;
+                let period = period_of(number, token.span)?;
                 self.left = rest;
-                return Ok(seconds);
+                return Ok(period);
             }
         }
         Err(self.unexpected())

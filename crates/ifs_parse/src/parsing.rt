@@ -3,23 +3,30 @@
 ghost use Rattle.std.specs.Prelude.{◌≡◌, ◌≢◌, Err, IfOk, IfErr, IsOkAnd};
 ghost use Rattle.ifs_lex.specs.Expansion.{EndsOnce};
 ghost use Rattle.ifs_parse.specs.Combined.{Answers};
-ghost use Rattle.ifs_parse.specs.Files.{File};
+ghost use Rattle.ifs_parse.specs.Files.{File, file};
 ghost use Rattle.ifs_parse.specs.Grammar.{Says};
 ghost use Rattle.ifs_parse.specs.Reading.{fits_period, read_within};
 ghost use Rattle.ifs_parse.specs.declared.fault.ParseFault.TheVariants.{Memory};
 
 use crate::fault::ParseFault;
 use crate::parser::Parser;
-use crate::tree::Tree;
+use crate::tree::{Item, Tree};
 use ifs_lex::Token;
 use std::alloc::Global;
 
 /// How many `if`, `!` and `(` may be open at once.
 const NESTING: u32 = 32;
 
+/// What was read: the items, and the lines of the notes.
+#[derive(Drop)]
+struct Parsed {
+    items: Vec<Item>,
+    notes: Vec<u32>,
+}
+
 #[tactic(auto, unfolding(crate::specs::Reading::read_within))]
-fn read(alloc: Global, tokens: &[Token]) -> Result<Tree, ParseFault>
-    ensures { Answers (λ tree. tree) result (read_within fits_period 32 tokens.now) }
+fn read(alloc: Global, tokens: &[Token]) -> Result<Parsed, ParseFault>
+    ensures { Answers (λ parsed. file parsed.items.items parsed.notes.items) result (read_within fits_period 32 tokens.now) }
 {
     let mut parser = Parser {
         alloc,
@@ -28,7 +35,7 @@ fn read(alloc: Global, tokens: &[Token]) -> Result<Tree, ParseFault>
     };
     let items = parser.file(NESTING)?;
     let Parser { notes, .. } = parser;
-    Ok(Tree::new(items, notes))
+    Ok(Parsed { items, notes })
 }
 
 /// The tree of a policy's tokens, with its notes. The caller owes one `End`, as the last token.
@@ -45,7 +52,7 @@ pub fn parse(alloc: Global, tokens: &[Token]) -> Result<Tree, ParseFault>
     ensures first_fault { IfErr result (λ fault. fault ≢ Memory → read_within fits_period 32 tokens.now ≡ Err fault) }
 {
     match read(alloc, tokens) {
-        Ok(tree) => Ok(tree),
+        Ok(parsed) => Ok(Tree::new(parsed.items, parsed.notes)),
         Err(fault) => Err(fault),
     }
 }
