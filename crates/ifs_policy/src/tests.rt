@@ -82,7 +82,7 @@ fn check_test(rt: &impl Abort, policy: &Policy, index: u16, command: &str, perio
     match policy.test(TestId(index)) {
         Some(test) => {
             assert_eq!(rt; test.command.as_str(), command);
-            assert_eq!(rt; test.period, period);
+            assert_eq!(rt; test.period.seconds(), period);
         }
         None => assert!(rt; false, "test {index}"),
     }
