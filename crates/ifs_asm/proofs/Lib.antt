@@ -1,0 +1,3 @@
+mod Puts
+mod Lists
+mod Runs
