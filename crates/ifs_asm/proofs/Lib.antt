@@ -1,3 +1,3 @@
 mod Puts
-mod Lists
+mod Masks
 mod Runs

@@ -5,8 +5,8 @@ ghost use Rattle.std.specs.List.{flat_map, prefix_len};
 ghost use Rattle.ifs_base.specs.Words.{quoted_byte, quoted};
 ghost use Rattle.ifs_asm.specs.inner.Quoting.{is_plain};
 
-use ifs_base::{QuotedByte, Text, quote_byte};
-use std::alloc::AllocError;
+use ifs_base::{QuotedByte, Text, digit_value, quote_byte};
+use std::alloc::{AllocError, Global};
 
 /// Writes a text in quotes.
 pub(crate) fn put_quoted(out: &mut String, text: &Text) -> Result<(), AllocError>
@@ -95,4 +95,49 @@ fn is_plain(byte: u8) -> bool
     ensures { result ≡ is_plain byte }
 {
     byte >= 32 && byte != 127 && byte != b'"' && byte != b'\\'
+}
+
+/// The text that a word in quotes stands for; `None` where the word is none.
+pub(crate) fn text_of(alloc: Global, word: &[u8]) -> Result<Option<Text>, AllocError> {
+    let [b'"', inside @ .., b'"'] = word else {
+        return Ok(None);
+    };
+    let mut bytes = Vec::new(alloc);
+    bytes.try_reserve(inside.len())?;
+    let mut left = inside;
+    while !left.is_empty() {
+        let Some((byte, rest)) = next_byte(left) else {
+            return Ok(None);
+        };
+        bytes.push(byte)?;
+        left = rest;
+    }
+    Ok(String::from_utf8(bytes).ok().map(Text::new))
+}
+
+/// The byte that stands first between quotes, and what is left.
+fn next_byte(bytes: &[u8]) -> Option<(u8, &[u8])>
+    ensures { IfSome result (λ found. length found.1.now < length bytes.now) }
+{
+    match bytes {
+        [b'\\', b'"', rest @ ..] => Some((b'"', rest)),
+        [b'\\', b'\\', rest @ ..] => Some((b'\\', rest)),
+        [b'\\', b'x', high, low, rest @ ..] => Some((escaped(*high, *low)?, rest)),
+        [b'\\', ..] => None,
+        [b'"', ..] => None,
+        [0..=31 | 127, ..] => None,
+        [byte, rest @ ..] => Some((*byte, rest)),
+        [] => None,
+    }
+}
+
+/// The character from 1 to 127 of two hexadecimal digits.
+fn escaped(high: u8, low: u8) -> Option<u8> {
+    let high = digit_value(high)?;
+    let low = digit_value(low)?;
+    if high < 8 && 0 < high + low {
+        Some(16 * high + low)
+    } else {
+        None
+    }
 }

@@ -1,5 +1,5 @@
 use Rattle.std.proofs.Common.{◌++◌, List, ℕ, string_bytes, ◌∙◌, ap}
-use Rattle.ifs_asm.proofs.Lists.{at_start, ends_with_dash, ends}
+use Rattle.ifs_asm.proofs.Masks.{at_start, ends_with_dash, ends}
 use Rattle.ifs_asm.proofs.printing.put_list.Goals as goal
 
 pub loop-test-init : goal.loop-test-init

@@ -1,5 +1,5 @@
 use Rattle.std.proofs.Common.{string_bytes, sym, ◌∙◌}
-use Rattle.ifs_asm.proofs.Lists.{puts, passes}
+use Rattle.ifs_asm.proofs.Masks.{puts, passes}
 use Rattle.ifs_asm.proofs.printing.put_test_in.Goals as goal
 
 pub returns-then-not-has_test : goal.returns-then-not-has_test
