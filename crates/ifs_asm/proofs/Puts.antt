@@ -1,0 +1,70 @@
+-- Writing the lines of a table one after the other.
+use Rattle.std.proofs.Common.{◌≡◌, ℕ, codes, decimal, ◌+◌, ◌<◌, List, [], ◌∷◌, ◌++◌, length, get_or, take, map, refl, sym, ap, ◌∙◌, append_assoc}
+use Rattle.std.specs.List.{flat_map}
+use Rattle.std.proofs.lemmas.List.{append-nil, take_more}
+use Rattle.std.proofs.lemmas.List.Concat.{flat_map-append}
+use Rattle.ifs_image.specs.declared.parts.Routine.{Routine}
+use Rattle.ifs_image.specs.declared.parts.ImageParts.{ImageParts}
+use Rattle.ifs_asm.specs.declared.line.Line.{Line}
+use Rattle.ifs_asm.specs.declared.line.Line.TheVariants as lines
+use Rattle.ifs_asm.specs.Texts.{line_text, spaced, routine_lines, front_lines, canonical}
+
+pub bytes_more : {X : Type 0} (text : X → List ℕ) (xs : List X) (i : ℕ) (x : X) (old now new : List ℕ) → i < length xs → x ≡ get_or xs i x → now ≡ old ++ flat_map text (take i xs) → new ≡ now ++ text x → new ≡ old ++ flat_map text (take (i + 1) xs)
+bytes_more {X} text xs i x old now new lt at before put =
+    let front = flat_map text (take i xs) in
+    let next : take (i + 1) xs ≡ take i xs ++ x ∷ [] = take_more xs i x lt ∙ ap (λ (y : X). take i xs ++ y ∷ []) (sym at) in
+    let all : flat_map text (take (i + 1) xs) ≡ front ++ text x = ap (flat_map text) next ∙ flat_map-append text (take i xs) (x ∷ []) ∙ ap (λ (t : List ℕ). front ++ t) (append-nil (text x)) in
+    put ∙ ap (λ (t : List ℕ). t ++ text x) before ∙ append_assoc old front (text x) ∙ ap (λ (t : List ℕ). old ++ t) (sym all)
+
+-- The texts of what a function gives.
+pub flat_map-map : {X Y A : Type 0} (f : Y → List A) (g : X → Y) (xs : List X) → flat_map f (map g xs) ≡ flat_map (λ x. f (g x)) xs
+flat_map-map f g [] = refl
+flat_map-map f g (x ∷ xs) = ap (λ ys. f (g x) ++ ys) (flat_map-map f g xs)
+
+pub flat_map-flat_map : {X Y A : Type 0} (f : Y → List A) (g : X → List Y) (xs : List X) → flat_map f (flat_map g xs) ≡ flat_map (λ x. flat_map f (g x)) xs
+flat_map-flat_map f g [] = refl
+flat_map-flat_map f g (x ∷ xs) = flat_map-append f (g x) (flat_map g xs) ∙ ap (λ ys. flat_map f (g x) ++ ys) (flat_map-flat_map f g xs)
+
+-- The text of a routine: its line, then those of its instructions.
+pub routine_text : (old now new : List ℕ) (r : Routine) → now ≡ old ++ line_text (lines.Routine r.results) → new ≡ now ++ flat_map (λ op. line_text (lines.Instruction op)) r.code → new ≡ old ++ flat_map line_text (routine_lines r)
+routine_text old now new r first rest =
+    rest ∙ rw (first, flat_map-map line_text lines.Instruction r.code) (append_assoc old (line_text (lines.Routine r.results)) (flat_map (λ op. line_text (lines.Instruction op)) r.code))
+
+-- A text of lines, table by table.
+tables : {A B C D E : Type 0} (f : Line → List ℕ) (front : List Line) (ga : A → Line) (gb : B → Line) (gc : C → Line) (gd : D → Line) (ge : E → List Line) (xa : List A) (xb : List B) (xc : List C) (xd : List D) (xe : List E)
+    → flat_map f (front ++ map ga xa ++ map gb xb ++ map gc xc ++ map gd xd ++ flat_map ge xe)
+    ≡ flat_map f front ++ flat_map (λ x. f (ga x)) xa ++ flat_map (λ x. f (gb x)) xb ++ flat_map (λ x. f (gc x)) xc ++ flat_map (λ x. f (gd x)) xd ++ flat_map (λ x. flat_map f (ge x)) xe
+tables f front ga gb gc gd ge xa xb xc xd xe = simp (flat_map-append, flat_map-map, flat_map-flat_map)
+
+-- The canonical text, table by table.
+pub canonical_is : (p : ImageParts) → canonical p ≡
+    flat_map line_text (front_lines p) ++ flat_map (λ name. line_text (lines.Interface name)) p.interfaces ++ flat_map (λ test. line_text (lines.Test test)) p.tests
+    ++ flat_map (λ text. line_text (lines.Command text)) p.commands ++ flat_map (λ state. line_text (lines.State state)) p.states
+    ++ flat_map (λ routine. flat_map line_text (routine_lines routine)) p.routines
+unfolding canonical
+canonical_is p = tables line_text (front_lines p) lines.Interface lines.Test lines.Command lines.State routine_lines p.interfaces p.tests p.commands p.states p.routines
+
+-- The canonical text, as it is written.
+pub whole_text : (p : ImageParts) (a b c d e f g : List ℕ) → a ≡ [] → b ≡ a ++ flat_map line_text (front_lines p)
+    → c ≡ b ++ flat_map (λ name. line_text (lines.Interface name)) p.interfaces → d ≡ c ++ flat_map (λ test. line_text (lines.Test test)) p.tests
+    → e ≡ d ++ flat_map (λ text. line_text (lines.Command text)) p.commands → f ≡ e ++ flat_map (λ state. line_text (lines.State state)) p.states
+    → g ≡ f ++ flat_map (λ routine. flat_map line_text (routine_lines routine)) p.routines → g ≡ canonical p
+whole_text p a b c d e f g ha hb hc hd he hf hg = rw (hg, hf, he, hd, hc, hb, ha) (sym (canonical_is p))
+
+-- The line that begins a routine, as it is written.
+pub results_text : (old now new : List ℕ) (n : ℕ) → now ≡ old ++ codes "routine results " ++ decimal n → new ≡ now ++ codes "\n" → new ≡ old ++ line_text (lines.Routine n)
+results_text old now new n h k = rw (k, h) (simp append_assoc)
+
+-- A line of a word and a number, as it is written.
+pub number_line_text : (old a b c word n : List ℕ) → a ≡ old ++ word → b ≡ a ++ codes " " ++ n → c ≡ b ++ codes "\n" → c ≡ old ++ (spaced (word ∷ n ∷ []) ++ codes "\n")
+number_line_text old a b c word n ha hb hc = rw (hc, hb, ha) (simp (append_assoc, append-nil))
+
+joined : (old a b c d e f g : List ℕ) → old ++ a ++ b ++ c ++ d ++ e ++ f ++ g ≡ old ++ (a ++ (b ++ (c ++ (d ++ (e ++ (f ++ (g ++ [])))))))
+joined old a b c d e f g = simp (append_assoc, append-nil)
+
+-- The lines before the tables, as they are written.
+pub front_text : (p : ImageParts) (old a b c d e f g : List ℕ) → a ≡ old ++ codes "ifsv 1\n" → b ≡ a ++ line_text (lines.Stack p.budgets.stack) → c ≡ b ++ line_text (lines.Frames p.budgets.frames)
+    → d ≡ c ++ line_text (lines.Cost p.budgets.cost) → e ≡ d ++ line_text (lines.Commands p.budgets.commands) → f ≡ e ++ line_text (lines.Start p.initial)
+    → g ≡ f ++ line_text (lines.Always p.always) → g ≡ old ++ flat_map line_text (front_lines p)
+front_text p old a b c d e f g ha hb hc hd he hf hg =
+    rw (hg, hf, he, hd, hc, hb, ha) (joined old (codes "ifsv 1\n") (line_text (lines.Stack p.budgets.stack)) (line_text (lines.Frames p.budgets.frames)) (line_text (lines.Cost p.budgets.cost)) (line_text (lines.Commands p.budgets.commands)) (line_text (lines.Start p.initial)) (line_text (lines.Always p.always)))

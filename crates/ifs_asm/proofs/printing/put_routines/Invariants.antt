@@ -1,0 +1,7 @@
+use Rattle.std.proofs.Common.{◌≡◌, ◌++◌, take, string_bytes}
+use Rattle.std.specs.List.{flat_map}
+use Rattle.ifs_asm.specs.Texts.{line_text, routine_lines}
+use Rattle.ifs_asm.proofs.printing.put_routines.Given as goal
+
+abbrev pub invariant-loop-routine : goal.invariant-loop-routine
+invariant-loop-routine l = string_bytes l.out ≡ string_bytes l.fn.out ++ flat_map (λ routine. flat_map line_text (routine_lines routine)) (take l.routine-index l.routines)

@@ -1,0 +1,8 @@
+use Rattle.std.proofs.Common.{◌≡◌, ◌++◌, take, string_bytes}
+use Rattle.std.specs.List.{flat_map}
+use Rattle.ifs_asm.specs.declared.line.Line.TheVariants as lines
+use Rattle.ifs_asm.specs.Texts.{line_text}
+use Rattle.ifs_asm.proofs.printing.put_tests.Given as goal
+
+abbrev pub invariant-loop-test : goal.invariant-loop-test
+invariant-loop-test l = string_bytes l.out ≡ string_bytes l.fn.out ++ flat_map (λ test. line_text (lines.Test test)) (take l.test-index l.tests)

@@ -1,0 +1,3 @@
+-- What only private functions promise one another.
+pub mod Quoting
+pub mod Lists

@@ -1,0 +1,19 @@
+-- A list that is written item by item.
+use Rattle.std.specs.Prelude.{ℕ, Bool, true, false, List, [], ◌++◌, ◌-◌, map, decimal, codes}
+use Rattle.std.specs.List.{flat_map}
+use Rattle.ifs_base.specs.Words.{listed}
+use Rattle.ifs_asm.specs.Texts.{tests_from}
+
+-- What stands before an item: a comma, unless it is the first.
+abbrev pub before_item : Bool → List ℕ
+before_item true = []
+before_item false = codes ","
+
+-- What is left to write of a list, where these items are left and it may be that none was written yet.
+abbrev pub left_of_list : Bool → List (List ℕ) → List ℕ
+left_of_list true items = listed items
+left_of_list false items = flat_map (λ other. codes "," ++ other) items
+
+-- What is left to write of the tests of a mask before a test.
+abbrev pub left_at : Bool → ℕ → ℕ → List ℕ
+left_at is_first mask t = left_of_list is_first (map decimal (tests_from (64 - t) t mask))

@@ -1,0 +1,70 @@
+//! Why a text spells no image.
+
+ghost use Rattle.std.specs.Prelude.{◌≡◌};
+ghost use Rattle.ifs_asm.specs.declared.fault.AsmFault.TheVariants.{Memory};
+ghost use Rattle.ifs_asm.specs.declared.fault.LineFault.TheVariants as line;
+
+use std::alloc::{AllocError, AllocFailed};
+use thiserror::Error;
+
+/// The first line with a fault, by its number from 1. On one line A1 comes before A2, and A2 before A3.
+#[derive(Clone, Copy, Debug, PartialEq, Eq, Error)]
+pub enum AsmFault {
+    /// A1: the line has no form that is known, or has a name that stood before in its table.
+    #[error("A1 line {line}")]
+    Unknown { line: u64 },
+    /// A2: a number out of its range, a list that does not ascend, a text of 0 or over 1,024 bytes, or one entry too many.
+    #[error("A2 line {line}")]
+    OutOfRange { line: u64 },
+    /// A3: a line out of its order; or a part that is missing at the end, at the number of lines plus 1.
+    #[error("A3 line {line}")]
+    OutOfOrder { line: u64 },
+    /// A0: no memory was found for what the text spells.
+    #[error("A0")]
+    Memory,
+}
+
+impl From<AllocError> for AsmFault {
+    ghost from_gives = { λ _ e. e ≡ Memory };
+
+    fn from(_e: AllocError) -> AsmFault {
+        AsmFault::Memory
+    }
+}
+
+/// What is wrong with a line.
+#[derive(Clone, Copy, Debug, PartialEq, Eq)]
+pub(crate) enum LineFault {
+    Unknown,
+    OutOfRange,
+    OutOfOrder,
+    Memory,
+}
+
+impl LineFault {
+    /// The fault at a line.
+    pub(crate) fn at(self, line: u64) -> AsmFault {
+        match self {
+            LineFault::Unknown => AsmFault::Unknown { line },
+            LineFault::OutOfRange => AsmFault::OutOfRange { line },
+            LineFault::OutOfOrder => AsmFault::OutOfOrder { line },
+            LineFault::Memory => AsmFault::Memory,
+        }
+    }
+}
+
+impl From<AllocError> for LineFault {
+    ghost from_gives = { λ _ e. e ≡ line.Memory };
+
+    fn from(_e: AllocError) -> LineFault {
+        LineFault::Memory
+    }
+}
+
+impl<T: Drop> From<AllocFailed<T>> for LineFault {
+    ghost from_gives = { λ _ e. e ≡ line.Memory };
+
+    fn from(_e: AllocFailed<T>) -> LineFault {
+        LineFault::Memory
+    }
+}

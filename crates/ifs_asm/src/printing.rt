@@ -1,0 +1,284 @@
+//! Image to text, line by line.
+
+ghost use Rattle.std.specs.Prelude.{◌≡◌, ◌+◌, ◌++◌, ◌<◌, ◌^◌, ◌==◌, string_bytes, OnOk, IfOk, [], ◌∷◌, decimal, map, codes};
+ghost use Rattle.std.specs.Int.{bit_at};
+ghost use Rattle.std.specs.List.{flat_map};
+ghost use Rattle.ifs_base.specs.Words.{link_word, listed, quoted};
+ghost use Rattle.ifs_asm.specs.declared.line.Line.TheVariants as lines;
+ghost use Rattle.ifs_asm.specs.inner.Lists.{before_item, left_at};
+ghost use Rattle.ifs_asm.specs.Texts.{canonical, line_text, tests_of, handlers_words, op_words, spaced, routine_lines, front_lines};
+
+use crate::quoting::put_quoted;
+use ifs_base::{LinkState, Op, Text};
+use ifs_image::{Handlers, Image, ImageParts, Routine, StateSpec, TestSpec};
+use itoa::Buffer;
+use std::alloc::{AllocError, Global};
+
+/// The canonical text of an image: a line for each part, one space between words, decimal numbers.
+pub fn disassemble(alloc: Global, image: &Image) -> Result<String, AllocError>
+    ensures { IfOk result (λ text. string_bytes text ≡ canonical image.now) }
+{
+    let parts = image.parts();
+    let mut out = String::new(alloc);
+    put_front(&mut out, parts)?;
+    put_interfaces(&mut out, parts.interfaces.as_slice())?;
+    put_tests(&mut out, parts.tests.as_slice())?;
+    put_commands(&mut out, parts.commands.as_slice())?;
+    put_states(&mut out, parts.states.as_slice())?;
+    put_routines(&mut out, parts.routines.as_slice())?;
+    Ok(out)
+}
+
+/// Writes words and a number.
+fn put_number(out: &mut String, words: &str, number: u64) -> Result<(), AllocError>
+    ensures { OnOk result (string_bytes out.new ≡ string_bytes out.old ++ words.now ++ decimal number) }
+{
+    out.push_str(words)?;
+    out.push_str(Buffer::new().format(number))?;
+    Ok(())
+}
+
+/// Writes the lines before the tables.
+fn put_front(out: &mut String, parts: &ImageParts) -> Result<(), AllocError>
+    ensures { OnOk result (string_bytes out.new ≡ string_bytes out.old ++ flat_map line_text (front_lines parts.now)) }
+{
+    let budgets = parts.budgets;
+    out.push_str("ifsv 1\n")?;
+    put_number_line(out, "stack", u64::from(budgets.stack))?;
+    put_number_line(out, "frames", u64::from(budgets.frames))?;
+    put_number_line(out, "cost", u64::from(budgets.cost))?;
+    put_number_line(out, "commands", u64::from(budgets.commands))?;
+    put_number_line(out, "start", u64::from(parts.initial.0))?;
+    put_always(out, parts.always)?;
+    Ok(())
+}
+
+/// Writes a line of a word and a number.
+fn put_number_line(out: &mut String, word: &str, number: u64) -> Result<(), AllocError>
+    ensures { OnOk result (string_bytes out.new ≡ string_bytes out.old ++ (spaced (word.now ∷ decimal number ∷ []) ++ codes "\n")) }
+{
+    out.push_str(word)?;
+    put_number(out, " ", number)?;
+    out.push_str("\n")?;
+    Ok(())
+}
+
+/// Writes the line of the always part.
+fn put_always(out: &mut String, handlers: Handlers) -> Result<(), AllocError>
+    ensures { OnOk result (string_bytes out.new ≡ string_bytes out.old ++ line_text (lines.Always handlers)) }
+{
+    out.push_str("always")?;
+    put_handlers(out, handlers)?;
+    Ok(())
+}
+
+/// Writes the words of handlers, each after a space, and ends the line.
+fn put_handlers(out: &mut String, handlers: Handlers) -> Result<(), AllocError>
+    ensures { OnOk result (string_bytes out.new ≡ string_bytes out.old ++ flat_map (λ word. codes " " ++ word) (handlers_words handlers) ++ codes "\n") }
+{
+    put_number(out, " init ", u64::from(handlers.init.0))?;
+    put_number(out, " body ", u64::from(handlers.body.0))?;
+    out.push_str(" tests ")?;
+    put_list(out, handlers.mask)?;
+    out.push_str("\n")?;
+    Ok(())
+}
+
+/// Writes the tests of a mask, ascending, with commas between them; a dash where there is none.
+fn put_list(out: &mut String, mask: u64) -> Result<(), AllocError>
+    ensures { OnOk result (string_bytes out.new ≡ string_bytes out.old ++ listed (map decimal (tests_of mask))) }
+{
+    let mut is_first = true;
+    for test in 0..64 {
+        is_first = put_test_in(out, is_first, mask, test)?;
+    }
+    if is_first {
+        out.push_str("-")?;
+    }
+    Ok(())
+}
+
+/// Writes a test where a mask has it; whether the next item is still the first.
+fn put_test_in(out: &mut String, is_first: bool, mask: u64, test: u8) -> Result<bool, AllocError>
+    requires { test < 64 }
+    ensures { IfOk result (λ next. string_bytes out.new ++ left_at next mask (test + 1) ≡ string_bytes out.old ++ left_at is_first mask test) }
+{
+    if !has_test(mask, test) {
+        return Ok(is_first);
+    }
+    put_item(out, is_first, test)?;
+    Ok(false)
+}
+
+/// Whether a mask has the bit of a test.
+fn has_test(mask: u64, test: u8) -> bool
+    requires { test < 64 }
+    ensures { result ≡ (bit_at mask test == 1) }
+{
+    mask >> test & 1 == 1
+}
+
+/// Writes an item of a list, after a comma unless it is the first.
+fn put_item(out: &mut String, is_first: bool, number: u8) -> Result<(), AllocError>
+    ensures { OnOk result (string_bytes out.new ≡ string_bytes out.old ++ (before_item is_first ++ decimal number)) }
+{
+    if !is_first {
+        out.push_str(",")?;
+    }
+    put_number(out, "", u64::from(number))
+}
+
+fn put_interfaces(out: &mut String, names: &[Text]) -> Result<(), AllocError>
+    ensures { OnOk result (string_bytes out.new ≡ string_bytes out.old ++ flat_map (λ name. line_text (lines.Interface name)) names.now) }
+{
+    for name in names {
+        put_interface(out, name)?;
+    }
+    Ok(())
+}
+
+fn put_interface(out: &mut String, name: &Text) -> Result<(), AllocError>
+    ensures { OnOk result (string_bytes out.new ≡ string_bytes out.old ++ line_text (lines.Interface name.now)) }
+{
+    put_named(out, "iface ", name)?;
+    Ok(())
+}
+
+/// Writes words, a text in quotes, and ends the line.
+fn put_named(out: &mut String, words: &str, text: &Text) -> Result<(), AllocError>
+    ensures { OnOk result (string_bytes out.new ≡ string_bytes out.old ++ words.now ++ quoted text.now ++ codes "\n") }
+{
+    out.push_str(words)?;
+    put_quoted(out, text)?;
+    out.push_str("\n")?;
+    Ok(())
+}
+
+fn put_commands(out: &mut String, commands: &[Text]) -> Result<(), AllocError>
+    ensures { OnOk result (string_bytes out.new ≡ string_bytes out.old ++ flat_map (λ text. line_text (lines.Command text)) commands.now) }
+{
+    for command in commands {
+        put_command(out, command)?;
+    }
+    Ok(())
+}
+
+fn put_command(out: &mut String, command: &Text) -> Result<(), AllocError>
+    ensures { OnOk result (string_bytes out.new ≡ string_bytes out.old ++ line_text (lines.Command command.now)) }
+{
+    put_named(out, "command ", command)?;
+    Ok(())
+}
+
+fn put_tests(out: &mut String, tests: &[TestSpec]) -> Result<(), AllocError>
+    ensures { OnOk result (string_bytes out.new ≡ string_bytes out.old ++ flat_map (λ test. line_text (lines.Test test)) tests.now) }
+{
+    for test in tests {
+        put_test(out, test)?;
+    }
+    Ok(())
+}
+
+fn put_test(out: &mut String, test: &TestSpec) -> Result<(), AllocError>
+    ensures { OnOk result (string_bytes out.new ≡ string_bytes out.old ++ line_text (lines.Test test.now)) }
+{
+    put_number(out, "test ", u64::from(test.period))?;
+    put_named(out, " ", &test.text)?;
+    Ok(())
+}
+
+fn put_states(out: &mut String, states: &[StateSpec]) -> Result<(), AllocError>
+    ensures { OnOk result (string_bytes out.new ≡ string_bytes out.old ++ flat_map (λ state. line_text (lines.State state)) states.now) }
+{
+    for state in states {
+        put_state(out, state)?;
+    }
+    Ok(())
+}
+
+fn put_state(out: &mut String, state: &StateSpec) -> Result<(), AllocError>
+    ensures { OnOk result (string_bytes out.new ≡ string_bytes out.old ++ line_text (lines.State state.now)) }
+{
+    out.push_str("state ")?;
+    put_quoted(out, &state.name)?;
+    put_handlers(out, state.handlers)?;
+    Ok(())
+}
+
+fn put_routines(out: &mut String, routines: &[Routine]) -> Result<(), AllocError>
+    ensures { OnOk result (string_bytes out.new ≡ string_bytes out.old ++ flat_map (λ routine. flat_map line_text (routine_lines routine)) routines.now) }
+{
+    for routine in routines {
+        put_routine(out, routine)?;
+    }
+    Ok(())
+}
+
+fn put_routine(out: &mut String, routine: &Routine) -> Result<(), AllocError>
+    ensures { OnOk result (string_bytes out.new ≡ string_bytes out.old ++ flat_map line_text (routine_lines routine.now)) }
+{
+    put_results(out, routine.results)?;
+    put_code(out, routine.code.as_slice())?;
+    Ok(())
+}
+
+/// Writes the line that begins a routine.
+fn put_results(out: &mut String, results: u8) -> Result<(), AllocError>
+    ensures { OnOk result (string_bytes out.new ≡ string_bytes out.old ++ line_text (lines.Routine results)) }
+{
+    put_number(out, "routine results ", u64::from(results))?;
+    out.push_str("\n")?;
+    Ok(())
+}
+
+fn put_code(out: &mut String, code: &[Op]) -> Result<(), AllocError>
+    ensures { OnOk result (string_bytes out.new ≡ string_bytes out.old ++ flat_map (λ op. line_text (lines.Instruction op)) code.now) }
+{
+    for op in code {
+        put_op(out, *op)?;
+    }
+    Ok(())
+}
+
+/// Writes the line of an instruction.
+fn put_op(out: &mut String, op: Op) -> Result<(), AllocError>
+    ensures { OnOk result (string_bytes out.new ≡ string_bytes out.old ++ line_text (lines.Instruction op)) }
+{
+    match op {
+        Op::Ret => out.push_str("ret")?,
+        Op::Yes => out.push_str("true")?,
+        Op::No => out.push_str("false")?,
+        Op::Link(iface, state) => {
+            put_number(out, "link ", u64::from(iface.0))?;
+            out.push_str(link_word(state))?;
+        }
+        Op::Test(test) => put_number(out, "test ", u64::from(test.0))?,
+        Op::Known(test) => put_number(out, "known ", u64::from(test.0))?,
+        Op::Negate => out.push_str("not")?,
+        Op::Both => out.push_str("and")?,
+        Op::Either => out.push_str("or")?,
+        Op::PushCommand(command) => put_number(out, "cmd ", u64::from(command.0))?,
+        Op::PushState(state) => put_number(out, "state ", u64::from(state.0))?,
+        Op::Queue => out.push_str("queue")?,
+        Op::Want => out.push_str("want")?,
+        Op::Jump(place) => put_number(out, "jump ", u64::from(place))?,
+        Op::JumpFalse(place) => put_number(out, "jf ", u64::from(place))?,
+        Op::JumpTrue(place) => put_number(out, "jt ", u64::from(place))?,
+        Op::Call(routine) => put_number(out, "call ", u64::from(routine.0))?,
+        Op::Pop => out.push_str("pop")?,
+        Op::Dup => out.push_str("dup")?,
+    }
+    out.push_str("\n")?;
+    Ok(())
+}
+
+/// The word of a link state, after a space.
+fn link_word(state: LinkState) -> &'static str
+    ensures { result.now ≡ codes " " ++ link_word state }
+{
+    match state {
+        LinkState::Unknown => " unknown",
+        LinkState::Down => " down",
+        LinkState::Up => " up",
+    }
+}
