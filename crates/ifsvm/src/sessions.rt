@@ -1,7 +1,8 @@
 //! Sessions on standard input and output.
 
-use crate::answering::image_at;
+use crate::answering::input_at;
 use crate::ending::{Ending, out_of_memory};
+use crate::task::Task;
 use ifs_core::Core;
 use ifs_session::{FromRead, RunFault, ToWrite, run_hex, simulate};
 use ifs_verify::{VerifyFault, verify};
@@ -12,7 +13,7 @@ use std::rt::Files;
 /// A session whose first line is the image.
 pub fn by_hexadecimal<R: Input + Print + Alloc<A = Global>>(rt: &R) -> Result<Ending, Ending> {
     let Ok(writer) = BufWriter::new(rt.alloc(), io::writer(rt)) else {
-        return out_of_memory(rt);
+        return out_of_memory(rt, Task::Verify);
     };
     let mut input = FromRead::new(rt.reader());
     let mut output = ToWrite::new(writer);
@@ -28,7 +29,7 @@ pub fn on_file<R: Files + Input + Print + Alloc<A = Global>>(
     rt: &R,
     path: String,
 ) -> Result<Ending, Ending> {
-    let image = image_at(rt, path)?;
+    let image = input_at(rt, Task::Verify, path)?;
     match opened(rt.alloc(), image.as_slice()) {
         Ok(mut core) => simulated(rt, &mut core),
         Err(fault) => {
@@ -52,7 +53,7 @@ fn simulated<R: Input + Print + Alloc<A = Global>>(
     core: &mut Core,
 ) -> Result<Ending, Ending> {
     let Ok(writer) = BufWriter::new(rt.alloc(), io::writer(rt)) else {
-        return out_of_memory(rt);
+        return out_of_memory(rt, Task::Verify);
     };
     let mut input = FromRead::new(rt.reader());
     let mut output = ToWrite::new(writer);
