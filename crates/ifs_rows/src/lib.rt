@@ -1,12 +1,14 @@
 //! The worked rows: images with sessions on them, bytes that are refused, and policy texts with what
-//! `check` prints of them. A library for tests alone.
+//! `check` prints of them or with sessions on what they compile to. A library for tests alone.
 #![tactic(auto)]
 
+pub mod compiling;
 mod hexadecimal;
 pub mod images;
 pub mod policies;
 mod refused;
 pub mod sessions;
+mod texts;
 
 pub use hexadecimal::{bytes_of, digits_of};
 pub use refused::{cost_through_calls, refusals};
@@ -38,6 +40,21 @@ pub struct Refusal {
     pub image: &'static str,
     /// The line that is printed.
     pub answer: &'static str,
+}
+
+/// A policy text that compiles, with a session on what it compiles to.
+#[derive(Clone, Copy, Debug)]
+pub struct Compiled {
+    /// What a failing test calls it.
+    pub name: &'static str,
+    /// The text.
+    pub policy: &'static str,
+    /// The definitions beside it, names with values.
+    pub definitions: &'static [(&'static str, &'static str)],
+    /// Request lines, from a fresh core on.
+    pub requests: &'static str,
+    /// Their reply lines, one for each request.
+    pub replies: &'static str,
 }
 
 /// A policy text, and what `check` prints of it.

@@ -1,6 +1,6 @@
 //! Policy texts, each with the lines that `check` prints of it.
 
-use crate::Checked;
+use crate::{Checked, texts};
 
 /// Texts that are policies.
 const ACCEPTED: &[Checked] = &[
@@ -12,20 +12,20 @@ const ACCEPTED: &[Checked] = &[
     },
     Checked {
         name: "first policy",
-        policy: "state a { if carp0.link.up run \"echo m\" }",
+        policy: texts::FIRST_POLICY,
         definitions: &[],
         answer: "ok 1 interfaces 0 tests 1 commands 1 states\n",
     },
     Checked {
         name: "binding",
-        policy: "state s { if a.link.up || b.link.up && c.link.up run \"echo y\" }",
+        policy: texts::BINDING,
         definitions: &[],
         answer: "note line 1: || and && without parentheses\n\
                  ok 3 interfaces 0 tests 1 commands 1 states\n",
     },
     Checked {
         name: "binding the other way",
-        policy: "state s { if ( a.link.up || b.link.up ) && c.link.up run \"echo y\" }",
+        policy: texts::BINDING_OTHER_WAY,
         definitions: &[],
         answer: "ok 3 interfaces 0 tests 1 commands 1 states\n",
     },
@@ -37,22 +37,19 @@ const ACCEPTED: &[Checked] = &[
     },
     Checked {
         name: "comment and newline",
-        policy: "state a { # note \\\n\
-                 if em0.link.up run \"x\"\n\
-                 init run \"echo a\n\
-                 b\" }",
+        policy: texts::COMMENT_AND_NEWLINE,
         definitions: &[],
         answer: "ok 0 interfaces 0 tests 1 commands 1 states\n",
     },
     Checked {
         name: "outside definition",
-        policy: "x = \"em0\" state a { if $x.link.up run \"r\" }",
+        policy: texts::OUTSIDE_DEFINITION,
         definitions: &[("x", "em1")],
         answer: "ok 1 interfaces 0 tests 1 commands 1 states\n",
     },
     Checked {
         name: "two outside definitions of one name",
-        policy: "x = \"em0\" state a { if $x.link.up run \"r\" }",
+        policy: texts::OUTSIDE_DEFINITION,
         definitions: &[("x", "em1"), ("x", "em2")],
         answer: "ok 1 interfaces 0 tests 1 commands 1 states\n",
     },
@@ -144,22 +141,19 @@ const ACCEPTED: &[Checked] = &[
     },
     Checked {
         name: "last wish",
-        policy: "state a { if carp0.link.up { set-state b set-state c run \"echo r\" } } \
-                 state b { init run \"echo b\" } state c { init run \"echo c\" }",
+        policy: texts::LAST_WISH,
         definitions: &[],
         answer: "ok 1 interfaces 0 tests 3 commands 3 states\n",
     },
     Checked {
         name: "macros",
-        policy: "net = '( \"ping -q -c 1 host\" every 10 )'\n\
-                 bad = '! $net'\n\
-                 state a { if $bad run \"echo d\" }",
+        policy: texts::MACROS,
         definitions: &[],
         answer: "ok 0 interfaces 1 tests 1 commands 1 states\n",
     },
     Checked {
         name: "initial state",
-        policy: "init-state b state a { } state b { init run \"echo b\" }",
+        policy: texts::INITIAL_STATE,
         definitions: &[],
         answer: "ok 0 interfaces 0 tests 1 commands 2 states\n",
     },
@@ -198,13 +192,13 @@ const ACCEPTED: &[Checked] = &[
     },
     Checked {
         name: "held back",
-        policy: "state a { if \"t1\" every 5 && \"t2\" every 5 run \"echo y\" }",
+        policy: texts::HELD_BACK,
         definitions: &[],
         answer: "ok 0 interfaces 2 tests 1 commands 1 states\n",
     },
     Checked {
         name: "own state",
-        policy: "state a { if carp0.link.up set-state a init run \"echo i\" }",
+        policy: texts::OWN_STATE,
         definitions: &[],
         answer: "ok 1 interfaces 0 tests 1 commands 1 states\n",
     },

@@ -1,6 +1,6 @@
 //! Sessions on accepted images, each from a fresh core.
 
-use crate::{Row, images};
+use crate::{Row, images, texts};
 
 /// The smallest image: one state `a`, whose handlers are the one routine.
 pub fn smallest_image() -> Row {
@@ -34,13 +34,11 @@ pub fn first_run() -> Row {
     }
 }
 
-const FIRST_POLICY_TEXT: &str = "state a { if carp0.link.up run \"echo m\" }";
-
 /// A condition on a link.
 pub fn first_policy() -> Row {
     Row {
         name: "first_policy",
-        policy: Some(FIRST_POLICY_TEXT),
+        policy: Some(texts::FIRST_POLICY),
         image: images::FIRST_POLICY,
         answer: "ok stack 1 frames 1 cost 7 commands 1\n",
         requests: "link carp0 up\n\
@@ -54,7 +52,7 @@ pub fn first_policy() -> Row {
 pub fn last_moment() -> Row {
     Row {
         name: "last_moment",
-        policy: Some(FIRST_POLICY_TEXT),
+        policy: Some(texts::FIRST_POLICY),
         image: images::FIRST_POLICY,
         answer: "ok stack 1 frames 1 cost 7 commands 1\n",
         requests: "tick 18446744073709551615\n\
@@ -92,9 +90,7 @@ pub fn short_jump() -> Row {
 pub fn last_wish() -> Row {
     Row {
         name: "last_wish",
-        policy: Some(
-            "state a { if carp0.link.up { set-state b set-state c run \"echo r\" } } state b { init run \"echo b\" } state c { init run \"echo c\" }",
-        ),
+        policy: Some(texts::LAST_WISH),
         image: images::LAST_WISH,
         answer: "ok stack 1 frames 1 cost 13 commands 2\n",
         requests: "link carp0 up\n\
@@ -122,7 +118,7 @@ pub fn last_wish_straight() -> Row {
 pub fn own_state() -> Row {
     Row {
         name: "own_state",
-        policy: Some("state a { if carp0.link.up set-state a init run \"echo i\" }"),
+        policy: Some(texts::OWN_STATE),
         image: images::OWN_STATE,
         answer: "ok stack 1 frames 1 cost 9 commands 1\n",
         requests: "link carp0 up\n\
@@ -162,14 +158,11 @@ pub fn wishing_init() -> Row {
     }
 }
 
-const MACROS_TEXT: &str =
-    "net = '( \"ping -q -c 1 host\" every 10 )'\nbad = '! $net'\nstate a { if $bad run \"echo d\" }";
-
 /// A test that is started, and whose results change.
 pub fn macros() -> Row {
     Row {
         name: "macros",
-        policy: Some(MACROS_TEXT),
+        policy: Some(texts::MACROS),
         image: images::MACROS,
         answer: "ok stack 1 frames 1 cost 10 commands 1\n",
         requests: "tick 0\n\
@@ -189,7 +182,7 @@ pub fn macros() -> Row {
 pub fn ticks() -> Row {
     Row {
         name: "ticks",
-        policy: Some(MACROS_TEXT),
+        policy: Some(texts::MACROS),
         image: images::MACROS,
         answer: "ok stack 1 frames 1 cost 10 commands 1\n",
         requests: "tick 5\n\
@@ -359,7 +352,7 @@ pub fn busy() -> Row {
 pub fn held_back() -> Row {
     Row {
         name: "held_back",
-        policy: Some("state a { if \"t1\" every 5 && \"t2\" every 5 run \"echo y\" }"),
+        policy: Some(texts::HELD_BACK),
         image: images::HELD_BACK,
         answer: "ok stack 2 frames 1 cost 13 commands 1\n",
         requests: "tick 100\n\
@@ -409,7 +402,7 @@ pub fn stale() -> Row {
 pub fn binding() -> Row {
     Row {
         name: "binding",
-        policy: Some("state s { if a.link.up || b.link.up && c.link.up run \"echo y\" }"),
+        policy: Some(texts::BINDING),
         image: images::BINDING,
         answer: "ok stack 3 frames 1 cost 11 commands 1\n",
         requests: "link a up\n\
@@ -435,7 +428,7 @@ pub fn binding() -> Row {
 pub fn binding_other_way() -> Row {
     Row {
         name: "binding_other_way",
-        policy: Some("state s { if ( a.link.up || b.link.up ) && c.link.up run \"echo y\" }"),
+        policy: Some(texts::BINDING_OTHER_WAY),
         image: images::BINDING_OTHER_WAY,
         answer: "ok stack 2 frames 1 cost 11 commands 1\n",
         requests: "link a up\n\
@@ -502,7 +495,7 @@ pub fn trace() -> Row {
 pub fn initial_state() -> Row {
     Row {
         name: "initial_state",
-        policy: Some("init-state b state a { } state b { init run \"echo b\" }"),
+        policy: Some(texts::INITIAL_STATE),
         image: images::INITIAL_STATE,
         answer: "ok stack 1 frames 1 cost 5 commands 1\n",
         requests: "status\n\
@@ -530,14 +523,11 @@ pub fn before_starts() -> Row {
     }
 }
 
-const SHARED_CONDITION_TEXT: &str =
-    "state a { if a.link.up || b.link.up && c.link.up run \"x\" if a.link.up || b.link.up && c.link.up run \"y\" }";
-
-/// A condition that two `if`s share by a call.
+/// A condition, `a.link.up || b.link.up && c.link.up`, that two `if`s share by a call.
 pub fn shared_condition() -> Row {
     Row {
         name: "shared_condition",
-        policy: Some(SHARED_CONDITION_TEXT),
+        policy: None,
         image: images::SHARED_CONDITION,
         answer: "ok stack 3 frames 2 cost 23 commands 2\n",
         requests: "link a up\n",
@@ -549,7 +539,7 @@ pub fn shared_condition() -> Row {
 pub fn shared_condition_not_met() -> Row {
     Row {
         name: "shared_condition_not_met",
-        policy: Some(SHARED_CONDITION_TEXT),
+        policy: None,
         image: images::SHARED_CONDITION,
         answer: "ok stack 3 frames 2 cost 23 commands 2\n",
         requests: "link b up\n",
