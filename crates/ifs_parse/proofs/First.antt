@@ -34,6 +34,7 @@ use Rattle.ifs_parse.specs.declared.fault.ParseFault.TheVariants.{Unexpected}
 use Rattle.ifs_parse.proofs.Read.{exact_string, exact_period, exact_test, exact_next, exact_all, exact_one, exact_condition, reads_more, begins_longer, exact_braced, exact_part, exact_item, part_longer, item_longer, closes_part, not_statement, close_if, close_run, close_set, No, Over, NoStatement, NoPart, NoItem, known, Known}
 use Rattle.ifs_parse.proofs.Stuck.{found_by_next, line_by_next, ByNext, Fails, fails_as, Sample, Stuck, stuck_pure, stuck_token, stuck_then_at, stuck_then, stuck_either, stuck_deep, stuck_begins, stuck_no_more, stuck_as, stuck_required, stuck_option, stuck_noted, stuck_many, optional_or, Broke, Before, After, broke}
 use Rattle.ifs_parse.proofs.Whole.{says_no_fault}
+use Rattle.ifs_parse.proofs.Limits.{no_help_at}
 use Rattle.ifs_parse.specs.Files.{File, file}
 use Rattle.ifs_parse.specs.Grammar.{StopsAt}
 use Rattle.ifs_parse.specs.Combined.{◌>>=◌}
@@ -449,6 +450,7 @@ broke_all tokens fault (Before e) =
       cannot = λ more other h said.
           says_no_fault fits 32 (f.front ++ more) other fault said
           (ap (λ (r : Result (List Item × State) ParseFault). r >>= λ r. Ok (file r.0 r.1.notes)) (f.same more [] h));
+      no_help = no_help_at f.front f.left fault (λ w h. ap (λ (r : Result (List Item × State) ParseFault). r >>= λ r. Ok (file r.0 r.1.notes)) (f.same w [] h));
     }
 
 -- A fault is where the tokens stop.

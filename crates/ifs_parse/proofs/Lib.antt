@@ -2,6 +2,8 @@ pub mod Turns
 pub mod Alternatives
 pub mod Exact
 pub mod Read
+pub mod Wider
 pub mod Whole
+pub mod Limits
 pub mod Stuck
 pub mod First

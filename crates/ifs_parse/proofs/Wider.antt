@@ -1,0 +1,199 @@
+-- What a reader within wider limits reads alike: each value, and the faults that the wider limits keep.
+use Rattle.std.proofs.Common.{◌≡◌, ℕ, zero, suc, ◌≤◌, refl, sym, ap, subst, ◌∙◌, Bool, true, false, ◌||◌, Option, Some, None, Ok, Err, List, [], ◌∷◌, length, arith}
+use Rattle.std.specs.Prelude.{Result, if◌then◌else◌, option_map}
+use Rattle.std.specs.Option.{option_map_or}
+use Rattle.ifs_base.specs.declared.span.Span.{Span}
+use Rattle.ifs_lex.specs.declared.token.Token.{Token}
+use Rattle.ifs_parse.specs.declared.fault.ParseFault.{ParseFault}
+use Rattle.ifs_parse.specs.declared.fault.ParseFault.TheVariants.{Unexpected, Period, Nesting}
+use Rattle.ifs_parse.specs.declared.mark.Mark.{Mark}
+use Rattle.ifs_parse.specs.declared.mark.Mark.TheVariants as mark
+use Rattle.ifs_parse.specs.declared.tree.Name.{Name}
+use Rattle.ifs_parse.specs.declared.tree.Test.{Test}
+use Rattle.ifs_parse.specs.declared.tree.Wish.{Wish}
+use Rattle.ifs_parse.specs.declared.tree.Part.{Part}
+use Rattle.ifs_parse.specs.declared.tree.Item.{Item}
+use Rattle.ifs_parse.specs.declared.tree.Item.TheVariants.{InitState, Always as AlwaysItem}
+use Rattle.ifs_parse.specs.declared.block.Statement.{Statement}
+use Rattle.ifs_parse.specs.declared.parser.Operand.{Operand}
+use Rattle.ifs_parse.specs.Trees as tree
+use Rattle.ifs_parse.specs.Files.{File, file}
+use Rattle.ifs_parse.specs.Combined.{State, state, Parse, past, line_of, ◌>>=◌, ◌▸◌, pure, found, accepted, either, begins, expected, unexpected, no_more, required, many, many_from}
+use Rattle.ifs_parse.specs.Reading as reading
+use Rattle.ifs_parse.specs.Reading.{read_within}
+
+module _ (kept : ParseFault → Type 0) where
+  -- The second result is the first one's value, or its fault where that is kept.
+  abbrev pub Alike : {A : Type 0} → Result A ParseFault → Result A ParseFault → Type 0
+  Alike (Ok a) r = r ≡ Ok a
+  Alike (Err fault) r = kept fault → r ≡ Err fault
+
+  abbrev pub Follows : {X : Type 0} → Parse X → Parse X → Type 0
+  Follows p q = (s : State) → Alike (p s) (q s)
+
+  alike_same : {A : Type 0} (r : Result A ParseFault) → Alike r r
+  alike_same (Ok a) = refl
+  alike_same (Err fault) = λ k. refl
+
+  alike_bind : {A B : Type 0} (r u : Result A ParseFault) (f g : A → Result B ParseFault) → Alike r u → ((a : A) → Alike (f a) (g a)) → Alike (r >>= f) (u >>= g)
+  alike_bind (Ok a) u f g e h = subst (λ (u : Result _ ParseFault). Alike (f a) (u >>= g)) (sym e) (h a)
+  alike_bind (Err fault) u f g e h = λ k. ap (λ (u : Result _ ParseFault). u >>= g) (e k)
+
+  follows_same : {X : Type 0} (p : Parse X) → Follows p p
+  follows_same p s = alike_same (p s)
+
+  follows_then : {X Y : Type 0} (p u : Parse X) (q v : X → Parse Y) → Follows p u → ((x : X) → Follows (q x) (v x)) → Follows (p ▸ q) (u ▸ v)
+  follows_then p u q v h k s = alike_bind (p s) (u s) (λ r. q r.0 r.1) (λ r. v r.0 r.1) (h s) (λ r. k r.0 r.1)
+
+  follows_map : {X Y : Type 0} (p u : Parse X) (q : X → Parse Y) → Follows p u → Follows (p ▸ q) (u ▸ q)
+  follows_map p u q h = follows_then p u q q h (λ x. follows_same (q x))
+
+  follows_after : {X Y : Type 0} (p : Parse X) (q v : X → Parse Y) → ((x : X) → Follows (q x) (v x)) → Follows (p ▸ q) (p ▸ v)
+  follows_after p q v k = follows_then p p q v (follows_same p) k
+
+  alike_option : {A X : Type 0} (o : Option X) (f g : X → Result A ParseFault) (r u : Result A ParseFault) → ((x : X) → Alike (f x) (g x)) → Alike r u → Alike (option_map_or f o r) (option_map_or g o u)
+  alike_option None f g r u h k = k
+  alike_option (Some x) f g r u h k = h x
+
+  follows_either : {X : Type 0} (m : Mark) (q v : Span → Parse X) (r u : Parse X) → ((span : Span) → Follows (q span) (v span)) → Follows r u → Follows (either m q r) (either m v u)
+  follows_either m q v r u h k s = alike_option (accepted m s.left) (λ span. q span (past s)) (λ span. v span (past s)) (r s) (u s) (λ span. h span (past s)) (k s)
+
+  follows_begins : {X : Type 0} (m : Mark) (q v : Span → Parse X) (r u : Parse (Option X)) → ((span : Span) → Follows (q span) (v span)) → Follows r u → Follows (begins m q r) (begins m v u)
+  follows_begins m q v r u h k = follows_either m _ _ r u (λ span. follows_map (q span) (v span) (λ x. pure (Some x)) (h span)) k
+
+  follows_many_from : {A X : Type 0} (part other : Parse (Option X)) (add : A → X → A) → Follows part other → (n : ℕ) (a : A) → Follows (many_from part add n a) (many_from other add n a)
+  follows_many_from part other add h zero a s = refl
+  follows_many_from part other add h (suc n) a s =
+      alike_bind (part s) (other s) _ _ (h s)
+      (λ r. alike_option r.0 (λ x. many_from part add n (add a x) r.1) (λ x. many_from other add n (add a x) r.1) (Ok (a, r.1)) (Ok (a, r.1))
+      (λ x. follows_many_from part other add h n (add a x) r.1) refl)
+
+  follows_many : {A X : Type 0} (part other : Parse (Option X)) (add : A → X → A) → Follows part other → (a : A) → Follows (many part add a) (many other add a)
+  follows_many part other add h a s = follows_many_from part other add h (length s.left) a s
+
+  follows_next : {X : Type 0} (m : Mark) (p u : Parse X) → Follows p u → Follows (reading.next_operand m p) (reading.next_operand m u)
+  follows_next m p u h = follows_begins m (λ _. p) (λ _. u) no_more no_more (λ _. h) (follows_same no_more)
+
+  module _ (one two : Parse (tree.Condition Test)) (h : Follows one two) where
+    follows_chain : (first : tree.Condition Test) → Follows (reading.chain one first) (reading.chain two first)
+    follows_chain first =
+        follows_then one two _ _ h
+        (λ second. follows_map (many (reading.next_operand mark.And one) reading.with_last []) (many (reading.next_operand mark.And two) reading.with_last []) _
+        (follows_many (reading.next_operand mark.And one) (reading.next_operand mark.And two) reading.with_last (follows_next mark.And one two h) []))
+
+    follows_all : Follows (reading.all one) (reading.all two)
+    follows_all =
+        follows_then one two _ _ h
+        (λ first. follows_either mark.And (λ _. reading.chain one first) (λ _. reading.chain two first) _ _ (λ _. follows_chain first) (follows_same (pure (reading.operand first false))))
+
+  module _ (all every : Parse Operand) (h : Follows all every) where
+    follows_alternatives : (first : Operand) → Follows (reading.alternatives all first) (reading.alternatives every first)
+    follows_alternatives first =
+        follows_then all every _ _ h
+        (λ second. follows_map (many (reading.next_operand mark.Or all) reading.with_operand (reading.others [] (first.is_chain || second.is_chain)))
+        (many (reading.next_operand mark.Or every) reading.with_operand (reading.others [] (first.is_chain || second.is_chain))) _
+        (follows_many (reading.next_operand mark.Or all) (reading.next_operand mark.Or every) reading.with_operand (follows_next mark.Or all every h) _))
+
+    follows_any : Follows (reading.any all) (reading.any every)
+    follows_any =
+        follows_then all every _ _ h
+        (λ first. follows_either mark.Or (reading.noted_alternatives all first) (reading.noted_alternatives every first) _ _
+        (λ span s. alike_bind (reading.alternatives all first s) (reading.alternatives every first s) _ _ (follows_alternatives first s) (λ r. refl))
+        (follows_same (pure first.condition)))
+
+  follows_braced : {X : Type 0} (part other : Parse (Option X)) → Follows part other → Follows (reading.braced part) (reading.braced other)
+  follows_braced part other h =
+      follows_map (many part reading.with_last []) (many other reading.with_last []) _ (follows_many part other reading.with_last h [])
+
+  module _ (p u : Parse (Option (Statement Test Name Wish))) (h : Follows p u) where
+    follows_block : Follows (reading.block p) (reading.block u)
+    follows_block =
+        follows_either mark.BraceOpen _ _ _ _ (λ _. follows_map (reading.braced p) (reading.braced u) _ (follows_braced p u h))
+        (follows_map (required p) (required u) _ (follows_map p u _ h))
+
+    follows_part : Follows (reading.part p) (reading.part u)
+    follows_part =
+        follows_begins mark.Init _ _ _ _ (λ span. follows_map (reading.block p) (reading.block u) _ follows_block) (follows_map p u _ h)
+
+    follows_state : Follows (reading.state_item (reading.part p)) (reading.state_item (reading.part u))
+    follows_state =
+        follows_after reading.string _ _ (λ name. follows_after (expected mark.BraceOpen) _ _ (λ _. follows_map (reading.braced (reading.part p)) (reading.braced (reading.part u)) _ (follows_braced (reading.part p) (reading.part u) follows_part)))
+
+    follows_item : Follows (reading.item (reading.part p)) (reading.item (reading.part u))
+    follows_item =
+        follows_begins mark.InitState (λ span. reading.string ▸ λ name. pure (InitState span name)) (λ span. reading.string ▸ λ name. pure (InitState span name))
+        (begins mark.State (λ _. reading.state_item (reading.part p)) (reading.part p ▸ λ p. pure (option_map AlwaysItem p)))
+        (begins mark.State (λ _. reading.state_item (reading.part u)) (reading.part u ▸ λ p. pure (option_map AlwaysItem p)))
+        (λ span. follows_same (reading.string ▸ λ name. pure (InitState span name)))
+        (follows_begins mark.State _ _ _ _ (λ _. follows_state) (follows_map (reading.part p) (reading.part u) (λ p. pure (option_map AlwaysItem p)) follows_part))
+
+    follows_items : Follows (reading.items (reading.item (reading.part p))) (reading.items (reading.item (reading.part u)))
+    follows_items =
+        follows_map (many (reading.item (reading.part p)) reading.with_last []) (many (reading.item (reading.part u)) reading.with_last []) _
+        (follows_many (reading.item (reading.part p)) (reading.item (reading.part u)) reading.with_last follows_item [])
+
+  module _ (fits wide : ℕ → Bool) (wider : (n : ℕ) → fits n ≡ true → wide n ≡ true) (kept_period : (line n : ℕ) → kept (Period line) → wide n ≡ fits n) where
+    alike_if : {A : Type 0} (b c : Bool) (r : Result A ParseFault) (line : ℕ) → (b ≡ true → c ≡ true) → (kept (Period line) → c ≡ b) → (a : A)
+        → Alike (if b then Ok a else Err (Period line)) (if c then Ok a else Err (Period line))
+    alike_if true c r line h k a = rw (h refl) refl
+    alike_if false c r line h k a = λ q. rw (k q) refl
+
+    follows_period : Follows (reading.period fits) (reading.period wide)
+    follows_period s =
+        alike_option (found (λ t. reading.number_of_what t.what) s.left) _ _ _ _
+        (λ n. alike_if (fits n) (wide n) (Ok (n, past s)) (line_of s.left) (wider n) (kept_period (line_of s.left) n) (n, past s)) (alike_same (unexpected s))
+
+    follows_test : Follows (reading.test fits) (reading.test wide)
+    follows_test =
+        follows_after reading.string _ _
+        (λ name. follows_either mark.Dot _ _ _ _ (λ _. follows_same (reading.link_test name))
+        (follows_after (expected mark.Every) _ _ (λ _. follows_map (reading.period fits) (reading.period wide) _ follows_period)))
+
+    follows_over : (p u q v : Span → Parse (tree.Condition Test)) → ((span : Span) → Follows (p span) (u span)) → ((span : Span) → Follows (q span) (v span))
+        → Follows (reading.one_over p q (reading.test fits)) (reading.one_over u v (reading.test wide))
+    follows_over p u q v h k =
+        follows_either mark.Bang _ _ _ _ (λ span. follows_map (p span) (u span) _ (h span))
+        (follows_either mark.ParenOpen _ _ _ _ (λ span. follows_map (q span) (v span) _ (k span)) (follows_map (reading.test fits) (reading.test wide) _ follows_test))
+
+    -- Where nothing more can be open, something more may be within wider limits, and then that fault is not kept.
+    follows_deep : {X : Type 0} (p : Span → Parse X) → ((line : ℕ) → kept (Nesting line) → ⊥) → (span : Span) → Follows (reading.deep span) (p span)
+    follows_deep p none span s = λ k. absurd (none span.line k)
+
+    follows_one : (room more : ℕ) → room ≤ more → ((line : ℕ) → kept (Nesting line) → more ≡ room) → Follows (reading.one fits room) (reading.one wide more)
+    follows_one zero zero less same = follows_over reading.deep reading.deep reading.deep reading.deep (λ span. follows_same (reading.deep span)) (λ span. follows_same (reading.deep span))
+    follows_one zero (suc more) less same =
+        follows_over reading.deep (λ _. reading.one wide more) reading.deep (λ _. reading.any (reading.all (reading.one wide more)))
+        (follows_deep (λ _. reading.one wide more) (λ line k. omega (arith, same line k))) (follows_deep (λ _. reading.any (reading.all (reading.one wide more))) (λ line k. omega (arith, same line k)))
+    follows_one (suc room) zero less same = absurd (omega (arith, less))
+    follows_one (suc room) (suc more) less same =
+        let h = follows_one room more (omega (arith, less)) (λ line k. omega (arith, same line k)) in
+        follows_over (λ _. reading.one fits room) (λ _. reading.one wide more) (λ _. reading.any (reading.all (reading.one fits room))) (λ _. reading.any (reading.all (reading.one wide more)))
+        (λ _. h) (λ _. follows_any (reading.all (reading.one fits room)) (reading.all (reading.one wide more)) (follows_all (reading.one fits room) (reading.one wide more) h))
+
+    follows_condition : (room more : ℕ) → room ≤ more → ((line : ℕ) → kept (Nesting line) → more ≡ room) → Follows (reading.condition fits room) (reading.condition wide more)
+    follows_condition room more less same =
+        follows_any (reading.all (reading.one fits room)) (reading.all (reading.one wide more)) (follows_all (reading.one fits room) (reading.one wide more) (follows_one room more less same))
+
+    follows_statement_over : (p u : Span → Parse (Statement Test Name Wish)) → ((span : Span) → Follows (p span) (u span)) → Follows (reading.statement_over p) (reading.statement_over u)
+    follows_statement_over p u h = follows_begins mark.If p u _ _ h (follows_same _)
+
+    follows_statement : (room more : ℕ) → room ≤ more → ((line : ℕ) → kept (Nesting line) → more ≡ room) → Follows (reading.statement fits room) (reading.statement wide more)
+    follows_statement zero zero less same = follows_statement_over reading.deep reading.deep (λ span. follows_same (reading.deep span))
+    follows_statement zero (suc more) less same =
+        follows_statement_over reading.deep (λ _. reading.conditional wide more) (follows_deep (λ _. reading.conditional wide more) (λ line k. omega (arith, same line k)))
+    follows_statement (suc room) zero less same = absurd (omega (arith, less))
+    follows_statement (suc room) (suc more) less same =
+        let l : room ≤ more = omega (arith, less) in
+        let k : (line : ℕ) → kept (Nesting line) → more ≡ room = λ line k. omega (arith, same line k) in
+        follows_statement_over (λ _. reading.conditional fits room) (λ _. reading.conditional wide more)
+        (λ _. follows_then (reading.condition fits room) (reading.condition wide more) _ _ (follows_condition room more l k)
+        (λ c. follows_map (reading.block (reading.statement fits room)) (reading.block (reading.statement wide more)) _
+        (follows_block (reading.statement fits room) (reading.statement wide more) (follows_statement room more l k))))
+
+    -- Files are read alike.
+    pub follows_read : (room more : ℕ) → room ≤ more → ((line : ℕ) → kept (Nesting line) → more ≡ room) → (tokens : List Token) → Alike (read_within fits room tokens) (read_within wide more tokens)
+    unfolding read_within
+    follows_read room more less same tokens =
+        alike_bind (reading.items (reading.item (reading.part (reading.statement fits room))) (state tokens [])) (reading.items (reading.item (reading.part (reading.statement wide more))) (state tokens []))
+        (λ r. Ok (file r.0 r.1.notes)) (λ r. Ok (file r.0 r.1.notes))
+        (follows_items (reading.statement fits room) (reading.statement wide more) (follows_statement room more less same) (state tokens [])) (λ r. refl)
