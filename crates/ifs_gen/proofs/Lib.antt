@@ -1,0 +1,4 @@
+pub mod Rows
+pub mod Simulation
+pub mod Mentions
+pub mod Handlers

@@ -1,0 +1,12 @@
+pub mod Trees
+pub mod Meaning
+pub mod PlainCode
+pub mod Runs
+pub use Rattle.ifs_base.specs.Facts
+pub use Rattle.ifs_base.specs.Effects
+pub use Rattle.ifs_image.specs.Code
+pub use Rattle.ifs_image.specs.Limits
+pub use Rattle.ifs_verify.specs.Rules
+pub use Rattle.ifs_verify.specs.Typing
+pub use Rattle.ifs_verify.specs.Bounds
+pub use Rattle.ifs_verify.specs.Accepted
