@@ -1,0 +1,4 @@
+pub mod Trees
+pub mod Views
+pub mod Files
+pub mod inner
