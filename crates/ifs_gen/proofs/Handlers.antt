@@ -1,6 +1,5 @@
 -- Handlers of a policy on the machine: a body that is held back goes to its end, and else does what it reaches.
-use Rattle.std.proofs.Common.{◌≡◌, ℕ, zero, suc, ◌+◌, ◌*◌, ◌<◌, ◌≤◌, Bool, true, false, not, cond, List, [], ◌∷◌, ◌++◌, length, Option, Some, None, refl, sym, ap, ◌∙◌, subst, arith, ◌⊎◌, inl, inr, ⊎_elim}
-use Rattle.std.proofs.lemmas.List.{append-nil}
+use Rattle.std.proofs.Common.{◌≡◌, ℕ, suc, ◌+◌, ◌*◌, ◌<◌, ◌≤◌, Bool, true, false, not, cond, List, [], ◌∷◌, ◌++◌, length, Option, Some, None, refl, sym, ap, ◌∙◌, subst, arith}
 use Rattle.std.specs.Prelude.{◌||◌, is_some, slice_get, if◌then◌else◌}
 use Rattle.std.specs.List.{list_any}
 use Rattle.ifs_base.specs.Facts.{Facts}
@@ -12,62 +11,23 @@ use Rattle.ifs_image.specs.Code.{code_of, op_at, results_of}
 use Rattle.ifs_machine.specs.declared.value.Value.TheVariants.{Truth}
 use Rattle.ifs_machine.specs.Table.{Ended, FramesFull, StackFull, WrongResults, unless, have_kinds, returns, row_at}
 use Rattle.ifs_machine.specs.Run.{next, after, begin, RunsTo, AreFactsOf}
-use Rattle.ifs_gen.specs.Trees.{LinkIs, TestIs, Condition, Leaf, NotSo, And, Or, Block, Done, RunThen, WantThen, IfThen}
-use Rattle.ifs_gen.specs.Meaning.{has_a_value, mentioned_in, mentioned, is_open, is_held, reached, body_yield, init_yield}
-use Rattle.ifs_gen.specs.PlainCode.{Coder, tests_below, held_code, holding, body_start, body_end, body_code, init_code, block_code, block_size, block_height}
-use Rattle.ifs_gen.specs.Runs.{Sizes, sizes_of, ConditionFits, BlockFits, HasAt, Point, point, stands, Leads, Computes, block_cost, held_cost, body_cost, init_cost, IsHandlerOf, HandlersDo}
+use Rattle.ifs_gen.specs.Trees.{Block}
+use Rattle.ifs_gen.specs.Meaning.{has_a_value, mentioned, is_open, is_held, reached, body_yield, init_yield}
+use Rattle.ifs_gen.specs.PlainCode.{Coder, held_code, holding, body_start, body_end, body_code, init_code, block_code, block_size}
+use Rattle.ifs_gen.specs.Runs.{sizes_of, HasAt, Point, point, stands, Leads, Computes, block_cost, held_cost, body_cost, init_cost, IsHandlerOf, HandlersDo}
 use Rattle.ifs_gen.proofs.Rows.{entry_at, unless_fits, has_all, has_left, has_right, followed_nothing, no_rows, then_leads, as_told, at_place, one_row, jump_row}
 use Rattle.ifs_gen.proofs.Simulation.{block_sized, block_leads}
-use Rattle.ifs_gen.proofs.Mentions.{EachBelow, below_append, each_below, alike_below}
-
-module _ (sizes : Sizes) where
-  condition_mentions : (c : Condition) → ConditionFits sizes c → EachBelow sizes.tests (mentioned_in c)
-  condition_mentions (Leaf (LinkIs n s)) fits = tt
-  condition_mentions (Leaf (TestIs n)) fits = (fits, tt)
-  condition_mentions (NotSo c) fits = condition_mentions c fits
-  condition_mentions (And a b) fits = below_append sizes.tests (mentioned_in a) (mentioned_in b) (condition_mentions a fits.0) (condition_mentions b fits.1)
-  condition_mentions (Or a b) fits = below_append sizes.tests (mentioned_in a) (mentioned_in b) (condition_mentions a fits.0) (condition_mentions b fits.1)
-
-  pub block_mentions : (block : Block) → BlockFits sizes block → EachBelow sizes.tests (mentioned block)
-  block_mentions Done fits = tt
-  block_mentions (RunThen n rest) fits = block_mentions rest fits.1
-  block_mentions (WantThen n rest) fits = block_mentions rest fits.1
-  block_mentions (IfThen c inner rest) fits =
-      below_append sizes.tests (mentioned_in c) (mentioned inner ++ mentioned rest) (condition_mentions c fits.0)
-      (below_append sizes.tests (mentioned inner) (mentioned rest) (block_mentions inner fits.1) (block_mentions rest fits.2))
-
--- stack for one value, where a list of tests has any
-abbrev HasRoomFor : ImageParts → List TestId → Type 0
-HasRoomFor image [] = Unit {0}
-HasRoomFor image (test ∷ tests) = 1 ≤ image.budgets.stack
-
-room_any : (image : ImageParts) (tests : List TestId) → 1 ≤ image.budgets.stack → HasRoomFor image tests
-room_any image [] room = tt
-room_any image (test ∷ tests) room = room
-
-none_below : (count : ℕ) → tests_below count [] ≡ []
-none_below zero = refl
-none_below (suc count) = append-nil (tests_below count []) ∙ none_below count
+use Rattle.ifs_gen.proofs.Mentions.{EachBelow, each_below, alike_below, block_mentions, HasRoomFor, room_any, body_room}
 
 known_value : (v : Option Bool) → is_some v ≡ has_a_value (Some v)
 known_value None = refl
 known_value (Some b) = refl
 
+pub held_sized : (end : ℕ) (tests : List TestId) → length (held_code end tests) ≡ 2 * length tests
+held_sized end [] = refl
+held_sized end (test ∷ tests) = let h = held_sized end tests in omega (arith, h)
+
 module _ (image : ImageParts) (facts : Facts) (coder : Coder) (given : AreFactsOf image facts) (computes : Computes image facts coder) where
-  -- a block that mentions a test has stack for its value
-  block_high : (block : Block) → (mentioned block ≡ []) ⊎ (1 ≤ block_height coder block)
-  block_high Done = inl refl
-  block_high (RunThen n rest) = inr (omega arith)
-  block_high (WantThen n rest) = inr (omega arith)
-  block_high (IfThen c inner rest) = let h = computes.high c in inr (omega (arith, h))
-
-  body_room : (count : ℕ) (block : Block) → block_height coder block ≤ image.budgets.stack → HasRoomFor image (holding count block)
-  body_room count block room =
-      ⊎_elim
-      (λ none. subst (λ tests. HasRoomFor image tests) (sym (ap (tests_below count) none ∙ none_below count)) tt)
-      (λ high. room_any image (holding count block) (omega (arith, high, room)))
-      (block_high block)
-
   module _ (routine : ℕ) where
     abbrev leads : Point → ℕ → Point → Type 0
     leads from rows to = Leads image facts routine [] from rows to
@@ -87,7 +47,7 @@ module _ (image : ImageParts) (facts : Facts) (coder : Coder) (given : AreFactsO
         then_leads image facts routine [] _ _ _ _ _ (at_place image facts routine [] _ _ _ _ (place + 2) [] effects here refl (omega arith)) onward
     held_choice false any place end past cost effects here onward = here
 
-    held_leads : (tests : List TestId) (place end : ℕ) (effects : Effects) → EachBelow (length image.tests) tests → HasRoomFor image tests
+    held_leads : (tests : List TestId) (place end : ℕ) (effects : Effects) → EachBelow (length image.tests) tests → HasRoomFor image.budgets.stack tests
         → HasAt (code_of image routine) place (held_code end tests)
         → leads (point place [] effects) (held_cost facts tests) (point (if list_any (is_open facts) tests then end else place + 2 * length tests) [] effects)
     held_leads [] place end effects below room has =
@@ -98,15 +58,11 @@ module _ (image : ImageParts) (facts : Facts) (coder : Coder) (given : AreFactsO
         let jump = jump_row image facts routine [] (place + 1) [] effects b end has.1.0 in
         let same : place + 1 + 1 ≡ place + 2 = omega arith in
         let there = subst (λ p. HasAt (code_of image routine) p (held_code end tests)) same has.1.1 in
-        let onward = held_leads tests (place + 2) end effects below.1 (room_any image tests room) there in
+        let onward = held_leads tests (place + 2) end effects below.1 (room_any image.budgets.stack tests room) there in
         let far : place + 2 + 2 * length tests ≡ place + 2 * suc (length tests) = omega arith in
         held_choice b (list_any (is_open facts) tests) place end (place + 2 * suc (length tests)) (held_cost facts tests) effects
         (then_leads image facts routine [] _ _ _ 1 1 known jump)
         (subst (λ p. leads (point (place + 2) [] effects) (held_cost facts tests) (point (if list_any (is_open facts) tests then end else p) [] effects)) far onward)
-
-    held_sized : (end : ℕ) (tests : List TestId) → length (held_code end tests) ≡ 2 * length tests
-    held_sized end [] = refl
-    held_sized end (test ∷ tests) = let h = held_sized end tests in omega (arith, h)
 
     -- what a frame without values comes to at its `ret`
     ends : (place cost : ℕ) (before effects : Effects) → results_of image routine ≡ [] → 1 ≤ image.budgets.frames → op_at image routine place ≡ Some Ret
@@ -126,7 +82,7 @@ module _ (image : ImageParts) (facts : Facts) (coder : Coder) (given : AreFactsO
     init_runs block before h =
         let code = code_of image routine in
         let has = subst (λ c. HasAt c 0 (init_code coder block)) (sym h.listed) (has_all [] (init_code coder block)) in
-        let size = block_sized image facts coder computes.sized 0 block in
+        let size = block_sized coder computes.sized 0 block in
         let ret = has_right code 0 (block_code coder 0 block) (Ret ∷ []) (0 + block_size coder block) (omega (arith, size)) has in
         let stack = h.stack in
         let runs = block_leads image facts coder computes routine [] block 0 [] before h.fits (has_left code 0 (block_code coder 0 block) (Ret ∷ []) has) (omega (arith, stack)) h.commands in
@@ -150,11 +106,11 @@ module _ (image : ImageParts) (facts : Facts) (coder : Coder) (given : AreFactsO
         let end = body_end coder count block in
         let statements = block_code coder start block in
         let has = subst (λ c. HasAt c 0 (body_code coder count block)) (sym h.listed) (has_all [] (body_code coder count block)) in
-        let test = held_leads tests 0 end before (each_below count (mentioned block)) (body_room count block h.stack)
+        let test = held_leads tests 0 end before (each_below count (mentioned block)) (body_room coder computes.high image.budgets.stack count block h.stack)
         (has_left code 0 (held_code end tests) (statements ++ Ret ∷ []) has) in
         let long = held_sized end tests in
         let there = has_right code 0 (held_code end tests) (statements ++ Ret ∷ []) start (omega (arith, long)) has in
-        let size = block_sized image facts coder computes.sized start block in
+        let size = block_sized coder computes.sized start block in
         let ret = has_right code start statements (Ret ∷ []) end (omega (arith, size)) there in
         let stack = h.stack in
         let runs = block_leads image facts coder computes routine [] block start [] before h.fits (has_left code start statements (Ret ∷ []) there) (omega (arith, stack)) h.commands in

@@ -2,3 +2,10 @@ pub mod Rows
 pub mod Simulation
 pub mod Mentions
 pub mod Handlers
+pub mod Fine
+pub mod GoodRoutines
+pub mod TypedTrees
+pub mod GoodCode
+pub mod Images
+pub mod Limits
+pub mod Accepting

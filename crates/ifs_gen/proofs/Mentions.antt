@@ -1,11 +1,15 @@
 -- Tests of a list, in the order of their numbers: they are those of the list.
-use Rattle.std.proofs.Common.{◌≡◌, ℕ, zero, suc, ◌<◌, ◌≤◌, ⊎_elim, Bool, true, false, List, [], ◌∷◌, ◌++◌, refl, sym, ap, ◌∙◌, arith}
+use Rattle.std.proofs.Common.{◌≡◌, ℕ, zero, suc, ◌<◌, ◌≤◌, ◌⊎◌, inl, inr, ⊎_elim, Bool, true, false, List, [], ◌∷◌, ◌++◌, refl, sym, ap, ◌∙◌, subst, arith}
 use Rattle.std.specs.Prelude.{◌==◌, if◌then◌else◌}
 use Rattle.std.specs.List.{list_any}
 use Rattle.std.proofs.lemmas.Bool.{cases_order, or_cases, or_left, or_right, eqb-true, eq-eqb}
+use Rattle.std.proofs.lemmas.List.{append-nil}
 use Rattle.std.proofs.lemmas.List.Folds.{list_any-append}
 use Rattle.ifs_base.specs.declared.ids.TestId.{TestId}
-use Rattle.ifs_gen.specs.PlainCode.{tests_below}
+use Rattle.ifs_gen.specs.Trees.{LinkIs, TestIs, Condition, Leaf, NotSo, And, Or, Block, Done, RunThen, WantThen, IfThen}
+use Rattle.ifs_gen.specs.Meaning.{mentioned_in, mentioned}
+use Rattle.ifs_gen.specs.PlainCode.{Coder, tests_below, holding, block_height}
+use Rattle.ifs_gen.specs.Runs.{Sizes, ConditionFits, BlockFits}
 
 -- Each test is below a number.
 abbrev pub EachBelow : ℕ → List TestId → Type 0
@@ -93,3 +97,47 @@ module _ (p : TestId → Bool) where
       agree true b f g = sym (f refl)
       agree false true f g = g refl
       agree false false f g = refl
+
+module _ (sizes : Sizes) where
+  condition_mentions : (c : Condition) → ConditionFits sizes c → EachBelow sizes.tests (mentioned_in c)
+  condition_mentions (Leaf (LinkIs n s)) fits = tt
+  condition_mentions (Leaf (TestIs n)) fits = (fits, tt)
+  condition_mentions (NotSo c) fits = condition_mentions c fits
+  condition_mentions (And a b) fits = below_append sizes.tests (mentioned_in a) (mentioned_in b) (condition_mentions a fits.0) (condition_mentions b fits.1)
+  condition_mentions (Or a b) fits = below_append sizes.tests (mentioned_in a) (mentioned_in b) (condition_mentions a fits.0) (condition_mentions b fits.1)
+
+  pub block_mentions : (block : Block) → BlockFits sizes block → EachBelow sizes.tests (mentioned block)
+  block_mentions Done fits = tt
+  block_mentions (RunThen n rest) fits = block_mentions rest fits.1
+  block_mentions (WantThen n rest) fits = block_mentions rest fits.1
+  block_mentions (IfThen c inner rest) fits =
+      below_append sizes.tests (mentioned_in c) (mentioned inner ++ mentioned rest) (condition_mentions c fits.0)
+      (below_append sizes.tests (mentioned inner) (mentioned rest) (block_mentions inner fits.1) (block_mentions rest fits.2))
+
+-- Stack for one value, where a list of tests has any.
+abbrev pub HasRoomFor : ℕ → List TestId → Type 0
+HasRoomFor stack [] = Unit {0}
+HasRoomFor stack (test ∷ tests) = 1 ≤ stack
+
+pub room_any : (stack : ℕ) (tests : List TestId) → 1 ≤ stack → HasRoomFor stack tests
+room_any stack [] room = tt
+room_any stack (test ∷ tests) room = room
+
+none_below : (count : ℕ) → tests_below count [] ≡ []
+none_below zero = refl
+none_below (suc count) = append-nil (tests_below count []) ∙ none_below count
+
+module _ (coder : Coder) (high : (c : Condition) → 1 ≤ coder.height c) where
+  -- a block that mentions a test has stack for its value
+  block_high : (block : Block) → (mentioned block ≡ []) ⊎ (1 ≤ block_height coder block)
+  block_high Done = inl refl
+  block_high (RunThen n rest) = inr (omega arith)
+  block_high (WantThen n rest) = inr (omega arith)
+  block_high (IfThen c inner rest) = let h = high c in inr (omega (arith, h))
+
+  pub body_room : (stack count : ℕ) (block : Block) → block_height coder block ≤ stack → HasRoomFor stack (holding count block)
+  body_room stack count block room =
+      ⊎_elim
+      (λ none. subst (λ tests. HasRoomFor stack tests) (sym (ap (tests_below count) none ∙ none_below count)) tt)
+      (λ tall. room_any stack (holding count block) (omega (arith, tall, room)))
+      (block_high block)

@@ -35,7 +35,7 @@ pub has_right : (code : List Op) (place : ℕ) (xs ys : List Op) (from : ℕ) �
 has_right code place [] ys from e h = let same : place ≡ from = omega (arith, e) in subst (λ p. HasAt code p ys) same h
 has_right code place (x ∷ xs) ys from e h = has_right code (place + 1) xs ys from (omega (arith, e)) h.1
 
-at_front : (front : List Op) (op : Op) (ops : List Op) → slice_get (front ++ op ∷ ops) (length front) ≡ Some op
+pub at_front : (front : List Op) (op : Op) (ops : List Op) → slice_get (front ++ op ∷ ops) (length front) ≡ Some op
 at_front [] op ops = refl
 at_front (x ∷ front) op ops = at_front front op ops
 

@@ -29,7 +29,7 @@ condition_sized (Or a b) =
     let f = length-append (condition_code b) (Either ∷ []) in
     omega (arith, e, f, condition_sized a, condition_sized b)
 
-condition_high : (c : Condition) → 1 ≤ condition_height c
+pub condition_high : (c : Condition) → 1 ≤ condition_height c
 condition_high (Leaf single) = omega arith
 condition_high (NotSo c) = condition_high c
 condition_high (And a b) = let h = condition_high a in omega (arith, h)
@@ -101,7 +101,7 @@ chosen_within : (b : Bool) (x : Effects) (n : ℕ) → length x.commands ≤ n �
 chosen_within true x n h = h
 chosen_within false x n h = omega arith
 
-module _ (image : ImageParts) (facts : Facts) (coder : Coder) where
+module _ (coder : Coder) where
   pub block_sized : ((c : Condition) → length (coder.code c) ≡ coder.size c) → (place : ℕ) (block : Block) → length (block_code coder place block) ≡ block_size coder block
   block_sized each place Done = refl
   block_sized each place (RunThen n rest) = let e = block_sized each (place + 2) rest in omega (arith, e)
@@ -113,6 +113,7 @@ module _ (image : ImageParts) (facts : Facts) (coder : Coder) where
       let f = length-append (block_code coder from inner) (block_code coder past rest) in
       omega (arith, e, f, each c, block_sized each from inner, block_sized each past rest)
 
+module _ (image : ImageParts) (facts : Facts) (coder : Coder) where
   -- no more commands are reached than the block has to run
   pub reached_within : (block : Block) → length (reached facts block).commands ≤ block_runs block
   reached_within Done = omega arith
@@ -192,7 +193,7 @@ module _ (image : ImageParts) (facts : Facts) (coder : Coder) where
         let tested = computes.leads c routine callers place values effects fits.0 (has_left code place (coder.code c) (JumpFalse past ∷ codes) has) (omega (arith, room)) in
         let jump = has_right code place (coder.code c) (JumpFalse past ∷ codes) at (ap (λ n. place + n) (computes.sized c)) has in
         let inside = block_leads inner from values effects fits.1 (has_left code from (block_code coder from inner) (block_code coder past rest) jump.1) (omega (arith, room)) (omega (arith, more)) in
-        let there = has_right code from (block_code coder from inner) (block_code coder past rest) past (ap (λ n. from + n) (block_sized computes.sized from inner)) jump.1 in
+        let there = has_right code from (block_code coder from inner) (block_code coder past rest) past (ap (λ n. from + n) (block_sized coder computes.sized from inner)) jump.1 in
         let choice = chosen_leads b at past (block_cost coder facts inner) values effects (reached facts inner) jump.0 inside in
         let few = chosen_within b (reached facts inner) (block_runs inner) (reached_within inner) in
         let long = length-append effects.commands chosen.commands in

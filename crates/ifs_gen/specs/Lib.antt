@@ -2,6 +2,8 @@ pub mod Trees
 pub mod Meaning
 pub mod PlainCode
 pub mod Runs
+pub mod PlainImage
+pub mod Acceptance
 pub use Rattle.ifs_base.specs.Facts
 pub use Rattle.ifs_base.specs.Effects
 pub use Rattle.ifs_image.specs.Code

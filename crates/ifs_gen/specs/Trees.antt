@@ -5,25 +5,21 @@ use Rattle.ifs_base.specs.declared.ids.IfaceId.{IfaceId}
 use Rattle.ifs_base.specs.declared.ids.StateId.{StateId}
 use Rattle.ifs_base.specs.declared.ids.TestId.{TestId}
 use Rattle.ifs_base.specs.declared.op.LinkState.{LinkState}
+use Rattle.ifs_parse.specs.Trees as tree
+pub use Rattle.ifs_parse.specs.Trees.{Leaf, NotSo, And, Or, Done, RunThen, WantThen, IfThen}
 
 -- A single test: an interface has a link state, or an external test has the value true.
 pub data Single : Type 0 where
   LinkIs : (interface : IfaceId) → (state : LinkState) → Single
   TestIs : (test : TestId) → Single
 
--- A condition; a chain of more operands is joined from the left.
-pub data Condition : Type 0 where
-  Leaf : (single : Single) → Condition
-  NotSo : (operand : Condition) → Condition
-  And : (left right : Condition) → Condition
-  Or : (left right : Condition) → Condition
+-- A condition of single tests.
+abbrev pub Condition : Type 0
+Condition = tree.Condition Single
 
--- A block, by its first statement and what follows it: a command to run, a state to wish for, or a block under a condition.
-pub data Block : Type 0 where
-  Done : Block
-  RunThen : (command : CommandId) → (rest : Block) → Block
-  WantThen : (state : StateId) → (rest : Block) → Block
-  IfThen : (condition : Condition) → (inner rest : Block) → Block
+-- A block: commands to run, states to wish for, and blocks under conditions.
+abbrev pub Block : Type 0
+Block = tree.Block Single CommandId StateId
 
 -- A part of a policy, the always part or a state: what runs at its entry, and what runs at each evaluation.
 pub record Part : Type 0 where

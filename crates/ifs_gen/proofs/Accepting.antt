@@ -1,0 +1,158 @@
+-- The plain image of a policy is accepted.
+use Rattle.std.proofs.Common.{◌≡◌, ℕ, zero, suc, ◌*◌, ◌^◌, ◌<◌, ◌≤◌, length, Some, refl, sym, ap, ◌∙◌, subst, arith}
+use Rattle.std.specs.Prelude.{slice_get, All}
+use Rattle.std.proofs.lemmas.List.{length-map}
+use Rattle.std.proofs.lemmas.List.Elements.{All-weaker}
+use Rattle.std.proofs.lemmas.Option.{slice_get_within}
+use Rattle.ifs_image.specs.declared.parts.StateSpec.{StateSpec}
+use Rattle.ifs_image.specs.declared.parts.ImageParts.{ImageParts}
+use Rattle.ifs_image.specs.Code.{code_of}
+use Rattle.ifs_verify.specs.Rules.{AreRoutines, IsMask, IndexesFit, HandlersLeaveNothing}
+use Rattle.ifs_verify.specs.Bounds.{cost_of, commands_of, FitsHandlers}
+use Rattle.ifs_verify.specs.Accepted.{IsAccepted}
+use Rattle.ifs_gen.specs.Trees.{Part, Policy}
+use Rattle.ifs_gen.specs.Meaning.{mentioned}
+use Rattle.ifs_gen.specs.PlainCode.{plain_coder, body_code, init_code, block_runs}
+use Rattle.ifs_gen.specs.PlainImage.{tests_in, parts_of, mask_in, handlers_of, greatest, room_of, init_length, body_length, part_height, plain_image, sizes_in, PartFits, IsPolicy, RoutinesFit, CodeFits}
+use Rattle.ifs_gen.specs.Acceptance.{PlainIsAccepted}
+use Rattle.ifs_gen.specs.Runs.{Sizes, sizes_of}
+use Rattle.ifs_gen.proofs.GoodRoutines.{EachGood, kinds_in, heights_in, amount, operands, jumps, ends, calls, reached, typings, are_heights, are_depths, are_amounts, leave_nothing}
+use Rattle.ifs_gen.proofs.GoodCode.{cost_is_length, init_queues, body_queues, init_long, body_long}
+use Rattle.ifs_gen.proofs.Images.{routines_long, states_long, state_at, greatest_below, mask_below, each_good, heights_within, Below, routines_within, parts_below, fits_events}
+use Rattle.ifs_gen.proofs.Limits.{fits}
+
+module _ (policy : Policy) (is : IsPolicy policy) (code : CodeFits policy) where
+  abbrev image : ImageParts
+  image = plain_image policy
+
+  abbrev count : ℕ
+  count = tests_in policy
+
+  tests_long : length image.tests ≡ count
+  tests_long = length-map policy.tests _
+
+  states_are : length image.states ≡ length policy.states
+  states_are = states_long count 1 policy.states
+
+  parts_long : length (parts_of policy) ≡ suc (length policy.states)
+  parts_long = ap suc (length-map policy.states _)
+
+  routines_are : length image.routines ≡ 2 * suc (length policy.states)
+  routines_are = routines_long count (parts_of policy) ∙ ap (λ n. 2 * n) parts_long
+
+  same_sizes : sizes_in policy ≡ sizes_of image
+  same_sizes =
+      let made : ℕ → ℕ → Sizes = λ tests states. record { interfaces = length policy.interfaces; tests = tests; commands = length policy.commands; states = states } in
+      ap (λ n. made n (length policy.states)) (sym tests_long) ∙ ap (λ n. made (length image.tests) n) (sym states_are)
+
+  parts_fit : All (PartFits (sizes_of image)) (parts_of policy)
+  parts_fit = subst (λ sizes. All (PartFits sizes) (parts_of policy)) same_sizes is.parts
+
+  abbrev good : EachGood image image.routines
+  good = each_good image count tests_long (parts_of policy) parts_fit
+
+  routine_there : (k : ℕ) → k < suc (length policy.states) → AreRoutines image (handlers_of count k policy.always)
+  routine_there k lt = (omega (arith, lt, routines_are), omega (arith, lt, routines_are))
+
+  mask_there : (part : Part) → IsMask image (mask_in count part)
+  mask_there part = subst (λ n. mask_in count part < 2 ^ n) (sym tests_long) (mask_below count (mentioned part.body))
+
+  state_there : (k : ℕ) (spec : StateSpec) → slice_get image.states k ≡ Some spec → AreRoutines image spec.handlers × IsMask image spec.handlers.mask
+  state_there k spec at =
+      let s = state_at count 1 policy.states k spec at in
+      let within = slice_get_within policy.states k s.state s.at in
+      subst (λ (x : StateSpec). AreRoutines image x.handlers × IsMask image x.handlers.mask) (sym s.is)
+      ((omega (arith, within, routines_are), omega (arith, within, routines_are)), mask_there s.state.part)
+
+  indexes : IndexesFit image
+  indexes = record {
+    initial = let h = is.initial in omega (arith, h, states_are);
+    always = routine_there 0 (omega arith);
+    always_mask = mask_there policy.always;
+    states = λ k spec at. (state_there k spec at).0;
+    masks = λ k spec at. (state_there k spec at).1;
+    operands = operands image good;
+  }
+
+  nothing_left : HandlersLeaveNothing image
+  nothing_left = record {
+    always =
+        let there = routine_there 0 (omega arith) in
+        (leave_nothing image good image.always.init.0 there.0, leave_nothing image good image.always.body.0 there.1);
+    states = λ k spec at.
+        let there = (state_there k spec at).0 in
+        (leave_nothing image good spec.handlers.init.0 there.0, leave_nothing image good spec.handlers.body.0 there.1);
+  }
+
+  -- what all routines stay below, handlers do
+  handlers_below : (reach : ℕ → ℕ) (b : ℕ) → ((routine : ℕ) → reach routine ≤ b) → FitsHandlers image reach b
+  handlers_below reach b h = record {
+    always_init = h image.always.init.0;
+    always_body = h image.always.body.0;
+    init = λ k state at. h state.handlers.init.0;
+    body = λ k state at. h state.handlers.body.0;
+  }
+
+  abbrev heights : ℕ → ℕ
+  heights routine = heights_in image image.routines good routine
+
+  heights_low : (routine : ℕ) → heights routine ≤ greatest part_height (parts_of policy)
+  heights_low routine = heights_within image count tests_long (parts_of policy) parts_fit routine
+
+  greatest_low : greatest part_height (parts_of policy) ≤ 32
+  greatest_low = greatest_below part_height (parts_of policy) 32 code.height
+
+  init_costs : (part : Part) → amount cost_of (init_code plain_coder part.init) zero ≡ init_length part
+  init_costs part = cost_is_length (init_code plain_coder part.init) ∙ init_long part.init
+
+  body_costs : (part : Part) → amount cost_of (body_code plain_coder count part.body) zero ≡ body_length count part
+  body_costs part = cost_is_length (body_code plain_coder count part.body) ∙ body_long count part.body
+
+  init_runs : (part : Part) → amount commands_of (init_code plain_coder part.init) zero ≡ block_runs part.init
+  init_runs part = init_queues part.init
+
+  body_runs : (part : Part) → amount commands_of (body_code plain_coder count part.body) zero ≡ block_runs part.body
+  body_runs part = body_queues count part.body
+
+  cheap : All (Below cost_of count init_length (body_length count) init_costs body_costs 100000) (parts_of policy)
+  cheap =
+      All-weaker (RoutinesFit count) (Below cost_of count init_length (body_length count) init_costs body_costs 100000)
+      (λ part fit. record { init_below = let h = fit.init in omega (arith, h); body_below = let h = fit.body in omega (arith, h) }) (parts_of policy) code.each
+
+  accepted : IsAccepted image
+  accepted = record {
+    indexes = indexes;
+    handlers = nothing_left;
+    jumps = jumps image good;
+    ends = ends image good;
+    calls = calls image good;
+    reached = reached image good;
+    typed = (kinds_in image image.routines good, typings image good);
+    stack = (
+      kinds_in image image.routines good,
+      heights,
+      typings image good,
+      are_heights image good,
+      λ routine there. let h = heights_low routine in let g = greatest_low in omega (arith, h, g),
+      handlers_below heights image.budgets.stack heights_low,
+    );
+    frames = (λ routine. 1, are_depths image good, λ routine there. omega arith, handlers_below (λ routine. 1) 1 (λ routine. omega arith));
+    cost = (
+      λ routine place. amount cost_of (code_of image routine) place,
+      are_amounts image good cost_of,
+      λ routine there. routines_within cost_of count init_length (body_length count) init_costs body_costs (parts_of policy) 100000 cheap routine,
+      fits_events cost_of count init_length (body_length count) init_costs body_costs policy refl image.budgets,
+    );
+    commands = (
+      λ routine place. amount commands_of (code_of image routine) place,
+      are_amounts image good commands_of,
+      λ routine there.
+          let h = routines_within commands_of count (λ part. block_runs part.init) (λ part. block_runs part.body) init_runs body_runs (parts_of policy) (room_of policy)
+          (parts_below commands_of count (λ part. block_runs part.init) (λ part. block_runs part.body) init_runs body_runs policy) routine in
+          let g = code.room in omega (arith, h, g),
+      fits_events commands_of count (λ part. block_runs part.init) (λ part. block_runs part.body) init_runs body_runs policy refl image.budgets,
+    );
+  }
+
+pub plain_is_accepted : PlainIsAccepted
+plain_is_accepted policy is code = (accepted policy is code, fits policy is code)

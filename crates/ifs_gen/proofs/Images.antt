@@ -1,0 +1,184 @@
+-- The plain image of a policy, entry by entry: its routines, its states, and what handlers come to.
+use Rattle.std.proofs.Common.{◌≡◌, ℕ, zero, suc, ◌+◌, ◌*◌, ◌^◌, ◌<◌, ◌≤◌, Bool, true, false, List, [], ◌∷◌, ◌++◌, length, map, Some, refl, sym, ap, ◌∙◌, subst, arith}
+use Rattle.std.specs.Prelude.{slice_get, All, option_map, ◌==◌, if◌then◌else◌}
+use Rattle.std.specs.List.{list_any}
+use Rattle.std.proofs.lemmas.List.Elements.{All-head, All-tail, All-cons, All-nil}
+use Rattle.std.proofs.lemmas.Option.{none-some, same_Some, slice_get-map}
+use Rattle.std.proofs.Math.Nat.{pow-suc}
+use Rattle.ifs_base.specs.declared.ids.TestId.{TestId}
+use Rattle.ifs_base.specs.declared.op.Op.{Op}
+use Rattle.ifs_image.specs.declared.parts.Budgets.{Budgets}
+use Rattle.ifs_image.specs.declared.parts.StateSpec.{StateSpec}
+use Rattle.ifs_image.specs.declared.parts.ImageParts.{ImageParts}
+use Rattle.ifs_image.specs.Code.{code_in, code_of}
+use Rattle.ifs_verify.specs.Bounds.{FitsEvents}
+use Rattle.ifs_gen.specs.Trees.{Block, Part, State, Policy}
+use Rattle.ifs_gen.specs.PlainCode.{plain_coder, tests_below, body_code, init_code, block_height}
+use Rattle.ifs_gen.specs.PlainImage.{tests_in, parts_of, mask_of, handlers_of, states_from, routine_of_code, routines_of, image_with, greatest, number_in, event_total, part_height, PartFits}
+use Rattle.ifs_gen.specs.Runs.{sizes_of, BlockFits}
+use Rattle.ifs_gen.proofs.Fine.{IsGood}
+use Rattle.ifs_gen.proofs.GoodRoutines.{EachGood, heights_in, amount}
+use Rattle.ifs_gen.proofs.GoodCode.{init_good, body_good}
+
+-- the routines of part k
+pub init_at : (count : ℕ) (parts : List Part) (k : ℕ) (part : Part) → slice_get parts k ≡ Some part
+    → slice_get (routines_of count parts) (2 * k) ≡ Some (routine_of_code (init_code plain_coder part.init))
+init_at count [] k part e = absurd (none-some part e)
+init_at count (x ∷ parts) zero part e = ap (λ (p : Part). Some (routine_of_code (init_code plain_coder p.init))) (same_Some x part e)
+init_at count (x ∷ parts) (suc k) part e =
+    let two : 2 * suc k ≡ suc (suc (2 * k)) = omega arith in
+    ap (slice_get (routines_of count (x ∷ parts))) two ∙ init_at count parts k part e
+
+pub body_at : (count : ℕ) (parts : List Part) (k : ℕ) (part : Part) → slice_get parts k ≡ Some part
+    → slice_get (routines_of count parts) (2 * k + 1) ≡ Some (routine_of_code (body_code plain_coder count part.body))
+body_at count [] k part e = absurd (none-some part e)
+body_at count (x ∷ parts) zero part e = ap (λ (p : Part). Some (routine_of_code (body_code plain_coder count p.body))) (same_Some x part e)
+body_at count (x ∷ parts) (suc k) part e =
+    let two : 2 * suc k + 1 ≡ suc (suc (2 * k + 1)) = omega arith in
+    ap (slice_get (routines_of count (x ∷ parts))) two ∙ body_at count parts k part e
+
+pub routines_long : (count : ℕ) (parts : List Part) → length (routines_of count parts) ≡ 2 * length parts
+routines_long count [] = refl
+routines_long count (x ∷ parts) = let e = routines_long count parts in omega (arith, e)
+
+pub states_long : (count k : ℕ) (states : List State) → length (states_from count k states) ≡ length states
+states_long count k [] = refl
+states_long count k (x ∷ states) = ap suc (states_long count (k + 1) states)
+
+-- A state of the image is a state of the policy.
+pub record StateAt (count k : ℕ) (states : List State) (j : ℕ) (spec : StateSpec) : Type 0 where
+  pub state : State
+  pub at : slice_get states j ≡ Some state
+  pub is : spec ≡ (let s : StateSpec = record { name = state.name; handlers = handlers_of count (k + j) state.part } in s)
+
+pub state_at : (count k : ℕ) (states : List State) (j : ℕ) (spec : StateSpec) → slice_get (states_from count k states) j ≡ Some spec → StateAt count k states j spec
+state_at count k [] j spec e = absurd (none-some spec e)
+state_at count k (x ∷ states) zero spec e =
+    let made : ℕ → StateSpec = λ n. record { name = x.name; handlers = handlers_of count n x.part } in
+    let same : k ≡ k + 0 = omega arith in
+    record { state = x; at = refl; is = sym (same_Some _ spec e) ∙ ap made same }
+state_at count k (x ∷ states) (suc j) spec e =
+    let s = state_at count (k + 1) states j spec e in
+    let made : ℕ → StateSpec = λ n. record { name = s.state.name; handlers = handlers_of count n s.state.part } in
+    let same : k + 1 + j ≡ k + suc j = omega arith in
+    record { state = s.state; at = s.at; is = s.is ∙ ap made same }
+
+-- a state's part is the one after the always part and those before it
+pub part_at : (policy : Policy) (j : ℕ) (state : State) → slice_get policy.states j ≡ Some state → slice_get (parts_of policy) (1 + j) ≡ Some state.part
+part_at policy j state e =
+    let one : 1 + j ≡ suc j = omega arith in
+    ap (slice_get (parts_of policy)) one ∙ slice_get-map (λ (s : State). s.part) policy.states j ∙ ap (option_map (λ (s : State). s.part)) e
+
+pub at_most_greatest : {T : Type 0} (number : T → ℕ) (xs : List T) (j : ℕ) (x : T) → slice_get xs j ≡ Some x → number x ≤ greatest number xs
+at_most_greatest number [] j x e = absurd (none-some x e)
+at_most_greatest number (y ∷ xs) zero x e = let same = ap number (same_Some y x e) in omega (arith, same)
+at_most_greatest number (y ∷ xs) (suc j) x e = let h = at_most_greatest number xs j x e in omega (arith, h)
+
+pub greatest_below : {T : Type 0} (number : T → ℕ) (xs : List T) (b : ℕ) → All (λ x. number x ≤ b) xs → greatest number xs ≤ b
+greatest_below number [] b h = omega arith
+greatest_below number (x ∷ xs) b h =
+    let first = All-head (λ x. number x ≤ b) x xs h in
+    let rest = greatest_below number xs b (All-tail (λ x. number x ≤ b) x xs h) in
+    omega (arith, first, rest)
+
+-- the set of tests below a number
+mask_append : (xs ys : List TestId) → mask_of (xs ++ ys) ≡ mask_of xs + mask_of ys
+mask_append [] ys = let e : mask_of ys ≡ 0 + mask_of ys = omega arith in e
+mask_append (x ∷ xs) ys = let e = mask_append xs ys in omega (arith, e)
+
+mask_chosen : (b : Bool) (n : ℕ) → mask_of (if b then record { 0 = n } ∷ [] else []) ≤ 2 ^ n
+mask_chosen true n = omega arith
+mask_chosen false n = omega arith
+
+pub mask_below : (count : ℕ) (tests : List TestId) → mask_of (tests_below count tests) < 2 ^ count
+mask_below zero tests = omega arith
+mask_below (suc count) tests =
+    let b = list_any (λ (test : TestId). test.0 == count) tests in
+    let e = mask_append (tests_below count tests) (if b then record { 0 = count } ∷ [] else []) in
+    let h = mask_below count tests in
+    let g = mask_chosen b count in
+    let twice = pow-suc 2 count in
+    omega (arith, e, h, g, twice)
+
+module _ (image : ImageParts) (count : ℕ) (same : length image.tests ≡ count) where
+  -- each routine is good, and no higher than the parts
+  pub init_is_good : (block : Block) → BlockFits (sizes_of image) block → (good : IsGood image (routine_of_code (init_code plain_coder block))) × (good.height ≡ block_height plain_coder block)
+  init_is_good block fits = init_good image block fits
+
+  pub body_is_good : (block : Block) → BlockFits (sizes_of image) block → (good : IsGood image (routine_of_code (body_code plain_coder count block))) × (good.height ≡ block_height plain_coder block)
+  body_is_good block fits =
+      subst (λ n. (good : IsGood image (routine_of_code (body_code plain_coder n block))) × (good.height ≡ block_height plain_coder block)) same (body_good image block fits)
+
+  abbrev pub each_good : (parts : List Part) → All (PartFits (sizes_of image)) parts → EachGood image (routines_of count parts)
+  each_good [] fits = tt
+  each_good (x ∷ parts) fits =
+      let head = All-head (PartFits (sizes_of image)) x parts fits in
+      ((init_is_good x.init head.init).0, ((body_is_good x.body head.body).0, each_good parts (All-tail (PartFits (sizes_of image)) x parts fits)))
+
+  pub heights_within : (parts : List Part) (fits : All (PartFits (sizes_of image)) parts) (i : ℕ) → heights_in image (routines_of count parts) (each_good parts fits) i ≤ greatest part_height parts
+  heights_within [] fits i = omega arith
+  heights_within (x ∷ parts) fits zero =
+      let e = (init_is_good x.init (All-head (PartFits (sizes_of image)) x parts fits).init).1 in omega (arith, e)
+  heights_within (x ∷ parts) fits (suc zero) =
+      let e = (body_is_good x.body (All-head (PartFits (sizes_of image)) x parts fits).body).1 in omega (arith, e)
+  heights_within (x ∷ parts) fits (suc (suc i)) =
+      let h = heights_within parts (All-tail (PartFits (sizes_of image)) x parts fits) i in omega (arith, h)
+
+-- What the instructions of inits and bodies weigh together.
+module _ (weight : Op → ℕ) (count : ℕ) (init body : Part → ℕ)
+    (init_is : (part : Part) → amount weight (init_code plain_coder part.init) zero ≡ init part)
+    (body_is : (part : Part) → amount weight (body_code plain_coder count part.body) zero ≡ body part) where
+  -- Neither passes a number.
+  pub record Below (b : ℕ) (part : Part) : Type 0 where
+    pub init_below : init part ≤ b
+    pub body_below : body part ≤ b
+
+  pub routines_within : (parts : List Part) (b : ℕ) → All (Below b) parts → (i : ℕ) → amount weight (code_in (slice_get (routines_of count parts) i)) zero ≤ b
+  routines_within [] b below i = omega arith
+  routines_within (x ∷ parts) b below zero = let e = init_is x in let h = (All-head (Below b) x parts below).init_below in omega (arith, e, h)
+  routines_within (x ∷ parts) b below (suc zero) = let e = body_is x in let h = (All-head (Below b) x parts below).body_below in omega (arith, e, h)
+  routines_within (x ∷ parts) b below (suc (suc i)) = routines_within parts b (All-tail (Below b) x parts below) i
+
+  states_below : (b : ℕ) (states : List State) → greatest (λ state. init state.part) states ≤ b → greatest (λ state. body state.part) states ≤ b → All (Below b) (map (λ state. state.part) states)
+  states_below b [] inits bodies = All-nil (Below b)
+  states_below b (x ∷ states) inits bodies =
+      All-cons (Below b) x.part (map (λ state. state.part) states) (record { init_below = omega (arith, inits); body_below = omega (arith, bodies) })
+      (states_below b states (omega (arith, inits)) (omega (arith, bodies)))
+
+  -- each part's are within what an event may come to
+  pub parts_below : (policy : Policy) → All (Below (event_total init body policy)) (parts_of policy)
+  parts_below policy =
+      let b = event_total init body policy in
+      All-cons (Below b) policy.always (map (λ state. state.part) policy.states) (record { init_below = omega arith; body_below = omega arith })
+      (states_below b policy.states (omega arith) (omega arith))
+
+  module _ (policy : Policy) (same : tests_in policy ≡ count) (budgets : Budgets) where
+    abbrev image : ImageParts
+    image = image_with budgets policy
+
+    init_amount : (k : ℕ) (part : Part) → slice_get (parts_of policy) k ≡ Some part → amount weight (code_of image (2 * k)) zero ≡ init part
+    init_amount k part e = ap (λ o. amount weight (code_in o) zero) (init_at (tests_in policy) (parts_of policy) k part e) ∙ init_is part
+
+    body_amount : (k : ℕ) (part : Part) → slice_get (parts_of policy) k ≡ Some part → amount weight (code_of image (2 * k + 1)) zero ≡ body part
+    body_amount k part e =
+        ap (λ o. amount weight (code_in o) zero) (body_at (tests_in policy) (parts_of policy) k part e)
+        ∙ ap (λ n. amount weight (body_code plain_coder n part.body) zero) same ∙ body_is part
+
+    pub fits_events : FitsEvents image (λ routine. amount weight (code_of image routine) zero) (event_total init body policy)
+    fits_events = record {
+      evaluation = λ j k current next at_j at_k.
+          let one = state_at (tests_in policy) 1 policy.states j current at_j in
+          let two = state_at (tests_in policy) 1 policy.states k next at_k in
+          let always = body_amount 0 policy.always refl in
+          let own = ap (λ (s : StateSpec). amount weight (code_of image s.handlers.body.0) zero) one.is ∙ body_amount (1 + j) one.state.part (part_at policy j one.state one.at) in
+          let entry = ap (λ (s : StateSpec). amount weight (code_of image s.handlers.init.0) zero) two.is ∙ init_amount (1 + k) two.state.part (part_at policy k two.state two.at) in
+          let most_body = at_most_greatest (λ state. body state.part) policy.states j one.state one.at in
+          let most_init = at_most_greatest (λ state. init state.part) policy.states k two.state two.at in
+          omega (arith, always, own, entry, most_body, most_init);
+      opening = λ first at.
+          let one = state_at (tests_in policy) 1 policy.states policy.initial.0 first at in
+          let always = init_amount 0 policy.always refl in
+          let own = ap (λ (s : StateSpec). amount weight (code_of image s.handlers.init.0) zero) one.is ∙ init_amount (1 + policy.initial.0) one.state.part (part_at policy policy.initial.0 one.state one.at) in
+          let number = ap (number_in (λ state. init state.part)) one.at in
+          omega (arith, always, own, number);
+    }
