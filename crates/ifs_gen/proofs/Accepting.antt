@@ -22,13 +22,13 @@ use Rattle.ifs_gen.proofs.Images.{routines_long, states_long, state_at, greatest
 use Rattle.ifs_gen.proofs.Limits.{fits}
 
 module _ (policy : Policy) (is : IsPolicy policy) (code : CodeFits policy) where
-  abbrev image : ImageParts
+  abbrev pub image : ImageParts
   image = plain_image policy
 
-  abbrev count : ℕ
+  abbrev pub count : ℕ
   count = tests_in policy
 
-  tests_long : length image.tests ≡ count
+  pub tests_long : length image.tests ≡ count
   tests_long = length-map policy.tests _
 
   states_are : length image.states ≡ length policy.states
@@ -45,10 +45,10 @@ module _ (policy : Policy) (is : IsPolicy policy) (code : CodeFits policy) where
       let made : ℕ → ℕ → Sizes = λ tests states. record { interfaces = length policy.interfaces; tests = tests; commands = length policy.commands; states = states } in
       ap (λ n. made n (length policy.states)) (sym tests_long) ∙ ap (λ n. made (length image.tests) n) (sym states_are)
 
-  parts_fit : All (PartFits (sizes_of image)) (parts_of policy)
+  pub parts_fit : All (PartFits (sizes_of image)) (parts_of policy)
   parts_fit = subst (λ sizes. All (PartFits sizes) (parts_of policy)) same_sizes is.parts
 
-  abbrev good : EachGood image image.routines
+  abbrev pub good : EachGood image image.routines
   good = each_good image count tests_long (parts_of policy) parts_fit
 
   routine_there : (k : ℕ) → k < suc (length policy.states) → AreRoutines image (handlers_of count k policy.always)
@@ -108,10 +108,10 @@ module _ (policy : Policy) (is : IsPolicy policy) (code : CodeFits policy) where
   body_costs : (part : Part) → amount cost_of (body_code plain_coder count part.body) zero ≡ body_length count part
   body_costs part = cost_is_length (body_code plain_coder count part.body) ∙ body_long count part.body
 
-  init_runs : (part : Part) → amount commands_of (init_code plain_coder part.init) zero ≡ block_runs part.init
+  pub init_runs : (part : Part) → amount commands_of (init_code plain_coder part.init) zero ≡ block_runs part.init
   init_runs part = init_queues part.init
 
-  body_runs : (part : Part) → amount commands_of (body_code plain_coder count part.body) zero ≡ block_runs part.body
+  pub body_runs : (part : Part) → amount commands_of (body_code plain_coder count part.body) zero ≡ block_runs part.body
   body_runs part = body_queues count part.body
 
   cheap : All (Below cost_of count init_length (body_length count) init_costs body_costs 100000) (parts_of policy)
@@ -119,7 +119,7 @@ module _ (policy : Policy) (is : IsPolicy policy) (code : CodeFits policy) where
       All-weaker (RoutinesFit count) (Below cost_of count init_length (body_length count) init_costs body_costs 100000)
       (λ part fit. record { init_below = let h = fit.init in omega (arith, h); body_below = let h = fit.body in omega (arith, h) }) (parts_of policy) code.each
 
-  accepted : IsAccepted image
+  pub accepted : IsAccepted image
   accepted = record {
     indexes = indexes;
     handlers = nothing_left;

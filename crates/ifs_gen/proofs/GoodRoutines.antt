@@ -60,6 +60,11 @@ amount_later weight (x ∷ code) zero to le = amount_first weight x (x ∷ code)
 amount_later weight (x ∷ code) (suc place) zero le = absurd (omega arith)
 amount_later weight (x ∷ code) (suc place) (suc to) le = amount_later weight code place to (omega arith)
 
+amount_past : (weight : Op → ℕ) (code : List Op) (place : ℕ) → length code ≤ place → amount weight code place ≡ 0
+amount_past weight [] place le = refl
+amount_past weight (x ∷ code) zero le = absurd (omega arith)
+amount_past weight (x ∷ code) (suc place) le = amount_past weight code place (omega arith)
+
 -- an instruction that is no call adds nothing of a callee's
 no_callee : (amounts : ℕ → ℕ → ℕ) (op : Op) → ((callee : RoutineId) → op ≡ Call callee → ⊥) → callee_amount amounts op ≡ 0
 no_callee amounts (Call callee) never = absurd (never callee refl)
@@ -257,3 +262,27 @@ module _ (image : ImageParts) where
     leave_nothing routine is =
         let there = has routine is in
         ap results_in there.at ∙ results_none there.r.results there.found.good.results
+
+    -- amounts from a place on are the least: control may fall through each instruction
+    least_from : (weight : Op → ℕ) (bound : ℕ → ℕ → ℕ) → AreAmounts weight image bound → (routine n place : ℕ) → place + n ≡ length (code_of image routine)
+        → amount weight (code_of image routine) place ≤ bound routine place
+    least_from weight bound are routine zero place e =
+        let none = amount_past weight (code_of image routine) place (omega (arith, e)) in omega (arith, none)
+    least_from weight bound are routine (suc n) place e =
+        let there = entry_at (code_of image routine) place (omega (arith, e)) in
+        let s = stands routine place there.0 there.1 in
+        let here = amount_at weight (code_of image routine) place there.0 there.1 in
+        let long = s.in_routine.long in
+        elim s.is [
+          | inside before fine ↦
+              let on = are.onward routine place (place + 1) there.0 there.1 fine.falls in
+              let rest = least_from weight bound are routine n (place + 1) (omega (arith, e)) in
+              omega (arith, here, on, rest)
+          | last at ret ↦
+              let own = are.own routine place there.0 there.1 in
+              let none = amount_past weight (code_of image routine) (place + 1) (omega (arith, at, long)) in
+              omega (arith, here, own, none)
+        ]
+
+    pub least_amount : (weight : Op → ℕ) (bound : ℕ → ℕ → ℕ) → AreAmounts weight image bound → (routine : ℕ) → amount weight (code_of image routine) 0 ≤ bound routine 0
+    least_amount weight bound are routine = least_from weight bound are routine (length (code_of image routine)) 0 (omega arith)

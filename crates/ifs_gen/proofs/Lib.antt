@@ -9,3 +9,5 @@ pub mod GoodCode
 pub mod Images
 pub mod Limits
 pub mod Accepting
+pub mod CostsAside
+pub mod Lifting

@@ -4,6 +4,7 @@ pub mod PlainCode
 pub mod Runs
 pub mod PlainImage
 pub mod Acceptance
+pub mod Events
 pub use Rattle.ifs_base.specs.Facts
 pub use Rattle.ifs_base.specs.Effects
 pub use Rattle.ifs_image.specs.Code

@@ -1,7 +1,10 @@
 //! What holds of every policy and its plain code.
 
 ghost use Rattle.ifs_gen.specs.Acceptance.{PlainIsAccepted};
+ghost use Rattle.ifs_gen.specs.Events.{ImageMeansPolicy};
 ghost use Rattle.ifs_gen.specs.Runs.{TruthRuns, BlockRuns, HandlersDo};
+
+use ifs_core::laws::accepted_is_kept;
 
 /// Wherever the plain code of a condition stands in a routine, it leads past itself and leaves the
 /// condition's truth on the stack, each instruction executed once.
@@ -24,3 +27,12 @@ pub fn handlers_do()
 pub fn plain_is_accepted()
     ensures { PlainIsAccepted }
 {}
+
+/// The plain image of a policy means what the policy says: for every list of steps, the replies of a core
+/// that is opened on it, the states, queues and traces are those of a run over the policy's own events,
+/// costs aside, and it is busy where the queue lacks the policy's room.
+pub fn image_means_policy()
+    ensures { ImageMeansPolicy }
+{
+    accepted_is_kept();
+}
