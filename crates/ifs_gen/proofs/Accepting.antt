@@ -4,6 +4,7 @@ use Rattle.std.specs.Prelude.{slice_get, All}
 use Rattle.std.proofs.lemmas.List.{length-map}
 use Rattle.std.proofs.lemmas.List.Elements.{All-weaker}
 use Rattle.std.proofs.lemmas.Option.{slice_get_within}
+use Rattle.ifs_image.specs.declared.parts.Budgets.{Budgets}
 use Rattle.ifs_image.specs.declared.parts.StateSpec.{StateSpec}
 use Rattle.ifs_image.specs.declared.parts.ImageParts.{ImageParts}
 use Rattle.ifs_image.specs.Code.{code_of}
@@ -13,7 +14,7 @@ use Rattle.ifs_verify.specs.Accepted.{IsAccepted}
 use Rattle.ifs_gen.specs.Trees.{Part, Policy}
 use Rattle.ifs_gen.specs.Meaning.{mentioned}
 use Rattle.ifs_gen.specs.PlainCode.{plain_coder, body_code, init_code, block_runs}
-use Rattle.ifs_gen.specs.PlainImage.{tests_in, parts_of, mask_in, handlers_of, greatest, room_of, init_length, body_length, part_height, plain_image, sizes_in, PartFits, IsPolicy, RoutinesFit, CodeFits}
+use Rattle.ifs_gen.specs.PlainImage.{image_with, least_budgets, tests_in, parts_of, mask_in, handlers_of, greatest, room_of, init_length, body_length, part_height, plain_image, sizes_in, PartFits, IsPolicy, RoutinesFit, CodeFits}
 use Rattle.ifs_gen.specs.Acceptance.{PlainIsAccepted}
 use Rattle.ifs_gen.specs.Runs.{Sizes, sizes_of}
 use Rattle.ifs_gen.proofs.GoodRoutines.{EachGood, kinds_in, heights_in, amount, operands, jumps, ends, calls, reached, typings, are_heights, are_depths, are_amounts, leave_nothing}
@@ -21,9 +22,9 @@ use Rattle.ifs_gen.proofs.GoodCode.{cost_is_length, init_queues, body_queues, in
 use Rattle.ifs_gen.proofs.Images.{routines_long, states_long, state_at, greatest_below, mask_below, each_good, heights_within, Below, routines_within, parts_below, fits_events}
 use Rattle.ifs_gen.proofs.Limits.{fits}
 
-module _ (policy : Policy) (is : IsPolicy policy) (code : CodeFits policy) where
+module _ (policy : Policy) (is : IsPolicy policy) (budgets : Budgets) where
   abbrev pub image : ImageParts
-  image = plain_image policy
+  image = image_with budgets policy
 
   abbrev pub count : ℕ
   count = tests_in policy
@@ -64,7 +65,7 @@ module _ (policy : Policy) (is : IsPolicy policy) (code : CodeFits policy) where
       subst (λ (x : StateSpec). AreRoutines image x.handlers × IsMask image x.handlers.mask) (sym s.is)
       ((omega (arith, within, routines_are), omega (arith, within, routines_are)), mask_there s.state.part)
 
-  indexes : IndexesFit image
+  pub indexes : IndexesFit image
   indexes = record {
     initial = let h = is.initial in omega (arith, h, states_are);
     always = routine_there 0 (omega arith);
@@ -74,7 +75,7 @@ module _ (policy : Policy) (is : IsPolicy policy) (code : CodeFits policy) where
     operands = operands image good;
   }
 
-  nothing_left : HandlersLeaveNothing image
+  pub nothing_left : HandlersLeaveNothing image
   nothing_left = record {
     always =
         let there = routine_there 0 (omega arith) in
@@ -84,20 +85,33 @@ module _ (policy : Policy) (is : IsPolicy policy) (code : CodeFits policy) where
         (leave_nothing image good spec.handlers.init.0 there.0, leave_nothing image good spec.handlers.body.0 there.1);
   }
 
+module _ (policy : Policy) (is : IsPolicy policy) (code : CodeFits policy) where
+  abbrev stated : Budgets
+  stated = least_budgets policy
+
+  abbrev plain : ImageParts
+  plain = plain_image policy
+
+  abbrev counted : ℕ
+  counted = tests_in policy
+
+  abbrev all_good : EachGood plain plain.routines
+  all_good = good policy is stated
+
   -- what all routines stay below, handlers do
-  handlers_below : (reach : ℕ → ℕ) (b : ℕ) → ((routine : ℕ) → reach routine ≤ b) → FitsHandlers image reach b
+  handlers_below : (reach : ℕ → ℕ) (b : ℕ) → ((routine : ℕ) → reach routine ≤ b) → FitsHandlers plain reach b
   handlers_below reach b h = record {
-    always_init = h image.always.init.0;
-    always_body = h image.always.body.0;
+    always_init = h plain.always.init.0;
+    always_body = h plain.always.body.0;
     init = λ k state at. h state.handlers.init.0;
     body = λ k state at. h state.handlers.body.0;
   }
 
   abbrev heights : ℕ → ℕ
-  heights routine = heights_in image image.routines good routine
+  heights routine = heights_in plain plain.routines all_good routine
 
   heights_low : (routine : ℕ) → heights routine ≤ greatest part_height (parts_of policy)
-  heights_low routine = heights_within image count tests_long (parts_of policy) parts_fit routine
+  heights_low routine = heights_within plain counted (tests_long policy is stated) (parts_of policy) (parts_fit policy is stated) routine
 
   greatest_low : greatest part_height (parts_of policy) ≤ 32
   greatest_low = greatest_below part_height (parts_of policy) 32 code.height
@@ -105,52 +119,52 @@ module _ (policy : Policy) (is : IsPolicy policy) (code : CodeFits policy) where
   init_costs : (part : Part) → amount cost_of (init_code plain_coder part.init) zero ≡ init_length part
   init_costs part = cost_is_length (init_code plain_coder part.init) ∙ init_long part.init
 
-  body_costs : (part : Part) → amount cost_of (body_code plain_coder count part.body) zero ≡ body_length count part
-  body_costs part = cost_is_length (body_code plain_coder count part.body) ∙ body_long count part.body
+  body_costs : (part : Part) → amount cost_of (body_code plain_coder counted part.body) zero ≡ body_length counted part
+  body_costs part = cost_is_length (body_code plain_coder counted part.body) ∙ body_long counted part.body
 
   pub init_runs : (part : Part) → amount commands_of (init_code plain_coder part.init) zero ≡ block_runs part.init
   init_runs part = init_queues part.init
 
-  pub body_runs : (part : Part) → amount commands_of (body_code plain_coder count part.body) zero ≡ block_runs part.body
-  body_runs part = body_queues count part.body
+  pub body_runs : (part : Part) → amount commands_of (body_code plain_coder counted part.body) zero ≡ block_runs part.body
+  body_runs part = body_queues counted part.body
 
-  cheap : All (Below cost_of count init_length (body_length count) init_costs body_costs 100000) (parts_of policy)
+  cheap : All (Below cost_of counted init_length (body_length counted) init_costs body_costs 100000) (parts_of policy)
   cheap =
-      All-weaker (RoutinesFit count) (Below cost_of count init_length (body_length count) init_costs body_costs 100000)
+      All-weaker (RoutinesFit counted) (Below cost_of counted init_length (body_length counted) init_costs body_costs 100000)
       (λ part fit. record { init_below = let h = fit.init in omega (arith, h); body_below = let h = fit.body in omega (arith, h) }) (parts_of policy) code.each
 
-  pub accepted : IsAccepted image
+  pub accepted : IsAccepted plain
   accepted = record {
-    indexes = indexes;
-    handlers = nothing_left;
-    jumps = jumps image good;
-    ends = ends image good;
-    calls = calls image good;
-    reached = reached image good;
-    typed = (kinds_in image image.routines good, typings image good);
+    indexes = indexes policy is stated;
+    handlers = nothing_left policy is stated;
+    jumps = jumps plain all_good;
+    ends = ends plain all_good;
+    calls = calls plain all_good;
+    reached = reached plain all_good;
+    typed = (kinds_in plain plain.routines all_good, typings plain all_good);
     stack = (
-      kinds_in image image.routines good,
+      kinds_in plain plain.routines all_good,
       heights,
-      typings image good,
-      are_heights image good,
+      typings plain all_good,
+      are_heights plain all_good,
       λ routine there. let h = heights_low routine in let g = greatest_low in omega (arith, h, g),
-      handlers_below heights image.budgets.stack heights_low,
+      handlers_below heights plain.budgets.stack heights_low,
     );
-    frames = (λ routine. 1, are_depths image good, λ routine there. omega arith, handlers_below (λ routine. 1) 1 (λ routine. omega arith));
+    frames = (λ routine. 1, are_depths plain all_good, λ routine there. omega arith, handlers_below (λ routine. 1) 1 (λ routine. omega arith));
     cost = (
-      λ routine place. amount cost_of (code_of image routine) place,
-      are_amounts image good cost_of,
-      λ routine there. routines_within cost_of count init_length (body_length count) init_costs body_costs (parts_of policy) 100000 cheap routine,
-      fits_events cost_of count init_length (body_length count) init_costs body_costs policy refl image.budgets,
+      λ routine place. amount cost_of (code_of plain routine) place,
+      are_amounts plain all_good cost_of,
+      λ routine there. routines_within cost_of counted init_length (body_length counted) init_costs body_costs (parts_of policy) 100000 cheap routine,
+      fits_events cost_of counted init_length (body_length counted) init_costs body_costs policy refl plain.budgets,
     );
     commands = (
-      λ routine place. amount commands_of (code_of image routine) place,
-      are_amounts image good commands_of,
+      λ routine place. amount commands_of (code_of plain routine) place,
+      are_amounts plain all_good commands_of,
       λ routine there.
-          let h = routines_within commands_of count (λ part. block_runs part.init) (λ part. block_runs part.body) init_runs body_runs (parts_of policy) (room_of policy)
-          (parts_below commands_of count (λ part. block_runs part.init) (λ part. block_runs part.body) init_runs body_runs policy) routine in
+          let h = routines_within commands_of counted (λ part. block_runs part.init) (λ part. block_runs part.body) init_runs body_runs (parts_of policy) (room_of policy)
+          (parts_below commands_of counted (λ part. block_runs part.init) (λ part. block_runs part.body) init_runs body_runs policy) routine in
           let g = code.room in omega (arith, h, g),
-      fits_events commands_of count (λ part. block_runs part.init) (λ part. block_runs part.body) init_runs body_runs policy refl image.budgets,
+      fits_events commands_of counted (λ part. block_runs part.init) (λ part. block_runs part.body) init_runs body_runs policy refl plain.budgets,
     );
   }
 

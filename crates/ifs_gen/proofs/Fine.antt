@@ -46,7 +46,7 @@ module _ (image : ImageParts) (kinds : ℕ → List Kind) (height end : ℕ) whe
   pub fine_from_start : (ops : List Op) (k : ℕ) (op : Op) → AreFine image kinds height end 0 ops → slice_get ops k ≡ Some op → IsFine image kinds height end k op
   fine_from_start ops k op h e = let same : 0 + k ≡ k = omega arith in subst (λ p. IsFine image kinds height end p op) same (fine_at 0 ops k op h e)
 
--- A routine without results whose instructions are fine, and then it ends.
+-- A routine without results whose instructions are fine, and then it ends; no lower height will do.
 pub record IsGood (image : ImageParts) (r : Routine) : Type 0 where
   pub results : r.results ≡ 0
   pub front : List Op
@@ -56,6 +56,7 @@ pub record IsGood (image : ImageParts) (r : Routine) : Type 0 where
   pub fine : AreFine image kinds height (length front) 0 front
   pub start : kinds 0 ≡ []
   pub end : kinds (length front) ≡ []
+  pub least : (other : ℕ) → ((place : ℕ) → place ≤ length front → length (kinds place) ≤ other) → height ≤ other
 
 -- What an instruction of a good routine is.
 pub data IsAt (image : ImageParts) (r : Routine) (good : IsGood image r) (place : ℕ) (op : Op) : Type 0 where

@@ -1,5 +1,5 @@
 -- The code of inits and bodies is good, and what its instructions weigh together.
-use Rattle.std.proofs.Common.{◌≡◌, ℕ, zero, suc, ◌+◌, List, [], ◌∷◌, ◌++◌, length, refl, sym, ap, ◌∙◌, subst, arith, append_assoc, length-append}
+use Rattle.std.proofs.Common.{◌≡◌, ℕ, zero, suc, ◌+◌, ◌*◌, ◌<◌, ◌≤◌, List, [], ◌∷◌, ◌++◌, length, refl, sym, ap, ◌∙◌, subst, arith, append_assoc, length-append}
 use Rattle.ifs_base.specs.declared.op.Kind.{Kind}
 use Rattle.ifs_base.specs.declared.op.Op.{Op}
 use Rattle.ifs_base.specs.declared.op.Op.TheVariants.{Ret, Negate, Both, Either, JumpFalse}
@@ -15,7 +15,7 @@ use Rattle.ifs_gen.proofs.Simulation.{condition_sized, condition_high, block_siz
 use Rattle.ifs_gen.proofs.Mentions.{each_below, body_room}
 use Rattle.ifs_gen.proofs.Handlers.{held_sized}
 use Rattle.ifs_gen.proofs.Fine.{AreFine, fine_append, IsGood}
-use Rattle.ifs_gen.proofs.TypedTrees.{block_kinds, held_kinds, block_kinds_sized, held_kinds_sized, HasKinds, kinds_left, kinds_right, block_starts, block_fine, held_starts, held_fine}
+use Rattle.ifs_gen.proofs.TypedTrees.{block_kinds, held_kinds, block_kinds_sized, held_kinds_sized, HasKinds, kinds_left, kinds_right, block_starts, block_fine, block_low, held_starts, held_fine}
 use Rattle.ifs_gen.proofs.GoodRoutines.{amount, amount_append}
 
 -- The kinds at a place of a list; none past its end.
@@ -65,6 +65,9 @@ module _ (image : ImageParts) (block : Block) (fits : BlockFits (sizes_of image)
         fine = subst (λ e. AreFine image (listed ks) high e 0 front) (sym long) fine;
         start = block_starts image (listed ks) high end block 0 own past.0;
         end = sym (ap (listed ks) from) ∙ past.0;
+        least = λ other each.
+            let within = subst (λ e. (place : ℕ) → place ≤ e → length (listed ks place) ≤ other) long each in
+            block_low image (listed ks) other end within block 0 (kinds_left image (listed ks) other end 0 (block_kinds block) ([] ∷ []) (has_listed image other end [] ks)) past.0 (omega arith);
       } in
       (good, refl)
 
@@ -105,6 +108,10 @@ module _ (image : ImageParts) (block : Block) (fits : BlockFits (sizes_of image)
         fine = subst (λ e. AreFine image (listed ks) high e 0 front) (sym long) fine;
         start = held_starts image (listed ks) high end tests 0 held there;
         end = ap (listed ks) long ∙ past.0;
+        least = λ other each.
+            let within = subst (λ e. (place : ℕ) → place ≤ e → length (listed ks place) ≤ other) long each in
+            let again = kinds_right image (listed ks) other end 0 (held_kinds tests) kb start (omega (arith, held_size)) (has_listed image other end [] ks) in
+            block_low image (listed ks) other end within block start (kinds_left image (listed ks) other end start (block_kinds block) ([] ∷ []) again) past.0 (omega arith);
       } in
       (good, refl)
 

@@ -12,6 +12,7 @@ use Rattle.ifs_image.specs.declared.parts.ImageParts.{ImageParts}
 use Rattle.ifs_image.specs.Code.{code_in, code_of, results_in, results_of, op_at, IsSuccessor, target_of, effect}
 use Rattle.ifs_verify.specs.Rules.{IsRoutine, HasOperand, JumpsLeadOn, RoutinesEnd, CallsGoDown, PlacesAreReached}
 use Rattle.ifs_verify.specs.Typing.{AreTypings}
+use Rattle.ifs_verify.specs.Laws.{HasOneTyping}
 use Rattle.ifs_verify.specs.Bounds.{AreHeights, AreDepths, callee_amount, AreAmounts}
 use Rattle.ifs_gen.proofs.Rows.{entry_at, at_front}
 use Rattle.ifs_gen.proofs.Fine.{IsGood, IsAt, inside, last, is_at}
@@ -286,3 +287,21 @@ module _ (image : ImageParts) where
 
     pub least_amount : (weight : Op → ℕ) (bound : ℕ → ℕ → ℕ) → AreAmounts weight image bound → (routine : ℕ) → amount weight (code_of image routine) 0 ≤ bound routine 0
     least_amount weight bound are routine = least_from weight bound are routine (length (code_of image routine)) 0 (omega arith)
+
+    -- so are heights, of any typing: it is the only one
+    pub least_height : HasOneTyping → (other : ℕ → ℕ → List Kind) (tops : ℕ → ℕ) → AreTypings image other → AreHeights image other tops → (routine : ℕ) → IsRoutine image routine
+        → heights routine ≤ tops routine
+    least_height one other tops typed are routine is =
+        let there = has routine is in
+        let good = there.found.good in
+        let high = there.found.height in
+        let below : (place : ℕ) → place ≤ length good.front → length (good.kinds place) ≤ tops routine = λ place le.
+        let long = there.long in
+        let at = entry_at (code_of image routine) place (omega (arith, le, long)) in
+        let same = one image routine (kinds routine) (other routine) reached (typings routine is) (typed routine is) place (omega (arith, le, long)) in
+        let mine = ap (λ k. length (k place)) there.found.kinds in
+        let theirs = ap length same in
+        let h = are.before routine place at.0 at.1 in
+        omega (arith, mine, theirs, h) in
+        let least = good.least (tops routine) below in
+        omega (arith, high, least)

@@ -63,6 +63,18 @@ state_at count k (x ∷ states) (suc j) spec e =
     let same : k + 1 + j ≡ k + suc j = omega arith in
     record { state = s.state; at = s.at; is = s.is ∙ ap made same }
 
+pub spec_at : (count k : ℕ) (states : List State) (j : ℕ) (state : State) → slice_get states j ≡ Some state
+    → slice_get (states_from count k states) j ≡ Some (record { name = state.name; handlers = handlers_of count (k + j) state.part })
+spec_at count k [] j state e = absurd (none-some state e)
+spec_at count k (x ∷ states) zero state e =
+    let made : ℕ → State → StateSpec = λ n s. record { name = s.name; handlers = handlers_of count n s.part } in
+    let same : k ≡ k + 0 = omega arith in
+    ap (λ s. Some (made k s)) (same_Some x state e) ∙ ap (λ n. Some (made n state)) same
+spec_at count k (x ∷ states) (suc j) state e =
+    let made : ℕ → StateSpec = λ n. record { name = state.name; handlers = handlers_of count n state.part } in
+    let same : k + 1 + j ≡ k + suc j = omega arith in
+    spec_at count (k + 1) states j state e ∙ ap (λ n. Some (made n)) same
+
 -- a state's part is the one after the always part and those before it
 pub part_at : (policy : Policy) (j : ℕ) (state : State) → slice_get policy.states j ≡ Some state → slice_get (parts_of policy) (1 + j) ≡ Some state.part
 part_at policy j state e =
@@ -124,6 +136,25 @@ module _ (image : ImageParts) (count : ℕ) (same : length image.tests ≡ count
   heights_within (x ∷ parts) fits (suc (suc i)) =
       let h = heights_within parts (All-tail (PartFits (sizes_of image)) x parts fits) i in omega (arith, h)
 
+  -- the heights of part k
+  pub init_height : (parts : List Part) (fits : All (PartFits (sizes_of image)) parts) (k : ℕ) (part : Part) → slice_get parts k ≡ Some part
+      → heights_in image (routines_of count parts) (each_good parts fits) (2 * k) ≡ block_height plain_coder part.init
+  init_height [] fits k part e = absurd (none-some part e)
+  init_height (x ∷ parts) fits zero part e =
+      (init_is_good x.init (All-head (PartFits (sizes_of image)) x parts fits).init).1 ∙ ap (λ (p : Part). block_height plain_coder p.init) (same_Some x part e)
+  init_height (x ∷ parts) fits (suc k) part e =
+      let two : 2 * suc k ≡ suc (suc (2 * k)) = omega arith in
+      ap (heights_in image (routines_of count (x ∷ parts)) (each_good (x ∷ parts) fits)) two ∙ init_height parts (All-tail (PartFits (sizes_of image)) x parts fits) k part e
+
+  pub body_height : (parts : List Part) (fits : All (PartFits (sizes_of image)) parts) (k : ℕ) (part : Part) → slice_get parts k ≡ Some part
+      → heights_in image (routines_of count parts) (each_good parts fits) (2 * k + 1) ≡ block_height plain_coder part.body
+  body_height [] fits k part e = absurd (none-some part e)
+  body_height (x ∷ parts) fits zero part e =
+      (body_is_good x.body (All-head (PartFits (sizes_of image)) x parts fits).body).1 ∙ ap (λ (p : Part). block_height plain_coder p.body) (same_Some x part e)
+  body_height (x ∷ parts) fits (suc k) part e =
+      let two : 2 * suc k + 1 ≡ suc (suc (2 * k + 1)) = omega arith in
+      ap (heights_in image (routines_of count (x ∷ parts)) (each_good (x ∷ parts) fits)) two ∙ body_height parts (All-tail (PartFits (sizes_of image)) x parts fits) k part e
+
 -- What the instructions of inits and bodies weigh together.
 module _ (weight : Op → ℕ) (count : ℕ) (init body : Part → ℕ)
     (init_is : (part : Part) → amount weight (init_code plain_coder part.init) zero ≡ init part)
@@ -156,10 +187,10 @@ module _ (weight : Op → ℕ) (count : ℕ) (init body : Part → ℕ)
     abbrev image : ImageParts
     image = image_with budgets policy
 
-    init_amount : (k : ℕ) (part : Part) → slice_get (parts_of policy) k ≡ Some part → amount weight (code_of image (2 * k)) zero ≡ init part
+    pub init_amount : (k : ℕ) (part : Part) → slice_get (parts_of policy) k ≡ Some part → amount weight (code_of image (2 * k)) zero ≡ init part
     init_amount k part e = ap (λ o. amount weight (code_in o) zero) (init_at (tests_in policy) (parts_of policy) k part e) ∙ init_is part
 
-    body_amount : (k : ℕ) (part : Part) → slice_get (parts_of policy) k ≡ Some part → amount weight (code_of image (2 * k + 1)) zero ≡ body part
+    pub body_amount : (k : ℕ) (part : Part) → slice_get (parts_of policy) k ≡ Some part → amount weight (code_of image (2 * k + 1)) zero ≡ body part
     body_amount k part e =
         ap (λ o. amount weight (code_in o) zero) (body_at (tests_in policy) (parts_of policy) k part e)
         ∙ ap (λ n. amount weight (body_code plain_coder n part.body) zero) same ∙ body_is part

@@ -9,5 +9,6 @@ pub mod GoodCode
 pub mod Images
 pub mod Limits
 pub mod Accepting
+pub mod Least
 pub mod CostsAside
 pub mod Lifting

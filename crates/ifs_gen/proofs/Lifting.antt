@@ -24,7 +24,7 @@ use Rattle.ifs_core.specs.Steps.{CoreState, replies, after_steps}
 use Rattle.ifs_gen.specs.Trees.{Part, External, State, Policy}
 use Rattle.ifs_gen.specs.Meaning.{body_yield, init_yield}
 use Rattle.ifs_gen.specs.PlainCode.{plain_coder, body_code}
-use Rattle.ifs_gen.specs.PlainImage.{tests_in, parts_of, part_height, plain_image, room_of, PartFits, IsPolicy, CodeFits}
+use Rattle.ifs_gen.specs.PlainImage.{least_budgets, tests_in, parts_of, part_height, plain_image, room_of, PartFits, IsPolicy, CodeFits}
 use Rattle.ifs_gen.specs.Runs.{sizes_of, init_cost, body_cost}
 use Rattle.ifs_gen.specs.Events.{yield_in, yield_of, mask_of_state, behaviour_of, policy_opened, reply_without_cost, state_without_costs, RunsAsPolicy, ImageMeansPolicy}
 use Rattle.ifs_gen.proofs.Simulation.{truth_runs}
@@ -70,18 +70,18 @@ module _ (policy : Policy) (is : IsPolicy policy) (code : CodeFits policy) where
 
   module _ (facts : Facts) (given : AreFactsOf image facts) (before : Effects) (k : ℕ) (part : Part) (e : slice_get (parts_of policy) k ≡ Some part) where
     part_fits : PartFits (sizes_of image) part
-    part_fits = all_at (PartFits (sizes_of image)) (parts_of policy) k part (parts_fit policy is code) e
+    part_fits = all_at (PartFits (sizes_of image)) (parts_of policy) k part (parts_fit policy is (least_budgets policy)) e
 
     init_does : HasRoom image (2 * k) (length before.commands) → RunsTo image facts (2 * k) before (init_cost plain_coder facts part.init) (followed before (init_yield facts part.init))
     init_does room =
         let at = init_at count (parts_of policy) k part e in
         let high = at_most_greatest part_height (parts_of policy) k part e in
-        let least = least_amount image (good policy is code) commands_of room.0 room.1 (2 * k) in
+        let least = least_amount image (good policy is (least_budgets policy)) commands_of room.0 room.1 (2 * k) in
         let runs = ap (λ o. amount commands_of (code_in o) 0) at ∙ init_runs policy is code part in
         let more = room.2 in
         (handlers_do image facts plain_coder given (truth_runs image facts given)).init (2 * k) part.init before (record {
           listed = ap code_in at;
-          results = leave_nothing image (good policy is code) (2 * k) (slice_get_within image.routines (2 * k) _ at);
+          results = leave_nothing image (good policy is (least_budgets policy)) (2 * k) (slice_get_within image.routines (2 * k) _ at);
           frame = omega arith;
           stack = omega (arith, high);
           commands = omega (arith, least, runs, more);
@@ -93,12 +93,12 @@ module _ (policy : Policy) (is : IsPolicy policy) (code : CodeFits policy) where
     body_does room =
         let at = body_at count (parts_of policy) k part e in
         let high = at_most_greatest part_height (parts_of policy) k part e in
-        let least = least_amount image (good policy is code) commands_of room.0 room.1 (2 * k + 1) in
+        let least = least_amount image (good policy is (least_budgets policy)) commands_of room.0 room.1 (2 * k + 1) in
         let runs = ap (λ o. amount commands_of (code_in o) 0) at ∙ body_runs policy is code part in
         let more = room.2 in
         (handlers_do image facts plain_coder given (truth_runs image facts given)).body (2 * k + 1) part.body before (record {
-          listed = ap code_in at ∙ ap (λ n. body_code plain_coder n part.body) (sym (tests_long policy is code));
-          results = leave_nothing image (good policy is code) (2 * k + 1) (slice_get_within image.routines (2 * k + 1) _ at);
+          listed = ap code_in at ∙ ap (λ n. body_code plain_coder n part.body) (sym (tests_long policy is (least_budgets policy)));
+          results = leave_nothing image (good policy is (least_budgets policy)) (2 * k + 1) (slice_get_within image.routines (2 * k + 1) _ at);
           frame = omega arith;
           stack = omega (arith, high);
           commands = omega (arith, least, runs, more);

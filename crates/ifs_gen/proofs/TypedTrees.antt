@@ -245,3 +245,65 @@ module _ (image : ImageParts) (kinds : ℕ → List Kind) (height end : ℕ) whe
               (held_fine tests (place + 2) target more last there below.1 (room_any height tests room) (omega (arith, before)) within),
         ),
       )
+
+  -- a height that no place passes is that of the tree at least
+  module _ (each : (place : ℕ) → place ≤ end → length (kinds place) ≤ height) where
+    condition_low : (c : Condition) (place : ℕ) (below : List Kind) → HasKinds place (condition_kinds below c) → kinds (place + condition_size c) ≡ Truth ∷ below
+        → place + condition_size c ≤ end → condition_height c + length below ≤ height
+    condition_low (Leaf single) place below has next within = let h = each (place + 1) within in let e = ap length next in omega (arith, h, e)
+    condition_low (NotSo c) place below has next within =
+        let mid = kinds_right place (condition_kinds below c) ((Truth ∷ below) ∷ []) (place + condition_size c) (ap (λ n. place + n) (kinds_sized below c)) has in
+        condition_low c place below (kinds_left place (condition_kinds below c) ((Truth ∷ below) ∷ []) has) mid.0 (omega (arith, within))
+    condition_low (And a b) place below has next within =
+        let ka = condition_kinds below a in
+        let kb = condition_kinds (Truth ∷ below) b in
+        let last = (Truth ∷ Truth ∷ below) ∷ [] in
+        let at = place + condition_size a in
+        let rest = kinds_right place ka (kb ++ last) at (ap (λ n. place + n) (kinds_sized below a)) has in
+        let right = kinds_left at kb last rest in
+        let mid = kinds_right at kb last (at + condition_size b) (ap (λ n. at + n) (kinds_sized (Truth ∷ below) b)) rest in
+        let first = condition_low a place below (kinds_left place ka (kb ++ last) has) (condition_starts b at (Truth ∷ below) right) (omega (arith, within)) in
+        let second = condition_low b at (Truth ∷ below) right mid.0 (omega (arith, within)) in
+        omega (arith, first, second)
+    condition_low (Or a b) place below has next within =
+        let ka = condition_kinds below a in
+        let kb = condition_kinds (Truth ∷ below) b in
+        let last = (Truth ∷ Truth ∷ below) ∷ [] in
+        let at = place + condition_size a in
+        let rest = kinds_right place ka (kb ++ last) at (ap (λ n. place + n) (kinds_sized below a)) has in
+        let right = kinds_left at kb last rest in
+        let mid = kinds_right at kb last (at + condition_size b) (ap (λ n. at + n) (kinds_sized (Truth ∷ below) b)) rest in
+        let first = condition_low a place below (kinds_left place ka (kb ++ last) has) (condition_starts b at (Truth ∷ below) right) (omega (arith, within)) in
+        let second = condition_low b at (Truth ∷ below) right mid.0 (omega (arith, within)) in
+        omega (arith, first, second)
+
+    pub block_low : (block : Block) (place : ℕ) → HasKinds place (block_kinds block) → kinds (place + block_size plain_coder block) ≡ [] → place + block_size plain_coder block ≤ end
+        → block_height plain_coder block ≤ height
+    block_low Done place has next within = omega arith
+    block_low (RunThen n rest) place has next within =
+        let far : place + (2 + block_size plain_coder rest) ≡ place + 1 + 1 + block_size plain_coder rest = omega arith in
+        let one = each (place + 1) (omega (arith, within)) in
+        let long = ap length has.1.0 in
+        let more = block_low rest (place + 1 + 1) has.1.1 (sym (ap kinds far) ∙ next) (omega (arith, within)) in
+        omega (arith, one, long, more)
+    block_low (WantThen n rest) place has next within =
+        let far : place + (2 + block_size plain_coder rest) ≡ place + 1 + 1 + block_size plain_coder rest = omega arith in
+        let one = each (place + 1) (omega (arith, within)) in
+        let long = ap length has.1.0 in
+        let more = block_low rest (place + 1 + 1) has.1.1 (sym (ap kinds far) ∙ next) (omega (arith, within)) in
+        omega (arith, one, long, more)
+    block_low (IfThen c inner rest) place has next within =
+        let at = place + condition_size c in
+        let from = at + 1 in
+        let past = from + block_size plain_coder inner in
+        let kc = condition_kinds [] c in
+        let kb = block_kinds inner ++ block_kinds rest in
+        let mid = kinds_right place kc ((Truth ∷ []) ∷ kb) at (ap (λ n. place + n) (kinds_sized [] c)) has in
+        let there = kinds_right from (block_kinds inner) (block_kinds rest) past (ap (λ n. from + n) (block_kinds_sized inner)) mid.1 in
+        let far : place + (condition_size c + 1 + block_size plain_coder inner + block_size plain_coder rest) ≡ past + block_size plain_coder rest = omega arith in
+        let last = sym (ap kinds far) ∙ next in
+        let own = kinds_left from (block_kinds inner) (block_kinds rest) mid.1 in
+        let tested = condition_low c place [] (kinds_left place kc ((Truth ∷ []) ∷ kb) has) mid.0 (omega (arith, within)) in
+        let inside = block_low inner from own (block_starts rest past there last) (omega (arith, within)) in
+        let onward = block_low rest past there last (omega (arith, within)) in
+        omega (arith, tested, inside, onward)

@@ -1,10 +1,11 @@
 //! What holds of every policy and its plain code.
 
-ghost use Rattle.ifs_gen.specs.Acceptance.{PlainIsAccepted};
+ghost use Rattle.ifs_gen.specs.Acceptance.{BudgetsAreLeast, PlainIsAccepted};
 ghost use Rattle.ifs_gen.specs.Events.{ImageMeansPolicy};
 ghost use Rattle.ifs_gen.specs.Runs.{TruthRuns, BlockRuns, HandlersDo};
 
 use ifs_core::laws::accepted_is_kept;
+use ifs_verify::laws::one_typing;
 
 /// Wherever the plain code of a condition stands in a routine, it leads past itself and leaves the
 /// condition's truth on the stack, each instruction executed once.
@@ -27,6 +28,13 @@ pub fn handlers_do()
 pub fn plain_is_accepted()
     ensures { PlainIsAccepted }
 {}
+
+/// No budgets under those of the plain image are enough for its code.
+pub fn budgets_are_least()
+    ensures { BudgetsAreLeast }
+{
+    one_typing();
+}
 
 /// The plain image of a policy means what the policy says: for every list of steps, the replies of a core
 /// that is opened on it, the states, queues and traces are those of a run over the policy's own events,
