@@ -30,21 +30,18 @@ module _ (policy : Policy) (is : IsPolicy policy) (budgets : Budgets) where
   count = tests_in policy
 
   pub tests_long : length image.tests ≡ count
-  tests_long = length-map policy.tests _
+  tests_long = length-map policy.tables.tests _
 
-  states_are : length image.states ≡ length policy.states
-  states_are = states_long count 1 policy.states
-
-  parts_long : length (parts_of policy) ≡ suc (length policy.states)
-  parts_long = ap suc (length-map policy.states _)
+  states_are : length image.states ≡ length policy.tables.states
+  states_are = states_long count 1 policy.tables.states policy.states is.count
 
   routines_are : length image.routines ≡ 2 * suc (length policy.states)
-  routines_are = routines_long count (parts_of policy) ∙ ap (λ n. 2 * n) parts_long
+  routines_are = routines_long count (parts_of policy)
 
   same_sizes : sizes_in policy ≡ sizes_of image
   same_sizes =
-      let made : ℕ → ℕ → Sizes = λ tests states. record { interfaces = length policy.interfaces; tests = tests; commands = length policy.commands; states = states } in
-      ap (λ n. made n (length policy.states)) (sym tests_long) ∙ ap (λ n. made (length image.tests) n) (sym states_are)
+      let made : ℕ → ℕ → Sizes = λ tests states. record { interfaces = length policy.tables.interfaces; tests = tests; commands = length policy.tables.commands; states = states } in
+      ap (λ n. made n (length policy.tables.states)) (sym tests_long) ∙ ap (λ n. made (length image.tests) n) (sym states_are)
 
   pub parts_fit : All (PartFits (sizes_of image)) (parts_of policy)
   parts_fit = subst (λ sizes. All (PartFits sizes) (parts_of policy)) same_sizes is.parts
@@ -60,10 +57,10 @@ module _ (policy : Policy) (is : IsPolicy policy) (budgets : Budgets) where
 
   state_there : (k : ℕ) (spec : StateSpec) → slice_get image.states k ≡ Some spec → AreRoutines image spec.handlers × IsMask image spec.handlers.mask
   state_there k spec at =
-      let s = state_at count 1 policy.states k spec at in
-      let within = slice_get_within policy.states k s.state s.at in
+      let s = state_at count 1 policy.tables.states policy.states k spec at in
+      let within = slice_get_within policy.states k s.part s.at in
       subst (λ (x : StateSpec). AreRoutines image x.handlers × IsMask image x.handlers.mask) (sym s.is)
-      ((omega (arith, within, routines_are), omega (arith, within, routines_are)), mask_there s.state.part)
+      ((omega (arith, within, routines_are), omega (arith, within, routines_are)), mask_there s.part)
 
   pub indexes : IndexesFit image
   indexes = record {

@@ -1,9 +1,9 @@
 -- The plain image of a policy, entry by entry: its routines, its states, and what handlers come to.
-use Rattle.std.proofs.Common.{◌≡◌, ℕ, zero, suc, ◌+◌, ◌*◌, ◌^◌, ◌<◌, ◌≤◌, Bool, true, false, List, [], ◌∷◌, ◌++◌, length, map, Some, refl, sym, ap, ◌∙◌, subst, arith}
-use Rattle.std.specs.Prelude.{slice_get, All, option_map, ◌==◌, if◌then◌else◌}
+use Rattle.std.proofs.Common.{◌≡◌, ℕ, zero, suc, ◌+◌, ◌*◌, ◌^◌, ◌<◌, ◌≤◌, Bool, true, false, List, [], ◌∷◌, ◌++◌, length, Some, refl, sym, ap, ◌∙◌, subst, arith}
+use Rattle.std.specs.Prelude.{slice_get, All, ◌==◌, if◌then◌else◌}
 use Rattle.std.specs.List.{list_any}
 use Rattle.std.proofs.lemmas.List.Elements.{All-head, All-tail, All-cons, All-nil}
-use Rattle.std.proofs.lemmas.Option.{none-some, same_Some, slice_get-map}
+use Rattle.std.proofs.lemmas.Option.{none-some, same_Some}
 use Rattle.std.proofs.Math.Nat.{pow-suc}
 use Rattle.ifs_base.specs.declared.ids.TestId.{TestId}
 use Rattle.ifs_base.specs.declared.op.Op.{Op}
@@ -12,7 +12,7 @@ use Rattle.ifs_image.specs.declared.parts.StateSpec.{StateSpec}
 use Rattle.ifs_image.specs.declared.parts.ImageParts.{ImageParts}
 use Rattle.ifs_image.specs.Code.{code_in, code_of}
 use Rattle.ifs_verify.specs.Bounds.{FitsEvents}
-use Rattle.ifs_gen.specs.Trees.{Block, Part, State, Policy}
+use Rattle.ifs_gen.specs.Trees.{Block, Part, Policy}
 use Rattle.ifs_gen.specs.PlainCode.{plain_coder, tests_below, body_code, init_code, block_height}
 use Rattle.ifs_gen.specs.PlainImage.{tests_in, parts_of, mask_of, handlers_of, states_from, routine_of_code, routines_of, image_with, greatest, number_in, event_total, part_height, PartFits}
 use Rattle.ifs_gen.specs.Runs.{sizes_of, BlockFits}
@@ -41,45 +41,52 @@ pub routines_long : (count : ℕ) (parts : List Part) → length (routines_of co
 routines_long count [] = refl
 routines_long count (x ∷ parts) = let e = routines_long count parts in omega (arith, e)
 
-pub states_long : (count k : ℕ) (states : List State) → length (states_from count k states) ≡ length states
-states_long count k [] = refl
-states_long count k (x ∷ states) = ap suc (states_long count (k + 1) states)
+pub states_long : (count k : ℕ) (names : List (List ℕ)) (parts : List Part) → length parts ≡ length names → length (states_from count k names parts) ≡ length names
+states_long count k [] parts e = refl
+states_long count k (x ∷ names) [] e = absurd (omega (arith, e))
+states_long count k (x ∷ names) (part ∷ parts) e = ap suc (states_long count (k + 1) names parts (omega (arith, e)))
 
 -- A state of the image is a state of the policy.
-pub record StateAt (count k : ℕ) (states : List State) (j : ℕ) (spec : StateSpec) : Type 0 where
-  pub state : State
-  pub at : slice_get states j ≡ Some state
-  pub is : spec ≡ (let s : StateSpec = record { name = state.name; handlers = handlers_of count (k + j) state.part } in s)
+pub record StateAt (count k : ℕ) (names : List (List ℕ)) (parts : List Part) (j : ℕ) (spec : StateSpec) : Type 0 where
+  pub name : List ℕ
+  pub part : Part
+  pub named : slice_get names j ≡ Some name
+  pub at : slice_get parts j ≡ Some part
+  pub is : spec ≡ (let s : StateSpec = record { name = name; handlers = handlers_of count (k + j) part } in s)
 
-pub state_at : (count k : ℕ) (states : List State) (j : ℕ) (spec : StateSpec) → slice_get (states_from count k states) j ≡ Some spec → StateAt count k states j spec
-state_at count k [] j spec e = absurd (none-some spec e)
-state_at count k (x ∷ states) zero spec e =
-    let made : ℕ → StateSpec = λ n. record { name = x.name; handlers = handlers_of count n x.part } in
+pub state_at : (count k : ℕ) (names : List (List ℕ)) (parts : List Part) (j : ℕ) (spec : StateSpec) → slice_get (states_from count k names parts) j ≡ Some spec → StateAt count k names parts j spec
+state_at count k [] parts j spec e = absurd (none-some spec e)
+state_at count k (x ∷ names) [] j spec e = absurd (none-some spec e)
+state_at count k (x ∷ names) (part ∷ parts) zero spec e =
+    let made : ℕ → StateSpec = λ n. record { name = x; handlers = handlers_of count n part } in
     let same : k ≡ k + 0 = omega arith in
-    record { state = x; at = refl; is = sym (same_Some _ spec e) ∙ ap made same }
-state_at count k (x ∷ states) (suc j) spec e =
-    let s = state_at count (k + 1) states j spec e in
-    let made : ℕ → StateSpec = λ n. record { name = s.state.name; handlers = handlers_of count n s.state.part } in
+    record { name = x; part = part; named = refl; at = refl; is = sym (same_Some _ spec e) ∙ ap made same }
+state_at count k (x ∷ names) (part ∷ parts) (suc j) spec e =
+    let s = state_at count (k + 1) names parts j spec e in
+    let made : ℕ → StateSpec = λ n. record { name = s.name; handlers = handlers_of count n s.part } in
     let same : k + 1 + j ≡ k + suc j = omega arith in
-    record { state = s.state; at = s.at; is = s.is ∙ ap made same }
+    record { name = s.name; part = s.part; named = s.named; at = s.at; is = s.is ∙ ap made same }
 
-pub spec_at : (count k : ℕ) (states : List State) (j : ℕ) (state : State) → slice_get states j ≡ Some state
-    → slice_get (states_from count k states) j ≡ Some (record { name = state.name; handlers = handlers_of count (k + j) state.part })
-spec_at count k [] j state e = absurd (none-some state e)
-spec_at count k (x ∷ states) zero state e =
-    let made : ℕ → State → StateSpec = λ n s. record { name = s.name; handlers = handlers_of count n s.part } in
+-- A state of the policy is one of the image.
+pub record SpecAt (count k : ℕ) (names : List (List ℕ)) (parts : List Part) (j : ℕ) (part : Part) : Type 0 where
+  pub spec : StateSpec
+  pub at : slice_get (states_from count k names parts) j ≡ Some spec
+  pub handlers : spec.handlers ≡ handlers_of count (k + j) part
+
+pub spec_at : (count k : ℕ) (names : List (List ℕ)) (parts : List Part) (j : ℕ) (part : Part) → length parts ≡ length names → slice_get parts j ≡ Some part → SpecAt count k names parts j part
+spec_at count k names [] j part long e = absurd (none-some part e)
+spec_at count k [] (x ∷ parts) j part long e = absurd (omega (arith, long))
+spec_at count k (name ∷ names) (x ∷ parts) zero part long e =
     let same : k ≡ k + 0 = omega arith in
-    ap (λ s. Some (made k s)) (same_Some x state e) ∙ ap (λ n. Some (made n state)) same
-spec_at count k (x ∷ states) (suc j) state e =
-    let made : ℕ → StateSpec = λ n. record { name = state.name; handlers = handlers_of count n state.part } in
+    record { spec = record { name = name; handlers = handlers_of count k x }; at = refl; handlers = ap (handlers_of count k) (same_Some x part e) ∙ ap (λ n. handlers_of count n part) same }
+spec_at count k (name ∷ names) (x ∷ parts) (suc j) part long e =
+    let s = spec_at count (k + 1) names parts j part (omega (arith, long)) e in
     let same : k + 1 + j ≡ k + suc j = omega arith in
-    spec_at count (k + 1) states j state e ∙ ap (λ n. Some (made n)) same
+    record { spec = s.spec; at = s.at; handlers = s.handlers ∙ ap (λ n. handlers_of count n part) same }
 
 -- a state's part is the one after the always part and those before it
-pub part_at : (policy : Policy) (j : ℕ) (state : State) → slice_get policy.states j ≡ Some state → slice_get (parts_of policy) (1 + j) ≡ Some state.part
-part_at policy j state e =
-    let one : 1 + j ≡ suc j = omega arith in
-    ap (slice_get (parts_of policy)) one ∙ slice_get-map (λ (s : State). s.part) policy.states j ∙ ap (option_map (λ (s : State). s.part)) e
+pub part_at : (policy : Policy) (j : ℕ) (part : Part) → slice_get policy.states j ≡ Some part → slice_get (parts_of policy) (1 + j) ≡ Some part
+part_at policy j part e = let one : 1 + j ≡ suc j = omega arith in ap (slice_get (parts_of policy)) one ∙ e
 
 pub at_most_greatest : {T : Type 0} (number : T → ℕ) (xs : List T) (j : ℕ) (x : T) → slice_get xs j ≡ Some x → number x ≤ greatest number xs
 at_most_greatest number [] j x e = absurd (none-some x e)
@@ -170,17 +177,17 @@ module _ (weight : Op → ℕ) (count : ℕ) (init body : Part → ℕ)
   routines_within (x ∷ parts) b below (suc zero) = let e = body_is x in let h = (All-head (Below b) x parts below).body_below in omega (arith, e, h)
   routines_within (x ∷ parts) b below (suc (suc i)) = routines_within parts b (All-tail (Below b) x parts below) i
 
-  states_below : (b : ℕ) (states : List State) → greatest (λ state. init state.part) states ≤ b → greatest (λ state. body state.part) states ≤ b → All (Below b) (map (λ state. state.part) states)
+  states_below : (b : ℕ) (states : List Part) → greatest init states ≤ b → greatest body states ≤ b → All (Below b) states
   states_below b [] inits bodies = All-nil (Below b)
   states_below b (x ∷ states) inits bodies =
-      All-cons (Below b) x.part (map (λ state. state.part) states) (record { init_below = omega (arith, inits); body_below = omega (arith, bodies) })
+      All-cons (Below b) x states (record { init_below = omega (arith, inits); body_below = omega (arith, bodies) })
       (states_below b states (omega (arith, inits)) (omega (arith, bodies)))
 
   -- each part's are within what an event may come to
   pub parts_below : (policy : Policy) → All (Below (event_total init body policy)) (parts_of policy)
   parts_below policy =
       let b = event_total init body policy in
-      All-cons (Below b) policy.always (map (λ state. state.part) policy.states) (record { init_below = omega arith; body_below = omega arith })
+      All-cons (Below b) policy.always policy.states (record { init_below = omega arith; body_below = omega arith })
       (states_below b policy.states (omega arith) (omega arith))
 
   module _ (policy : Policy) (same : tests_in policy ≡ count) (budgets : Budgets) where
@@ -198,18 +205,18 @@ module _ (weight : Op → ℕ) (count : ℕ) (init body : Part → ℕ)
     pub fits_events : FitsEvents image (λ routine. amount weight (code_of image routine) zero) (event_total init body policy)
     fits_events = record {
       evaluation = λ j k current next at_j at_k.
-          let one = state_at (tests_in policy) 1 policy.states j current at_j in
-          let two = state_at (tests_in policy) 1 policy.states k next at_k in
+          let one = state_at (tests_in policy) 1 policy.tables.states policy.states j current at_j in
+          let two = state_at (tests_in policy) 1 policy.tables.states policy.states k next at_k in
           let always = body_amount 0 policy.always refl in
-          let own = ap (λ (s : StateSpec). amount weight (code_of image s.handlers.body.0) zero) one.is ∙ body_amount (1 + j) one.state.part (part_at policy j one.state one.at) in
-          let entry = ap (λ (s : StateSpec). amount weight (code_of image s.handlers.init.0) zero) two.is ∙ init_amount (1 + k) two.state.part (part_at policy k two.state two.at) in
-          let most_body = at_most_greatest (λ state. body state.part) policy.states j one.state one.at in
-          let most_init = at_most_greatest (λ state. init state.part) policy.states k two.state two.at in
+          let own = ap (λ (s : StateSpec). amount weight (code_of image s.handlers.body.0) zero) one.is ∙ body_amount (1 + j) one.part (part_at policy j one.part one.at) in
+          let entry = ap (λ (s : StateSpec). amount weight (code_of image s.handlers.init.0) zero) two.is ∙ init_amount (1 + k) two.part (part_at policy k two.part two.at) in
+          let most_body = at_most_greatest body policy.states j one.part one.at in
+          let most_init = at_most_greatest init policy.states k two.part two.at in
           omega (arith, always, own, entry, most_body, most_init);
       opening = λ first at.
-          let one = state_at (tests_in policy) 1 policy.states policy.initial.0 first at in
+          let one = state_at (tests_in policy) 1 policy.tables.states policy.states policy.initial.0 first at in
           let always = init_amount 0 policy.always refl in
-          let own = ap (λ (s : StateSpec). amount weight (code_of image s.handlers.init.0) zero) one.is ∙ init_amount (1 + policy.initial.0) one.state.part (part_at policy policy.initial.0 one.state one.at) in
-          let number = ap (number_in (λ state. init state.part)) one.at in
+          let own = ap (λ (s : StateSpec). amount weight (code_of image s.handlers.init.0) zero) one.is ∙ init_amount (1 + policy.initial.0) one.part (part_at policy policy.initial.0 one.part one.at) in
+          let number = ap (number_in init) one.at in
           omega (arith, always, own, number);
     }

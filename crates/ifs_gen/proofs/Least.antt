@@ -1,24 +1,23 @@
 -- No budgets under the least are enough.
-use Rattle.std.proofs.Common.{◌≡◌, ℕ, zero, suc, ◌+◌, ◌*◌, ◌<◌, ◌≤◌, ◌⊎◌, inl, inr, ⊎_elim, List, [], ◌∷◌, ◌++◌, length, map, Option, Some, None, refl, sym, ap, ◌∙◌, subst, arith}
-use Rattle.std.specs.Prelude.{slice_get, All, max}
+use Rattle.std.proofs.Common.{◌≡◌, ℕ, zero, suc, ◌+◌, ◌*◌, ◌<◌, ◌≤◌, ⊎_elim, List, [], ◌∷◌, length, Some, refl, ap, ◌∙◌, subst, arith}
+use Rattle.std.specs.Prelude.{slice_get}
 use Rattle.std.proofs.lemmas.Bool.{cases_lt}
-use Rattle.std.proofs.lemmas.List.Elements.{All-cons, All-nil}
-use Rattle.std.proofs.lemmas.Option.{none-some, same_Some}
 use Rattle.ifs_base.specs.declared.op.Op.{Op}
+use Rattle.ifs_image.specs.declared.parts.Handlers.{Handlers}
+use Rattle.ifs_verify.specs.Rules.{AreRoutines}
 use Rattle.ifs_image.specs.declared.parts.Budgets.{Budgets}
 use Rattle.ifs_image.specs.declared.parts.ImageParts.{ImageParts}
-use Rattle.ifs_image.specs.Code.{code_of}
 use Rattle.ifs_verify.specs.Laws.{HasOneTyping}
 use Rattle.ifs_verify.specs.Bounds.{AreAmounts, cost_of, commands_of, FitsEvents}
 use Rattle.ifs_verify.specs.Accepted.{IsAccepted}
-use Rattle.ifs_gen.specs.Trees.{Part, State, Policy}
-use Rattle.ifs_gen.specs.PlainCode.{plain_coder, body_code, init_code, block_height, block_runs}
-use Rattle.ifs_gen.specs.PlainImage.{tests_in, parts_of, image_with, least_budgets, greatest, number_in, event_total, init_length, body_length, part_height, IsPolicy}
-use Rattle.ifs_gen.specs.Acceptance.{AreNoGreater, BudgetsAreLeast}
+use Rattle.ifs_gen.specs.Trees.{Part, Policy}
+use Rattle.ifs_gen.specs.PlainCode.{plain_coder, body_code, init_code, block_runs}
+use Rattle.ifs_gen.specs.PlainImage.{tests_in, parts_of, image_with, greatest, number_in, event_total, init_length, body_length, part_height, IsPolicy}
+use Rattle.ifs_gen.specs.Acceptance.{BudgetsAreLeast}
 use Rattle.ifs_gen.proofs.GoodRoutines.{amount, heights_in, least_amount, least_height}
 use Rattle.ifs_gen.proofs.GoodCode.{cost_is_length, init_queues, body_queues, init_long, body_long}
 use Rattle.ifs_gen.proofs.Rows.{entry_at}
-use Rattle.ifs_gen.proofs.Images.{spec_at, part_at, greatest_below, init_height, body_height, init_amount, body_amount}
+use Rattle.ifs_gen.proofs.Images.{spec_at, part_at, init_height, body_height, init_amount, body_amount}
 use Rattle.ifs_gen.proofs.Accepting.{tests_long, parts_fit, good, indexes}
 
 -- The greatest number is that of some entry.
@@ -42,10 +41,6 @@ greatest_of : {T : Type 0} (number : T → ℕ) (xs : List T) → 1 ≤ length x
 greatest_of number [] some = absurd (omega (arith, some))
 greatest_of number (x ∷ xs) some = greatest_is number x xs
 
-greatest_map : {X Y : Type 0} (number : Y → ℕ) (f : X → Y) (xs : List X) → greatest number (map f xs) ≡ greatest (λ x. number (f x)) xs
-greatest_map number f [] = refl
-greatest_map number f (x ∷ xs) = ap (max (number (f x))) (greatest_map number f xs)
-
 module _ (policy : Policy) (is : IsPolicy policy) (budgets : Budgets) (accepted : IsAccepted (image_with budgets policy)) where
   abbrev image : ImageParts
   image = image_with budgets policy
@@ -54,7 +49,7 @@ module _ (policy : Policy) (is : IsPolicy policy) (budgets : Budgets) (accepted 
   count = tests_in policy
 
   some_state : 1 ≤ length policy.states
-  some_state = let h = is.initial in omega (arith, h)
+  some_state = let h = is.initial in let e = is.count in omega (arith, h, e)
 
   -- what an event may come to is within what is stated, where it is within for each of its handlers
   events_least : (init body : Part → ℕ) (reach : ℕ → ℕ) (stated : ℕ) → FitsEvents image reach stated
@@ -62,20 +57,28 @@ module _ (policy : Policy) (is : IsPolicy policy) (budgets : Budgets) (accepted 
       → event_total init body policy ≤ stated
   events_least init body reach stated fits each =
       let always = each 0 policy.always refl in
-      let most_body = greatest_of (λ (state : State). body state.part) policy.states some_state in
-      let most_init = greatest_of (λ (state : State). init state.part) policy.states some_state in
-      let own = (each (1 + most_body.k) most_body.x.part (part_at policy most_body.k most_body.x most_body.at)).1 in
-      let next = (each (1 + most_init.k) most_init.x.part (part_at policy most_init.k most_init.x most_init.at)).0 in
-      let turn = fits.evaluation most_body.k most_init.k _ _ (spec_at count 1 policy.states most_body.k most_body.x most_body.at) (spec_at count 1 policy.states most_init.k most_init.x most_init.at) in
-      let first = entry_at policy.states policy.initial.0 is.initial in
-      let start = fits.opening _ (spec_at count 1 policy.states policy.initial.0 first.0 first.1) in
-      let entry = (each (1 + policy.initial.0) first.0.part (part_at policy policy.initial.0 first.0 first.1)).0 in
-      let number = ap (number_in (λ (state : State). init state.part)) first.1 in
+      let most_body = greatest_of body policy.states some_state in
+      let most_init = greatest_of init policy.states some_state in
+      let own = (each (1 + most_body.k) most_body.x (part_at policy most_body.k most_body.x most_body.at)).1 in
+      let next = (each (1 + most_init.k) most_init.x (part_at policy most_init.k most_init.x most_init.at)).0 in
+      let spec_j = spec_at count 1 policy.tables.states policy.states most_body.k most_body.x is.count most_body.at in
+      let spec_k = spec_at count 1 policy.tables.states policy.states most_init.k most_init.x is.count most_init.at in
+      let turn = fits.evaluation most_body.k most_init.k spec_j.spec spec_k.spec spec_j.at spec_k.at in
+      let reach_j = ap (λ (h : Handlers). reach h.body.0) spec_j.handlers in
+      let reach_k = ap (λ (h : Handlers). reach h.init.0) spec_k.handlers in
+      let some = is.initial in
+      let same = is.count in
+      let first = entry_at policy.states policy.initial.0 (omega (arith, some, same)) in
+      let spec = spec_at count 1 policy.tables.states policy.states policy.initial.0 first.0 is.count first.1 in
+      let start = fits.opening spec.spec spec.at in
+      let reach_first = ap (λ (h : Handlers). reach h.init.0) spec.handlers in
+      let entry = (each (1 + policy.initial.0) first.0 (part_at policy policy.initial.0 first.0 first.1)).0 in
+      let number = ap (number_in init) first.1 in
       let always_init = always.0 in
       let always_body = always.1 in
       let body_is = most_body.is in
       let init_is = most_init.is in
-      omega (arith, turn, start, own, next, entry, number, always_init, always_body, body_is, init_is)
+      omega (arith, turn, start, own, next, entry, reach_j, reach_k, reach_first, number, always_init, always_body, body_is, init_is)
 
   amounts_least : (weight : Op → ℕ) (init body : Part → ℕ)
       → ((part : Part) → amount weight (init_code plain_coder part.init) zero ≡ init part) → ((part : Part) → amount weight (body_code plain_coder count part.body) zero ≡ body part)
@@ -109,20 +112,21 @@ module _ (policy : Policy) (is : IsPolicy policy) (budgets : Budgets) (accepted 
         let always_body = low 1 there.always.1 in
         let stated_init = stated.always_init in
         let stated_body = stated.always_body in
-        let states : (k : ℕ) (state : State) → slice_get policy.states k ≡ Some state → part_height state.part ≤ budgets.stack = λ k state e.
-        let spec = spec_at count 1 policy.states k state e in
-        let routines = there.states k _ spec in
+        let states : (k : ℕ) (part : Part) → slice_get policy.states k ≡ Some part → part_height part ≤ budgets.stack = λ k part e.
+        let spec = spec_at count 1 policy.tables.states policy.states k part is.count e in
+        let routines = subst (λ (h : Handlers). AreRoutines image h) spec.handlers (there.states k spec.spec spec.at) in
         let init_low = low (2 * (1 + k)) routines.0 in
         let body_low = low (2 * (1 + k) + 1) routines.1 in
-        let init_stated = stated.init k _ spec in
-        let body_stated = stated.body k _ spec in
-        part_low (1 + k) state.part (part_at policy k state e) budgets.stack (omega (arith, init_low, init_stated)) (omega (arith, body_low, body_stated)) in
+        let init_stated = stated.init k spec.spec spec.at in
+        let body_stated = stated.body k spec.spec spec.at in
+        let init_is = ap (λ (h : Handlers). tops h.init.0) spec.handlers in
+        let body_is = ap (λ (h : Handlers). tops h.body.0) spec.handlers in
+        part_low (1 + k) part (part_at policy k part e) budgets.stack (omega (arith, init_low, init_stated, init_is)) (omega (arith, body_low, body_stated, body_is)) in
         let always = part_low 0 policy.always refl budgets.stack (omega (arith, always_init, stated_init)) (omega (arith, always_body, stated_body)) in
-        let most = greatest_of (λ (state : State). part_height state.part) policy.states some_state in
+        let most = greatest_of part_height policy.states some_state in
         let own = states most.k most.x most.at in
         let most_is = most.is in
-        let mapped = greatest_map part_height (λ (state : State). state.part) policy.states in
-        omega (arith, always, own, most_is, mapped)
+        omega (arith, always, own, most_is)
 
 pub budgets_are_least : HasOneTyping → BudgetsAreLeast
 budgets_are_least one policy is budgets accepted = record {

@@ -21,7 +21,7 @@ use Rattle.ifs_core.specs.Gateway.{opened}
 use Rattle.ifs_core.specs.Headline.{AcceptedIsKept}
 use Rattle.ifs_core.specs.HeadlineParts.{RunAlike}
 use Rattle.ifs_core.specs.Steps.{CoreState, replies, after_steps}
-use Rattle.ifs_gen.specs.Trees.{Part, External, State, Policy}
+use Rattle.ifs_gen.specs.Trees.{Part, External, Policy}
 use Rattle.ifs_gen.specs.Meaning.{body_yield, init_yield}
 use Rattle.ifs_gen.specs.PlainCode.{plain_coder, body_code}
 use Rattle.ifs_gen.specs.PlainImage.{least_budgets, tests_in, parts_of, part_height, plain_image, room_of, PartFits, IsPolicy, CodeFits}
@@ -46,9 +46,9 @@ mapped None f routine e = absurd (none-some routine e)
 mapped (Some s) f routine e = (s, refl, sym (same_Some (f s) routine e))
 
 -- What a state's part costs.
-abbrev cost_in : (Part → ℕ) → Option State → ℕ
+abbrev cost_in : (Part → ℕ) → Option Part → ℕ
 cost_in cost None = 0
-cost_in cost (Some state) = cost state.part
+cost_in cost (Some part) = cost part
 
 module _ (policy : Policy) (is : IsPolicy policy) (code : CodeFits policy) where
   abbrev image : ImageParts
@@ -117,24 +117,24 @@ module _ (policy : Policy) (is : IsPolicy policy) (code : CodeFits policy) where
       (body_does facts given before 0 policy.always refl (subst (λ r. HasRoom image r (length before.commands)) (sym same) room))
   handler_does (Init k) routine facts before e given room =
       let m = mapped (slice_get image.states k) (λ s. s.handlers.init.0) routine e in
-      let s = state_at count 1 policy.states k m.0 m.1 in
+      let s = state_at count 1 policy.tables.states policy.states k m.0 m.1 in
       let same : routine ≡ 2 * (1 + k) = m.2 ∙ ap (λ (x : StateSpec). x.handlers.init.0) s.is in
-      let runs = init_does facts given before (1 + k) s.state.part (part_at policy k s.state s.at) (subst (λ r. HasRoom image r (length before.commands)) same room) in
+      let runs = init_does facts given before (1 + k) s.part (part_at policy k s.part s.at) (subst (λ r. HasRoom image r (length before.commands)) same room) in
       subst (λ o. RunsTo image facts routine before (cost_in (λ part. init_cost plain_coder facts part.init) o) (followed before (yield_in (λ part. init_yield facts part.init) o))) (sym s.at)
-      (subst (λ r. RunsTo image facts r before (init_cost plain_coder facts s.state.part.init) (followed before (init_yield facts s.state.part.init))) (sym same) runs)
+      (subst (λ r. RunsTo image facts r before (init_cost plain_coder facts s.part.init) (followed before (init_yield facts s.part.init))) (sym same) runs)
   handler_does (Body k) routine facts before e given room =
       let m = mapped (slice_get image.states k) (λ s. s.handlers.body.0) routine e in
-      let s = state_at count 1 policy.states k m.0 m.1 in
+      let s = state_at count 1 policy.tables.states policy.states k m.0 m.1 in
       let same : routine ≡ 2 * (1 + k) + 1 = m.2 ∙ ap (λ (x : StateSpec). x.handlers.body.0) s.is in
-      let runs = body_does facts given before (1 + k) s.state.part (part_at policy k s.state s.at) (subst (λ r. HasRoom image r (length before.commands)) same room) in
+      let runs = body_does facts given before (1 + k) s.part (part_at policy k s.part s.at) (subst (λ r. HasRoom image r (length before.commands)) same room) in
       subst (λ o. RunsTo image facts routine before (cost_in (λ part. body_cost plain_coder (length image.tests) facts part.body) o) (followed before (yield_in (λ part. body_yield facts part.body) o))) (sym s.at)
-      (subst (λ r. RunsTo image facts r before (body_cost plain_coder (length image.tests) facts s.state.part.body) (followed before (body_yield facts s.state.part.body))) (sym same) runs)
+      (subst (λ r. RunsTo image facts r before (body_cost plain_coder (length image.tests) facts s.part.body) (followed before (body_yield facts s.part.body))) (sym same) runs)
 
   is_behaviour : IsBehaviour image at_cost
   is_behaviour = record {
     always = refl;
     active = λ k spec at.
-        let s = state_at count 1 policy.states k spec at in
+        let s = state_at count 1 policy.tables.states policy.states k spec at in
         ap (mask_of_state count) s.at ∙ sym (ap (λ (x : StateSpec). x.handlers.mask) s.is);
     runs = handler_does;
   }
@@ -142,10 +142,10 @@ module _ (policy : Policy) (is : IsPolicy policy) (code : CodeFits policy) where
   -- the opening does not depend on how the tests are told
   same_opening : state_without_costs (opened at_cost image) ≡ policy_opened policy
   same_opening =
-      let links : List LinkState = map (λ _. Unknown) policy.interfaces in
+      let links : List LinkState = map (λ _. Unknown) policy.tables.interfaces in
       let begun : List ℕ → Event = λ periods. opening (behaviour_of policy) links periods 1 policy.initial in
       let made : List ℕ → CoreState = λ periods. record { position = (begun periods).position; queue = (begun periods).commands; trace = [] } in
-      ap made (map-map (λ (test : TestSpec). test.period) (λ (test : External). record { period = test.period; text = test.text }) policy.tests)
+      ap made (map-map (λ (test : TestSpec). test.period) (λ (test : External). record { period = test.period; text = test.command }) policy.tables.tests)
 
   module _ (kept : AcceptedIsKept) (b : Behaviour) (is_b : IsBehaviour image b) (steps : List Step) where
     alike : RunAlike image b at_cost steps

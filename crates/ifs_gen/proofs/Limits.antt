@@ -4,15 +4,15 @@ use Rattle.std.specs.Prelude.{slice_get, All, sum_by}
 use Rattle.std.proofs.lemmas.List.{length-map}
 use Rattle.std.proofs.lemmas.List.Elements.{All-head, All-tail, All-cons, All-nil, All-weaker, All-map}
 use Rattle.std.proofs.lemmas.List.Sums.{sum_by-cons}
-use Rattle.ifs_base.specs.Sizes.{TextFits, PeriodFits}
+use Rattle.ifs_base.specs.Sizes.{TextFits}
 use Rattle.ifs_image.specs.declared.parts.TestSpec.{TestSpec}
 use Rattle.ifs_image.specs.declared.parts.StateSpec.{StateSpec}
 use Rattle.ifs_image.specs.declared.parts.Routine.{Routine}
 use Rattle.ifs_image.specs.declared.parts.ImageParts.{ImageParts}
 use Rattle.ifs_image.specs.Limits.{TestFits, RoutineFits, names_of, AreDistinct, instructions, Fits}
-use Rattle.ifs_gen.specs.Trees.{Part, External, State, Policy}
+use Rattle.ifs_gen.specs.Trees.{Part, External, Policy}
 use Rattle.ifs_gen.specs.PlainCode.{plain_coder, body_code, init_code}
-use Rattle.ifs_gen.specs.PlainImage.{tests_in, parts_of, states_from, routine_of_code, routines_of, greatest, number_in, event_total, init_length, body_length, part_height, plain_image, IsPolicy, RoutinesFit as PartLengths, CodeFits}
+use Rattle.ifs_gen.specs.PlainImage.{tests_in, parts_of, states_from, routine_of_code, routines_of, greatest, number_in, event_total, init_length, body_length, part_height, plain_image, ExternalFits, IsPolicy, RoutinesFit as PartLengths, CodeFits}
 use Rattle.ifs_gen.proofs.GoodCode.{init_long, body_long}
 use Rattle.ifs_gen.proofs.Images.{routines_long, states_long, at_most_greatest, greatest_below}
 
@@ -24,9 +24,10 @@ number_low : {T : Type 0} (number : T → ℕ) (xs : List T) (k : ℕ) (o : Opti
 number_low number xs k None e = let h = ap (number_in number) e in omega (arith, h)
 number_low number xs k (Some x) e = let h = ap (number_in number) e in let g = at_most_greatest number xs k x e in omega (arith, h, g)
 
-names_same : (count k : ℕ) (states : List State) → names_of (states_from count k states) ≡ map (λ state. state.name) states
-names_same count k [] = refl
-names_same count k (x ∷ states) = ap (λ names. x.name ∷ names) (names_same count (k + 1) states)
+names_same : (count k : ℕ) (names : List (List ℕ)) (parts : List Part) → length parts ≡ length names → names_of (states_from count k names parts) ≡ names
+names_same count k [] parts e = refl
+names_same count k (x ∷ names) [] e = absurd (omega (arith, e))
+names_same count k (x ∷ names) (part ∷ parts) e = ap (λ names. x ∷ names) (names_same count (k + 1) names parts (omega (arith, e)))
 
 routines_fit : (count : ℕ) (parts : List Part) → All (PartLengths count) parts → All RoutineFits (routines_of count parts)
 routines_fit count [] h = All-nil RoutineFits
@@ -65,11 +66,11 @@ module _ (policy : Policy) (is : IsPolicy policy) (code : CodeFits policy) where
 
   cost_low : event_total init_length (body_length count) policy ≤ 3072
   cost_low =
-      let always = All-head (PartLengths count) policy.always (map (λ state. state.part) policy.states) code.each in
-      let rest = unmapped (PartLengths count) (λ (state : State). state.part) policy.states (All-tail (PartLengths count) policy.always (map (λ state. state.part) policy.states) code.each) in
-      let inits = greatest_below (λ state. init_length state.part) policy.states 1024 (All-weaker (λ state. PartLengths count state.part) (λ state. init_length state.part ≤ 1024) (λ state h. h.init) policy.states rest) in
-      let bodies = greatest_below (λ state. body_length count state.part) policy.states 1024 (All-weaker (λ state. PartLengths count state.part) (λ state. body_length count state.part ≤ 1024) (λ state h. h.body) policy.states rest) in
-      let first = number_low (λ (state : State). init_length state.part) policy.states policy.initial.0 (slice_get policy.states policy.initial.0) refl in
+      let always = All-head (PartLengths count) policy.always policy.states code.each in
+      let rest = All-tail (PartLengths count) policy.always policy.states code.each in
+      let inits = greatest_below init_length policy.states 1024 (All-weaker (PartLengths count) (λ part. init_length part ≤ 1024) (λ part h. h.init) policy.states rest) in
+      let bodies = greatest_below (body_length count) policy.states 1024 (All-weaker (PartLengths count) (λ part. body_length count part ≤ 1024) (λ part h. h.body) policy.states rest) in
+      let first = number_low init_length policy.states policy.initial.0 (slice_get policy.states policy.initial.0) refl in
       let always_init = always.init in
       let always_body = always.body in
       omega (arith, always_init, always_body, inits, bodies, first)
@@ -83,10 +84,10 @@ module _ (policy : Policy) (is : IsPolicy policy) (code : CodeFits policy) where
       commands = code.room;
     };
     counts =
-        let states = states_long count 1 policy.states in
-        let tests = length-map policy.tests (λ (test : External). let t : TestSpec = record { period = test.period; text = test.text } in t) in
+        let states = states_long count 1 policy.tables.states policy.states is.count in
+        let tests = length-map policy.tables.tests (λ (test : External). let t : TestSpec = record { period = test.period; text = test.command } in t) in
         let routines = routines_long count (parts_of policy) in
-        let parts = length-map policy.states (λ (state : State). state.part) in
+        let parts = is.count in
         let some = is.initial in
         let few = is.states in
         let few_tests = is.tests in
@@ -99,13 +100,13 @@ module _ (policy : Policy) (is : IsPolicy policy) (code : CodeFits policy) where
           routines = omega (arith, routines, parts, few);
         };
     interfaces = is.interface_names;
-    tests = All-map TestFits (λ (test : External). record { period = test.period; text = test.text }) policy.tests
-        (All-weaker (λ (test : External). PeriodFits test.period × TextFits test.text) (λ (test : External). TestFits (record { period = test.period; text = test.text }))
-        (λ test h. record { period = h.0; text = h.1 }) policy.tests is.test_texts);
+    tests = All-map TestFits (λ (test : External). record { period = test.period; text = test.command }) policy.tables.tests
+        (All-weaker ExternalFits (λ (test : External). TestFits (record { period = test.period; text = test.command }))
+        (λ test h. record { period = h.period; text = h.command }) policy.tables.tests is.test_texts);
     commands = is.command_texts;
     states = record {
-      texts = unmapped TextFits (λ (s : StateSpec). s.name) (states_from count 1 policy.states) (subst (All TextFits) (sym (names_same count 1 policy.states)) is.state_names.texts);
-      distinct = subst AreDistinct (sym (names_same count 1 policy.states)) is.state_names.distinct;
+      texts = unmapped TextFits (λ (s : StateSpec). s.name) (states_from count 1 policy.tables.states policy.states) (subst (All TextFits) (sym (names_same count 1 policy.tables.states policy.states is.count)) is.state_names.texts);
+      distinct = subst AreDistinct (sym (names_same count 1 policy.tables.states policy.states is.count)) is.state_names.distinct;
     };
     routines = record {
       each = routines_fit count (parts_of policy) code.each;

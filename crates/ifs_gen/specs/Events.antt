@@ -11,14 +11,14 @@ use Rattle.ifs_core.specs.Event.{Handler, AlwaysInit, AlwaysBody, Init, Body, Be
 use Rattle.ifs_core.specs.Machine.{IsBehaviour}
 use Rattle.ifs_core.specs.Gateway.{opened}
 use Rattle.ifs_core.specs.Steps.{CoreState, replies, after_steps}
-use Rattle.ifs_gen.specs.Trees.{Part, State, Policy}
+use Rattle.ifs_gen.specs.Trees.{Part, Policy}
 use Rattle.ifs_gen.specs.Meaning.{body_yield, init_yield}
 use Rattle.ifs_gen.specs.PlainImage.{tests_in, mask_in, room_of, plain_image, IsPolicy, CodeFits}
 
 -- What a state's part yields; nothing where there is no such state.
-abbrev pub yield_in : (Part → Effects) → Option State → Effects
+abbrev pub yield_in : (Part → Effects) → Option Part → Effects
 yield_in yield None = nothing_yet
-yield_in yield (Some state) = yield state.part
+yield_in yield (Some part) = yield part
 
 -- What a handler of a policy yields under some facts.
 abbrev pub yield_of : Policy → Handler → Facts → Effects
@@ -28,9 +28,9 @@ yield_of policy (Init k) facts = yield_in (λ part. init_yield facts part.init) 
 yield_of policy (Body k) facts = yield_in (λ part. body_yield facts part.body) (slice_get policy.states k)
 
 -- The set of tests that a state's body mentions; none where there is no such state.
-abbrev pub mask_of_state : ℕ → Option State → ℕ
+abbrev pub mask_of_state : ℕ → Option Part → ℕ
 mask_of_state count None = 0
-mask_of_state count (Some state) = mask_in count state.part
+mask_of_state count (Some part) = mask_in count part
 
 -- The policy's own behaviour: its handlers answer by their yields and cost nothing, and the tests that a body mentions are active.
 abbrev pub behaviour_of : Policy → Behaviour
@@ -44,7 +44,7 @@ behaviour_of policy = record {
 -- The opening of a policy: nothing is known of its links, and the first run number is 1.
 abbrev pub policy_opening : Policy → Event
 policy_opening policy =
-    opening (behaviour_of policy) (map (λ _. Unknown) policy.interfaces) (map (λ test. test.period) policy.tests) 1 policy.initial
+    opening (behaviour_of policy) (map (λ _. Unknown) policy.tables.interfaces) (map (λ test. test.period) policy.tables.tests) 1 policy.initial
 
 -- The state after it.
 abbrev pub policy_opened : Policy → CoreState

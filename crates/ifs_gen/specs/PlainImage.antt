@@ -1,5 +1,5 @@
 -- The plain image of a policy, and its sizes apart from the code: instructions, height and commands, the room, and the budgets.
-use Rattle.std.specs.Prelude.{ℕ, ◌+◌, ◌*◌, ◌^◌, ◌<◌, ◌≤◌, max, List, [], ◌∷◌, length, map, sum_by, Option, Some, None, slice_get, All}
+use Rattle.std.specs.Prelude.{ℕ, ◌≡◌, ◌+◌, ◌*◌, ◌^◌, ◌<◌, ◌≤◌, max, List, [], ◌∷◌, length, map, sum_by, Option, Some, None, slice_get, All}
 use Rattle.ifs_base.specs.Sizes.{TextFits, PeriodFits}
 use Rattle.ifs_base.specs.declared.ids.TestId.{TestId}
 use Rattle.ifs_base.specs.declared.op.Op.{Op}
@@ -9,17 +9,17 @@ use Rattle.ifs_image.specs.declared.parts.StateSpec.{StateSpec}
 use Rattle.ifs_image.specs.declared.parts.Routine.{Routine}
 use Rattle.ifs_image.specs.declared.parts.ImageParts.{ImageParts}
 use Rattle.ifs_image.specs.Limits.{NamesFit}
-use Rattle.ifs_gen.specs.Trees.{Part, External, State, Policy}
+use Rattle.ifs_gen.specs.Trees.{Part, External, Policy}
 use Rattle.ifs_gen.specs.PlainCode.{plain_coder, holding, body_code, init_code, body_size, init_size, block_height, block_runs}
 use Rattle.ifs_gen.specs.Runs.{Sizes, BlockFits}
 
 -- How many external tests a policy has.
 abbrev pub tests_in : Policy → ℕ
-tests_in policy = length policy.tests
+tests_in policy = length policy.tables.tests
 
 -- The parts of a policy: the always part, then those of its states in order.
 abbrev pub parts_of : Policy → List Part
-parts_of policy = policy.always ∷ map (λ state. state.part) policy.states
+parts_of policy = policy.always ∷ policy.states
 
 -- The set of these tests: the bit of weight 2 ^ t is test t.
 abbrev pub mask_of : List TestId → ℕ
@@ -34,10 +34,10 @@ mask_in count part = mask_of (holding count part.body)
 abbrev pub handlers_of : ℕ → ℕ → Part → Handlers
 handlers_of count k part = record { init = record { 0 = 2 * k }; body = record { 0 = 2 * k + 1 }; mask = mask_in count part }
 
--- The states from a number on, in order.
-abbrev pub states_from : ℕ → ℕ → List State → List StateSpec
-states_from count k [] = []
-states_from count k (state ∷ states) = record { name = state.name; handlers = handlers_of count k state.part } ∷ states_from count (k + 1) states
+-- The states of these names and parts, from a number on, in order.
+abbrev pub states_from : ℕ → ℕ → List (List ℕ) → List Part → List StateSpec
+states_from count k (name ∷ names) (part ∷ parts) = record { name = name; handlers = handlers_of count k part } ∷ states_from count (k + 1) names parts
+states_from count k _ _ = []
 
 -- A routine that leaves nothing.
 abbrev pub routine_of_code : List Op → Routine
@@ -54,10 +54,10 @@ image_with budgets policy = record {
   budgets = budgets;
   initial = policy.initial;
   always = handlers_of (tests_in policy) 0 policy.always;
-  interfaces = policy.interfaces;
-  tests = map (λ test. record { period = test.period; text = test.text }) policy.tests;
-  commands = policy.commands;
-  states = states_from (tests_in policy) 1 policy.states;
+  interfaces = policy.tables.interfaces;
+  tests = map (λ test. record { period = test.period; text = test.command }) policy.tables.tests;
+  commands = policy.tables.commands;
+  states = states_from (tests_in policy) 1 policy.tables.states policy.states;
   routines = routines_of (tests_in policy) (parts_of policy);
 }
 
@@ -74,8 +74,8 @@ number_in number (Some x) = number x
 -- What one event may come to, where init and body of a part come to so much: an evaluation to the always body, a state's body and a state's init, the opening to the always init and the initial state's.
 abbrev pub event_total : (Part → ℕ) → (Part → ℕ) → Policy → ℕ
 event_total init body policy =
-    max (body policy.always + greatest (λ state. body state.part) policy.states + greatest (λ state. init state.part) policy.states)
-    (init policy.always + number_in (λ state. init state.part) (slice_get policy.states policy.initial.0))
+    max (body policy.always + greatest body policy.states + greatest init policy.states)
+    (init policy.always + number_in init (slice_get policy.states policy.initial.0))
 
 -- The room of a policy: how many commands one event may run.
 abbrev pub room_of : Policy → ℕ
@@ -107,24 +107,35 @@ plain_image policy = image_with (least_budgets policy) policy
 
 -- The sizes of a policy's tables.
 abbrev pub sizes_in : Policy → Sizes
-sizes_in policy = record { interfaces = length policy.interfaces; tests = length policy.tests; commands = length policy.commands; states = length policy.states }
+sizes_in policy = record {
+  interfaces = length policy.tables.interfaces;
+  tests = length policy.tables.tests;
+  commands = length policy.tables.commands;
+  states = length policy.tables.states;
+}
 
 -- The numbers of a part's trees are of entries of their tables.
 pub record PartFits (sizes : Sizes) (part : Part) : Type 0 where
   pub init : BlockFits sizes part.init
   pub body : BlockFits sizes part.body
 
+-- The command and the period of an external test keep their limits.
+pub record ExternalFits (test : External) : Type 0 where
+  pub command : TextFits test.command
+  pub period : PeriodFits test.period
+
 -- A policy's tables keep the limits, and its trees have numbers of their entries alone.
 pub record IsPolicy (policy : Policy) : Type 0 where
-  pub interfaces : length policy.interfaces ≤ 64
-  pub tests : length policy.tests ≤ 64
-  pub commands : length policy.commands ≤ 1024
-  pub states : length policy.states ≤ 256
-  pub initial : policy.initial.0 < length policy.states
-  pub interface_names : NamesFit policy.interfaces
-  pub test_texts : All (λ (test : External). PeriodFits test.period × TextFits test.text) policy.tests
-  pub command_texts : All TextFits policy.commands
-  pub state_names : NamesFit (map (λ state. state.name) policy.states)
+  pub interfaces : length policy.tables.interfaces ≤ 64
+  pub tests : length policy.tables.tests ≤ 64
+  pub commands : length policy.tables.commands ≤ 1024
+  pub states : length policy.tables.states ≤ 256
+  pub interface_names : NamesFit policy.tables.interfaces
+  pub test_texts : All ExternalFits policy.tables.tests
+  pub command_texts : All TextFits policy.tables.commands
+  pub state_names : NamesFit policy.tables.states
+  pub initial : policy.initial.0 < length policy.tables.states
+  pub count : length policy.states ≡ length policy.tables.states
   pub parts : All (PartFits (sizes_in policy)) (parts_of policy)
 
 -- The plain code of a part keeps the limits of one routine.

@@ -26,21 +26,21 @@ pub record Part : Type 0 where
   pub init : Block
   pub body : Block
 
--- An external test: seconds from one start to the next, and its command.
+-- An external test: its command, and the seconds from one start to the next.
 pub record External : Type 0 where
+  pub command : List ℕ
   pub period : ℕ
-  pub text : List ℕ
 
--- A state by its name.
-pub record State : Type 0 where
-  pub name : List ℕ
-  pub part : Part
-
--- A policy: its tables, the part outside all states, and the state that it starts in.
-pub record Policy : Type 0 where
+-- The tables of a policy: names of interfaces, external tests, texts of commands, names of states.
+pub record Tables : Type 0 where
   pub interfaces : List (List ℕ)
   pub tests : List External
   pub commands : List (List ℕ)
-  pub always : Part
-  pub states : List State
+  pub states : List (List ℕ)
+
+-- A policy: its tables, the state that it starts in, the part outside all states, and those of its states in the order of their table.
+pub record Policy : Type 0 where
+  pub tables : Tables
   pub initial : StateId
+  pub always : Part
+  pub states : List Part
