@@ -98,6 +98,17 @@ fn items_and_text_give_back_what_they_hold(rt: HostRuntime) -> Result<(), std::t
 }
 
 #[test]
+fn texts_are_equal_where_their_bytes_are(rt: HostRuntime) -> Result<(), std::test::Fail> {
+    let text = Text::new(String::from_str(rt.alloc(), "carp0")?);
+    assert_eq!(rt; text.clone()?, text);
+    for other in ["carp1", "carp", "carp00", "Carp0", ""] {
+        let other = Text::new(String::from_str(rt.alloc(), other)?);
+        assert!(rt; other != text);
+    }
+    Ok(())
+}
+
+#[test]
 fn sizes_of_texts(rt: HostRuntime) -> Result<(), std::test::Fail> {
     for (length, byte, wanted) in [
         (0, b'a', false),

@@ -1,0 +1,2 @@
+mod Mentioned
+mod Places

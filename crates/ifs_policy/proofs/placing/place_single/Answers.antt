@@ -1,0 +1,8 @@
+-- A place is at most the number of entries.
+use Rattle.std.proofs.Common.{arith, ◌≡◌, ap, ◌∙◌}
+use Rattle.ifs_policy.specs.Tables.{test_eq, test_of}
+use Rattle.ifs_policy.proofs.Places.{place_within}
+use Rattle.ifs_policy.proofs.placing.place_single.Goals as goal
+
+pub overflow_cast-place : goal.overflow_cast-place
+overflow_cast-place c = let within = place_within (test_eq (record { command = c.in_ok-clone-in-External.field-0; period = c.in-External.period })) c.args.tables.now.tests in omega arith

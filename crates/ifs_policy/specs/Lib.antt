@@ -1,0 +1,6 @@
+pub mod Mentions
+pub mod Tables
+pub mod Faults
+pub mod Placed
+pub mod Fits
+pub mod inner

@@ -1,0 +1,62 @@
+-- What a tree says of names, in the order of its text.
+use Rattle.std.specs.Prelude.{List, [], ◌∷◌, ◌++◌}
+use Rattle.std.specs.List.{flat_map}
+use Rattle.ifs_parse.specs.Trees as tree
+use Rattle.ifs_parse.specs.Views.{statement_then}
+use Rattle.ifs_parse.specs.declared.tree.Name.{Name}
+use Rattle.ifs_parse.specs.declared.tree.Test.{Test}
+use Rattle.ifs_parse.specs.declared.tree.Test.TheVariants.{Link, External}
+use Rattle.ifs_parse.specs.declared.tree.Wish.{Wish}
+use Rattle.ifs_parse.specs.declared.tree.Part.{Part}
+use Rattle.ifs_parse.specs.declared.tree.Part.TheVariants.{Init, Do}
+use Rattle.ifs_parse.specs.declared.tree.Item.{Item}
+use Rattle.ifs_parse.specs.declared.tree.Item.TheVariants.{InitState, State, Always}
+use Rattle.ifs_parse.specs.declared.block.Statement.{Statement}
+use Rattle.ifs_policy.specs.declared.mention.Mention.{Mention}
+use Rattle.ifs_policy.specs.declared.mention.Mention.TheVariants as says
+use Rattle.ifs_policy.specs.declared.mention.Place.{Place}
+use Rattle.ifs_policy.specs.declared.mention.Place.TheVariants as at
+use Rattle.ifs_policy.specs.declared.mention.Owner.{Owner}
+use Rattle.ifs_policy.specs.declared.mention.Owner.TheVariants as whose
+
+-- A mention of a string of the text.
+abbrev pub Mentioned : Type 0
+Mentioned = Mention Name
+
+-- The mention that a single test makes.
+abbrev pub test_mention : Place → Test → Mentioned
+test_mention place (Link name state) = says.Interface name
+test_mention place (External command period) = says.External place command period
+
+-- The mentions of a condition, from the left.
+abbrev pub condition_mentions : Place → tree.Condition Test → List Mentioned
+condition_mentions place (tree.Leaf test) = test_mention place test ∷ []
+condition_mentions place (tree.NotSo operand) = condition_mentions place operand
+condition_mentions place (tree.And left right) = condition_mentions place left ++ condition_mentions place right
+condition_mentions place (tree.Or left right) = condition_mentions place left ++ condition_mentions place right
+
+-- The mentions of statements, in order.
+abbrev pub block_mentions : Place → tree.Block Test Name Wish → List Mentioned
+block_mentions place tree.Done = []
+block_mentions place (tree.RunThen command rest) = says.Command command ∷ block_mentions place rest
+block_mentions place (tree.WantThen wish rest) = says.SetState place wish.span ∷ says.Wanted wish.state ∷ block_mentions place rest
+block_mentions place (tree.IfThen condition inner rest) = condition_mentions place condition ++ (block_mentions place inner ++ block_mentions place rest)
+
+-- Those of one statement.
+abbrev pub statement_mentions : Place → Statement Test Name Wish → List Mentioned
+statement_mentions place statement = block_mentions place (statement_then statement tree.Done)
+
+-- The mentions of a part: an `init` with its block, or a statement of the body.
+abbrev pub part_mentions : Owner → Part → List Mentioned
+part_mentions owner (Init span block) = says.Init owner span ∷ block_mentions at.Init block
+part_mentions owner (Do statement) = statement_mentions at.Body statement
+
+-- The mentions of an item.
+abbrev pub item_mentions : Item → List Mentioned
+item_mentions (InitState span name) = says.InitState span ∷ says.Wanted name ∷ []
+item_mentions (State name parts) = says.Defined name ∷ flat_map (part_mentions whose.State) parts
+item_mentions (Always part) = part_mentions whose.Always part
+
+-- The mentions of a tree's items.
+abbrev pub mentions_of : List Item → List Mentioned
+mentions_of items = flat_map item_mentions items

@@ -1,0 +1,15 @@
+-- A mention whose string is lent, as what it mentions.
+use Rattle.std.specs.Borrow.{Bor}
+use Rattle.ifs_parse.specs.declared.tree.Name.{Name}
+use Rattle.ifs_policy.specs.declared.mention.Mention.{Mention}
+use Rattle.ifs_policy.specs.declared.mention.Mention.TheVariants.{Interface, External, Command, Defined, Wanted, Init, InitState, SetState}
+
+abbrev pub seen : Mention (Bor Name) → Mention Name
+seen (Interface name) = Interface name.now
+seen (External place name period) = External place name.now period
+seen (Command name) = Command name.now
+seen (Defined name) = Defined name.now
+seen (Wanted name) = Wanted name.now
+seen (Init owner span) = Init owner span
+seen (InitState span) = InitState span
+seen (SetState place span) = SetState place span

@@ -1,0 +1,23 @@
+-- Tables whose places are numbers of 16 bits, and a statement of the code by places.
+use Rattle.std.specs.Prelude.{ℕ, ◌≤◌, length}
+use Rattle.ifs_base.specs.declared.ids.CommandId.{CommandId}
+use Rattle.ifs_base.specs.declared.ids.StateId.{StateId}
+use Rattle.ifs_parse.specs.declared.block.Statement.{Statement}
+use Rattle.ifs_parse.specs.declared.block.Statement.TheVariants.{Run, SetState, If}
+use Rattle.ifs_parse.specs.declared.tree.Name.{Name}
+use Rattle.ifs_parse.specs.declared.tree.Test.{Test}
+use Rattle.ifs_parse.specs.declared.tree.Wish.{Wish}
+use Rattle.ifs_policy.specs.declared.policy.Single.{Single}
+use Rattle.ifs_policy.specs.declared.tables.Tables.{Tables}
+use Rattle.ifs_policy.specs.Placed.{place_command, place_state, place_condition, place_block}
+
+pub record IsSized (tables : Tables) : Type 0 where
+  pub interfaces : length tables.interfaces ≤ 64
+  pub tests : length tables.tests ≤ 64
+  pub commands : length tables.commands ≤ 1024
+  pub states : length tables.states ≤ 256
+
+abbrev pub place_statement : Tables → Statement Test Name Wish → Statement Single CommandId StateId
+place_statement tables (Run command) = Run (place_command tables command)
+place_statement tables (SetState wish) = SetState (place_state tables wish.state)
+place_statement tables (If condition block) = If (place_condition tables condition) (place_block tables block)

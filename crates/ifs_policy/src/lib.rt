@@ -1,0 +1,21 @@
+//! From the tree of a text to its policy: each name becomes an index of a table.
+//!
+//! Interfaces, tests and commands are numbered from 0 in the order of their first use in the text,
+//! states in the order of their definitions.
+//! Contract: `resolve` answers the policy of the tree, or the fault that stands first with its line.
+#![tactic(auto)]
+
+mod fault;
+mod mention;
+mod names;
+mod placing;
+mod policy;
+mod table;
+mod tables;
+
+pub use fault::ResolveFault;
+pub use mention::{Mention, Mentions, Owner, Place, mention_item};
+pub use names::Names;
+pub use policy::{Handlers, PolicyBlock, PolicyParts, Single};
+pub use table::Table;
+pub use tables::{ExternalTest, Tables};

@@ -1,0 +1,170 @@
+//! What a tree says of names, in the order of its text.
+
+ghost use Rattle.std.specs.Prelude.{◌≡◌, ◌++◌, map, OnOk};
+ghost use Rattle.std.specs.List.{flat_map};
+ghost use Rattle.ifs_policy.specs.Mentions.{block_mentions, condition_mentions, item_mentions, part_mentions, statement_mentions};
+ghost use Rattle.ifs_policy.specs.inner.Seen.{seen};
+
+use ifs_base::Span;
+use ifs_parse::{Action, Actions, Condition, Item, Name, Node, Part, Statement, Test};
+use std::alloc::AllocError;
+
+/// Whether something stands in an `init` or in a body.
+#[derive(Clone, Copy, Debug, PartialEq, Eq)]
+pub enum Place {
+    Init,
+    Body,
+}
+
+/// Whose part something is.
+#[derive(Clone, Copy, Debug, PartialEq, Eq)]
+pub enum Owner {
+    /// What stands outside any state.
+    Always,
+    /// The state that was defined last.
+    State,
+}
+
+/// One thing that a text says of names: one for each of its strings, and for each `init`,
+/// `init-state` and `set-state`. `N` is a string.
+#[derive(Debug, Drop)]
+pub enum Mention<N> {
+    /// The interface of a link test.
+    Interface(N),
+    /// The command of an external test, and its period in seconds.
+    External(Place, N, u32),
+    /// A command that is run.
+    Command(N),
+    /// The name that a state is defined by.
+    Defined(N),
+    /// The name of a state that `set-state` or `init-state` wants.
+    Wanted(N),
+    /// `init`.
+    Init(Owner, Span),
+    /// `init-state`.
+    InitState(Span),
+    /// `set-state`.
+    SetState(Place, Span),
+}
+
+/// The mentions of a tree, found so far.
+pub type Mentions<'a> = Vec<Mention<&'a Name>>;
+
+/// Adds the mentions of an item.
+pub fn mention_item<'a>(item: &'a Item, mentions: &mut Mentions<'a>) -> Result<(), AllocError>
+    ensures { OnOk result (map seen mentions.new.items ≡ map seen mentions.old.items ++ item_mentions item.now) }
+{
+    match item {
+        Item::InitState(span, name) => {
+            mentions.push(Mention::InitState(*span))?;
+            mentions.push(Mention::Wanted(name))?;
+            Ok(())
+        }
+        Item::State(name, parts) => {
+            mentions.push(Mention::Defined(name))?;
+            for part in parts.as_slice() {
+                mention_part(Owner::State, part, mentions)?;
+            }
+            Ok(())
+        }
+        Item::Always(part) => {
+            mention_part(Owner::Always, part, mentions)?;
+            Ok(())
+        }
+    }
+}
+
+/// Adds the mentions of a part.
+fn mention_part<'a>(
+    owner: Owner,
+    part: &'a Part,
+    mentions: &mut Mentions<'a>,
+) -> Result<(), AllocError>
+    ensures { OnOk result (map seen mentions.new.items ≡ map seen mentions.old.items ++ part_mentions owner part.now) }
+{
+    match part {
+        Part::Init(span, block) => {
+            mentions.push(Mention::Init(owner, *span))?;
+            mention_block(Place::Init, block, mentions)?;
+            Ok(())
+        }
+        Part::Do(statement) => {
+            mention_statement(Place::Body, statement, mentions)?;
+            Ok(())
+        }
+    }
+}
+
+/// Adds the mentions of statements, in order.
+#[cycle(mention_block)]
+fn mention_block<'a>(
+    place: Place,
+    block: &'a Actions,
+    mentions: &mut Mentions<'a>,
+) -> Result<(), AllocError>
+    ensures { OnOk result (map seen mentions.new.items ≡ map seen mentions.old.items ++ block_mentions place block.now) }
+{
+    for statement in block.statements() {
+        mention_statement(place, statement, mentions)?;
+    }
+    Ok(())
+}
+
+/// Adds the mentions of a statement.
+#[cycle(mention_block)]
+fn mention_statement<'a>(
+    place: Place,
+    statement: &'a Action,
+    mentions: &mut Mentions<'a>,
+) -> Result<(), AllocError>
+    ensures { OnOk result (map seen mentions.new.items ≡ map seen mentions.old.items ++ statement_mentions place statement.now) }
+{
+    match statement {
+        Statement::Run(command) => {
+            mentions.push(Mention::Command(command))?;
+            Ok(())
+        }
+        Statement::SetState(wish) => {
+            mentions.push(Mention::SetState(place, wish.span))?;
+            mentions.push(Mention::Wanted(&wish.state))?;
+            Ok(())
+        }
+        Statement::If(condition, block) => {
+            mention_condition(place, condition, mentions)?;
+            mention_block(place, block, mentions)?;
+            Ok(())
+        }
+    }
+}
+
+/// Adds the mentions of a condition.
+fn mention_condition<'a>(
+    place: Place,
+    condition: &'a Condition<Test>,
+    mentions: &mut Mentions<'a>,
+) -> Result<(), AllocError>
+    ensures { OnOk result (map seen mentions.new.items ≡ map seen mentions.old.items ++ condition_mentions place condition.now) }
+{
+    match condition.node() {
+        Node::Leaf(Test::Link(name, _)) => {
+            mentions.push(Mention::Interface(name))?;
+            Ok(())
+        }
+        Node::Leaf(Test::External(command, period)) => {
+            mentions.push(Mention::External(place, command, *period))?;
+            Ok(())
+        }
+        Node::Not(operand) => {
+            mention_condition(place, operand, mentions)?;
+            Ok(())
+        }
+        Node::All(first, second, rest) | Node::Any(first, second, rest) => {
+            mention_condition(place, first, mentions)?;
+            mention_condition(place, second, mentions)?;
+            for operand in rest {
+                mention_condition(place, operand, mentions)?;
+            }
+            Ok(())
+        }
+    }
+}

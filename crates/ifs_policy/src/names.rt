@@ -1,0 +1,158 @@
+//! How mentions fill the tables, and the rules that they may break.
+
+ghost use Rattle.std.specs.Prelude.{◌≡◌, true, false, IsTrue, IfErr, OnOk};
+ghost use Rattle.ifs_base.specs.Sizes.{TextFits};
+ghost use Rattle.ifs_policy.specs.declared.fault.ResolveFault.TheVariants.{BadText, SecondInit};
+ghost use Rattle.ifs_policy.specs.Tables.{no_names, text_eq};
+ghost use Rattle.ifs_policy.specs.declared.mention.Mention.TheVariants.{Defined, External};
+ghost use Rattle.ifs_policy.specs.inner.Entries.{Enters, Noted};
+ghost use Rattle.ifs_policy.specs.inner.Seen.{seen};
+
+use crate::fault::ResolveFault;
+use crate::mention::{Mention, Owner, Place};
+use crate::table::Table;
+use crate::tables::{ExternalTest, Tables};
+use ifs_base::{Span, Text, limits};
+use ifs_parse::Name;
+use std::alloc::Global;
+use std::hash::Hash;
+
+/// The tables at a place of a text, and which of the words that stand once have stood so far.
+#[derive(Drop)]
+pub struct Names {
+    pub tables: Tables,
+    /// The part outside any state has an `init`.
+    pub always_init: bool,
+    /// The state that was defined last has one.
+    pub state_init: bool,
+    /// There is an `init-state`.
+    pub init_state: bool,
+}
+
+impl Names {
+    /// Tables without entries. Takes no memory.
+    pub fn new(alloc: Global) -> Self
+        ensures { result ≡ no_names }
+    {
+        Names {
+            tables: Tables {
+                interfaces: Table::new(alloc),
+                tests: Table::new(alloc),
+                commands: Table::new(alloc),
+                states: Table::new(alloc),
+            },
+            always_init: false,
+            state_init: false,
+            init_state: false,
+        }
+    }
+
+    /// Enters a mention, or tells the first rule that it breaks.
+    pub fn note(&mut self, mention: &Mention<&Name>) -> Result<(), ResolveFault>
+        ensures { Noted self.old (seen mention.now) result self.new }
+    {
+        match mention {
+            Mention::Interface(name) => {
+                enter_text(&mut self.tables.interfaces, limits::INTERFACES, name)
+            }
+            Mention::External(place, command, period) => self.note_test(*place, command, *period),
+            Mention::Command(text) => {
+                enter_text(&mut self.tables.commands, limits::COMMANDS, text)
+            }
+            Mention::Defined(name) => self.note_state(name),
+            Mention::Wanted(name) => check_text(name),
+            Mention::Init(owner, span) => match owner {
+                Owner::Always => stand_once(&mut self.always_init, *span),
+                Owner::State => stand_once(&mut self.state_init, *span),
+            },
+            Mention::InitState(span) => stand_once(&mut self.init_state, *span),
+            Mention::SetState(place, span) => match place {
+                Place::Init => Err(ResolveFault::SetStateInInit { line: span.line }),
+                Place::Body => Ok(()),
+            },
+        }
+    }
+
+    /// Enters an external test, which stands in a body alone.
+    fn note_test(&mut self, place: Place, command: &Name, period: u32) -> Result<(), ResolveFault>
+        ensures { Noted self.old (External place command.now period) result self.new }
+    {
+        match place {
+            Place::Init => Err(ResolveFault::TestInInit {
+                line: command.span.line,
+            }),
+            Place::Body => {
+                let test = ExternalTest {
+                    command: command.text.clone()?,
+                    period,
+                };
+                enter(&mut self.tables.tests, limits::TESTS, test, command)
+            }
+        }
+    }
+
+    /// Enters the name of a state, which begins without an `init`.
+    fn note_state(&mut self, name: &Name) -> Result<(), ResolveFault>
+        ensures { Noted self.old (Defined name.now) result self.new }
+    {
+        if self.tables.states.has(&name.text) {
+            return Err(ResolveFault::StateTwice {
+                line: name.span.line,
+            });
+        }
+        self.state_init = false;
+        enter_text(&mut self.tables.states, limits::STATES, name)
+    }
+}
+
+/// Enters a string into its table, where there is room for it and it is fine.
+fn enter_text(table: &mut Table<Text>, limit: u16, name: &Name) -> Result<(), ResolveFault>
+    ensures { Enters text_eq limit name.now.text name.now table.old result table.new }
+{
+    let entry = name.text.clone()?;
+    enter(table, limit, entry, name)
+}
+
+/// Enters what a string names into its table, where there is room for it and the string is fine.
+fn enter<T: Eq + Hash + Drop>(
+    table: &mut Table<T>,
+    limit: u16,
+    entry: T,
+    name: &Name,
+) -> Result<(), ResolveFault>
+    ensures { Enters T.eq limit entry name.now table.old result table.new }
+{
+    if !table.has(&entry) && table.len() >= usize::from(limit) {
+        return Err(ResolveFault::TableFull {
+            line: name.span.line,
+        });
+    }
+    check_text(name)?;
+    table.insert(entry)?;
+    Ok(())
+}
+
+/// Tells a string that is empty, too long or has a NUL.
+fn check_text(name: &Name) -> Result<(), ResolveFault>
+    ensures fits { OnOk result (TextFits name.now.text) }
+    ensures refused { IfErr result (λ fault. (fault ≡ BadText name.now.span.line) × (¬ TextFits name.now.text)) }
+{
+    if !limits::text_fits(name.text.as_bytes()) {
+        return Err(ResolveFault::BadText {
+            line: name.span.line,
+        });
+    }
+    Ok(())
+}
+
+/// Notes that a word stands, which may stand once.
+fn stand_once(stands: &mut bool, span: Span) -> Result<(), ResolveFault>
+    ensures first { OnOk result ((stands.old ≡ false) × (stands.new ≡ true)) }
+    ensures refused { IfErr result (λ fault. (fault ≡ SecondInit span.line) × IsTrue stands.old) }
+{
+    if *stands {
+        return Err(ResolveFault::SecondInit { line: span.line });
+    }
+    *stands = true;
+    Ok(())
+}
