@@ -10,5 +10,6 @@ pub mod Images
 pub mod Limits
 pub mod Accepting
 pub mod Least
+pub mod Chains
 pub mod CostsAside
 pub mod Lifting

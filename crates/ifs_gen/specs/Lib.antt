@@ -5,6 +5,7 @@ pub mod Runs
 pub mod PlainImage
 pub mod Acceptance
 pub mod Events
+pub mod Emission
 pub use Rattle.ifs_base.specs.Facts
 pub use Rattle.ifs_base.specs.Effects
 pub use Rattle.ifs_image.specs.Code

@@ -1,4 +1,5 @@
 //! The compiler: writes an image of a policy.
 #![tactic(auto)]
 
+mod emission;
 pub mod laws;
