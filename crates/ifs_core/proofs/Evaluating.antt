@@ -1,6 +1,7 @@
 -- What a behaviour's events do: their handlers run to their ends, and they keep the image's budgets.
 use Rattle.std.proofs.Common.{◌≡◌, ℕ, ◌+◌, ◌≤◌, ◌<◌, Bool, true, false, [], ◌++◌, length, Option, Some, None, refl, ap, subst, ◌∙◌, arith}
 use Rattle.std.specs.Prelude.{IfSome, slice_get, ◌==◌, if◌then◌else◌}
+use Rattle.std.proofs.lemmas.List.Elements.{All-nil}
 use Rattle.std.proofs.lemmas.Option.{none-some, same_Some}
 use Rattle.ifs_base.specs.Facts.{Facts}
 use Rattle.ifs_base.specs.declared.ids.StateId.{StateId}
@@ -10,10 +11,11 @@ use Rattle.ifs_image.specs.Limits.{Fits}
 use Rattle.ifs_verify.specs.Accepted.{IsAccepted}
 use Rattle.ifs_base.specs.Effects.{Effects, nothing_yet, later_wish, followed}
 use Rattle.ifs_machine.specs.Run.{AreFactsOf, HasRoom, Appends, IsWish, IsCostOf, HandlersEnd, RunsAreUnique}
+use Rattle.ifs_core.specs.declared.step.Record.{Record}
 use Rattle.ifs_core.specs.Event.{Handler, AlwaysInit, AlwaysBody, Init, Body, Behaviour, Position, Event, change_of, with_change, entering, evaluation}
 use Rattle.ifs_core.specs.Machine.{routine_of, IsBehaviour, KeepsBudgets}
 use Rattle.ifs_core.specs.inner.Within.{RanBodies}
-use Rattle.ifs_core.specs.Gateway.{IsPositionOf, IsStateOf, opening_of, opened}
+use Rattle.ifs_core.specs.Gateway.{IsListed, IsPositionOf, IsStateOf, opening_of, opened}
 use Rattle.ifs_core.specs.HeadlineParts.{IsRun, EachRun, BothRuns, after_always, after_bodies}
 use Rattle.ifs_core.proofs.Runs.{room_for_body, room_for_init, room_for_first_init, body_of, init_of, ran_bodies, ran_init, bodies_keep, change_keeps, count_after, two_known}
 use Rattle.ifs_core.proofs.Exists.{handles, state_at, room_from_nothing}
@@ -179,5 +181,5 @@ module _ (ends : HandlersEnd) (unique : RunsAreUnique) (image : ImageParts) (acc
       record {
         runs = record { always = always.run; init = own.run };
         budgets = record { cost = paid; count = count; known = known };
-        state = record { position = first_at; queue = omega (arith, count, fits.budgets.commands); commands = known };
+        state = record { position = first_at; queue = omega (arith, count, fits.budgets.commands); commands = known; trace = All-nil (λ (r : Record). IsListed image r.state) };
       }

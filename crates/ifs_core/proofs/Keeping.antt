@@ -55,7 +55,7 @@ module _ (ends : HandlersEnd) (unique : RunsAreUnique) (follow : RunsFollow) (st
           not_busy = λ empty e. let room = holds.busy e in absurd (omega (arith, room, ap length empty, fits.budgets.commands));
           nothing = holds.nothing;
           told = holds.told;
-          taken = holds.taken;
+          named = holds.named;
           next = holds.state;
         }
 

@@ -1,9 +1,9 @@
 -- What is done to a position or a state of an image's run leaves one.
-use Rattle.std.proofs.Common.{◌≡◌, ℕ, ◌+◌, ◌≤◌, ◌<◌, Bool, false, List, Some, length, ◌∙◌, arith, length-append, length-set}
+use Rattle.std.proofs.Common.{◌≡◌, ℕ, ◌+◌, ◌-◌, ◌≤◌, ◌<◌, Bool, false, List, [], ◌∷◌, ◌++◌, Some, length, ◌∙◌, arith, length-append, length-set}
 use Rattle.std.specs.Prelude.{All}
 use Rattle.std.specs.List.{enumerate_from}
 use Rattle.std.proofs.lemmas.List.{length-map}
-use Rattle.std.proofs.lemmas.List.Elements.{All-append}
+use Rattle.std.proofs.lemmas.List.Elements.{All-append, All-push, All-drop}
 use Rattle.std.proofs.lemmas.List.FromFn.{length-enumerate_from}
 use Rattle.ifs_base.specs.declared.ids.CommandId.{CommandId}
 use Rattle.ifs_base.specs.declared.ids.StateId.{StateId}
@@ -14,9 +14,10 @@ use Rattle.ifs_sched.specs.Schedule.{Timetable, map_by_index, entered, entered_t
 use Rattle.ifs_machine.specs.Run.{IsCommand}
 use Rattle.ifs_core.specs.declared.step.Step.{Step}
 use Rattle.ifs_core.specs.declared.step.Answer.{Answer}
+use Rattle.ifs_core.specs.declared.step.Record.{Record}
 use Rattle.ifs_core.specs.Event.{Behaviour, Position, entering}
-use Rattle.ifs_core.specs.Gateway.{IsPositionOf, IsStateOf}
-use Rattle.ifs_core.specs.Steps.{CoreState, at_position, settled, with_link, with_value, with_run_over}
+use Rattle.ifs_core.specs.Gateway.{IsListed, IsPositionOf, IsStateOf}
+use Rattle.ifs_core.specs.Steps.{CoreState, at_position, settled, traced, with_link, with_value, with_run_over}
 use Rattle.ifs_core.proofs.Kept.{length-kept_values}
 
 length-map_by_index : (f : ℕ → Timer → Timer) (tests : List Timer) → length (map_by_index f tests) ≡ length tests
@@ -65,6 +66,12 @@ module _ (image : ImageParts) where
   pub ticked_stays : (now : ℕ) (p : Position) → IsPositionOf image p → IsPositionOf image (record p { schedule = ticked now p.schedule })
   ticked_stays now p is = record { facts = is.facts; current = is.current; tests = length-ticked now p.schedule ∙ is.tests }
 
+  -- one more record tells a state of the list
+  traced_stays : (r : Record) (trace : List Record) → IsListed image r.state → All (λ r. IsListed image r.state) trace → All (λ r. IsListed image r.state) (traced r trace)
+  traced_stays r trace here before =
+      let P : Record → Type 0 = λ r. IsListed image r.state in
+      All-drop P (length (trace ++ r ∷ []) - 256) (trace ++ r ∷ []) (All-push P trace r before here)
+
   -- commands of the table go to a queue that has room for them
   pub settled_stays : (step : Step) (answer : Answer) (commands : List CommandId) (cost : ℕ) (p : Position) (s : CoreState) → IsStateOf image s → IsPositionOf image p
       → length s.queue + length commands ≤ 64 → All (IsCommand image) commands → IsStateOf image (settled step answer commands cost (at_position p s))
@@ -72,4 +79,5 @@ module _ (image : ImageParts) where
     position = at;
     queue = omega (arith, room, length-append s.queue commands);
     commands = All-append (IsCommand image) s.queue commands is.commands known;
+    trace = traced_stays (record { step = step; answer = answer; state = p.current; queued = length commands; cost = cost }) s.trace at.current is.trace;
   }

@@ -16,8 +16,8 @@ use Rattle.ifs_core.specs.declared.step.Answer.TheVariants as answers
 use Rattle.ifs_core.specs.declared.step.Reply.TheVariants.{Busy, Stale, Backwards, NoSuch}
 use Rattle.ifs_core.specs.Event.{Behaviour, Position, Event, evaluation}
 use Rattle.ifs_core.specs.Machine.{IsBehaviour, KeepsBudgets}
-use Rattle.ifs_core.specs.Gateway.{IsPositionOf, IsStateOf}
-use Rattle.ifs_core.specs.Steps.{CoreState, Turn, at_position, unchanged, same, done, ticked_after, no_event, lacks_room, with_link, with_value, with_run_over, has_value, changing, LinkSeen, RunEnded, link_turn, finished_turn, tick_turn, take_turn, turn, after_steps, cost_told, commands_told, state_told, command_taken, ChangesNothing}
+use Rattle.ifs_core.specs.Gateway.{IsReplyOf, IsPositionOf, IsStateOf}
+use Rattle.ifs_core.specs.Steps.{CoreState, Turn, at_position, unchanged, same, done, ticked_after, no_event, lacks_room, with_link, with_value, with_run_over, has_value, changing, LinkSeen, RunEnded, link_turn, finished_turn, tick_turn, take_turn, turn, after_steps, cost_told, commands_told, state_told, ChangesNothing}
 use Rattle.ifs_core.specs.HeadlineParts.{IsRun, EachRun, changed_by}
 use Rattle.ifs_core.proofs.Places.{link_stays, value_stays, run_over_stays, ticked_stays, settled_stays}
 use Rattle.ifs_core.proofs.Evaluating.{evaluation_keeps, evaluation_runs}
@@ -26,7 +26,7 @@ use Rattle.ifs_core.proofs.Evaluating.{evaluation_keeps, evaluation_runs}
 pub record TurnHolds (image : ImageParts) (s : CoreState) (t : Turn) : Type 0 where
   pub budgets : KeepsBudgets image (commands_told t.reply) (cost_told t.reply)
   pub told : IfSome (state_told t.reply) (λ state. state ≡ t.next.position.current)
-  pub taken : IfSome (command_taken t.reply) (IsCommand image)
+  pub named : IsReplyOf image t.reply
   pub state : IsStateOf image t.next
   pub busy : t.reply ≡ Busy → 64 - length s.queue < image.budgets.commands
   pub nothing : ChangesNothing t.reply → t.next ≡ s
@@ -48,22 +48,22 @@ by_test image s false t u first second = second refl
 
 module _ (image : ImageParts) (s : CoreState) (is : IsStateOf image s) where
   no_such : TurnHolds image s (unchanged NoSuch s)
-  no_such = record { budgets = none image; told = tt; taken = tt; state = is; busy = λ e. cc; nothing = λ h. refl }
+  no_such = record { budgets = none image; told = tt; named = record { state = tt; command = tt }; state = is; busy = λ e. cc; nothing = λ h. refl }
 
   stale : TurnHolds image s (unchanged Stale s)
-  stale = record { budgets = none image; told = tt; taken = tt; state = is; busy = λ e. cc; nothing = λ h. refl }
+  stale = record { budgets = none image; told = tt; named = record { state = tt; command = tt }; state = is; busy = λ e. cc; nothing = λ h. refl }
 
   backwards : TurnHolds image s (unchanged Backwards s)
-  backwards = record { budgets = none image; told = tt; taken = tt; state = is; busy = λ e. cc; nothing = λ h. refl }
+  backwards = record { budgets = none image; told = tt; named = record { state = tt; command = tt }; state = is; busy = λ e. cc; nothing = λ h. refl }
 
   busy : lacks_room image.budgets.commands s ≡ true → TurnHolds image s (unchanged Busy s)
-  busy lacks = record { budgets = none image; told = tt; taken = tt; state = is; busy = λ e. ltb-true (64 - length s.queue) image.budgets.commands lacks; nothing = λ h. refl }
+  busy lacks = record { budgets = none image; told = tt; named = record { state = tt; command = tt }; state = is; busy = λ e. ltb-true (64 - length s.queue) image.budgets.commands lacks; nothing = λ h. refl }
 
   nothing_new : (step : Step) (p : Position) → IsPositionOf image p → TurnHolds image s (same step (at_position p s))
   nothing_new step p at = record {
     budgets = none image;
     told = tt;
-    taken = tt;
+    named = record { state = tt; command = tt };
     state = settled_stays image step answers.Same [] 0 p s is at (omega (arith, is.queue)) (All-nil (IsCommand image));
     busy = λ e. cc;
     nothing = λ h. absurd h;
@@ -77,7 +77,7 @@ module _ (image : ImageParts) (s : CoreState) (is : IsStateOf image s) where
   came_to step e budgets at has = record {
     budgets = budgets;
     told = refl;
-    taken = tt;
+    named = record { state = at.current; command = tt };
     state = settled_stays image step answers.Done e.commands e.cost e.position s is at (room (length e.commands) has budgets.count) budgets.known;
     busy = λ same. cc;
     nothing = λ h. absurd h;
@@ -88,23 +88,23 @@ module _ (image : ImageParts) (s : CoreState) (is : IsStateOf image s) where
   ticks now evaluated e budgets at fits = record {
     budgets = budgets;
     told = refl;
-    taken = tt;
+    named = record { state = at.current; command = tt };
     state = settled_stays image (Tick now) answers.Ticked e.commands e.cost (record e.position { schedule = ticked now e.position.schedule }) s is (ticked_stays image now e.position at) fits budgets.known;
     busy = λ same. cc;
     nothing = λ h. absurd h;
   }
 
   takes : (queue : List CommandId) → s.queue ≡ queue → TurnHolds image s (take_turn queue s)
-  takes [] e = record { budgets = none image; told = tt; taken = tt; state = is; busy = λ e. cc; nothing = λ h. refl }
+  takes [] e = record { budgets = none image; told = tt; named = record { state = tt; command = tt }; state = is; busy = λ e. cc; nothing = λ h. refl }
   takes (command ∷ commands) e =
       let known = subst (All (IsCommand image)) e is.commands in
       let long = ap length e in
       let left : CoreState = record { position = s.position; queue = commands; trace = s.trace } in
-      let at : IsStateOf image left = record { position = is.position; queue = omega (arith, long, is.queue); commands = All-tail (IsCommand image) command commands known } in
+      let at : IsStateOf image left = record { position = is.position; queue = omega (arith, long, is.queue); commands = All-tail (IsCommand image) command commands known; trace = is.trace } in
       record {
         budgets = none image;
         told = tt;
-        taken = All-head (IsCommand image) command commands known;
+        named = record { state = tt; command = All-head (IsCommand image) command commands known };
         state = settled_stays image Take answers.Taken [] 0 s.position left at is.position (omega (arith, at.queue)) (All-nil (IsCommand image));
         busy = λ same. cc;
         nothing = λ h. absurd h;

@@ -1,31 +1,43 @@
 -- A core at work: its image, and where its run stands.
-use Rattle.std.specs.Prelude.{ℕ, ◌≡◌, ◌<◌, ◌≤◌, List, [], All, Option, length, option_map, position}
+use Rattle.std.specs.Prelude.{ℕ, ◌≡◌, ◌<◌, ◌≤◌, List, [], All, IfSome, Option, length, option_map, position}
 use Rattle.std.specs.Str.{bytes_eq}
 use Rattle.ifs_base.specs.declared.ids.IfaceId.{IfaceId}
+use Rattle.ifs_base.specs.declared.ids.StateId.{StateId}
 use Rattle.ifs_image.specs.declared.parts.ImageParts.{ImageParts}
 use Rattle.ifs_machine.specs.Run.{AreFactsOf, IsCommand}
 use Rattle.ifs_machine.specs.Views.{facts_of}
 use Rattle.ifs_core.specs.declared.position.Position.{Position as Standing}
+use Rattle.ifs_core.specs.declared.step.Reply.{Reply}
 use Rattle.ifs_core.specs.Event.{Behaviour, Position, Event, opening}
 use Rattle.ifs_core.specs.Machine.{all_unknown, periods_in}
-use Rattle.ifs_core.specs.Steps.{CoreState}
+use Rattle.ifs_core.specs.Steps.{CoreState, state_told, command_taken}
 
 -- An accepted image and the state of its run.
 pub record OpenCore : Type 0 where
   pub image : ImageParts
   pub state : CoreState
 
+-- A state of an image's list.
+abbrev pub IsListed : ImageParts → StateId → Type 0
+IsListed image state = state.0 < length image.states
+
+-- What a reply names is the image's: the state that it tells is of its list, and the command that it hands out of its table.
+pub record IsReplyOf (image : ImageParts) (reply : Reply) : Type 0 where
+  pub state : IfSome (state_told reply) (IsListed image)
+  pub command : IfSome (command_taken reply) (IsCommand image)
+
 -- A position of an image: facts and tests in its numbers, and a state of its list.
 pub record IsPositionOf (image : ImageParts) (p : Position) : Type 0 where
   pub facts : AreFactsOf image p.facts
-  pub current : p.current.0 < length image.states
+  pub current : IsListed image p.current
   pub tests : length p.schedule.tests ≡ length image.tests
 
--- A state of an image's run: a position of the image, and at most 64 commands of its table in the queue.
+-- A state of an image's run: a position of the image, at most 64 commands of its table in the queue, and states of its list in the trace.
 pub record IsStateOf (image : ImageParts) (s : CoreState) : Type 0 where
   pub position : IsPositionOf image s.position
   pub queue : length s.queue ≤ 64
   pub commands : All (IsCommand image) s.queue
+  pub trace : All (λ r. IsListed image r.state) s.trace
 
 -- What contracts see of a position.
 abbrev pub position_of : Standing → Position

@@ -10,8 +10,8 @@ use Rattle.ifs_core.specs.declared.step.Step.{Step}
 use Rattle.ifs_core.specs.declared.step.Reply.TheVariants.{Busy}
 use Rattle.ifs_core.specs.Event.{Behaviour}
 use Rattle.ifs_core.specs.Machine.{IsBehaviour}
-use Rattle.ifs_core.specs.Gateway.{IsStateOf, opening_of, opened}
-use Rattle.ifs_core.specs.Steps.{CoreState, Turn, cost_told, commands_told, state_told, command_taken, ChangesNothing, turn, after_steps}
+use Rattle.ifs_core.specs.Gateway.{IsListed, IsReplyOf, IsStateOf, opening_of, opened}
+use Rattle.ifs_core.specs.Steps.{CoreState, Turn, cost_told, commands_told, state_told, ChangesNothing, turn, after_steps}
 use Rattle.ifs_core.specs.HeadlineParts.{IsRun, IsWithinBudgets, EachRun, BothRuns, changed_by, RunAlike}
 
 -- The bytes are accepted by `verify`, which answers with this image: they spell it, and it is accepted.
@@ -34,7 +34,7 @@ pub record StepKeeps (image : ImageParts) (s : CoreState) (step : Step) (t : Tur
   -- all from its table,
   pub from_table : All (IsCommand image) (commands_told t.reply)
   -- and leaves a state of its list
-  pub state_of_list : t.next.position.current.0 < length image.states
+  pub state_of_list : IsListed image t.next.position.current
   -- the reply and the state are those of the machine's table
   pub of_table : (b : Behaviour) → IsBehaviour image b → t ≡ turn b image.budgets.commands step s
   -- `Busy` comes only where the free places of the queue are fewer than the stated commands,
@@ -45,8 +45,8 @@ pub record StepKeeps (image : ImageParts) (s : CoreState) (step : Step) (t : Tur
   pub nothing : ChangesNothing t.reply → t.next ≡ s
   -- the state that the reply tells is that state
   pub told : IfSome (state_told t.reply) (λ state. state ≡ t.next.position.current)
-  -- a command that is handed out is of the table too
-  pub taken : IfSome (command_taken t.reply) (IsCommand image)
+  -- it is of the list, as was said, and a command that is handed out is of the table too
+  pub named : IsReplyOf image t.reply
   -- and so the state after it is one of the image's run, as the state before it was
   pub next : IsStateOf image t.next
 
@@ -58,7 +58,7 @@ pub record OpeningKeeps (image : ImageParts) (s : CoreState) : Type 0 where
   pub stack_and_frames : (b : Behaviour) → IsBehaviour image b → BothRuns (IsWithinBudgets image) b image
   pub commands : length s.queue ≤ image.budgets.commands
   pub from_table : All (IsCommand image) s.queue
-  pub state_of_list : s.position.current.0 < length image.states
+  pub state_of_list : IsListed image s.position.current
   pub of_table : (b : Behaviour) → IsBehaviour image b → s ≡ opened b image
   pub state : IsStateOf image s
 

@@ -12,6 +12,9 @@ use Rattle.ifs_core.specs.declared.step.Step.{Step}
 use Rattle.ifs_core.specs.declared.step.Step.TheVariants.{Link, Finished, Tick, Take}
 use Rattle.ifs_core.specs.declared.step.Reply.{Reply}
 use Rattle.ifs_core.specs.declared.step.Reply.TheVariants.{Done, Same, Ticked, Taken, Empty, Busy, Stale, Backwards, NoSuch}
+use Rattle.ifs_core.specs.declared.step.Outcome.{Outcome}
+use Rattle.ifs_core.specs.declared.step.Outcome.TheVariants as outcomes
+use Rattle.ifs_core.specs.declared.step.Lists.{Lists}
 use Rattle.ifs_core.specs.declared.step.Answer.{Answer}
 use Rattle.ifs_core.specs.declared.step.Answer.TheVariants as answers
 use Rattle.ifs_core.specs.declared.step.Record.{Record}
@@ -194,3 +197,20 @@ replies b room (step ∷ steps) s = (turn b room step s).reply ∷ replies b roo
 abbrev pub after_steps : Behaviour → ℕ → List Step → CoreState → CoreState
 after_steps b room [] s = s
 after_steps b room (step ∷ steps) s = after_steps b room steps (turn b room step s).next
+
+-- The reply that an outcome makes with the lists that were lent to its step.
+abbrev pub reply_of : Outcome → Lists → Reply
+reply_of (outcomes.Done state cost) lists = Done state lists.effects.queued cost
+reply_of outcomes.Same lists = Same
+reply_of (outcomes.Ticked evaluated state cost exhausted) lists = Ticked evaluated state lists.effects.queued cost lists.starts exhausted
+reply_of (outcomes.Taken command) lists = Taken command
+reply_of outcomes.Empty lists = Empty
+reply_of outcomes.Busy lists = Busy
+reply_of outcomes.Stale lists = Stale
+reply_of outcomes.Backwards lists = Backwards
+reply_of outcomes.NoSuch lists = NoSuch
+
+-- The reply to the taking of a command, by the command that is answered.
+abbrev pub taken_reply : Option CommandId → Reply
+taken_reply None = Empty
+taken_reply (Some command) = Taken command

@@ -19,13 +19,6 @@ use ifs_machine::{Effects, Facts, run_handler};
 use ifs_sched::Schedule;
 use ifs_verify::Verified;
 
-/// What an event did: the commands that it queued, in order, and how many instructions it executed.
-#[derive(Debug, Drop)]
-pub struct Deed {
-    pub commands: ArrayVec<CommandId, 64>,
-    pub cost: u32,
-}
-
 /// A state of the image.
 pub fn state_of(parts: &ImageParts, state: StateId) -> &StateSpec
     requires { state.0 < length parts.now.states }
@@ -121,34 +114,27 @@ fn run_init(verified: &Verified, position: &Position, effects: &mut Effects) -> 
 }
 
 /// Runs the always body and the current state's, and enters the state that the last wish of both
-/// leads to, whose init follows.
-pub fn evaluate(verified: &Verified, position: &mut Position) -> Deed
+/// leads to, whose init follows. What they bring about stands in the effects, and nothing else; it
+/// answers how many instructions they executed.
+pub fn evaluate(verified: &Verified, position: &mut Position, effects: &mut Effects) -> u32
     requires { IsPositionOf verified.now (position_of position.old) }
     ensures exact { (b : Behaviour) → IsBehaviour verified.now b
-        → IsEvent (evaluation b (position_of position.old)) (position_of position.new) result.commands.items result.cost }
+        → IsEvent (evaluation b (position_of position.old)) (position_of position.new) effects.new.queued.items result }
     ensures position { IsPositionOf verified.now (position_of position.new) }
     ensures moment { position.new.schedule.present ≡ position.old.schedule.present }
     // What it queues and costs is within the stated budgets.
-    ensures budgets { KeepsBudgets verified.now result.commands.items result.cost }
+    ensures budgets { KeepsBudgets verified.now effects.new.queued.items result }
 {
-    let mut effects = Effects {
-        queued: ArrayVec::new(),
-        want: None,
-    };
+    effects.queued.clear();
+    effects.want = None;
     position.owed = false;
-    let cost = run_bodies(verified, position, &mut effects);
+    let cost = run_bodies(verified, position, effects);
     match change_of(position.current, effects.want) {
-        None => Deed {
-            commands: effects.queued,
-            cost,
-        },
+        None => cost,
         Some(next) => {
             enter(verified, position, next);
-            let init = run_init(verified, position, &mut effects);
-            Deed {
-                commands: effects.queued,
-                cost: cost + init,
-            }
+            let init = run_init(verified, position, effects);
+            cost + init
         }
     }
 }

@@ -43,7 +43,8 @@ pub struct OpenFault {
 }
 
 impl Core {
-    ghost use Rattle.std.specs.Prelude.{◌≡◌, IfOk, IfErr};
+    ghost use Rattle.std.specs.Prelude.{◌≡◌, [], IfOk, IfErr};
+    ghost use Rattle.circular_buffer.specs.Buffer.{buffer};
     ghost use Rattle.ifs_core.specs.Event.{Behaviour};
     ghost use Rattle.ifs_core.specs.Machine.{IsBehaviour};
     ghost use Rattle.ifs_core.specs.Gateway.{opened};
@@ -62,18 +63,27 @@ impl Core {
         match HeapCircularBuffer::with_capacity(alloc, TRACE) {
             Err(_) => Err(OpenFault { verified }),
             Ok(trace) => {
-                let position = open_position(&verified);
-                let queue = run_inits(&verified, &position);
-                let core = Core {
-                    verified,
-                    position,
-                    queue,
-                    trace,
-                };
+                let core = Core::started(verified, trace);
                 // The image, which is accepted, keeps what is promised of its opening.
                 core.image();
                 Ok(core)
             }
+        }
+    }
+
+    /// A core whose image was opened, with this trace, which is empty.
+    fn started(verified: Verified, trace: HeapCircularBuffer<Record>) -> Core
+        requires { trace ≡ buffer [] TRACE }
+        ensures image { result.image ≡ verified }
+        ensures state { (b : Behaviour) → IsBehaviour verified b → result.state ≡ opened b verified }
+    {
+        let position = open_position(&verified);
+        let queue = run_inits(&verified, &position);
+        Core {
+            verified,
+            position,
+            queue,
+            trace,
         }
     }
 }

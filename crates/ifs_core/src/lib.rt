@@ -19,7 +19,7 @@ mod step;
 mod stepping;
 
 pub use gateway::{Core, OpenFault, TRACE};
-pub use step::{Answer, Record, Reply, Step};
+pub use step::{Answer, Lists, Outcome, Record, Reply, Step};
 
 #[cfg(test)]
 mod tests;

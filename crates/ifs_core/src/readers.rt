@@ -10,11 +10,12 @@ use ifs_base::{CommandId, IfaceId, LinkState, StateId, TestId, Text};
 use ifs_image::ImageParts;
 
 impl Core {
-    ghost use Rattle.std.specs.Prelude.{◌≡◌, length, option_map, slice_get};
+    ghost use Rattle.std.specs.Prelude.{◌≡◌, ◌<◌, ◌↔◌, IsSome, IfSome, length, option_map, slice_get};
     ghost use Rattle.ifs_sched.specs.Schedule.{running_count};
     ghost use Rattle.ifs_image.specs.Limits.{Fits};
     ghost use Rattle.ifs_verify.specs.Accepted.{IsAccepted};
-    ghost use Rattle.ifs_core.specs.Gateway.{IsStateOf, interface_of};
+    ghost use Rattle.ifs_machine.specs.Run.{IsCommand};
+    ghost use Rattle.ifs_core.specs.Gateway.{IsListed, IsStateOf, interface_of};
     ghost use Rattle.ifs_core.specs.Headline.{IsKept};
 
     /// The image that runs. It is accepted and keeps to its limits, and so it keeps what the headline
@@ -32,7 +33,8 @@ impl Core {
 
     /// The current state.
     pub fn state(&self) -> StateId
-        ensures { result ≡ self.now.state.position.current }
+        ensures value { result ≡ self.now.state.position.current }
+        ensures listed { IsListed self.now.image result }
     {
         self.position.current
     }
@@ -67,7 +69,8 @@ impl Core {
 
     /// The link state of an interface; `None` where it is not in the table.
     pub fn link(&self, interface: IfaceId) -> Option<LinkState>
-        ensures { result ≡ slice_get self.now.state.position.facts.links interface.0 }
+        ensures value { result ≡ slice_get self.now.state.position.facts.links interface.0 }
+        ensures known { IsSome result ↔ (interface.0 < length self.now.image.interfaces) }
     {
         self.position
             .facts
@@ -78,14 +81,16 @@ impl Core {
 
     /// The value of a test, where it has one; `None` where it is not in the table.
     pub fn test_value(&self, test: TestId) -> Option<Option<bool>>
-        ensures { result ≡ slice_get self.now.state.position.facts.tests test.0 }
+        ensures value { result ≡ slice_get self.now.state.position.facts.tests test.0 }
+        ensures known { IsSome result ↔ (test.0 < length self.now.image.tests) }
     {
         self.position.facts.tests.get(usize::from(test.0)).copied()
     }
 
     /// The name of a state; `None` where it is not in the table.
     pub fn state_name(&self, state: StateId) -> Option<&str>
-        ensures { option_map (λ name. name.now) result ≡ option_map (λ s. s.name) (slice_get self.now.image.states state.0) }
+        ensures value { option_map (λ name. name.now) result ≡ option_map (λ s. s.name) (slice_get self.now.image.states state.0) }
+        ensures known { IsSome result ↔ IsListed self.now.image state }
     {
         let states = &self.verified.image().parts().states;
         let state = states.as_slice().get(usize::from(state.0))?;
@@ -94,7 +99,8 @@ impl Core {
 
     /// The text of a command; `None` where it is not in the table.
     pub fn command_text(&self, command: CommandId) -> Option<&str>
-        ensures { option_map (λ text. text.now) result ≡ slice_get self.now.image.commands command.0 }
+        ensures value { option_map (λ text. text.now) result ≡ slice_get self.now.image.commands command.0 }
+        ensures known { IsSome result ↔ IsCommand self.now.image command }
     {
         let commands = &self.verified.image().parts().commands;
         let text = commands.as_slice().get(usize::from(command.0))?;
@@ -103,7 +109,8 @@ impl Core {
 
     /// The command of a test; `None` where it is not in the table.
     pub fn test_text(&self, test: TestId) -> Option<&str>
-        ensures { option_map (λ text. text.now) result ≡ option_map (λ t. t.text) (slice_get self.now.image.tests test.0) }
+        ensures value { option_map (λ text. text.now) result ≡ option_map (λ t. t.text) (slice_get self.now.image.tests test.0) }
+        ensures known { IsSome result ↔ (test.0 < length self.now.image.tests) }
     {
         let tests = &self.verified.image().parts().tests;
         let test = tests.as_slice().get(usize::from(test.0))?;
@@ -130,7 +137,9 @@ impl Core {
 
     /// A record of the trace, the oldest at 0; `None` where there is none.
     pub fn trace_at(&self, index: usize) -> Option<Record>
-        ensures { result ≡ slice_get self.now.state.trace index }
+        ensures value { result ≡ slice_get self.now.state.trace index }
+        ensures known { IsSome result ↔ (index < length self.now.state.trace) }
+        ensures listed { IfSome result (λ r. IsListed self.now.image r.state) }
     {
         self.trace.get(index).copied()
     }

@@ -1,8 +1,12 @@
 //! What a core is asked and what it answers.
 
+ghost use Rattle.std.specs.Prelude.{◌≡◌, [], None};
+ghost use Rattle.ifs_core.specs.Steps.{reply_of};
+
 use arrayvec::ArrayVec;
 use ifs_base::{CommandId, IfaceId, LinkState, StateId, TestId};
-use ifs_sched::Start;
+use ifs_machine::Effects;
+use ifs_sched::{MAX_TESTS, Start};
 
 /// One event from outside.
 #[derive(Clone, Copy, Debug, PartialEq, Eq)]
@@ -52,6 +56,99 @@ pub enum Reply {
     Backwards,
     /// The index is not in its table.
     NoSuch,
+}
+
+/// A reply without its lists, which stand in the `Lists` that were lent to the step.
+#[derive(Clone, Copy, Debug, PartialEq, Eq)]
+pub enum Outcome {
+    /// As `Reply::Done`; the lists have the queued commands.
+    Done {
+        state: StateId,
+        cost: u32,
+    },
+    /// As `Reply::Same`.
+    Same,
+    /// As `Reply::Ticked`; the lists have the queued commands and the starts.
+    Ticked {
+        evaluated: bool,
+        state: StateId,
+        cost: u32,
+        exhausted: bool,
+    },
+    /// As `Reply::Taken`.
+    Taken(CommandId),
+    /// As `Reply::Empty`.
+    Empty,
+    /// As `Reply::Busy`.
+    Busy,
+    /// As `Reply::Stale`.
+    Stale,
+    /// As `Reply::Backwards`.
+    Backwards,
+    /// As `Reply::NoSuch`.
+    NoSuch,
+}
+
+/// The lists of a reply, in a place that one step after the other is lent. What a step leaves in a list
+/// that its reply does not have says nothing.
+#[derive(Debug, Drop)]
+pub struct Lists {
+    /// What the handlers of an event brought about: the queued commands, and the last wish.
+    pub effects: Effects,
+    /// The tests that a tick starts, by index.
+    pub starts: ArrayVec<Start, MAX_TESTS>,
+}
+
+impl Lists {
+    /// A place for lists, which are empty.
+    pub fn new() -> Lists
+        ensures queued { result.effects.queued.items ≡ [] }
+        ensures want { result.effects.want ≡ None }
+        ensures starts { result.starts.items ≡ [] }
+    {
+        Lists {
+            effects: Effects {
+                queued: ArrayVec::new(),
+                want: None,
+            },
+            starts: ArrayVec::new(),
+        }
+    }
+}
+
+impl Outcome {
+    /// The reply that an outcome and its lists make together.
+    pub fn with_lists(self, lists: Lists) -> Reply
+        ensures { result ≡ reply_of self lists }
+    {
+        match self {
+            Outcome::Done { state, cost } => Reply::Done {
+                state,
+                queued: lists.effects.queued,
+                cost,
+            },
+            Outcome::Same => Reply::Same,
+            Outcome::Ticked {
+                evaluated,
+                state,
+                cost,
+                exhausted,
+            } => Reply::Ticked {
+                evaluated,
+                state,
+                queued: lists.effects.queued,
+                cost,
+                starts: lists.starts,
+                exhausted,
+            },
+            Outcome::Taken(command) => Reply::Taken(command),
+            Outcome::Empty => Reply::Empty,
+            Outcome::Busy => Reply::Busy,
+            Outcome::Stale => Reply::Stale,
+            Outcome::Backwards => Reply::Backwards,
+            Outcome::NoSuch => Reply::NoSuch,
+        }
+    }
 }
 
 /// The name of an answer that the trace keeps.

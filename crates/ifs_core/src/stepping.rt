@@ -4,11 +4,12 @@ ghost use Rattle.std.specs.Prelude.{◌≡◌, ◌≤◌, ◌+◌, ◌++◌, len
 ghost use Rattle.ifs_base.specs.Facts.{is_link};
 ghost use Rattle.ifs_core.specs.Steps.{has_value as is_value};
 
-use crate::event::{Deed, evaluate};
+use crate::event::evaluate;
 use crate::gateway::Core;
-use crate::step::{Answer, Record, Reply, Step};
+use crate::step::{Answer, Lists, Outcome, Record, Reply, Step};
 use arrayvec::ArrayVec;
 use ifs_base::{CommandId, IfaceId, LinkState, TestId};
+use ifs_machine::Effects;
 
 impl Core {
     ghost use Rattle.std.specs.Prelude.{◌≡◌, ◌≤◌, ◌<◌, ◌+◌, [], false, All, length};
@@ -17,7 +18,7 @@ impl Core {
     ghost use Rattle.ifs_core.specs.Event.{Behaviour, IsEvent, event_of, evaluation};
     ghost use Rattle.ifs_core.specs.Machine.{IsBehaviour};
     ghost use Rattle.ifs_core.specs.Headline.{StepKeeps};
-    ghost use Rattle.ifs_core.specs.Steps.{Makes, turn, settled, ticked_after, same as nothing_new, at_position, with_link, with_value, with_run_over, lacks_room as is_without_room, done as comes_to};
+    ghost use Rattle.ifs_core.specs.Steps.{Makes, turn, take_turn, reply_of, taken_reply, settled, ticked_after, same as nothing_new, at_position, with_link, with_value, with_run_over, lacks_room as is_without_room, done as comes_to};
 
     /// Makes a step. It takes no memory and always answers.
     ///
@@ -34,168 +35,183 @@ impl Core {
         // They keep what the headline promises of each step.
         ensures kept { StepKeeps self.old.image self.old.state step (record { reply = result; next = self.new.state }) }
     {
+        let mut lists = Lists::new();
+        let outcome = self.step_into(step, &mut lists);
+        outcome.with_lists(lists)
+    }
+
+    /// The same step, whose reply comes in two parts: its lists stand in a place that is lent, and the
+    /// rest is answered. A caller that makes many steps lends one place to all of them, and moves no list.
+    pub fn step_into(&mut self, step: Step, lists: &mut Lists) -> Outcome
+        ensures image { self.new.image ≡ self.old.image }
+        ensures run { (b : Behaviour) → IsBehaviour self.old.image b
+            → Makes (turn b self.old.image.budgets.commands step self.old.state) (reply_of result lists.new) self.new.state }
+        ensures kept { StepKeeps self.old.image self.old.state step (record { reply = reply_of result lists.new; next = self.new.state }) }
+    {
         self.image();
         match step {
-            Step::Link(interface, link) => self.link_changes(interface, link),
-            Step::Finished(test, run, value) => self.test_finishes(test, run, value),
-            Step::Tick(now) => self.tick(now),
-            Step::Take => self.take(),
+            Step::Link(interface, link) => self.link_changes(interface, link, lists),
+            Step::Finished(test, run, value) => self.test_finishes(test, run, value, lists),
+            Step::Tick(now) => self.tick(now, lists),
+            Step::Take => match self.take() {
+                Some(command) => Outcome::Taken(command),
+                None => Outcome::Empty,
+            },
         }
     }
 
+    /// The step `Take`: the first command leaves the queue, and is answered; `None` where there is none.
+    pub fn take(&mut self) -> Option<CommandId>
+        ensures image { self.new.image ≡ self.old.image }
+        ensures run { Makes (take_turn self.old.state.queue self.old.state) (taken_reply result) self.new.state }
+        ensures kept { StepKeeps self.old.image self.old.state Step.Take (record { reply = taken_reply result; next = self.new.state }) }
+    {
+        self.image();
+        self.first_taken()
+    }
+
+    /// The first command leaves the queue.
+    fn first_taken(&mut self) -> Option<CommandId>
+        ensures image { self.new.image ≡ self.old.image }
+        ensures run { Makes (take_turn self.old.state.queue self.old.state) (taken_reply result) self.new.state }
+    {
+        if self.queue.is_empty() {
+            return None;
+        }
+        let command = self.queue.remove(0);
+        self.settle_alone(Step::Take, Answer::Taken);
+        Some(command)
+    }
+
     /// The link of an interface has this state.
-    fn link_changes(&mut self, interface: IfaceId, link: LinkState) -> Reply
+    fn link_changes(&mut self, interface: IfaceId, link: LinkState, lists: &mut Lists) -> Outcome
         ensures image { self.new.image ≡ self.old.image }
         ensures run { (b : Behaviour) → IsBehaviour self.old.image b
-            → Makes (turn b self.old.image.budgets.commands (Step.Link interface link) self.old.state) result self.new.state }
+            → Makes (turn b self.old.image.budgets.commands (Step.Link interface link) self.old.state) (reply_of result lists.new) self.new.state }
     {
         let step = Step::Link(interface, link);
         let Some(before) = self.link(interface) else {
-            return Reply::NoSuch;
+            return Outcome::NoSuch;
         };
         if is_same_link(before, link) {
             return self.same(step);
         }
         if self.lacks_room() {
-            return Reply::Busy;
+            return Outcome::Busy;
         }
         self.set_link(interface, link);
-        self.done(step)
+        self.done(step, lists)
     }
 
     /// The run of a test has ended with this value.
-    fn test_finishes(&mut self, test: TestId, run: u64, value: bool) -> Reply
+    fn test_finishes(&mut self, test: TestId, run: u64, value: bool, lists: &mut Lists) -> Outcome
         ensures image { self.new.image ≡ self.old.image }
         ensures run { (b : Behaviour) → IsBehaviour self.old.image b
-            → Makes (turn b self.old.image.budgets.commands (Step.Finished test run value) self.old.state) result self.new.state }
+            → Makes (turn b self.old.image.budgets.commands (Step.Finished test run value) self.old.state) (reply_of result lists.new) self.new.state }
     {
         let step = Step::Finished(test, run, value);
         let Some(before) = self.test_value(test) else {
-            return Reply::NoSuch;
+            return Outcome::NoSuch;
         };
         if !self.runs(test, run) {
-            return Reply::Stale;
+            return Outcome::Stale;
         }
         if has_value(value, before) {
             self.end_run(test, run);
             return self.same(step);
         }
         if self.lacks_room() {
-            return Reply::Busy;
+            return Outcome::Busy;
         }
         self.end_run(test, run);
         self.set_value(test, value);
-        self.done(step)
+        self.done(step, lists)
     }
 
     /// It is this moment.
-    fn tick(&mut self, now: u64) -> Reply
+    fn tick(&mut self, now: u64, lists: &mut Lists) -> Outcome
         ensures image { self.new.image ≡ self.old.image }
         ensures run { (b : Behaviour) → IsBehaviour self.old.image b
-            → Makes (turn b self.old.image.budgets.commands (Step.Tick now) self.old.state) result self.new.state }
+            → Makes (turn b self.old.image.budgets.commands (Step.Tick now) self.old.state) (reply_of result lists.new) self.new.state }
     {
         if now < self.now() {
-            return Reply::Backwards;
+            return Outcome::Backwards;
         }
         if !self.owed() {
-            let deed = self.nothing_done();
-            return self.ticked(now, false, deed);
+            lists.effects.queued.clear();
+            prove!(self.queue.len() <= 64);
+            return self.ticked(now, false, 0, lists);
         }
         if self.lacks_room() {
-            return Reply::Busy;
+            return Outcome::Busy;
         }
-        let deed = self.evaluated();
-        self.ticked(now, true, deed)
-    }
-
-    /// The first command of the queue is taken.
-    fn take(&mut self) -> Reply
-        ensures image { self.new.image ≡ self.old.image }
-        ensures run { (b : Behaviour) → Makes (turn b self.old.image.budgets.commands Step.Take self.old.state) result self.new.state }
-    {
-        if self.queue.is_empty() {
-            return Reply::Empty;
-        }
-        let command = self.queue.remove(0);
-        let deed = self.nothing_done();
-        self.settle(Step::Take, Answer::Taken, &deed);
-        Reply::Taken(command)
+        let cost = self.evaluated(&mut lists.effects);
+        self.ticked(now, true, cost, lists)
     }
 
     /// No fact changed.
-    fn same(&mut self, step: Step) -> Reply
+    fn same(&mut self, step: Step) -> Outcome
+        ensures outcome { result ≡ Outcome.Same }
         ensures image { self.new.image ≡ self.old.image }
-        ensures run { Makes (nothing_new step self.old.state) result self.new.state }
+        ensures state { self.new.state ≡ (nothing_new step self.old.state).next }
     {
-        let deed = self.nothing_done();
-        self.settle(step, Answer::Same, &deed);
-        Reply::Same
+        self.settle_alone(step, Answer::Same);
+        Outcome::Same
     }
 
     /// A fact changed: the evaluation and its reply.
-    fn done(&mut self, step: Step) -> Reply
+    fn done(&mut self, step: Step, lists: &mut Lists) -> Outcome
         requires { is_without_room self.old.image.budgets.commands self.old.state ≡ false }
         ensures image { self.new.image ≡ self.old.image }
         ensures run { (b : Behaviour) → IsBehaviour self.old.image b
-            → Makes (comes_to step (evaluation b self.old.state.position) self.old.state) result self.new.state }
+            → Makes (comes_to step (evaluation b self.old.state.position) self.old.state) (reply_of result lists.new) self.new.state }
     {
-        let deed = self.evaluated();
-        self.settle(step, Answer::Done, &deed);
-        Reply::Done {
+        let cost = self.evaluated(&mut lists.effects);
+        self.settle(step, Answer::Done, lists.effects.queued.as_slice(), cost);
+        Outcome::Done {
             state: self.state(),
-            queued: deed.commands,
-            cost: deed.cost,
+            cost,
         }
     }
 
-    /// Evaluates. The commands stand in the answer, and not yet in the queue, which has room for them.
-    fn evaluated(&mut self) -> Deed
+    /// Evaluates, and answers the cost. The commands stand in the effects, and not yet in the queue,
+    /// which has room for them.
+    fn evaluated(&mut self, effects: &mut Effects) -> u32
         requires { is_without_room self.old.image.budgets.commands self.old.state ≡ false }
         ensures image { self.new.image ≡ self.old.image }
         ensures event { (b : Behaviour) → IsBehaviour self.old.image b
-            → IsEvent (evaluation b self.old.state.position) self.new.state.position result.commands.items result.cost }
+            → IsEvent (evaluation b self.old.state.position) self.new.state.position effects.new.queued.items result }
         ensures others { self.new.state ≡ at_position self.new.state.position self.old.state }
         ensures moment { self.new.state.position.schedule.present ≡ self.old.state.position.schedule.present }
-        ensures room { length self.new.state.queue + length result.commands.items ≤ 64 }
-        ensures known { All (IsCommand self.new.image) result.commands.items }
+        ensures room { length self.new.state.queue + length effects.new.queued.items ≤ 64 }
+        ensures known { All (IsCommand self.new.image) effects.new.queued.items }
     {
-        let deed = evaluate(&self.verified, &mut self.position);
-        deed
-    }
-
-    /// What a step does that evaluates nothing.
-    fn nothing_done(&self) -> Deed
-        ensures commands { result.commands.items ≡ [] }
-        ensures cost { result.cost ≡ 0 }
-        ensures room { length self.now.state.queue + length result.commands.items ≤ 64 }
-        ensures known { All (IsCommand self.now.image) result.commands.items }
-    {
-        prove!(self.queue.len() <= 64);
-        Deed {
-            commands: ArrayVec::new(),
-            cost: 0,
-        }
+        let cost = evaluate(&self.verified, &mut self.position, effects);
+        cost
     }
 
     /// Starts the due tests, and replies to the tick.
-    fn ticked(&mut self, now: u64, evaluated: bool, deed: Deed) -> Reply
+    fn ticked(&mut self, now: u64, evaluated: bool, cost: u32, lists: &mut Lists) -> Outcome
         requires moment { self.old.state.position.schedule.present ≤ now }
-        requires room { length self.old.state.queue + length deed.commands.items ≤ 64 }
-        requires known { All (IsCommand self.old.image) deed.commands.items }
+        requires room { length self.old.state.queue + length lists.old.effects.queued.items ≤ 64 }
+        requires known { All (IsCommand self.old.image) lists.old.effects.queued.items }
         ensures image { self.new.image ≡ self.old.image }
-        ensures run { Makes (ticked_after now evaluated (event_of self.old.state.position deed.commands.items deed.cost) self.old.state) result self.new.state }
+        ensures run { Makes (ticked_after now evaluated (event_of self.old.state.position lists.old.effects.queued.items cost) self.old.state) (reply_of result lists.new) self.new.state }
     {
-        let Ok(started) = self.position.schedule.tick(now) else {
+        let Ok(exhausted) = self.position.schedule.tick_into(now, &mut lists.starts) else {
             unreachable!()
         };
-        self.settle(Step::Tick(now), Answer::Ticked, &deed);
-        Reply::Ticked {
+        self.settle(
+            Step::Tick(now),
+            Answer::Ticked,
+            lists.effects.queued.as_slice(),
+            cost,
+        );
+        Outcome::Ticked {
             evaluated,
             state: self.state(),
-            queued: deed.commands,
-            cost: deed.cost,
-            starts: started.starts,
-            exhausted: started.exhausted,
+            cost,
+            exhausted,
         }
     }
 
@@ -232,20 +248,29 @@ impl Core {
         self.position.schedule.is_running(test, run)
     }
 
-    /// The commands of a step go to the queue's end, and the trace records the step.
-    fn settle(&mut self, step: Step, answer: Answer, deed: &Deed)
-        requires room { length self.old.state.queue + length deed.now.commands.items ≤ 64 }
-        requires known { All (IsCommand self.old.image) deed.now.commands.items }
+    /// The trace records a step that queues nothing.
+    fn settle_alone(&mut self, step: Step, answer: Answer)
         ensures image { self.new.image ≡ self.old.image }
-        ensures state { self.new.state ≡ settled step answer deed.now.commands.items deed.now.cost self.old.state }
+        ensures state { self.new.state ≡ settled step answer [] 0 self.old.state }
     {
-        append(&mut self.queue, deed.commands.as_slice());
+        prove!(self.queue.len() <= 64);
+        self.settle(step, answer, &[], 0);
+    }
+
+    /// The commands of a step go to the queue's end, and the trace records the step.
+    fn settle(&mut self, step: Step, answer: Answer, commands: &[CommandId], cost: u32)
+        requires room { length self.old.state.queue + length commands.now ≤ 64 }
+        requires known { All (IsCommand self.old.image) commands.now }
+        ensures image { self.new.image ≡ self.old.image }
+        ensures state { self.new.state ≡ settled step answer commands.now cost self.old.state }
+    {
+        append(&mut self.queue, commands);
         self.trace.push_back(Record {
             step,
             answer,
             state: self.position.current,
-            queued: deed.commands.len() as u16,
-            cost: deed.cost,
+            queued: commands.len() as u16,
+            cost,
         });
     }
 

@@ -80,11 +80,11 @@ pub fn word_run(bytes: &[u8]) -> usize
         .count()
 }
 
-/// Whether a word is a macro name.
-pub fn is_macro_name(word: &[u8]) -> bool
-    ensures { result ≡ characters.is_macro_name word.now }
+/// Whether a text is a macro name: a letter or `_`, and then letters, digits and `_` alone.
+pub fn is_macro_name(text: &str) -> bool
+    ensures { result ≡ characters.is_macro_name text.now }
 {
-    match word {
+    match text.as_bytes() {
         [] => false,
         [first, rest @ ..] => begins_name(*first) && name_run(rest) == rest.len(),
     }

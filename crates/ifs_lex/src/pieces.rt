@@ -80,7 +80,7 @@ impl<'a> Piece<'a> {
     {
         match *self {
             Piece::Bare(word) => {
-                if is_macro_name(word.as_bytes()) && !is_reserved(word) {
+                if is_macro_name(word) && !is_reserved(word) {
                     return Some(word);
                 }
                 None

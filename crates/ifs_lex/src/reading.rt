@@ -177,7 +177,7 @@ fn define_given<'a>(
 ) -> Result<(), LexFault>
     ensures { Answers (λ done. macros_of macros.new) result (given_one name.now value.now (macros_of macros.old)) }
 {
-    if is_macro_name(name.as_bytes()) {
+    if is_macro_name(name) {
         return macros.define(alloc, 0, true, name, value);
     }
     Err(LexFault::BadMacro { line: 0 })

@@ -1,6 +1,7 @@
 //! Texts with their tokens and faults, by the rules of the language.
 
 use super::*;
+use ifs_rows::policies::{accepted, refused_names, refused_texts, refused_tokens};
 use std::alloc::Global;
 use std::process::Abort;
 use std::test::Fail;
@@ -474,5 +475,22 @@ fn values_are_not_copied(rt: HostRuntime) -> Result<(), Fail> {
 fn want_of_memory_has_no_line(rt: HostRuntime) -> Result<(), Fail> {
     let text = format!(in rt.alloc(); "{}", LexFault::Memory)?;
     assert_eq!(rt; text.as_str(), "P0");
+    Ok(())
+}
+
+/// Texts without tokens are refused with their line, and the others are not.
+#[test]
+fn policies(rt: HostRuntime) -> Result<(), Fail> {
+    for row in refused_texts() {
+        let line = told(rt.alloc(), row.policy, row.definitions)?;
+        let answer = format!(in rt.alloc(); "refused {}\n", line.as_str())?;
+        assert_eq!(rt; answer.as_str(), row.answer, "{}", row.name);
+    }
+    for rows in [accepted(), refused_tokens(), refused_names()] {
+        for row in rows {
+            let spelled = tokens(rt.alloc(), row.policy, row.definitions);
+            assert!(rt; spelled.is_ok(), "{}", row.name);
+        }
+    }
     Ok(())
 }

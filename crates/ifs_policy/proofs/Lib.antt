@@ -1,2 +1,8 @@
 mod Mentioned
+mod Decided
 mod Places
+mod Filled
+mod Fitting
+mod Refusals
+mod OneRefusal
+mod Ordered

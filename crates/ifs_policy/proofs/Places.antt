@@ -2,17 +2,17 @@
 use Rattle.std.proofs.Common.{◌≡◌, ℕ, zero, suc, ◌<◌, ◌≤◌, max, Bool, List, [], ◌∷◌, map, length, get_or, refl, ap, ◌∙◌, not, arith}
 use Rattle.std.proofs.lemmas.List.Sums.{prefix_len-le-length}
 use Rattle.std.specs.List.{position_or_len, AllByRecursion}
-use Rattle.ifs_base.specs.declared.ids.CommandId.{CommandId}
-use Rattle.ifs_base.specs.declared.ids.StateId.{StateId}
 use Rattle.ifs_parse.specs.Trees as tree
 use Rattle.ifs_parse.specs.Views.{all_of, any_of, block_of, statement_then}
 use Rattle.ifs_parse.specs.declared.tree.Name.{Name}
 use Rattle.ifs_parse.specs.declared.tree.Test.{Test}
 use Rattle.ifs_parse.specs.declared.tree.Wish.{Wish}
+use Rattle.ifs_parse.specs.declared.tree.Part.{Part}
+use Rattle.ifs_parse.specs.declared.tree.Part.TheVariants.{Init, Do}
 use Rattle.ifs_parse.specs.declared.block.Statement.{Statement}
 use Rattle.ifs_parse.specs.declared.block.Statement.TheVariants.{Run, SetState, If}
 use Rattle.ifs_policy.specs.declared.tables.Tables.{Tables}
-use Rattle.ifs_policy.specs.Placed.{place_condition, place_block}
+use Rattle.ifs_policy.specs.Placed.{body_in, place_condition, place_block}
 use Rattle.ifs_policy.specs.inner.Sized.{place_statement}
 
 pub place_within : {X : Type 0} (p : X → Bool) (xs : List X) → position_or_len p xs ≤ length xs
@@ -55,3 +55,14 @@ pub greatest_below : (size : ℕ) (operands : List (tree.Condition Test)) → 0 
     → greatest operands < size
 greatest_below size [] some h = some
 greatest_below size (operand ∷ rest) some h = let later = greatest_below size rest some h.1 in omega (arith, h.0)
+
+-- The statements of a part, as the code has them.
+abbrev pub statements_in : List Part → List (Statement Test Name Wish)
+statements_in [] = []
+statements_in (Init span block ∷ rest) = statements_in rest
+statements_in (Do statement ∷ rest) = statement ∷ statements_in rest
+
+pub body_is : (parts : List Part) → body_in parts ≡ block_of (statements_in parts)
+body_is [] = refl
+body_is (Init span block ∷ rest) = body_is rest
+body_is (Do statement ∷ rest) = ap (statement_then statement) (body_is rest)

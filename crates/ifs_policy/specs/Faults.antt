@@ -2,7 +2,6 @@
 use Rattle.std.specs.Prelude.{ℕ, ◌≡◌, ◌<◌, ◌≤◌, ◌⊎◌, Bool, true, false, List, [], ◌∷◌, length, IsTrue}
 use Rattle.std.specs.List.{list_any}
 use Rattle.ifs_base.specs.Sizes.{TextFits}
-use Rattle.ifs_parse.specs.declared.tree.Name.{Name}
 use Rattle.ifs_parse.specs.declared.tree.Item.{Item}
 use Rattle.ifs_parse.specs.declared.tree.Item.TheVariants as item
 use Rattle.ifs_policy.specs.declared.mention.Mention.TheVariants.{Interface, External, Command, Defined, Wanted, Init, InitState, SetState}
@@ -13,7 +12,7 @@ use Rattle.ifs_policy.specs.declared.fault.ResolveFault.{ResolveFault}
 use Rattle.ifs_policy.specs.declared.fault.ResolveFault.TheVariants.{NoState, StateTwice, SecondInit, SetStateInInit, TestInInit, TableFull, BadText, UnknownState, Memory}
 use Rattle.ifs_policy.specs.declared.names.Names.{Names}
 use Rattle.ifs_policy.specs.Mentions.{Mentioned, mentions_of}
-use Rattle.ifs_policy.specs.Tables.{text_eq, test_eq, test_of, after, names_after, no_names, tables_of}
+use Rattle.ifs_policy.specs.Tables.{text_eq, test_eq, test_of, after, no_names, tables_of}
 
 -- An entry is new, and its table has no place for it.
 abbrev pub IsFull : {T : Type 0} → (T → T → Bool) → ℕ → List T → T → Type 0

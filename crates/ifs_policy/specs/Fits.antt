@@ -1,6 +1,5 @@
 -- What a policy keeps to: the limits of its tables, and numbers that are of entries of them.
-use Rattle.std.specs.Prelude.{ℕ, ◌≡◌, ◌<◌, ◌≤◌, List, length, All}
-use Rattle.std.specs.List.{IsDistinct}
+use Rattle.std.specs.Prelude.{ℕ, ◌≡◌, ◌≢◌, ◌<◌, ◌≤◌, List, length, All, AllPairs}
 use Rattle.ifs_base.specs.Sizes.{TextFits}
 use Rattle.ifs_base.specs.declared.ids.CommandId.{CommandId}
 use Rattle.ifs_base.specs.declared.ids.StateId.{StateId}
@@ -11,7 +10,6 @@ use Rattle.ifs_policy.specs.declared.policy.Handlers.{Handlers}
 use Rattle.ifs_policy.specs.declared.policy.PolicyParts.{PolicyParts}
 use Rattle.ifs_policy.specs.declared.tables.ExternalTest.{ExternalTest}
 use Rattle.ifs_policy.specs.declared.tables.Tables.{Tables}
-use Rattle.ifs_policy.specs.Tables.{text_eq, test_eq}
 
 -- How many entries the tables have.
 pub record Sizes : Type 0 where
@@ -51,13 +49,13 @@ pub record HandlersFit (sizes : Sizes) (handlers : Handlers) : Type 0 where
 pub record TableFits (limit : ℕ) (texts : List (List ℕ)) : Type 0 where
   pub within : length texts ≤ limit
   pub each : All TextFits texts
-  pub distinct : IsDistinct text_eq texts
+  pub distinct : AllPairs (λ text other. text ≢ other) texts
 
 -- The table of tests.
 pub record TestsFit (tests : List ExternalTest) : Type 0 where
   pub within : length tests ≤ 64
   pub each : All (λ test. TextFits test.command) tests
-  pub distinct : IsDistinct test_eq tests
+  pub distinct : AllPairs (λ test other. test ≢ other) tests
 
 -- The tables within their limits.
 pub record TablesFit (tables : Tables) : Type 0 where

@@ -6,16 +6,19 @@
 #![tactic(auto)]
 
 mod fault;
+pub mod laws;
 mod mention;
 mod names;
 mod placing;
 mod policy;
+mod resolving;
 mod table;
 mod tables;
 
 pub use fault::ResolveFault;
-pub use mention::{Mention, Mentions, Owner, Place, mention_item};
+pub use mention::{Mention, Owner, Place};
 pub use names::Names;
-pub use policy::{Handlers, PolicyBlock, PolicyParts, Single};
+pub use policy::{Counts, Handlers, Policy, PolicyBlock, PolicyParts, Single};
+pub use resolving::resolve;
 pub use table::Table;
 pub use tables::{ExternalTest, Tables};

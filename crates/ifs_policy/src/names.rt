@@ -1,11 +1,11 @@
 //! How mentions fill the tables, and the rules that they may break.
 
-ghost use Rattle.std.specs.Prelude.{◌≡◌, true, false, IsTrue, IfErr, OnOk};
+ghost use Rattle.std.specs.Prelude.{◌≡◌, true, false, map, IsTrue, IfErr, OnOk};
 ghost use Rattle.ifs_base.specs.Sizes.{TextFits};
 ghost use Rattle.ifs_policy.specs.declared.fault.ResolveFault.TheVariants.{BadText, SecondInit};
 ghost use Rattle.ifs_policy.specs.Tables.{no_names, text_eq};
 ghost use Rattle.ifs_policy.specs.declared.mention.Mention.TheVariants.{Defined, External};
-ghost use Rattle.ifs_policy.specs.inner.Entries.{Enters, Noted};
+ghost use Rattle.ifs_policy.specs.inner.Entries.{AllNoted, Enters, Filled, Noted, StatesChecked};
 ghost use Rattle.ifs_policy.specs.inner.Seen.{seen};
 
 use crate::fault::ResolveFault;
@@ -47,8 +47,27 @@ impl Names {
         }
     }
 
+    /// Enters the mentions of a text, in its order, and looks for the states that they want.
+    pub fn fill(&mut self, mentions: &[Mention<&Name>]) -> Result<(), ResolveFault>
+        ensures { Filled self.old (map seen mentions.now) result self.new }
+    {
+        self.note_all(mentions)?;
+        check_states(&self.tables.states, mentions)?;
+        Ok(())
+    }
+
+    /// Enters mentions in the order of their text, or tells the first fault.
+    fn note_all(&mut self, mentions: &[Mention<&Name>]) -> Result<(), ResolveFault>
+        ensures { AllNoted self.old (map seen mentions.now) result self.new }
+    {
+        for mention in mentions {
+            self.note(mention)?;
+        }
+        Ok(())
+    }
+
     /// Enters a mention, or tells the first rule that it breaks.
-    pub fn note(&mut self, mention: &Mention<&Name>) -> Result<(), ResolveFault>
+    fn note(&mut self, mention: &Mention<&Name>) -> Result<(), ResolveFault>
         ensures { Noted self.old (seen mention.now) result self.new }
     {
         match mention {
@@ -103,6 +122,22 @@ impl Names {
         self.state_init = false;
         enter_text(&mut self.tables.states, limits::STATES, name)
     }
+}
+
+/// Tells the first mention of a state that is not in the table of states.
+fn check_states(states: &Table<Text>, mentions: &[Mention<&Name>]) -> Result<(), ResolveFault>
+    ensures { StatesChecked states.now (map seen mentions.now) result }
+{
+    for mention in mentions {
+        if let Mention::Wanted(name) = mention
+            && !states.has(&name.text)
+        {
+            return Err(ResolveFault::UnknownState {
+                line: name.span.line,
+            });
+        }
+    }
+    Ok(())
 }
 
 /// Enters a string into its table, where there is room for it and it is fine.

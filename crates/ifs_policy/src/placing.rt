@@ -3,12 +3,12 @@
 ghost use Rattle.std.specs.Prelude.{◌≡◌, ◌≤◌, IfOk, length, map};
 ghost use Rattle.ifs_parse.specs.Views.{block_of, statement_then};
 ghost use Rattle.ifs_policy.specs.Placed.{always_of, body_in, init_in, initial_of, place_block, place_condition, place_items, place_in, place_part, place_single, place_states};
-ghost use Rattle.ifs_policy.specs.inner.Sized.{IsSized, place_statement};
+ghost use Rattle.ifs_policy.specs.inner.Sized.{IsSized, lent, place_statement};
 
 use crate::policy::{Handlers, PolicyBlock, PolicyParts, Single};
 use crate::table::Table;
 use crate::tables::{ExternalTest, Tables};
-use ifs_base::{CommandId, IfaceId, StateId, TestId, Text};
+use ifs_base::{CommandId, IfaceId, Items, StateId, TestId, Text};
 use ifs_parse::{Action, Actions, Condition, Item, Name, Node, Part, Statement, Test};
 use std::alloc::{AllocError, Global};
 
@@ -130,4 +130,110 @@ fn place_statement(
             Ok(Statement::If(condition, block))
         }
     }
+}
+
+/// The block of a part's `init` by places.
+fn place_init(alloc: Global, tables: &Tables, parts: &[&Part]) -> Result<PolicyBlock, AllocError>
+    requires { IsSized tables.now }
+    ensures { IfOk result (λ placed. placed ≡ place_block tables.now (init_in (lent parts.now))) }
+{
+    for part in parts {
+        if let Part::Init(_, block) = part {
+            return place_block(alloc, tables, block);
+        }
+    }
+    Ok(PolicyBlock::new(Vec::new(alloc)))
+}
+
+/// The statements of a part by places.
+fn place_body(alloc: Global, tables: &Tables, parts: &[&Part]) -> Result<PolicyBlock, AllocError>
+    requires { IsSized tables.now }
+    ensures { IfOk result (λ placed. placed ≡ place_block tables.now (body_in (lent parts.now))) }
+{
+    let mut placed = Vec::new(alloc);
+    for part in parts {
+        if let Part::Do(statement) = part {
+            placed.push(place_statement(alloc, tables, statement)?)?;
+        }
+    }
+    Ok(PolicyBlock::new(placed))
+}
+
+/// What a part does, by places.
+fn place_part(alloc: Global, tables: &Tables, parts: &[&Part]) -> Result<Handlers, AllocError>
+    requires { IsSized tables.now }
+    ensures { IfOk result (λ placed. placed ≡ place_part tables.now (lent parts.now)) }
+{
+    let init = place_init(alloc, tables, parts)?;
+    let body = place_body(alloc, tables, parts)?;
+    Ok(Handlers { init, body })
+}
+
+/// The parts of a state, each lent.
+fn lend_all<'a>(alloc: Global, parts: &'a [Part]) -> Result<Vec<&'a Part>, AllocError>
+    ensures { IfOk result (λ made. lent made.items ≡ parts.now) }
+{
+    let mut made = Vec::new(alloc);
+    for part in parts {
+        made.push(part)?;
+    }
+    Ok(made)
+}
+
+/// What stands outside any state.
+fn always_of<'a>(alloc: Global, items: &'a [Item]) -> Result<Vec<&'a Part>, AllocError>
+    ensures { IfOk result (λ made. lent made.items ≡ always_of items.now) }
+{
+    let mut made = Vec::new(alloc);
+    for item in items {
+        if let Item::Always(part) = item {
+            made.push(part)?;
+        }
+    }
+    Ok(made)
+}
+
+/// What the states do, by places, in the order of their definitions.
+fn place_states(alloc: Global, tables: &Tables, items: &[Item]) -> Result<Vec<Handlers>, AllocError>
+    requires { IsSized tables.now }
+    ensures { IfOk result (λ placed. placed.items ≡ place_states tables.now items.now) }
+{
+    let mut placed = Vec::new(alloc);
+    for item in items {
+        if let Item::State(_, parts) = item {
+            let parts = lend_all(alloc, parts.as_slice())?;
+            placed.push(place_part(alloc, tables, parts.as_slice())?)?;
+        }
+    }
+    Ok(placed)
+}
+
+/// The place of the state that `init-state` names; without one it is the first.
+fn initial_of(tables: &Tables, items: &[Item]) -> StateId
+    requires { IsSized tables.now }
+    ensures { result ≡ initial_of tables.now items.now }
+{
+    for item in items {
+        if let Item::InitState(_, name) = item {
+            return StateId(place_in(&tables.states, name));
+        }
+    }
+    StateId(0)
+}
+
+/// All that a policy says, with the tables of its names.
+pub fn place_items(alloc: Global, tables: Tables, items: &[Item]) -> Result<PolicyParts, AllocError>
+    requires { IsSized tables }
+    ensures { IfOk result (λ placed. placed ≡ place_items tables items.now) }
+{
+    let initial = initial_of(&tables, items);
+    let always = always_of(alloc, items)?;
+    let always = place_part(alloc, &tables, always.as_slice())?;
+    let states = Items::new(place_states(alloc, &tables, items)?);
+    Ok(PolicyParts {
+        tables,
+        initial,
+        always,
+        states,
+    })
 }

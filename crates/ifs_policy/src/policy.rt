@@ -1,8 +1,11 @@
 //! The policy of a text.
 
-use crate::tables::Tables;
-use ifs_base::{CommandId, IfaceId, Items, LinkState, StateId, TestId};
+ghost use Rattle.std.specs.Prelude.{◌≡◌, length, slice_get, option_copied};
+
+use crate::tables::{ExternalTest, Tables};
+use ifs_base::{CommandId, IfaceId, Items, LinkState, StateId, TestId, Text};
 use ifs_parse::Block;
+use std::marker::Model;
 
 /// A test that stands by itself in a condition.
 #[derive(Clone, Copy, Debug, PartialEq, Eq)]
@@ -35,4 +38,113 @@ pub struct PolicyParts {
     pub always: Handlers,
     /// The states' blocks, in the order of the table of states.
     pub states: Items<Handlers>,
+}
+
+/// How many entries the tables of a policy have.
+#[derive(Clone, Copy, Debug, PartialEq, Eq)]
+pub struct Counts {
+    pub interfaces: u16,
+    pub tests: u16,
+    pub commands: u16,
+    pub states: u16,
+}
+
+/// A policy, seen as all that it says. It keeps to the limits, and its numbers are of entries of its
+/// tables.
+#[derive(Drop)]
+pub struct Policy {
+    parts: PolicyParts,
+}
+
+impl Model for Policy {
+    ghost use Rattle.ifs_policy.specs.declared.policy.PolicyParts.{PolicyParts};
+    ghost use Rattle.ifs_policy.specs.Fits.{PolicyFits};
+    ghost use Rattle.std.specs.Coded.{codes};
+    ghost use Rattle.ifs_policy.specs.contracts.policy.Handlers as handlers;
+
+    ghost Value = { PolicyParts };
+
+    ghost coded = { Prim.hlevel (codes, handlers.the_row.coded) };
+
+    ghost view = { λ a. a.parts };
+
+    ghost invariant = { λ a. PolicyFits a.parts };
+}
+
+impl Policy {
+    ghost use Rattle.ifs_policy.specs.Fits.{PolicyFits};
+
+    /// The policy of these parts, which the caller knows to fit. Takes no memory.
+    pub fn new(parts: PolicyParts) -> Self
+        requires { PolicyFits parts }
+        ensures { result ≡ parts }
+    {
+        Policy { parts }
+    }
+
+    /// How many entries the tables have.
+    pub fn counts(&self) -> Counts
+        ensures interfaces { result.interfaces ≡ length self.now.tables.interfaces }
+        ensures tests { result.tests ≡ length self.now.tables.tests }
+        ensures commands { result.commands ≡ length self.now.tables.commands }
+        ensures states { result.states ≡ length self.now.tables.states }
+        ensures fits { PolicyFits self.now }
+    {
+        let tables = &self.parts.tables;
+        Counts {
+            interfaces: tables.interfaces.len() as u16,
+            tests: tables.tests.len() as u16,
+            commands: tables.commands.len() as u16,
+            states: tables.states.len() as u16,
+        }
+    }
+
+    /// The name of an interface.
+    pub fn interface(&self, interface: IfaceId) -> Option<&Text>
+        ensures { option_copied result ≡ slice_get self.now.tables.interfaces interface.0 }
+    {
+        self.parts.tables.interfaces.get(usize::from(interface.0))
+    }
+
+    /// An external test: its command and its period.
+    pub fn test(&self, test: TestId) -> Option<&ExternalTest>
+        ensures { option_copied result ≡ slice_get self.now.tables.tests test.0 }
+    {
+        self.parts.tables.tests.get(usize::from(test.0))
+    }
+
+    /// The text of a command.
+    pub fn command(&self, command: CommandId) -> Option<&Text>
+        ensures { option_copied result ≡ slice_get self.now.tables.commands command.0 }
+    {
+        self.parts.tables.commands.get(usize::from(command.0))
+    }
+
+    /// The name of a state.
+    pub fn state(&self, state: StateId) -> Option<&Text>
+        ensures { option_copied result ≡ slice_get self.now.tables.states state.0 }
+    {
+        self.parts.tables.states.get(usize::from(state.0))
+    }
+
+    /// The state that the policy starts in.
+    pub fn initial(&self) -> StateId
+        ensures { result ≡ self.now.initial }
+    {
+        self.parts.initial
+    }
+
+    /// What stands outside any state.
+    pub fn always(&self) -> &Handlers
+        ensures { result.now ≡ self.now.always }
+    {
+        &self.parts.always
+    }
+
+    /// What a state does.
+    pub fn handlers(&self, state: StateId) -> Option<&Handlers>
+        ensures { option_copied result ≡ slice_get self.now.states state.0 }
+    {
+        self.parts.states.as_slice().get(usize::from(state.0))
+    }
 }

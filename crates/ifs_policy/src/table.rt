@@ -1,7 +1,7 @@
 //! A table of distinct entries, found by hash.
 
 ghost use Rattle.std.specs.Prelude.{◌≡◌, ◌≤◌, [], length, slice_get, option_copied, IfSome, IfOk, OnOk, OnErr};
-ghost use Rattle.std.specs.List.{list_any, position_or_len, IsDistinct};
+ghost use Rattle.std.specs.List.{list_any, position_or_len};
 ghost use Rattle.indexmap.specs.IndexSet.{insert_key};
 
 use indexmap::IndexSet;
@@ -35,8 +35,7 @@ impl<T: Eq + Hash + Drop> Table<T> {
 
     /// How many entries there are.
     pub fn len(&self) -> usize
-        ensures value { result ≡ length self.now }
-        ensures distinct { IsDistinct T.eq self.now }
+        ensures { result ≡ length self.now }
     {
         self.entries.len()
     }

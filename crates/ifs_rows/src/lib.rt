@@ -1,8 +1,10 @@
-//! The worked rows: images with sessions on them, and bytes that are refused. A library for tests alone.
+//! The worked rows: images with sessions on them, bytes that are refused, and policy texts with what
+//! `check` prints of them. A library for tests alone.
 #![tactic(auto)]
 
 mod hexadecimal;
 pub mod images;
+pub mod policies;
 mod refused;
 pub mod sessions;
 
@@ -35,5 +37,18 @@ pub struct Refusal {
     /// The bytes in hexadecimal.
     pub image: &'static str,
     /// The line that is printed.
+    pub answer: &'static str,
+}
+
+/// A policy text, and what `check` prints of it.
+#[derive(Clone, Copy, Debug)]
+pub struct Checked {
+    /// What a failing test calls it.
+    pub name: &'static str,
+    /// The text.
+    pub policy: &'static str,
+    /// The definitions beside it, names with values.
+    pub definitions: &'static [(&'static str, &'static str)],
+    /// The lines that are printed.
     pub answer: &'static str,
 }

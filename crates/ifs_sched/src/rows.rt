@@ -4,7 +4,7 @@ ghost use Rattle.std.specs.Prelude.{◌≡◌, ◌<◌, ◌≤◌, ◌+◌, ◌^
 ghost use Rattle.std.specs.List.{range_with_len};
 ghost use Rattle.ifs_sched.specs.Schedule.{any_by_index, collect_by_index, entered_test, has_test as is_in_mask, left_at, map_by_index, number_at, number_of, start_of, ticked_test};
 
-use crate::start::{MAX_TESTS, Start, Started};
+use crate::start::{MAX_TESTS, Start};
 use crate::timer::Timer;
 use arrayvec::ArrayVec;
 use ifs_base::TestId;
@@ -19,25 +19,31 @@ pub fn enter_all(tests: &mut [Timer], always: u64, own: u64, now: u64)
     }
 }
 
-/// Starts each due test, by index, with the next run number while there is one.
-pub fn start_due(tests: &mut [Timer], now: u64, next_run: &mut Option<u64>) -> Started
+/// Starts each due test, by index, with the next run number while there is one: the list is that of the
+/// starts. Answers whether a due test is left for want of a number.
+pub fn start_due(
+    tests: &mut [Timer],
+    now: u64,
+    next_run: &mut Option<u64>,
+    starts: &mut ArrayVec<Start, MAX_TESTS>,
+) -> bool
     requires room { length tests.old ≤ MAX_TESTS }
     requires number { number_of next_run.old ≤ 2 ^ 64 }
     ensures tests { tests.new
         ≡ map_by_index (ticked_test now (number_of next_run.old) tests.old) tests.old }
     ensures next_run { number_of next_run.new
         ≡ min (number_at now (number_of next_run.old) tests.old (length tests.old)) (2 ^ 64) }
-    ensures starts { result.starts.items
+    ensures starts { starts.new.items
         ≡ collect_by_index (start_of now (number_of next_run.old) tests.old) tests.old }
-    ensures exhausted { result.exhausted
+    ensures exhausted { result
         ≡ any_by_index (left_at now (number_of next_run.old) tests.old) tests.old }
     // The numbers are in one sequence.
-    ensures numbered { map (λ start. start.run) result.starts.items
-        ≡ range_with_len (number_of next_run.old) (length result.starts.items) }
+    ensures numbered { map (λ start. start.run) starts.new.items
+        ≡ range_with_len (number_of next_run.old) (length starts.new.items) }
     ensures in_sequence { number_of next_run.new
-        ≡ number_of next_run.old + length result.starts.items }
+        ≡ number_of next_run.old + length starts.new.items }
 {
-    let mut starts = ArrayVec::new();
+    starts.clear();
     let mut exhausted = false;
     for (index, timer) in tests.iter_mut().enumerate() {
         if !timer.is_due(now) {
@@ -55,7 +61,7 @@ pub fn start_due(tests: &mut [Timer], now: u64, next_run: &mut Option<u64>) -> S
             None => exhausted = true,
         }
     }
-    Started { starts, exhausted }
+    exhausted
 }
 
 /// Whether a mask has the bit of a test.

@@ -2,10 +2,10 @@
 
 ghost use Rattle.std.specs.Prelude.{◌≡◌, ◌<◌, ◌≤◌, ◌↔◌, ◌+◌, IsTrue, IsOk, IsErr, IfOk, OnOk, OnErr, All, length, map};
 ghost use Rattle.std.specs.List.{range_with_len};
-ghost use Rattle.ifs_sched.specs.Schedule.{all_off, entered, finished, is_exhausted, is_running, running_count, starts, ticked};
+ghost use Rattle.ifs_sched.specs.Schedule.{all_off, entered, finished, is_exhausted, is_running, running_count, starts as starts_at, ticked};
 
 use crate::rows::{enter_all, start_due};
-use crate::start::{MAX_TESTS, Started};
+use crate::start::{MAX_TESTS, Start, Started};
 use crate::timer::{Status, Timer};
 use arrayvec::ArrayVec;
 use ifs_base::TestId;
@@ -81,7 +81,7 @@ impl Schedule {
     pub fn tick(&mut self, now: u64) -> Result<Started, Backwards>
         ensures backwards { IsErr result ↔ (now < self.old.present) }
         ensures ok { OnOk result (self.new ≡ ticked now self.old) }
-        ensures starts { IfOk result (λ started. started.starts.items ≡ starts now self.old) }
+        ensures starts { IfOk result (λ started. started.starts.items ≡ starts_at now self.old) }
         ensures exhausted { IfOk result (λ started. started.exhausted ≡ is_exhausted now self.old) }
         // The numbers are in one sequence, over all ticks.
         ensures numbered { IfOk result (λ started. map (λ start. start.run) started.starts.items
@@ -93,11 +93,40 @@ impl Schedule {
         ensures same_number { length self.new.tests ≡ length self.old.tests }
         ensures err { OnErr result (self.new ≡ self.old) }
     {
+        let mut starts = ArrayVec::new();
+        let exhausted = self.tick_into(now, &mut starts)?;
+        Ok(Started { starts, exhausted })
+    }
+
+    /// The same tick, whose starts go into a list that is lent; what it had before is lost. It answers
+    /// whether a due test was left for want of a run number.
+    ///
+    /// A moment before the present one is refused, and changes neither the schedule nor the list.
+    pub fn tick_into(
+        &mut self,
+        now: u64,
+        starts: &mut ArrayVec<Start, MAX_TESTS>,
+    ) -> Result<bool, Backwards>
+        ensures backwards { IsErr result ↔ (now < self.old.present) }
+        ensures ok { OnOk result (self.new ≡ ticked now self.old) }
+        ensures starts { OnOk result (starts.new.items ≡ starts_at now self.old) }
+        ensures exhausted { IfOk result (λ exhausted. exhausted ≡ is_exhausted now self.old) }
+        // The numbers are in one sequence, over all ticks.
+        ensures numbered { OnOk result (map (λ start. start.run) starts.new.items
+            ≡ range_with_len self.old.next_run (length starts.new.items)) }
+        ensures next_run { OnOk result
+            (self.new.next_run ≡ self.old.next_run + length starts.new.items) }
+        ensures in_schedule { OnOk result
+            (All (λ start. start.test.0 < length self.old.tests) starts.new.items) }
+        ensures same_number { length self.new.tests ≡ length self.old.tests }
+        ensures err { OnErr result (self.new ≡ self.old) }
+        ensures err_starts { OnErr result (starts.new ≡ starts.old) }
+    {
         if now < self.present {
             return Err(Backwards);
         }
         self.present = now;
-        Ok(start_due(self.tests.as_mut_slice(), now, &mut self.next_run))
+        Ok(start_due(self.tests.as_mut_slice(), now, &mut self.next_run, starts))
     }
 
     /// Ends a run: the test is idle, with the due moment that it has. Refused, with nothing

@@ -119,6 +119,22 @@ fn ticks(rt: HostRuntime) {
     );
 }
 
+/// A list that is lent to two ticks has the starts of the later one alone.
+#[test]
+fn starts_in_a_lent_list(rt: HostRuntime) {
+    let mut periods = ArrayVec::new();
+    periods.push(10);
+    let mut schedule = Schedule::new(periods, 1);
+    schedule.enter(0, 1, 0);
+    let mut starts = ArrayVec::new();
+    assert_eq!(rt; schedule.tick_into(5, &mut starts), Ok(false));
+    assert_starts(&rt, starts.as_slice(), &[(0, 1)]);
+    assert_eq!(rt; schedule.tick_into(4, &mut starts), Err(Backwards));
+    assert_starts(&rt, starts.as_slice(), &[(0, 1)]);
+    assert_eq!(rt; schedule.tick_into(6, &mut starts), Ok(false));
+    assert_starts(&rt, starts.as_slice(), &[]);
+}
+
 #[test]
 fn stale(rt: HostRuntime) {
     play(

@@ -1,6 +1,8 @@
 //! Callers that have nothing but a core that was lent to them, or nothing but bytes.
 
 ghost use Rattle.std.specs.Prelude.{◌≡◌, All, IfOk};
+ghost use Rattle.ifs_machine.specs.Run.{IsCommand};
+ghost use Rattle.ifs_core.specs.Gateway.{IsListed};
 ghost use Rattle.ifs_core.specs.Machine.{KeepsBudgets};
 ghost use Rattle.ifs_core.specs.Steps.{cost_told, commands_told};
 ghost use Rattle.ifs_core.specs.Headline.{IsVerified, IsKept};
@@ -36,6 +38,84 @@ fn verified(alloc: Global, bytes: &[u8]) -> Result<Verified, VerifyFault>
     headline();
     let image = verify(alloc, bytes)?;
     Ok(image)
+}
+
+/// The name of a state of the image's list.
+fn listed_name(core: &Core, state: StateId) -> &str
+    requires { IsListed core.now.image state }
+{
+    let Some(name) = core.state_name(state) else {
+        unreachable!()
+    };
+    name
+}
+
+/// The text of a command of the image's table.
+fn known_text(core: &Core, command: CommandId) -> &str
+    requires { IsCommand core.now.image command }
+{
+    let Some(text) = core.command_text(command) else {
+        unreachable!()
+    };
+    text
+}
+
+/// What a step names: the state that its reply tells, or the command that it hands out.
+fn named(core: &mut Core, step: Step) -> Option<&str> {
+    match core.step(step) {
+        Reply::Done { state, .. } | Reply::Ticked { state, .. } => Some(listed_name(core, state)),
+        Reply::Taken(command) => Some(known_text(core, command)),
+        _ => None,
+    }
+}
+
+/// The name of the state in which a core stands.
+fn current_name(core: &Core) -> &str {
+    listed_name(core, core.state())
+}
+
+/// The names of the states in the trace, one after the other.
+fn traced_names(alloc: Global, core: &Core) -> Result<String, AllocError> {
+    let mut names = String::new(alloc);
+    for index in 0..core.trace_len() {
+        let Some(record) = core.trace_at(index) else {
+            unreachable!()
+        };
+        names.push_str(listed_name(core, record.state))?;
+    }
+    Ok(names)
+}
+
+#[test]
+fn names_of_a_lent_core(rt: HostRuntime) -> Result<(), Fail> {
+    let mut core = opened(&rt, rt.alloc(), images::FIRST_RUN);
+    assert_eq!(rt; current_name(&core), "a");
+    assert_eq!(rt; named(&mut core, LINK_UP), Some("a"));
+    assert_eq!(rt; named(&mut core, LINK_UP), None);
+    assert_eq!(rt; named(&mut core, Step::Take), Some("echo m"));
+    assert_eq!(rt; traced_names(rt.alloc(), &core)?.as_str(), "aaa");
+    Ok(())
+}
+
+/// The first four requests of the row *First run*, with one place for the lists of all of them.
+#[test]
+fn lent_lists(rt: HostRuntime) -> Result<(), Fail> {
+    let mut core = opened(&rt, rt.alloc(), images::FIRST_RUN);
+    let mut lists = Lists::new();
+    let done = Outcome::Done {
+        state: StateId(0),
+        cost: 6,
+    };
+    assert_eq!(rt; core.step_into(LINK_UP, &mut lists), done);
+    assert_eq!(rt;
+        commands_text(rt.alloc(), lists.effects.queued.as_slice())?.as_str(),
+        "0"
+    );
+    assert_eq!(rt; core.step_into(LINK_UP, &mut lists), Outcome::Same);
+    assert_eq!(rt; core.take(), Some(CommandId(0)));
+    assert_eq!(rt; core.step_into(Step::Take, &mut lists), Outcome::Empty);
+    assert_eq!(rt; core.trace_len(), 3);
+    Ok(())
 }
 
 #[test]

@@ -4,11 +4,11 @@ use Rattle.indexmap.specs.IndexSet.{insert_key}
 use Rattle.ifs_base.specs.Sizes.{TextFits}
 use Rattle.ifs_parse.specs.declared.tree.Name.{Name}
 use Rattle.ifs_policy.specs.declared.fault.ResolveFault.{ResolveFault}
-use Rattle.ifs_policy.specs.declared.fault.ResolveFault.TheVariants.{TableFull, BadText, Memory}
+use Rattle.ifs_policy.specs.declared.fault.ResolveFault.TheVariants.{TableFull, BadText, UnknownState, Memory}
 use Rattle.ifs_policy.specs.declared.names.Names.{Names}
 use Rattle.ifs_policy.specs.Mentions.{Mentioned}
-use Rattle.ifs_policy.specs.Tables.{after}
-use Rattle.ifs_policy.specs.Faults.{IsFull, IsSound, IsLowest}
+use Rattle.ifs_policy.specs.Tables.{after, names_after}
+use Rattle.ifs_policy.specs.Faults.{IsFull, IsSound, IsLowest, AreSound, FirstBroken, AreKnown, FirstUnknown}
 
 -- It stands in its table, which had a place for it, and its string is fine.
 pub record Entered {T : Type 0} (eq : T → T → Bool) (limit : ℕ) (entry : T) (name : Name) (old new : List T) : Type 0 where
@@ -31,3 +31,37 @@ Enters eq limit entry name old result new =
 abbrev pub Noted : Names → Mentioned → Result (Unit {0}) ResolveFault → Names → Type 0
 Noted old mention result new =
     MatchResult result (λ _. IsSound old mention × (new ≡ after old mention)) (λ fault. fault ≢ Memory → IsLowest old mention fault)
+
+-- Mentions that break no rule are noted in order; else the first fault is told, unless memory ran out.
+abbrev pub AllNoted : Names → List Mentioned → Result (Unit {0}) ResolveFault → Names → Type 0
+AllNoted old mentions result new =
+    MatchResult result (λ _. AreSound old mentions × (new ≡ names_after old mentions)) (λ fault. fault ≢ Memory → FirstBroken old mentions fault)
+
+-- What is still to come of mentions decides for all of them.
+pub record Decides (names : Names) (rest : List Mentioned) (old : Names) (all : List Mentioned) : Type 0 where
+  pub sound : AreSound names rest → AreSound old all
+  pub filled : names_after names rest ≡ names_after old all
+  pub broken : (fault : ResolveFault) → FirstBroken names rest fault → FirstBroken old all fault
+
+-- Each state that is mentioned is known, or the first that is not is told.
+abbrev pub StatesChecked : List (List ℕ) → List Mentioned → Result (Unit {0}) ResolveFault → Type 0
+StatesChecked states mentions result =
+    MatchResult result (λ _. AreKnown states mentions) (λ fault. (line : ℕ) × (fault ≡ UnknownState line) × FirstUnknown states mentions line)
+
+-- The same of the states alone.
+pub record DecidesStates (states : List (List ℕ)) (rest all : List Mentioned) : Type 0 where
+  pub known : AreKnown states rest → AreKnown states all
+  pub unknown : (line : ℕ) → FirstUnknown states rest line → FirstUnknown states all line
+
+-- The fault that stands first of a text's mentions.
+abbrev pub IsFirst : Names → List Mentioned → ResolveFault → Type 0
+IsFirst old mentions fault =
+    FirstBroken old mentions fault
+    ⊎ (AreSound old mentions × ((line : ℕ) × (fault ≡ UnknownState line) × FirstUnknown (names_after old mentions).tables.states mentions line))
+
+-- The tables are those of mentions that break no rule and want known states; else the first fault is told, unless memory ran out.
+abbrev pub Filled : Names → List Mentioned → Result (Unit {0}) ResolveFault → Names → Type 0
+Filled old mentions result new =
+    MatchResult result
+    (λ _. AreSound old mentions × AreKnown (names_after old mentions).tables.states mentions × (new ≡ names_after old mentions))
+    (λ fault. fault ≢ Memory → IsFirst old mentions fault)

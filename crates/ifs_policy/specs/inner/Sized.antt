@@ -1,10 +1,12 @@
 -- Tables whose places are numbers of 16 bits, and a statement of the code by places.
-use Rattle.std.specs.Prelude.{ℕ, ◌≤◌, length}
+use Rattle.std.specs.Prelude.{◌≤◌, List, map, length}
+use Rattle.std.specs.Borrow.{Bor}
 use Rattle.ifs_base.specs.declared.ids.CommandId.{CommandId}
 use Rattle.ifs_base.specs.declared.ids.StateId.{StateId}
 use Rattle.ifs_parse.specs.declared.block.Statement.{Statement}
 use Rattle.ifs_parse.specs.declared.block.Statement.TheVariants.{Run, SetState, If}
 use Rattle.ifs_parse.specs.declared.tree.Name.{Name}
+use Rattle.ifs_parse.specs.declared.tree.Part.{Part}
 use Rattle.ifs_parse.specs.declared.tree.Test.{Test}
 use Rattle.ifs_parse.specs.declared.tree.Wish.{Wish}
 use Rattle.ifs_policy.specs.declared.policy.Single.{Single}
@@ -21,3 +23,7 @@ abbrev pub place_statement : Tables → Statement Test Name Wish → Statement S
 place_statement tables (Run command) = Run (place_command tables command)
 place_statement tables (SetState wish) = SetState (place_state tables wish.state)
 place_statement tables (If condition block) = If (place_condition tables condition) (place_block tables block)
+
+-- Parts that are lent, as the parts.
+abbrev pub lent : List (Bor Part) → List Part
+lent parts = map (λ part. part.now) parts

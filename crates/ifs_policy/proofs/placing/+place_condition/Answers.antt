@@ -1,5 +1,5 @@
 -- A chain's operands are smaller than it, and the placed ones make the placed chain.
-use Rattle.std.proofs.Common.{◌≡◌, ◌<◌, ap, sym, subst, ◌∙◌, arith}
+use Rattle.std.proofs.Common.{◌<◌, ap, subst, ◌∙◌, arith}
 use Rattle.std.proofs.lemmas.Grind.{common_steps}
 use Rattle.ifs_parse.specs.Trees as tree
 use Rattle.ifs_parse.specs.Trees.{condition_size}

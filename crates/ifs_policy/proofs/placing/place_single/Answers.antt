@@ -1,6 +1,6 @@
 -- A place is at most the number of entries.
-use Rattle.std.proofs.Common.{arith, ◌≡◌, ap, ◌∙◌}
-use Rattle.ifs_policy.specs.Tables.{test_eq, test_of}
+use Rattle.std.proofs.Common.{arith}
+use Rattle.ifs_policy.specs.Tables.{test_eq}
 use Rattle.ifs_policy.proofs.Places.{place_within}
 use Rattle.ifs_policy.proofs.placing.place_single.Goals as goal
 

@@ -7,7 +7,7 @@ use Rattle.ifs_sched.proofs.rows.start_due.Goals as goal
 use Rattle.ifs_sched.proofs.rows.start_due.Goals.{in-Some, in-None}
 
 pub loop-index-init : goal.loop-index-init
-loop-index-init c = rw c.new-starts.ensures (IsTickedBelow-none c.args.now _ c.args.tests.now c.requires.number)
+loop-index-init c = rw c.clear.ensures (IsTickedBelow-none c.args.now _ c.args.tests.now c.requires.number)
 
 pub loop-index-preserved-then-not-is_due : goal.loop-index-preserved-then-not-is_due
 loop-index-preserved-then-not-is_due c =

@@ -4,7 +4,7 @@ use Rattle.arrayvec.proofs.ArrayVecLemmas.{items-with_items}
 use Rattle.ifs_sched.specs.Schedule.{is_exhausted, map_by_index, number_of, starts, ticked, ticked_test}
 use Rattle.ifs_sched.proofs.ByIndex.{length-map_by_index}
 use Rattle.ifs_sched.proofs.Starts.{starts_within}
-use Rattle.ifs_sched.proofs.schedule.Schedule.tick.Goals as goal
+use Rattle.ifs_sched.proofs.schedule.Schedule.tick_into.Goals as goal
 
 pub returns-clause-ok : goal.returns-clause-ok
 unfolding ticked

@@ -1,0 +1,135 @@
+-- One fault stands first.
+use Rattle.std.proofs.Common.{◌≡◌, ◌<◌, ◌==◌, if◌then◌else◌, inl, inr, ℕ, true≢false, List, [], ◌∷◌, ap, sym, ◌∙◌, refl, arith}
+use Rattle.std.proofs.lemmas.Bool.{cases_lt}
+use Rattle.ifs_parse.specs.declared.tree.Item.{Item}
+use Rattle.ifs_policy.specs.declared.fault.ResolveFault.{ResolveFault}
+use Rattle.ifs_policy.specs.declared.fault.ResolveFault.TheVariants.{NoState, StateTwice, SecondInit, SetStateInInit, TestInInit, TableFull, BadText, UnknownState, Memory}
+use Rattle.ifs_policy.specs.declared.mention.Mention.TheVariants.{Interface, External, Command, Defined, Wanted, Init, InitState, SetState}
+use Rattle.ifs_policy.specs.declared.names.Names.{Names}
+use Rattle.ifs_policy.specs.Mentions.{Mentioned, mentions_of}
+use Rattle.ifs_policy.specs.Tables.{after, no_names, tables_of}
+use Rattle.ifs_policy.specs.Faults.{IsString, Breaks, number, IsLowest, FirstBroken, FirstUnknown, IsRefused, no_state, broken, unknown}
+use Rattle.ifs_policy.proofs.Refusals.{broken_not_sound}
+
+-- The line that a fault tells, and the fault of a number and a line.
+abbrev told_line : ResolveFault → ℕ
+told_line Memory = 0
+told_line (NoState line) = line
+told_line (StateTwice line) = line
+told_line (UnknownState line) = line
+told_line (SecondInit line) = line
+told_line (SetStateInInit line) = line
+told_line (TestInInit line) = line
+told_line (TableFull line) = line
+told_line (BadText line) = line
+
+abbrev fault_of : ℕ → ℕ → ResolveFault
+fault_of n line =
+    if n == 9 then NoState line else
+    if n == 10 then StateTwice line else
+    if n == 11 then UnknownState line else
+    if n == 12 then SecondInit line else
+    if n == 13 then SetStateInInit line else
+    if n == 14 then TestInInit line else
+    if n == 15 then TableFull line else
+    if n == 16 then BadText line else Memory
+
+told_whole : (fault : ResolveFault) → fault_of (number fault) (told_line fault) ≡ fault
+told_whole Memory = refl
+told_whole (NoState line) = refl
+told_whole (StateTwice line) = refl
+told_whole (UnknownState line) = refl
+told_whole (SecondInit line) = refl
+told_whole (SetStateInInit line) = refl
+told_whole (TestInInit line) = refl
+told_whole (TableFull line) = refl
+told_whole (BadText line) = refl
+
+same_fault : (fault other : ResolveFault) → number fault ≡ number other → told_line fault ≡ told_line other → fault ≡ other
+same_fault fault other n l = sym (told_whole fault) ∙ ap (λ m. fault_of m (told_line fault)) n ∙ ap (fault_of (number other)) l ∙ told_whole other
+
+-- The line of a mention.
+abbrev line_of : Mentioned → ℕ
+line_of (Interface name) = name.span.line
+line_of (External place command period) = command.span.line
+line_of (Command text) = text.span.line
+line_of (Defined name) = name.span.line
+line_of (Wanted name) = name.span.line
+line_of (Init owner span) = span.line
+line_of (InitState span) = span.line
+line_of (SetState place span) = span.line
+
+broken_here : (names : Names) (mention : Mentioned) (fault : ResolveFault) → Breaks names mention fault → told_line fault ≡ line_of mention
+broken_here names (Interface name) (TableFull line) h = h.0
+broken_here names (Interface name) (BadText line) h = h.0
+broken_here names (Interface name) _ h = absurd h
+broken_here names (External place command period) (TestInInit line) h = h.0
+broken_here names (External place command period) (TableFull line) h = h.0
+broken_here names (External place command period) (BadText line) h = h.0
+broken_here names (External place command period) _ h = absurd h
+broken_here names (Command text) (TableFull line) h = h.0
+broken_here names (Command text) (BadText line) h = h.0
+broken_here names (Command text) _ h = absurd h
+broken_here names (Defined name) (StateTwice line) h = h.0
+broken_here names (Defined name) (TableFull line) h = h.0
+broken_here names (Defined name) (BadText line) h = h.0
+broken_here names (Defined name) _ h = absurd h
+broken_here names (Wanted name) (TableFull line) h = h.0
+broken_here names (Wanted name) (BadText line) h = h.0
+broken_here names (Wanted name) _ h = absurd h
+broken_here names (Init owner span) (SecondInit line) h = h.0
+broken_here names (Init owner span) _ h = absurd h
+broken_here names (InitState span) (SecondInit line) h = h.0
+broken_here names (InitState span) _ h = absurd h
+broken_here names (SetState place span) (SetStateInInit line) h = h.0
+broken_here names (SetState place span) _ h = absurd h
+
+one_number : (m n : ℕ) → ¬ (m < n) → ¬ (n < m) → m ≡ n
+one_number m n not_below not_above =
+    elim (cases_lt m n) [
+      | inl below ↦ absurd (not_below below)
+      | inr above ↦
+          elim (cases_lt n m) [ inl over ↦ absurd (not_above over) | inr within ↦ omega arith ]
+    ]
+
+one_lowest : (names : Names) (mention : Mentioned) (fault other : ResolveFault) → IsLowest names mention fault → IsLowest names mention other → fault ≡ other
+one_lowest names mention fault other h k =
+    same_fault fault other
+    (one_number (number fault) (number other) (λ below. k.lowest fault below h.broken) (λ below. h.lowest other below k.broken))
+    (broken_here names mention fault h.broken ∙ sym (broken_here names mention other k.broken))
+
+one_broken : (names : Names) (mentions : List Mentioned) (fault other : ResolveFault) → FirstBroken names mentions fault → FirstBroken names mentions other → fault ≡ other
+one_broken names [] fault other h k = absurd h
+one_broken names (mention ∷ rest) fault other (inl h) (inl k) = one_lowest names mention fault other h k
+one_broken names (mention ∷ rest) fault other (inl h) (inr k) = absurd (k.0 fault h.broken)
+one_broken names (mention ∷ rest) fault other (inr h) (inl k) = absurd (h.0 other k.broken)
+one_broken names (mention ∷ rest) fault other (inr h) (inr k) = one_broken (after names mention) rest fault other h.1 k.1
+
+string_here : (mention : Mentioned) (line other : ℕ) → IsString (λ text. Unit {0}) line mention → IsString (λ text. Unit {0}) other mention → line ≡ other
+string_here (Interface name) line other h k = h.0 ∙ sym k.0
+string_here (External place command period) line other h k = h.0 ∙ sym k.0
+string_here (Command text) line other h k = h.0 ∙ sym k.0
+string_here (Defined name) line other h k = h.0 ∙ sym k.0
+string_here (Wanted name) line other h k = h.0 ∙ sym k.0
+string_here (Init owner span) line other h k = absurd h
+string_here (InitState span) line other h k = absurd h
+string_here (SetState place span) line other h k = absurd h
+
+one_unknown : (states : List (List ℕ)) (mentions : List Mentioned) (line other : ℕ) → FirstUnknown states mentions line → FirstUnknown states mentions other → line ≡ other
+one_unknown states [] line other h k = absurd h
+one_unknown states (mention ∷ rest) line other (inl h) (inl k) = string_here mention line other h.0 k.0
+one_unknown states (mention ∷ rest) line other (inl h) (inr k) = absurd (h.1 k.0)
+one_unknown states (mention ∷ rest) line other (inr h) (inl k) = absurd (k.1 h.0)
+one_unknown states (mention ∷ rest) line other (inr h) (inr k) = one_unknown states rest line other h.1 k.1
+
+pub one_refusal : (items : List Item) (fault other : ResolveFault) → IsRefused items fault → IsRefused items other → fault ≡ other
+one_refusal items _ _ (no_state h) (no_state k) = refl
+one_refusal items _ _ (no_state h) (broken other some k) = absurd (true≢false (sym some ∙ h))
+one_refusal items _ _ (no_state h) (unknown line some sound k) = absurd (true≢false (sym some ∙ h))
+one_refusal items _ _ (broken fault some h) (no_state k) = absurd (true≢false (sym some ∙ k))
+one_refusal items _ _ (broken fault some h) (broken other again k) = one_broken no_names (mentions_of items) fault other h k
+one_refusal items _ _ (broken fault some h) (unknown line again sound k) = absurd (broken_not_sound no_names (mentions_of items) fault h sound)
+one_refusal items _ _ (unknown line some sound h) (no_state k) = absurd (true≢false (sym some ∙ k))
+one_refusal items _ _ (unknown line some sound h) (broken other again k) = absurd (broken_not_sound no_names (mentions_of items) other k sound)
+one_refusal items _ _ (unknown line some sound h) (unknown next again still k) =
+    ap UnknownState (one_unknown (tables_of (mentions_of items)).states (mentions_of items) line next h k)

@@ -1,0 +1,33 @@
+//! Laws of policies, over their definitions alone: each is the contract of a function that does nothing.
+
+ghost use Rattle.std.specs.Prelude.{◌≡◌, List};
+ghost use Rattle.ifs_parse.specs.declared.tree.Item.{Item};
+ghost use Rattle.ifs_policy.specs.declared.fault.ResolveFault.{ResolveFault};
+ghost use Rattle.ifs_policy.specs.declared.policy.PolicyParts.{PolicyParts};
+ghost use Rattle.ifs_policy.specs.Mentions.{mentions_of};
+ghost use Rattle.ifs_policy.specs.Faults.{IsRefused};
+ghost use Rattle.ifs_policy.specs.Placed.{Resolves};
+ghost use Rattle.ifs_policy.specs.Fits.{PolicyFits};
+ghost use Rattle.ifs_policy.specs.Order.{InOrder};
+
+/// A tree has at most one policy.
+pub fn one_policy()
+    ensures { (items : List Item) (policy other : PolicyParts) → Resolves items policy → Resolves items other → policy ≡ other }
+{}
+
+/// A tree that is refused has no policy, and there is one fault that stands first.
+pub fn one_refusal()
+    ensures none { (items : List Item) (fault : ResolveFault) → IsRefused items fault → (policy : PolicyParts) → ¬ Resolves items policy }
+    ensures one { (items : List Item) (fault other : ResolveFault) → IsRefused items fault → IsRefused items other → fault ≡ other }
+{}
+
+/// The tables of a policy have each entry once, in the order of first uses; its states stand in the
+/// order of their definitions.
+pub fn numbered_by_first_use()
+    ensures { (items : List Item) (policy : PolicyParts) → Resolves items policy → InOrder (mentions_of items) policy.tables }
+{}
+
+/// A policy is within its limits, and its numbers are of entries of its tables.
+pub fn policies_fit()
+    ensures { (items : List Item) (policy : PolicyParts) → Resolves items policy → PolicyFits policy }
+{}

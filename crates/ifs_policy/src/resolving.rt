@@ -1,0 +1,63 @@
+//! From the tree of a text to its policy.
+
+ghost use Rattle.std.specs.Prelude.{◌≡◌, ◌≢◌, ◌↔◌, ℕ, IsTrue, IfOk, IfErr, map};
+ghost use Rattle.std.specs.List.{list_any};
+ghost use Rattle.ifs_policy.specs.declared.fault.ResolveFault.TheVariants.{Memory};
+ghost use Rattle.ifs_policy.specs.declared.policy.PolicyParts.{PolicyParts};
+ghost use Rattle.ifs_policy.specs.Mentions.{mentions_of};
+ghost use Rattle.ifs_policy.specs.Faults.{IsRefused, is_state};
+ghost use Rattle.ifs_policy.specs.Placed.{Resolves};
+ghost use Rattle.ifs_policy.specs.inner.Seen.{seen};
+
+use crate::fault::ResolveFault;
+use crate::mention::{Mentions, mention_item};
+use crate::names::Names;
+use crate::placing::place_items;
+use crate::policy::Policy;
+use ifs_parse::{Item, Tree};
+use std::alloc::{AllocError, Global};
+
+/// The policy of a tree, or the fault that stands first, with its line: that no state is defined;
+/// else the first mention that breaks a rule, with the lowest rule that it breaks; else the first
+/// mention of a state that is not defined. Want of memory has no place in this order.
+pub fn resolve(alloc: Global, tree: &Tree) -> Result<Policy, ResolveFault>
+    // What is answered is the tree's policy.
+    ensures policy { IfOk result (λ policy. Resolves tree.now.items policy) }
+    // A fault other than want of memory is the first,
+    ensures refused { IfErr result (λ fault. fault ≢ Memory → IsRefused tree.now.items fault) }
+    // and comes only where the tree has no policy.
+    ensures none { IfErr result (λ fault. fault ≢ Memory → (policy : PolicyParts) → ¬ Resolves tree.now.items policy) }
+{
+    let items = tree.items();
+    if !has_state(items) {
+        return Err(ResolveFault::NoState { line: 1 });
+    }
+    let mentions = mentions_of(alloc, items)?;
+    let mut names = Names::new(alloc);
+    names.fill(mentions.as_slice())?;
+    let parts = place_items(alloc, names.tables, items)?;
+    Ok(Policy::new(parts))
+}
+
+/// Whether an item defines a state.
+fn has_state(items: &[Item]) -> bool
+    ensures { result ≡ list_any is_state items.now }
+{
+    for item in items {
+        if let Item::State(..) = item {
+            return true;
+        }
+    }
+    false
+}
+
+/// The mentions of items, in the order of their text.
+fn mentions_of<'a>(alloc: Global, items: &'a [Item]) -> Result<Mentions<'a>, AllocError>
+    ensures { IfOk result (λ mentions. map seen mentions.items ≡ mentions_of items.now) }
+{
+    let mut mentions = Vec::new(alloc);
+    for item in items {
+        mention_item(item, &mut mentions)?;
+    }
+    Ok(mentions)
+}
