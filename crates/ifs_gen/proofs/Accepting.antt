@@ -2,7 +2,7 @@
 use Rattle.std.proofs.Common.{◌≡◌, ℕ, zero, suc, ◌*◌, ◌^◌, ◌<◌, ◌≤◌, length, Some, refl, sym, ap, ◌∙◌, subst, arith}
 use Rattle.std.specs.Prelude.{slice_get, All}
 use Rattle.std.proofs.lemmas.List.{length-map}
-use Rattle.std.proofs.lemmas.List.Elements.{All-weaker}
+use Rattle.std.proofs.lemmas.List.Elements.{All-cons, All-weaker}
 use Rattle.std.proofs.lemmas.Option.{slice_get_within}
 use Rattle.ifs_image.specs.declared.parts.Budgets.{Budgets}
 use Rattle.ifs_image.specs.declared.parts.StateSpec.{StateSpec}
@@ -12,11 +12,13 @@ use Rattle.ifs_verify.specs.Rules.{AreRoutines, IsMask, IndexesFit, HandlersLeav
 use Rattle.ifs_verify.specs.Bounds.{cost_of, commands_of, FitsHandlers}
 use Rattle.ifs_verify.specs.Accepted.{IsAccepted}
 use Rattle.ifs_gen.specs.Trees.{Part, Policy}
-use Rattle.ifs_gen.specs.Meaning.{mentioned}
+use Rattle.ifs_policy.specs.Meaning.{mentioned}
 use Rattle.ifs_gen.specs.PlainCode.{plain_coder, body_code, init_code, block_runs}
-use Rattle.ifs_gen.specs.PlainImage.{image_with, least_budgets, tests_in, parts_of, mask_in, handlers_of, greatest, room_of, init_length, body_length, part_height, plain_image, sizes_in, PartFits, IsPolicy, RoutinesFit, CodeFits}
+use Rattle.ifs_gen.specs.PlainImage.{image_with, least_budgets, tests_in, parts_of, mask_in, handlers_of, greatest, room_of, init_length, body_length, part_height, plain_image, IsPolicy, RoutinesFit, CodeFits}
 use Rattle.ifs_gen.specs.Acceptance.{PlainIsAccepted}
-use Rattle.ifs_gen.specs.Runs.{Sizes, sizes_of}
+use Rattle.ifs_policy.specs.Fits as fits
+use Rattle.ifs_policy.specs.Fits.{Sizes, HandlersFit}
+use Rattle.ifs_gen.specs.Runs.{image_sizes}
 use Rattle.ifs_gen.proofs.GoodRoutines.{EachGood, kinds_in, heights_in, amount, operands, jumps, ends, calls, reached, typings, are_heights, are_depths, are_amounts, leave_nothing}
 use Rattle.ifs_gen.proofs.GoodCode.{cost_is_length, init_queues, body_queues, init_long, body_long}
 use Rattle.ifs_gen.proofs.Images.{routines_long, states_long, state_at, greatest_below, mask_below, each_good, heights_within, Below, routines_within, parts_below, fits_events}
@@ -33,18 +35,18 @@ module _ (policy : Policy) (is : IsPolicy policy) (budgets : Budgets) where
   tests_long = length-map policy.tables.tests _
 
   states_are : length image.states ≡ length policy.tables.states
-  states_are = states_long count 1 policy.tables.states policy.states is.count
+  states_are = states_long count 1 policy.tables.states policy.states is.fits.count
 
   routines_are : length image.routines ≡ 2 * suc (length policy.states)
   routines_are = routines_long count (parts_of policy)
 
-  same_sizes : sizes_in policy ≡ sizes_of image
+  same_sizes : fits.sizes_of policy.tables ≡ image_sizes image
   same_sizes =
       let made : ℕ → ℕ → Sizes = λ tests states. record { interfaces = length policy.tables.interfaces; tests = tests; commands = length policy.tables.commands; states = states } in
       ap (λ n. made n (length policy.tables.states)) (sym tests_long) ∙ ap (λ n. made (length image.tests) n) (sym states_are)
 
-  pub parts_fit : All (PartFits (sizes_of image)) (parts_of policy)
-  parts_fit = subst (λ sizes. All (PartFits sizes) (parts_of policy)) same_sizes is.parts
+  pub parts_fit : All (HandlersFit (image_sizes image)) (parts_of policy)
+  parts_fit = subst (λ sizes. All (HandlersFit sizes) (parts_of policy)) same_sizes (All-cons (HandlersFit (fits.sizes_of policy.tables)) policy.always policy.states is.fits.always is.fits.states)
 
   abbrev pub good : EachGood image image.routines
   good = each_good image count tests_long (parts_of policy) parts_fit
@@ -64,7 +66,7 @@ module _ (policy : Policy) (is : IsPolicy policy) (budgets : Budgets) where
 
   pub indexes : IndexesFit image
   indexes = record {
-    initial = let h = is.initial in omega (arith, h, states_are);
+    initial = let h = is.fits.initial in omega (arith, h, states_are);
     always = routine_there 0 (omega arith);
     always_mask = mask_there policy.always;
     states = λ k spec at. (state_there k spec at).0;

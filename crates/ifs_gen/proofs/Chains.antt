@@ -62,7 +62,7 @@ of_append place (x ∷ xs) ys =
     ∙ ap (λ c. c ++ block_code plain_coder (next + block_size plain_coder (block_of xs)) (block_of ys)) (sym (then_code place x (block_of xs)))
     ∙ ap (λ p. block_code plain_coder place (block_of (x ∷ xs)) ++ block_code plain_coder p (block_of ys)) same
 
-of_size : (xs ys : List (Statement Single CommandId StateId)) → block_size plain_coder (block_of (xs ++ ys)) ≡ block_size plain_coder (block_of xs) + block_size plain_coder (block_of ys)
+pub of_size : (xs ys : List (Statement Single CommandId StateId)) → block_size plain_coder (block_of (xs ++ ys)) ≡ block_size plain_coder (block_of xs) + block_size plain_coder (block_of ys)
 of_size [] ys = let same : block_size plain_coder (block_of ys) ≡ 0 + block_size plain_coder (block_of ys) = omega arith in same
 of_size (x ∷ xs) ys =
     let e = then_size x (block_of (xs ++ ys)) in

@@ -7,10 +7,11 @@ use Rattle.ifs_base.specs.declared.ids.TestId.{TestId}
 use Rattle.ifs_image.specs.declared.parts.ImageParts.{ImageParts}
 use Rattle.ifs_verify.specs.Bounds.{cost_of, commands_of}
 use Rattle.ifs_gen.specs.Trees.{LinkIs, TestIs, Condition, Leaf, NotSo, And, Or, Block, Done, RunThen, WantThen, IfThen}
-use Rattle.ifs_gen.specs.Meaning.{mentioned}
+use Rattle.ifs_policy.specs.Meaning.{mentioned}
 use Rattle.ifs_gen.specs.PlainCode.{plain_coder, condition_code, condition_size, block_code, block_size, block_height, block_runs, held_code, holding, body_start, body_end, body_code, init_code, body_size, init_size}
 use Rattle.ifs_gen.specs.PlainImage.{routine_of_code}
-use Rattle.ifs_gen.specs.Runs.{sizes_of, BlockFits}
+use Rattle.ifs_policy.specs.Fits.{BlockFits}
+use Rattle.ifs_gen.specs.Runs.{image_sizes}
 use Rattle.ifs_gen.proofs.Simulation.{condition_sized, condition_high, block_sized}
 use Rattle.ifs_gen.proofs.Mentions.{each_below, body_room}
 use Rattle.ifs_gen.proofs.Handlers.{held_sized}
@@ -39,7 +40,7 @@ module _ (image : ImageParts) (height end : ℕ) where
             (subst (λ xs. HasKinds image (listed xs) height end (length (front ++ k ∷ [])) ks) (append_assoc front (k ∷ []) ks) (has_listed (front ++ k ∷ []) ks)),
       )
 
-module _ (image : ImageParts) (block : Block) (fits : BlockFits (sizes_of image) block) where
+module _ (image : ImageParts) (block : Block) (fits : BlockFits (image_sizes image) block) where
   abbrev high : ℕ
   high = block_height plain_coder block
 

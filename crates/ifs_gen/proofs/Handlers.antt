@@ -12,9 +12,9 @@ use Rattle.ifs_machine.specs.declared.value.Value.TheVariants.{Truth}
 use Rattle.ifs_machine.specs.Table.{Ended, FramesFull, StackFull, WrongResults, unless, have_kinds, returns, row_at}
 use Rattle.ifs_machine.specs.Run.{next, after, begin, RunsTo, AreFactsOf}
 use Rattle.ifs_gen.specs.Trees.{Block}
-use Rattle.ifs_gen.specs.Meaning.{has_a_value, mentioned, is_open, is_held, reached, body_yield, init_yield}
+use Rattle.ifs_policy.specs.Meaning.{has_a_value, mentioned, is_open, is_held, reached, body_yield, init_yield}
 use Rattle.ifs_gen.specs.PlainCode.{Coder, held_code, holding, body_start, body_end, body_code, init_code, block_code, block_size}
-use Rattle.ifs_gen.specs.Runs.{sizes_of, HasAt, Point, point, stands, Leads, Computes, block_cost, held_cost, body_cost, init_cost, IsHandlerOf, HandlersDo}
+use Rattle.ifs_gen.specs.Runs.{image_sizes, HasAt, Point, point, stands, Leads, Computes, block_cost, held_cost, body_cost, init_cost, IsHandlerOf, HandlersDo}
 use Rattle.ifs_gen.proofs.Rows.{entry_at, unless_fits, has_all, has_left, has_right, followed_nothing, no_rows, then_leads, as_told, at_place, one_row, jump_row}
 use Rattle.ifs_gen.proofs.Simulation.{block_sized, block_leads}
 use Rattle.ifs_gen.proofs.Mentions.{EachBelow, each_below, alike_below, block_mentions, HasRoomFor, room_any, body_room}
@@ -115,7 +115,7 @@ module _ (image : ImageParts) (facts : Facts) (coder : Coder) (given : AreFactsO
         let stack = h.stack in
         let runs = block_leads image facts coder computes routine [] block start [] before h.fits (has_left code start statements (Ret ∷ []) there) (omega (arith, stack)) h.commands in
         let begins : 0 + start ≡ start = omega arith in
-        let alike = alike_below (is_open facts) count (mentioned block) (block_mentions (sizes_of image) block h.fits) in
+        let alike = alike_below (is_open facts) count (mentioned block) (block_mentions (image_sizes image) block h.fits) in
         let first = subst (λ b. leads (point 0 [] before) (held_cost facts tests) (point (if b then end else start) [] before)) alike
         (subst (λ p. leads (point 0 [] before) (held_cost facts tests) (point (if list_any (is_open facts) tests then end else p) [] before)) begins test) in
         ends end (held_cost facts tests + (if is_held facts block then 0 else block_cost coder facts block)) before (followed before (body_yield facts block)) h.results h.frame ret.0

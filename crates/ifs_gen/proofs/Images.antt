@@ -14,8 +14,9 @@ use Rattle.ifs_image.specs.Code.{code_in, code_of}
 use Rattle.ifs_verify.specs.Bounds.{FitsEvents}
 use Rattle.ifs_gen.specs.Trees.{Block, Part, Policy}
 use Rattle.ifs_gen.specs.PlainCode.{plain_coder, tests_below, body_code, init_code, block_height}
-use Rattle.ifs_gen.specs.PlainImage.{tests_in, parts_of, mask_of, handlers_of, states_from, routine_of_code, routines_of, image_with, greatest, number_in, event_total, part_height, PartFits}
-use Rattle.ifs_gen.specs.Runs.{sizes_of, BlockFits}
+use Rattle.ifs_gen.specs.PlainImage.{tests_in, parts_of, mask_of, handlers_of, states_from, routine_of_code, routines_of, image_with, greatest, number_in, event_total, part_height}
+use Rattle.ifs_policy.specs.Fits.{BlockFits, HandlersFit}
+use Rattle.ifs_gen.specs.Runs.{image_sizes}
 use Rattle.ifs_gen.proofs.Fine.{IsGood}
 use Rattle.ifs_gen.proofs.GoodRoutines.{EachGood, heights_in, amount}
 use Rattle.ifs_gen.proofs.GoodCode.{init_good, body_good}
@@ -121,46 +122,46 @@ mask_below (suc count) tests =
 
 module _ (image : ImageParts) (count : ℕ) (same : length image.tests ≡ count) where
   -- each routine is good, and no higher than the parts
-  pub init_is_good : (block : Block) → BlockFits (sizes_of image) block → (good : IsGood image (routine_of_code (init_code plain_coder block))) × (good.height ≡ block_height plain_coder block)
+  pub init_is_good : (block : Block) → BlockFits (image_sizes image) block → (good : IsGood image (routine_of_code (init_code plain_coder block))) × (good.height ≡ block_height plain_coder block)
   init_is_good block fits = init_good image block fits
 
-  pub body_is_good : (block : Block) → BlockFits (sizes_of image) block → (good : IsGood image (routine_of_code (body_code plain_coder count block))) × (good.height ≡ block_height plain_coder block)
+  pub body_is_good : (block : Block) → BlockFits (image_sizes image) block → (good : IsGood image (routine_of_code (body_code plain_coder count block))) × (good.height ≡ block_height plain_coder block)
   body_is_good block fits =
       subst (λ n. (good : IsGood image (routine_of_code (body_code plain_coder n block))) × (good.height ≡ block_height plain_coder block)) same (body_good image block fits)
 
-  abbrev pub each_good : (parts : List Part) → All (PartFits (sizes_of image)) parts → EachGood image (routines_of count parts)
+  abbrev pub each_good : (parts : List Part) → All (HandlersFit (image_sizes image)) parts → EachGood image (routines_of count parts)
   each_good [] fits = tt
   each_good (x ∷ parts) fits =
-      let head = All-head (PartFits (sizes_of image)) x parts fits in
-      ((init_is_good x.init head.init).0, ((body_is_good x.body head.body).0, each_good parts (All-tail (PartFits (sizes_of image)) x parts fits)))
+      let head = All-head (HandlersFit (image_sizes image)) x parts fits in
+      ((init_is_good x.init head.init).0, ((body_is_good x.body head.body).0, each_good parts (All-tail (HandlersFit (image_sizes image)) x parts fits)))
 
-  pub heights_within : (parts : List Part) (fits : All (PartFits (sizes_of image)) parts) (i : ℕ) → heights_in image (routines_of count parts) (each_good parts fits) i ≤ greatest part_height parts
+  pub heights_within : (parts : List Part) (fits : All (HandlersFit (image_sizes image)) parts) (i : ℕ) → heights_in image (routines_of count parts) (each_good parts fits) i ≤ greatest part_height parts
   heights_within [] fits i = omega arith
   heights_within (x ∷ parts) fits zero =
-      let e = (init_is_good x.init (All-head (PartFits (sizes_of image)) x parts fits).init).1 in omega (arith, e)
+      let e = (init_is_good x.init (All-head (HandlersFit (image_sizes image)) x parts fits).init).1 in omega (arith, e)
   heights_within (x ∷ parts) fits (suc zero) =
-      let e = (body_is_good x.body (All-head (PartFits (sizes_of image)) x parts fits).body).1 in omega (arith, e)
+      let e = (body_is_good x.body (All-head (HandlersFit (image_sizes image)) x parts fits).body).1 in omega (arith, e)
   heights_within (x ∷ parts) fits (suc (suc i)) =
-      let h = heights_within parts (All-tail (PartFits (sizes_of image)) x parts fits) i in omega (arith, h)
+      let h = heights_within parts (All-tail (HandlersFit (image_sizes image)) x parts fits) i in omega (arith, h)
 
   -- the heights of part k
-  pub init_height : (parts : List Part) (fits : All (PartFits (sizes_of image)) parts) (k : ℕ) (part : Part) → slice_get parts k ≡ Some part
+  pub init_height : (parts : List Part) (fits : All (HandlersFit (image_sizes image)) parts) (k : ℕ) (part : Part) → slice_get parts k ≡ Some part
       → heights_in image (routines_of count parts) (each_good parts fits) (2 * k) ≡ block_height plain_coder part.init
   init_height [] fits k part e = absurd (none-some part e)
   init_height (x ∷ parts) fits zero part e =
-      (init_is_good x.init (All-head (PartFits (sizes_of image)) x parts fits).init).1 ∙ ap (λ (p : Part). block_height plain_coder p.init) (same_Some x part e)
+      (init_is_good x.init (All-head (HandlersFit (image_sizes image)) x parts fits).init).1 ∙ ap (λ (p : Part). block_height plain_coder p.init) (same_Some x part e)
   init_height (x ∷ parts) fits (suc k) part e =
       let two : 2 * suc k ≡ suc (suc (2 * k)) = omega arith in
-      ap (heights_in image (routines_of count (x ∷ parts)) (each_good (x ∷ parts) fits)) two ∙ init_height parts (All-tail (PartFits (sizes_of image)) x parts fits) k part e
+      ap (heights_in image (routines_of count (x ∷ parts)) (each_good (x ∷ parts) fits)) two ∙ init_height parts (All-tail (HandlersFit (image_sizes image)) x parts fits) k part e
 
-  pub body_height : (parts : List Part) (fits : All (PartFits (sizes_of image)) parts) (k : ℕ) (part : Part) → slice_get parts k ≡ Some part
+  pub body_height : (parts : List Part) (fits : All (HandlersFit (image_sizes image)) parts) (k : ℕ) (part : Part) → slice_get parts k ≡ Some part
       → heights_in image (routines_of count parts) (each_good parts fits) (2 * k + 1) ≡ block_height plain_coder part.body
   body_height [] fits k part e = absurd (none-some part e)
   body_height (x ∷ parts) fits zero part e =
-      (body_is_good x.body (All-head (PartFits (sizes_of image)) x parts fits).body).1 ∙ ap (λ (p : Part). block_height plain_coder p.body) (same_Some x part e)
+      (body_is_good x.body (All-head (HandlersFit (image_sizes image)) x parts fits).body).1 ∙ ap (λ (p : Part). block_height plain_coder p.body) (same_Some x part e)
   body_height (x ∷ parts) fits (suc k) part e =
       let two : 2 * suc k + 1 ≡ suc (suc (2 * k + 1)) = omega arith in
-      ap (heights_in image (routines_of count (x ∷ parts)) (each_good (x ∷ parts) fits)) two ∙ body_height parts (All-tail (PartFits (sizes_of image)) x parts fits) k part e
+      ap (heights_in image (routines_of count (x ∷ parts)) (each_good (x ∷ parts) fits)) two ∙ body_height parts (All-tail (HandlersFit (image_sizes image)) x parts fits) k part e
 
 -- What the instructions of inits and bodies weigh together.
 module _ (weight : Op → ℕ) (count : ℕ) (init body : Part → ℕ)

@@ -11,5 +11,6 @@ pub mod Limits
 pub mod Accepting
 pub mod Least
 pub mod Chains
+pub mod Measuring
 pub mod CostsAside
 pub mod Lifting

@@ -22,10 +22,11 @@ use Rattle.ifs_core.specs.Headline.{AcceptedIsKept}
 use Rattle.ifs_core.specs.HeadlineParts.{RunAlike}
 use Rattle.ifs_core.specs.Steps.{CoreState, replies, after_steps}
 use Rattle.ifs_gen.specs.Trees.{Part, External, Policy}
-use Rattle.ifs_gen.specs.Meaning.{body_yield, init_yield}
+use Rattle.ifs_policy.specs.Meaning.{body_yield, init_yield}
 use Rattle.ifs_gen.specs.PlainCode.{plain_coder, body_code}
-use Rattle.ifs_gen.specs.PlainImage.{least_budgets, tests_in, parts_of, part_height, plain_image, room_of, PartFits, IsPolicy, CodeFits}
-use Rattle.ifs_gen.specs.Runs.{sizes_of, init_cost, body_cost}
+use Rattle.ifs_gen.specs.PlainImage.{least_budgets, tests_in, parts_of, part_height, plain_image, room_of, IsPolicy, CodeFits}
+use Rattle.ifs_policy.specs.Fits.{HandlersFit}
+use Rattle.ifs_gen.specs.Runs.{image_sizes, init_cost, body_cost}
 use Rattle.ifs_gen.specs.Events.{yield_in, yield_of, mask_of_state, behaviour_of, policy_opened, reply_without_cost, state_without_costs, RunsAsPolicy, ImageMeansPolicy}
 use Rattle.ifs_gen.proofs.Simulation.{truth_runs}
 use Rattle.ifs_gen.proofs.Handlers.{handlers_do}
@@ -69,8 +70,8 @@ module _ (policy : Policy) (is : IsPolicy policy) (code : CodeFits policy) where
   at_cost = record (behaviour_of policy) { cost = cost_of_handler }
 
   module _ (facts : Facts) (given : AreFactsOf image facts) (before : Effects) (k : ℕ) (part : Part) (e : slice_get (parts_of policy) k ≡ Some part) where
-    part_fits : PartFits (sizes_of image) part
-    part_fits = all_at (PartFits (sizes_of image)) (parts_of policy) k part (parts_fit policy is (least_budgets policy)) e
+    part_fits : HandlersFit (image_sizes image) part
+    part_fits = all_at (HandlersFit (image_sizes image)) (parts_of policy) k part (parts_fit policy is (least_budgets policy)) e
 
     init_does : HasRoom image (2 * k) (length before.commands) → RunsTo image facts (2 * k) before (init_cost plain_coder facts part.init) (followed before (init_yield facts part.init))
     init_does room =

@@ -7,9 +7,9 @@ use Rattle.std.proofs.lemmas.List.{append-nil}
 use Rattle.std.proofs.lemmas.List.Folds.{list_any-append}
 use Rattle.ifs_base.specs.declared.ids.TestId.{TestId}
 use Rattle.ifs_gen.specs.Trees.{LinkIs, TestIs, Condition, Leaf, NotSo, And, Or, Block, Done, RunThen, WantThen, IfThen}
-use Rattle.ifs_gen.specs.Meaning.{mentioned_in, mentioned}
+use Rattle.ifs_policy.specs.Meaning.{mentioned_in, mentioned}
 use Rattle.ifs_gen.specs.PlainCode.{Coder, tests_below, holding, block_height}
-use Rattle.ifs_gen.specs.Runs.{Sizes, ConditionFits, BlockFits}
+use Rattle.ifs_policy.specs.Fits.{Sizes, ConditionFits, BlockFits}
 
 -- Each test is below a number.
 abbrev pub EachBelow : ℕ → List TestId → Type 0

@@ -11,9 +11,10 @@ use Rattle.ifs_machine.specs.declared.value.Value.TheVariants.{Truth, Command, S
 use Rattle.ifs_machine.specs.Table.{Frame, StackFull, height, is_true}
 use Rattle.ifs_machine.specs.Run.{AreFactsOf}
 use Rattle.ifs_gen.specs.Trees.{LinkIs, TestIs, Condition, Leaf, NotSo, And, Or, Block, Done, RunThen, WantThen, IfThen}
-use Rattle.ifs_gen.specs.Meaning.{has_true, truth, reached}
+use Rattle.ifs_policy.specs.Meaning.{has_true, truth, reached}
 use Rattle.ifs_gen.specs.PlainCode.{Coder, condition_code, condition_size, condition_height, block_code, block_size, block_height, block_runs}
-use Rattle.ifs_gen.specs.Runs.{sizes_of, ConditionFits, BlockFits, HasAt, Point, point, stands, Leads, HasStack, Computes, TruthRuns, block_cost, BlockRuns}
+use Rattle.ifs_policy.specs.Fits.{ConditionFits, BlockFits}
+use Rattle.ifs_gen.specs.Runs.{image_sizes, HasAt, Point, point, stands, Leads, HasStack, Computes, TruthRuns, block_cost, BlockRuns}
 use Rattle.ifs_gen.proofs.Rows.{entry_at, unless_fits, has_left, has_right, followed_assoc, followed_nothing, no_rows, then_leads, as_told, at_place, one_row, command_row, state_row, queue_row, want_row, jump_row}
 
 pub condition_sized : (c : Condition) → length (condition_code c) ≡ condition_size c
@@ -49,7 +50,7 @@ module _ (image : ImageParts) (facts : Facts) (given : AreFactsOf image facts) (
       at_place image facts routine callers _ (condition_size a + condition_size b + 1) _ (place + condition_size a + condition_size b + 1) _ (Truth z ∷ values) effects
       (then_leads image facts routine callers _ _ _ _ _ (then_leads image facts routine callers _ _ _ _ _ first second) last) refl (omega arith)
 
-  condition_leads : (c : Condition) (place : ℕ) (values : List Value) (effects : Effects) → ConditionFits (sizes_of image) c
+  condition_leads : (c : Condition) (place : ℕ) (values : List Value) (effects : Effects) → ConditionFits (image_sizes image) c
       → HasAt (code_of image routine) place (condition_code c) → HasStack image callers values (condition_height c)
       → Leads image facts routine callers (point place values effects) (condition_size c) (point (place + condition_size c) (Truth (truth facts c) ∷ values) effects)
   condition_leads (Leaf (LinkIs n s)) place values effects fits has room =
@@ -156,7 +157,7 @@ module _ (image : ImageParts) (facts : Facts) (coder : Coder) where
         at_place image facts routine callers _ (2 + cost) (2 + cost) (place + 2 + size) (place + (2 + size)) values (followed effects (followed first second))
         (both_lead _ _ _ _ _ values effects first second start onward) refl (omega arith)
 
-    pub block_leads : (block : Block) (place : ℕ) (values : List Value) (effects : Effects) → BlockFits (sizes_of image) block
+    pub block_leads : (block : Block) (place : ℕ) (values : List Value) (effects : Effects) → BlockFits (image_sizes image) block
         → HasAt (code_of image routine) place (block_code coder place block) → HasStack image callers values (block_height coder block)
         → length effects.commands + block_runs block ≤ image.budgets.commands
         → Leads image facts routine callers (point place values effects) (block_cost coder facts block) (point (place + block_size coder block) values (followed effects (reached facts block)))

@@ -12,7 +12,8 @@ use Rattle.ifs_verify.specs.Rules.{HasOperand}
 use Rattle.ifs_base.specs.declared.ids.RoutineId.{RoutineId}
 use Rattle.ifs_gen.specs.Trees.{LinkIs, TestIs, Condition, Leaf, NotSo, And, Or, Block, Done, RunThen, WantThen, IfThen}
 use Rattle.ifs_gen.specs.PlainCode.{plain_coder, condition_code, condition_size, condition_height, block_code, block_size, block_height, held_code}
-use Rattle.ifs_gen.specs.Runs.{sizes_of, ConditionFits, BlockFits}
+use Rattle.ifs_policy.specs.Fits.{ConditionFits, BlockFits}
+use Rattle.ifs_gen.specs.Runs.{image_sizes}
 use Rattle.ifs_gen.proofs.Simulation.{condition_sized, condition_high, block_sized}
 use Rattle.ifs_gen.proofs.Mentions.{EachBelow, HasRoomFor, room_any}
 use Rattle.ifs_gen.proofs.Fine.{IsFine, AreFine, fine_append}
@@ -123,7 +124,7 @@ module _ (image : ImageParts) (kinds : ℕ → List Kind) (height end : ℕ) whe
       (fine_append image kinds height end (place + condition_size a) (condition_code b) (op ∷ []) (place + condition_size a + condition_size b) (ap (λ n. place + condition_size a + n) (condition_sized b)) second (last, tt))
 
   condition_fine : (c : Condition) (place : ℕ) (below : List Kind) → HasKinds place (condition_kinds below c) → kinds (place + condition_size c) ≡ Truth ∷ below
-      → ConditionFits (sizes_of image) c → condition_height c + length below ≤ height → AreFine image kinds height end place (condition_code c)
+      → ConditionFits (image_sizes image) c → condition_height c + length below ≤ height → AreFine image kinds height end place (condition_code c)
   condition_fine (Leaf (LinkIs n s)) place below has next fits room =
       (falls_on place (Link n s) below (Truth ∷ below) fits has.0 next refl (λ to e. e) refl refl (λ callee e. cc) (omega (arith, room)) (omega (arith, room)), tt)
   condition_fine (Leaf (TestIs n)) place below has next fits room =
@@ -183,7 +184,7 @@ module _ (image : ImageParts) (kinds : ℕ → List Kind) (height end : ℕ) whe
       let starts = sym (ap kinds same) ∙ block_starts rest (place + 2) there next in
       (first has.0 has.1.0, (second has.1.0 starts, subst (λ p. AreFine image kinds height end p (block_code plain_coder (place + 2) rest)) same onward))
 
-  pub block_fine : (block : Block) (place : ℕ) → HasKinds place (block_kinds block) → kinds (place + block_size plain_coder block) ≡ [] → BlockFits (sizes_of image) block
+  pub block_fine : (block : Block) (place : ℕ) → HasKinds place (block_kinds block) → kinds (place + block_size plain_coder block) ≡ [] → BlockFits (image_sizes image) block
       → block_height plain_coder block ≤ height → place + block_size plain_coder block ≤ end → AreFine image kinds height end place (block_code plain_coder place block)
   block_fine Done place has next fits room within = tt
   block_fine (RunThen n rest) place has next fits room within =

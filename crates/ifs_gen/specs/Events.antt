@@ -12,7 +12,7 @@ use Rattle.ifs_core.specs.Machine.{IsBehaviour}
 use Rattle.ifs_core.specs.Gateway.{opened}
 use Rattle.ifs_core.specs.Steps.{CoreState, replies, after_steps}
 use Rattle.ifs_gen.specs.Trees.{Part, Policy}
-use Rattle.ifs_gen.specs.Meaning.{body_yield, init_yield}
+use Rattle.ifs_policy.specs.Meaning.{body_yield, init_yield}
 use Rattle.ifs_gen.specs.PlainImage.{tests_in, mask_in, room_of, plain_image, IsPolicy, CodeFits}
 
 -- What a state's part yields; nothing where there is no such state.

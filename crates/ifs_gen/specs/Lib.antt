@@ -1,12 +1,14 @@
 pub mod Trees
-pub mod Meaning
 pub mod PlainCode
 pub mod Runs
 pub mod PlainImage
 pub mod Acceptance
 pub mod Events
 pub mod Emission
+pub mod Measures
 pub use Rattle.ifs_base.specs.Facts
+pub use Rattle.ifs_policy.specs.Meaning
+pub use Rattle.ifs_policy.specs.Fits
 pub use Rattle.ifs_base.specs.Effects
 pub use Rattle.ifs_image.specs.Code
 pub use Rattle.ifs_image.specs.Limits

@@ -1,6 +1,6 @@
 -- The plain image of a policy, and its sizes apart from the code: instructions, height and commands, the room, and the budgets.
-use Rattle.std.specs.Prelude.{ℕ, ◌≡◌, ◌+◌, ◌*◌, ◌^◌, ◌<◌, ◌≤◌, max, List, [], ◌∷◌, length, map, sum_by, Option, Some, None, slice_get, All}
-use Rattle.ifs_base.specs.Sizes.{TextFits, PeriodFits}
+use Rattle.std.specs.Prelude.{ℕ, ◌+◌, ◌*◌, ◌^◌, ◌≤◌, max, List, [], ◌∷◌, length, map, sum_by, Option, Some, None, slice_get, All}
+use Rattle.ifs_base.specs.Sizes.{PeriodFits}
 use Rattle.ifs_base.specs.declared.ids.TestId.{TestId}
 use Rattle.ifs_base.specs.declared.op.Op.{Op}
 use Rattle.ifs_image.specs.declared.parts.Budgets.{Budgets}
@@ -8,10 +8,9 @@ use Rattle.ifs_image.specs.declared.parts.Handlers.{Handlers}
 use Rattle.ifs_image.specs.declared.parts.StateSpec.{StateSpec}
 use Rattle.ifs_image.specs.declared.parts.Routine.{Routine}
 use Rattle.ifs_image.specs.declared.parts.ImageParts.{ImageParts}
-use Rattle.ifs_image.specs.Limits.{NamesFit}
-use Rattle.ifs_gen.specs.Trees.{Part, External, Policy}
+use Rattle.ifs_gen.specs.Trees.{Part, Policy}
 use Rattle.ifs_gen.specs.PlainCode.{plain_coder, holding, body_code, init_code, body_size, init_size, block_height, block_runs}
-use Rattle.ifs_gen.specs.Runs.{Sizes, BlockFits}
+use Rattle.ifs_policy.specs.Fits.{PolicyFits}
 
 -- How many external tests a policy has.
 abbrev pub tests_in : Policy → ℕ
@@ -105,38 +104,10 @@ least_budgets policy = record {
 abbrev pub plain_image : Policy → ImageParts
 plain_image policy = image_with (least_budgets policy) policy
 
--- The sizes of a policy's tables.
-abbrev pub sizes_in : Policy → Sizes
-sizes_in policy = record {
-  interfaces = length policy.tables.interfaces;
-  tests = length policy.tables.tests;
-  commands = length policy.tables.commands;
-  states = length policy.tables.states;
-}
-
--- The numbers of a part's trees are of entries of their tables.
-pub record PartFits (sizes : Sizes) (part : Part) : Type 0 where
-  pub init : BlockFits sizes part.init
-  pub body : BlockFits sizes part.body
-
--- The command and the period of an external test keep their limits.
-pub record ExternalFits (test : External) : Type 0 where
-  pub command : TextFits test.command
-  pub period : PeriodFits test.period
-
--- A policy's tables keep the limits, and its trees have numbers of their entries alone.
+-- A policy within its limits, those of its tests' periods among them.
 pub record IsPolicy (policy : Policy) : Type 0 where
-  pub interfaces : length policy.tables.interfaces ≤ 64
-  pub tests : length policy.tables.tests ≤ 64
-  pub commands : length policy.tables.commands ≤ 1024
-  pub states : length policy.tables.states ≤ 256
-  pub interface_names : NamesFit policy.tables.interfaces
-  pub test_texts : All ExternalFits policy.tables.tests
-  pub command_texts : All TextFits policy.tables.commands
-  pub state_names : NamesFit policy.tables.states
-  pub initial : policy.initial.0 < length policy.tables.states
-  pub count : length policy.states ≡ length policy.tables.states
-  pub parts : All (PartFits (sizes_in policy)) (parts_of policy)
+  pub fits : PolicyFits policy
+  pub periods : All (λ test. PeriodFits test.period) policy.tables.tests
 
 -- The plain code of a part keeps the limits of one routine.
 pub record RoutinesFit (count : ℕ) (part : Part) : Type 0 where

@@ -1,5 +1,5 @@
 -- Runs of plain code on the machine: what each row, condition, block and handler leads to.
-use Rattle.std.specs.Prelude.{ℕ, ◌≡◌, ◌+◌, ◌<◌, ◌≤◌, if◌then◌else◌, List, [], ◌∷◌, length, Some, slice_get}
+use Rattle.std.specs.Prelude.{ℕ, ◌≡◌, ◌+◌, ◌≤◌, if◌then◌else◌, List, [], ◌∷◌, length, Some, slice_get}
 use Rattle.ifs_base.specs.Facts.{Facts}
 use Rattle.ifs_base.specs.Effects.{Effects, followed}
 use Rattle.ifs_base.specs.declared.ids.TestId.{TestId}
@@ -10,39 +10,14 @@ use Rattle.ifs_machine.specs.declared.value.Value.{Value}
 use Rattle.ifs_machine.specs.declared.value.Value.TheVariants.{Truth}
 use Rattle.ifs_machine.specs.Table.{Frame, Outcome, GoesOn, height}
 use Rattle.ifs_machine.specs.Run.{after, RunsTo, AreFactsOf}
-use Rattle.ifs_gen.specs.Trees.{Single, LinkIs, TestIs, Condition, Leaf, NotSo, And, Or, Block, Done, RunThen, WantThen, IfThen}
-use Rattle.ifs_gen.specs.Meaning.{truth, is_open, is_held, reached, body_yield, init_yield}
+use Rattle.ifs_policy.specs.Fits.{Sizes, ConditionFits, BlockFits}
+use Rattle.ifs_gen.specs.Trees.{Condition, Block, Done, RunThen, WantThen, IfThen}
+use Rattle.ifs_policy.specs.Meaning.{truth, is_open, is_held, reached, body_yield, init_yield}
 use Rattle.ifs_gen.specs.PlainCode.{Coder, plain_coder, block_code, block_size, block_height, block_runs, holding, body_code, init_code}
 
--- How many entries the tables have that a tree's numbers are of.
-pub record Sizes : Type 0 where
-  pub interfaces : ℕ
-  pub tests : ℕ
-  pub commands : ℕ
-  pub states : ℕ
-
--- Those of an image.
-abbrev pub sizes_of : ImageParts → Sizes
-sizes_of image = record { interfaces = length image.interfaces; tests = length image.tests; commands = length image.commands; states = length image.states }
-
--- A single test is of an entry of its table.
-abbrev pub SingleFits : Sizes → Single → Type 0
-SingleFits sizes (LinkIs interface state) = interface.0 < sizes.interfaces
-SingleFits sizes (TestIs test) = test.0 < sizes.tests
-
--- The numbers of a condition are of entries of their tables.
-abbrev pub ConditionFits : Sizes → Condition → Type 0
-ConditionFits sizes (Leaf single) = SingleFits sizes single
-ConditionFits sizes (NotSo operand) = ConditionFits sizes operand
-ConditionFits sizes (And left right) = ConditionFits sizes left × ConditionFits sizes right
-ConditionFits sizes (Or left right) = ConditionFits sizes left × ConditionFits sizes right
-
--- So are those of a block.
-abbrev pub BlockFits : Sizes → Block → Type 0
-BlockFits sizes Done = Unit {0}
-BlockFits sizes (RunThen command rest) = (command.0 < sizes.commands) × BlockFits sizes rest
-BlockFits sizes (WantThen state rest) = (state.0 < sizes.states) × BlockFits sizes rest
-BlockFits sizes (IfThen condition inner rest) = ConditionFits sizes condition × BlockFits sizes inner × BlockFits sizes rest
+-- How many entries the tables of an image have.
+abbrev pub image_sizes : ImageParts → Sizes
+image_sizes image = record { interfaces = length image.interfaces; tests = length image.tests; commands = length image.commands; states = length image.states }
 
 -- Instructions stand in a code from a place on.
 abbrev pub HasAt : List Op → ℕ → List Op → Type 0
@@ -75,7 +50,7 @@ pub record Computes (image : ImageParts) (facts : Facts) (coder : Coder) : Type 
   pub sized : (condition : Condition) → length (coder.code condition) ≡ coder.size condition
   pub high : (condition : Condition) → 1 ≤ coder.height condition
   pub leads : (condition : Condition) (routine : ℕ) (callers : List Frame) (place : ℕ) (values : List Value) (effects : Effects)
-      → ConditionFits (sizes_of image) condition → HasAt (code_of image routine) place (coder.code condition) → HasStack image callers values (coder.height condition)
+      → ConditionFits (image_sizes image) condition → HasAt (code_of image routine) place (coder.code condition) → HasStack image callers values (coder.height condition)
       → Leads image facts routine callers (point place values effects) (coder.cost condition) (point (place + coder.size condition) (Truth (truth facts condition) ∷ values) effects)
 
 -- The plain code of conditions computes their truth, on any image and under any facts for it.
@@ -93,7 +68,7 @@ block_cost coder facts (IfThen condition inner rest) =
 -- A block leads past itself, and has brought about what it reaches.
 abbrev pub BlockRuns : Type 0
 BlockRuns = (image : ImageParts) (facts : Facts) (coder : Coder) (routine : ℕ) (callers : List Frame) (block : Block) (place : ℕ) (values : List Value) (effects : Effects)
-    → Computes image facts coder → BlockFits (sizes_of image) block → HasAt (code_of image routine) place (block_code coder place block)
+    → Computes image facts coder → BlockFits (image_sizes image) block → HasAt (code_of image routine) place (block_code coder place block)
     → HasStack image callers values (block_height coder block) → length effects.commands + block_runs block ≤ image.budgets.commands
     → Leads image facts routine callers (point place values effects) (block_cost coder facts block) (point (place + block_size coder block) values (followed effects (reached facts block)))
 
@@ -116,7 +91,7 @@ pub record IsHandlerOf (image : ImageParts) (coder : Coder) (routine : ℕ) (cod
   pub frame : 1 ≤ image.budgets.frames
   pub stack : block_height coder block ≤ image.budgets.stack
   pub commands : queued + block_runs block ≤ image.budgets.commands
-  pub fits : BlockFits (sizes_of image) block
+  pub fits : BlockFits (image_sizes image) block
 
 -- The handlers of a policy do on the machine what their yields say, at a cost that the facts settle.
 pub record HandlersRun (image : ImageParts) (facts : Facts) (coder : Coder) : Type 0 where

@@ -3,3 +3,4 @@
 
 mod emission;
 pub mod laws;
+mod measure;
