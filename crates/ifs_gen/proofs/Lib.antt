@@ -12,5 +12,6 @@ pub mod Accepting
 pub mod Least
 pub mod Chains
 pub mod Measuring
+pub mod Refusing
 pub mod CostsAside
 pub mod Lifting

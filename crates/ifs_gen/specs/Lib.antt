@@ -3,6 +3,7 @@ pub mod PlainCode
 pub mod Runs
 pub mod PlainImage
 pub mod Acceptance
+pub mod Refused
 pub mod Events
 pub mod Emission
 pub mod Measures

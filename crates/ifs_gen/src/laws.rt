@@ -2,6 +2,7 @@
 
 ghost use Rattle.ifs_gen.specs.Acceptance.{BudgetsAreLeast, PlainIsAccepted};
 ghost use Rattle.ifs_gen.specs.Events.{ImageMeansPolicy};
+ghost use Rattle.ifs_gen.specs.Refused.{FitsOrIsRefused};
 ghost use Rattle.ifs_gen.specs.Runs.{TruthRuns, BlockRuns, HandlersDo};
 
 use ifs_core::laws::accepted_is_kept;
@@ -44,3 +45,8 @@ pub fn image_means_policy()
 {
     accepted_is_kept();
 }
+
+/// The plain code of each policy keeps the limits of images, or there is a first one that it passes.
+pub fn fits_or_is_refused()
+    ensures { FitsOrIsRefused }
+{}

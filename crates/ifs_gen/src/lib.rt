@@ -2,5 +2,8 @@
 #![tactic(auto)]
 
 mod emission;
+mod fault;
 pub mod laws;
 mod measure;
+
+pub use fault::GenFault;
