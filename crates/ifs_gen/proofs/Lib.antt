@@ -12,6 +12,7 @@ pub mod Accepting
 pub mod Least
 pub mod Chains
 pub mod Measuring
+pub mod Marking
 pub mod Refusing
 pub mod CostsAside
 pub mod Lifting

@@ -1,14 +1,14 @@
 -- The code of each policy keeps the limits, or it passes one first.
-use Rattle.std.proofs.Common.{◌≡◌, ℕ, zero, suc, ◌+◌, ◌<◌, ◌≤◌, ◌⊎◌, inl, inr, ⊎_elim, List, [], ◌∷◌, Option, Some, None, refl, sym, ap, subst, arith}
-use Rattle.std.specs.Prelude.{slice_get, All, sum, sum_by, max}
+use Rattle.std.proofs.Common.{◌≡◌, ℕ, zero, suc, ◌+◌, ◌<◌, ◌≤◌, ◌⊎◌, inl, inr, ⊎_elim, List, [], ◌∷◌, Some, refl, arith}
+use Rattle.std.specs.Prelude.{slice_get, All, sum, sum_by}
 use Rattle.std.proofs.lemmas.Bool.{cases_lt}
 use Rattle.std.proofs.lemmas.List.Elements.{All-head, All-tail, All-cons, All-nil}
 use Rattle.std.proofs.lemmas.List.Sums.{sum_by-cons}
-use Rattle.std.proofs.lemmas.Option.{none-some, same_Some}
+use Rattle.std.proofs.lemmas.Option.{same_Some}
 use Rattle.ifs_gen.specs.declared.fault.GenFault.TheVariants.{RoutineTooLong, CodeTooLong, StackTooHigh, TooManyCommands}
-use Rattle.ifs_gen.specs.Trees.{Part, Policy}
+use Rattle.ifs_gen.specs.Trees.{Part}
 use Rattle.ifs_gen.specs.PlainCode.{plain_coder, block_height}
-use Rattle.ifs_gen.specs.PlainImage.{tests_in, parts_of, init_length, body_length, part_height, room_of, RoutinesFit, CodeFits}
+use Rattle.ifs_gen.specs.PlainImage.{tests_in, parts_of, init_length, body_length, part_height, room_of, RoutinesFit}
 use Rattle.ifs_gen.specs.Refused.{lengths_of, heights_of, lengths, heights, AreWithin, IsFirstOver, FitsOrIsRefused}
 
 -- The index of the first number over a limit, where there is one.

@@ -7,6 +7,7 @@ pub mod Refused
 pub mod Events
 pub mod Emission
 pub mod Measures
+pub mod Marks
 pub use Rattle.ifs_base.specs.Facts
 pub use Rattle.ifs_policy.specs.Meaning
 pub use Rattle.ifs_policy.specs.Fits

@@ -5,5 +5,6 @@ mod emission;
 mod fault;
 pub mod laws;
 mod measure;
+mod mention;
 
 pub use fault::GenFault;
