@@ -1,18 +1,19 @@
 -- The code of chains and of statements in order is that of their members.
-use Rattle.std.proofs.Common.{◌≡◌, ℕ, suc, ◌+◌, ◌^◌, ◌<◌, ◌≤◌, List, [], ◌∷◌, ◌++◌, length, refl, sym, ap, ◌∙◌, append_assoc, length-append, arith, take, drop, get_or, drop-cons}
+use Rattle.std.proofs.Common.{◌≡◌, ℕ, zero, suc, ◌+◌, ◌*◌, ◌^◌, ◌<◌, ◌≤◌, List, [], ◌∷◌, ◌++◌, length, refl, sym, ap, ◌∙◌, append_assoc, length-append, arith, take, drop, get_or, drop-cons}
 use Rattle.std.proofs.lemmas.List.{append-nil, take_more, take-append-drop}
 use Rattle.std.specs.Prelude.{slice_set}
 use Rattle.std.specs.List.{flat_map}
 use Rattle.ifs_base.specs.declared.op.Op.{Op}
-use Rattle.ifs_base.specs.declared.op.Op.TheVariants.{Both, Either, JumpFalse}
+use Rattle.ifs_base.specs.declared.op.Op.TheVariants.{Both, Either, JumpFalse, Known, Ret}
 use Rattle.ifs_parse.specs.Trees as tree
 use Rattle.ifs_base.specs.declared.ids.CommandId.{CommandId}
 use Rattle.ifs_base.specs.declared.ids.StateId.{StateId}
+use Rattle.ifs_base.specs.declared.ids.TestId.{TestId}
 use Rattle.ifs_parse.specs.Views.{all_of, any_of, block_of, statement_then}
 use Rattle.ifs_parse.specs.declared.block.Statement.{Statement}
 use Rattle.ifs_parse.specs.declared.block.Statement.TheVariants.{Run, SetState, If}
 use Rattle.ifs_gen.specs.Trees.{Single, Condition, Block}
-use Rattle.ifs_gen.specs.PlainCode.{plain_coder, condition_code, block_code, block_size}
+use Rattle.ifs_gen.specs.PlainCode.{plain_coder, condition_code, block_code, block_size, held_code}
 use Rattle.ifs_gen.specs.Emission.{statement_code, statement_size}
 use Rattle.ifs_gen.proofs.Simulation.{condition_sized, block_sized}
 
@@ -159,3 +160,46 @@ loop_next old now next items i item lt at now_is next_is =
     ∙ ap (λ p. old ++ (codes ++ statement_code p item)) place
     ∙ ap (λ xs. old ++ xs) (sym (of_append (length old) front (item ∷ [])))
     ∙ ap (λ xs. old ++ block_code plain_coder (length old) (block_of xs)) (sym more)
+
+-- one test more that holds a body back
+held_last : (end : ℕ) (tests : List TestId) (test : TestId) → held_code end (tests ++ test ∷ []) ≡ held_code end tests ++ (Known test ∷ JumpFalse end ∷ [])
+held_last end [] test = refl
+held_last end (x ∷ tests) test = ap (λ l. Known x ∷ JumpFalse end ∷ l) (held_last end tests test)
+
+pub held_next : (end : ℕ) (now one next : List Op) (tests : List TestId) (i : ℕ) (test : TestId) → i < length tests → test ≡ get_or tests i test → now ≡ held_code end (take i tests)
+    → one ≡ now ++ Known test ∷ [] → next ≡ one ++ JumpFalse end ∷ [] → next ≡ held_code end (take (i + 1) tests)
+held_next end now one next tests i test lt at now_is one_is next_is =
+    let more = take_more tests i test lt ∙ ap (λ x. take i tests ++ x ∷ []) (sym at) in
+    next_is ∙ ap (λ l. l ++ JumpFalse end ∷ []) one_is ∙ append_assoc now (Known test ∷ []) (JumpFalse end ∷ []) ∙ ap (λ l. l ++ (Known test ∷ JumpFalse end ∷ [])) now_is
+    ∙ sym (held_last end (take i tests) test) ∙ ap (held_code end) (sym more)
+
+take_past : {T : Type 0} (xs : List T) (i : ℕ) → length xs ≤ i → take i xs ≡ xs
+take_past [] zero le = refl
+take_past [] (suc i) le = refl
+take_past (x ∷ xs) zero le = absurd (omega arith)
+take_past (x ∷ xs) (suc i) le = ap (λ l. x ∷ l) (take_past xs i (omega arith))
+
+held_long : (end : ℕ) (tests : List TestId) → length (held_code end tests) ≡ 2 * length tests
+held_long end [] = refl
+held_long end (test ∷ tests) = let h = held_long end tests in omega (arith, h)
+
+pub held_room : (end : ℕ) (now : List Op) (tests : List TestId) (i : ℕ) (body : Block) → length tests ≤ i → now ≡ held_code end (take i tests)
+    → end ≡ 2 * length tests + block_size plain_coder body → end < 1024 → length now + block_size plain_coder body < 2 ^ 16
+held_room end now tests i body le now_is end_is room =
+    let all = ap length (now_is ∙ ap (held_code end) (take_past tests i le)) in
+    let long = held_long end tests in
+    omega (arith, all, long, end_is, room)
+
+pub body_is : (end : ℕ) (now one code : List Op) (tests : List TestId) (i : ℕ) (body : Block) → length tests ≤ i → now ≡ held_code end (take i tests)
+    → one ≡ now ++ block_code plain_coder (length now) body → code ≡ one ++ Ret ∷ []
+    → code ≡ held_code end tests ++ (block_code plain_coder (2 * length tests) body ++ Ret ∷ [])
+body_is end now one code tests i body le now_is one_is code_is =
+    let held : now ≡ held_code end tests = now_is ∙ ap (held_code end) (take_past tests i le) in
+    let long : length now ≡ 2 * length tests = ap length held ∙ held_long end tests in
+    code_is ∙ ap (λ l. l ++ Ret ∷ []) one_is ∙ append_assoc now (block_code plain_coder (length now) body) (Ret ∷ [])
+    ∙ ap (λ p. now ++ (block_code plain_coder p body ++ Ret ∷ [])) long ∙ ap (λ l. l ++ (block_code plain_coder (2 * length tests) body ++ Ret ∷ [])) held
+
+pub get_or_same : {T : Type 0} (xs : List T) (i : ℕ) (d e : T) → i < length xs → get_or xs i d ≡ get_or xs i e
+get_or_same [] i d e lt = absurd (omega arith)
+get_or_same (x ∷ xs) zero d e lt = refl
+get_or_same (x ∷ xs) (suc i) d e lt = get_or_same xs i d e (omega arith)

@@ -6,5 +6,6 @@ mod fault;
 pub mod laws;
 mod measure;
 mod mention;
+mod routines;
 
 pub use fault::GenFault;
