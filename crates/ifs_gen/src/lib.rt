@@ -9,3 +9,6 @@ mod mention;
 mod routines;
 
 pub use fault::GenFault;
+
+#[cfg(test)]
+mod tests;
