@@ -14,7 +14,7 @@ use Rattle.ifs_parse.specs.declared.block.Statement.{Statement}
 use Rattle.ifs_parse.specs.declared.block.Statement.TheVariants.{Run, SetState, If}
 use Rattle.ifs_gen.specs.Trees.{Single, Condition, Block}
 use Rattle.ifs_gen.specs.PlainCode.{plain_coder, condition_code, block_code, block_size, held_code}
-use Rattle.ifs_gen.specs.Emission.{statement_code, statement_size}
+use Rattle.ifs_gen.specs.inner.Emission.{statement_code, statement_size}
 use Rattle.ifs_gen.proofs.Simulation.{condition_sized, block_sized}
 
 -- A further operand, joined by a sign.

@@ -15,7 +15,7 @@ use Rattle.ifs_parse.specs.declared.block.Statement.{Statement}
 use Rattle.ifs_parse.specs.declared.block.Statement.TheVariants.{Run, SetState, If}
 use Rattle.ifs_policy.specs.Meaning.{mentioned_in, mentioned}
 use Rattle.ifs_gen.specs.Trees.{Single, Condition, Block}
-use Rattle.ifs_gen.specs.Marks.{marked, statement_mentions, test_where}
+use Rattle.ifs_gen.specs.inner.Marks.{marked, statement_mentions, test_where}
 use Rattle.ifs_gen.specs.PlainCode.{tests_below}
 
 pub marked_append : (marks : List Bool) (xs ys : List TestId) → marked marks (xs ++ ys) ≡ marked (marked marks xs) ys

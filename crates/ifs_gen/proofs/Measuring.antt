@@ -10,9 +10,9 @@ use Rattle.ifs_parse.specs.declared.block.Statement.{Statement}
 use Rattle.ifs_parse.specs.declared.block.Statement.TheVariants.{Run, SetState, If}
 use Rattle.ifs_gen.specs.Trees.{Single, Condition, Block}
 use Rattle.ifs_gen.specs.PlainCode.{plain_coder, condition_size, condition_height, block_size, block_height, block_runs}
-use Rattle.ifs_gen.specs.Emission.{statement_size}
+use Rattle.ifs_gen.specs.inner.Emission.{statement_size}
 use Rattle.ifs_gen.proofs.Chains.{of_size}
-use Rattle.ifs_gen.specs.Measures.{statement_height, statement_runs}
+use Rattle.ifs_gen.specs.inner.Measures.{statement_height, statement_runs}
 
 -- The size and the height of a chain that begins with this one's.
 abbrev pub chain_size : ℕ → List Condition → ℕ

@@ -5,9 +5,7 @@ pub mod PlainImage
 pub mod Acceptance
 pub mod Refused
 pub mod Events
-pub mod Emission
-pub mod Measures
-pub mod Marks
+pub mod inner
 pub use Rattle.ifs_base.specs.Facts
 pub use Rattle.ifs_policy.specs.Meaning
 pub use Rattle.ifs_policy.specs.Fits

@@ -2,7 +2,7 @@
 
 ghost use Rattle.std.specs.Prelude.{◌≡◌, ◌+◌, ◌<◌, ◌^◌, ◌++◌, [], ◌∷◌, length, OnOk};
 ghost use Rattle.ifs_gen.specs.PlainCode.{block_code, block_size, condition_code, plain_coder, single_op as op_of};
-ghost use Rattle.ifs_gen.specs.Emission.{statement_code, statement_size};
+ghost use Rattle.ifs_gen.specs.inner.Emission.{statement_code, statement_size};
 
 use ifs_base::{CommandId, Op, StateId};
 use ifs_parse::{Condition, Node, Statement};

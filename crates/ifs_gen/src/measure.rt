@@ -1,8 +1,8 @@
 //! How large plain code is, before it is written. Each number stops at the greatest that a `u64` has.
 
 ghost use Rattle.std.specs.Prelude.{◌≡◌, ◌+◌, max};
-ghost use Rattle.ifs_gen.specs.Measures.{capped, statement_height, statement_runs};
-ghost use Rattle.ifs_gen.specs.Emission.{statement_size};
+ghost use Rattle.ifs_gen.specs.inner.Measures.{capped, statement_height, statement_runs};
+ghost use Rattle.ifs_gen.specs.inner.Emission.{statement_size};
 ghost use Rattle.ifs_gen.specs.PlainCode.{block_height, block_runs, block_size, condition_height, condition_size, plain_coder};
 
 use ifs_base::{CommandId, StateId};

@@ -2,7 +2,7 @@
 
 ghost use Rattle.std.specs.Prelude.{◌≡◌, ◌<◌, ◌≤◌, ◌^◌, ◌++◌, true, slice_set, IfOk, OnOk};
 ghost use Rattle.ifs_policy.specs.Meaning.{mentioned, mentioned_in};
-ghost use Rattle.ifs_gen.specs.Marks.{marked, statement_mentions, test_where};
+ghost use Rattle.ifs_gen.specs.inner.Marks.{marked, statement_mentions, test_where};
 ghost use Rattle.ifs_gen.specs.PlainCode.{holding};
 
 use ifs_base::{CommandId, StateId, TestId};

@@ -29,10 +29,7 @@ fn run_where(alloc: Global, single: Single) -> Result<PolicyBlock, AllocError> {
     let mut inner = Vec::new(alloc);
     inner.push(Statement::Run(CommandId(0)))?;
     let mut statements: Vec<Statement<Single, CommandId, StateId>> = Vec::new(alloc);
-    statements.push(Statement::If(
-        Condition::new(Node::Leaf(single)),
-        Block::new(inner),
-    ))?;
+    statements.push(Statement::If(Condition::new(Node::Leaf(single)), Block::new(inner)))?;
     Ok(Block::new(statements))
 }
 

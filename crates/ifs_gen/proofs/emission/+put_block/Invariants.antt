@@ -2,7 +2,7 @@
 use Rattle.std.proofs.Common.{◌≡◌, ◌+◌, ◌*◌, ◌++◌, length, take}
 use Rattle.ifs_parse.specs.Views.{block_of}
 use Rattle.ifs_gen.specs.PlainCode.{plain_coder, block_code, block_size}
-use Rattle.ifs_gen.specs.Emission.{statement_size}
+use Rattle.ifs_gen.specs.inner.Emission.{statement_size}
 use Rattle.ifs_gen.proofs.emission.+put_block.Given as goal
 
 abbrev pub decreases-put_block : goal.decreases-put_block

@@ -2,7 +2,7 @@
 use Rattle.std.proofs.Common.{◌≡◌, take}
 use Rattle.ifs_parse.specs.Views.{block_of}
 use Rattle.ifs_gen.specs.PlainCode.{plain_coder, block_size, block_height, block_runs}
-use Rattle.ifs_gen.specs.Measures.{capped}
+use Rattle.ifs_gen.specs.inner.Measures.{capped}
 use Rattle.ifs_gen.proofs.measure.+measure_block.Given as goal
 
 abbrev pub invariant-measure_block-loop-statement : goal.invariant-measure_block-loop-statement

@@ -1,6 +1,6 @@
 -- The measures so far are those of the chain so far, whatever it began with.
 use Rattle.std.proofs.Common.{◌≡◌, ℕ, take}
-use Rattle.ifs_gen.specs.Measures.{capped}
+use Rattle.ifs_gen.specs.inner.Measures.{capped}
 use Rattle.ifs_gen.proofs.Measuring.{chain_size, chain_height}
 use Rattle.ifs_gen.proofs.measure.+measure_condition.Given as goal
 

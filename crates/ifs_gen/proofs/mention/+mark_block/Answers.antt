@@ -1,7 +1,7 @@
 -- One statement more, the block at its end, and a block under a condition.
 use Rattle.std.proofs.Common.{ap, sym, ◌∙◌}
 use Rattle.ifs_policy.specs.Meaning.{mentioned}
-use Rattle.ifs_gen.specs.Marks.{marked, statement_mentions}
+use Rattle.ifs_gen.specs.inner.Marks.{marked, statement_mentions}
 use Rattle.ifs_gen.proofs.Marking.{marked_more, marked_end, statements_mention, if_marked}
 use Rattle.ifs_gen.proofs.mention.+mark_block.Goals as goal
 

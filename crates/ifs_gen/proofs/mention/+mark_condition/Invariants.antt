@@ -2,7 +2,7 @@
 use Rattle.std.proofs.Common.{◌≡◌, take}
 use Rattle.std.specs.List.{flat_map}
 use Rattle.ifs_policy.specs.Meaning.{mentioned_in}
-use Rattle.ifs_gen.specs.Marks.{marked}
+use Rattle.ifs_gen.specs.inner.Marks.{marked}
 use Rattle.ifs_gen.proofs.mention.+mark_condition.Given as goal
 
 abbrev pub invariant-loop-operand : goal.invariant-loop-operand
