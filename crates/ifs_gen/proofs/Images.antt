@@ -102,7 +102,7 @@ greatest_below number (x ∷ xs) b h =
     omega (arith, first, rest)
 
 -- the set of tests below a number
-mask_append : (xs ys : List TestId) → mask_of (xs ++ ys) ≡ mask_of xs + mask_of ys
+pub mask_append : (xs ys : List TestId) → mask_of (xs ++ ys) ≡ mask_of xs + mask_of ys
 mask_append [] ys = let e : mask_of ys ≡ 0 + mask_of ys = omega arith in e
 mask_append (x ∷ xs) ys = let e = mask_append xs ys in omega (arith, e)
 

@@ -14,5 +14,6 @@ pub mod Chains
 pub mod Measuring
 pub mod Marking
 pub mod Refusing
+pub mod Masks
 pub mod CostsAside
 pub mod Lifting

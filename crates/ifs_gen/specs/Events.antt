@@ -1,5 +1,6 @@
 -- The events of a policy: four answers that are its yields, and a run of a core by them, which knows no costs.
-use Rattle.std.specs.Prelude.{ℕ, ◌≡◌, List, [], map, Option, Some, None, slice_get}
+use Rattle.std.specs.Prelude.{ℕ, ◌≡◌, ◌<◌, ◌==◌, List, [], map, Option, Some, None, slice_get}
+use Rattle.std.specs.List.{list_any}
 use Rattle.ifs_base.specs.Facts.{Facts}
 use Rattle.ifs_base.specs.Effects.{Effects, nothing_yet}
 use Rattle.ifs_base.specs.declared.op.LinkState.TheVariants.{Unknown}
@@ -12,7 +13,8 @@ use Rattle.ifs_core.specs.Machine.{IsBehaviour}
 use Rattle.ifs_core.specs.Gateway.{opened}
 use Rattle.ifs_core.specs.Steps.{CoreState, replies, after_steps}
 use Rattle.ifs_gen.specs.Trees.{Part, Policy}
-use Rattle.ifs_policy.specs.Meaning.{body_yield, init_yield}
+use Rattle.ifs_policy.specs.Meaning.{mentioned, body_yield, init_yield}
+use Rattle.ifs_sched.specs.Schedule.{has_test}
 use Rattle.ifs_gen.specs.PlainImage.{tests_in, mask_in, room_of, plain_image, IsPolicy, CodeFits}
 
 -- What a state's part yields; nothing where there is no such state.
@@ -71,3 +73,7 @@ pub record RunsAsPolicy (policy : Policy) (b : Behaviour) (steps : List Step) : 
 -- The plain image of a policy means what the policy says: whatever behaves as its handlers do on the machine runs as the policy does, whatever the steps are.
 abbrev pub ImageMeansPolicy : Type 0
 ImageMeansPolicy = (policy : Policy) → IsPolicy policy → CodeFits policy → (b : Behaviour) → IsBehaviour (plain_image policy) b → (steps : List Step) → RunsAsPolicy policy b steps
+
+-- A part's set of active tests has exactly those that its body mentions.
+abbrev pub ActiveAreMentioned : Type 0
+ActiveAreMentioned = (count : ℕ) (part : Part) (test : ℕ) → test < count → has_test (mask_in count part) test ≡ list_any (λ other. other.0 == test) (mentioned part.body)

@@ -1,7 +1,7 @@
 //! What holds of every policy and its plain code.
 
 ghost use Rattle.ifs_gen.specs.Acceptance.{BudgetsAreLeast, PlainIsAccepted};
-ghost use Rattle.ifs_gen.specs.Events.{ImageMeansPolicy};
+ghost use Rattle.ifs_gen.specs.Events.{ActiveAreMentioned, ImageMeansPolicy};
 ghost use Rattle.ifs_gen.specs.Refused.{FitsOrIsRefused};
 ghost use Rattle.ifs_gen.specs.Runs.{TruthRuns, BlockRuns, HandlersDo};
 
@@ -49,4 +49,9 @@ pub fn image_means_policy()
 /// The plain code of each policy keeps the limits of images, or there is a first one that it passes.
 pub fn fits_or_is_refused()
     ensures { FitsOrIsRefused }
+{}
+
+/// The tests that are active with a part, by its mask, are exactly those that its body mentions.
+pub fn active_are_mentioned()
+    ensures { ActiveAreMentioned }
 {}
