@@ -1,12 +1,12 @@
-"""What tools/bench runs the programs on: images, request lines and policy texts."""
+"""What tools/bench runs the program on: images, request lines and policy texts."""
 import struct
 
 RET, TRUE, LINK, TEST, KNOWN, NOT, AND, OR = 0x00, 0x01, 0x03, 0x04, 0x05, 0x06, 0x07, 0x08
 CMD, STATE, QUEUE, WANT, JF, JT, CALL, POP = 0x09, 0x0A, 0x0B, 0x0C, 0x0E, 0x0F, 0x10, 0x11
 DOWN, UP = 1, 2
 MOST_BYTES = 1_048_576
-MOST_BLOCKS = 341
-BLOCK = 3_072
+MOST_BLOCKS = 256
+BLOCK = 4_096
 COMMENT = "# the gateway that holds the address answers, and the other one waits until its peer is gone\n"
 
 
@@ -89,12 +89,12 @@ def wide(routines):
     return image([straight(1_024)] * routines, [state("a", 0, 0)])
 
 
-def block(number):
-    """A state of 46 tokens, filled up with comments to 3,072 bytes."""
+def block(number, after):
+    """A state of 46 tokens that leads to another one, filled up with comments to 4,096 bytes."""
     code = (
         f"state gateway_{number:04} {{\n"
         f"\tinit {{ run \"logger -t gateway 'state {number:04} is entered, and the address is ours'\" }}\n"
-        f"\tif $carp_up && ! $peer_up {{ set-state gateway_{number + 1:04} }}\n"
+        f"\tif $carp_up && ! $peer_up {{ set-state gateway_{after:04} }}\n"
         f"\tif ( em0.link.up || \"ping -q -c 1 -w 1 192.0.2.7 > /dev/null\" every 10 ) && $carp_up {{\n"
         f"\t\trun \"ifconfig carp0 advskew {number:04}\"\n\t}}\n}}\n"
     )
@@ -104,14 +104,15 @@ def block(number):
 
 
 def policy(blocks):
-    """A policy text whose size is that of so many blocks."""
+    """A policy whose size is that of so many blocks: one of macros, and for each other one a state, from which the
+    next one is reached, and from the last one the first."""
     macros = "carp_up = 'carp0.link.up'\npeer_up = '\"ping -q -c 1 192.0.2.2 > /dev/null\" every 5'\n"
     head = macros + "#" * (BLOCK - len(macros) - 1) + "\n"
-    return head + "".join(block(number) for number in range(1, blocks))
+    return head + "".join(block(number, number % (blocks - 1) + 1) for number in range(1, blocks))
 
 
 def uses(size):
-    """Lines, up to this size in all, that each define a macro as another one, which has 16,384 tokens."""
+    """A state and lines, up to this size in all, that each define a macro as another one, which has 16,384 tokens."""
     line = "x = '$y'\n"
-    value = "y = '" + "a " * 16_384 + "'\n"
-    return value + line * ((size - len(value)) // len(line))
+    head = "state a { }\ny = '" + "a " * 16_384 + "'\n"
+    return head + line * ((size - len(head)) // len(line))

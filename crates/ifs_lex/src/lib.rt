@@ -17,7 +17,7 @@ mod ropes;
 mod scans;
 mod token;
 
-pub use characters::is_macro_name;
+pub use characters::{is_macro_name, is_reserved};
 pub use fault::LexFault;
 pub use reading::tokens;
 pub use token::{Token, What};

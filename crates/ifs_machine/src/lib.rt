@@ -7,6 +7,7 @@
 mod effects;
 pub mod laws;
 mod machine;
+mod pile;
 mod rows;
 mod running;
 mod value;

@@ -1,4 +1,10 @@
 pub mod Trees
 pub mod Views
 pub mod Files
+pub mod Marks
+pub mod Combined
+pub mod Rules
+pub mod Reading
+pub mod Grammar
+pub mod Parsers
 pub mod inner

@@ -1,8 +1,11 @@
 //! The tree of a policy.
 
 ghost use Rattle.std.specs.Prelude.{◌≡◌};
+ghost use Rattle.ifs_parse.specs.Files.{file};
+ghost use Rattle.ifs_parse.specs.Grammar.{IsSaid};
 
 use crate::block::{Block, Statement};
+use crate::period::Period;
 use ifs_base::{Items, LinkState, Span, Text};
 use std::marker::Model;
 
@@ -18,8 +21,8 @@ pub struct Name {
 pub enum Test {
     /// Whether an interface has a link state.
     Link(Name, LinkState),
-    /// Whether a command, run every so many seconds (1 to 604,800), ended well.
-    External(Name, u32),
+    /// Whether a command, run with a period, ended well.
+    External(Name, Period),
 }
 
 /// `set-state`, by its word, and the state that it names.
@@ -71,13 +74,27 @@ impl Model for Tree {
 
     ghost coded = { Prim.hlevel (codes, item.the_row.coded) };
 
+    ghost use Rattle.ifs_parse.specs.Grammar.{IsSaid};
+
     ghost view = { λ a. file a.items.items a.notes.items };
+
+    ghost invariant = { λ a. IsSaid (file a.items.items a.notes.items) };
 }
 
 impl Tree {
+    /// The tree of these items and notes. Takes no memory.
+    pub(crate) fn new(items: Vec<Item>, notes: Vec<u32>) -> Self
+        requires { IsSaid (file items.items notes.items) }
+        ensures { result ≡ file items.items notes.items }
+    {
+        Tree { items, notes }
+    }
+
     /// What the policy is made of, in text order.
     pub fn items(&self) -> &[Item]
-        ensures { result.now ≡ self.now.items }
+        ensures items { result.now ≡ self.now.items }
+        // Some tokens say the file, so it keeps the grammar's limits.
+        ensures said { IsSaid self.now }
     {
         self.items.as_slice()
     }

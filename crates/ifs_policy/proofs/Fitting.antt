@@ -174,11 +174,15 @@ some_state tables (State name parts ∷ rest) h = omega arith
 some_state tables (Always part ∷ rest) h = some_state tables rest h
 
 -- Filled tables have places that are numbers of 16 bits.
-pub filled_sized : (old final : Names) (mentions : List Mentioned) → old ≡ no_names → AreSound old mentions → final ≡ names_after old mentions → IsSized final.tables
-filled_sized old final mentions start sound filled =
-    let from_none = subst (λ (n : Names). AreSound n mentions × (final ≡ names_after n mentions)) start (sound, filled) in
-    let fits = subst (λ (n : Names). TablesFit n.tables) (sym from_none.1) (tables_fit no_names mentions from_none.0 no_tables_fit) in
-    record { interfaces = fits.interfaces.within; tests = fits.tests.within; commands = fits.commands.within; states = fits.states.within }
+pub filled_sized : (names : Names) (mentions : List Mentioned) → AreSound no_names mentions → names ≡ names_after no_names mentions → IsSized names.tables
+filled_sized names mentions sound filled =
+    let fits = subst (λ (n : Names). TablesFit n.tables) (sym filled) (tables_fit no_names mentions sound no_tables_fit) in
+    record {
+      interfaces = fits.interfaces.within;
+      tests = fits.tests.within;
+      commands = fits.commands.within;
+      states = fits.states.within;
+    }
 
 pub resolved_fits : (items : List Item) (policy : PolicyParts) → Resolves items policy → PolicyFits policy
 resolved_fits items policy r =

@@ -1,3 +1,4 @@
 pub mod Seen
 pub mod Entries
 pub mod Sized
+pub mod Walked

@@ -3,7 +3,7 @@
 ghost use Rattle.std.specs.Prelude.{◌≡◌, true, false, map, IsTrue, IfErr, OnOk};
 ghost use Rattle.ifs_base.specs.Sizes.{TextFits};
 ghost use Rattle.ifs_policy.specs.declared.fault.ResolveFault.TheVariants.{BadText, SecondInit};
-ghost use Rattle.ifs_policy.specs.Tables.{no_names, text_eq};
+ghost use Rattle.ifs_policy.specs.Tables.{no_names, test_eq, test_of, text_eq};
 ghost use Rattle.ifs_policy.specs.declared.mention.Mention.TheVariants.{Defined, External};
 ghost use Rattle.ifs_policy.specs.inner.Entries.{AllNoted, Enters, Filled, Noted, StatesChecked};
 ghost use Rattle.ifs_policy.specs.inner.Seen.{seen};
@@ -11,7 +11,7 @@ ghost use Rattle.ifs_policy.specs.inner.Seen.{seen};
 use crate::fault::ResolveFault;
 use crate::mention::{Mention, Owner, Place};
 use crate::table::Table;
-use crate::tables::{ExternalTest, Tables};
+use crate::tables::{ExternalTest, Tables, test_of};
 use ifs_base::{Span, Text, limits};
 use ifs_parse::Name;
 use std::alloc::Global;
@@ -100,13 +100,7 @@ impl Names {
             Place::Init => Err(ResolveFault::TestInInit {
                 line: command.span.line,
             }),
-            Place::Body => {
-                let test = ExternalTest {
-                    command: command.text.clone()?,
-                    period,
-                };
-                enter(&mut self.tables.tests, limits::TESTS, test, command)
-            }
+            Place::Body => enter_test(&mut self.tables.tests, command, period),
         }
     }
 
@@ -146,6 +140,18 @@ fn enter_text(table: &mut Table<Text>, limit: u16, name: &Name) -> Result<(), Re
 {
     let entry = name.text.clone()?;
     enter(table, limit, entry, name)
+}
+
+/// Enters a test into its table, where there is room for it and its command is fine.
+fn enter_test(
+    table: &mut Table<ExternalTest>,
+    command: &Name,
+    period: u32,
+) -> Result<(), ResolveFault>
+    ensures { Enters test_eq 64 (test_of command.now period) command.now table.old result table.new }
+{
+    let entry = test_of(command, period)?;
+    enter(table, limits::TESTS, entry, command)
 }
 
 /// Enters what a string names into its table, where there is room for it and the string is fine.

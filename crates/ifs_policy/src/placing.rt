@@ -2,12 +2,12 @@
 
 ghost use Rattle.std.specs.Prelude.{◌≡◌, ◌≤◌, IfOk, length, map};
 ghost use Rattle.ifs_parse.specs.Views.{block_of, statement_then};
-ghost use Rattle.ifs_policy.specs.Placed.{always_of, body_in, init_in, initial_of, place_block, place_condition, place_items, place_in, place_part, place_single, place_states};
+ghost use Rattle.ifs_policy.specs.Placed.{always_of, body_in, init_in, initial_of, place_block, place_condition, place_in, place_part, place_single, place_states};
 ghost use Rattle.ifs_policy.specs.inner.Sized.{IsSized, lent, place_statement};
 
-use crate::policy::{Handlers, PolicyBlock, PolicyParts, Single};
+use crate::policy::{Handlers, PolicyBlock, Single};
 use crate::table::Table;
-use crate::tables::{ExternalTest, Tables};
+use crate::tables::{Tables, test_of};
 use ifs_base::{CommandId, IfaceId, Items, StateId, TestId, Text};
 use ifs_parse::{Action, Actions, Condition, Item, Name, Node, Part, Statement, Test};
 use std::alloc::{AllocError, Global};
@@ -31,10 +31,7 @@ fn place_single(tables: &Tables, test: &Test) -> Result<Single, AllocError>
             Ok(Single::LinkIs(interface, *state))
         }
         Test::External(command, period) => {
-            let entry = ExternalTest {
-                command: command.text.clone()?,
-                period: *period,
-            };
+            let entry = test_of(command, *period)?;
             let place = tables.tests.place_of(&entry) as u16;
             Ok(Single::TestIs(TestId(place)))
         }
@@ -221,17 +218,29 @@ fn initial_of(tables: &Tables, items: &[Item]) -> StateId
     StateId(0)
 }
 
-/// All that a policy says, with the tables of its names.
-pub fn place_items(alloc: Global, tables: Tables, items: &[Item]) -> Result<PolicyParts, AllocError>
-    requires { IsSized tables }
-    ensures { IfOk result (λ placed. placed ≡ place_items tables items.now) }
+/// The trees of a policy, by places.
+#[derive(Drop)]
+pub struct Placed {
+    /// The state that it starts in.
+    pub initial: StateId,
+    /// What stands outside any state.
+    pub always: Handlers,
+    /// What the states do, in the order of their definitions.
+    pub states: Items<Handlers>,
+}
+
+/// What items say, by places in the tables of their names.
+pub fn place_items(alloc: Global, tables: &Tables, items: &[Item]) -> Result<Placed, AllocError>
+    requires { IsSized tables.now }
+    ensures initial { IfOk result (λ placed. placed.initial ≡ initial_of tables.now items.now) }
+    ensures always { IfOk result (λ placed. placed.always ≡ place_part tables.now (always_of items.now)) }
+    ensures states { IfOk result (λ placed. placed.states ≡ place_states tables.now items.now) }
 {
-    let initial = initial_of(&tables, items);
+    let initial = initial_of(tables, items);
     let always = always_of(alloc, items)?;
-    let always = place_part(alloc, &tables, always.as_slice())?;
-    let states = Items::new(place_states(alloc, &tables, items)?);
-    Ok(PolicyParts {
-        tables,
+    let always = place_part(alloc, tables, always.as_slice())?;
+    let states = Items::new(place_states(alloc, tables, items)?);
+    Ok(Placed {
         initial,
         always,
         states,

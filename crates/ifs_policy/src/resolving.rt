@@ -7,13 +7,16 @@ ghost use Rattle.ifs_policy.specs.declared.policy.PolicyParts.{PolicyParts};
 ghost use Rattle.ifs_policy.specs.Mentions.{mentions_of};
 ghost use Rattle.ifs_policy.specs.Faults.{IsRefused, is_state};
 ghost use Rattle.ifs_policy.specs.Placed.{Resolves};
+ghost use Rattle.ifs_policy.specs.Tables.{no_names};
+ghost use Rattle.ifs_policy.specs.inner.Entries.{IsFirst};
 ghost use Rattle.ifs_policy.specs.inner.Seen.{seen};
+ghost use Rattle.ifs_policy.specs.inner.Walked.{Walked};
 
 use crate::fault::ResolveFault;
 use crate::mention::{Mentions, mention_item};
 use crate::names::Names;
-use crate::placing::place_items;
-use crate::policy::Policy;
+use crate::placing::{Placed, place_items};
+use crate::policy::{Policy, PolicyParts};
 use ifs_parse::{Item, Tree};
 use std::alloc::{AllocError, Global};
 
@@ -32,11 +35,30 @@ pub fn resolve(alloc: Global, tree: &Tree) -> Result<Policy, ResolveFault>
     if !has_state(items) {
         return Err(ResolveFault::NoState { line: 1 });
     }
-    let mentions = mentions_of(alloc, items)?;
     let mut names = Names::new(alloc);
+    let Placed {
+        initial,
+        always,
+        states,
+    } = walk(alloc, &mut names, items)?;
+    Ok(Policy::new(PolicyParts {
+        tables: names.tables,
+        initial,
+        always,
+        states,
+    }))
+}
+
+/// Fills empty tables by the mentions of items, and places what the items say.
+fn walk(alloc: Global, names: &mut Names, items: &[Item]) -> Result<Placed, ResolveFault>
+    requires { names.old ≡ no_names }
+    ensures walked { IfOk result (λ placed. Walked items.now placed names.new) }
+    ensures refused { IfErr result (λ fault. fault ≢ Memory → IsFirst no_names (mentions_of items.now) fault) }
+{
+    let mentions = mentions_of(alloc, items)?;
     names.fill(mentions.as_slice())?;
-    let parts = place_items(alloc, names.tables, items)?;
-    Ok(Policy::new(parts))
+    let placed = place_items(alloc, &names.tables, items)?;
+    Ok(placed)
 }
 
 /// Whether an item defines a state.

@@ -1,13 +1,28 @@
 //! The tables of a policy.
 
+ghost use Rattle.std.specs.Prelude.{◌≡◌, IfOk};
+ghost use Rattle.ifs_policy.specs.Tables.{test_of};
+
 use crate::table::Table;
 use ifs_base::Text;
+use ifs_parse::Name;
+use std::alloc::AllocError;
 
 /// An external test: a command, and the seconds from one start of it to the next.
 #[derive(Debug, PartialEq, Eq, Hash, Drop)]
 pub struct ExternalTest {
     pub command: Text,
     pub period: u32,
+}
+
+/// The test of a command and a period.
+pub fn test_of(command: &Name, period: u32) -> Result<ExternalTest, AllocError>
+    ensures { IfOk result (λ test. test ≡ test_of command.now period) }
+{
+    Ok(ExternalTest {
+        command: command.text.clone()?,
+        period,
+    })
 }
 
 /// The tables of a policy. Entries are numbered from 0.

@@ -163,6 +163,57 @@ const ACCEPTED: &[Checked] = &[
         definitions: &[],
         answer: "ok 0 interfaces 0 tests 1 commands 2 states\n",
     },
+    Checked {
+        name: "the first policy of its page",
+        policy: "# be master only where the provider answers\n\
+                 provider = '\"ping -q -c 1 -w 2 203.0.113.254 > /dev/null\" every 10'\n\
+                 \n\
+                 state backup {\n\
+                 \tinit run \"ifconfig -g carp carpdemote 50\"\n\
+                 \tif $provider && em0.link.up\n\
+                 \t\tset-state master\n\
+                 }\n\
+                 \n\
+                 state master {\n\
+                 \tinit run \"ifconfig -g carp -carpdemote 50\"\n\
+                 \tif ! $provider || em0.link.down {\n\
+                 \t\trun \"logger -t gateway 'provider lost'\"\n\
+                 \t\tset-state backup\n\
+                 \t}\n\
+                 }\n",
+        definitions: &[],
+        answer: "ok 1 interfaces 1 tests 3 commands 2 states\n",
+    },
+    Checked {
+        name: "an action of its own",
+        policy: "state master { run \"echo m\" }",
+        definitions: &[],
+        answer: "ok 0 interfaces 0 tests 1 commands 1 states\n",
+    },
+    Checked {
+        name: "an always part before its states",
+        policy: "init run \"x\" if em0.link.down set-state b state a { } state b { }",
+        definitions: &[],
+        answer: "ok 1 interfaces 0 tests 1 commands 2 states\n",
+    },
+    Checked {
+        name: "held back",
+        policy: "state a { if \"t1\" every 5 && \"t2\" every 5 run \"echo y\" }",
+        definitions: &[],
+        answer: "ok 0 interfaces 2 tests 1 commands 1 states\n",
+    },
+    Checked {
+        name: "own state",
+        policy: "state a { if carp0.link.up set-state a init run \"echo i\" }",
+        definitions: &[],
+        answer: "ok 1 interfaces 0 tests 1 commands 1 states\n",
+    },
+    Checked {
+        name: "numbers by first use",
+        policy: "state b { if em1.link.up run \"y\" } state a { if em0.link.up run \"x\" if em1.link.up run \"y\" }",
+        definitions: &[],
+        answer: "ok 2 interfaces 0 tests 2 commands 2 states\n",
+    },
 ];
 
 /// Texts that have no tokens.

@@ -1,6 +1,6 @@
 -- Reading a line of hexadecimal digits.
-use Rattle.std.proofs.Common.{◌≡◌, ℕ, ◌+◌, ◌*◌, ◌/◌, ◌%◌, ◌<◌, true, false, List, [], ◌∷◌, ◌++◌, length, Option, Some, None, Ok, Err, refl, sym, subst, ap, ◌∙◌, append-nil, arith, length-append}
-use Rattle.std.proofs.lemmas.List.Elements.{All-push}
+use Rattle.std.proofs.Common.{◌≡◌, ℕ, ◌+◌, ◌*◌, ◌/◌, ◌%◌, ◌<◌, true, false, List, [], ◌∷◌, ◌++◌, length, All, Option, Some, None, Ok, Err, refl, sym, subst, ap, ◌∙◌, append-nil, arith, length-append}
+use Rattle.std.proofs.lemmas.List.Elements.{All-push, All-append}
 use Rattle.std.specs.Io.KnownBytes.{Keeps, Consumes, IsAtEnd}
 use Rattle.ifs_session.specs.declared.hexadecimal.HexFault.{HexFault}
 use Rattle.ifs_session.specs.declared.hexadecimal.HexFault.TheVariants.{Broken, Memory, NotRead}
@@ -8,7 +8,7 @@ use Rattle.ifs_session.specs.Device.{Feed, counted}
 use Rattle.ifs_session.specs.Lines.{ending}
 use Rattle.ifs_base.specs.Words.{hex_digit}
 use Rattle.ifs_session.specs.Hexadecimal.{hex_text, Takes, HexGives, begun_text, ReadsBeginning, NoDigit, OddDigit, DigitTooMany}
-use Rattle.ifs_session.specs.inner.Reading.{DigitGives}
+use Rattle.ifs_session.specs.inner.Reading.{DigitGives, AtHandGives}
 use Rattle.ifs_session.proofs.Known.{consumes_nothing, consumes_more, consumes_kept, kept_consumes}
 
 takes_more : {text more : List ℕ} {before at after : Feed} → Takes text before at → Takes more at after → Takes (text ++ more) before after
@@ -47,6 +47,18 @@ digit_fails {bytes} {high} {before} {at} after NotRead reads (same, one) = (
 )
 digit_fails after Memory reads h = absurd h
 
+-- The line ends after whole bytes.
+pub line_ends : {bytes : List ℕ} {before at after : Feed} → ReadsBeginning bytes None before at → DigitGives (Ok None) at after → HexGives (Ok bytes) before after
+line_ends {bytes} reads (ended, more, end) = (
+  ended,
+  record {
+    are_bytes = reads.begins.are_bytes;
+    within = reads.begins.within;
+    takes = takes_same (ap (λ t. t ++ ending ended) (append-nil (hex_text bytes))) (takes_more reads.takes more);
+    ends = end;
+  },
+)
+
 -- The line ends after an odd digit.
 pub odd_digit : {bytes : List ℕ} {digit : ℕ} {before at after : Feed} → ReadsBeginning bytes (Some digit) before at → DigitGives (Ok None) at after → HexGives (Err Broken) before after
 odd_digit {bytes} {digit} reads (ended, more, end) = (
@@ -71,7 +83,7 @@ high_half high low small = omega arith
 low_half : (high low : ℕ) → low < 16 → (16 * high + low) % 16 ≡ low
 low_half high low small = omega arith
 
-hex_text-push : (bytes : List ℕ) (high low : ℕ) → low < 16 → hex_text (bytes ++ (16 * high + low) ∷ []) ≡ (hex_text bytes ++ hex_digit high ∷ []) ++ hex_digit low ∷ []
+pub hex_text-push : (bytes : List ℕ) (high low : ℕ) → low < 16 → hex_text (bytes ++ (16 * high + low) ∷ []) ≡ (hex_text bytes ++ hex_digit high ∷ []) ++ hex_digit low ∷ []
 hex_text-push [] high low small =
     ap (λ d. hex_digit d ∷ hex_digit ((16 * high + low) % 16) ∷ []) (high_half high low small)
     ∙ ap (λ d. hex_digit high ∷ hex_digit d ∷ []) (low_half high low small)
@@ -91,6 +103,25 @@ low_read {bytes} {high} low reads (small, more) =
       };
       takes = takes_same (sym (append-nil (hex_text (bytes ++ (16 * high + low) ∷ [])) ∙ hex_text-push bytes high low small)) (takes_more reads.takes more);
     }
+
+hex_text-append : (bytes more : List ℕ) → hex_text (bytes ++ more) ≡ hex_text bytes ++ hex_text more
+hex_text-append [] more = refl
+hex_text-append (byte ∷ bytes) more = ap (λ t. hex_digit (byte / 16) ∷ hex_digit (byte % 16) ∷ t) (hex_text-append bytes more)
+
+-- The bytes whose digits stood at hand were read.
+pub at_hand_read : {bytes bytes' : List ℕ} {done : Unit {0}} {before at after : Feed} → ReadsBeginning bytes None before at → AtHandGives (Ok done) bytes bytes' at after → ReadsBeginning bytes' None before after
+at_hand_read {bytes} {bytes'} reads (more, are_bytes, appended, within, takes) = record {
+  begins = record { are_bytes = subst (All (λ byte. byte < 256)) (sym appended) (All-append (λ byte. byte < 256) bytes more reads.begins.are_bytes are_bytes); within = within; begun = tt };
+  takes = takes_same
+      (ap (λ t. t ++ hex_text more) (append-nil (hex_text bytes)) ∙ sym (hex_text-append bytes more) ∙ ap hex_text (sym appended) ∙ sym (append-nil (hex_text bytes')))
+      (takes_more reads.takes takes);
+}
+
+-- No memory was found for them.
+pub at_hand_starves : {bytes : List ℕ} {before at : Feed} (fault : HexFault) (bytes' : List ℕ) (after : Feed) → ReadsBeginning bytes None before at → AtHandGives (Err fault) bytes bytes' at after → HexGives (Err fault) before after
+at_hand_starves {bytes} {before = before} Memory bytes' after reads same = (bytes, subst (ReadsBeginning bytes None before) (sym same) reads)
+at_hand_starves Broken bytes' after reads none = absurd none
+at_hand_starves NotRead bytes' after reads none = absurd none
 
 -- The input is at its end.
 pub at_the_end : {before after : Feed} → Keeps before.left after.left × IsAtEnd after.left × (after.faults ≡ before.faults) → DigitGives (Ok None) before after

@@ -1,5 +1,6 @@
 -- What pieces written one after the other come to.
-use Rattle.std.proofs.Common.{◌≡◌, ℕ, zero, suc, ◌+◌, List, [], ◌∷◌, ◌++◌, drop, slice_get, Option, Some, None, refl, sym, ap, ◌∙◌, append_assoc, append-nil, arith}
+use Rattle.std.proofs.Common.{◌≡◌, ℕ, zero, suc, ◌+◌, ◌<◌, List, [], ◌∷◌, ◌++◌, length, take, drop, get_or, slice_get, Option, Some, None, refl, sym, ap, ◌∙◌, append_assoc, append-nil, arith}
+use Rattle.std.proofs.Math.Seq.{take-suc}
 use Rattle.std.proofs.lemmas.List.{drop_all}
 use Rattle.std.specs.List.{flat_map}
 use Rattle.std.specs.Io.KnownBytes.{append_known, Keeps, Consumes}
@@ -56,6 +57,10 @@ next_piece f xs i x known known' all at told written =
     ap (λ k. append_known k (flat_map f (drop (i + 1) xs))) written
     ∙ append_known-append known (f x) (flat_map f (drop (i + 1) xs))
     ∙ ap (λ rest. append_known known (flat_map f rest)) (sym (drop_at xs i x at)) ∙ told
+
+-- The front of a list that is one longer.
+pub longer_front : (bytes : List ℕ) (i : ℕ) → i < length bytes → take (i + 1) bytes ≡ take i bytes ++ get_or bytes i 0 ∷ []
+longer_front bytes i within = let e : i + 1 ≡ suc i = omega arith in ap (λ n. take n bytes) e ∙ take-suc bytes i 0 within
 
 -- The laws of written bytes.
 pub ruleset written_laws = (append_known-append, append_known-nil, append_assoc, append-nil)

@@ -1,9 +1,15 @@
+pub mod AtHand
 pub mod Buffering
 pub mod FirstLine
 pub mod HexReading
 pub mod Known
+pub mod LineAsked
 pub mod LineReading
+pub mod NextLine
 pub mod Numbers
+pub mod Quoting
 pub mod OneAnswer
 pub mod Serving
+pub mod Skipping
+pub mod Spelling
 pub mod Spaces

@@ -1,11 +1,10 @@
 -- Reading a line, byte by byte.
-use Rattle.std.proofs.Common.{◌≡◌, ◌≢◌, ℕ, ◌+◌, ◌-◌, ◌<◌, ◌≤◌, Bool, true, false, ◌==◌, nat_lt, List, [], ◌∷◌, ◌++◌, length, take, Contains, Option, Some, None, Ok, Err, zero, suc, refl, sym, subst, ap, ◌∙◌, append-nil, take_all, arith, length-append, length-take, sub-one}
+use Rattle.std.proofs.Common.{◌≡◌, ◌≢◌, ℕ, ◌+◌, ◌-◌, ◌<◌, ◌≤◌, Bool, true, false, ◌==◌, nat_lt, List, [], ◌∷◌, ◌++◌, length, take, Option, refl, sym, subst, ap, ◌∙◌, append-nil, take_all, arith, length-append, length-take}
 use Rattle.std.proofs.lemmas.Bool.Decides.{nat_tests}
 use Rattle.std.proofs.lemmas.List.{take-append-le}
 use Rattle.std.specs.Io.KnownBytes.{Keeps, Consumes, IsAtEnd}
 use Rattle.arrayvec.specs.ArrayVec.{ArrayVec}
-use Rattle.ifs_session.specs.Device.{counted, HasLine, ReadyGives}
-use Rattle.ifs_session.specs.declared.device.DeviceFault.{DeviceFault}
+use Rattle.ifs_session.specs.Device.{counted}
 use Rattle.ifs_session.specs.inner.Reading.{HasNoNewline, Intake, ReadsLine, ReadsNothing, ReadFails, ReadsTooMuch}
 use Rattle.ifs_session.proofs.Known.{consumes_nothing, consumes_more, consumes_kept, keeps_nothing_read}
 
@@ -115,26 +114,30 @@ pub last_line : {kept : ArrayVec ℕ} {is_longer : Bool} {text : List ℕ} {befo
     → false ≡ (length kept.items == 0) → Keeps at.left left × IsAtEnd left × (faults ≡ at.faults)
     → ReadsLine (record { kept = kept; is_longer = is_longer; is_ended = false }) text before (record { left = left; faults = faults; budget = at.budget })
 last_line {kept} {is_longer} {text} {before} {at} left faults h some end = record {
-  plain = h.plain;
+  read = record {
+    plain = h.plain;
+    given = subst (λ t. Consumes before.left left t) (sym (append-nil text)) (consumes_kept before.left at.left left text h.given end.0);
+    spent = omega (arith, h.spent, ap length (append-nil text));
+    same_faults = end.2 ∙ h.same_faults;
+    last = λ _. (omega (arith, some_kept _ some, ap length h.kept_is, length-take 256 text), end.1);
+  };
   kept = h.kept_is;
   longer = h.longer;
-  given = subst (λ t. Consumes before.left left t) (sym (append-nil text)) (consumes_kept before.left at.left left text h.given end.0);
-  spent = omega (arith, h.spent, ap length (append-nil text));
-  same_faults = end.2 ∙ h.same_faults;
-  last = λ _. (omega (arith, some_kept _ some, ap length h.kept_is, length-take 256 text), end.1);
 }
 
 pub ended_line : {kept : ArrayVec ℕ} {is_longer : Bool} {text : List ℕ} {before at : Intake} (byte : ℕ) (left : Option (List ℕ)) (faults : Option ℕ) → Partway kept.items is_longer text before at
     → byte ≡ 10 → at.budget ≢ 0 → Consumes at.left left (byte ∷ []) → faults ≡ at.faults
     → ReadsLine (record { kept = kept; is_longer = is_longer; is_ended = true }) text before (record { left = left; faults = faults; budget = at.budget - 1 })
 ended_line {kept} {is_longer} {text} {before} {at} byte left faults h newline more given same = record {
-  plain = h.plain;
+  read = record {
+    plain = h.plain;
+    given = consumes_more before.left at.left left text (10 ∷ []) h.given (subst (λ b. Consumes at.left left (b ∷ [])) newline given);
+    spent = omega (arith, h.spent, length-append text (10 ∷ []));
+    same_faults = same ∙ h.same_faults;
+    last = λ e. cc;
+  };
   kept = h.kept_is;
   longer = h.longer;
-  given = consumes_more before.left at.left left text (10 ∷ []) h.given (subst (λ b. Consumes at.left left (b ∷ [])) newline given);
-  spent = omega (arith, h.spent, length-append text (10 ∷ []));
-  same_faults = same ∙ h.same_faults;
-  last = λ e. cc;
 }
 
 pub too_much : {kept : List ℕ} {is_longer : Bool} {text : List ℕ} {before at : Intake} (byte : ℕ) (left : Option (List ℕ)) (faults : Option ℕ) → Partway kept is_longer text before at
@@ -146,38 +149,3 @@ too_much {text = text} {before} {at} byte left faults h none given same = record
   spent = omega (arith, h.spent);
   same_faults = same ∙ h.same_faults;
 }
-
--- ---- a line that can be read without waiting
-
-none_contained : (most : ℕ) → Contains {X = ℕ} (take most []) 10 → ⊥
-none_contained most (k, below, is) = omega (arith, length-take {A = ℕ} most [])
-
--- Its reading does not fail, and does not meet the end of input.
-pub ready_fails : (most : ℕ) (fault : DeviceFault) (ready ready' : Option (List ℕ)) → HasLine most ready → ReadyGives (Err fault) ready ready' → ⊥
-ready_fails most fault None ready' line gives = line
-ready_fails most fault (Some []) ready' line gives = none_contained most line
-ready_fails most fault (Some (byte ∷ bytes)) ready' line gives = cc
-
-pub ready_ends : (most : ℕ) (ready ready' : Option (List ℕ)) → HasLine most ready → ReadyGives (Ok None) ready ready' → ⊥
-ready_ends most None ready' line gives = line
-ready_ends most (Some []) ready' line gives = none_contained most line
-ready_ends most (Some (byte ∷ bytes)) ready' line gives = cc
-
--- It is within the bytes that may be read.
-pub ready_within : (most : ℕ) (ready : Option (List ℕ)) → HasLine most ready → most ≢ 0
-ready_within most None line none = line
-ready_within most (Some bytes) (k, below, is) none = omega (arith, length-take {A = ℕ} most bytes)
-
-contains_rest : (byte : ℕ) (bytes : List ℕ) → byte ≢ 10 → Contains {X = ℕ} (byte ∷ bytes) 10 → Contains {X = ℕ} bytes 10
-contains_rest byte bytes other (zero, below, is) = absurd (other is)
-contains_rest byte bytes other (suc k, below, is) = (k, omega arith, is)
-
--- After a byte that does not end it, its rest can be read without waiting.
-pub ready_goes_on : (most : ℕ) (byte : ℕ) (ready ready' : Option (List ℕ)) → byte ≢ 10 → HasLine most ready → ReadyGives (Ok (Some byte)) ready ready' → HasLine (most - 1) ready'
-ready_goes_on most byte None ready' other line gives = absurd line
-ready_goes_on most byte (Some []) ready' other line gives = absurd (none_contained most line)
-ready_goes_on zero byte (Some (first ∷ bytes)) ready' other line gives = absurd (ready_within zero (Some (first ∷ bytes)) line refl)
-ready_goes_on (suc most) byte (Some (first ∷ bytes)) ready' other line gives =
-    let same : first ≡ byte = cc in
-    let rest : Contains {X = ℕ} (take most bytes) 10 = contains_rest first (take most bytes) (λ e. other (sym same ∙ e)) line in
-    rw gives.1 (rw sub-one rest)

@@ -1,5 +1,5 @@
 -- Sessions line by line: what was read so far, and what was made of it.
-use Rattle.std.proofs.Common.{◌≡◌, ◌≢◌, ◌⊎◌, ℕ, ◌+◌, ◌<◌, ◌≤◌, Bool, true, false, ◌==◌, nat_lt, cond, List, [], ◌∷◌, ◌++◌, length, take, count_by, Option, Err, inl, inr, subst, refl, sym, ap, ◌∙◌, append_assoc, append-nil, take_all, arith, length-append}
+use Rattle.std.proofs.Common.{◌≡◌, ◌≢◌, ◌⊎◌, ℕ, ◌+◌, ◌<◌, ◌≤◌, Bool, true, false, ◌==◌, cond, not, List, [], ◌∷◌, ◌++◌, length, count_by, Option, None, Ok, Err, inl, inr, subst, refl, sym, ap, ◌∙◌, append_assoc, append-nil, arith, length-append}
 use Rattle.std.specs.List.{onto_first}
 use Rattle.std.proofs.lemmas.Bool.Decides.{nat_tests}
 use Rattle.std.proofs.lemmas.List.Sums.{sum_by-append}
@@ -11,16 +11,13 @@ use Rattle.std.specs.Io.KnownBytes.{append_known, Consumes, IsAtEnd}
 use Rattle.ifs_image.specs.declared.parts.ImageParts.{ImageParts}
 use Rattle.ifs_core.specs.Event.{Behaviour}
 use Rattle.ifs_core.specs.Steps.{CoreState}
-use Rattle.ifs_session.specs.inner.Reading.{LineGives, HasNoNewline, Intake, ReadsLine, ReadsNothing, ReadFails, ReadsTooMuch}
+use Rattle.ifs_session.specs.inner.Reading.{HasNoNewline, ReadFails, ReadsTooMuch}
 use Rattle.ifs_session.specs.Lines.{lines_of, whole_lines, onto_line, ending}
-use Rattle.ifs_session.specs.Requests.{Asked, ALink, AResult, ATick, ATake, AStatus, ATrace, AStop, AFault, asked, short_asked}
-use Rattle.ifs_session.specs.declared.request.RequestFault.TheVariants.{TooLong}
+use Rattle.ifs_session.specs.Requests.{Asked, ALink, AResult, ATick, ATake, AStatus, ATrace, AStop, AFault, asked}
 use Rattle.ifs_session.specs.declared.session.LineKind.{LineKind}
 use Rattle.ifs_session.specs.declared.session.LineKind.TheVariants as kinds
-use Rattle.ifs_session.specs.declared.lines.Line.{Line}
-use Rattle.ifs_core.specs.Gateway.{OpenCore}
-use Rattle.ifs_session.specs.Sessions.{SessionGives, deed, replies, after_lines, is_step, is_stop, GoOn, OnlyLastMayStop, Moment, Closes, EndsLine, EndsLines, Completes, BreaksReading, BreaksWriting, ReadsPast}
-use Rattle.ifs_session.specs.inner.Serving.{kept_asked, kind_of, with_line}
+use Rattle.ifs_session.specs.Sessions.{SessionGives, deed, replies, after_lines, is_step, is_stop, GoOn, OnlyLastMayStop, Moment, HasServed, HasReplied, Closes, EndsLine, EndsLines, Completes, BreaksReading, BreaksWriting, ReadsPast}
+use Rattle.ifs_session.specs.inner.Serving.{kind_of, with_line, intake, MakesLine, RepliesToLine, OnlyReads, OnlyWrites, NextServed}
 use Rattle.ifs_session.proofs.Known.{consumes_nothing, consumes_more, consumes_kept, append_known-append, append_known-nil}
 
 -- ---- lines
@@ -36,9 +33,6 @@ ArePlain [] = Unit {0}
 ArePlain (line ∷ lines) = HasNoNewline line × ArePlain lines
 
 -- A byte that is no newline goes on a line.
-short_length : (n : ℕ) → false ≡ nat_lt 256 n → n ≤ 256
-short_length n h = grind (arith, nat_tests)
-
 other_byte : {X : Type 0} (byte : ℕ) (x y : X) → byte ≢ 10 → cond (byte == 10) x y ≡ y
 other_byte byte x y h = grind (arith, nat_tests)
 
@@ -166,70 +160,61 @@ underway_start b now = record {
   running = refl;
 }
 
--- What was written has gone out.
-pub underway_flushed : {b : Behaviour} {lines : List (List ℕ)} {summary : Summary} {budget : ℕ} {before now : Moment} (written : Option (List ℕ)) (faults : Option ℕ)
-    → Underway b lines summary budget before now → (written ≡ append_known now.written []) × (faults ≡ now.write_faults)
-    → Underway b lines summary budget before (record { core = now.core; left = now.left; written = written; read_faults = now.read_faults; write_faults = faults })
-underway_flushed {now = now} written faults u put = record {
-  plain = u.plain;
-  on = u.on;
-  given = u.given;
-  spent = u.spent;
-  read_faults = u.read_faults;
-  write_faults = put.1 ∙ u.write_faults;
-  image = u.image;
-  state = u.state;
-  written = put.0 ∙ append_known-nil now.written ∙ u.written;
-  requests = u.requests;
-  steps = u.steps;
-  running = u.running;
-}
-
 all_lines : (lines : List (List ℕ)) → ArePlain lines → lines_of (unlines lines) ≡ lines
 all_lines lines plain = ap lines_of (sym (append-nil (unlines lines))) ∙ lines_of-unlines lines [] plain ∙ append-nil lines
 
 -- What was written could not go out.
-pub flushing_fails : {b : Behaviour} {lines : List (List ℕ)} {summary : Summary} {budget : ℕ} {before now : Moment} (written : Option (List ℕ)) (faults : Option ℕ)
-    → Underway b lines summary budget before now → faults ≡ counted now.write_faults
-    → BreaksWriting b (unlines lines) before (record { core = now.core; left = now.left; written = written; read_faults = now.read_faults; write_faults = faults })
-flushing_fails {b} {lines} {before = before} {now} written faults u one = record {
-  read = record { given = u.given; within = omega (arith, u.spent) };
-  whole = unlines-ends_lines lines now.left;
-  served = record { image = u.image; state = u.state ∙ ap (λ ls. after_lines b before.core.image ls before.core.state) (sym (all_lines lines u.plain)) };
-  same_faults = u.read_faults;
+pub flushing_fails : {b : Behaviour} {lines : List (List ℕ)} {summary : Summary} {budget : ℕ} {before now : Moment} (after : Moment)
+    → Underway b lines summary budget before now → OnlyWrites now after → after.write_faults ≡ counted now.write_faults
+    → BreaksWriting b (unlines lines) before after
+flushing_fails {b} {lines} {before = before} {now} after u o one = record {
+  read = record { given = subst (λ left. Consumes before.left left (unlines lines)) (sym o.left) u.given; within = omega (arith, u.spent) };
+  whole = unlines-ends_lines lines after.left;
+  served = record { image = ap (λ c. c.image) o.core ∙ u.image; state = ap (λ c. c.state) o.core ∙ u.state ∙ ap (λ ls. after_lines b before.core.image ls before.core.state) (sym (all_lines lines u.plain)) };
+  same_faults = o.same_faults ∙ u.read_faults;
   one_fault = one ∙ ap counted u.write_faults;
   go_on = GoOn-may_stop _ (subst GoOn (sym (all_lines lines u.plain)) u.on);
 }
 
+-- Lines were served and replied to, and since then something was read that ends no further line.
+served_before : {b : Behaviour} {lines : List (List ℕ)} {summary : Summary} {budget : ℕ} {before now : Moment} (others : List (List ℕ)) (after : Moment)
+    → Underway b lines summary budget before now → OnlyReads now after → lines ≡ others → HasServed b others before after × HasReplied b others before after
+served_before {b} {before = before} others after u o same = (
+  record { image = ap (λ c. c.image) o.core ∙ u.image; state = ap (λ c. c.state) o.core ∙ u.state ∙ ap (λ ls. after_lines b before.core.image ls before.core.state) same },
+  record { written = o.written ∙ u.written ∙ ap (λ ls. append_known before.written (replies b before.core.image ls before.core.state)) same; same_faults = o.same_faults ∙ u.write_faults },
+)
+
 -- A read failed.
-pub reading_fails : {b : Behaviour} {lines : List (List ℕ)} {summary : Summary} {budget : ℕ} {before now : Moment} (text : List ℕ) (after : Intake)
-    → Underway b lines summary budget before now → ReadFails text (record { left = now.left; faults = now.read_faults; budget = budget }) after
-    → BreaksReading b (unlines lines ++ text) before (record { core = now.core; left = after.left; written = now.written; read_faults = after.faults; write_faults = now.write_faults })
-reading_fails {b} {lines} {before = before} {now} text after u r =
+reading_fails : {b : Behaviour} {lines : List (List ℕ)} {summary : Summary} {budget : ℕ} {before now : Moment} (text : List ℕ) (after : Moment) (budget' : ℕ)
+    → Underway b lines summary budget before now → ReadFails text (intake now budget) (intake after budget') → OnlyReads now after
+    → BreaksReading b (unlines lines ++ text) before after
+reading_fails {b} {lines} {before = before} {now} text after budget' u r o =
     let whole = sym (whole_lines-unlines lines text u.plain r.plain) in
+    let so_far = served_before _ after u o whole in
     record {
       read = record {
         given = consumes_more before.left now.left after.left (unlines lines) text u.given r.given;
         within = omega (arith, u.spent, r.within, length-append (unlines lines) text);
       };
-      served = record { image = u.image; state = u.state ∙ ap (λ ls. after_lines b before.core.image ls before.core.state) whole };
-      replied = record { written = u.written ∙ ap (λ ls. append_known before.written (replies b before.core.image ls before.core.state)) whole; same_faults = u.write_faults };
+      served = so_far.0;
+      replied = so_far.1;
       one_fault = r.one_fault ∙ ap counted u.read_faults;
       go_on = subst GoOn whole u.on;
     }
 
 -- A byte too many was read.
-pub reading_past : {b : Behaviour} {lines : List (List ℕ)} {summary : Summary} {budget : ℕ} {before now : Moment} (text : List ℕ) (byte : ℕ) (after : Intake)
-    → Underway b lines summary budget before now → ReadsTooMuch text byte (record { left = now.left; faults = now.read_faults; budget = budget }) after
-    → ReadsPast b (unlines lines ++ text) byte before (record { core = now.core; left = after.left; written = now.written; read_faults = after.faults; write_faults = now.write_faults })
-reading_past {b} {lines} {before = before} {now} text byte after u r =
+reading_past : {b : Behaviour} {lines : List (List ℕ)} {summary : Summary} {budget : ℕ} {before now : Moment} (text : List ℕ) (byte : ℕ) (after : Moment) (budget' : ℕ)
+    → Underway b lines summary budget before now → ReadsTooMuch text byte (intake now budget) (intake after budget') → OnlyReads now after
+    → ReadsPast b (unlines lines ++ text) byte before after
+reading_past {b} {lines} {before = before} {now} text byte after budget' u r o =
     let whole = sym (whole_lines-unlines lines text u.plain r.plain) in
+    let so_far = served_before _ after u o whole in
     record {
       given = subst (λ t. Consumes before.left after.left t) (sym (append_assoc (unlines lines) text (byte ∷ [])))
           (consumes_more before.left now.left after.left (unlines lines) (text ++ byte ∷ []) u.given r.given);
       full = omega (arith, u.spent, r.spent, length-append (unlines lines) text);
-      served = record { image = u.image; state = u.state ∙ ap (λ ls. after_lines b before.core.image ls before.core.state) whole };
-      replied = record { written = u.written ∙ ap (λ ls. append_known before.written (replies b before.core.image ls before.core.state)) whole; same_faults = u.write_faults };
+      served = so_far.0;
+      replied = so_far.1;
       same_faults = r.same_faults ∙ u.read_faults;
       go_on = subst GoOn whole u.on;
     }
@@ -238,33 +223,17 @@ ends_running : (stopped : Bool) (input : List ℕ) (after : Moment) → stopped 
 ends_running false input after e end = end
 ends_running true input after e end = cc
 
--- No line could be read.
-pub no_line_read : {b : Behaviour} {lines : List (List ℕ)} {summary : Summary} {budget : ℕ} {before now : Moment} (fault : SessionFault) (after : Intake)
-    → Underway b lines summary budget before now → LineGives (Err fault) (record { left = now.left; faults = now.read_faults; budget = budget }) after
-    → SessionGives b (Err fault) before (record { core = now.core; left = after.left; written = now.written; read_faults = after.faults; write_faults = now.write_faults })
-no_line_read ReadFailed after u r = (_, reading_fails r.0 after u r.1)
-no_line_read TooMuchInput after u r = (_, r.1, reading_past r.0 r.1 after u r.2)
-no_line_read WriteFailed after u r = absurd r
-
-some_byte : (text : List ℕ) (ended : Bool) (P : Type 0) → (ended ≡ false → (0 < length text) × P) → 1 ≤ length (text ++ ending ended)
-some_byte text true P last = omega (arith, length-append text (10 ∷ []))
-some_byte text false P last = omega (arith, (last refl).0, ap length (append-nil text))
-
--- A line takes at least one byte of the budget.
-pub line_counts : {line : Line} {text : List ℕ} {start after : Intake} → ReadsLine line text start after → 1 + after.budget ≤ start.budget
-line_counts {line} {text} {after = after} r = omega (arith, r.spent, some_byte text line.is_ended (IsAtEnd after.left) r.last)
-
 -- The input was at its end.
-pub nothing_left : {b : Behaviour} {lines : List (List ℕ)} {summary : Summary} {budget : ℕ} {before now : Moment} (after : Intake)
-    → Underway b lines summary budget before now → ReadsNothing (record { left = now.left; faults = now.read_faults; budget = budget }) after
-    → Completes b summary (unlines lines) before (record { core = now.core; left = after.left; written = now.written; read_faults = after.faults; write_faults = now.write_faults })
-nothing_left {b} {lines} {summary} {budget} {before} {now} after u r =
+pub nothing_left : {b : Behaviour} {lines : List (List ℕ)} {summary : Summary} {budget : ℕ} {before now : Moment} (after : Moment) (budget' : ℕ)
+    → Underway b lines summary budget before now → NextServed b (Ok None) now budget after budget'
+    → Completes b summary (unlines lines) before after
+nothing_left {b} {lines} {summary} {budget} {before} {now} after budget' u (r, o) =
     let all = sym (all_lines lines u.plain) in
-    let left : Option (List ℕ) = after.left in
+    let so_far = served_before _ after u o all in
     record {
       read = record { given = consumes_kept before.left now.left after.left (unlines lines) u.given r.same; within = omega (arith, u.spent) };
-      served = record { image = u.image; state = u.state ∙ ap (λ ls. after_lines b before.core.image ls before.core.state) all };
-      replied = record { written = u.written ∙ ap (λ ls. append_known before.written (replies b before.core.image ls before.core.state)) all; same_faults = u.write_faults };
+      served = so_far.0;
+      replied = so_far.1;
       same_faults = r.same_faults ∙ u.read_faults;
       requests = u.requests ∙ ap length all;
       steps = u.steps ∙ ap (count_by (λ line. is_step before.core.image (asked line))) all;
@@ -272,21 +241,6 @@ nothing_left {b} {lines} {summary} {budget} {before} {now} after u r =
     }
 
 -- ---- a line that was read and served
-
-asked_by_length : (longer : Bool) (kept text : List ℕ) → kept ≡ take 256 text → longer ≡ nat_lt 256 (length text)
-    → cond longer (AFault TooLong) (short_asked kept) ≡ asked text
-asked_by_length true kept text k l = ap (λ w. cond w (AFault TooLong) (short_asked text)) l
-asked_by_length false kept text k l =
-    ap short_asked (k ∙ take_all 256 text (short_length (length text) l)) ∙ ap (λ w. cond w (AFault TooLong) (short_asked text)) l
-
--- A line of which the first 256 bytes are kept asks what the whole line does.
-pub kept_asked-line : {line : Line} {text : List ℕ} {before after : Intake} → ReadsLine line text before after → kept_asked line ≡ asked text
-kept_asked-line {line} {text} r = asked_by_length line.is_longer line.kept.items text r.kept r.longer
-
--- A line that is kept whole asks what its bytes do.
-pub kept_asked-short : (line : Line) (text : List ℕ) (a : Asked) → line.is_longer ≡ false → text ≡ line.kept.items → a ≡ short_asked text → kept_asked line ≡ a
-kept_asked-short line text a whole same asks =
-    ap (λ w. cond w (AFault TooLong) (short_asked line.kept.items)) whole ∙ ap short_asked (sym same) ∙ sym asks
 
 -- What a line counts for, in a summary that goes on.
 pub record Counts (image : ImageParts) (a : Asked) (s next : Summary) : Type 0 where
@@ -318,75 +272,79 @@ line_ends : (front text : List ℕ) (ended : Bool) (left : Option (List ℕ)) �
 line_ends front text true left last = inl (front ++ text, sym (append_assoc front text (10 ∷ [])))
 line_ends front text false left last = inr (last refl).1
 
-same_deed : {b : Behaviour} {lines : List (List ℕ)} {summary : Summary} {budget : ℕ} {before now : Moment} {line : Line} {text : List ℕ} {start after : Intake}
-    → Underway b lines summary budget before now → ReadsLine line text start after
-    → deed b now.core.image (kept_asked line) now.core.state ≡ deed b before.core.image (asked text) (after_lines b before.core.image lines before.core.state)
-same_deed {b} {lines} {before = before} {now} {line} {text} u r =
-    ap (λ i. deed b i (kept_asked line) now.core.state) u.image
-    ∙ ap (λ a. deed b before.core.image a now.core.state) (kept_asked-line r)
-    ∙ ap (deed b before.core.image (asked text)) u.state
+same_deed : {b : Behaviour} {lines : List (List ℕ)} {summary : Summary} {budget : ℕ} {before now : Moment} (text : List ℕ)
+    → Underway b lines summary budget before now
+    → deed b now.core.image (asked text) now.core.state ≡ deed b before.core.image (asked text) (after_lines b before.core.image lines before.core.state)
+same_deed {b} {before = before} {now} text u = ap (λ i. deed b i (asked text) now.core.state) u.image ∙ ap (deed b before.core.image (asked text)) u.state
 
 -- A line was read and its step, if it is one, was made: the state is that after this line too.
-pub record Advances (b : Behaviour) (lines : List (List ℕ)) (text input : List ℕ) (before : Moment) (core : OpenCore) (after : Intake) : Type 0 where
+pub record Advances (b : Behaviour) (lines : List (List ℕ)) (text input : List ℕ) (before after : Moment) (budget : ℕ) : Type 0 where
   pub given : Consumes before.left after.left input
-  pub spent : 16777216 ≡ length input + after.budget
-  pub read_faults : after.faults ≡ before.read_faults
+  pub spent : 16777216 ≡ length input + budget
+  pub read_faults : after.read_faults ≡ before.read_faults
   pub lines_are : lines_of input ≡ lines ++ text ∷ []
-  pub image : core.image ≡ before.core.image
-  pub state : core.state ≡ after_lines b before.core.image (lines ++ text ∷ []) before.core.state
+  pub image : after.core.image ≡ before.core.image
+  pub state : after.core.state ≡ after_lines b before.core.image (lines ++ text ∷ []) before.core.state
 
-pub advances : {b : Behaviour} {lines : List (List ℕ)} {summary : Summary} {budget : ℕ} {before now : Moment} {line : Line} {text : List ℕ} {after : Intake} (core : OpenCore)
-    → Underway b lines summary budget before now → ReadsLine line text (record { left = now.left; faults = now.read_faults; budget = budget }) after
-    → core.image ≡ now.core.image → core.state ≡ (deed b now.core.image (kept_asked line) now.core.state).next
-    → Advances b lines text (unlines lines ++ (text ++ ending line.is_ended)) before core after
-advances {b} {lines} {budget = budget} {before = before} {now} {line} {text} {after} core u r image state = record {
-  given = consumes_more before.left now.left after.left (unlines lines) (text ++ ending line.is_ended) u.given r.given;
-  spent = omega (arith, u.spent, r.spent, length-append (unlines lines) (text ++ ending line.is_ended));
-  read_faults = r.same_faults ∙ u.read_faults;
-  lines_are = lines_of-unlines lines (text ++ ending line.is_ended) u.plain ∙ ap (λ ls. lines ++ ls) (last_line text line.is_ended (IsAtEnd after.left) r.plain r.last);
-  image = image ∙ u.image;
-  state = state ∙ ap (λ d. d.next) (same_deed u r) ∙ sym (after_lines-append b before.core.image lines (text ∷ []) before.core.state);
+pub advances : {b : Behaviour} {lines : List (List ℕ)} {summary : Summary} {budget budget' : ℕ} {before now after : Moment} {text : List ℕ} {ended : Bool}
+    → Underway b lines summary budget before now → MakesLine b text ended now budget after budget'
+    → Advances b lines text (unlines lines ++ (text ++ ending ended)) before after budget'
+advances {b} {lines} {before = before} {now} {after} {text} {ended} u m = record {
+  given = consumes_more before.left now.left after.left (unlines lines) (text ++ ending ended) u.given m.read.given;
+  spent = omega (arith, u.spent, m.read.spent, length-append (unlines lines) (text ++ ending ended));
+  read_faults = m.read.same_faults ∙ u.read_faults;
+  lines_are = lines_of-unlines lines (text ++ ending ended) u.plain ∙ ap (λ ls. lines ++ ls) (last_line text ended (IsAtEnd after.left) m.read.plain m.read.last);
+  image = m.image ∙ u.image;
+  state = m.state ∙ ap (λ d. d.next) (same_deed text u) ∙ sym (after_lines-append b before.core.image lines (text ∷ []) before.core.state);
 }
 
 -- The reply could not be written.
-pub replying_fails : {b : Behaviour} {lines : List (List ℕ)} {summary : Summary} {budget : ℕ} {before now : Moment} {line : Line} {text : List ℕ} {start after : Intake} {core : OpenCore} (written : Option (List ℕ)) (faults : Option ℕ)
-    → Underway b lines summary budget before now → ReadsLine line text start after
-    → Advances b lines text (unlines lines ++ (text ++ ending line.is_ended)) before core after → faults ≡ counted now.write_faults
-    → BreaksWriting b (unlines lines ++ (text ++ ending line.is_ended)) before (record { core = core; left = after.left; written = written; read_faults = after.faults; write_faults = faults })
-replying_fails {b} {lines} {before = before} {line = line} {text} {after = after} written faults u r a one = record {
-  read = record { given = a.given; within = omega (arith, a.spent) };
-  whole = inr (line_ends (unlines lines) text line.is_ended after.left r.last);
-  served = record { image = a.image; state = a.state ∙ ap (λ ls. after_lines b before.core.image ls before.core.state) (sym a.lines_are) };
-  same_faults = a.read_faults;
-  one_fault = one ∙ ap counted u.write_faults;
-  go_on = subst OnlyLastMayStop (sym a.lines_are) (may_stop-push lines text u.on);
-}
+replying_fails : {b : Behaviour} {lines : List (List ℕ)} {summary : Summary} {budget budget' : ℕ} {before now after : Moment} {text : List ℕ} {ended : Bool}
+    → Underway b lines summary budget before now → MakesLine b text ended now budget after budget' → after.write_faults ≡ counted now.write_faults
+    → BreaksWriting b (unlines lines ++ (text ++ ending ended)) before after
+replying_fails {b} {lines} {before = before} {after = after} {text} {ended} u m one =
+    let a = advances u m in
+    record {
+      read = record { given = a.given; within = omega (arith, a.spent) };
+      whole = inr (line_ends (unlines lines) text ended after.left m.read.last);
+      served = record { image = a.image; state = a.state ∙ ap (λ ls. after_lines b before.core.image ls before.core.state) (sym a.lines_are) };
+      same_faults = a.read_faults;
+      one_fault = one ∙ ap counted u.write_faults;
+      go_on = subst OnlyLastMayStop (sym a.lines_are) (may_stop-push lines text u.on);
+    }
+
+-- No line was served.
+pub not_served : {b : Behaviour} {lines : List (List ℕ)} {summary : Summary} {budget : ℕ} {before now : Moment} (fault : SessionFault) (after : Moment) (budget' : ℕ)
+    → Underway b lines summary budget before now → NextServed b (Err fault) now budget after budget'
+    → SessionGives b (Err fault) before after
+not_served ReadFailed after budget' u (text, r, o) = (_, reading_fails text after budget' u r o)
+not_served TooMuchInput after budget' u (text, byte, r, o) = (_, byte, reading_past text byte after budget' u r o)
+not_served WriteFailed after budget' u (one, inl o) = (_, flushing_fails after u o one)
+not_served WriteFailed after budget' u (one, inr (text, ended, m)) = (_, replying_fails u m one)
 
 -- And it was replied to.
-pub record Replies (b : Behaviour) (lines : List (List ℕ)) (text : List ℕ) (summary : Summary) (before : Moment) (written : Option (List ℕ)) (faults : Option ℕ) : Type 0 where
-  pub written_is : written ≡ append_known before.written (replies b before.core.image (lines ++ text ∷ []) before.core.state)
-  pub faults_are : faults ≡ before.write_faults
+pub record Replies (b : Behaviour) (lines : List (List ℕ)) (text : List ℕ) (summary : Summary) (before after : Moment) : Type 0 where
+  pub written_is : after.written ≡ append_known before.written (replies b before.core.image (lines ++ text ∷ []) before.core.state)
+  pub faults_are : after.write_faults ≡ before.write_faults
   pub requests : summary.requests ≡ length (lines ++ text ∷ [])
   pub steps : summary.steps ≡ count_by (λ line. is_step before.core.image (asked line)) (lines ++ text ∷ [])
   pub stopped : summary.stopped ≡ is_stop (asked text)
 
-pub replied_to : {b : Behaviour} {lines : List (List ℕ)} {summary : Summary} {budget : ℕ} {before now : Moment} {line : Line} {text : List ℕ} {start after : Intake} (next : Summary) (kind : LineKind) (written : Option (List ℕ)) (faults : Option ℕ)
-    → Underway b lines summary budget before now → ReadsLine line text start after
-    → (written ≡ append_known now.written (deed b now.core.image (kept_asked line) now.core.state).reply) × (faults ≡ now.write_faults)
-    → kind ≡ kind_of now.core.image (kept_asked line) → next ≡ with_line kind summary
-    → Replies b lines text next before written faults
-replied_to {b} {lines} {summary} {before = before} {now} {line} {text} next kind written faults u r put kind_is next_is =
+pub replied_to : {b : Behaviour} {lines : List (List ℕ)} {summary : Summary} {budget : ℕ} {before now after : Moment} {text : List ℕ} {kind : LineKind} (next : Summary)
+    → Underway b lines summary budget before now → RepliesToLine b text kind now after → next ≡ with_line kind summary
+    → Replies b lines text next before after
+replied_to {b} {lines} {summary} {before = before} {now} {text = text} {kind} next u r next_is =
     let im = before.core.image in
     let s = before.core.state in
-    let same_kind : kind ≡ kind_of im (asked text) = kind_is ∙ ap (λ i. kind_of i (kept_asked line)) u.image ∙ ap (kind_of im) (kept_asked-line r) in
+    let same_kind : kind ≡ kind_of im (asked text) = r.kind_is ∙ ap (λ i. kind_of i (asked text)) u.image in
     let counts : Counts im (asked text) summary next = subst (Counts im (asked text) summary) (sym (next_is ∙ ap (λ k. with_line k summary) same_kind)) (counted_line im (asked text) summary u.running) in
     record {
-      written_is = put.0 ∙ ap (λ d. append_known now.written d.reply) (same_deed u r)
+      written_is = r.written ∙ ap (λ d. append_known now.written d.reply) (same_deed text u)
           ∙ ap (λ k. append_known k (deed b im (asked text) (after_lines b im lines s)).reply) u.written
           ∙ append_known-append before.written (replies b im lines s) _
           ∙ ap (λ t. append_known before.written (replies b im lines s ++ t)) (sym (append-nil (deed b im (asked text) (after_lines b im lines s)).reply))
           ∙ ap (append_known before.written) (sym (replies-append b im lines (text ∷ []) s));
-      faults_are = put.1 ∙ u.write_faults;
+      faults_are = r.same_faults ∙ u.write_faults;
       requests = counts.requests ∙ omega (arith, u.requests, length-append lines (text ∷ []));
       steps = counts.steps ∙ ap (λ n. n + cond (is_step im (asked text)) 1 0) u.steps ∙ sym (count_by-push (λ other. is_step im (asked other)) lines text);
       stopped = counts.stopped;
@@ -398,10 +356,9 @@ ends_stopped lines text input after true e are on stop line = (lines, text, are,
 ends_stopped lines text input after false e are on stop line = cc
 
 -- The line was `stop`, or the input ended with it.
-session_ends : {b : Behaviour} {lines : List (List ℕ)} {text input : List ℕ} {next : Summary} {before : Moment} {core : OpenCore} {after : Intake} {written : Option (List ℕ)} {faults : Option ℕ}
-    → Advances b lines text input before core after → Replies b lines text next before written faults
-    → Closes next.stopped input (record { core = core; left = after.left; written = written; read_faults = after.faults; write_faults = faults })
-    → Completes b next input before (record { core = core; left = after.left; written = written; read_faults = after.faults; write_faults = faults })
+session_ends : {b : Behaviour} {lines : List (List ℕ)} {text input : List ℕ} {next : Summary} {before after : Moment} {budget : ℕ}
+    → Advances b lines text input before after budget → Replies b lines text next before after → Closes next.stopped input after
+    → Completes b next input before after
 session_ends {b} {before = before} a p end = record {
   read = record { given = a.given; within = omega (arith, a.spent) };
   served = record { image = a.image; state = a.state ∙ ap (λ ls. after_lines b before.core.image ls before.core.state) (sym a.lines_are) };
@@ -412,40 +369,39 @@ session_ends {b} {before = before} a p end = record {
   end = end;
 }
 
-session_stops : {b : Behaviour} {lines : List (List ℕ)} {summary next : Summary} {budget : ℕ} {before now : Moment} {line : Line} {text : List ℕ} {start after : Intake} {core : OpenCore} {written : Option (List ℕ)} {faults : Option ℕ}
-    → Underway b lines summary budget before now → ReadsLine line text start after
-    → Advances b lines text (unlines lines ++ (text ++ ending line.is_ended)) before core after → Replies b lines text next before written faults → next.stopped ≡ true
-    → Completes b next (unlines lines ++ (text ++ ending line.is_ended)) before (record { core = core; left = after.left; written = written; read_faults = after.faults; write_faults = faults })
-session_stops {lines = lines} {next = next} {line = line} {text = text} {after = after} u r a p stopped =
-    session_ends a p (ends_stopped lines text _ _ next.stopped stopped a.lines_are u.on (sym p.stopped ∙ stopped) (line_ends (unlines lines) text line.is_ended after.left r.last))
+not_ended : (ended : Bool) → not ended ≡ true → ended ≡ false
+not_ended true h = cc
+not_ended false h = refl
 
-session_runs_out : {b : Behaviour} {lines : List (List ℕ)} {summary next : Summary} {budget : ℕ} {before now : Moment} {line : Line} {text : List ℕ} {start after : Intake} {core : OpenCore} {written : Option (List ℕ)} {faults : Option ℕ}
-    → Underway b lines summary budget before now → ReadsLine line text start after
-    → Advances b lines text (unlines lines ++ (text ++ ending line.is_ended)) before core after → Replies b lines text next before written faults → next.stopped ≡ false → line.is_ended ≡ false
-    → Completes b next (unlines lines ++ (text ++ ending line.is_ended)) before (record { core = core; left = after.left; written = written; read_faults = after.faults; write_faults = faults })
-session_runs_out {lines = lines} {next = next} {line = line} {text = text} {after = after} u r a p running ended =
-    session_ends a p (ends_running next.stopped _ _ running (subst GoOn (sym a.lines_are) (GoOn-push lines text u.on (sym p.stopped ∙ running)), (r.last ended).1))
+is_ended : (ended : Bool) → not ended ≡ false → ended ≡ true
+is_ended true h = refl
+is_ended false h = cc
 
 -- The line was the last, whichever of the two made it so.
-pub session_closes : {b : Behaviour} {lines : List (List ℕ)} {summary next : Summary} {budget : ℕ} {before now : Moment} {line : Line} {text : List ℕ} {start after : Intake} {core : OpenCore} {written : Option (List ℕ)} {faults : Option ℕ}
-    → Underway b lines summary budget before now → ReadsLine line text start after
-    → Advances b lines text (unlines lines ++ (text ++ ending line.is_ended)) before core after → Replies b lines text next before written faults → (next.stopped ≡ true) ⊎ ((next.stopped ≡ false) × (line.is_ended ≡ false))
-    → Completes b next (unlines lines ++ (text ++ ending line.is_ended)) before (record { core = core; left = after.left; written = written; read_faults = after.faults; write_faults = faults })
-session_closes u r a p (inl stopped) = session_stops u r a p stopped
-session_closes u r a p (inr runs_out) = session_runs_out u r a p runs_out.0 runs_out.1
+pub session_closes : {b : Behaviour} {lines : List (List ℕ)} {summary next : Summary} {budget budget' : ℕ} {before now after : Moment} {text : List ℕ} {ended : Bool}
+    → Underway b lines summary budget before now → MakesLine b text ended now budget after budget' → Replies b lines text next before after
+    → (next.stopped ≡ true) ⊎ ((next.stopped ≡ false) × (not ended ≡ true))
+    → Completes b next (unlines lines ++ (text ++ ending ended)) before after
+session_closes {lines = lines} {next = next} {after = after} {text} {ended} u m p (inl stopped) =
+    let a = advances u m in
+    session_ends a p (ends_stopped lines text _ _ next.stopped stopped a.lines_are u.on (sym p.stopped ∙ stopped) (line_ends (unlines lines) text ended after.left m.read.last))
+session_closes {lines = lines} {next = next} {text = text} u m p (inr (running, over)) =
+    let a = advances u m in
+    session_ends a p (ends_running next.stopped _ _ running (subst GoOn (sym a.lines_are) (GoOn-push lines text u.on (sym p.stopped ∙ running)), (m.read.last (not_ended _ over)).1))
 
 -- The session goes on after the line.
-pub session_goes_on : {b : Behaviour} {lines : List (List ℕ)} {summary next : Summary} {budget : ℕ} {before now : Moment} {line : Line} {text : List ℕ} {start after : Intake} {core : OpenCore} {written : Option (List ℕ)} {faults : Option ℕ}
-    → Underway b lines summary budget before now → ReadsLine line text start after
-    → Advances b lines text (unlines lines ++ (text ++ ending line.is_ended)) before core after → Replies b lines text next before written faults → next.stopped ≡ false → line.is_ended ≡ true
-    → Underway b (lines ++ text ∷ []) next after.budget before (record { core = core; left = after.left; written = written; read_faults = after.faults; write_faults = faults })
-session_goes_on {lines = lines} {before = before} {line = line} {text = text} {after = after} u r a p running ended =
-    let all : unlines lines ++ (text ++ ending line.is_ended) ≡ unlines (lines ++ text ∷ []) = ap (λ e. unlines lines ++ (text ++ ending e)) ended ∙ sym (unlines-push lines text) in
+pub session_goes_on : {b : Behaviour} {lines : List (List ℕ)} {summary next : Summary} {budget budget' : ℕ} {before now after : Moment} {text : List ℕ} {ended : Bool}
+    → Underway b lines summary budget before now → MakesLine b text ended now budget after budget' → Replies b lines text next before after
+    → next.stopped ≡ false → not ended ≡ false
+    → Underway b (lines ++ text ∷ []) next budget' before after
+session_goes_on {lines = lines} {budget' = budget'} {before} {after = after} {text} u m p running more =
+    let a = advances u m in
+    let all : unlines lines ++ (text ++ ending _) ≡ unlines (lines ++ text ∷ []) = ap (λ e. unlines lines ++ (text ++ ending e)) (is_ended _ more) ∙ sym (unlines-push lines text) in
     record {
-      plain = ArePlain-push lines text u.plain r.plain;
+      plain = ArePlain-push lines text u.plain m.read.plain;
       on = GoOn-push lines text u.on (sym p.stopped ∙ running);
       given = subst (λ t. Consumes before.left after.left t) all a.given;
-      spent = a.spent ∙ ap (λ t. length t + after.budget) all;
+      spent = a.spent ∙ ap (λ t. length t + budget') all;
       read_faults = a.read_faults;
       write_faults = p.faults_are;
       image = a.image;

@@ -1,5 +1,5 @@
 -- Devices: what a reader and a writer of bytes tell, where they tell it, of their bytes and failures.
-use Rattle.std.specs.Prelude.{◌≡◌, ℕ, ◌+◌, ◌-◌, ◌^◌, min, List, [], ◌∷◌, take, Contains, Option, Some, None, Result, Ok, Err, MatchResult}
+use Rattle.std.specs.Prelude.{◌≡◌, ℕ, ◌+◌, ◌-◌, ◌^◌, ◌≤◌, min, List, [], ◌∷◌, ◌++◌, length, take, drop, Option, Some, None, Result, Ok, Err, MatchResult}
 use Rattle.std.specs.Option.{option_map}
 use Rattle.std.specs.Io.KnownBytes.{append_known, Keeps, Consumes, IsAtEnd}
 use Rattle.ifs_session.specs.declared.device.DeviceFault.{DeviceFault}
@@ -24,10 +24,21 @@ ReadyGives result (Some (byte ∷ bytes)) ready' = (result ≡ Ok (Some byte)) �
 ReadyGives result (Some []) ready' = Unit {0}
 ReadyGives result None ready' = Unit {0}
 
--- A line of at most so many bytes, its newline among them, can be read without waiting.
-abbrev pub HasLine : ℕ → Option (List ℕ) → Type 0
-HasLine most None = ⊥
-HasLine most (Some bytes) = Contains {X = ℕ} (take most bytes) 10
+-- These are the first of the bytes that can be read without waiting, or none.
+abbrev pub AreAtHand : List ℕ → Option (List ℕ) → Type 0
+AreAtHand bytes None = bytes ≡ []
+AreAtHand bytes (Some ready) = (rest : List ℕ) × (ready ≡ bytes ++ rest)
+
+-- So many bytes can be read without waiting.
+abbrev pub MaySkip : ℕ → Option (List ℕ) → Type 0
+MaySkip count None = count ≡ 0
+MaySkip count (Some ready) = count ≤ length ready
+
+-- What it says of a reader that so many bytes that can be read without waiting were taken.
+abbrev pub SkipGives : ℕ → Option (List ℕ) → Option (List ℕ) → Option (List ℕ) → Option (List ℕ) → Option ℕ → Option ℕ → Type 0
+SkipGives count None ready' left left' faults faults' = Keeps left left' × (faults' ≡ faults)
+SkipGives count (Some ready) ready' left left' faults faults' =
+    (ready' ≡ Some (drop count ready)) × Consumes left left' (take count ready) × (faults' ≡ faults)
 
 -- A writer holds nothing back, where it tells what it holds back.
 abbrev pub HoldsNothing : Option (List ℕ) → Type 0

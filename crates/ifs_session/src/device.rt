@@ -1,7 +1,7 @@
 //! Readers and writers of bytes.
 
-ghost use Rattle.std.specs.Prelude.{List, [], ℕ, Option, None, IsTrue, OnOk};
-ghost use Rattle.ifs_session.specs.Device.{NextGives, ReadyGives, HasLine, PutGives, HoldsNothing};
+ghost use Rattle.std.specs.Prelude.{List, [], ℕ, Option, None, OnOk};
+ghost use Rattle.ifs_session.specs.Device.{NextGives, ReadyGives, AreAtHand, MaySkip, SkipGives, PutGives, HoldsNothing};
 
 use thiserror::Error;
 
@@ -29,12 +29,22 @@ pub trait ByteIn {
         ensures gives { NextGives result (left self.old) (left self.new) (faults self.old) (faults self.new) }
         ensures at_once { ReadyGives result (ready self.old) (ready self.new) };
 
-    /// Whether a line of at most `most` bytes, its newline among them, can be read without waiting.
-    /// `false` where that is not known.
-    fn has_line(&self, most: u32) -> bool
-        ensures { IsTrue result → HasLine most (ready self.now) }
+    /// The first of the bytes that can be read without waiting, as many as the reader has at hand; none
+    /// where that is not known.
+    fn peek(&self) -> &[u8]
+        ensures { AreAtHand result.now (ready self.now) }
     {
-        false
+        &[]
+    }
+
+    /// Takes so many bytes, which can be read without waiting.
+    fn skip(&mut self, count: usize)
+        requires { MaySkip count (ready self.old) }
+        ensures { SkipGives count (ready self.old) (ready self.new) (left self.old) (left self.new) (faults self.old) (faults self.new) }
+    {
+        for _ in 0..count {
+            let _byte = self.next();
+        }
     }
 }
 

@@ -1,11 +1,12 @@
 //! Images as lines of hexadecimal digits.
 
-ghost use Rattle.ifs_session.specs.inner.Reading.{DigitGives};
+ghost use Rattle.std.specs.Prelude.{◌≡◌, ◌≤◌, [], length, IfOk};
+ghost use Rattle.ifs_session.specs.inner.Reading.{DigitGives, SpellsFront, AtHandGives, LineSpells};
 ghost use Rattle.ifs_session.specs.Hexadecimal.{HexGives};
 
 use crate::device::ByteIn;
 use ifs_base::{Items, digit_value};
-use std::alloc::Global;
+use std::alloc::{AllocError, Global};
 
 /// The most bytes of an image's line: 131,072 digits.
 const BYTES: usize = 65_536;
@@ -29,9 +30,23 @@ pub(crate) fn hex_line<R: ByteIn>(alloc: Global, reader: &mut R) -> Result<Items
         (record { left = R.left reader.new; faults = R.faults reader.new }) }
 {
     let mut bytes = Vec::new(alloc);
+    match read_line(reader, &mut bytes) {
+        Ok(()) => Ok(Items::new(bytes)),
+        Err(fault) => Err(fault),
+    }
+}
+
+/// Reads those bytes into a place, which is empty.
+fn read_line<R: ByteIn>(reader: &mut R, bytes: &mut Vec<u8>) -> Result<(), HexFault>
+    requires { bytes.old.items ≡ [] }
+    ensures { LineSpells result bytes.new.items
+        (record { left = R.left reader.old; faults = R.faults reader.old })
+        (record { left = R.left reader.new; faults = R.faults reader.new }) }
+{
     'digits: loop {
+        take_at_hand(reader, bytes)?;
         let Some(high) = read_digit(reader)? else {
-            return Ok(Items::new(bytes));
+            return Ok(());
         };
         if bytes.len() >= BYTES {
             return Err(HexFault::Broken);
@@ -43,6 +58,41 @@ pub(crate) fn hex_line<R: ByteIn>(alloc: Global, reader: &mut R) -> Result<Items
             return Err(HexFault::Memory);
         };
     }
+}
+
+/// Reads the bytes whose digits stand at hand, as many as stand there whole and there is room for, and
+/// puts them after the others. Where memory is wanting nothing is read.
+fn take_at_hand<R: ByteIn>(reader: &mut R, bytes: &mut Vec<u8>) -> Result<(), HexFault>
+    requires { length bytes.old.items ≤ 65536 }
+    ensures { AtHandGives result bytes.old.items bytes.new.items
+        (record { left = R.left reader.old; faults = R.faults reader.old })
+        (record { left = R.left reader.new; faults = R.faults reader.new }) }
+{
+    let Ok(count) = append_spelled(reader.peek(), bytes) else {
+        return Err(HexFault::Memory);
+    };
+    reader.skip(count);
+    Ok(())
+}
+
+/// Puts the bytes that the front of a text spells after the others, as many as there is room for, and
+/// answers how many digits those are.
+fn append_spelled(text: &[u8], bytes: &mut Vec<u8>) -> Result<usize, AllocError>
+    requires { length bytes.old.items ≤ 65536 }
+    ensures { IfOk result (λ count. SpellsFront text.now count bytes.old.items bytes.new.items) }
+{
+    let mut left = text;
+    while let [high, low, rest @ ..] = left {
+        if bytes.len() >= BYTES {
+            break;
+        }
+        let (Some(high), Some(low)) = (digit_value(*high), digit_value(*low)) else {
+            break;
+        };
+        bytes.push(16 * high + low)?;
+        left = rest;
+    }
+    Ok(text.len() - left.len())
 }
 
 /// Reads a digit; `None` at the end of the line.

@@ -1,15 +1,13 @@
 //! Lines of input.
 
-ghost use Rattle.std.specs.Prelude.{◌≡◌, IsOkAnd, IsSome};
-ghost use Rattle.ifs_session.specs.Device.{HasLine};
-ghost use Rattle.ifs_session.specs.inner.Reading.{LineGives};
+ghost use Rattle.std.specs.Prelude.{◌≡◌, ◌==◌, IfSome};
+ghost use Rattle.std.specs.List.{position};
+ghost use Rattle.ifs_session.specs.inner.Reading.{LineGives, StandsFirst};
 
 use crate::device::ByteIn;
 use crate::fault::SessionFault;
+use crate::request::{LINE, Request, RequestFault, parse_request};
 use arrayvec::ArrayVec;
-
-/// The most bytes of a request line.
-const LINE: usize = 256;
 
 /// A line of input, without its newline.
 #[derive(Debug, Drop)]
@@ -22,17 +20,50 @@ pub(crate) struct Line {
     pub is_ended: bool,
 }
 
+impl Line {
+    ghost use Rattle.ifs_session.specs.inner.Parsing.{told_by};
+    ghost use Rattle.ifs_session.specs.inner.Serving.{kept_asked};
+
+    /// What the line asks for, or its fault.
+    pub fn request(&self) -> Result<Request<'_>, RequestFault>
+        ensures { told_by result ≡ kept_asked self.now }
+    {
+        if self.is_longer {
+            return Err(RequestFault::TooLong);
+        }
+        parse_request(self.kept.as_slice())
+    }
+}
+
+/// The line, without its newline, that stands whole at the front of these bytes and has at most `most`
+/// bytes with its newline.
+pub(crate) fn line_at_hand(bytes: &[u8], most: u32) -> Option<&[u8]>
+    ensures { IfSome result (λ line. StandsFirst line.now most bytes.now) }
+{
+    let end = newline(bytes)?;
+    if end < most as usize {
+        Some(&bytes[..end])
+    } else {
+        None
+    }
+}
+
+/// The place of the first newline.
+fn newline(bytes: &[u8]) -> Option<usize>
+    ensures { result ≡ position (λ byte. byte == 10) bytes.now }
+{
+    bytes.iter().position(|byte| *byte == b'\n')
+}
+
 /// Reads the next line, and takes its bytes and its newline from the budget; `None` at the end of
-/// input. It fails where a read fails, and where a byte comes after the budget is spent; not so where
-/// a line within the budget can be read without waiting.
+/// input. It fails where a read fails, and where a byte comes after the budget is spent.
 pub(crate) fn next_line<R: ByteIn>(
     reader: &mut R,
     budget: &mut u32,
 ) -> Result<Option<Line>, SessionFault>
-    ensures gives { LineGives result
+    ensures { LineGives result
         (record { left = R.left reader.old; faults = R.faults reader.old; budget = budget.old })
         (record { left = R.left reader.new; faults = R.faults reader.new; budget = budget.new }) }
-    ensures at_once { HasLine budget.old (R.ready reader.old) → IsOkAnd result (λ line. IsSome line) }
 {
     let mut kept = ArrayVec::new();
     let mut is_longer = false;

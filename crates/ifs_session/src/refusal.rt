@@ -1,13 +1,13 @@
 //! Lines of refusals, written piece by piece without allocation.
 
-ghost use Rattle.std.specs.Prelude.{◌≡◌, ◌++◌, decimal, OnOk};
+ghost use Rattle.std.specs.Prelude.{◌≡◌, ◌++◌, OnOk};
 ghost use Rattle.ifs_session.specs.Device.{PutGives, HoldsNothing};
 ghost use Rattle.ifs_session.specs.Runs.{place_words, image_fault_words, verify_fault_words, refusal_words, refused_line};
 ghost use Rattle.ifs_session.specs.inner.Opening.{RefuseGives};
 
 use crate::device::{ByteOut, DeviceFault};
 use crate::fault::{RunFault, SessionFault};
-use crate::words::put_number;
+use crate::words::put_numbered;
 use ifs_image::ImageFault;
 use ifs_verify::{At, VerifyFault};
 
@@ -101,16 +101,6 @@ fn put_image_fault<W: ByteOut>(out: &mut W, fault: ImageFault) -> Result<(), Dev
         ImageFault::NoInstruction { at } => put_numbered(out, b"I8 byte ", at as u64),
         ImageFault::Memory => out.put(b"I0"),
     }
-}
-
-/// Writes words and a number.
-#[tactic(auto, using(crate::proofs::Known::written_laws))]
-fn put_numbered<W: ByteOut>(out: &mut W, words: &[u8], number: u64) -> Result<(), DeviceFault>
-    ensures { PutGives result (words.now ++ decimal number) (W.written out.old) (W.written out.new) (W.faults out.old) (W.faults out.new) }
-{
-    out.put(words)?;
-    put_number(out, number)?;
-    Ok(())
 }
 
 /// Writes words and a place of an image.

@@ -2,37 +2,39 @@
 
 ghost use Rattle.std.specs.Prelude.{◌≡◌, ◌<◌, decimal, map, length};
 ghost use Rattle.std.specs.List.{flat_map};
+ghost use Rattle.ifs_core.specs.Gateway.{IsListed, IsReplyOf};
+ghost use Rattle.ifs_core.specs.Steps.{reply_of};
 ghost use Rattle.ifs_session.specs.Device.{PutGives};
 ghost use Rattle.ifs_base.specs.Words.{link_word, listed, quoted};
 ghost use Rattle.ifs_session.specs.Replies.{state_name, command_text, evaluation_words, start_word, starts_words, before_starts, taken_line, reply_line, status_numbers, status_line, yes_or_no, value_word, step_words, answer_word, answer_words, record_line, trace_lines, fault_line};
 
 use crate::device::{ByteOut, DeviceFault};
 use crate::request::RequestFault;
-use crate::words::{put_commands, put_number, put_quoted};
+use crate::words::{put_commands, put_number, put_numbered, put_quoted};
 use ifs_base::{CommandId, LinkState, StateId};
-use ifs_core::{Answer, Core, Record, Reply, Step};
+use ifs_core::{Answer, Core, Lists, Outcome, Record, Step};
 use ifs_sched::Start;
 
 /// Writes the name of a state in quotes.
 fn put_state<W: ByteOut>(out: &mut W, core: &Core, state: StateId) -> Result<(), DeviceFault>
+    requires { IsListed core.now.image state }
     ensures { PutGives result (quoted (state_name core.now.image state.0)) (W.written out.old) (W.written out.new) (W.faults out.old) (W.faults out.new) }
 {
-    let name = match core.state_name(state) {
-        Some(name) => name.as_bytes(),
-        None => &[],
+    let Some(name) = core.state_name(state) else {
+        unreachable!()
     };
-    put_quoted(out, name)
+    put_quoted(out, name.as_bytes())
 }
 
 /// Writes the text of a command in quotes.
 fn put_command<W: ByteOut>(out: &mut W, core: &Core, command: CommandId) -> Result<(), DeviceFault>
+    requires { command.0 < length core.now.image.commands }
     ensures { PutGives result (quoted (command_text core.now.image command.0)) (W.written out.old) (W.written out.new) (W.faults out.old) (W.faults out.new) }
 {
-    let text = match core.command_text(command) {
-        Some(text) => text.as_bytes(),
-        None => &[],
+    let Some(text) = core.command_text(command) else {
+        unreachable!()
     };
-    put_quoted(out, text)
+    put_quoted(out, text.as_bytes())
 }
 
 /// Writes the state, the cost and the queued commands of an evaluation.
@@ -44,11 +46,11 @@ fn put_evaluation<W: ByteOut>(
     cost: u32,
     queued: &[CommandId],
 ) -> Result<(), DeviceFault>
+    requires { IsListed core.now.image state }
     ensures { PutGives result (evaluation_words core.now.image state.0 cost queued.now) (W.written out.old) (W.written out.new) (W.faults out.old) (W.faults out.new) }
 {
     put_state(out, core, state)?;
-    out.put(b" cost ")?;
-    put_number(out, u64::from(cost))?;
+    put_numbered(out, b" cost ", u64::from(cost))?;
     out.put(b" queue ")?;
     put_commands(out, queued)?;
     Ok(())
@@ -60,8 +62,7 @@ fn put_start<W: ByteOut>(out: &mut W, start: &Start) -> Result<(), DeviceFault>
     ensures { PutGives result (start_word start.now) (W.written out.old) (W.written out.new) (W.faults out.old) (W.faults out.new) }
 {
     put_number(out, u64::from(start.test.0))?;
-    out.put(b":")?;
-    put_number(out, start.run)?;
+    put_numbered(out, b":", start.run)?;
     Ok(())
 }
 
@@ -94,47 +95,44 @@ fn put_starts<W: ByteOut>(out: &mut W, starts: &[Start], exhausted: bool) -> Res
     Ok(())
 }
 
-/// Writes the reply line of a step.
+/// Writes the reply line of a step, by its outcome and its lists.
 #[tactic(auto, using(crate::proofs::Known::written_laws))]
 pub(crate) fn put_reply<W: ByteOut>(
     out: &mut W,
     core: &Core,
-    reply: &Reply,
+    outcome: Outcome,
+    lists: &Lists,
 ) -> Result<(), DeviceFault>
-    ensures { PutGives result (reply_line core.now.image reply.now) (W.written out.old) (W.written out.new) (W.faults out.old) (W.faults out.new) }
+    requires { IsReplyOf core.now.image (reply_of outcome lists.now) }
+    ensures { PutGives result (reply_line core.now.image (reply_of outcome lists.now)) (W.written out.old) (W.written out.new) (W.faults out.old) (W.faults out.new) }
 {
-    match reply {
-        Reply::Done {
-            state,
-            queued,
-            cost,
-        } => {
+    let queued = lists.effects.queued.as_slice();
+    match outcome {
+        Outcome::Done { state, cost } => {
             out.put(b"done ")?;
-            put_evaluation(out, core, *state, *cost, queued.as_slice())?;
+            put_evaluation(out, core, state, cost, queued)?;
             out.put(b"\n")?;
             Ok(())
         }
-        Reply::Ticked {
+        Outcome::Ticked {
             evaluated,
             state,
-            queued,
             cost,
-            starts,
             exhausted,
         } => {
             out.put(b"tick ")?;
-            put_before_starts(out, core, *evaluated, *state, *cost, queued.as_slice())?;
-            put_starts(out, starts.as_slice(), *exhausted)?;
+            put_before_starts(out, core, evaluated, state, cost, queued)?;
+            put_starts(out, lists.starts.as_slice(), exhausted)?;
             out.put(b"\n")?;
             Ok(())
         }
-        Reply::Taken(command) => put_taken(out, core, *command),
-        Reply::Same => out.put(b"same\n"),
-        Reply::Empty => out.put(b"empty\n"),
-        Reply::Busy => out.put(b"busy\n"),
-        Reply::Stale => out.put(b"stale\n"),
-        Reply::Backwards => out.put(b"backwards\n"),
-        Reply::NoSuch => out.put(b"nosuch\n"),
+        Outcome::Taken(command) => put_taken(out, core, command),
+        Outcome::Same => out.put(b"same\n"),
+        Outcome::Empty => out.put(b"empty\n"),
+        Outcome::Busy => out.put(b"busy\n"),
+        Outcome::Stale => out.put(b"stale\n"),
+        Outcome::Backwards => out.put(b"backwards\n"),
+        Outcome::NoSuch => out.put(b"nosuch\n"),
     }
 }
 
@@ -148,6 +146,7 @@ fn put_before_starts<W: ByteOut>(
     cost: u32,
     queued: &[CommandId],
 ) -> Result<(), DeviceFault>
+    requires { IsListed core.now.image state }
     ensures { PutGives result (before_starts evaluated (evaluation_words core.now.image state.0 cost queued.now)) (W.written out.old) (W.written out.new) (W.faults out.old) (W.faults out.new) }
 {
     if !evaluated {
@@ -161,10 +160,10 @@ fn put_before_starts<W: ByteOut>(
 /// Writes the reply line of a command that was taken.
 #[tactic(auto, using(crate::proofs::Known::written_laws))]
 fn put_taken<W: ByteOut>(out: &mut W, core: &Core, command: CommandId) -> Result<(), DeviceFault>
+    requires { command.0 < length core.now.image.commands }
     ensures { PutGives result (taken_line core.now.image command.0) (W.written out.old) (W.written out.new) (W.faults out.old) (W.faults out.new) }
 {
-    out.put(b"taken ")?;
-    put_number(out, u64::from(command.0))?;
+    put_numbered(out, b"taken ", u64::from(command.0))?;
     out.put(b" ")?;
     put_command(out, core, command)?;
     out.put(b"\n")?;
@@ -190,12 +189,9 @@ pub(crate) fn put_status<W: ByteOut>(out: &mut W, core: &Core) -> Result<(), Dev
 fn put_status_numbers<W: ByteOut>(out: &mut W, core: &Core) -> Result<(), DeviceFault>
     ensures { PutGives result (status_numbers core.now.state) (W.written out.old) (W.written out.new) (W.faults out.old) (W.faults out.new) }
 {
-    out.put(b" queue ")?;
-    put_number(out, core.queue_len() as u64)?;
-    out.put(b" running ")?;
-    put_number(out, u64::from(core.running()))?;
-    out.put(b" now ")?;
-    put_number(out, core.now())?;
+    put_numbered(out, b" queue ", core.queue_len() as u64)?;
+    put_numbered(out, b" running ", u64::from(core.running()))?;
+    put_numbered(out, b" now ", core.now())?;
     Ok(())
 }
 
@@ -206,24 +202,20 @@ fn put_step<W: ByteOut>(out: &mut W, step: Step) -> Result<(), DeviceFault>
 {
     match step {
         Step::Link(interface, link) => {
-            out.put(b"link ")?;
-            put_number(out, u64::from(interface.0))?;
+            put_numbered(out, b"link ", u64::from(interface.0))?;
             out.put(b" ")?;
             put_link(out, link)?;
             Ok(())
         }
         Step::Finished(test, run, value) => {
-            out.put(b"result ")?;
-            put_number(out, u64::from(test.0))?;
-            out.put(b" ")?;
-            put_number(out, run)?;
+            put_numbered(out, b"result ", u64::from(test.0))?;
+            put_numbered(out, b" ", run)?;
             out.put(b" ")?;
             put_value(out, value)?;
             Ok(())
         }
         Step::Tick(now) => {
-            out.put(b"tick ")?;
-            put_number(out, now)?;
+            put_numbered(out, b"tick ", now)?;
             Ok(())
         }
         Step::Take => out.put(b"take"),
@@ -278,6 +270,7 @@ fn put_answer<W: ByteOut>(out: &mut W, answer: Answer) -> Result<(), DeviceFault
 /// Writes the line of a record of the trace.
 #[tactic(auto, using(crate::proofs::Known::written_laws))]
 fn put_record<W: ByteOut>(out: &mut W, core: &Core, item: &Record) -> Result<(), DeviceFault>
+    requires { IsListed core.now.image item.now.state }
     ensures { PutGives result (record_line core.now.image item.now) (W.written out.old) (W.written out.new) (W.faults out.old) (W.faults out.new) }
 {
     put_step(out, item.step)?;
@@ -290,15 +283,14 @@ fn put_record<W: ByteOut>(out: &mut W, core: &Core, item: &Record) -> Result<(),
 /// Writes what a record says of the answer.
 #[tactic(auto, using(crate::proofs::Known::written_laws))]
 fn put_answer_words<W: ByteOut>(out: &mut W, core: &Core, item: &Record) -> Result<(), DeviceFault>
+    requires { IsListed core.now.image item.now.state }
     ensures { PutGives result (answer_words core.now.image item.now) (W.written out.old) (W.written out.new) (W.faults out.old) (W.faults out.new) }
 {
     put_answer(out, item.answer)?;
     out.put(b" ")?;
     put_state(out, core, item.state)?;
-    out.put(b" cost ")?;
-    put_number(out, u64::from(item.cost))?;
-    out.put(b" queue ")?;
-    put_number(out, u64::from(item.queued))?;
+    put_numbered(out, b" cost ", u64::from(item.cost))?;
+    put_numbered(out, b" queue ", u64::from(item.queued))?;
     Ok(())
 }
 
@@ -307,8 +299,7 @@ fn put_answer_words<W: ByteOut>(out: &mut W, core: &Core, item: &Record) -> Resu
 pub(crate) fn put_trace<W: ByteOut>(out: &mut W, core: &Core) -> Result<(), DeviceFault>
     ensures { PutGives result (trace_lines core.now.image core.now.state.trace) (W.written out.old) (W.written out.new) (W.faults out.old) (W.faults out.new) }
 {
-    out.put(b"trace ")?;
-    put_number(out, core.trace_len() as u64)?;
+    put_numbered(out, b"trace ", core.trace_len() as u64)?;
     out.put(b"\n")?;
     put_records(out, core)?;
     Ok(())
@@ -321,7 +312,7 @@ fn put_records<W: ByteOut>(out: &mut W, core: &Core) -> Result<(), DeviceFault>
 {
     for index in 0..core.trace_len() {
         let Some(item) = core.trace_at(index) else {
-            return Ok(());
+            unreachable!()
         };
         put_record(out, core, &item)?;
     }

@@ -4,7 +4,7 @@ ghost use Rattle.std.specs.Prelude.{◌≡◌, ◌==◌};
 ghost use Rattle.std.specs.List.{before_first, after_first, position};
 ghost use Rattle.ifs_base.specs.Numbers.{number_of};
 ghost use Rattle.ifs_session.specs.inner.Parsing.{told_by, result_kept};
-ghost use Rattle.ifs_session.specs.Requests.{short_asked, link_asked, result_asked, result_valued, word_asked, link_named, tick_asked};
+ghost use Rattle.ifs_session.specs.Requests.{asked, short_asked, link_asked, result_asked, result_valued, word_asked, link_named, tick_asked};
 
 use ifs_base::{LinkState, Number, TestId, parse_number};
 use thiserror::Error;
@@ -43,6 +43,19 @@ pub enum RequestFault {
     /// C4: the interface is not in the table.
     #[error("C4")]
     NoInterface,
+}
+
+/// The most bytes of a request line.
+pub(crate) const LINE: usize = 256;
+
+/// The request of a line.
+pub(crate) fn request_of(line: &[u8]) -> Result<Request<'_>, RequestFault>
+    ensures { told_by result ≡ asked line.now }
+{
+    if line.len() > LINE {
+        return Err(RequestFault::TooLong);
+    }
+    parse_request(line)
 }
 
 /// The request of a line of at most 256 bytes.

@@ -1,21 +1,21 @@
 //! Sessions: request lines in, reply lines out.
 
-ghost use Rattle.std.specs.Prelude.{◌≡◌, ◌≢◌, ◌⊎◌, ◌+◌, ◌<◌, ◌^◌, [], Ok, Err, OnOk};
+ghost use Rattle.std.specs.Prelude.{◌≡◌, ◌≢◌, ◌+◌, ◌<◌, ◌^◌, None, Ok, Err, IfOk, IfSome, MatchResult};
 ghost use Rattle.ifs_core.specs.Event.{Behaviour};
 ghost use Rattle.ifs_core.specs.Machine.{IsBehaviour};
-ghost use Rattle.ifs_session.specs.Device.{PutGives, HasLine, HoldsNothing};
+ghost use Rattle.ifs_session.specs.Device.{HoldsNothing};
 ghost use Rattle.ifs_session.specs.Requests.{ALink};
 ghost use Rattle.ifs_session.specs.inner.Parsing.{told_by};
 ghost use Rattle.ifs_session.specs.Sessions.{deed, step_deed, SessionGives};
-ghost use Rattle.ifs_session.specs.inner.Serving.{kind_of, kept_asked, with_line, ServeGives};
+ghost use Rattle.ifs_session.specs.inner.Serving.{kind_of, with_line, ServeGives, NextServed};
 
 use crate::device::{ByteIn, ByteOut, DeviceFault};
 use crate::fault::SessionFault;
-use crate::lines::{Line, next_line};
+use crate::lines::{line_at_hand, next_line};
 use crate::replies::{put_fault, put_reply, put_status, put_trace};
-use crate::request::{Request, RequestFault, parse_request};
+use crate::request::{Request, RequestFault, request_of};
 use ifs_base::LinkState;
-use ifs_core::{Core, Step};
+use ifs_core::{Core, Lists, Step};
 
 /// The most bytes of requests that a session reads.
 const INPUT: u32 = 16_777_216;
@@ -42,6 +42,15 @@ pub(crate) enum LineKind {
     Stop,
 }
 
+/// A line that was served.
+#[derive(Clone, Copy, Debug, PartialEq, Eq)]
+pub(crate) struct Served {
+    /// What it was.
+    pub kind: LineKind,
+    /// Whether a newline ends it; else the input does.
+    pub is_ended: bool,
+}
+
 /// Serves request lines until `stop`, whose rest is left unread, or to the end of input: makes their
 /// steps and writes their replies, one after the other. Each reply has gone out before the next
 /// line is waited for.
@@ -64,19 +73,14 @@ pub fn simulate<R: ByteIn, W: ByteOut>(
         steps: 0,
         stopped: false,
     };
+    let mut lists = Lists::new();
     let mut budget = INPUT;
     'lines: loop {
-        let Ok(()) = flush_before_wait(reader, writer, budget) else {
-            return Err(SessionFault::WriteFailed);
-        };
-        let Some(line) = next_line(reader, &mut budget)? else {
+        let Some(served) = serve_next(core, &mut lists, reader, writer, &mut budget)? else {
             return Ok(summary);
         };
-        let Ok(kind) = serve(core, writer, &line) else {
-            return Err(SessionFault::WriteFailed);
-        };
-        count(&mut summary, kind);
-        if summary.stopped || !line.is_ended {
+        count(&mut summary, served.kind);
+        if summary.stopped || !served.is_ended {
             let Ok(()) = writer.flush() else {
                 return Err(SessionFault::WriteFailed);
             };
@@ -85,20 +89,67 @@ pub fn simulate<R: ByteIn, W: ByteOut>(
     }
 }
 
-/// Sees that what was written has gone out, unless the next line, within the bytes that may be read,
-/// can be read without waiting.
-fn flush_before_wait<R: ByteIn, W: ByteOut>(
-    reader: &R,
+/// Serves the next line; `None` at the end of input. A line that stands whole among the bytes at hand
+/// is served from where it stands.
+fn serve_next<R: ByteIn, W: ByteOut>(
+    core: &mut Core,
+    lists: &mut Lists,
+    reader: &mut R,
     writer: &mut W,
-    budget: u32,
-) -> Result<(), DeviceFault>
-    ensures puts { PutGives result [] (W.written writer.old) (W.written writer.new) (W.faults writer.old) (W.faults writer.new) }
-    ensures out { OnOk result (HasLine budget (R.ready reader.now) ⊎ HoldsNothing (W.held writer.new)) }
+    budget: &mut u32,
+) -> Result<Option<Served>, SessionFault>
+    ensures next { (b : Behaviour) → IsBehaviour core.old.image b → NextServed b result
+        (record { core = core.old; left = R.left reader.old; written = W.written writer.old; read_faults = R.faults reader.old; write_faults = W.faults writer.old }) budget.old
+        (record { core = core.new; left = R.left reader.new; written = W.written writer.new; read_faults = R.faults reader.new; write_faults = W.faults writer.new }) budget.new }
+    ensures counts { IfOk result (λ next. IfSome next (λ _. budget.new < budget.old)) }
+    ensures out { MatchResult result (λ next. next ≡ None → HoldsNothing (W.held writer.new)) (λ fault. fault ≢ SessionFault.WriteFailed → HoldsNothing (W.held writer.new)) }
 {
-    if reader.has_line(budget) {
-        return Ok(());
+    let Some(line) = line_at_hand(reader.peek(), *budget) else {
+        return serve_read(core, lists, reader, writer, budget);
+    };
+    let length = line.len() + 1;
+    let served = serve(core, lists, writer, request_of(line));
+    reader.skip(length);
+    *budget -= length as u32;
+    match served {
+        Ok(kind) => Ok(Some(Served {
+            kind,
+            is_ended: true,
+        })),
+        Err(_) => Err(SessionFault::WriteFailed),
     }
-    writer.flush()
+}
+
+/// Reads the next line byte by byte, once what was written has gone out, and serves it; `None` at the
+/// end of input.
+#[cold]
+#[inline(never)]
+fn serve_read<R: ByteIn, W: ByteOut>(
+    core: &mut Core,
+    lists: &mut Lists,
+    reader: &mut R,
+    writer: &mut W,
+    budget: &mut u32,
+) -> Result<Option<Served>, SessionFault>
+    ensures next { (b : Behaviour) → IsBehaviour core.old.image b → NextServed b result
+        (record { core = core.old; left = R.left reader.old; written = W.written writer.old; read_faults = R.faults reader.old; write_faults = W.faults writer.old }) budget.old
+        (record { core = core.new; left = R.left reader.new; written = W.written writer.new; read_faults = R.faults reader.new; write_faults = W.faults writer.new }) budget.new }
+    ensures counts { IfOk result (λ next. IfSome next (λ _. budget.new < budget.old)) }
+    ensures out { MatchResult result (λ next. next ≡ None → HoldsNothing (W.held writer.new)) (λ fault. fault ≢ SessionFault.WriteFailed → HoldsNothing (W.held writer.new)) }
+{
+    let Ok(()) = writer.flush() else {
+        return Err(SessionFault::WriteFailed);
+    };
+    let Some(line) = next_line(reader, budget)? else {
+        return Ok(None);
+    };
+    match serve(core, lists, writer, line.request()) {
+        Ok(kind) => Ok(Some(Served {
+            kind,
+            is_ended: line.is_ended,
+        })),
+        Err(_) => Err(SessionFault::WriteFailed),
+    }
 }
 
 /// Counts a line of this kind.
@@ -115,29 +166,31 @@ fn count(summary: &mut Summary, kind: LineKind)
     }
 }
 
-/// Serves a line, and says of what kind it was.
-fn serve<W: ByteOut>(core: &mut Core, writer: &mut W, line: &Line) -> Result<LineKind, DeviceFault>
+/// Serves what a line asks for, and says of what kind the line was.
+fn serve<W: ByteOut>(
+    core: &mut Core,
+    lists: &mut Lists,
+    writer: &mut W,
+    asked: Result<Request<'_>, RequestFault>,
+) -> Result<LineKind, DeviceFault>
     ensures image { core.new.image ≡ core.old.image }
     ensures served { (b : Behaviour) → IsBehaviour core.old.image b
-        → ServeGives (deed b core.old.image (kept_asked line.now) core.old.state) (kind_of core.old.image (kept_asked line.now)) result core.new.state
+        → ServeGives (deed b core.old.image (told_by asked.entry) core.old.state) (kind_of core.old.image (told_by asked.entry)) result core.new.state
         (W.written writer.old) (W.written writer.new) (W.faults writer.old) (W.faults writer.new) }
 {
-    if line.is_longer {
-        put_fault(writer, RequestFault::TooLong)?;
-        return Ok(LineKind::Other);
-    }
-    match parse_request(line.kept.as_slice()) {
+    match asked {
         Err(fault) => {
             put_fault(writer, fault)?;
             Ok(LineKind::Other)
         }
-        Ok(request) => serve_request(core, writer, request),
+        Ok(request) => serve_request(core, lists, writer, request),
     }
 }
 
 /// Serves a request, and says of what kind it was.
 fn serve_request<W: ByteOut>(
     core: &mut Core,
+    lists: &mut Lists,
     writer: &mut W,
     request: Request<'_>,
 ) -> Result<LineKind, DeviceFault>
@@ -147,14 +200,15 @@ fn serve_request<W: ByteOut>(
         (W.written writer.old) (W.written writer.new) (W.faults writer.old) (W.faults writer.new) }
 {
     match request {
-        Request::Link(name, link) => serve_link(core, writer, name, link),
+        Request::Link(name, link) => serve_link(core, lists, writer, name, link),
         Request::Result(test, run, value) => make_step(
             core,
+            lists,
             writer,
             Step::Finished(test, run, value),
         ),
-        Request::Tick(now) => make_step(core, writer, Step::Tick(now)),
-        Request::Take => make_step(core, writer, Step::Take),
+        Request::Tick(now) => make_step(core, lists, writer, Step::Tick(now)),
+        Request::Take => make_step(core, lists, writer, Step::Take),
         Request::Status => {
             put_status(writer, core)?;
             Ok(LineKind::Other)
@@ -173,6 +227,7 @@ fn serve_request<W: ByteOut>(
 /// Serves a request for the link state of the interface of this name.
 fn serve_link<W: ByteOut>(
     core: &mut Core,
+    lists: &mut Lists,
     writer: &mut W,
     name: &[u8],
     link: LinkState,
@@ -187,13 +242,14 @@ fn serve_link<W: ByteOut>(
             put_fault(writer, RequestFault::NoInterface)?;
             Ok(LineKind::Other)
         }
-        Some(interface) => make_step(core, writer, Step::Link(interface, link)),
+        Some(interface) => make_step(core, lists, writer, Step::Link(interface, link)),
     }
 }
 
-/// Makes a step and writes its reply.
+/// Makes a step, whose lists go into the place that is lent, and writes its reply.
 fn make_step<W: ByteOut>(
     core: &mut Core,
+    lists: &mut Lists,
     writer: &mut W,
     step: Step,
 ) -> Result<LineKind, DeviceFault>
@@ -202,7 +258,7 @@ fn make_step<W: ByteOut>(
         → ServeGives (step_deed b core.old.image step core.old.state) LineKind.Step result core.new.state
         (W.written writer.old) (W.written writer.new) (W.faults writer.old) (W.faults writer.new) }
 {
-    let reply = core.step(step);
-    put_reply(writer, core, &reply)?;
+    let outcome = core.step_into(step, lists);
+    put_reply(writer, core, outcome, lists)?;
     Ok(LineKind::Step)
 }

@@ -1,19 +1,19 @@
 //! Devices over the readers and writers of std.
 
-ghost use Rattle.std.specs.Prelude.{◌≡◌, ℕ, ◌≤◌, ◌↔◌, [], ◌∷◌, take, Contains, length, Some, MatchOption, IfOk, OnOk, OnErr, IsTrue};
+ghost use Rattle.std.specs.Prelude.{◌≡◌, ℕ, ◌≤◌, [], ◌∷◌, length, None, Some, MatchOption, IfOk, OnOk, OnErr};
 ghost use Rattle.std.specs.Io.KnownBytes.{Keeps, IsAtEnd, ReadConsumes};
-ghost use Rattle.ifs_session.specs.Device.{HasLine};
+ghost use Rattle.ifs_session.specs.Device.{NextGives};
 
 use crate::device::{ByteIn, ByteOut, DeviceFault};
 use std::io::{ErrorKind, Read, Write};
 
 /// How many bytes a reader asks for at once.
-const BUFFER: usize = 4096;
+const BUFFER: usize = 65_536;
 
 /// How often a read is tried again that was interrupted.
 const TRIES: u32 = 1000;
 
-/// A reader of bytes over one of std, with a buffer of 4,096 bytes. It tells the bytes that stand in
+/// A reader of bytes over one of std, with a buffer of 65,536 bytes. It tells the bytes that stand in
 /// its buffer, which can be read without waiting, and where that reader tells its own, all that are
 /// left.
 #[derive(Debug, Drop)]
@@ -22,7 +22,7 @@ pub struct FromRead<R> {
     buffer: [u8; BUFFER],
     start: usize,
     end: usize,
-    ghost within: { (start ≤ end) × (end ≤ 4096) },
+    ghost within: { (start ≤ end) × (end ≤ 65536) },
 }
 
 impl<R: Read> FromRead<R> {
@@ -61,6 +61,17 @@ impl<R: Read> FromRead<R> {
         Some(byte)
     }
 
+    /// The next byte after the buffer, which is empty, is filled anew. It stands apart, so that `next` is short.
+    #[cold]
+    #[inline(never)]
+    fn refilled(&mut self) -> Result<Option<u8>, DeviceFault>
+        requires { buffered self.old ≡ [] }
+        ensures { NextGives result (left_over R.remaining self.old) (left_over R.remaining self.new) None None }
+    {
+        self.fill()?;
+        Ok(self.pop())
+    }
+
     /// Fills the buffer, which is empty, with what one read gives.
     fn fill(&mut self) -> Result<(), DeviceFault>
         requires { buffered self.old ≡ [] }
@@ -91,17 +102,6 @@ fn read_some<R: Read>(reader: &mut R, buffer: &mut [u8; BUFFER]) -> Result<usize
     Err(DeviceFault)
 }
 
-/// Whether one of the first `most` of these bytes is a newline.
-pub(crate) fn has_newline(bytes: &[u8], most: u32) -> bool
-    ensures { IsTrue result ↔ Contains {X = ℕ} (take most bytes.now) 10 }
-{
-    let most = most as usize;
-    if most < bytes.len() {
-        return bytes[..most].contains(&b'\n');
-    }
-    bytes.contains(&b'\n')
-}
-
 impl<R: Read> ByteIn for FromRead<R> {
     ghost use Rattle.ifs_session.specs.Buffer.{buffered, left_over};
 
@@ -113,14 +113,15 @@ impl<R: Read> ByteIn for FromRead<R> {
         if let Some(byte) = self.pop() {
             return Ok(Some(byte));
         }
-        self.fill()?;
-        Ok(self.pop())
+        self.refilled()
     }
 
-    fn has_line(&self, most: u32) -> bool
-        ensures { IsTrue result ↔ HasLine most (Some (buffered self.now)) }
-    {
-        has_newline(self.buffered(), most)
+    fn peek(&self) -> &[u8] {
+        self.buffered()
+    }
+
+    fn skip(&mut self, count: usize) {
+        self.start += count;
     }
 }
 

@@ -6,7 +6,9 @@ use super::*;
 use ifs_rows::{Row, digits_of, images, refusals, sessions};
 use linked_list_allocator::LocalHeap;
 use std::alloc::{AllocError, Global};
+use std::fmt::Display;
 use std::io::{self, ErrorKind, Read};
+use std::process::Abort;
 use std::test::Fail;
 
 /// One state, whose name and whose init's command have bytes that stand escaped in quotes.
@@ -37,21 +39,38 @@ fn input_of(alloc: Global, image: &str, requests: &str) -> Result<Vec<u8>, Alloc
     Ok(input)
 }
 
+/// What a run on these bytes answers and writes, whose lines are read byte by byte.
+fn run_bytewise(alloc: Global, input: &[u8]) -> Result<(Summary, Vec<u8>), Fail> {
+    let mut output = MemoryOut::new(alloc);
+    let summary = run_hex(alloc, &mut MemoryIn::new(input), &mut output)?;
+    let mut written = Vec::new(alloc);
+    written.extend_from_slice(output.written())?;
+    Ok((summary, written))
+}
+
+/// The same over devices of std, of whose buffer whole lines are lent.
+fn run_buffered(alloc: Global, input: &[u8]) -> Result<(Summary, Vec<u8>), Fail> {
+    let mut written = Vec::new(alloc);
+    let summary = run_hex(
+        alloc,
+        &mut FromRead::new(input),
+        &mut ToWrite::new(&mut written),
+    )?;
+    Ok((summary, written))
+}
+
 /// Each row's replies are written, and its last request says whether the session was stopped.
 #[test]
 fn rows(rt: HostRuntime) -> Result<(), Fail> {
     for row in sessions::rows() {
         let bytes = input_of(rt.alloc(), row.image, row.requests)?;
-        let mut input = MemoryIn::new(bytes.as_slice());
-        let mut output = MemoryOut::new(rt.alloc());
-        let summary = run_hex(rt.alloc(), &mut input, &mut output)?;
-        assert_eq!(rt; output.written(), row.replies.as_bytes(), "{}", row.name);
-        assert_eq!(rt;
-            summary.stopped,
-            row.requests.ends_with("stop\n"),
-            "{}",
-            row.name
-        );
+        let stops = row.requests.ends_with("stop\n");
+        let (summary, written) = run_bytewise(rt.alloc(), bytes.as_slice())?;
+        assert_eq!(rt; written.as_slice(), row.replies.as_bytes(), "{}", row.name);
+        assert_eq!(rt; summary.stopped, stops, "{}", row.name);
+        let (summary, written) = run_buffered(rt.alloc(), bytes.as_slice())?;
+        assert_eq!(rt; written.as_slice(), row.replies.as_bytes(), "{}", row.name);
+        assert_eq!(rt; summary.stopped, stops, "{}", row.name);
     }
     Ok(())
 }
@@ -60,14 +79,15 @@ fn rows(rt: HostRuntime) -> Result<(), Fail> {
 fn talks(rt: HostRuntime) -> Result<(), Fail> {
     for (name, image, requests, replies) in TALKS {
         let bytes = input_of(rt.alloc(), image, requests)?;
-        let mut input = MemoryIn::new(bytes.as_slice());
-        let mut output = MemoryOut::new(rt.alloc());
-        run_hex(rt.alloc(), &mut input, &mut output)?;
-        assert_eq!(rt; output.written(), replies.as_bytes(), "{name}");
+        let (_, written) = run_bytewise(rt.alloc(), bytes.as_slice())?;
+        assert_eq!(rt; written.as_slice(), replies.as_bytes(), "{name}");
+        let (_, written) = run_buffered(rt.alloc(), bytes.as_slice())?;
+        assert_eq!(rt; written.as_slice(), replies.as_bytes(), "{name}");
     }
     Ok(())
 }
 
+/// Of lines that are read byte by byte and of such that are lent.
 #[test]
 fn what_follows_stop_is_left(rt: HostRuntime) -> Result<(), Fail> {
     let bytes = input_of(
@@ -75,16 +95,20 @@ fn what_follows_stop_is_left(rt: HostRuntime) -> Result<(), Fail> {
         images::FIRST_RUN,
         "link carp0 up\nwhat\nstop\ntake\n",
     )?;
-    let mut input = MemoryIn::new(bytes.as_slice());
-    let mut output = MemoryOut::new(rt.alloc());
-    let summary = run_hex(rt.alloc(), &mut input, &mut output)?;
     let expected = Summary {
         requests: 3,
         steps: 1,
         stopped: true,
     };
+    let mut output = MemoryOut::new(rt.alloc());
+    let mut input = MemoryIn::new(bytes.as_slice());
+    let summary = run_hex(rt.alloc(), &mut input, &mut output)?;
     assert_eq!(rt; summary, expected);
     assert_eq!(rt; input.left(), b"take\n".as_slice());
+    let mut input = FromRead::new(bytes.as_slice());
+    let summary = run_hex(rt.alloc(), &mut input, &mut output)?;
+    assert_eq!(rt; summary, expected);
+    assert_eq!(rt; input.peek(), b"take\n".as_slice());
     Ok(())
 }
 
@@ -103,22 +127,27 @@ fn first_replies(alloc: Global, row: Row, count: usize) -> Result<String, AllocE
     Ok(replies)
 }
 
+/// Whether a run in which the read after so many calls fails is told so, after these replies.
+fn breaks_reading(alloc: Global, bytes: &[u8], calls: u64, replies: &str) -> bool {
+    let mut output = MemoryOut::new(alloc);
+    let answer = run_hex(
+        alloc,
+        &mut MemoryIn::failing_after(bytes, calls),
+        &mut output,
+    );
+    answer == Err(RunFault::Session(SessionFault::ReadFailed))
+        && output.written() == replies.as_bytes()
+}
+
 /// Each read fails in turn: the replies to the lines that were whole by then have been written.
 #[test]
 fn each_read_fails_in_turn(rt: HostRuntime) -> Result<(), Fail> {
     let bytes = row_input(rt.alloc(), sessions::first_run())?;
     let mut lines: usize = 0;
     for (calls, byte) in bytes.iter().enumerate() {
-        let mut input = MemoryIn::failing_after(bytes.as_slice(), calls as u64);
-        let mut output = MemoryOut::new(rt.alloc());
-        let answer = run_hex(rt.alloc(), &mut input, &mut output);
-        assert_eq!(rt;
-            answer,
-            Err(RunFault::Session(SessionFault::ReadFailed)),
-            "{calls}"
-        );
         let replies = first_replies(rt.alloc(), sessions::first_run(), lines.saturating_sub(1))?;
-        assert_eq!(rt; output.written(), replies.as_bytes(), "{calls}");
+        let is_so = breaks_reading(rt.alloc(), bytes.as_slice(), calls as u64, replies.as_str());
+        assert!(rt; is_so, "{calls}");
         if *byte == b'\n' {
             lines = lines.saturating_add(1);
         }
@@ -179,11 +208,19 @@ const BROKEN: [(&str, &str); 7] = [
     ("49465356", "refused I1 byte 4\n"),
 ];
 
-/// Whether a line is refused, and this is written.
+/// Whether a line is refused, read byte by byte and lent, and this is written.
 fn is_refused(alloc: Global, line: &[u8], answer: &str) -> bool {
     let mut input = MemoryIn::new(line);
     let mut output = MemoryOut::new(alloc);
-    run_hex(alloc, &mut input, &mut output).is_err() && output.written() == answer.as_bytes()
+    let bytewise = run_hex(alloc, &mut input, &mut output).is_err();
+    let mut buffered = FromRead::new(line);
+    let mut other = MemoryOut::new(alloc);
+    let lent = run_hex(alloc, &mut buffered, &mut other).is_err();
+    bytewise
+        && lent
+        && output.written() == answer.as_bytes()
+        && other.written() == answer.as_bytes()
+        && input.left() == buffered.peek()
 }
 
 #[test]
@@ -245,17 +282,31 @@ fn too_much_input(rt: HostRuntime) -> Result<(), Fail> {
     Ok(())
 }
 
+/// A reader of std whose every 32,768th byte is a newline.
+#[derive(Drop)]
+struct LongLines {
+    at: usize,
+}
+
+impl Read for LongLines {
+    fn read(&mut self, buffer: &mut [u8]) -> io::Result<usize> {
+        for byte in buffer.iter_mut() {
+            self.at = self.at.saturating_add(1);
+            *byte = if self.at % 32_768 == 0 { b'\n' } else { b'x' };
+        }
+        Ok(buffer.len())
+    }
+}
+
+/// Of lines that are lent the last byte that may be read is read, and the next one ends the session.
 #[test]
-fn devices_of_std(rt: HostRuntime) -> Result<(), Fail> {
-    let bytes = row_input(rt.alloc(), sessions::first_run())?;
-    let mut output = Vec::new(rt.alloc());
-    let answer = run_hex(
-        rt.alloc(),
-        &mut FromRead::new(bytes.as_slice()),
-        &mut ToWrite::new(&mut output),
-    );
-    assert!(rt; answer.is_ok());
-    assert_eq!(rt; output.as_slice(), sessions::first_run().replies.as_bytes());
+fn too_many_long_lines(rt: HostRuntime) -> Result<(), Fail> {
+    let line = input_of(rt.alloc(), images::FIRST_RUN, "")?;
+    let mut input = FromRead::new(line.as_slice().chain(LongLines { at: 0 }));
+    let mut output = MemoryOut::new(rt.alloc());
+    let answer = run_hex(rt.alloc(), &mut input, &mut output);
+    assert_eq!(rt; answer, Err(RunFault::Session(SessionFault::TooMuchInput)));
+    assert_eq!(rt; output.written().len(), 512 * "fault C2\n".len());
     Ok(())
 }
 
@@ -289,21 +340,29 @@ fn interrupted_reads(rt: HostRuntime) {
     assert_eq!(rt; tired.next(), Ok(Some(b'x')));
 }
 
-/// Every fault's text is its code.
+/// A fault's text is this code.
+fn check_code<T: Display>(
+    rt: &impl Abort,
+    alloc: Global,
+    fault: &T,
+    code: &str,
+) -> Result<(), Fail> {
+    let text = fault.to_string(alloc)?;
+    assert_eq!(rt; text.as_str(), code);
+    Ok(())
+}
+
 #[test]
 fn texts_of_faults(rt: HostRuntime) -> Result<(), Fail> {
-    assert_eq!(rt;
-        SessionFault::ReadFailed.to_string(rt.alloc())?.as_str(),
-        "S1"
-    );
-    assert_eq!(rt;
-        RunFault::Session(SessionFault::TooMuchInput)
-            .to_string(rt.alloc())?
-            .as_str(),
-        "S3"
-    );
-    assert_eq!(rt; RunFault::X1.to_string(rt.alloc())?.as_str(), "X1");
-    assert_eq!(rt; RunFault::Memory.to_string(rt.alloc())?.as_str(), "V0");
-    assert_eq!(rt; RequestFault::TooLong.to_string(rt.alloc())?.as_str(), "C2");
+    check_code(&rt, rt.alloc(), &SessionFault::ReadFailed, "S1")?;
+    check_code(
+        &rt,
+        rt.alloc(),
+        &RunFault::Session(SessionFault::TooMuchInput),
+        "S3",
+    )?;
+    check_code(&rt, rt.alloc(), &RunFault::X1, "X1")?;
+    check_code(&rt, rt.alloc(), &RunFault::Memory, "V0")?;
+    check_code(&rt, rt.alloc(), &RequestFault::TooLong, "C2")?;
     Ok(())
 }

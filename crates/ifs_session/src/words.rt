@@ -1,6 +1,7 @@
 //! Words of replies, written piece by piece: numbers, quoted texts and lists.
 
-ghost use Rattle.std.specs.Prelude.{decimal, map};
+ghost use Rattle.std.specs.Prelude.{◌≡◌, ◌<◌, ◌≤◌, [], ◌∷◌, ◌++◌, length, take, decimal, map};
+ghost use Rattle.std.specs.Bool.{OnTrue};
 ghost use Rattle.std.specs.List.{flat_map};
 ghost use Rattle.ifs_base.specs.Words.{quoted_byte, quoted, listed};
 ghost use Rattle.ifs_session.specs.Device.{PutGives};
@@ -13,7 +14,33 @@ use itoa::Buffer;
 pub(crate) fn put_number<W: ByteOut>(out: &mut W, number: u64) -> Result<(), DeviceFault>
     ensures { PutGives result (decimal number) (W.written out.old) (W.written out.new) (W.faults out.old) (W.faults out.new) }
 {
+    if number < 10 {
+        return out.put(&[digit(number as u8)]);
+    }
     out.put(Buffer::new().format(number).as_bytes())
+}
+
+/// The decimal digit of a number below 10.
+fn digit(number: u8) -> u8
+    requires { number < 10 }
+    ensures { decimal number ≡ result ∷ [] }
+{
+    b'0' + number
+}
+
+/// Writes words and a number.
+#[tactic(auto, using(crate::proofs::Known::written_laws))]
+#[inline(always)]
+pub(crate) fn put_numbered<W: ByteOut>(
+    out: &mut W,
+    words: &[u8],
+    number: u64,
+) -> Result<(), DeviceFault>
+    ensures { PutGives result (words.now ++ decimal number) (W.written out.old) (W.written out.new) (W.faults out.old) (W.faults out.new) }
+{
+    out.put(words)?;
+    put_number(out, number)?;
+    Ok(())
 }
 
 /// Writes a text in quotes.
@@ -26,14 +53,42 @@ pub(crate) fn put_quoted<W: ByteOut>(out: &mut W, text: &[u8]) -> Result<(), Dev
     Ok(())
 }
 
-/// Writes what stands between the quotes of a quoted text.
+/// Writes what stands between the quotes of a quoted text: bytes that stand there as they are in runs,
+/// and the others one by one.
+#[tactic(auto, using(crate::proofs::Known::written_laws))]
 fn put_escaped<W: ByteOut>(out: &mut W, text: &[u8]) -> Result<(), DeviceFault>
     ensures { PutGives result (flat_map quoted_byte text.now) (W.written out.old) (W.written out.new) (W.faults out.old) (W.faults out.new) }
 {
-    for byte in text {
+    let mut left = text;
+    'runs: loop {
+        let (plain, rest) = left.split_at(plain_length(left));
+        out.put(plain)?;
+        let Some((byte, others)) = rest.split_first() else {
+            return Ok(());
+        };
         put_quoted_byte(out, *byte)?;
+        left = others;
     }
-    Ok(())
+}
+
+/// How many bytes at the front of a text stand in quotes as they are.
+fn plain_length(text: &[u8]) -> usize
+    ensures within { result ≤ length text.now }
+    ensures plain { flat_map quoted_byte (take result text.now) ≡ take result text.now }
+{
+    for (index, byte) in text.iter().enumerate() {
+        if !is_plain(*byte) {
+            return index;
+        }
+    }
+    text.len()
+}
+
+/// Whether a byte stands in quotes as it is.
+fn is_plain(byte: u8) -> bool
+    ensures { OnTrue result (quoted_byte byte ≡ byte ∷ []) }
+{
+    matches!(quote_byte(byte), QuotedByte::Plain(_))
 }
 
 /// Writes a byte as it stands in a quoted text.

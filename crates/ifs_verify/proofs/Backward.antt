@@ -49,23 +49,31 @@ pub counted_more : (weight : Op → ℕ) (image : ImageParts) (lower : ℕ → �
     → PlainRulesHold image → IsRoutine image routine → op_at image routine place ≡ Some op → IsCountedFrom weight image lower routine amounts (place + 1)
     → HoldsAmount weight lower (slice_index amounts) op place amount
     → ((bound : ℕ) → HoldsAmount weight lower (slice_index amounts) op place bound → amount ≤ bound)
-    → ((bound : ℕ) → ((k : ℕ) → slice_index amounts k ≤ bound) → amount ≤ 100001 + bound)
+    → ((bound : ℕ) → ((to : ℕ) → IsSuccessor op place to → slice_index amounts to ≤ bound) → amount ≤ 100001 + bound)
     → IsCountedFrom weight image lower routine (set amounts place amount) place
 counted_more weight image lower routine amounts place op amount plain is_routine here counted holds least more =
     let within : place < length (code_of image routine) = slice_get_within (code_of image routine) place op here in
-    let inside : place < length amounts = omega (arith, counted.long) in
+    let inside : place < length amounts = omega (arith, counted.room.long routine) in
     let same : get_or (set amounts place amount) place 0 ≡ amount = get_or-set_same amounts place amount 0 inside in
     let at_place : (k : ℕ) → k ≡ place → get_or (set amounts place amount) k 0 ≡ amount =
     λ k e. subst (λ (n : ℕ). get_or (set amounts place amount) n 0 ≡ amount) (sym e) same in
+    let most : amount ≤ 100001 + (100001 * length (code_of image routine) - 100001 * (place + 1)) =
+    more (100001 * length (code_of image routine) - 100001 * (place + 1)) (λ to is.
+    let later = successor_within image routine place to op plain.ends plain.jumps is_routine here is in
+    omega (arith, counted.low to later.1 (omega (arith, later.0)))) in
     record {
-      long = length-set amounts place amount ∙ counted.long;
-      low = λ k.
+      room = record {
+        long = λ other. omega (arith, length-set amounts place amount, counted.room.long other);
+        small = λ k.
+            elim (cases_eq k place) [
+              | inl e ↦ omega (arith, at_place k e, most, plain.sized.code routine)
+              | inr ne ↦ omega (arith, get_or-set_other amounts place k amount 0 ne, counted.room.small k)
+            ];
+      };
+      low = λ k inside_k le.
           elim (cases_eq k place) [
-            | inl e ↦
-                let most : amount ≤ 100001 + (100001 * length (code_of image routine) - 100001 * (place + 1)) =
-                more (100001 * length (code_of image routine) - 100001 * (place + 1)) (λ j. omega (arith, counted.low j)) in
-                omega (arith, at_place k e, most)
-            | inr ne ↦ omega (arith, get_or-set_other amounts place k amount 0 ne, counted.low k)
+            | inl e ↦ omega (arith, at_place k e, most)
+            | inr ne ↦ omega (arith, get_or-set_other amounts place k amount 0 ne, counted.low k inside_k (omega arith))
           ];
       holds = λ k other le is.
           elim (cases_eq k place) [

@@ -13,7 +13,8 @@ use Rattle.ifs_image.specs.Code.{op_at, code_of, effect}
 use Rattle.ifs_verify.specs.Rules.{IsRoutine}
 use Rattle.ifs_verify.specs.Typing.{IsTyping}
 use Rattle.ifs_verify.specs.Bounds.{AreDepths, AreAmounts, callee_amount}
-use Rattle.ifs_verify.specs.inner.Passes.{PlainRulesHold, IsTypedUpTo, row_at, HoldsHeight, HoldsDepth, HoldsRow, IsHeld, IsCounted, LeastHeights, LeastDepths, LeastAmounts}
+use Rattle.ifs_verify.specs.inner.Passes.{PlainRulesHold, IsTypedUpTo, row_at, HoldsHeight, AllHold, HoldsDepth, HoldsRow, IsHeld, IsCounted, LeastHeights, LeastDepths, LeastAmounts}
+use Rattle.ifs_verify.proofs.Flow.{led_row}
 use Rattle.ifs_verify.proofs.Holding.{passed_at}
 use Rattle.ifs_verify.proofs.Instructions.{op_at-routine}
 use Rattle.ifs_verify.proofs.Ways.{led}
@@ -81,16 +82,12 @@ row_known image routine rows place op typed is =
     let p = typed.passed place op (slice_get_within (code_of image routine) place op is) is in
     p.leaves.here ∙ ap (λ (k : List Kind). Some k) (sym (ap kinds_or p.leaves.here))
 
-abbrev HeldAll : ImageParts → ℕ → List (Option (List Kind)) → List ℕ → ℕ → Type 0
-HeldAll image routine rows heights height = (place : ℕ) (op : Op) (before : List Kind) → op_at image routine place ≡ Some op → row_at rows place ≡ Some before
-    → HoldsHeight image (slice_index heights) op before height
-
 new_low : (image : ImageParts) (heights : List ℕ) (routine height : ℕ) (rows : List (Option (List Kind))) → PlainRulesHold image
     → LeastHeights image heights routine → IsTypedUpTo image routine rows (length (code_of image routine))
-    → ((bound : ℕ) → HeldAll image routine rows heights bound → height ≤ bound) → height ≤ 32 * (routine + 1)
+    → ((bound : ℕ) → AllHold image routine (slice_index heights) (length (code_of image routine)) bound → height ≤ bound) → height ≤ 32 * (routine + 1)
 new_low image heights routine height rows plain found typed least =
-    least (32 * (routine + 1)) (λ place op before is row.
-    let within = slice_get_within (code_of image routine) place op is in
+    least (32 * (routine + 1)) (λ place within op before is way.
+    let row = led_row image routine (length (code_of image routine)) (length (code_of image routine)) place rows before plain typed (omega arith) way in
     let left = passed_at image routine rows (length (code_of image routine)) place op before typed within is row in
     let low : length before ≤ 32 = typed.within place before row in
     record {
@@ -106,7 +103,8 @@ new_low image heights routine height rows plain found typed least =
 
 pub heights_more : (image : ImageParts) (heights : List ℕ) (routine height : ℕ) (rows : List (Option (List Kind))) → PlainRulesHold image
     → LeastHeights image heights routine → IsTypedUpTo image routine rows (length (code_of image routine))
-    → HeldAll image routine rows heights height → ((bound : ℕ) → HeldAll image routine rows heights bound → height ≤ bound)
+    → AllHold image routine (slice_index heights) (length (code_of image routine)) height
+    → ((bound : ℕ) → AllHold image routine (slice_index heights) (length (code_of image routine)) bound → height ≤ bound)
     → LeastHeights image (heights ++ height ∷ []) (routine + 1)
 heights_more image heights routine height rows plain found typed holds least =
     let long : length heights ≡ routine = found.long in
@@ -135,7 +133,8 @@ heights_more image heights routine height rows plain found typed holds least =
                   λ place op is.
                       HoldsHeight-heights image (slice_index heights) (slice_index (heights ++ height ∷ [])) op (kinds_in rows place) height
                       (slice_index (heights ++ height ∷ []) routine) (sym last) (lower routine place op (omega arith) is)
-                      (holds place op (kinds_in rows place) is (row_known image routine rows place op typed is)),
+                      (holds place (slice_get_within (code_of image routine) place op is) op (kinds_in rows place) is
+                      (typed.leads place (kinds_in rows place) (row_known image routine rows place op typed is))),
                 ) in
                 subst (λ (n : ℕ). (kinds : ℕ → List Kind) × IsHeld image (slice_index (heights ++ height ∷ [])) n kinds) (sym e) (kinds_in rows, h)
             | inr ne ↦
@@ -154,9 +153,9 @@ heights_more image heights routine height rows plain found typed holds least =
           elim (cases_eq k routine) [
             | inl e ↦
                 let most : height ≤ all routine =
-                least (all routine) (λ place op before is row.
+                least (all routine) (λ place within op before is way.
                 let is_routine : IsRoutine image routine = op_at-routine image routine place op is in
-                let same : kinds routine place ≡ before = led image routine (length (code_of image routine)) place before (kinds routine) (typings routine is_routine) (typed.leads place before row) in
+                let same : kinds routine place ≡ before = led image routine (length (code_of image routine)) place before (kinds routine) (typings routine is_routine) way in
                 record {
                   before = subst (λ (list : List Kind). length list ≤ all routine) same (are.before routine place op is);
                   after = λ after e. are.after routine place op after is (ap (λ (list : List Kind). effect image op list) same ∙ e);

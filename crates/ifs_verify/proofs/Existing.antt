@@ -1,5 +1,5 @@
 -- Bounds exist, however large, where calls and jumps lead on.
-use Rattle.std.proofs.Common.{ℕ, zero, suc, ◌≡◌, ◌<◌, ◌≤◌, ◌+◌, ◌-◌, ◌*◌, List, slice_index, Some, arith, refl, ap, ◌∙◌, inl, inr}
+use Rattle.std.proofs.Common.{ℕ, zero, suc, ◌≡◌, ◌<◌, ◌≤◌, ◌+◌, ◌-◌, ◌*◌, List, slice_index, Some, arith, refl, ap, sym, ◌∙◌, inl, inr}
 use Rattle.std.proofs.lemmas.Bool.{cases_lt}
 use Rattle.std.proofs.lemmas.Option.{slice_get_within}
 use Rattle.ifs_base.specs.declared.ids.RoutineId.{RoutineId}
@@ -11,10 +11,13 @@ use Rattle.ifs_verify.specs.declared.fault.At.TheVariants.{Code}
 use Rattle.ifs_verify.specs.Rules.{IsRoutine}
 use Rattle.ifs_verify.specs.Bounds.{AreDepths, AreAmounts, callee_amount, cost_of, commands_of, FitsEvents, FitsHandlers}
 use Rattle.ifs_verify.specs.Refused.{AreOver, AreTotals}
-use Rattle.ifs_verify.specs.inner.Passes.{PlainRulesHold, HoldsDepth, LeastDepths, LeastAmounts}
+use Rattle.ifs_verify.specs.inner.Passes.{PlainRulesHold, HoldsDepth, IsCountedFrom, LeastDepths, LeastAmounts, weight_of, limit_of, stated_of}
+use Rattle.ifs_verify.specs.inner.Found.{IsAmount}
+use Rattle.ifs_verify.specs.declared.amounts.Weight.{Weight}
+use Rattle.ifs_verify.specs.declared.amounts.Weight.TheVariants.{Cost, Commands}
 use Rattle.ifs_verify.proofs.Entering.{new_depth}
 use Rattle.ifs_verify.proofs.Flow.{successor_within}
-use Rattle.ifs_verify.proofs.Instructions.{op_at-routine}
+use Rattle.ifs_verify.proofs.Instructions.{op_at-routine, some_code}
 
 pub some_depths : (image : ImageParts) → PlainRulesHold image → AreDepths image (λ routine. routine + 1)
 some_depths image plain = record { own = λ routine. omega arith; calls = λ routine place callee is. omega (arith, plain.calls routine place callee is) }
@@ -109,3 +112,22 @@ amounts_over weight image limit stated amounts routine amount plain found is_rou
       (λ routine. some.0 routine 0, (some.0, some.1, λ routine. refl)),
       λ totals are. omega (arith, least are.0 are.1 (found.least are.0 are.1), are.2 routine, over),
     )
+
+light : (weight : Weight) (op : Op) → weight_of weight op ≤ 1
+light Cost op = cost-light op
+light Commands op = commands-light op
+
+-- The amount of a routine, once all its places are counted.
+pub amount_found : (weight : Weight) (image : ImageParts) (lower amounts : List ℕ) (routine amount : ℕ) → PlainRulesHold image
+    → LeastAmounts (weight_of weight) image (limit_of weight) lower routine → IsRoutine image routine
+    → IsCountedFrom (weight_of weight) image (slice_index lower) routine amounts 0 → amount ≡ slice_index amounts 0 → IsAmount weight image lower routine amount
+amount_found weight image lower amounts routine amount plain found is_routine counted first =
+    let some = some_code image routine plain.ends is_routine in
+    let least : (all : ℕ → ℕ → ℕ) → AreAmounts (weight_of weight) image all → ((k : ℕ) → k < routine → slice_index lower k ≤ all k 0) → amount ≤ all routine 0 =
+    λ all are below. omega (arith, first, counted.least all are below 0 some (omega arith)) in
+    record {
+      holds = (slice_index amounts, sym first, λ place op is. counted.holds place op (omega arith) is);
+      least = least;
+      over = λ over.
+          amounts_over (weight_of weight) image (limit_of weight) (stated_of weight image) lower routine amount plain found is_routine (light weight) least over;
+    }

@@ -1,19 +1,22 @@
 -- The forward pass: what its rows keep when a list of kinds is handed on, and what a refusal shows.
-use Rattle.std.proofs.Common.{ℕ, ◌≡◌, ◌≢◌, ◌<◌, ◌≤◌, ◌+◌, ◌-◌, List, [], length, Option, Some, arith, ap, sym, ◌∙◌, subst, inl, inr, ◌⊎◌}
+use Rattle.std.proofs.Common.{ℕ, ◌≡◌, ◌≢◌, ◌<◌, ◌≤◌, ◌+◌, ◌-◌, List, [], length, replicate, Option, Some, None, arith, ap, sym, ◌∙◌, subst, inl, inr, ◌⊎◌}
 use Rattle.std.proofs.Math.ListN.{set, length-set}
-use Rattle.std.proofs.lemmas.Bool.{cases_eq}
-use Rattle.std.proofs.lemmas.Option.{slice_get_within}
+use Rattle.std.proofs.lemmas.Bool.{cases_eq, cases_lt}
+use Rattle.std.proofs.lemmas.Option.{slice_get_within, slice_get_past}
+use Rattle.std.specs.Option.{option_flatten}
+use Rattle.std.proofs.lemmas.List.{length-replicate}
 use Rattle.ifs_base.specs.declared.op.Kind.{Kind}
 use Rattle.ifs_base.specs.declared.op.Op.{Op}
 use Rattle.ifs_base.specs.declared.op.Op.TheVariants.{Ret, Jump, JumpFalse, JumpTrue}
 use Rattle.ifs_image.specs.declared.parts.ImageParts.{ImageParts}
 use Rattle.ifs_image.specs.Code.{op_at, code_of, target_of, effect, IsSuccessor}
 use Rattle.ifs_verify.specs.Rules.{IsRoutine, RoutinesEnd, JumpsLeadOn}
-use Rattle.ifs_verify.specs.Ways.{Leads, goes_on}
+use Rattle.ifs_verify.specs.Ways.{Leads, begins, goes_on}
 use Rattle.ifs_verify.specs.Refused.{LeavesList, Disagrees}
-use Rattle.ifs_verify.specs.inner.Passes.{next_of, row_at, Extends, Leaves, HasPassed, IsTypedUpTo, PlainRulesHold}
+use Rattle.ifs_verify.specs.inner.Passes.{next_of, row_at, Extends, Leaves, HasPassed, IsTypedUpTo, PlainRulesHold, Yields, AreAhead, AreClear, IsCleared, Stands, IsLeft}
 use Rattle.ifs_verify.proofs.Ways.{Leads-later}
-use Rattle.ifs_verify.proofs.Rows.{Extends-set, row_at-set_cases}
+use Rattle.ifs_verify.proofs.Instructions.{op_at-routine}
+use Rattle.ifs_verify.proofs.Rows.{Extends-set, row_at-set_same, row_at-set_other, row_at-set_cases, row_at-none, some_kinds}
 
 -- A successor is the next place or the target.
 pub successor_cases : (op : Op) (place to : ℕ) → IsSuccessor op place to → (next_of op place ≡ Some to) ⊎ (target_of op ≡ Some to)
@@ -169,3 +172,194 @@ pub ways_disagree : (image : ImageParts) (routine : ℕ) (rows : List (Option (L
     → IsSuccessor op place to → row_at rows to ≡ Some other → other ≢ after → Disagrees image routine place
 ways_disagree image routine rows place to op after other typed here leaves successor row differ =
     (op, after, to, other, list_left image routine rows place op leaves.before after typed here leaves.here leaves.effect_is, successor, typed.leads to other row, differ)
+
+-- What some way leads to a place with stands there in rows whose earlier places are passed.
+pub led_row : (image : ImageParts) (routine done last place : ℕ) (rows : List (Option (List Kind))) (kinds : List Kind) → PlainRulesHold image
+    → IsTypedUpTo image routine rows done → place ≤ done → Leads image routine last place kinds → row_at rows place ≡ Some kinds
+led_row image routine done last place rows kinds plain typed le begins = typed.start
+led_row image routine done last place rows kinds plain typed le (goes_on from to op before after way below is effect_is successor) =
+    let later = successor_within image routine from to op plain.ends plain.jumps (op_at-routine image routine from op is) is successor in
+    let row : row_at rows from ≡ Some before = led_row image routine done last from rows before plain typed (omega (arith, later.0)) way in
+    let p = typed.passed from op (omega (arith, later.0)) is in
+    let same : p.leaves.before ≡ before = some_kinds p.leaves.before before (sym p.leaves.here ∙ row) in
+    p.onward to successor ∙ sym p.leaves.effect_is ∙ ap (λ (list : List Kind). effect image op list) same ∙ effect_is
+
+-- The list of the pass is one that a way leads there with, within the limit.
+pub stands_led : (image : ImageParts) (routine place : ℕ) (here : List Kind) (brought : List (Option (List Kind))) → place < length (code_of image routine)
+    → Stands image routine place here brought → Leads image routine place place here × (length here ≤ 32)
+stands_led image routine place here brought within stands =
+    (stands.typed.leads place here (stands.at_place within), stands.typed.within place here (stands.at_place within))
+
+-- What the instruction leaves of it.
+pub left_of : (image : ImageParts) (routine place : ℕ) (op : Op) (before after : List Kind) (brought : List (Option (List Kind))) → place < length (code_of image routine)
+    → Stands image routine place before brought → Yields image routine op before after → IsLeft image routine place op after brought
+left_of image routine place op before after brought within stands yields = record {
+  rows = stands.rows;
+  typed = stands.typed;
+  leaves = record {
+    before = before;
+    here = stands.at_place within;
+    effect_is = yields.effect_is;
+    within = yields.within;
+    results = yields.results;
+  };
+  ahead = stands.ahead;
+}
+
+ahead-set : (image : ImageParts) (rows brought : List (Option (List Kind))) (place to : ℕ) (after : List Kind) → to < length rows → place < to → AreAhead image rows brought place
+    → AreAhead image (set rows to (Some after)) (set brought to (Some after)) place
+ahead-set image rows brought place to after within above ahead = record {
+  long = omega (arith, length-set rows to (Some after), length-set brought to (Some after), ahead.long);
+  room = λ routine. omega (arith, length-set brought to (Some after), ahead.room routine);
+  passed = λ k le. row_at-set_other brought to k (Some after) (omega arith) ∙ ahead.passed k le;
+  later = λ k past.
+      elim (cases_eq k to) [
+        | inl e ↦
+            subst (λ (n : ℕ). row_at (set rows to (Some after)) n ≡ row_at (set brought to (Some after)) n) (sym e)
+            (row_at-set_same rows to after within ∙ sym (row_at-set_same brought to after (omega (arith, ahead.long))))
+        | inr ne ↦ row_at-set_other rows to k (Some after) ne ∙ ahead.later k past ∙ sym (row_at-set_other brought to k (Some after) ne)
+      ];
+}
+
+-- What was left is brought to a later successor.
+pub left_brought : (image : ImageParts) (routine place to : ℕ) (op : Op) (after : List Kind) (brought : List (Option (List Kind))) → op_at image routine place ≡ Some op
+    → IsLeft image routine place op after brought → IsSuccessor op place to → place < to → to < length (code_of image routine)
+    → ((other : List Kind) → row_at brought to ≡ Some other → other ≡ after) → IsLeft image routine place op after (set brought to (Some after))
+left_brought image routine place to op after brought here left successor later within same =
+    let inside : to < length left.rows = omega (arith, left.typed.long) in
+    let same_row : (other : List Kind) → row_at left.rows to ≡ Some other → other ≡ after = λ other is. same other (sym (left.ahead.later to later) ∙ is) in
+    record {
+      rows = set left.rows to (Some after);
+      typed = handed image routine left.rows place to op after left.typed here left.leaves successor inside same_row;
+      leaves = Leaves-extended image routine left.rows (set left.rows to (Some after)) place op after (Extends-set left.rows to after inside same_row) left.leaves;
+      ahead = ahead-set image left.rows brought place to after inside later left.ahead;
+    }
+
+-- Ways disagree where another list was brought to a later successor.
+pub left_disagrees : (image : ImageParts) (routine place to : ℕ) (op : Op) (after other : List Kind) (brought : List (Option (List Kind))) → op_at image routine place ≡ Some op
+    → IsLeft image routine place op after brought → IsSuccessor op place to → place < to → row_at brought to ≡ Some other → other ≢ after
+    → Disagrees image routine place
+left_disagrees image routine place to op after other brought here left successor later row differ =
+    ways_disagree image routine left.rows place to op after other left.typed here left.leaves successor (left.ahead.later to later ∙ row) differ
+
+-- The pass falls through to the next place.
+pub falls_through : (image : ImageParts) (routine place to : ℕ) (op : Op) (after : List Kind) (brought new : List (Option (List Kind))) → op_at image routine place ≡ Some op
+    → IsLeft image routine place op after brought → next_of op place ≡ Some to → to < length (code_of image routine)
+    → ((other : List Kind) → row_at brought to ≡ Some other → other ≡ after) → ((k : ℕ) → target_of op ≡ Some k → place < k)
+    → ((k : ℕ) → target_of op ≡ Some k → row_at brought k ≡ Some after) → IsCleared brought new to → Stands image routine (place + 1) after new
+falls_through image routine place to op after brought new here left next within same later met clear =
+    let e : to ≡ place + 1 = (next_is op place to next).1 in
+    let inside : to < length left.rows = omega (arith, left.typed.long) in
+    let same_row : (other : List Kind) → row_at left.rows to ≡ Some other → other ≡ after = λ other is. same other (sym (left.ahead.later to (omega arith)) ∙ is) in
+    let extends : Extends left.rows (set left.rows to (Some after)) = Extends-set left.rows to after inside same_row in
+    let written : row_at (set left.rows to (Some after)) to ≡ Some after = row_at-set_same left.rows to after inside in
+    record {
+      rows = set left.rows to (Some after);
+      typed = passed_more image routine (set left.rows to (Some after)) place op
+          (handed image routine left.rows place to op after left.typed here left.leaves (next_successor op place to next) inside same_row) here
+          (record {
+            after = after;
+            leaves = Leaves-extended image routine left.rows (set left.rows to (Some after)) place op after extends left.leaves;
+            onward = λ k successor.
+                elim (successor_cases op place k successor) [
+                  | inl is ↦ subst (λ (n : ℕ). row_at (set left.rows to (Some after)) n ≡ Some after) (some_number to k (sym next ∙ is)) written
+                  | inr is ↦ extends k after (left.ahead.later k (later k is) ∙ met k is)
+                ];
+          });
+      at_place = λ _. subst (λ (n : ℕ). row_at (set left.rows to (Some after)) n ≡ Some after) e written;
+      ahead = record {
+        long = omega (arith, left.ahead.long, length-set left.rows to (Some after), clear.long);
+        room = λ other. omega (arith, left.ahead.room other, clear.long);
+        passed = λ k le.
+            elim (cases_eq k to) [
+              | inl at_to ↦ subst (λ (n : ℕ). row_at new n ≡ None) (sym at_to) clear.at_place
+              | inr ne ↦ clear.others k ne ∙ left.ahead.passed k (omega arith)
+            ];
+        later = λ k past.
+            row_at-set_other left.rows to k (Some after) (omega arith) ∙ left.ahead.later k (omega arith) ∙ sym (clear.others k (omega arith));
+      };
+    }
+
+-- The pass goes on with what was brought to the next place.
+pub takes_up : (image : ImageParts) (routine place : ℕ) (op : Op) (after here : List Kind) (brought new : List (Option (List Kind))) → PlainRulesHold image
+    → op_at image routine place ≡ Some op → IsLeft image routine place op after brought → next_of op place ≡ None
+    → ((k : ℕ) → target_of op ≡ Some k → place < k) → ((k : ℕ) → target_of op ≡ Some k → row_at brought k ≡ Some after)
+    → ((kinds : List Kind) → row_at brought (place + 1) ≡ Some kinds → here ≡ kinds) → IsCleared brought new (place + 1)
+    → Stands image routine (place + 1) here new
+takes_up image routine place op after here brought new plain is left none later met taken clear =
+    let typed : IsTypedUpTo image routine left.rows (place + 1) =
+    passed_more image routine left.rows place op left.typed is
+    (record {
+      after = after;
+      leaves = left.leaves;
+      onward = λ k successor.
+          elim (successor_cases op place k successor) [
+            | inl next ↦ let never : None ≡ Some k = sym none ∙ next in cc
+            | inr target ↦ left.ahead.later k (later k target) ∙ met k target
+          ];
+    }) in
+    record {
+      rows = left.rows;
+      typed = typed;
+      at_place = λ within.
+          let found = row_found image routine (place + 1) left.rows plain typed within in
+          found.1 ∙ ap (λ (k : List Kind). Some k) (sym (taken found.0 (sym (left.ahead.later (place + 1) (omega arith)) ∙ found.1)));
+      ahead = record {
+        long = omega (arith, left.ahead.long, clear.long);
+        room = λ other. omega (arith, left.ahead.room other, clear.long);
+        passed = λ k le.
+            elim (cases_eq k (place + 1)) [
+              | inl e ↦ subst (λ (n : ℕ). row_at new n ≡ None) (sym e) clear.at_place
+              | inr ne ↦ clear.others k ne ∙ left.ahead.passed k (omega arith)
+            ];
+        later = λ k past. left.ahead.later k (omega arith) ∙ sym (clear.others k (omega arith));
+      };
+    }
+
+-- Before the first place, with the empty list and none that was brought to another place.
+pub stands_first : (image : ImageParts) (routine : ℕ) (brought : List (Option (List Kind))) → 0 < length (code_of image routine)
+    → AreClear image brought → Stands image routine 0 [] brought
+stands_first image routine brought some clear =
+    let empty : List (Option (List Kind)) = replicate (length (code_of image routine)) None in
+    let long : length empty ≡ length (code_of image routine) = length-replicate (length (code_of image routine)) None in
+    let within : 0 < length empty = omega arith in
+    let written : row_at (set empty 0 (Some [])) 0 ≡ Some [] = row_at-set_same empty 0 [] within in
+    let only : (place : ℕ) (kinds : List Kind) → row_at (set empty 0 (Some [])) place ≡ Some kinds → (place ≡ 0) × (kinds ≡ []) =
+    λ place kinds is.
+    elim (row_at-set_cases empty 0 [] within place kinds is) [
+      | inl new ↦ new
+      | inr old ↦ let never : None ≡ Some kinds = sym (row_at-none (length (code_of image routine)) place) ∙ old in cc
+    ] in
+    record {
+      rows = set empty 0 (Some []);
+      typed = record {
+        long = length-set empty 0 (Some []) ∙ long;
+        start = written;
+        within = λ place kinds is. subst (λ (list : List Kind). length list ≤ 32) (sym (only place kinds is).1) (omega arith);
+        passed = λ place op below. absurd (omega arith);
+        leads = λ place kinds is.
+            let first = only place kinds is in
+            subst (λ (n : ℕ). Leads image routine 0 n kinds) (sym first.0) (subst (λ (list : List Kind). Leads image routine 0 0 list) (sym first.1) begins);
+      };
+      at_place = λ _. written;
+      ahead = record {
+        long = omega (arith, length-set empty 0 (Some []), clear.room routine);
+        room = clear.room;
+        passed = λ to le. clear.none to;
+        later = λ to past.
+            row_at-set_other empty 0 to (Some []) (omega arith) ∙ row_at-none (length (code_of image routine)) to ∙ sym (clear.none to);
+      };
+    }
+
+-- Behind the last place nothing is kept.
+pub clear_behind : (image : ImageParts) (routine : ℕ) (here : List Kind) (brought : List (Option (List Kind))) → Stands image routine (length (code_of image routine)) here brought
+    → AreClear image brought
+clear_behind image routine here brought stands = record {
+  room = stands.ahead.room;
+  none = λ place.
+      elim (cases_lt (length (code_of image routine)) place) [
+        | inl past ↦
+            sym (stands.ahead.later place past) ∙ ap option_flatten (slice_get_past stands.rows place (omega (arith, stands.typed.long)))
+        | inr le ↦ stands.ahead.passed place le
+      ];
+}

@@ -1,5 +1,5 @@
 -- Rows of lists of kinds: what stands at a place after another was written, and what one reads.
-use Rattle.std.proofs.Common.{ℕ, ◌≡◌, ◌≢◌, ◌<◌, List, length, Option, Some, None, get_or, arith, refl, ap, sym, ◌∙◌, subst, inl, inr, ◌⊎◌}
+use Rattle.std.proofs.Common.{ℕ, zero, suc, replicate, ◌≡◌, ◌≢◌, ◌<◌, List, length, Option, Some, None, get_or, arith, refl, ap, sym, ◌∙◌, subst, inl, inr, ◌⊎◌}
 use Rattle.std.specs.List.{slice_get}
 use Rattle.std.specs.Option.{option_flatten}
 use Rattle.std.proofs.Math.ListN.{set, length-set}
@@ -25,8 +25,13 @@ slice_get-set_other xs k j x other =
 pub row_at-set_same : (rows : List (Option (List Kind))) (k : ℕ) (kinds : List Kind) → k < length rows → row_at (set rows k (Some kinds)) k ≡ Some kinds
 row_at-set_same rows k kinds below = ap option_flatten (slice_get-set_same rows k (Some kinds) below)
 
-pub row_at-set_other : (rows : List (Option (List Kind))) (k j : ℕ) (kinds : List Kind) → j ≢ k → row_at (set rows k (Some kinds)) j ≡ row_at rows j
-row_at-set_other rows k j kinds other = ap option_flatten (slice_get-set_other rows k j (Some kinds) other)
+pub row_at-set_other : (rows : List (Option (List Kind))) (k j : ℕ) (row : Option (List Kind)) → j ≢ k → row_at (set rows k row) j ≡ row_at rows j
+row_at-set_other rows k j row other = ap option_flatten (slice_get-set_other rows k j row other)
+
+pub row_at-none : (n k : ℕ) → row_at (replicate n None) k ≡ None
+row_at-none zero k = refl
+row_at-none (suc n) zero = refl
+row_at-none (suc n) (suc k) = row_at-none n k
 
 pub row_at-read : (rows : List (Option (List Kind))) (k : ℕ) (row : Option (List Kind)) → k < length rows → row ≡ get_or rows k row → row_at rows k ≡ row
 row_at-read rows k row below read = ap option_flatten (slice_get_read rows (length rows) k row refl below read)
@@ -50,7 +55,7 @@ Extends-set rows to after below same place kinds is =
           let there : row_at rows to ≡ Some kinds = subst (λ (n : ℕ). row_at rows n ≡ Some kinds) e is in
           subst (λ (n : ℕ). row_at (set rows to (Some after)) n ≡ Some kinds) (sym e)
           (row_at-set_same rows to after below ∙ ap (λ (x : List Kind). Some x) (sym (same kinds there)))
-      | inr other ↦ row_at-set_other rows to place after other ∙ is
+      | inr other ↦ row_at-set_other rows to place (Some after) other ∙ is
     ]
 
 -- What stands after the write is what was written, or stood before.
@@ -62,5 +67,5 @@ row_at-set_cases rows to after below place kinds is =
           let there : row_at (set rows to (Some after)) to ≡ Some kinds = subst (λ (n : ℕ). row_at (set rows to (Some after)) n ≡ Some kinds) e is in
           let written : row_at (set rows to (Some after)) to ≡ Some after = row_at-set_same rows to after below in
           inl (e, some_kinds kinds after (sym there ∙ written))
-      | inr other ↦ inr (sym (row_at-set_other rows to place after other) ∙ is)
+      | inr other ↦ inr (sym (row_at-set_other rows to place (Some after) other) ∙ is)
     ]

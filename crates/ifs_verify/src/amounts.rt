@@ -3,13 +3,14 @@
 ghost use Rattle.std.specs.Prelude.{ℕ, ◌≡◌, ◌+◌, ◌<◌, ◌≤◌, Some, IfOk, length, slice_index, slice_set};
 ghost use Rattle.ifs_base.specs.declared.ids.RoutineId.{RoutineId};
 ghost use Rattle.ifs_base.specs.declared.op.Op.TheVariants.{Call};
-ghost use Rattle.ifs_image.specs.Code.{code_of, IsSuccessor};
-ghost use Rattle.ifs_verify.specs.declared.fault.At.TheVariants.{Code};
-ghost use Rattle.ifs_verify.specs.Bounds.{AreAmounts, callee_amount};
+ghost use Rattle.ifs_image.specs.Code.{op_at, IsSuccessor};
+ghost use Rattle.ifs_verify.specs.declared.amounts.Weight.TheVariants.{Cost, Commands};
+ghost use Rattle.ifs_verify.specs.Bounds.{callee_amount, cost_of, commands_of};
 ghost use Rattle.ifs_verify.specs.Rules.{IsRoutine};
-ghost use Rattle.ifs_verify.specs.inner.Passes.{PlainRulesHold, HoldsAmount, HoldsRow, IsCountedFrom, LeastAmounts, AmountIsOver, weight_of, limit_of, amount_behind};
+ghost use Rattle.ifs_verify.specs.inner.Passes.{IsSized, PlainRulesHold, HoldsAmount, IsCountedFrom, LeastAmounts, weight_of, limit_of, amount_behind};
+ghost use Rattle.ifs_verify.specs.inner.Found.{IsAmount, HaveRoom};
 
-use crate::places::{code, next, op_at, target};
+use crate::places::{code, next, op_at, room, target};
 use crate::tables::greater;
 use ifs_base::Op;
 use ifs_image::ImageParts;
@@ -24,34 +25,93 @@ pub enum Weight {
     Commands,
 }
 
-/// How much a run of a routine amounts to at most, where `lower` says it of the routines below.
-pub fn amount_of(
-    alloc: Global,
+/// What runs of one routine amount to at most.
+#[derive(Clone, Copy)]
+pub struct Amounts {
+    /// Executed instructions.
+    pub cost: u32,
+    /// Queued commands.
+    pub commands: u32,
+}
+
+/// Room for the amounts from each place of a routine on.
+#[derive(Drop)]
+pub struct Rows {
+    /// Executed instructions.
+    pub costs: Vec<u32>,
+    /// Queued commands.
+    pub commands: Vec<u32>,
+}
+
+impl Rows {
+    /// Room for the amounts of each routine of an image.
+    pub fn new(alloc: Global, image: &ImageParts) -> Result<Self, AllocError>
+        requires { IsSized image.now }
+        ensures { IfOk result (HaveRoom image.now) }
+    {
+        let places = room(image);
+        let costs = zeros(alloc, places)?;
+        let commands = zeros(alloc, places)?;
+        Ok(Rows { costs, commands })
+    }
+}
+
+/// So many zeros.
+fn zeros(alloc: Global, count: usize) -> Result<Vec<u32>, AllocError>
+    ensures long { IfOk result (λ amounts. length amounts.items ≡ count) }
+    ensures zero { IfOk result (λ amounts. (k : ℕ) → slice_index amounts.items k ≡ 0) }
+{
+    let mut amounts: Vec<u32> = Vec::new(alloc);
+    amounts.resize(count, 0)?;
+    Ok(amounts)
+}
+
+/// How much a run of a routine amounts to at most, where `costs` and `commands` say it of the routines
+/// below. What stands in `rows` before is of no account.
+pub fn amounts_of(
     image: &ImageParts,
     routine: usize,
-    weight: Weight,
-    lower: &[u32],
-) -> Result<u32, AllocError>
+    costs: &[u32],
+    commands: &[u32],
+    rows: &mut Rows,
+) -> Amounts
     requires plain { PlainRulesHold image.now }
     requires routine { IsRoutine image.now routine }
-    requires lower { LeastAmounts (weight_of weight) image.now (limit_of weight) lower.now routine }
-    ensures holds { IfOk result (λ amount. (row : ℕ → ℕ) × (row 0 ≡ amount) × HoldsRow (weight_of weight) image.now (slice_index lower.now) routine row) }
-    ensures least { IfOk result (λ amount. (all : ℕ → ℕ → ℕ) → AreAmounts (weight_of weight) image.now all → ((k : ℕ) → k < routine → slice_index lower.now k ≤ all k 0) → amount ≤ all routine 0) }
-    ensures over { IfOk result (λ amount. limit_of weight < amount → AmountIsOver weight image.now (Code (record { 0 = routine }) 0)) }
+    requires costs { LeastAmounts cost_of image.now 100000 costs.now routine }
+    requires commands { LeastAmounts commands_of image.now 64 commands.now routine }
+    requires room { HaveRoom image.now rows.old }
+    ensures cost { IsAmount Cost image.now costs.now routine result.cost }
+    ensures commands { IsAmount Commands image.now commands.now routine result.commands }
+    ensures room { HaveRoom image.now rows.new }
 {
-    let count = code(image, routine).len();
-    let mut amounts = zeros(alloc, count)?;
+    let code = code(image, routine);
+    let count = code.len();
     for done in 0..count {
+        let place = count - 1 - done;
+        let op = op_at(code, place);
         count_at(
             image,
             routine,
-            count - 1 - done,
-            weight,
-            lower,
-            &mut amounts,
+            place,
+            op,
+            Weight::Cost,
+            costs,
+            &mut rows.costs,
+        );
+        count_at(
+            image,
+            routine,
+            place,
+            op,
+            Weight::Commands,
+            commands,
+            &mut rows.commands,
         );
     }
-    Ok(first(&amounts))
+    Amounts {
+        cost: first(&rows.costs),
+        commands: first(&rows.commands),
+    }
 }
 
 /// The amount from one place on, where those of all later places are known.
@@ -59,19 +119,18 @@ fn count_at(
     image: &ImageParts,
     routine: usize,
     place: usize,
+    op: Op,
     weight: Weight,
     lower: &[u32],
     amounts: &mut Vec<u32>,
 )
     requires plain { PlainRulesHold image.now }
     requires routine { IsRoutine image.now routine }
-    requires place { place < length (code_of image.now routine) }
-    requires long { length lower.now ≡ routine }
-    requires low { (k : ℕ) → slice_index lower.now k ≤ 100000 }
+    requires op { op_at image.now routine place ≡ Some op }
+    requires lower { LeastAmounts (weight_of weight) image.now (limit_of weight) lower.now routine }
     requires counted { IsCountedFrom (weight_of weight) image.now (slice_index lower.now) routine amounts.old.items (place + 1) }
     ensures { IsCountedFrom (weight_of weight) image.now (slice_index lower.now) routine amounts.new.items place }
 {
-    let op = op_at(code(image, routine), place);
     let amount = amount_at(op, place, weight, lower, amounts);
     put(amounts, place, amount);
 }
@@ -92,18 +151,6 @@ fn put(amounts: &mut Vec<u32>, place: usize, amount: u32)
     amounts[place] = amount;
 }
 
-/// So many zeros.
-fn zeros(alloc: Global, count: usize) -> Result<Vec<u32>, AllocError>
-    ensures long { IfOk result (λ amounts. length amounts.items ≡ count) }
-    ensures zero { IfOk result (λ amounts. (k : ℕ) → slice_index amounts.items k ≡ 0) }
-{
-    let mut amounts: Vec<u32> = Vec::new(alloc);
-    for _place in 0..count {
-        amounts.push(0)?;
-    }
-    Ok(amounts)
-}
-
 /// The amount from one place on, where those of its successors are known.
 fn amount_at(op: Op, place: usize, weight: Weight, lower: &[u32], amounts: &Vec<u32>) -> u32
     requires place { place < 1024 }
@@ -113,7 +160,7 @@ fn amount_at(op: Op, place: usize, weight: Weight, lower: &[u32], amounts: &Vec<
     requires room { (k : ℕ) → slice_index amounts.now.items k ≤ 200000000 }
     ensures holds { HoldsAmount (weight_of weight) (slice_index lower.now) (slice_index amounts.now.items) op place result }
     ensures least { (bound : ℕ) → HoldsAmount (weight_of weight) (slice_index lower.now) (slice_index amounts.now.items) op place bound → result ≤ bound }
-    ensures more { (bound : ℕ) → ((k : ℕ) → slice_index amounts.now.items k ≤ bound) → result ≤ 100001 + bound }
+    ensures more { (bound : ℕ) → ((to : ℕ) → IsSuccessor op place to → slice_index amounts.now.items to ≤ bound) → result ≤ 100001 + bound }
 {
     let own = weigh(weight, op) + called(op, lower);
     let onward = greater(

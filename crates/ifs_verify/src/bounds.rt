@@ -6,9 +6,9 @@ ghost use Rattle.ifs_verify.specs.Rules.{IsRoutine};
 ghost use Rattle.ifs_verify.specs.Refused.{StackIsOver};
 ghost use Rattle.ifs_verify.specs.Bounds.{cost_of, commands_of};
 ghost use Rattle.ifs_verify.specs.inner.Passes.{PlainRulesHold, IsRefused, LeastHeights};
-ghost use Rattle.ifs_verify.specs.inner.Found.{AreFound};
+ghost use Rattle.ifs_verify.specs.inner.Found.{AreFound, HaveRoom};
 
-use crate::amounts::{Weight, amount_of};
+use crate::amounts::{Rows, amounts_of};
 use crate::depths::depth_of;
 use crate::fault::VerifyFault;
 use crate::places::at;
@@ -46,24 +46,27 @@ pub fn check_bounds(
         costs: Vec::new(alloc),
         commands: Vec::new(alloc),
     };
+    let mut rows = Rows::new(alloc, image)?;
     for routine in 0..image.routines.len() {
-        find_bounds(alloc, image, routine, heights, &mut bounds)?;
+        find_bounds(image, routine, heights, &mut rows, &mut bounds)?;
     }
     Ok(bounds)
 }
 
 /// The bounds of one routine, where those of the lower ones are known.
 fn find_bounds(
-    alloc: Global,
     image: &ImageParts,
     routine: usize,
     heights: &Vec<u32>,
+    rows: &mut Rows,
     bounds: &mut Bounds,
 ) -> Result<(), VerifyFault>
     requires plain { PlainRulesHold image.now }
     requires heights { LeastHeights image.now heights.now.items (length image.now.routines) }
     requires routine { IsRoutine image.now routine }
     requires lower { AreFound image.now heights.now.items bounds.old routine }
+    requires room { HaveRoom image.now rows.old }
+    ensures room { HaveRoom image.now rows.new }
     ensures found { OnOk result (AreFound image.now heights.now.items bounds.new (routine + 1)) }
     ensures refused { IfErr result (IsRefused image.now) }
 {
@@ -75,23 +78,22 @@ fn find_bounds(
     if depth > u32::from(limits::FRAMES) {
         return Err(VerifyFault::FramesOver(at(routine, 0)));
     }
-    let cost = amount_of(alloc, image, routine, Weight::Cost, bounds.costs.as_slice())?;
-    if cost > ROUTINE_COST {
-        return Err(VerifyFault::CostOver(at(routine, 0)));
-    }
-    let commands = amount_of(
-        alloc,
+    let amounts = amounts_of(
         image,
         routine,
-        Weight::Commands,
+        bounds.costs.as_slice(),
         bounds.commands.as_slice(),
-    )?;
-    if commands > u32::from(limits::COMMANDS_OF_EVENT) {
+        rows,
+    );
+    if amounts.cost > ROUTINE_COST {
+        return Err(VerifyFault::CostOver(at(routine, 0)));
+    }
+    if amounts.commands > u32::from(limits::COMMANDS_OF_EVENT) {
         return Err(VerifyFault::CommandsOver(at(routine, 0)));
     }
     bounds.depths.push(depth)?;
-    bounds.costs.push(cost)?;
-    bounds.commands.push(commands)?;
+    bounds.costs.push(amounts.cost)?;
+    bounds.commands.push(amounts.commands)?;
     Ok(())
 }
 

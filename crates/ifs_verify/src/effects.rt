@@ -1,6 +1,6 @@
 //! What an instruction leaves on the stack.
 
-ghost use Rattle.std.specs.Prelude.{ℕ, ◌≡◌, ◌≤◌, ◌<◌, ◌↔◌, ◌++◌, IsTrue, length};
+ghost use Rattle.std.specs.Prelude.{◌≡◌, ◌≤◌, ◌<◌, ◌↔◌, ◌++◌, IsTrue, length, Some, None, MatchOption};
 ghost use Rattle.ifs_base.specs.declared.op.Op.TheVariants.{Ret};
 ghost use Rattle.ifs_image.specs.Code.{effect, results_of};
 ghost use Rattle.ifs_verify.specs.Rules.{IsRoutine, HasOperand};
@@ -11,53 +11,70 @@ use crate::stack::Stack;
 use ifs_base::{Kind, Op};
 use ifs_image::ImageParts;
 
-/// The kinds after an instruction. `None` where an operand is missing or of the wrong kind.
-pub fn effect_of(image: &ImageParts, op: Op, before: &Stack) -> Option<Stack>
+/// Does to a list of kinds what an instruction does. `None` where an operand is missing or of the wrong
+/// kind; what stands then in the list is not said.
+pub fn apply(image: &ImageParts, op: Op, stack: &mut Stack) -> Option<()>
     requires sized { IsSized image.now }
     requires operand { HasOperand image.now op }
-    requires within { length before.now ≤ 32 }
-    ensures { result ≡ effect image.now op before.now }
+    requires within { length stack.old ≤ 32 }
+    ensures { MatchOption result (effect image.now op stack.old ≡ None) (λ _. effect image.now op stack.old ≡ Some stack.new) }
 {
-    let mut stack = before.copied();
     match op {
-        Op::Ret | Op::Jump(_) => Some(stack),
+        Op::Ret | Op::Jump(_) => Some(()),
         Op::Yes | Op::No | Op::Link(_, _) | Op::Test(_) | Op::Known(_) => {
-            Some(stack.with(Kind::Truth))
+            stack.push(Kind::Truth);
+            Some(())
         }
-        Op::Negate => Some(stack.without(Kind::Truth)?.with(Kind::Truth)),
+        Op::Negate => {
+            stack.take(Kind::Truth)?;
+            stack.push(Kind::Truth);
+            Some(())
+        }
         Op::Both | Op::Either => {
-            let below = stack.without(Kind::Truth)?;
-            Some(below.without(Kind::Truth)?.with(Kind::Truth))
+            stack.take(Kind::Truth)?;
+            stack.take(Kind::Truth)?;
+            stack.push(Kind::Truth);
+            Some(())
         }
-        Op::PushCommand(_) => Some(stack.with(Kind::Command)),
-        Op::PushState(_) => Some(stack.with(Kind::StateName)),
-        Op::Queue => stack.without(Kind::Command),
-        Op::Want => stack.without(Kind::StateName),
-        Op::JumpFalse(_) | Op::JumpTrue(_) => stack.without(Kind::Truth),
-        Op::Call(callee) => Some(with_results(image, usize::from(callee.0), stack)),
+        Op::PushCommand(_) => {
+            stack.push(Kind::Command);
+            Some(())
+        }
+        Op::PushState(_) => {
+            stack.push(Kind::StateName);
+            Some(())
+        }
+        Op::Queue => stack.take(Kind::Command),
+        Op::Want => stack.take(Kind::StateName),
+        Op::JumpFalse(_) | Op::JumpTrue(_) => stack.take(Kind::Truth),
+        Op::Call(callee) => {
+            push_results(image, usize::from(callee.0), stack);
+            Some(())
+        }
         Op::Pop => {
-            let _ = stack.pop()?;
-            Some(stack)
+            stack.pop()?;
+            Some(())
         }
         Op::Dup => {
             let top = stack.pop()?;
-            Some(stack.with(top).with(top))
+            stack.push(top);
+            stack.push(top);
+            Some(())
         }
     }
 }
 
-/// The list with a routine's results on top.
-pub fn with_results(image: &ImageParts, routine: usize, stack: Stack) -> Stack
+/// Puts a routine's results on top.
+fn push_results(image: &ImageParts, routine: usize, stack: &mut Stack)
     requires sized { IsSized image.now }
     requires routine { IsRoutine image.now routine }
-    requires within { length stack ≤ 32 }
-    ensures { result ≡ results_of image.now routine ++ stack }
+    requires within { length stack.old ≤ 32 }
+    ensures { stack.new ≡ results_of image.now routine ++ stack.old }
 {
     if result_count(image, routine) == 0 {
-        stack
-    } else {
-        stack.with(Kind::Truth)
+        return;
     }
+    stack.push(Kind::Truth);
 }
 
 /// Whether a list is a routine's results, where the instruction is `ret`.
@@ -75,5 +92,7 @@ fn are_results(image: &ImageParts, routine: usize, stack: &Stack) -> bool
     requires routine { IsRoutine image.now routine }
     ensures { IsTrue result ↔ (stack.now ≡ results_of image.now routine) }
 {
-    stack.is_same(&with_results(image, routine, Stack::new()))
+    let mut results = Stack::new();
+    push_results(image, routine, &mut results);
+    stack.is_same(&results)
 }

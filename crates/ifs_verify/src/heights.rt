@@ -1,66 +1,65 @@
 //! How high the stack grows in a routine.
 
-ghost use Rattle.std.specs.Prelude.{ℕ, ◌≡◌, ◌+◌, ◌*◌, ◌<◌, ◌≤◌, List, Some, length, slice_index};
-ghost use Rattle.ifs_base.specs.declared.op.Op.{Op};
-ghost use Rattle.ifs_base.specs.declared.op.Kind.{Kind};
-ghost use Rattle.ifs_image.specs.Code.{op_at, code_of, effect};
+ghost use Rattle.std.specs.Prelude.{ℕ, ◌≡◌, ◌≤◌, ◌<◌, ◌+◌, length, slice_index, IfOk, OnOk, IfErr};
+ghost use Rattle.ifs_base.specs.declared.ids.RoutineId.{RoutineId};
+ghost use Rattle.ifs_base.specs.declared.op.Op.TheVariants.{Call};
+ghost use Rattle.ifs_image.specs.Code.{code_of};
 ghost use Rattle.ifs_verify.specs.Rules.{IsRoutine};
-ghost use Rattle.ifs_verify.specs.inner.Passes.{PlainRulesHold, IsTypedUpTo, row_at, HoldsHeight, AreLow};
+ghost use Rattle.ifs_verify.specs.inner.Passes.{PlainRulesHold, IsRefused, IsTypable, AllHold, IsHighEnough, AreLow, AreClear};
 
-use crate::effects::effect_of;
+use crate::fault::VerifyFault;
 use crate::places::{code, op_at};
 use crate::stack::Stack;
 use crate::tables::greater;
+use crate::typing::pass;
 use ifs_base::Op;
 use ifs_image::ImageParts;
 
 /// The greatest length of a list at any place or after any instruction, and at a call the length
-/// before it and the callee's height.
+/// before it and the callee's height, where the routine has a typing: V6, V7, V9, and V10 at an
+/// instruction.
+///
+/// `brought` is room for lists, without any before and, where an `Ok` is answered, after.
 pub fn height_of(
     image: &ImageParts,
     routine: usize,
-    rows: &Vec<Option<Stack>>,
     heights: &[u32],
-) -> u32
+    brought: &mut Vec<Option<Stack>>,
+) -> Result<u32, VerifyFault>
     requires plain { PlainRulesHold image.now }
     requires routine { IsRoutine image.now routine }
-    requires typed { IsTypedUpTo image.now routine rows.now.items (length (code_of image.now routine)) }
     requires long { length heights.now ≡ routine }
     requires low { AreLow heights.now }
-    ensures holds { (place : ℕ) (op : Op) (before : List Kind) → op_at image.now routine place ≡ Some op → row_at rows.now.items place ≡ Some before → HoldsHeight image.now (slice_index heights.now) op before result }
-    ensures least { (bound : ℕ) → ((place : ℕ) (op : Op) (before : List Kind) → op_at image.now routine place ≡ Some op → row_at rows.now.items place ≡ Some before → HoldsHeight image.now (slice_index heights.now) op before bound) → result ≤ bound }
+    requires clear { AreClear image.now brought.old.items }
+    ensures clear { OnOk result (AreClear image.now brought.new.items) }
+    ensures typed { IfOk result (λ height. IsTypable image.now routine) }
+    ensures holds { IfOk result (λ height. AllHold image.now routine (slice_index heights.now) (length (code_of image.now routine)) height) }
+    ensures least { IfOk result (λ height. (bound : ℕ) → AllHold image.now routine (slice_index heights.now) (length (code_of image.now routine)) bound → height ≤ bound) }
+    ensures refused { IfErr result (IsRefused image.now) }
 {
-    let code = code(image, routine);
+    let mut here = Stack::new();
     let mut height = 0;
+    let code = code(image, routine);
     for place in 0..code.len() {
-        let Some(before) = &rows[place] else {
-            unreachable!()
-        };
-        let here = height_at(image, routine, op_at(code, place), before, heights);
-        height = greater(height, here);
+        let op = op_at(code, place);
+        let needed = pass(image, routine, place, op, heights, &mut here, brought)?;
+        height = greater(height, needed);
     }
-    height
+    Ok(height)
 }
 
-/// The height that one instruction needs, with what stands before it.
-fn height_at(image: &ImageParts, routine: usize, op: Op, before: &Stack, heights: &[u32]) -> u32
-    requires plain { PlainRulesHold image.now }
-    requires op { (place : ℕ) × (op_at image.now routine place ≡ Some op) }
-    requires fits { (after : List Kind) × (effect image.now op before.now ≡ Some after) × (length after ≤ 32) }
-    requires within { length before.now ≤ 32 }
-    requires long { length heights.now ≡ routine }
-    requires routine { IsRoutine image.now routine }
-    requires low { AreLow heights.now }
-    ensures holds { HoldsHeight image.now (slice_index heights.now) op before.now result }
-    ensures least { (bound : ℕ) → HoldsHeight image.now (slice_index heights.now) op before.now bound → result ≤ bound }
+/// The height that an instruction needs, with so many kinds before and after it.
+pub fn height_at(op: Op, before: usize, after: usize, heights: &[u32]) -> u32
+    requires callee { (callee : RoutineId) → op ≡ Call callee → callee.0 < length heights.now }
+    requires before { before ≤ 32 }
+    requires after { after ≤ 32 }
+    requires low { (routine : ℕ) → slice_index heights.now routine ≤ 32800 }
+    ensures holds { IsHighEnough (slice_index heights.now) op before after result }
+    ensures least { (bound : ℕ) → IsHighEnough (slice_index heights.now) op before after bound → result ≤ bound }
 {
-    let Some(after) = effect_of(image, op, before) else {
-        unreachable!()
-    };
-    let before = before.len() as u32;
     let called = match op {
-        Op::Call(callee) => before + heights[usize::from(callee.0)],
+        Op::Call(callee) => before as u32 + heights[usize::from(callee.0)],
         _ => 0,
     };
-    greater(greater(before, after.len() as u32), called)
+    greater(greater(before as u32, after as u32), called)
 }

@@ -6,7 +6,7 @@ ghost use Rattle.ifs_image.specs.declared.parts.Routine.{Routine};
 ghost use Rattle.ifs_image.specs.declared.parts.StateSpec.{StateSpec};
 ghost use Rattle.ifs_verify.specs.declared.fault.At.TheVariants.{State, Code};
 ghost use Rattle.ifs_verify.specs.Rules.{IsRoutine};
-ghost use Rattle.ifs_verify.specs.inner.Passes.{next_of};
+ghost use Rattle.ifs_verify.specs.inner.Passes.{IsSized, RoutinesAreShorter, next_of};
 
 use crate::fault::At;
 use ifs_base::{Op, RoutineId, StateId};
@@ -18,6 +18,18 @@ pub fn code(image: &ImageParts, routine: usize) -> &[Op]
     ensures { result.now ≡ code_of image.now routine }
 {
     image.routines.as_slice()[routine].code.as_slice()
+}
+
+/// Room for the places of each routine, and one after them.
+pub fn room(image: &ImageParts) -> usize
+    requires { IsSized image.now }
+    ensures { RoutinesAreShorter image.now result }
+{
+    let mut longest = 0;
+    for routine in 0..image.routines.len() {
+        longest = longest.max(code(image, routine).len());
+    }
+    longest + 1
 }
 
 /// How many results a routine has.

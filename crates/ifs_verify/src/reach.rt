@@ -48,9 +48,7 @@ fn no_marks(alloc: Global, count: usize) -> Result<Vec<bool>, AllocError>
     ensures none { IfOk result (λ marks. (k : ℕ) → ¬ IsMarked marks.items k) }
 {
     let mut marks: Vec<bool> = Vec::new(alloc);
-    for _place in 0..count {
-        marks.push(false)?;
-    }
+    marks.resize(count, false)?;
     Ok(marks)
 }
 

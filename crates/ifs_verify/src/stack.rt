@@ -74,24 +74,15 @@ impl Stack {
         Some(self.kinds[self.len])
     }
 
-    /// The list with a kind on top.
-    pub fn with(mut self, kind: Kind) -> Self
-        requires { length self < 33 }
-        ensures { result ≡ kind ∷ self }
-    {
-        self.push(kind);
-        self
-    }
-
-    /// The list below a kind that is wanted on top.
-    pub fn without(mut self, kind: Kind) -> Option<Self>
-        ensures { MatchOption result (LacksTop kind self) (λ below. self ≡ kind ∷ below) }
+    /// Takes a kind off that is wanted on top; `None` where nothing or another kind is.
+    pub fn take(&mut self, kind: Kind) -> Option<()>
+        ensures { MatchOption result (LacksTop kind self.old) (λ _. self.old ≡ kind ∷ self.new) }
     {
         let top = self.pop()?;
         if top != kind {
             return None;
         }
-        Some(self)
+        Some(())
     }
 
     /// Whether both are the same list.

@@ -5,7 +5,7 @@ ghost use Rattle.ifs_verify.specs.inner.Passes.{PlainRulesHold, IsRefused, Least
 
 use crate::fault::VerifyFault;
 use crate::heights::height_of;
-use crate::typing::typing_of;
+use crate::typing::no_lists;
 use ifs_image::ImageParts;
 use std::alloc::Global;
 
@@ -16,9 +16,9 @@ pub fn check_stacks(alloc: Global, image: &ImageParts) -> Result<Vec<u32>, Verif
     ensures refused { IfErr result (IsRefused image.now) }
 {
     let mut heights: Vec<u32> = Vec::new(alloc);
+    let mut brought = no_lists(alloc, image)?;
     for routine in 0..image.routines.len() {
-        let rows = typing_of(alloc, image, routine)?;
-        let height = height_of(image, routine, &rows, heights.as_slice());
+        let height = height_of(image, routine, heights.as_slice(), &mut brought)?;
         heights.push(height)?;
     }
     Ok(heights)

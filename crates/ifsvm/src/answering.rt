@@ -2,29 +2,41 @@
 
 ghost use Rattle.std.specs.Prelude.{◌≡◌, ◌≢◌, IfOk};
 ghost use Rattle.ifsvm.specs.Answers.{AreAccepted};
+ghost use Rattle.ifsvm.specs.declared.task.Task.TheVariants.{Verify};
 
+use crate::checking::{CheckFault, lines_of};
 use crate::ending::{Ending, out_of_memory};
 use crate::files::{FileFault, contents};
 use crate::task::{Answer, Task};
 use ifs_image::Budgets;
 use ifs_verify::{VerifyFault, verify};
 use std::alloc::{AllocError, Global};
+use std::fmt::Display;
 use std::rt::Files;
 
-/// The answer to a task on these bytes: its text is a line on success and on a refusal. An error is
-/// want of memory. No task takes definitions yet.
+/// The answer to a task on these bytes: its text is the lines on success, and a line on a refusal. An error
+/// is want of memory. The definitions are those that stand beside a policy.
 pub fn answer(
     alloc: Global,
     task: Task,
     input: &[u8],
-    _defs: &[(&str, &str)],
+    defs: &[(&str, &str)],
 ) -> Result<Answer, AllocError>
     // An image is told to be good exactly where its bytes are accepted.
-    ensures good { IfOk result (λ answer. answer.status ≡ 0 → AreAccepted input.now) }
-    ensures refused { IfOk result (λ answer. answer.status ≢ 0 → ¬ AreAccepted input.now) }
+    ensures good { task ≡ Verify → IfOk result (λ answer. answer.status ≡ 0 → AreAccepted input.now) }
+    ensures refused { task ≡ Verify → IfOk result (λ answer. answer.status ≢ 0 → ¬ AreAccepted input.now) }
 {
     match task {
+        Task::Check => check_answer(alloc, input, defs),
         Task::Verify => verify_answer(alloc, input),
+    }
+}
+
+fn check_answer(alloc: Global, policy: &[u8], defs: &[(&str, &str)]) -> Result<Answer, AllocError> {
+    match lines_of(alloc, policy, defs) {
+        Ok(lines) => Ok(good(lines)),
+        Err(CheckFault::Memory) => Err(AllocError),
+        Err(fault) => refused(alloc, fault),
     }
 }
 
@@ -33,31 +45,33 @@ fn verify_answer(alloc: Global, image: &[u8]) -> Result<Answer, AllocError>
     ensures refused { IfOk result (λ answer. answer.status ≢ 0 → ¬ AreAccepted image.now) }
 {
     match verify(alloc, image) {
-        Ok(verified) => accepted(alloc, verified.budgets()),
+        Ok(verified) => Ok(good(budgets_line(alloc, verified.budgets())?)),
         Err(VerifyFault::OutOfMemory) => Err(AllocError),
         Err(fault) => refused(alloc, fault),
     }
 }
 
-fn accepted(alloc: Global, budgets: Budgets) -> Result<Answer, AllocError>
-    ensures { IfOk result (λ answer. answer.status ≡ 0) }
-{
+fn budgets_line(alloc: Global, budgets: Budgets) -> Result<String, AllocError> {
     let Budgets {
         stack,
         frames,
         cost,
         commands,
     } = budgets;
-    Ok(Answer {
-        status: 0,
-        text: format!(in alloc;
-            "ok stack {stack} frames {frames} cost {cost} commands {commands}\n"
-        )?,
-        file: None,
-    })
+    format!(in alloc; "ok stack {stack} frames {frames} cost {cost} commands {commands}\n")
 }
 
-fn refused(alloc: Global, fault: VerifyFault) -> Result<Answer, AllocError>
+fn good(text: String) -> Answer
+    ensures { result.status ≡ 0 }
+{
+    Answer {
+        status: 0,
+        text,
+        file: None,
+    }
+}
+
+fn refused<F: Display + Drop>(alloc: Global, fault: F) -> Result<Answer, AllocError>
     ensures { IfOk result (λ answer. answer.status ≡ 1) }
 {
     Ok(Answer {
@@ -67,14 +81,16 @@ fn refused(alloc: Global, fault: VerifyFault) -> Result<Answer, AllocError>
     })
 }
 
-/// Verifies the image of a file, and prints the answer.
-pub fn verify_file<R: Files + Print + Alloc<A = Global>>(
+/// Does a task on the bytes of a file, and prints the answer.
+pub fn on_file<R: Files + Print + Alloc<A = Global>>(
     rt: &R,
+    task: Task,
     path: String,
+    defs: &[(&str, &str)],
 ) -> Result<Ending, Ending> {
-    let image = image_at(rt, path)?;
-    let Ok(answer) = answer(rt.alloc(), Task::Verify, image.as_slice(), &[]) else {
-        return out_of_memory(rt);
+    let input = input_at(rt, task, path)?;
+    let Ok(answer) = answer(rt.alloc(), task, input.as_slice(), defs) else {
+        return out_of_memory(rt, task);
     };
     rt.print(&answer.text)?;
     Ok(if answer.status == 0 {
@@ -84,14 +100,15 @@ pub fn verify_file<R: Files + Print + Alloc<A = Global>>(
     })
 }
 
-/// The bytes of an image's file. Want of memory for them is told as a refusal of the image.
-pub fn image_at<R: Files + Print + Alloc<A = Global>>(
+/// The bytes of a file. Want of memory for them is told as a refusal by the task.
+pub fn input_at<R: Files + Print + Alloc<A = Global>>(
     rt: &R,
+    task: Task,
     path: String,
 ) -> Result<Vec<u8>, Ending> {
     match contents(rt, path.as_str()) {
-        Ok(image) => Ok(image),
-        Err(FileFault::Memory) => Err(out_of_memory(rt)?),
+        Ok(input) => Ok(input),
+        Err(FileFault::Memory) => Err(out_of_memory(rt, task)?),
         Err(fault) => Err(Ending::File { path, fault }),
     }
 }

@@ -1,25 +1,41 @@
 //! The words of the command line.
 
+use crate::definitions::{Definition, definition_of};
 use crate::ending::Ending;
 use clap::error::ErrorKind;
-use clap::{Arg, Command, Error};
-use std::alloc::Global;
+use clap::{Arg, ArgAction, ArgMatches, Command, Error};
+use std::alloc::{AllocError, Global};
 use std::rt::Env;
 use std::{env, io};
 
 /// What the program is, as its help says.
 const ABOUT: &str =
-    "Verifies and runs images of failover policies. Without words it reads an image as a line of hexadecimal digits and then request lines from standard input.";
+    "Checks failover policies, and verifies and runs their images. Without words it reads an image as a line of hexadecimal digits and then request lines from standard input.";
+
+/// The operand that names a file.
+const FILE: &str = "file";
+
+/// What help calls a definition.
+const DEFINITION: &str = "NAME=VALUE";
 
 /// What the command line asks for.
 #[derive(Debug, Drop)]
 pub enum Asked {
     /// No words: a session whose first line is the image.
     Session,
+    /// Tell whether a file is a policy, with these definitions beside it.
+    Check {
+        file: String,
+        definitions: Vec<Definition>,
+    },
     /// Verify the image of a file, and tell its stated budgets.
-    Verify { image: String },
+    Verify {
+        image: String,
+    },
     /// A session on the image of a file.
-    Sim { image: String },
+    Sim {
+        image: String,
+    },
 }
 
 /// Reads the words that the program was called with. The program ends where they ask for help or the
@@ -78,32 +94,89 @@ fn asked_by<'a>(
     let Some((word, operands)) = matches.subcommand() else {
         return Ok(Asked::Session);
     };
-    let image = String::from_str(alloc, operands.get_str("IMAGE").unwrap_or_default())?;
     Ok(match word {
-        "verify" => Asked::Verify { image },
-        _ => Asked::Sim { image },
+        "check" => Asked::Check {
+            file: file_of(alloc, operands)?,
+            definitions: definitions_of(alloc, command, operands)?,
+        },
+        "verify" => Asked::Verify {
+            image: file_of(alloc, operands)?,
+        },
+        _ => Asked::Sim {
+            image: file_of(alloc, operands)?,
+        },
     })
+}
+
+/// The file that a word works on.
+fn file_of(alloc: Global, operands: &ArgMatches<'_>) -> Result<String, AllocError> {
+    String::from_str(alloc, operands.get_str(FILE).unwrap_or_default())
+}
+
+/// The definitions of the command line; an error where one is none.
+fn definitions_of(
+    alloc: Global,
+    mut command: Command<'_>,
+    operands: &ArgMatches<'_>,
+) -> Result<Vec<Definition>, Error> {
+    let mut definitions = Vec::new(alloc);
+    for word in operands.get_strs(DEFINITION).unwrap_or_default() {
+        match definition_of(word) {
+            Some((name, value)) => definitions.push(Definition::new(alloc, name, value)?)?,
+            None => return Err(no_definition(alloc, &mut command, word)?),
+        }
+    }
+    Ok(definitions)
+}
+
+/// The message on a word that defines nothing.
+fn no_definition(
+    alloc: Global,
+    command: &mut Command<'_>,
+    word: &str,
+) -> Result<Error, AllocError> {
+    let message = format!(in alloc;
+        "invalid value '{word}' for '-D <{DEFINITION}>': it is no macro name, '=' and a value"
+    )?;
+    command.error(ErrorKind::ValueValidation, message.as_str())
 }
 
 /// The command line that is understood.
 fn command<'a>(alloc: Global) -> Result<Command<'a>, Error> {
+    let check = Command::new(alloc, "check")
+        .about("Tell whether a file is a policy, with notes on what is easily misread")
+        .arg(file(alloc, "FILE"))?
+        .arg(definition(alloc))?;
     let verify = Command::new(alloc, "verify")
         .about("Verify an image and print its stated budgets")
-        .arg(image(alloc))?;
+        .arg(file(alloc, "IMAGE"))?;
     let sim = Command::new(alloc, "sim")
         .about("Answer the request lines of standard input on an image")
-        .arg(image(alloc))?;
+        .arg(file(alloc, "IMAGE"))?;
     let command = Command::new(alloc, "ifsvm")
         .version("0.1.0")
         .about(ABOUT)
+        .subcommand(check)?
         .subcommand(verify)?
         .subcommand(sim)?;
     Ok(command)
 }
 
-/// The operand that names a file.
-fn image<'a>(alloc: Global) -> Arg<'a> {
-    Arg::new(alloc, "IMAGE")
+/// The operand that names a file, and what help calls it.
+fn file<'a>(alloc: Global, name: &'a str) -> Arg<'a> {
+    Arg::new(alloc, FILE)
+        .value_name(name)
         .help("a file of at most 16,777,216 bytes")
         .required(true)
+}
+
+/// A definition beside a policy's text.
+fn definition<'a>(alloc: Global) -> Arg<'a> {
+    Arg::new(alloc, DEFINITION)
+        .short('D')
+        .value_name(DEFINITION)
+        .help(
+            "define a macro, in place of what the file defines by that name; of two with one name the first holds",
+        )
+        .action(ArgAction::Append)
 }

@@ -1,6 +1,7 @@
 //! How the program ends.
 
 use crate::files::FileFault;
+use crate::task::Task;
 use ifs_session::SessionFault;
 use std::io;
 use std::process::ExitCode;
@@ -44,8 +45,9 @@ impl From<io::Error> for Ending {
     }
 }
 
-/// Prints the line that refuses for want of memory.
-pub fn out_of_memory(rt: &impl Print) -> Result<Ending, Ending> {
-    rt.print("refused V0\n")?;
+/// Prints the line that refuses a task for want of memory.
+pub fn out_of_memory(rt: &impl Print, task: Task) -> Result<Ending, Ending> {
+    let code = task.memory_code();
+    println!(rt; "refused {code}")?;
     Ok(Ending::Refused)
 }

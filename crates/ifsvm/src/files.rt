@@ -23,7 +23,7 @@ pub enum FileFault {
     #[error("too large")]
     TooLarge,
     /// No memory was found for its bytes.
-    #[error("V0")]
+    #[error("no memory")]
     Memory,
 }
 

@@ -1,7 +1,8 @@
 //! Sessions on standard input and output.
 
-use crate::answering::image_at;
+use crate::answering::input_at;
 use crate::ending::{Ending, out_of_memory};
+use crate::task::Task;
 use ifs_core::Core;
 use ifs_session::{FromRead, RunFault, ToWrite, run_hex, simulate};
 use ifs_verify::{VerifyFault, verify};
@@ -9,10 +10,13 @@ use std::alloc::Global;
 use std::io::{self, BufWriter};
 use std::rt::Files;
 
+/// How many bytes of replies are held back at most, until input is waited for.
+const HELD: usize = 65_536;
+
 /// A session whose first line is the image.
 pub fn by_hexadecimal<R: Input + Print + Alloc<A = Global>>(rt: &R) -> Result<Ending, Ending> {
-    let Ok(writer) = BufWriter::new(rt.alloc(), io::writer(rt)) else {
-        return out_of_memory(rt);
+    let Ok(writer) = BufWriter::with_capacity(rt.alloc(), HELD, io::writer(rt)) else {
+        return out_of_memory(rt, Task::Verify);
     };
     let mut input = FromRead::new(rt.reader());
     let mut output = ToWrite::new(writer);
@@ -28,7 +32,7 @@ pub fn on_file<R: Files + Input + Print + Alloc<A = Global>>(
     rt: &R,
     path: String,
 ) -> Result<Ending, Ending> {
-    let image = image_at(rt, path)?;
+    let image = input_at(rt, Task::Verify, path)?;
     match opened(rt.alloc(), image.as_slice()) {
         Ok(mut core) => simulated(rt, &mut core),
         Err(fault) => {
@@ -51,8 +55,8 @@ fn simulated<R: Input + Print + Alloc<A = Global>>(
     rt: &R,
     core: &mut Core,
 ) -> Result<Ending, Ending> {
-    let Ok(writer) = BufWriter::new(rt.alloc(), io::writer(rt)) else {
-        return out_of_memory(rt);
+    let Ok(writer) = BufWriter::with_capacity(rt.alloc(), HELD, io::writer(rt)) else {
+        return out_of_memory(rt, Task::Verify);
     };
     let mut input = FromRead::new(rt.reader());
     let mut output = ToWrite::new(writer);

@@ -1,9 +1,9 @@
 -- What the functions that take a line apart give.
-use Rattle.std.specs.Prelude.{◌^◌, Bool, nat_lt, if◌then◌else◌, Option, Some, None, Result, Ok, Err}
+use Rattle.std.specs.Prelude.{◌^◌, Bool, nat_lt, if◌then◌else◌, Option, Some, Result, Ok, Err}
 use Rattle.ifs_session.specs.declared.request.RequestFault.{RequestFault}
 use Rattle.ifs_session.specs.declared.request.RequestFault.TheVariants.{OutOfRange, NoRequest}
 use Rattle.ifs_base.specs.declared.numbers.Number.{Number}
-use Rattle.ifs_base.specs.declared.numbers.Number.TheVariants.{Within, TooGreat}
+use Rattle.ifs_base.specs.declared.numbers.Number.TheVariants.{Within}
 use Rattle.ifs_session.specs.declared.request.Request.{Request}
 use Rattle.ifs_session.specs.declared.request.Request.TheVariants as requests
 use Rattle.ifs_session.specs.Requests.{Asked, ALink, AResult, ATick, ATake, AStatus, ATrace, AStop, AFault}

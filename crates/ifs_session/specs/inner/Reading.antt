@@ -1,5 +1,5 @@
 -- What the functions that read a line of requests and a digit give.
-use Rattle.std.specs.Prelude.{◌≡◌, ◌≢◌, ℕ, ◌+◌, ◌<◌, ◌≤◌, Bool, false, nat_lt, List, [], ◌∷◌, ◌++◌, length, take, Option, Some, None, Result, Ok, Err}
+use Rattle.std.specs.Prelude.{◌≡◌, ◌≢◌, ℕ, ◌+◌, ◌<◌, ◌≤◌, Bool, false, nat_lt, List, [], ◌∷◌, ◌++◌, length, take, All, Option, Some, None, Result, Ok, Err}
 use Rattle.std.specs.Io.KnownBytes.{Keeps, Consumes, IsAtEnd}
 use Rattle.ifs_session.specs.declared.fault.SessionFault.{SessionFault}
 use Rattle.ifs_session.specs.declared.fault.SessionFault.TheVariants.{ReadFailed, WriteFailed, TooMuchInput}
@@ -9,7 +9,7 @@ use Rattle.ifs_session.specs.declared.lines.Line.{Line}
 use Rattle.ifs_session.specs.Device.{counted, Feed}
 use Rattle.ifs_base.specs.Words.{hex_digit, IsNoDigit}
 use Rattle.ifs_session.specs.Lines.{ending}
-use Rattle.ifs_session.specs.Hexadecimal.{Takes, EndsAt}
+use Rattle.ifs_session.specs.Hexadecimal.{Takes, EndsAt, hex_text, HexGives}
 
 -- A text without newline.
 abbrev pub HasNoNewline : List ℕ → Type 0
@@ -22,15 +22,26 @@ pub record Intake : Type 0 where
   pub faults : Option ℕ
   pub budget : ℕ
 
--- A line was read: this text, of which the first 256 bytes are kept. A line that no newline ends has at least one byte and stands at the end of input.
-pub record ReadsLine (line : Line) (text : List ℕ) (before after : Intake) : Type 0 where
+-- A line was read, this text. One that no newline ends has at least one byte and stands at the end of input.
+pub record ReadsText (text : List ℕ) (ended : Bool) (before after : Intake) : Type 0 where
   pub plain : HasNoNewline text
+  pub given : Consumes before.left after.left (text ++ ending ended)
+  pub spent : before.budget ≡ length (text ++ ending ended) + after.budget
+  pub same_faults : after.faults ≡ before.faults
+  pub last : ended ≡ false → (0 < length text) × IsAtEnd after.left
+
+-- A line was read, of whose text the first 256 bytes are kept.
+pub record ReadsLine (line : Line) (text : List ℕ) (before after : Intake) : Type 0 where
+  pub read : ReadsText text line.is_ended before after
   pub kept : line.kept.items ≡ take 256 text
   pub longer : line.is_longer ≡ nat_lt 256 (length text)
-  pub given : Consumes before.left after.left (text ++ ending line.is_ended)
-  pub spent : before.budget ≡ length (text ++ ending line.is_ended) + after.budget
-  pub same_faults : after.faults ≡ before.faults
-  pub last : line.is_ended ≡ false → (0 < length text) × IsAtEnd after.left
+
+-- A line of at most so many bytes, its newline among them, stands whole at the front of these bytes.
+pub record StandsFirst (line : List ℕ) (most : ℕ) (bytes : List ℕ) : Type 0 where
+  pub plain : HasNoNewline line
+  pub within : length line < most
+  pub rest : List ℕ
+  pub front : bytes ≡ line ++ 10 ∷ rest
 
 -- The input was at its end.
 pub record ReadsNothing (before after : Intake) : Type 0 where
@@ -68,3 +79,25 @@ DigitGives (Ok None) before after = (ended : Bool) × Takes (ending ended) befor
 DigitGives (Err Broken) before after = (byte : ℕ) × Takes (byte ∷ []) before after × IsNoDigit byte × (byte ≢ 10)
 DigitGives (Err NotRead) before after = Keeps before.left after.left × (after.faults ≡ counted before.faults)
 DigitGives (Err Memory) before after = ⊥
+
+-- So many digits at the front of a text spell bytes, which were put after the others, up to the limit.
+pub record SpellsFront (text : List ℕ) (count : ℕ) (bytes bytes' : List ℕ) : Type 0 where
+  pub more : List ℕ
+  pub are_bytes : All (λ byte. byte < 256) more
+  pub appended : bytes' ≡ bytes ++ more
+  pub within : length bytes' ≤ 65536
+  pub count_fits : count ≤ length text
+  pub spelled : take count text ≡ hex_text more
+
+-- What the reading of the bytes whose digits stand at hand gives: they were put after the others. Memory may be wanting, and then nothing was read.
+abbrev pub AtHandGives : Result (Unit {0}) HexFault → List ℕ → List ℕ → Feed → Feed → Type 0
+AtHandGives (Ok _) bytes bytes' before after =
+    (more : List ℕ) × All (λ byte. byte < 256) more × (bytes' ≡ bytes ++ more) × (length bytes' ≤ 65536) × Takes (hex_text more) before after
+AtHandGives (Err Memory) bytes bytes' before after = after ≡ before
+AtHandGives (Err Broken) bytes bytes' before after = ⊥
+AtHandGives (Err NotRead) bytes bytes' before after = ⊥
+
+-- What the reading of a line of hexadecimal digits into a place gives: the bytes that they spell stand there; or why there are none.
+abbrev pub LineSpells : Result (Unit {0}) HexFault → List ℕ → Feed → Feed → Type 0
+LineSpells (Ok _) bytes before after = HexGives (Ok bytes) before after
+LineSpells (Err fault) bytes before after = HexGives (Err fault) before after

@@ -3,7 +3,7 @@
 ghost use Rattle.std.specs.Prelude.{Some};
 
 use super::{first_replies, input_of, row_input};
-use crate::std_devices::has_newline;
+use crate::lines::line_at_hand;
 use crate::{ByteIn, ByteOut, DeviceFault, FromRead, RunFault, SessionFault, ToWrite, run_hex};
 use ifs_rows::{refusals, sessions};
 use std::alloc::{AllocError, Global};
@@ -49,10 +49,10 @@ const NEVER: u32 = u32::MAX;
 
 /// How many bytes a read gives at most, which read fails and how, and how often the reader fails.
 const READERS: [(&str, usize, u32, ErrorKind, u32); 6] = [
-    ("whole buffers", 4096, NEVER, ErrorKind::Other, 0),
+    ("whole buffers", 65_536, NEVER, ErrorKind::Other, 0),
     (
         "a byte less than a buffer",
-        4095,
+        65_535,
         NEVER,
         ErrorKind::Other,
         0,
@@ -60,20 +60,20 @@ const READERS: [(&str, usize, u32, ErrorKind, u32); 6] = [
     ("single bytes", 1, NEVER, ErrorKind::Other, 0),
     (
         "interrupted between buffers",
-        4096,
+        65_536,
         1,
         ErrorKind::Interrupted,
         0,
     ),
-    ("failing at once", 4096, 0, ErrorKind::Other, 1),
-    ("failing between buffers", 4096, 2, ErrorKind::Other, 1),
+    ("failing at once", 65_536, 0, ErrorKind::Other, 1),
+    ("failing between buffers", 65_536, 2, ErrorKind::Other, 1),
 ];
 
 /// Each byte comes, in its order, over several buffers; a read that fails is told as such, once, and
 /// is not the end of input.
 #[test]
 fn bytes_over_several_buffers(rt: HostRuntime) -> Result<(), Fail> {
-    let bytes = pattern(rt.alloc(), 10_000)?;
+    let bytes = pattern(rt.alloc(), 150_000)?;
     for (name, most, fails_at, kind, failures) in READERS {
         let mut input = FromRead::new(Pieces {
             left: bytes.as_slice(),
@@ -98,27 +98,61 @@ fn bytes_over_several_buffers(rt: HostRuntime) -> Result<(), Fail> {
     Ok(())
 }
 
-/// After so many bytes of a text, whether a line of at most so many bytes can be read without waiting.
-const LINES: [(&str, &str, u32, u32, bool); 8] = [
-    ("nothing read yet", "ab\ncd", 0, 9, false),
-    ("a line", "ab\ncd", 1, 9, true),
-    ("a line as long as may be", "ab\ncd", 1, 2, true),
-    ("a line that is longer", "ab\ncd", 1, 1, false),
-    ("an empty line", "ab\ncd", 2, 1, true),
-    ("an empty line, and no byte", "ab\ncd", 2, 0, false),
-    ("a line without its end", "ab\ncd", 4, 9, false),
-    ("nothing left", "ab\n", 3, 9, false),
+/// After so many bytes of a text, the line of at most so many bytes that stands at hand.
+const LINES: [(&str, &str, u32, u32, Option<&str>); 8] = [
+    ("nothing read yet", "ab\ncd", 0, 9, None),
+    ("a line", "ab\ncd", 1, 9, Some("b")),
+    ("a line as long as may be", "ab\ncd", 1, 2, Some("b")),
+    ("a line that is longer", "ab\ncd", 1, 1, None),
+    ("an empty line", "ab\ncd", 2, 1, Some("")),
+    ("an empty line, and no byte", "ab\ncd", 2, 0, None),
+    ("a line without its end", "ab\ncd", 4, 9, None),
+    ("nothing left", "ab\n", 3, 9, None),
 ];
 
 #[test]
-fn lines_without_waiting(rt: HostRuntime) -> Result<(), Fail> {
+fn lines_at_hand(rt: HostRuntime) -> Result<(), Fail> {
     for (name, text, read, most, expected) in LINES {
         let mut input = FromRead::new(text.as_bytes());
         for _ in 0..read {
             assert!(rt; input.next().is_ok(), "{name}");
         }
-        assert_eq!(rt; input.has_line(most), expected, "{name}");
+        let line = line_at_hand(input.peek(), most);
+        assert_eq!(rt; line, expected.map(|line| line.as_bytes()), "{name}");
     }
+    Ok(())
+}
+
+/// The bytes at hand are those of the buffer, and the ones that are taken are not given again.
+#[test]
+fn bytes_at_hand(rt: HostRuntime) -> Result<(), Fail> {
+    let mut input = FromRead::new(b"abcdef".as_slice());
+    assert!(rt; input.peek().is_empty());
+    assert_eq!(rt; input.next(), Ok(Some(b'a')));
+    assert_eq!(rt; input.peek(), b"bcdef".as_slice());
+    if input.peek().len() >= 2 {
+        input.skip(2);
+    }
+    assert_eq!(rt; input.next(), Ok(Some(b'd')));
+    assert_eq!(rt; input.peek(), b"ef".as_slice());
+    Ok(())
+}
+
+/// A reader that takes no bytes at once takes them one by one.
+#[test]
+fn bytes_taken_one_by_one(rt: HostRuntime) -> Result<(), Fail> {
+    let shown = Cell::new(0);
+    let mut input = Waiting {
+        ready: b"abc",
+        later: b"",
+        lengths: &[],
+        shown: &shown,
+        late: 0,
+    };
+    if input.peek().len() >= 2 {
+        input.skip(2);
+    }
+    assert_eq!(rt; input.next(), Ok(Some(b'c')));
     Ok(())
 }
 
@@ -149,12 +183,10 @@ impl Write for Log {
     }
 }
 
-/// Each byte goes out, in its order, and a flush is passed on after it; a failure is told.
+/// Each byte goes out, in its order, and a flush is passed on after it.
 #[test]
 fn writes_and_flushes(rt: HostRuntime) -> Result<(), Fail> {
     let bytes = pattern(rt.alloc(), 200)?;
-    let mut expected = bytes.clone()?;
-    expected.push(0)?;
     let mut log = Log {
         bytes: Vec::new(rt.alloc()),
         fails: false,
@@ -162,12 +194,20 @@ fn writes_and_flushes(rt: HostRuntime) -> Result<(), Fail> {
     let mut output = ToWrite::new(&mut log);
     assert_eq!(rt; output.put(bytes.as_slice()), Ok(()));
     assert_eq!(rt; output.flush(), Ok(()));
-    assert_eq!(rt; log.bytes.as_slice(), expected.as_slice());
-    log.fails = true;
+    assert_eq!(rt; log.bytes.strip_suffix(&[0]), Some(bytes.as_slice()));
+    Ok(())
+}
+
+/// A write or a flush that fails is told.
+#[test]
+fn failing_writes(rt: HostRuntime) {
+    let mut log = Log {
+        bytes: Vec::new(rt.alloc()),
+        fails: true,
+    };
     let mut output = ToWrite::new(&mut log);
     assert_eq!(rt; output.put(b"x"), Err(DeviceFault));
     assert_eq!(rt; output.flush(), Err(DeviceFault));
-    Ok(())
 }
 
 /// A session over the devices of std: a read that fails is S1, after the replies to the lines before.
@@ -279,8 +319,8 @@ impl ByteIn for Waiting<'_> {
         }
     }
 
-    fn has_line(&self, most: u32) -> bool {
-        has_newline(self.ready, most)
+    fn peek(&self) -> &[u8] {
+        self.ready
     }
 }
 

@@ -85,6 +85,52 @@ pub record IsTypedUpTo (image : ImageParts) (routine : ℕ) (rows : List (Option
   pub passed : (place : ℕ) (op : Op) → place < done → op_at image routine place ≡ Some op → HasPassed image routine rows place op
   pub leads : (place : ℕ) (kinds : List Kind) → row_at rows place ≡ Some kinds → Leads image routine done place kinds
 
+-- The instruction leaves a list within the limit of what stands before it; at `ret` the results stand there.
+pub record Yields (image : ImageParts) (routine : ℕ) (op : Op) (before after : List Kind) : Type 0 where
+  pub effect_is : effect image op before ≡ Some after
+  pub within : length after ≤ 32
+  pub results : op ≡ Ret → before ≡ results_of image routine
+
+-- Each routine has fewer instructions than that.
+abbrev pub RoutinesAreShorter : ImageParts → ℕ → Type 0
+RoutinesAreShorter image size = (routine : ℕ) → length (code_of image routine) < size
+
+-- The lists that were brought to places after one are those of the rows, and no other is kept. There is room for the places of each routine, and one after them.
+pub record AreAhead (image : ImageParts) (rows brought : List (Option (List Kind))) (place : ℕ) : Type 0 where
+  pub long : length rows < length brought
+  pub room : RoutinesAreShorter image (length brought)
+  pub passed : (to : ℕ) → to ≤ place → row_at brought to ≡ None
+  pub later : (to : ℕ) → place < to → row_at rows to ≡ row_at brought to
+
+-- There is room for the places of each routine, and no list is kept at any place.
+pub record AreClear (image : ImageParts) (brought : List (Option (List Kind))) : Type 0 where
+  pub room : RoutinesAreShorter image (length brought)
+  pub none : (place : ℕ) → row_at brought place ≡ None
+
+-- What was brought to a place is kept no longer.
+pub record IsCleared (old new : List (Option (List Kind))) (place : ℕ) : Type 0 where
+  pub long : length new ≡ length old
+  pub at_place : row_at new place ≡ None
+  pub others : (to : ℕ) → to ≢ place → row_at new to ≡ row_at old to
+
+-- Before a place is passed: some rows, whose places below it are passed, have a list there and those that were brought to later places.
+pub record Stands (image : ImageParts) (routine place : ℕ) (here : List Kind) (brought : List (Option (List Kind))) : Type 0 where
+  pub rows : List (Option (List Kind))
+  pub typed : IsTypedUpTo image routine rows place
+  pub at_place : place < length (code_of image routine) → row_at rows place ≡ Some here
+  pub ahead : AreAhead image rows brought place
+
+-- While a place is passed: some rows have what its instruction leaves, and the lists that were brought to later places.
+pub record IsLeft (image : ImageParts) (routine place : ℕ) (op : Op) (after : List Kind) (brought : List (Option (List Kind))) : Type 0 where
+  pub rows : List (Option (List Kind))
+  pub typed : IsTypedUpTo image routine rows place
+  pub leaves : Leaves image routine rows place op after
+  pub ahead : AreAhead image rows brought place
+
+-- All places of a routine are passed by some rows.
+abbrev pub IsTypable : ImageParts → ℕ → Type 0
+IsTypable image routine = (rows : List (Option (List Kind))) × IsTypedUpTo image routine rows (length (code_of image routine))
+
 -- What the first rows have, the others have too.
 abbrev pub Extends : List (Option (List Kind)) → List (Option (List Kind)) → Type 0
 Extends old new = (place : ℕ) (kinds : List Kind) → row_at old place ≡ Some kinds → row_at new place ≡ Some kinds
@@ -107,6 +153,26 @@ pub record HoldsHeight (image : ImageParts) (heights : ℕ → ℕ) (op : Op) (k
   pub before : length kinds ≤ height
   pub after : (left : List Kind) → effect image op kinds ≡ Some left → length left ≤ height
   pub call : (callee : RoutineId) → op ≡ Call callee → length kinds + heights callee.0 ≤ height
+
+-- A height is large enough for the lengths before and after an instruction, and at a call for the callee above the first.
+pub record IsHighEnough (heights : ℕ → ℕ) (op : Op) (before after height : ℕ) : Type 0 where
+  pub holds_before : before ≤ height
+  pub holds_after : after ≤ height
+  pub call : (callee : RoutineId) → op ≡ Call callee → before + heights callee.0 ≤ height
+
+-- A height is large enough for the instruction at a place, with each list that some way of the routine leads there.
+abbrev pub HoldsAt : ImageParts → ℕ → (ℕ → ℕ) → ℕ → ℕ → Type 0
+HoldsAt image routine heights place height = (op : Op) (kinds : List Kind) → op_at image routine place ≡ Some op
+    → Leads image routine (length (code_of image routine)) place kinds → HoldsHeight image heights op kinds height
+
+-- The least height that is large enough at a place.
+pub record NeedsHeight (image : ImageParts) (routine : ℕ) (heights : ℕ → ℕ) (place height : ℕ) : Type 0 where
+  pub holds : HoldsAt image routine heights place height
+  pub least : (bound : ℕ) → HoldsAt image routine heights place bound → height ≤ bound
+
+-- A height is large enough at each place below one.
+abbrev pub AllHold : ImageParts → ℕ → (ℕ → ℕ) → ℕ → ℕ → Type 0
+AllHold image routine heights done height = (place : ℕ) → place < done → HoldsAt image routine heights place height
 
 -- Each height is at most 32 above those of all routines below.
 abbrev pub AreLow : List ℕ → Type 0
@@ -154,10 +220,15 @@ pub record HoldsAmount (weight : Op → ℕ) (lower row : ℕ → ℕ) (op : Op)
 abbrev pub HoldsRow : (Op → ℕ) → ImageParts → (ℕ → ℕ) → ℕ → (ℕ → ℕ) → Type 0
 HoldsRow weight image lower routine row = (place : ℕ) (op : Op) → op_at image routine place ≡ Some op → HoldsAmount weight lower row op place (row place)
 
+-- There is room for the amounts of each routine's places. What stands there is small, whatever it is.
+pub record IsRoom (image : ImageParts) (amounts : List ℕ) : Type 0 where
+  pub long : RoutinesAreShorter image (length amounts)
+  pub small : (k : ℕ) → slice_index amounts k ≤ 102401024
+
 -- The amounts of the places from one on, each a bound and below every bound.
 pub record IsCountedFrom (weight : Op → ℕ) (image : ImageParts) (lower : ℕ → ℕ) (routine : ℕ) (amounts : List ℕ) (place : ℕ) : Type 0 where
-  pub long : length amounts ≡ length (code_of image routine)
-  pub low : (k : ℕ) → slice_index amounts k + 100001 * place ≤ 100001 * length (code_of image routine)
+  pub room : IsRoom image amounts
+  pub low : (k : ℕ) → k < length (code_of image routine) → place ≤ k → slice_index amounts k + 100001 * place ≤ 100001 * length (code_of image routine)
   pub holds : (k : ℕ) (op : Op) → place ≤ k → op_at image routine k ≡ Some op → HoldsAmount weight lower (slice_index amounts) op k (slice_index amounts k)
   pub least : (all : ℕ → ℕ → ℕ) → AreAmounts weight image all → ((k : ℕ) → k < routine → lower k ≤ all k 0)
       → (k : ℕ) → k < length (code_of image routine) → place ≤ k → slice_index amounts k ≤ all routine k

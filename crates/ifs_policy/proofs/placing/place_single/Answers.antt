@@ -5,4 +5,5 @@ use Rattle.ifs_policy.proofs.Places.{place_within}
 use Rattle.ifs_policy.proofs.placing.place_single.Goals as goal
 
 pub overflow_cast-place : goal.overflow_cast-place
-overflow_cast-place c = let within = place_within (test_eq (record { command = c.in_ok-clone-in-External.field-0; period = c.in-External.period })) c.args.tables.now.tests in omega arith
+overflow_cast-place c =
+    let within = place_within (test_eq c.in_ok-entry-in-External.entry) c.args.tables.now.tests in omega arith

@@ -13,8 +13,8 @@ returns-clause-found c =
     let costs : List ℕ = c.as_slice-2.result.now in
     let commands : List ℕ = c.as_slice-3.result.now in
     let depth : ℕ = c.depth_of-depth.result in
-    let cost : ℕ = c.in_ok-cost.cost in
-    let command : ℕ = c.in_ok-commands.commands in
+    let cost : ℕ = c.amounts_of-amounts.result.cost in
+    let command : ℕ = c.amounts_of-amounts.result.commands in
     let found_depths : LeastDepths image depths routine = subst (λ (xs : List ℕ). LeastDepths image xs routine) (sym c.as_slice.ensures.value) c.requires.lower.depths in
     let found_costs : LeastAmounts cost_of image 100000 costs routine =
     subst (λ (xs : List ℕ). LeastAmounts cost_of image 100000 xs routine) (sym c.as_slice-2.ensures.value) c.requires.lower.costs in
@@ -34,7 +34,7 @@ returns-clause-found c =
       depths = subst (λ (xs : List ℕ). LeastDepths image xs (routine + 1)) (sym new_depths)
           (depths_more image depths routine depth c.requires.plain found_depths c.depth_of-depth.ensures.holds c.depth_of-depth.ensures.least (omega arith));
       costs = subst (λ (xs : List ℕ). LeastAmounts cost_of image 100000 xs (routine + 1)) (sym new_costs)
-          (amounts_more cost_of image 100000 costs routine cost c.requires.plain found_costs c.in_ok-cost.ensures.holds c.in_ok-cost.ensures.least (omega arith));
+          (amounts_more cost_of image 100000 costs routine cost c.requires.plain found_costs c.amounts_of-amounts.ensures.cost.holds c.amounts_of-amounts.ensures.cost.least (omega arith));
       commands = subst (λ (xs : List ℕ). LeastAmounts commands_of image 64 xs (routine + 1)) (sym new_commands)
-          (amounts_more commands_of image 64 commands routine command c.requires.plain found_commands c.in_ok-commands.ensures.holds c.in_ok-commands.ensures.least (omega arith));
+          (amounts_more commands_of image 64 commands routine command c.requires.plain found_commands c.amounts_of-amounts.ensures.commands.holds c.amounts_of-amounts.ensures.commands.least (omega arith));
     }

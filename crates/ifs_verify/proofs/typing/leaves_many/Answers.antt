@@ -6,4 +6,4 @@ use Rattle.ifs_verify.proofs.typing.leaves_many.Goals as goal
 pub returns-clause-many : goal.returns-clause-many
 returns-clause-many c = OnTrue_from (ltb c.from.result c.len.result) (LeavesMany c.args.image.now c.args.routine c.args.place) (λ yes.
     let over = ltb-true c.from.result c.len.result yes in
-    (c.args.op, c.args.after.now, record { before = c.args.before.now; stands = c.requires.op; leads = c.requires.leads; effect_is = c.requires.effect }, omega (arith, over)))
+    (c.args.op, c.args.after.now, c.requires, omega (arith, over)))

@@ -1,0 +1,43 @@
+use Rattle.std.proofs.Common.{◌≤◌, ◌∙◌, sym, subst, length}
+use Rattle.ifs_parse.proofs.Read.{notes_stay}
+use Rattle.ifs_parse.specs.Parsers.{state_of, others_of}
+use Rattle.ifs_parse.specs.Reading as reading
+use Rattle.ifs_parse.proofs.Alternatives.{alternatives_are}
+use Rattle.ifs_parse.proofs.Turns.{turn_goes, turn_ends, turn_fails}
+use Rattle.ifs_parse.proofs.parser.Parser.+conditions.Goals as goal
+
+pub ones-returns-in-Ok-None : goal.ones-returns-in-Ok-None
+ones-returns-in-Ok-None t c = turn_ends _ _ _ _ _ _ _ _ c.loop-turn-test.true (rw c.in-Ok-None.field-0-is at c.in-Ok-None.ensures) c.loop-turn.invariant
+
+pub ones-returns-in-Err : goal.ones-returns-in-Err
+ones-returns-in-Err t c = λ other. turn_fails _ _ _ _ _ _ _ _ c.loop-turn-test.true (c.in-Err.ensures other) c.loop-turn.invariant
+
+pub ones-loop-turn-preserved : goal.ones-loop-turn-preserved
+ones-loop-turn-preserved t c =
+    rw c.in_ok-push-in-Ok-Some.ensures.items
+    (turn_goes _ _ _ _ _ _ _ _ _ c.loop-turn-test.true (rw c.in-Ok-Some.field-0-is at c.in-Ok-Some.ensures) c.loop-turn.invariant)
+
+pub alls-returns-in-Ok-None : goal.alls-returns-in-Ok-None
+alls-returns-in-Ok-None t c = turn_ends _ _ _ _ _ _ _ _ c.loop-turn-test.true (rw c.in-Ok-None.field-0-is at c.in-Ok-None.ensures) c.loop-turn.invariant
+
+pub alls-returns-in-Err : goal.alls-returns-in-Err
+alls-returns-in-Err t c = λ other. turn_fails _ _ _ _ _ _ _ _ c.loop-turn-test.true (c.in-Err.ensures other) c.loop-turn.invariant
+
+pub alls-loop-turn-preserved : goal.alls-loop-turn-preserved
+alls-loop-turn-preserved t c =
+    rw c.in_ok-add-in-Ok-Some.ensures
+    (turn_goes _ _ _ _ _ _ _ _ _ c.loop-turn-test.true (rw c.in-Ok-Some.field-0-is at c.in-Ok-Some.ensures) c.loop-turn.invariant)
+
+pub alternatives-note-requires : goal.alternatives-note-requires
+alternatives-note-requires t c =
+    subst (λ n. n ≤ length c.alls.new.self.notes.items) (sym (c.len-place.ensures ∙ c.args.self.now.notes.ok.0))
+    (notes_stay reading.fits_period c.args.room (others_of c.after.result) (others_of c.in_ok-others.others) c.in_ok-second.second
+    (state_of c.args.self.now) (state_of c.all.new.self) (state_of c.alls.new.self) c.in_ok-second.ensures c.in_ok-others.ensures)
+
+pub alternatives-returns : goal.alternatives-returns
+alternatives-returns t c =
+    alternatives_are (reading.all (reading.one reading.fits_period c.args.room)) c.args.first c.in_ok-second.second c.args.span c.len-place.result
+    (state_of c.args.self.now) (state_of c.all.new.self) (state_of c.alls.new.self) (state_of c.note.new.self)
+    (others_of c.after.result) (others_of c.in_ok-others.others) c.new-3.result
+    c.in_ok-second.ensures c.after.ensures c.in_ok-others.ensures (c.len-place.ensures ∙ c.args.self.now.notes.ok.0) c.in_ok-note.ensures
+    (c.new-3.ensures ∙ rw (c.in_ok-first.ensures.ok, c.in_ok-second-2.ensures.ok))

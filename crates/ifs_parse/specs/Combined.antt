@@ -1,0 +1,99 @@
+-- What parsers are made of: each takes tokens from the left, and looks one token ahead.
+use Rattle.std.specs.Prelude.{◌≡◌, ◌≢◌, ℕ, zero, suc, cond, List, [], ◌∷◌, drop, length, Option, Some, None, Result, Ok, Err, MatchResult}
+use Rattle.std.specs.Option.{option_map_or}
+use Rattle.ifs_base.specs.declared.span.Span.{Span}
+use Rattle.ifs_lex.specs.declared.token.Token.{Token}
+use Rattle.ifs_parse.specs.declared.fault.ParseFault.{ParseFault}
+use Rattle.ifs_parse.specs.declared.fault.ParseFault.TheVariants.{Unexpected, Memory}
+use Rattle.ifs_parse.specs.declared.mark.Mark.{Mark}
+use Rattle.ifs_parse.specs.Marks.{mark_of, is}
+
+-- The tokens that are left, and the lines of the notes so far.
+pub record State : Type 0 where
+  pub left : List Token
+  pub notes : List ℕ
+
+abbrev pub state : List Token → List ℕ → State
+state left notes = record { left = left; notes = notes }
+
+-- After the first token.
+abbrev pub past : State → State
+past s = state (drop 1 s.left) s.notes
+
+-- What reads a value, or tells a fault.
+abbrev pub Parse : Type 0 → Type 0
+Parse X = State → Result (X × State) ParseFault
+
+-- Goes on where nothing was wrong.
+infixl 10 ◌>>=◌
+abbrev pub ◌>>=◌ : {A B : Type 0} → Result A ParseFault → (A → Result B ParseFault) → Result B ParseFault
+(Ok x) >>= f = f x
+(Err fault) >>= f = Err fault
+
+-- The line of the first token.
+abbrev pub line_of : List Token → ℕ
+line_of [] = 0
+line_of (t ∷ ts) = t.span.line
+
+-- Nothing goes on with the first token.
+abbrev pub unexpected : {X : Type 0} → Parse X
+unexpected s = Err (Unexpected (line_of s.left))
+
+-- What the first token stands for.
+abbrev pub found : {X : Type 0} → (Token → Option X) → List Token → Option X
+found what [] = None
+found what (t ∷ ts) = what t
+
+-- The span of a token that is this mark.
+abbrev pub marked : Mark → Token → Option Span
+marked mark t = cond (is (mark_of t.what) mark) (Some t.span) None
+
+-- The first token, where it is this mark, by its span.
+abbrev pub accepted : Mark → List Token → Option Span
+accepted mark = found (marked mark)
+
+-- A value and no token.
+abbrev pub pure : {X : Type 0} → X → Parse X
+pure x s = Ok (x, s)
+
+-- One thing and then another.
+infixr 5 ◌▸◌
+abbrev pub ◌▸◌ : {X Y : Type 0} → Parse X → (X → Parse Y) → Parse Y
+(p ▸ q) s = p s >>= λ r. q r.0 r.1
+
+-- One token that stands for a value.
+abbrev pub one_token : {X : Type 0} → (Token → Option X) → Parse X
+one_token what s = option_map_or (λ x. Ok (x, past s)) (found what s.left) (unexpected s)
+
+-- What goes on after a mark, or else what has no mark before it.
+abbrev pub either : {X : Type 0} → Mark → (Span → Parse X) → Parse X → Parse X
+either mark yes_then else_then s = option_map_or (λ span. yes_then span (past s)) (accepted mark s.left) (else_then s)
+
+-- What comes after a mark, where the mark does; or else something else that may be missing.
+abbrev pub begins : {X : Type 0} → Mark → (Span → Parse X) → Parse (Option X) → Parse (Option X)
+begins mark yes_then else_then = either mark (λ span. yes_then span ▸ λ x. pure (Some x)) else_then
+
+-- Nothing more.
+abbrev pub no_more : {X : Type 0} → Parse (Option X)
+no_more = pure None
+
+-- What must come.
+abbrev pub required : {X : Type 0} → Parse (Option X) → Parse X
+required p = p ▸ λ r. option_map_or pure r unexpected
+
+-- A mark, by its span.
+abbrev pub expected : Mark → Parse Span
+expected mark = either mark pure unexpected
+
+-- So many things at most, one after the other, put together from the left.
+abbrev pub many_from : {A X : Type 0} → Parse (Option X) → (A → X → A) → ℕ → A → Parse A
+many_from part add zero a s = Ok (a, s)
+many_from part add (suc n) a s = part s >>= λ r. option_map_or (λ x. many_from part add n (add a x) r.1) r.0 (Ok (a, r.1))
+
+-- As many things as come: each has a token at least.
+abbrev pub many : {A X : Type 0} → Parse (Option X) → (A → X → A) → A → Parse A
+many part add a s = many_from part add (length s.left) a s
+
+-- A result is what is wanted, and a fault is the one wanted unless memory ran out.
+abbrev pub Answers : {X Y : Type 0} → (X → Y) → Result X ParseFault → Result Y ParseFault → Type 0
+Answers view result wanted = MatchResult result (λ x. wanted ≡ Ok (view x)) (λ fault. fault ≢ Memory → wanted ≡ Err fault)

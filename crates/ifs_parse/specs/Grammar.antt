@@ -1,0 +1,133 @@
+-- The grammar of policies: which tokens say which file, with which notes; one rule a line of the grammar.
+use Rattle.std.specs.Prelude.{ℕ, zero, suc, Bool, true, false, ◌||◌, if◌then◌else◌, List, [], ◌∷◌, Option, Some, None}
+use Rattle.ifs_base.specs.declared.op.LinkState.{LinkState}
+use Rattle.ifs_lex.specs.declared.token.Token.{Token}
+use Rattle.ifs_parse.specs.declared.mark.Mark.TheVariants as mark
+use Rattle.ifs_parse.specs.declared.tree.Name.{Name}
+use Rattle.ifs_parse.specs.declared.tree.Test.{Test}
+use Rattle.ifs_parse.specs.declared.tree.Test.TheVariants.{Link, External}
+use Rattle.ifs_parse.specs.declared.tree.Wish.{Wish}
+use Rattle.ifs_parse.specs.declared.tree.Part.{Part}
+use Rattle.ifs_parse.specs.declared.tree.Part.TheVariants.{Init, Do}
+use Rattle.ifs_parse.specs.declared.tree.Item.{Item}
+use Rattle.ifs_parse.specs.declared.tree.Item.TheVariants.{InitState, State, Always}
+use Rattle.ifs_parse.specs.declared.block.Statement.{Statement}
+use Rattle.ifs_parse.specs.declared.block.Statement.TheVariants.{Run, SetState, If}
+use Rattle.ifs_parse.specs.declared.parser.Operand.{Operand}
+use Rattle.ifs_parse.specs.Trees as tree
+use Rattle.ifs_parse.specs.Views.{all_of, any_of, block_of}
+use Rattle.ifs_parse.specs.Files.{File}
+use Rattle.ifs_parse.specs.Marks.{mark_of}
+use Rattle.ifs_parse.specs.Reading.{fits_period, name_of, link_state_of, number_of_what, operand, others, with_last, with_operand}
+use Rattle.ifs_parse.specs.Rules.{Rule, Gives, OneToken, TheMark, ◌⨟◌, ◌or◌, Never, Noted, Many}
+
+-- string : a word that is not reserved | a quoted text
+abbrev pub IsString : Rule Name
+IsString = OneToken name_of
+
+-- up | down | unknown
+abbrev pub IsLinkState : Rule LinkState
+IsLinkState = OneToken (λ t. link_state_of (mark_of t.what))
+
+-- A number that fits.
+abbrev pub fitting : (ℕ → Bool) → Option ℕ → Option ℕ
+fitting fits None = None
+fitting fits (Some n) = if fits n then Some n else None
+
+-- number : an unquoted word of digits, a period that fits
+abbrev pub IsPeriod : (ℕ → Bool) → Rule ℕ
+IsPeriod fits = OneToken (λ t. fitting fits (number_of_what t.what))
+
+-- link "." ( up | down | unknown )
+abbrev pub IsLinkTest : Name → Rule Test
+IsLinkTest name = TheMark mark.Link ⨟ λ _. TheMark mark.Dot ⨟ λ _. IsLinkState ⨟ λ l. Gives (Link name l)
+
+-- test : string ( "." link "." ( up | down | unknown ) | every number )
+abbrev pub IsTest : (ℕ → Bool) → Rule Test
+IsTest fits = IsString ⨟ λ name. (TheMark mark.Dot ⨟ λ _. IsLinkTest name) or (TheMark mark.Every ⨟ λ _. IsPeriod fits ⨟ λ n. Gives (External name n))
+
+-- What follows `one "&&"` : one { "&&" one }
+abbrev pub IsChain : Rule (tree.Condition Test) → tree.Condition Test → Rule Operand
+IsChain one first = one ⨟ λ second. Many (TheMark mark.And ⨟ λ _. one) with_last [] ⨟ λ rest. Gives (operand (all_of (tree.And first second) rest) true)
+
+-- all : one { "&&" one }
+abbrev pub IsAll : Rule (tree.Condition Test) → Rule Operand
+IsAll one = one ⨟ λ first. (TheMark mark.And ⨟ λ _. IsChain one first) or Gives (operand first false)
+
+-- What follows `all "||"` : all { "||" all }, and whether an operand is a chain.
+abbrev pub AreAlternatives : Rule Operand → Operand → Rule (tree.Condition Test × Bool)
+AreAlternatives all first =
+    all ⨟ λ second. Many (TheMark mark.Or ⨟ λ _. all) with_operand (others [] (first.is_chain || second.is_chain)) ⨟ λ more.
+    Gives (any_of (tree.Or first.condition second.condition) more.rest, more.is_mixed)
+
+-- any : all { "||" all }, with a note on the line of its first `||` where an operand is a chain
+abbrev pub IsAny : Rule Operand → Rule (tree.Condition Test)
+IsAny all = all ⨟ λ first. (TheMark mark.Or ⨟ λ span. Noted span.line (AreAlternatives all first)) or Gives first.condition
+
+-- one, by what stands after "!" and within "(" and ")"
+abbrev pub IsOneOver : Rule (tree.Condition Test) → Rule (tree.Condition Test) → Rule Test → Rule (tree.Condition Test)
+IsOneOver negated grouped test =
+    (TheMark mark.Bang ⨟ λ _. negated ⨟ λ c. Gives (tree.NotSo c))
+    or (TheMark mark.ParenOpen ⨟ λ _. grouped ⨟ λ c. TheMark mark.ParenClose ⨟ λ _. Gives c)
+    or (test ⨟ λ t. Gives (tree.Leaf t))
+
+-- one : "!" one | "(" any ")" | test, by how many more may be open
+abbrev pub IsOne : (ℕ → Bool) → ℕ → Rule (tree.Condition Test)
+IsOne fits zero = IsOneOver Never Never (IsTest fits)
+IsOne fits (suc room) = IsOneOver (IsOne fits room) (IsAny (IsAll (IsOne fits room))) (IsTest fits)
+
+-- any, by how many more may be open
+abbrev pub IsCondition : (ℕ → Bool) → ℕ → Rule (tree.Condition Test)
+IsCondition fits room = IsAny (IsAll (IsOne fits room))
+
+-- { part } "}"
+abbrev pub AreBraced : {X : Type 0} → Rule X → Rule (List X)
+AreBraced part = Many part with_last [] ⨟ λ xs. TheMark mark.BraceClose ⨟ λ _. Gives xs
+
+-- block : stmt | "{" { stmt } "}"
+abbrev pub IsBlock : Rule (Statement Test Name Wish) → Rule (tree.Block Test Name Wish)
+IsBlock statement =
+    (TheMark mark.BraceOpen ⨟ λ _. AreBraced statement ⨟ λ xs. Gives (block_of xs)) or (statement ⨟ λ x. Gives (block_of (x ∷ [])))
+
+-- stmt, by what stands after `if`
+abbrev pub IsStatementOver : Rule (Statement Test Name Wish) → Rule (Statement Test Name Wish)
+IsStatementOver conditional =
+    (TheMark mark.If ⨟ λ _. conditional)
+    or (TheMark mark.Run ⨟ λ _. IsString ⨟ λ command. Gives (Run command))
+    or (TheMark mark.SetState ⨟ λ span. IsString ⨟ λ name. Gives (SetState (record { span = span; state = name })))
+
+-- What stands after `if` : any block
+abbrev pub IsConditional : Rule (tree.Condition Test) → Rule (tree.Block Test Name Wish) → Rule (Statement Test Name Wish)
+IsConditional condition block = condition ⨟ λ c. block ⨟ λ inner. Gives (If c inner)
+
+-- stmt : if any block | run string | set-state string, by how many more may be open
+abbrev pub IsStatement : (ℕ → Bool) → ℕ → Rule (Statement Test Name Wish)
+IsStatement fits zero = IsStatementOver Never
+IsStatement fits (suc room) = IsStatementOver (IsConditional (IsCondition fits room) (IsBlock (IsStatement fits room)))
+
+-- init block | stmt
+abbrev pub IsPart : Rule (Statement Test Name Wish) → Rule Part
+IsPart statement = (TheMark mark.Init ⨟ λ span. IsBlock statement ⨟ λ inner. Gives (Init span inner)) or (statement ⨟ λ s. Gives (Do s))
+
+-- init-state string | state string "{" { init block | stmt } "}" | init block | stmt
+abbrev pub IsItem : Rule Part → Rule Item
+IsItem part =
+    (TheMark mark.InitState ⨟ λ span. IsString ⨟ λ name. Gives (InitState span name))
+    or (TheMark mark.State ⨟ λ _. IsString ⨟ λ name. TheMark mark.BraceOpen ⨟ λ _. AreBraced part ⨟ λ parts. Gives (State name parts))
+    or (part ⨟ λ p. Gives (Always p))
+
+-- file : { init-state string | state string "{" { init block | stmt } "}" | init block | stmt }, and the end
+abbrev pub AreItems : Rule Item → Rule (List Item)
+AreItems item = Many item with_last [] ⨟ λ all. TheMark mark.End ⨟ λ _. Gives all
+
+-- Tokens say a file, with periods that fit and so many `if`, `!` and `(` open at once.
+unfoldable pub SaysWithin : (ℕ → Bool) → ℕ → List Token → File → Type 0
+SaysWithin fits room tokens file = AreItems (IsItem (IsPart (IsStatement fits room))) tokens file.items file.notes
+
+-- Tokens, up to their end, say a file: periods are from 1 to 604,800, and at most 32 `if`, `!` and `(` are open at once.
+abbrev pub Says : List Token → File → Type 0
+Says = SaysWithin fits_period 32
+
+-- Some tokens say the file.
+abbrev pub IsSaid : File → Type 0
+IsSaid f = ∥ ((tokens : List Token) × Says tokens f) ∥₁

@@ -1,0 +1,209 @@
+//! The productions of conditions.
+
+ghost use Rattle.std.specs.Prelude.{◌≡◌, ◌≤◌, ◌||◌, [], suc, zero, length, MatchResult};
+ghost use Rattle.ifs_parse.specs.Combined.{Answers, many};
+ghost use Rattle.ifs_parse.specs.Parsers.{state_of, others_of};
+ghost use Rattle.ifs_parse.specs.Reading as reading;
+ghost use Rattle.ifs_parse.specs.declared.mark.Mark.TheVariants as mark;
+ghost use Rattle.ifs_parse.specs.declared.fault.ParseFault.TheVariants.{Memory, Nesting};
+
+use crate::condition::{Condition, Node};
+use crate::fault::ParseFault;
+use crate::mark::Mark;
+use crate::parser::{Operand, Parser};
+use crate::tree::Test;
+use ifs_base::Span;
+use std::alloc::Global;
+
+/// The operands after the first two, and whether one of all the operands is a chain.
+#[derive(Drop)]
+struct Others {
+    rest: Vec<Condition<Test>>,
+    is_mixed: bool,
+}
+
+impl Others {
+    /// None after the first two operands.
+    fn after(alloc: Global, first: &Operand, second: &Operand) -> Others
+        ensures { others_of result ≡ reading.others [] (first.now.is_chain || second.now.is_chain) }
+    {
+        Others {
+            rest: Vec::new(alloc),
+            is_mixed: first.is_chain || second.is_chain,
+        }
+    }
+
+    /// With one more operand.
+    fn add(&mut self, next: Operand) -> Result<(), ParseFault>
+        ensures { MatchResult
+            result
+            (λ done. others_of self.new ≡ reading.with_operand (others_of self.old) next)
+            (λ fault. fault ≡ Memory) }
+    {
+        let Operand {
+            condition,
+            is_chain,
+        } = next;
+        self.is_mixed = self.is_mixed || is_chain;
+        self.rest.push(condition)?;
+        Ok(())
+    }
+}
+
+/// How many more may be open within what opens at a span, where so many may be.
+pub fn within(room: u32, span: Span) -> Result<u32, ParseFault>
+    ensures { MatchResult result (λ inner. room ≡ suc inner) (λ fault. (room ≡ zero) × (fault ≡ Nesting span.line)) }
+{
+    room.checked_sub(1)
+        .ok_or(ParseFault::Nesting { line: span.line })
+}
+
+impl<'a> Parser<'a> {
+    /// one : "!" one | "(" any ")" | test
+    #[cycle(conditions)]
+    fn one(&mut self, room: u32) -> Result<Condition<Test>, ParseFault>
+        ensures { Answers (λ c. (c, state_of self.new)) result (reading.one reading.fits_period room (state_of self.old)) }
+    {
+        if let Some(span) = self.accept(Mark::Bang) {
+            let inner = self.one(within(room, span)?)?;
+            return Ok(Condition::new(Node::Not(Box::new(self.alloc, inner)?)));
+        }
+        if let Some(span) = self.accept(Mark::ParenOpen) {
+            let inner = self.condition(within(room, span)?)?;
+            self.expect(Mark::ParenClose)?;
+            return Ok(inner);
+        }
+        let test = self.test()?;
+        Ok(Condition::new(Node::Leaf(test)))
+    }
+
+    /// `"&&" one`, where it comes.
+    #[cycle(conditions)]
+    fn next_one(&mut self, room: u32) -> Result<Option<Condition<Test>>, ParseFault>
+        ensures { Answers (λ c. (c, state_of self.new)) result (reading.next_operand mark.And (reading.one reading.fits_period room) (state_of self.old)) }
+    {
+        match self.accept(Mark::And) {
+            Some(_) => Ok(Some(self.one(room)?)),
+            None => Ok(None),
+        }
+    }
+
+    /// The operands of `{ "&&" one }`.
+    #[cycle(conditions)]
+    fn ones(&mut self, room: u32) -> Result<Vec<Condition<Test>>, ParseFault>
+        ensures { Answers
+            (λ rest. (rest.items, state_of self.new))
+            result
+            (many (reading.next_operand mark.And (reading.one reading.fits_period room)) reading.with_last [] (state_of self.old)) }
+    {
+        let mut rest = Vec::new(self.alloc);
+        for _turn in 0..self.left.len() {
+            match self.next_one(room) {
+                Ok(Some(next)) => rest.push(next)?,
+                Ok(None) => return Ok(rest),
+                Err(fault) => return Err(fault),
+            }
+        }
+        Ok(rest)
+    }
+
+    /// all : one { "&&" one }
+    #[cycle(conditions)]
+    fn all(&mut self, room: u32) -> Result<Operand, ParseFault>
+        ensures { Answers (λ o. (o, state_of self.new)) result (reading.all (reading.one reading.fits_period room) (state_of self.old)) }
+    {
+        let first = self.one(room)?;
+        if self.accept(Mark::And).is_none() {
+            return Ok(Operand {
+                condition: first,
+                is_chain: false,
+            });
+        }
+        let second = self.one(room)?;
+        let rest = self.ones(room)?;
+        let first = Box::new(self.alloc, first)?;
+        let second = Box::new(self.alloc, second)?;
+        Ok(Operand {
+            condition: Condition::new(Node::All(first, second, rest)),
+            is_chain: true,
+        })
+    }
+
+    /// `"||" all`, where it comes.
+    #[cycle(conditions)]
+    fn next_all(&mut self, room: u32) -> Result<Option<Operand>, ParseFault>
+        ensures { Answers (λ o. (o, state_of self.new)) result (reading.next_operand mark.Or (reading.all (reading.one reading.fits_period room)) (state_of self.old)) }
+    {
+        match self.accept(Mark::Or) {
+            Some(_) => Ok(Some(self.all(room)?)),
+            None => Ok(None),
+        }
+    }
+
+    /// The operands of `{ "||" all }`.
+    #[cycle(conditions)]
+    fn alls(&mut self, room: u32, before: Others) -> Result<Others, ParseFault>
+        ensures { Answers
+            (λ o. (others_of o, state_of self.new))
+            result
+            (many (reading.next_operand mark.Or (reading.all (reading.one reading.fits_period room))) reading.with_operand (others_of before) (state_of self.old)) }
+    {
+        let mut others = before;
+        for _turn in 0..self.left.len() {
+            match self.next_all(room) {
+                Ok(Some(next)) => others.add(next)?,
+                Ok(None) => return Ok(others),
+                Err(fault) => return Err(fault),
+            }
+        }
+        Ok(others)
+    }
+
+    /// Notes a line, where operands are mixed, before the notes that stand from a place on.
+    fn note(&mut self, place: usize, line: u32, is_mixed: bool) -> Result<(), ParseFault>
+        requires { place ≤ length self.old.notes.items }
+        ensures { MatchResult
+            result
+            (λ done. state_of self.new ≡ reading.noted place line is_mixed (state_of self.old))
+            (λ fault. fault ≡ Memory) }
+    {
+        if is_mixed {
+            self.notes.insert(place, line)?;
+        }
+        Ok(())
+    }
+
+    /// What follows `all "||"` : all { "||" all }, with the note where operands are mixed.
+    #[cycle(conditions)]
+    fn alternatives(
+        &mut self,
+        room: u32,
+        first: Operand,
+        span: Span,
+    ) -> Result<Condition<Test>, ParseFault>
+        ensures { Answers
+            (λ c. (c, state_of self.new))
+            result
+            (reading.noted_alternatives (reading.all (reading.one reading.fits_period room)) first span (state_of self.old)) }
+    {
+        let place = self.notes.len();
+        let second = self.all(room)?;
+        let others = self.alls(room, Others::after(self.alloc, &first, &second))?;
+        self.note(place, span.line, others.is_mixed)?;
+        let first = Box::new(self.alloc, first.condition)?;
+        let second = Box::new(self.alloc, second.condition)?;
+        Ok(Condition::new(Node::Any(first, second, others.rest)))
+    }
+
+    /// any : all { "||" all }
+    #[cycle(conditions)]
+    pub fn condition(&mut self, room: u32) -> Result<Condition<Test>, ParseFault>
+        ensures { Answers (λ c. (c, state_of self.new)) result (reading.condition reading.fits_period room (state_of self.old)) }
+    {
+        let first = self.all(room)?;
+        match self.accept(Mark::Or) {
+            Some(span) => self.alternatives(room, first, span),
+            None => Ok(first.condition),
+        }
+    }
+}

@@ -1,0 +1,103 @@
+//! What a token is in the grammar, but for strings and numbers.
+
+ghost use Rattle.std.specs.Prelude.{◌≡◌};
+ghost use Rattle.ifs_parse.specs.Marks as marks;
+
+use ifs_lex::What;
+
+/// A sign, or a word that the grammar names. A quoted text is none.
+#[derive(Clone, Copy, Debug, PartialEq, Eq)]
+pub enum Mark {
+    BraceOpen,
+    BraceClose,
+    ParenOpen,
+    ParenClose,
+    Dot,
+    Bang,
+    And,
+    Or,
+    End,
+    State,
+    InitState,
+    Init,
+    If,
+    Run,
+    SetState,
+    Every,
+    Link,
+    Up,
+    Down,
+    Unknown,
+    /// Any other token.
+    Other,
+}
+
+/// What a word is in the grammar.
+fn mark_of_word(word: &str) -> Mark
+    ensures { result ≡ marks.mark_of_word word.now }
+{
+    if word == "state" {
+        return Mark::State;
+    }
+    if word == "init-state" {
+        return Mark::InitState;
+    }
+    if word == "init" {
+        return Mark::Init;
+    }
+    if word == "if" {
+        return Mark::If;
+    }
+    if word == "run" {
+        return Mark::Run;
+    }
+    if word == "set-state" {
+        return Mark::SetState;
+    }
+    if word == "every" {
+        return Mark::Every;
+    }
+    if word == "link" {
+        return Mark::Link;
+    }
+    if word == "up" {
+        return Mark::Up;
+    }
+    if word == "down" {
+        return Mark::Down;
+    }
+    if word == "unknown" {
+        return Mark::Unknown;
+    }
+    Mark::Other
+}
+
+/// What a token is in the grammar.
+pub fn mark_of(what: &What) -> Mark
+    ensures { result ≡ marks.mark_of what.now }
+{
+    match what {
+        What::Word(word) => mark_of_word(word.as_str()),
+        What::Quoted(_) => Mark::Other,
+        What::BraceOpen => Mark::BraceOpen,
+        What::BraceClose => Mark::BraceClose,
+        What::ParenOpen => Mark::ParenOpen,
+        What::ParenClose => Mark::ParenClose,
+        What::Dot => Mark::Dot,
+        What::Equals => Mark::Other,
+        What::Bang => Mark::Bang,
+        What::And => Mark::And,
+        What::Or => Mark::Or,
+        What::End => Mark::End,
+    }
+}
+
+impl Mark {
+    /// Whether it is this one.
+    #[tactic(auto, unfolding(crate::specs::Marks::is))]
+    pub fn is(self, other: Mark) -> bool
+        ensures { result ≡ marks.is self other }
+    {
+        self == other
+    }
+}

@@ -1,0 +1,192 @@
+//! What reads tokens from the left, one token ahead.
+
+ghost use Rattle.std.specs.Prelude.{◌≡◌, ℕ, option_map, if◌then◌else◌, Ok, Err};
+ghost use Rattle.std.specs.Option.{option_map_or};
+ghost use Rattle.ifs_parse.specs.Combined as combined;
+ghost use Rattle.ifs_parse.specs.Combined.{Answers, accepted, expected, line_of, past, found};
+ghost use Rattle.ifs_parse.specs.Reading as reading;
+ghost use Rattle.ifs_parse.specs.Parsers.{state_of};
+ghost use Rattle.ifs_parse.specs.declared.fault.ParseFault.TheVariants as fault;
+ghost use Rattle.ifs_base.specs.Numbers.{sized};
+
+use crate::condition::Condition;
+use crate::fault::ParseFault;
+use crate::mark::{Mark, mark_of};
+use crate::period::Period;
+use crate::tree::{Name, Test};
+use ifs_base::limits::PERIOD;
+use ifs_base::{LinkState, Number, Span, Text, parse_number};
+use ifs_lex::{Token, What, is_reserved};
+use std::alloc::Global;
+
+/// The tokens that are left, and the lines of the notes so far.
+#[derive(Drop)]
+pub struct Parser<'a> {
+    pub alloc: Global,
+    pub left: &'a [Token],
+    pub notes: Vec<u32>,
+}
+
+/// An operand of `||`, and whether it is two or more joined by `&&`.
+#[derive(Drop)]
+pub struct Operand {
+    pub condition: Condition<Test>,
+    pub is_chain: bool,
+}
+
+/// The text of a string: a word that is not reserved, or a quoted text.
+fn text_of(what: &What) -> Option<&Text>
+    ensures { option_map (λ text. text.now) result ≡ reading.text_of what.now }
+{
+    match what {
+        What::Word(word) => {
+            if is_reserved(word.as_str()) {
+                return None;
+            }
+            Some(word)
+        }
+        What::Quoted(text) => Some(text),
+        _ => None,
+    }
+}
+
+/// The link state that a word names.
+fn link_state_of(mark: Mark) -> Option<LinkState>
+    ensures { result ≡ reading.link_state_of mark }
+{
+    match mark {
+        Mark::Up => Some(LinkState::Up),
+        Mark::Down => Some(LinkState::Down),
+        Mark::Unknown => Some(LinkState::Unknown),
+        _ => None,
+    }
+}
+
+/// The number that an unquoted word of digits spells.
+fn number_of(what: &What) -> Option<Number>
+    ensures { result ≡ option_map sized (reading.number_of_what what.now) }
+{
+    match what {
+        What::Word(word) => parse_number(word.as_bytes()),
+        _ => None,
+    }
+}
+
+/// A number as a period, which stands at a span.
+fn period_of(number: Number, span: Span) -> Result<Period, ParseFault>
+    ensures { (n : ℕ) → sized n ≡ number → result ≡ (if reading.fits_period n then Ok n else Err (fault.Period span.line)) }
+{
+    match number {
+        Number::Within(seconds) => {
+            if 1 <= seconds && seconds <= u64::from(PERIOD) {
+                return Ok(Period::new(seconds as u32));
+            }
+            Err(ParseFault::Period { line: span.line })
+        }
+        Number::TooGreat => Err(ParseFault::Period { line: span.line }),
+    }
+}
+
+impl<'a> Parser<'a> {
+    /// The line of the first token.
+    fn line(&self) -> u32
+        ensures { result ≡ line_of self.now.left.now }
+    {
+        match self.left {
+            [token, ..] => token.span.line,
+            [] => 0,
+        }
+    }
+
+    /// That nothing goes on with the first token.
+    pub fn unexpected(&self) -> ParseFault
+        ensures { result ≡ fault.Unexpected (line_of self.now.left.now) }
+    {
+        ParseFault::Unexpected { line: self.line() }
+    }
+
+    /// Takes the first token where it is a mark, and tells its span.
+    pub fn accept(&mut self, mark: Mark) -> Option<Span>
+        ensures taken { result ≡ accepted mark self.old.left.now }
+        ensures after { state_of self.new ≡ option_map_or (λ _. past (state_of self.old)) result (state_of self.old) }
+    {
+        match self.left {
+            [token, rest @ ..] => {
+                if mark_of(&token.what).is(mark) {
+                    self.left = rest;
+                    return Some(token.span);
+                }
+                None
+            }
+            [] => None,
+        }
+    }
+
+    /// Takes the first token, which must be a mark, and tells its span.
+    pub fn expect(&mut self, mark: Mark) -> Result<Span, ParseFault>
+        ensures { Answers (λ span. (span, state_of self.new)) result (expected mark (state_of self.old)) }
+    {
+        match self.accept(mark) {
+            Some(span) => Ok(span),
+            None => Err(self.unexpected()),
+        }
+    }
+
+    /// string : a word that is not reserved | a quoted text
+    pub fn string(&mut self) -> Result<Name, ParseFault>
+        ensures { Answers (λ name. (name, state_of self.new)) result (reading.string (state_of self.old)) }
+    {
+        if let [token, rest @ ..] = self.left {
+            if let Some(text) = text_of(&token.what) {
+                let text = Text::new(String::from_str(self.alloc, text.as_str())?);
+                self.left = rest;
+                return Ok(Name {
+                    text,
+                    span: token.span,
+                });
+            }
+        }
+        Err(self.unexpected())
+    }
+
+    /// up | down | unknown
+    pub fn link_state(&mut self) -> Result<LinkState, ParseFault>
+        ensures { Answers (λ l. (l, state_of self.new)) result (reading.link_state (state_of self.old)) }
+    {
+        if let [token, rest @ ..] = self.left {
+            if let Some(link_state) = link_state_of(mark_of(&token.what)) {
+                self.left = rest;
+                return Ok(link_state);
+            }
+        }
+        Err(self.unexpected())
+    }
+
+    /// number : an unquoted word of digits, from 1 to 604,800
+    pub fn period(&mut self) -> Result<Period, ParseFault>
+        ensures { Answers (λ n. (n, state_of self.new)) result (reading.period reading.fits_period (state_of self.old)) }
+    {
+        if let [token, rest @ ..] = self.left {
+            if let Some(number) = number_of(&token.what) {
+                let period = period_of(number, token.span)?;
+                self.left = rest;
+                return Ok(period);
+            }
+        }
+        Err(self.unexpected())
+    }
+
+    /// test : string "." link "." ( up | down | unknown ) | string every number
+    pub fn test(&mut self) -> Result<Test, ParseFault>
+        ensures { Answers (λ t. (t, state_of self.new)) result (reading.test reading.fits_period (state_of self.old)) }
+    {
+        let name = self.string()?;
+        if self.accept(Mark::Dot).is_some() {
+            self.expect(Mark::Link)?;
+            self.expect(Mark::Dot)?;
+            return Ok(Test::Link(name, self.link_state()?));
+        }
+        self.expect(Mark::Every)?;
+        Ok(Test::External(name, self.period()?))
+    }
+}

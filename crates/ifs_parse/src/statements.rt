@@ -1,0 +1,173 @@
+//! The productions of statements, states and files.
+
+ghost use Rattle.std.specs.Prelude.{◌≡◌, []};
+ghost use Rattle.ifs_parse.specs.Combined.{Answers, many};
+ghost use Rattle.ifs_parse.specs.Parsers.{state_of};
+ghost use Rattle.ifs_parse.specs.Reading as reading;
+
+use crate::block::{Block, Statement};
+use crate::conditions::within;
+use crate::fault::ParseFault;
+use crate::mark::Mark;
+use crate::parser::Parser;
+use crate::tree::{Action, Actions, Item, Part, Wish};
+use ifs_base::{Items, Span};
+
+impl<'a> Parser<'a> {
+    /// What follows `if` : any block
+    #[cycle(statements)]
+    fn conditional(&mut self, room: u32) -> Result<Action, ParseFault>
+        ensures { Answers (λ s. (s, state_of self.new)) result (reading.conditional reading.fits_period room (state_of self.old)) }
+    {
+        let condition = self.condition(room)?;
+        let inner = self.block(room)?;
+        Ok(Statement::If(condition, inner))
+    }
+
+    /// stmt : if any block | run string | set-state string, where one begins
+    #[cycle(statements)]
+    fn statement(&mut self, room: u32) -> Result<Option<Action>, ParseFault>
+        ensures { Answers (λ s. (s, state_of self.new)) result (reading.statement reading.fits_period room (state_of self.old)) }
+    {
+        if let Some(span) = self.accept(Mark::If) {
+            return Ok(Some(self.conditional(within(room, span)?)?));
+        }
+        if self.accept(Mark::Run).is_some() {
+            return Ok(Some(Statement::Run(self.string()?)));
+        }
+        match self.accept(Mark::SetState) {
+            Some(span) => {
+                let state = self.string()?;
+                Ok(Some(Statement::SetState(Wish { span, state })))
+            }
+            None => Ok(None),
+        }
+    }
+
+    /// The statements of `{ stmt }`.
+    #[cycle(statements)]
+    fn statements(&mut self, room: u32) -> Result<Vec<Action>, ParseFault>
+        ensures { Answers
+            (λ all. (all.items, state_of self.new))
+            result
+            (many (reading.statement reading.fits_period room) reading.with_last [] (state_of self.old)) }
+    {
+        let mut all = Vec::new(self.alloc);
+        for _turn in 0..self.left.len() {
+            match self.statement(room) {
+                Ok(Some(next)) => all.push(next)?,
+                Ok(None) => return Ok(all),
+                Err(fault) => return Err(fault),
+            }
+        }
+        Ok(all)
+    }
+
+    /// block : stmt | "{" { stmt } "}"
+    #[cycle(statements)]
+    fn block(&mut self, room: u32) -> Result<Actions, ParseFault>
+        ensures { Answers (λ b. (b, state_of self.new)) result (reading.block (reading.statement reading.fits_period room) (state_of self.old)) }
+    {
+        if self.accept(Mark::BraceOpen).is_some() {
+            let statements = self.statements(room)?;
+            self.expect(Mark::BraceClose)?;
+            return Ok(Block::new(statements));
+        }
+        match self.statement(room)? {
+            Some(only) => {
+                let mut statements = Vec::new(self.alloc);
+                statements.push(only)?;
+                Ok(Block::new(statements))
+            }
+            None => Err(self.unexpected()),
+        }
+    }
+
+    /// init block | stmt, where one begins
+    fn part(&mut self, room: u32) -> Result<Option<Part>, ParseFault>
+        ensures { Answers (λ p. (p, state_of self.new)) result (reading.part (reading.statement reading.fits_period room) (state_of self.old)) }
+    {
+        if let Some(span) = self.accept(Mark::Init) {
+            return Ok(Some(Part::Init(span, self.block(room)?)));
+        }
+        Ok(self.statement(room)?.map(Part::Do))
+    }
+
+    /// The parts of `{ init block | stmt }`.
+    fn parts(&mut self, room: u32) -> Result<Vec<Part>, ParseFault>
+        ensures { Answers
+            (λ all. (all.items, state_of self.new))
+            result
+            (many (reading.part (reading.statement reading.fits_period room)) reading.with_last [] (state_of self.old)) }
+    {
+        let mut all = Vec::new(self.alloc);
+        for _turn in 0..self.left.len() {
+            match self.part(room) {
+                Ok(Some(next)) => all.push(next)?,
+                Ok(None) => return Ok(all),
+                Err(fault) => return Err(fault),
+            }
+        }
+        Ok(all)
+    }
+
+    /// What follows `state` : string "{" { init block | stmt } "}"
+    fn state(&mut self, room: u32) -> Result<Item, ParseFault>
+        ensures { Answers
+            (λ i. (i, state_of self.new))
+            result
+            (reading.state_item (reading.part (reading.statement reading.fits_period room)) (state_of self.old)) }
+    {
+        let name = self.string()?;
+        self.expect(Mark::BraceOpen)?;
+        let parts = self.parts(room)?;
+        self.expect(Mark::BraceClose)?;
+        Ok(Item::State(name, Items::new(parts)))
+    }
+
+    /// init-state string | state string "{" { init block | stmt } "}" | init block | stmt, where one begins
+    fn item(&mut self, room: u32) -> Result<Option<Item>, ParseFault>
+        ensures { Answers
+            (λ i. (i, state_of self.new))
+            result
+            (reading.item (reading.part (reading.statement reading.fits_period room)) (state_of self.old)) }
+    {
+        if let Some(span) = self.accept(Mark::InitState) {
+            return Ok(Some(Item::InitState(span, self.string()?)));
+        }
+        if self.accept(Mark::State).is_some() {
+            return Ok(Some(self.state(room)?));
+        }
+        Ok(self.part(room)?.map(Item::Always))
+    }
+
+    /// The items of a file.
+    fn items(&mut self, room: u32) -> Result<Vec<Item>, ParseFault>
+        ensures { Answers
+            (λ all. (all.items, state_of self.new))
+            result
+            (many (reading.item (reading.part (reading.statement reading.fits_period room))) reading.with_last [] (state_of self.old)) }
+    {
+        let mut all = Vec::new(self.alloc);
+        for _turn in 0..self.left.len() {
+            match self.item(room) {
+                Ok(Some(next)) => all.push(next)?,
+                Ok(None) => return Ok(all),
+                Err(fault) => return Err(fault),
+            }
+        }
+        Ok(all)
+    }
+
+    /// file : { init-state string | state string "{" { init block | stmt } "}" | init block | stmt }, and the end
+    pub fn file(&mut self, room: u32) -> Result<Vec<Item>, ParseFault>
+        ensures { Answers
+            (λ all. (all.items, state_of self.new))
+            result
+            (reading.items (reading.item (reading.part (reading.statement reading.fits_period room))) (state_of self.old)) }
+    {
+        let all = self.items(room)?;
+        self.expect(Mark::End)?;
+        Ok(all)
+    }
+}
