@@ -6,7 +6,7 @@ ghost use Rattle.ifs_base.specs.Sizes.{PeriodFits};
 use std::marker::Model;
 
 /// How many seconds pass from one start of a test to the next, from 1 to 604,800. Clauses see the number.
-#[derive(Clone, Copy, Debug)]
+#[derive(Clone, Copy, Debug, PartialEq, Eq, Hash)]
 pub struct Period {
     seconds: u32,
 }

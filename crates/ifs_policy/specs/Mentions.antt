@@ -1,5 +1,5 @@
 -- What a tree says of names, in the order of its text.
-use Rattle.std.specs.Prelude.{List, [], ◌∷◌, ◌++◌}
+use Rattle.std.specs.Prelude.{ℕ, List, [], ◌∷◌, ◌++◌}
 use Rattle.std.specs.List.{flat_map}
 use Rattle.ifs_parse.specs.Trees as tree
 use Rattle.ifs_parse.specs.Views.{statement_then}
@@ -21,7 +21,7 @@ use Rattle.ifs_policy.specs.declared.mention.Owner.TheVariants as whose
 
 -- A mention of a string of the text.
 abbrev pub Mentioned : Type 0
-Mentioned = Mention Name
+Mentioned = Mention Name ℕ
 
 -- The mention that a single test makes.
 abbrev pub test_mention : Place → Test → Mentioned

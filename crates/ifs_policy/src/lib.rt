@@ -22,3 +22,6 @@ pub use policy::{Counts, Handlers, Policy, PolicyBlock, PolicyParts, Single};
 pub use resolving::resolve;
 pub use table::Table;
 pub use tables::{ExternalTest, Tables};
+
+#[cfg(test)]
+mod tests;

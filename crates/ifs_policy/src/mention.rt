@@ -6,7 +6,7 @@ ghost use Rattle.ifs_policy.specs.Mentions.{block_mentions, condition_mentions, 
 ghost use Rattle.ifs_policy.specs.inner.Seen.{seen};
 
 use ifs_base::Span;
-use ifs_parse::{Action, Actions, Condition, Item, Name, Node, Part, Statement, Test};
+use ifs_parse::{Action, Actions, Condition, Item, Name, Node, Part, Period, Statement, Test};
 use std::alloc::AllocError;
 
 /// Whether something stands in an `init` or in a body.
@@ -26,13 +26,13 @@ pub enum Owner {
 }
 
 /// One thing that a text says of names: one for each of its strings, and for each `init`,
-/// `init-state` and `set-state`. `N` is a string.
+/// `init-state` and `set-state`. `N` is a string, `P` a period.
 #[derive(Debug, Drop)]
-pub enum Mention<N> {
+pub enum Mention<N, P> {
     /// The interface of a link test.
     Interface(N),
-    /// The command of an external test, and its period in seconds.
-    External(Place, N, u32),
+    /// The command of an external test, and its period.
+    External(Place, N, P),
     /// A command that is run.
     Command(N),
     /// The name that a state is defined by.
@@ -48,7 +48,7 @@ pub enum Mention<N> {
 }
 
 /// The mentions of a tree, found so far.
-pub type Mentions<'a> = Vec<Mention<&'a Name>>;
+pub type Mentions<'a> = Vec<Mention<&'a Name, &'a Period>>;
 
 /// Adds the mentions of an item.
 pub fn mention_item<'a>(item: &'a Item, mentions: &mut Mentions<'a>) -> Result<(), AllocError>
@@ -151,7 +151,7 @@ fn mention_condition<'a>(
             Ok(())
         }
         Node::Leaf(Test::External(command, period)) => {
-            mentions.push(Mention::External(place, command, *period))?;
+            mentions.push(Mention::External(place, command, period))?;
             Ok(())
         }
         Node::Not(operand) => {

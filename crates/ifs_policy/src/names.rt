@@ -13,7 +13,7 @@ use crate::mention::{Mention, Owner, Place};
 use crate::table::Table;
 use crate::tables::{ExternalTest, Tables, test_of};
 use ifs_base::{Span, Text, limits};
-use ifs_parse::Name;
+use ifs_parse::{Name, Period};
 use std::alloc::Global;
 use std::hash::Hash;
 
@@ -48,7 +48,7 @@ impl Names {
     }
 
     /// Enters the mentions of a text, in its order, and looks for the states that they want.
-    pub fn fill(&mut self, mentions: &[Mention<&Name>]) -> Result<(), ResolveFault>
+    pub fn fill(&mut self, mentions: &[Mention<&Name, &Period>]) -> Result<(), ResolveFault>
         ensures { Filled self.old (map seen mentions.now) result self.new }
     {
         self.note_all(mentions)?;
@@ -57,7 +57,7 @@ impl Names {
     }
 
     /// Enters mentions in the order of their text, or tells the first fault.
-    fn note_all(&mut self, mentions: &[Mention<&Name>]) -> Result<(), ResolveFault>
+    fn note_all(&mut self, mentions: &[Mention<&Name, &Period>]) -> Result<(), ResolveFault>
         ensures { AllNoted self.old (map seen mentions.now) result self.new }
     {
         for mention in mentions {
@@ -67,14 +67,14 @@ impl Names {
     }
 
     /// Enters a mention, or tells the first rule that it breaks.
-    fn note(&mut self, mention: &Mention<&Name>) -> Result<(), ResolveFault>
+    fn note(&mut self, mention: &Mention<&Name, &Period>) -> Result<(), ResolveFault>
         ensures { Noted self.old (seen mention.now) result self.new }
     {
         match mention {
             Mention::Interface(name) => {
                 enter_text(&mut self.tables.interfaces, limits::INTERFACES, name)
             }
-            Mention::External(place, command, period) => self.note_test(*place, command, *period),
+            Mention::External(place, command, period) => self.note_test(*place, command, **period),
             Mention::Command(text) => {
                 enter_text(&mut self.tables.commands, limits::COMMANDS, text)
             }
@@ -93,7 +93,12 @@ impl Names {
     }
 
     /// Enters an external test, which stands in a body alone.
-    fn note_test(&mut self, place: Place, command: &Name, period: u32) -> Result<(), ResolveFault>
+    fn note_test(
+        &mut self,
+        place: Place,
+        command: &Name,
+        period: Period,
+    ) -> Result<(), ResolveFault>
         ensures { Noted self.old (External place command.now period) result self.new }
     {
         match place {
@@ -119,7 +124,10 @@ impl Names {
 }
 
 /// Tells the first mention of a state that is not in the table of states.
-fn check_states(states: &Table<Text>, mentions: &[Mention<&Name>]) -> Result<(), ResolveFault>
+fn check_states(
+    states: &Table<Text>,
+    mentions: &[Mention<&Name, &Period>],
+) -> Result<(), ResolveFault>
     ensures { StatesChecked states.now (map seen mentions.now) result }
 {
     for mention in mentions {
@@ -146,7 +154,7 @@ fn enter_text(table: &mut Table<Text>, limit: u16, name: &Name) -> Result<(), Re
 fn enter_test(
     table: &mut Table<ExternalTest>,
     command: &Name,
-    period: u32,
+    period: Period,
 ) -> Result<(), ResolveFault>
     ensures { Enters test_eq 64 (test_of command.now period) command.now table.old result table.new }
 {

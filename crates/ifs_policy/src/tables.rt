@@ -5,18 +5,18 @@ ghost use Rattle.ifs_policy.specs.Tables.{test_of};
 
 use crate::table::Table;
 use ifs_base::Text;
-use ifs_parse::Name;
+use ifs_parse::{Name, Period};
 use std::alloc::AllocError;
 
-/// An external test: a command, and the seconds from one start of it to the next.
+/// An external test: a command, and the period in which it is started.
 #[derive(Debug, PartialEq, Eq, Hash, Drop)]
 pub struct ExternalTest {
     pub command: Text,
-    pub period: u32,
+    pub period: Period,
 }
 
 /// The test of a command and a period.
-pub fn test_of(command: &Name, period: u32) -> Result<ExternalTest, AllocError>
+pub fn test_of(command: &Name, period: Period) -> Result<ExternalTest, AllocError>
     ensures { IfOk result (λ test. test ≡ test_of command.now period) }
 {
     Ok(ExternalTest {

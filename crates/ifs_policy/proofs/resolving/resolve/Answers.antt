@@ -14,33 +14,33 @@ use Rattle.ifs_policy.proofs.Refusals.{refused_has_none, first_is_refused, resol
 use Rattle.ifs_policy.proofs.resolving.resolve.Goals as goal
 
 pub returns-then-not-has_state-clause-refused : goal.returns-then-not-has_state-clause-refused
-returns-then-not-has_state-clause-refused c = λ other. no_state (ap (list_any is_state) (sym c.items-items.ensures) ∙ sym c.if-not-has_state.ensures)
+returns-then-not-has_state-clause-refused c = λ other. no_state (ap (list_any is_state) (sym c.items-items.ensures.items) ∙ sym c.if-not-has_state.ensures)
 
 pub returns-in_err-initial-clause-refused : goal.returns-in_err-initial-clause-refused
 returns-in_err-initial-clause-refused c =
     let items = c.args.tree.now.items in
     let fault = c.in_err-initial.field-0.0 in
-    let some = ap (list_any is_state) (sym c.items-items.ensures) ∙ sym c.if-not-has_state.ensures in
+    let some = ap (list_any is_state) (sym c.items-items.ensures.items) ∙ sym c.if-not-has_state.ensures in
     let p = err_from_is_err_and c.from_residual.result c.from_residual.ensures.1 in
     rw p.1 (λ other.
     let first = c.in_err-initial.ensures.refused (subst (λ f. f ≢ Memory) p.2 other) in
-    subst (IsRefused items) (sym p.2) (first_is_refused items fault some (subst (λ (l : List Item). IsFirst no_names (mentions_of l) fault) c.items-items.ensures first)))
+    subst (IsRefused items) (sym p.2) (first_is_refused items fault some (subst (λ (l : List Item). IsFirst no_names (mentions_of l) fault) c.items-items.ensures.items first)))
 
 pub returns-in_err-initial-clause-none : goal.returns-in_err-initial-clause-none
 returns-in_err-initial-clause-none c =
     let items = c.args.tree.now.items in
     let fault = c.in_err-initial.field-0.0 in
-    let some = ap (list_any is_state) (sym c.items-items.ensures) ∙ sym c.if-not-has_state.ensures in
+    let some = ap (list_any is_state) (sym c.items-items.ensures.items) ∙ sym c.if-not-has_state.ensures in
     let p = err_from_is_err_and c.from_residual.result c.from_residual.ensures.1 in
     rw p.1 (λ other.
     let first = c.in_err-initial.ensures.refused (subst (λ f. f ≢ Memory) p.2 other) in
-    refused_has_none items fault (first_is_refused items fault some (subst (λ (l : List Item). IsFirst no_names (mentions_of l) fault) c.items-items.ensures first)))
+    refused_has_none items fault (first_is_refused items fault some (subst (λ (l : List Item). IsFirst no_names (mentions_of l) fault) c.items-items.ensures.items first)))
 
 pub new-requires : goal.new-requires
 new-requires c =
     let items = c.args.tree.now.items in
     let placed = c.in_ok-initial.field-0 in
     let names = c.walk.new.names in
-    let some = ap (list_any is_state) (sym c.items-items.ensures) ∙ sym c.if-not-has_state.ensures in
-    let walked = subst (λ (l : List Item). Walked l placed names) c.items-items.ensures c.in_ok-initial.ensures.walked in
+    let some = ap (list_any is_state) (sym c.items-items.ensures.items) ∙ sym c.if-not-has_state.ensures in
+    let walked = subst (λ (l : List Item). Walked l placed names) c.items-items.ensures.items c.in_ok-initial.ensures.walked in
     resolved_fits items (record { tables = names.tables; initial = placed.initial; always = placed.always; states = placed.states }) (resolved items placed names some walked)
