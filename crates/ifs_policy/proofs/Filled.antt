@@ -41,7 +41,7 @@ within_insert eq limit xs x within room = insert_cases eq (λ ys. length ys ≤ 
     let more : limit ≤ length xs → ⊥ = λ full. room (absent, full) in
     elim (cases_lt (length xs) limit) [ inl below ↦ omega (arith, length_push xs x) | inr full ↦ absurd (more full) ])
 
-all_insert : {T : Type 0} (eq : T → T → Bool) (P : T → Type 0) (xs : List T) (x : T) → All P xs → P x → All P (insert_key eq xs x)
+pub all_insert : {T : Type 0} (eq : T → T → Bool) (P : T → Type 0) (xs : List T) (x : T) → All P xs → P x → All P (insert_key eq xs x)
 all_insert eq P xs x each this = insert_cases eq (All P) xs x (λ there. each) (λ absent. All-push P xs x each this)
 
 distinct_insert : {T : Type 0} (eq : T → T → Bool) → ((x : T) → eq x x ≡ true) → (xs : List T) (x : T)

@@ -6,3 +6,4 @@ mod Fitting
 mod Refusals
 mod OneRefusal
 mod Ordered
+mod Timed
