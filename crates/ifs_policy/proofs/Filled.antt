@@ -59,7 +59,7 @@ inserted eq same xs x = insert_cases eq (λ ys. list_any (eq x) ys ≡ true) xs 
     list_any-append (eq x) xs (x ∷ []) ∙ ap (λ b. list_any (eq x) xs || (b || false)) (same x) ∙ or-true (list_any (eq x) xs))
 
 -- A text that is not unfit is fit.
-at_most : (m n : ℕ) → ¬ (¬ (m ≤ n)) → m ≤ n
+pub at_most : (m n : ℕ) → ¬ (¬ (m ≤ n)) → m ≤ n
 at_most m n h = elim (cases_lt n m) [ inl above ↦ absurd (h (λ within. omega arith)) | inr within ↦ within ]
 
 fit : (text : List ℕ) → ¬ (¬ TextFits text) → TextFits text

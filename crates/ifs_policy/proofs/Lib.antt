@@ -2,8 +2,8 @@ mod Mentioned
 mod Decided
 mod Places
 mod Filled
+mod Timed
 mod Fitting
 mod Refusals
 mod OneRefusal
 mod Ordered
-mod Timed

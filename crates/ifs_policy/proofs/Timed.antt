@@ -3,8 +3,9 @@ use Rattle.std.proofs.Common.{◌≡◌, ℕ, zero, suc, Bool, true, false, ◌&
 use Rattle.std.specs.Prelude.{Option, nat_le}
 use Rattle.std.specs.List.{flat_map}
 use Rattle.std.proofs.lemmas.Bool.{leb-true}
+use Rattle.std.proofs.lemmas.Grind.{not_there}
 use Rattle.std.proofs.lemmas.Option.{none-some, same_Some}
-use Rattle.std.proofs.lemmas.List.Elements.{All-nil, All-head, All-tail, All-push}
+use Rattle.std.proofs.lemmas.List.Elements.{All-nil, All-cons, All-head, All-tail, All-push}
 use Rattle.ifs_base.specs.Sizes.{PeriodFits}
 use Rattle.ifs_lex.specs.declared.token.Token.{Token}
 use Rattle.ifs_parse.specs.Trees as tree
@@ -32,10 +33,11 @@ use Rattle.ifs_policy.specs.declared.mention.Owner.{Owner}
 use Rattle.ifs_policy.specs.declared.mention.Owner.TheVariants as whose
 use Rattle.ifs_policy.specs.declared.mention.Mention.TheVariants as says
 use Rattle.ifs_policy.specs.declared.names.Names.{Names}
+use Rattle.ifs_policy.specs.declared.tables.ExternalTest.{ExternalTest}
 use Rattle.ifs_policy.specs.Mentions.{Mentioned, condition_mentions, block_mentions, part_mentions, item_mentions, mentions_of}
 use Rattle.ifs_policy.specs.Tables.{test_eq, test_of, after, no_names, names_after}
 use Rattle.ifs_policy.specs.Placed.{Resolves}
-use Rattle.ifs_policy.proofs.Filled.{all_insert}
+use Rattle.ifs_policy.proofs.Filled.{at_most, all_insert}
 
 -- Each period in a tree fits.
 abbrev TestTimed : Test → Type 0
@@ -299,8 +301,21 @@ all_timed_after : (names : Names) (mentions : List Mentioned) → AreTimed menti
 all_timed_after names [] m h = h
 all_timed_after names (mention ∷ mentions) m h = all_timed_after (after names mention) mentions m.1 (timed_after names mention m.0 h)
 
--- The tests of a policy whose text some tokens say have periods that fit.
-pub periods_fit : (tokens : List Token) (f : File) (policy : PolicyParts) → Says tokens f → Resolves f.items policy → All (λ test. PeriodFits test.period) policy.tables.tests
+periods_fit : (tokens : List Token) (f : File) (policy : PolicyParts) → Says tokens f → Resolves f.items policy → All (λ test. PeriodFits test.period) policy.tables.tests
 periods_fit tokens f policy said r =
     let h = all_timed_after no_names (mentions_of f.items) (items_say f.items (said_timed tokens f said)) (All-nil (λ test. PeriodFits test.period)) in
     subst (λ (p : PolicyParts). All (λ test. PeriodFits test.period) p.tables.tests) (sym r.placed) h
+
+-- Periods that cannot but fit do.
+sure : (tests : List ExternalTest) → ¬ (¬ (All (λ test. PeriodFits test.period) tests)) → All (λ test. PeriodFits test.period) tests
+sure [] h = All-nil (λ test. PeriodFits test.period)
+sure (test ∷ tests) h =
+    let first : PeriodFits test.period = record {
+      not_zero = at_most 1 test.period (λ no. h (λ all. no (All-head (λ (t : ExternalTest). PeriodFits t.period) test tests all).not_zero));
+      within = at_most test.period 604800 (λ no. h (λ all. no (All-head (λ (t : ExternalTest). PeriodFits t.period) test tests all).within));
+    } in
+    All-cons (λ test. PeriodFits test.period) test tests first (sure tests (λ no. h (λ all. no (All-tail (λ (t : ExternalTest). PeriodFits t.period) test tests all))))
+
+-- The tests of the policy of a file that some tokens say have periods that fit.
+pub said_periods_fit : (f : File) (policy : PolicyParts) → IsSaid f → Resolves f.items policy → All (λ test. PeriodFits test.period) policy.tables.tests
+said_periods_fit f policy said r = sure policy.tables.tests (λ no. not_there said (λ s. no (periods_fit s.0 f policy s.1 r)))

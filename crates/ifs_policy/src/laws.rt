@@ -1,10 +1,8 @@
 //! Laws of policies, over their definitions alone: each is the contract of a function that does nothing.
 
-ghost use Rattle.std.specs.Prelude.{◌≡◌, List, All};
-ghost use Rattle.ifs_base.specs.Sizes.{PeriodFits};
-ghost use Rattle.ifs_lex.specs.declared.token.Token.{Token};
+ghost use Rattle.std.specs.Prelude.{◌≡◌, List};
 ghost use Rattle.ifs_parse.specs.Files.{File};
-ghost use Rattle.ifs_parse.specs.Grammar.{Says};
+ghost use Rattle.ifs_parse.specs.Grammar.{IsSaid};
 ghost use Rattle.ifs_parse.specs.declared.tree.Item.{Item};
 ghost use Rattle.ifs_policy.specs.declared.fault.ResolveFault.{ResolveFault};
 ghost use Rattle.ifs_policy.specs.declared.policy.PolicyParts.{PolicyParts};
@@ -31,13 +29,7 @@ pub fn numbered_by_first_use()
     ensures { (items : List Item) (policy : PolicyParts) → Resolves items policy → InOrder (mentions_of items) policy.tables }
 {}
 
-/// A policy is within its limits, and its numbers are of entries of its tables.
+/// A policy whose tree some tokens say is within its limits, and its numbers are of entries of its tables.
 pub fn policies_fit()
-    ensures { (items : List Item) (policy : PolicyParts) → Resolves items policy → PolicyFits policy }
-{}
-
-/// The tests of a policy whose tree some tokens say have periods from 1 to 604,800.
-pub fn periods_fit()
-    ensures { (tokens : List Token) (file : File) (policy : PolicyParts) → Says tokens file → Resolves file.items policy
-        → All (λ test. PeriodFits test.period) policy.tables.tests }
+    ensures { (file : File) (policy : PolicyParts) → IsSaid file → Resolves file.items policy → PolicyFits policy }
 {}
