@@ -4,7 +4,7 @@ use ifs_base::{CommandId, StateId};
 
 /// A value on the stack.
 #[derive(Clone, Copy, Debug, PartialEq, Eq)]
-pub(crate) enum Value {
+pub enum Value {
     /// True or false.
     Truth(bool),
     /// A command of the image's table.

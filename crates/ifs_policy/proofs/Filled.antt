@@ -41,7 +41,7 @@ within_insert eq limit xs x within room = insert_cases eq (λ ys. length ys ≤ 
     let more : limit ≤ length xs → ⊥ = λ full. room (absent, full) in
     elim (cases_lt (length xs) limit) [ inl below ↦ omega (arith, length_push xs x) | inr full ↦ absurd (more full) ])
 
-all_insert : {T : Type 0} (eq : T → T → Bool) (P : T → Type 0) (xs : List T) (x : T) → All P xs → P x → All P (insert_key eq xs x)
+pub all_insert : {T : Type 0} (eq : T → T → Bool) (P : T → Type 0) (xs : List T) (x : T) → All P xs → P x → All P (insert_key eq xs x)
 all_insert eq P xs x each this = insert_cases eq (All P) xs x (λ there. each) (λ absent. All-push P xs x each this)
 
 distinct_insert : {T : Type 0} (eq : T → T → Bool) → ((x : T) → eq x x ≡ true) → (xs : List T) (x : T)
@@ -59,7 +59,7 @@ inserted eq same xs x = insert_cases eq (λ ys. list_any (eq x) ys ≡ true) xs 
     list_any-append (eq x) xs (x ∷ []) ∙ ap (λ b. list_any (eq x) xs || (b || false)) (same x) ∙ or-true (list_any (eq x) xs))
 
 -- A text that is not unfit is fit.
-at_most : (m n : ℕ) → ¬ (¬ (m ≤ n)) → m ≤ n
+pub at_most : (m n : ℕ) → ¬ (¬ (m ≤ n)) → m ≤ n
 at_most m n h = elim (cases_lt n m) [ inl above ↦ absurd (h (λ within. omega arith)) | inr within ↦ within ]
 
 fit : (text : List ℕ) → ¬ (¬ TextFits text) → TextFits text

@@ -14,6 +14,10 @@ use Rattle.ifs_parse.specs.declared.tree.Item.{Item}
 use Rattle.ifs_parse.specs.declared.tree.Item.TheVariants.{InitState, State, Always}
 use Rattle.ifs_parse.specs.declared.block.Statement.{Statement}
 use Rattle.ifs_parse.specs.declared.block.Statement.TheVariants.{Run, SetState, If}
+use Rattle.ifs_parse.specs.Files.{File}
+use Rattle.ifs_parse.specs.Grammar.{IsSaid}
+use Rattle.ifs_base.specs.Sizes.{PeriodFits}
+use Rattle.ifs_policy.proofs.Timed.{said_periods_fit}
 use Rattle.ifs_policy.specs.declared.mention.Place.{Place}
 use Rattle.ifs_policy.specs.declared.mention.Place.TheVariants as at
 use Rattle.ifs_policy.specs.declared.mention.Owner.{Owner}
@@ -184,8 +188,9 @@ filled_sized names mentions sound filled =
       states = fits.states.within;
     }
 
-pub resolved_fits : (items : List Item) (policy : PolicyParts) → Resolves items policy → PolicyFits policy
-resolved_fits items policy r =
+pub resolved_fits : (f : File) (policy : PolicyParts) → IsSaid f → Resolves f.items policy → PolicyFits policy
+resolved_fits f policy said r =
+    let items = f.items in
     let mentions = mentions_of items in
     let tables = tables_of mentions in
     let stand = all_stand no_names mentions r.known in
@@ -194,6 +199,7 @@ resolved_fits items policy r =
     let some = some_state tables items r.has_state in
     let fits : PolicyFits (place_items tables items) = record {
       tables = tables_fit no_names mentions r.sound no_tables_fit;
+      periods = subst (λ (p : PolicyParts). All (λ test. PeriodFits test.period) p.tables.tests) r.placed (said_periods_fit f policy said r);
       initial = initial_fits tables items (omega arith) stand;
       always = part_fits tables whose.Always (always_of items) (always_stands tables items stand);
       count = omega arith;

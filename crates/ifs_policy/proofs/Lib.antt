@@ -2,6 +2,7 @@ mod Mentioned
 mod Decided
 mod Places
 mod Filled
+mod Timed
 mod Fitting
 mod Refusals
 mod OneRefusal

@@ -1,6 +1,6 @@
 -- What a policy keeps to: the limits of its tables, and numbers that are of entries of them.
 use Rattle.std.specs.Prelude.{ℕ, ◌≡◌, ◌≢◌, ◌<◌, ◌≤◌, List, length, All, AllPairs}
-use Rattle.ifs_base.specs.Sizes.{TextFits}
+use Rattle.ifs_base.specs.Sizes.{TextFits, PeriodFits}
 use Rattle.ifs_base.specs.declared.ids.CommandId.{CommandId}
 use Rattle.ifs_base.specs.declared.ids.StateId.{StateId}
 use Rattle.ifs_parse.specs.Trees as tree
@@ -67,6 +67,7 @@ pub record TablesFit (tables : Tables) : Type 0 where
 -- A policy within its limits, whose numbers are of entries of its tables.
 pub record PolicyFits (policy : PolicyParts) : Type 0 where
   pub tables : TablesFit policy.tables
+  pub periods : All (λ test. PeriodFits test.period) policy.tables.tests
   pub initial : policy.initial.0 < length policy.tables.states
   pub always : HandlersFit (sizes_of policy.tables) policy.always
   pub count : length policy.states ≡ length policy.tables.states

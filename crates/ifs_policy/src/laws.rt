@@ -1,6 +1,8 @@
 //! Laws of policies, over their definitions alone: each is the contract of a function that does nothing.
 
 ghost use Rattle.std.specs.Prelude.{◌≡◌, List};
+ghost use Rattle.ifs_parse.specs.Files.{File};
+ghost use Rattle.ifs_parse.specs.Grammar.{IsSaid};
 ghost use Rattle.ifs_parse.specs.declared.tree.Item.{Item};
 ghost use Rattle.ifs_policy.specs.declared.fault.ResolveFault.{ResolveFault};
 ghost use Rattle.ifs_policy.specs.declared.policy.PolicyParts.{PolicyParts};
@@ -27,7 +29,7 @@ pub fn numbered_by_first_use()
     ensures { (items : List Item) (policy : PolicyParts) → Resolves items policy → InOrder (mentions_of items) policy.tables }
 {}
 
-/// A policy is within its limits, and its numbers are of entries of its tables.
+/// A policy whose tree some tokens say is within its limits, and its numbers are of entries of its tables.
 pub fn policies_fit()
-    ensures { (items : List Item) (policy : PolicyParts) → Resolves items policy → PolicyFits policy }
+    ensures { (file : File) (policy : PolicyParts) → IsSaid file → Resolves file.items policy → PolicyFits policy }
 {}

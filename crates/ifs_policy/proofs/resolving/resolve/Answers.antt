@@ -43,4 +43,4 @@ new-requires c =
     let names = c.walk.new.names in
     let some = ap (list_any is_state) (sym c.items-items.ensures.items) ∙ sym c.if-not-has_state.ensures in
     let walked = subst (λ (l : List Item). Walked l placed names) c.items-items.ensures.items c.in_ok-initial.ensures.walked in
-    resolved_fits items (record { tables = names.tables; initial = placed.initial; always = placed.always; states = placed.states }) (resolved items placed names some walked)
+    resolved_fits c.args.tree.now (record { tables = names.tables; initial = placed.initial; always = placed.always; states = placed.states }) c.items-items.ensures.said (resolved items placed names some walked)

@@ -1,0 +1,143 @@
+-- Marks of chains and of statements in order, and what they say of a list of tests.
+use Rattle.std.proofs.Common.{◌≡◌, ℕ, zero, suc, ◌+◌, ◌<◌, ◌≤◌, ◌⊎◌, ⊎_elim, Bool, true, false, List, [], ◌∷◌, ◌++◌, length, Some, refl, sym, ap, ◌∙◌, append_assoc, arith, take, get_or}
+use Rattle.std.specs.Prelude.{◌||◌, ◌==◌, if◌then◌else◌, replicate, slice_get, slice_set}
+use Rattle.std.proofs.lemmas.Bool.{cases_eq, eq-eqb, ne_eqb}
+use Rattle.std.specs.List.{flat_map, list_any}
+use Rattle.std.proofs.lemmas.List.{append-nil, take_more}
+use Rattle.std.proofs.Math.ListN.{length-set}
+use Rattle.std.proofs.lemmas.Option.{none-some, get_or_from_slice_get}
+use Rattle.ifs_base.specs.declared.ids.CommandId.{CommandId}
+use Rattle.ifs_base.specs.declared.ids.StateId.{StateId}
+use Rattle.ifs_base.specs.declared.ids.TestId.{TestId}
+use Rattle.ifs_parse.specs.Trees as tree
+use Rattle.ifs_parse.specs.Views.{all_of, any_of, block_of, statement_then}
+use Rattle.ifs_parse.specs.declared.block.Statement.{Statement}
+use Rattle.ifs_parse.specs.declared.block.Statement.TheVariants.{Run, SetState, If}
+use Rattle.ifs_policy.specs.Meaning.{mentioned_in, mentioned}
+use Rattle.ifs_gen.specs.Trees.{Single, Condition, Block}
+use Rattle.ifs_gen.specs.inner.Marks.{marked, statement_mentions, test_where}
+use Rattle.ifs_gen.specs.PlainCode.{tests_below}
+
+pub marked_append : (marks : List Bool) (xs ys : List TestId) → marked marks (xs ++ ys) ≡ marked (marked marks xs) ys
+marked_append marks [] ys = refl
+marked_append marks (x ∷ xs) ys = marked_append (slice_set marks x.0 true) xs ys
+
+pub all_mentions : (first : Condition) (rest : List Condition) → mentioned_in (all_of first rest) ≡ mentioned_in first ++ flat_map mentioned_in rest
+all_mentions first [] = sym (append-nil (mentioned_in first))
+all_mentions first (next ∷ rest) = all_mentions (tree.And first next) rest ∙ append_assoc (mentioned_in first) (mentioned_in next) (flat_map mentioned_in rest)
+
+pub any_mentions : (first : Condition) (rest : List Condition) → mentioned_in (any_of first rest) ≡ mentioned_in first ++ flat_map mentioned_in rest
+any_mentions first [] = sym (append-nil (mentioned_in first))
+any_mentions first (next ∷ rest) = any_mentions (tree.Or first next) rest ∙ append_assoc (mentioned_in first) (mentioned_in next) (flat_map mentioned_in rest)
+
+then_mentions : (s : Statement Single CommandId StateId) (rest : Block) → mentioned (statement_then s rest) ≡ statement_mentions s ++ mentioned rest
+then_mentions (Run command) rest = refl
+then_mentions (SetState state) rest = refl
+then_mentions (If c inner) rest =
+    sym (append_assoc (mentioned_in c) (mentioned inner ++ []) (mentioned rest) ∙ ap (λ xs. mentioned_in c ++ (xs ++ mentioned rest)) (append-nil (mentioned inner)))
+
+pub statements_mention : (items : List (Statement Single CommandId StateId)) → mentioned (block_of items) ≡ flat_map statement_mentions items
+statements_mention [] = refl
+statements_mention (s ∷ rest) = then_mentions s (block_of rest) ∙ ap (λ xs. statement_mentions s ++ xs) (statements_mention rest)
+
+-- one member more
+flat_last : {T : Type 0} (f : T → List TestId) (xs : List T) (x : T) → flat_map f (xs ++ x ∷ []) ≡ flat_map f xs ++ f x
+flat_last f [] x = append-nil (f x)
+flat_last f (y ∷ xs) x = ap (λ l. f y ++ l) (flat_last f xs x) ∙ sym (append_assoc (f y) (flat_map f xs) (f x))
+
+pub marked_more : {T : Type 0} (f : T → List TestId) (start now next : List Bool) (items : List T) (i : ℕ) (item : T) → i < length items → item ≡ get_or items i item
+    → now ≡ marked start (flat_map f (take i items)) → next ≡ marked now (f item) → next ≡ marked start (flat_map f (take (i + 1) items))
+marked_more f start now next items i item lt at now_is next_is =
+    let more = take_more items i item lt ∙ ap (λ x. take i items ++ x ∷ []) (sym at) in
+    next_is ∙ ap (λ m. marked m (f item)) now_is ∙ sym (marked_append start (flat_map f (take i items)) (f item))
+    ∙ ap (marked start) (sym (flat_last f (take i items) item)) ∙ ap (λ xs. marked start (flat_map f xs)) (sym more)
+
+take_past : {T : Type 0} (xs : List T) (i : ℕ) → length xs ≤ i → take i xs ≡ xs
+take_past [] zero le = refl
+take_past [] (suc i) le = refl
+take_past (x ∷ xs) zero le = absurd (omega arith)
+take_past (x ∷ xs) (suc i) le = ap (λ l. x ∷ l) (take_past xs i (omega arith))
+
+pub marked_end : {T : Type 0} (f : T → List TestId) (start now : List Bool) (items : List T) (i : ℕ) → length items ≤ i → now ≡ marked start (flat_map f (take i items))
+    → now ≡ marked start (flat_map f items)
+marked_end f start now items i le e = e ∙ ap (λ xs. marked start (flat_map f xs)) (take_past items i le)
+
+pub chain_marked : (start one two now : List Bool) (c first second : Condition) (items : List Condition) (i : ℕ) → one ≡ marked start (mentioned_in first) → two ≡ marked one (mentioned_in second)
+    → length items ≤ i → now ≡ marked two (flat_map mentioned_in (take i items))
+    → (c ≡ all_of (tree.And first second) items) ⊎ (c ≡ any_of (tree.Or first second) items) → now ≡ marked start (mentioned_in c)
+chain_marked start one two now c first second items i one_is two_is le now_is is =
+    let rest = flat_map mentioned_in items in
+    let whole : mentioned_in c ≡ (mentioned_in first ++ mentioned_in second) ++ rest =
+    ⊎_elim (λ e. ap mentioned_in e ∙ all_mentions (tree.And first second) items) (λ e. ap mentioned_in e ∙ any_mentions (tree.Or first second) items) is in
+    marked_end mentioned_in two now items i le now_is ∙ ap (λ m. marked m rest) two_is ∙ ap (λ m. marked (marked m (mentioned_in second)) rest) one_is
+    ∙ ap (λ m. marked m rest) (sym (marked_append start (mentioned_in first) (mentioned_in second)))
+    ∙ sym (marked_append start (mentioned_in first ++ mentioned_in second) rest) ∙ ap (marked start) (sym whole)
+
+pub if_marked : (start one two : List Bool) (s : Statement Single CommandId StateId) (c : Condition) (inner : Block) → s ≡ If c inner → one ≡ marked start (mentioned_in c) → two ≡ marked one (mentioned inner)
+    → two ≡ marked start (statement_mentions s)
+if_marked start one two s c inner is one_is two_is =
+    two_is ∙ ap (λ m. marked m (mentioned inner)) one_is ∙ sym (marked_append start (mentioned_in c) (mentioned inner))
+    ∙ ap (λ xs. marked start (mentioned_in c ++ xs)) (sym (append-nil (mentioned inner))) ∙ ap (λ x. marked start (statement_mentions x)) (sym is)
+
+-- a mark stands where it stood, and where its test is of the list
+marks_long : (marks : List Bool) (xs : List TestId) → length (marked marks xs) ≡ length marks
+marks_long marks [] = refl
+marks_long marks (x ∷ xs) = marks_long (slice_set marks x.0 true) xs ∙ length-set marks x.0 true
+
+set_here : (marks : List Bool) (k : ℕ) (b : Bool) → slice_get marks k ≡ Some b → slice_get (slice_set marks k true) k ≡ Some true
+set_here [] k b e = absurd (none-some b e)
+set_here (x ∷ marks) zero b e = refl
+set_here (x ∷ marks) (suc k) b e = set_here marks k b e
+
+set_other : (marks : List Bool) (i k : ℕ) → (i ≡ k → ⊥) → slice_get (slice_set marks i true) k ≡ slice_get marks k
+set_other [] i k apart = refl
+set_other (x ∷ marks) zero zero apart = absurd (apart refl)
+set_other (x ∷ marks) zero (suc k) apart = refl
+set_other (x ∷ marks) (suc i) zero apart = refl
+set_other (x ∷ marks) (suc i) (suc k) apart = set_other marks i k (λ e. apart (ap suc e))
+
+set_same : (marks : List Bool) (i k : ℕ) (b : Bool) → slice_get marks k ≡ Some b → slice_get (slice_set marks i true) k ≡ Some (i == k || b)
+set_same marks i k b e =
+    ⊎_elim
+    (λ same. ap (λ n. slice_get (slice_set marks n true) k) same ∙ set_here marks k b e ∙ ap (λ c. Some (c || b)) (sym (eq-eqb i k same)))
+    (λ apart. set_other marks i k apart ∙ e ∙ ap (λ c. Some (c || b)) (sym (ne_eqb i k apart)))
+    (cases_eq i k)
+
+or_assoc : (a b c : Bool) → (b || (a || c)) ≡ ((a || b) || c)
+or_assoc true true c = refl
+or_assoc true false c = refl
+or_assoc false b c = refl
+
+pub mark_at : (marks : List Bool) (xs : List TestId) (k : ℕ) (b : Bool) → slice_get marks k ≡ Some b → slice_get (marked marks xs) k ≡ Some (list_any (λ test. test.0 == k) xs || b)
+mark_at marks [] k b e = e
+mark_at marks (x ∷ xs) k b e =
+    mark_at (slice_set marks x.0 true) xs k (x.0 == k || b) (set_same marks x.0 k b e)
+    ∙ ap (λ c. Some c) (or_assoc (x.0 == k) (list_any (λ test. test.0 == k) xs) b)
+
+where_is : (b : Bool) (k : ℕ) → test_where b k ≡ (if b then record { 0 = k } ∷ [] else [])
+where_is true k = refl
+where_is false k = refl
+
+-- the tests below one number more
+pub below_next : (xs : List TestId) (index : ℕ) (now next : List TestId) (mark : Bool) → now ≡ tests_below index xs → next ≡ now ++ test_where mark index
+    → mark ≡ list_any (λ test. test.0 == index) xs → next ≡ tests_below (index + 1) xs
+below_next xs index now next mark now_is next_is mark_is =
+    let one : suc index ≡ index + 1 = omega arith in
+    next_is ∙ ap (λ l. l ++ test_where mark index) now_is ∙ ap (λ b. tests_below index xs ++ test_where b index) mark_is
+    ∙ ap (λ l. tests_below index xs ++ l) (where_is (list_any (λ test. test.0 == index) xs) index) ∙ ap (λ n. tests_below n xs) one
+
+replicate_at : (n k : ℕ) → k < n → slice_get (replicate n false) k ≡ Some false
+replicate_at zero k lt = absurd (omega arith)
+replicate_at (suc n) zero lt = refl
+replicate_at (suc n) (suc k) lt = replicate_at n k (omega arith)
+
+or_false : (b : Bool) → (b || false) ≡ b
+or_false true = refl
+or_false false = refl
+
+-- among marks that began with none, the one at an index says whether its test is of the list
+pub mark_is : (n k : ℕ) (marks : List Bool) (xs : List TestId) → k < n → marks ≡ marked (replicate n false) xs → get_or marks k false ≡ list_any (λ test. test.0 == k) xs
+mark_is n k marks xs lt e =
+    let found = list_any (λ (test : TestId). test.0 == k) xs in
+    ap (λ m. get_or m k false) e
+    ∙ get_or_from_slice_get (marked (replicate n false) xs) k (found || false) false (mark_at (replicate n false) xs k false (replicate_at n k lt)) ∙ or_false found

@@ -1,0 +1,85 @@
+-- The code of each policy keeps the limits, or it passes one first.
+use Rattle.std.proofs.Common.{◌≡◌, ℕ, zero, suc, ◌+◌, ◌<◌, ◌≤◌, ◌⊎◌, inl, inr, ⊎_elim, List, [], ◌∷◌, Some, refl, arith}
+use Rattle.std.specs.Prelude.{slice_get, All, sum, sum_by}
+use Rattle.std.proofs.lemmas.Bool.{cases_lt}
+use Rattle.std.proofs.lemmas.List.Elements.{All-head, All-tail, All-cons, All-nil}
+use Rattle.std.proofs.lemmas.List.Sums.{sum_by-cons}
+use Rattle.std.proofs.lemmas.Option.{same_Some}
+use Rattle.ifs_gen.specs.declared.fault.GenFault.TheVariants.{RoutineTooLong, CodeTooLong, StackTooHigh, TooManyCommands}
+use Rattle.ifs_gen.specs.Trees.{Part}
+use Rattle.ifs_gen.specs.PlainCode.{plain_coder, block_height}
+use Rattle.ifs_gen.specs.PlainImage.{tests_in, parts_of, init_length, body_length, part_height, room_of, RoutinesFit}
+use Rattle.ifs_gen.specs.Refused.{lengths_of, heights_of, lengths, heights, AreWithin, IsFirstOver, FitsOrIsRefused}
+
+-- The index of the first number over a limit, where there is one.
+record Over (limit : ℕ) (numbers : List ℕ) : Type 0 where
+  index : ℕ
+  first : IsFirstOver limit numbers index
+
+one_later : (limit x : ℕ) (numbers : List ℕ) (index : ℕ) → x ≤ limit → IsFirstOver limit numbers index → IsFirstOver limit (x ∷ numbers) (suc index)
+one_later limit x numbers index low first = record { number = first.number; at = first.at; over = first.over; before = earlier }
+  where
+    earlier : (i n : ℕ) → i < suc index → slice_get (x ∷ numbers) i ≡ Some n → n ≤ limit
+    earlier zero n lt e = let same = same_Some x n e in omega (arith, same, low)
+    earlier (suc i) n lt e = first.before i n (omega (arith, lt)) e
+
+first_over : (limit : ℕ) (numbers : List ℕ) → AreWithin limit numbers ⊎ Over limit numbers
+first_over limit [] = inl (All-nil (λ n. n ≤ limit))
+first_over limit (x ∷ numbers) =
+    ⊎_elim
+    (λ over. inr (record { index = zero; first = record { number = x; at = refl; over = over; before = λ i n lt e. absurd (omega (arith, lt)) } }))
+    (λ low. ⊎_elim
+    (λ rest. inl (All-cons (λ n. n ≤ limit) x numbers low rest))
+    (λ later. inr (record { index = suc later.index; first = one_later limit x numbers later.index low later.first }))
+    (first_over limit numbers))
+    (cases_lt limit x)
+
+each_fits : (count : ℕ) (parts : List Part) → AreWithin 1024 (lengths_of count parts) → All (RoutinesFit count) parts
+each_fits count [] h = All-nil (RoutinesFit count)
+each_fits count (x ∷ parts) h =
+    let rest = All-tail (λ n. n ≤ 1024) (init_length x) (body_length count x ∷ lengths_of count parts) h in
+    All-cons (RoutinesFit count) x parts (record {
+      init = All-head (λ n. n ≤ 1024) (init_length x) (body_length count x ∷ lengths_of count parts) h;
+      body = All-head (λ n. n ≤ 1024) (body_length count x) (lengths_of count parts) rest;
+    }) (each_fits count parts (All-tail (λ n. n ≤ 1024) (body_length count x) (lengths_of count parts) rest))
+
+heights_fit : (parts : List Part) → AreWithin 32 (heights_of parts) → All (λ part. part_height part ≤ 32) parts
+heights_fit [] h = All-nil (λ part. part_height part ≤ 32)
+heights_fit (x ∷ parts) h =
+    let init = block_height plain_coder x.init in
+    let body = block_height plain_coder x.body in
+    let first = All-head (λ n. n ≤ 32) init (body ∷ heights_of parts) h in
+    let rest = All-tail (λ n. n ≤ 32) init (body ∷ heights_of parts) h in
+    let second = All-head (λ n. n ≤ 32) body (heights_of parts) rest in
+    All-cons (λ part. part_height part ≤ 32) x parts (omega (arith, first, second)) (heights_fit parts (All-tail (λ n. n ≤ 32) body (heights_of parts) rest))
+
+sums_agree : (count : ℕ) (parts : List Part) → sum (lengths_of count parts) ≡ sum_by (λ part. init_length part + body_length count part) parts
+sums_agree count [] = refl
+sums_agree count (x ∷ parts) =
+    let a = sum_by-cons (λ (n : ℕ). n) (init_length x) (body_length count x ∷ lengths_of count parts) in
+    let b = sum_by-cons (λ (n : ℕ). n) (body_length count x) (lengths_of count parts) in
+    let c = sum_by-cons (λ part. init_length part + body_length count part) x parts in
+    let rest = sums_agree count parts in
+    omega (arith, a, b, c, rest)
+
+pub fits_or_is_refused : FitsOrIsRefused
+fits_or_is_refused policy =
+    let sums = sums_agree (tests_in policy) (parts_of policy) in
+    ⊎_elim
+    (λ short. ⊎_elim
+    (λ many. inr (CodeTooLong, (short, many)))
+    (λ few. ⊎_elim
+    (λ low. ⊎_elim
+    (λ loud. inr (TooManyCommands, (short, few, low, loud)))
+    (λ quiet. inl (record {
+      each = each_fits (tests_in policy) (parts_of policy) short;
+      together = omega (arith, few, sums);
+      height = heights_fit (parts_of policy) low;
+      room = quiet;
+    }))
+    (cases_lt 64 (room_of policy)))
+    (λ high. inr (StackTooHigh (record { 0 = high.index }), (short, few, high.first)))
+    (first_over 32 (heights policy)))
+    (cases_lt 8192 (sum (lengths policy))))
+    (λ long. inr (RoutineTooLong (record { 0 = long.index }), long.first))
+    (first_over 1024 (lengths policy))

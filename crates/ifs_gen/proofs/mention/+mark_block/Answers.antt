@@ -1,0 +1,21 @@
+-- One statement more, the block at its end, and a block under a condition.
+use Rattle.std.proofs.Common.{ap, sym, ◌∙◌}
+use Rattle.ifs_policy.specs.Meaning.{mentioned}
+use Rattle.ifs_gen.specs.inner.Marks.{marked, statement_mentions}
+use Rattle.ifs_gen.proofs.Marking.{marked_more, marked_end, statements_mention, if_marked}
+use Rattle.ifs_gen.proofs.mention.+mark_block.Goals as goal
+
+pub mark_block-loop-statement-preserved : goal.mark_block-loop-statement-preserved
+mark_block-loop-statement-preserved t c =
+    marked_more statement_mentions c.args.marks.now c.loop-statement.marks c.mark_statement.new.marks c.statements-statement-items.result.now c.loop-statement.statement-index c.statement-item.result
+    c.loop-statement-test.true c.statement-item.is c.loop-statement.invariant c.mark_statement.ensures
+
+pub mark_block-returns : goal.mark_block-returns
+mark_block-returns t c =
+    let items = c.statements-statement-items.result.now in
+    marked_end statement_mentions c.args.marks.now c.loop-statement.marks items c.loop-statement.statement-index c.loop-statement-test.false c.loop-statement.invariant
+    ∙ ap (marked c.args.marks.now) (sym (ap mentioned c.statements-statement-items.ensures.value ∙ statements_mention items))
+
+pub mark_statement-returns-in-If : goal.mark_statement-returns-in-If
+mark_statement-returns-in-If t c =
+    if_marked c.args.marks.now c.mark_condition.new.marks c.mark_block.new.marks c.args.statement.now c.in-If.condition c.in-If.inner c.in-If.is c.mark_condition.ensures c.mark_block.ensures

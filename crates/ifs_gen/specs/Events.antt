@@ -1,0 +1,79 @@
+-- The events of a policy: four answers that are its yields, and a run of a core by them, which knows no costs.
+use Rattle.std.specs.Prelude.{ℕ, ◌≡◌, ◌<◌, ◌==◌, List, [], map, Option, Some, None, slice_get}
+use Rattle.std.specs.List.{list_any}
+use Rattle.ifs_base.specs.Facts.{Facts}
+use Rattle.ifs_base.specs.Effects.{Effects, nothing_yet}
+use Rattle.ifs_base.specs.declared.op.LinkState.TheVariants.{Unknown}
+use Rattle.ifs_core.specs.declared.step.Step.{Step}
+use Rattle.ifs_core.specs.declared.step.Reply.{Reply}
+use Rattle.ifs_core.specs.declared.step.Reply.TheVariants.{Done, Ticked}
+use Rattle.ifs_core.specs.declared.step.Record.{Record}
+use Rattle.ifs_core.specs.Event.{Handler, AlwaysInit, AlwaysBody, Init, Body, Behaviour, Event, opening}
+use Rattle.ifs_core.specs.Machine.{IsBehaviour}
+use Rattle.ifs_core.specs.Gateway.{opened}
+use Rattle.ifs_core.specs.Steps.{CoreState, replies, after_steps}
+use Rattle.ifs_gen.specs.Trees.{Part, Policy}
+use Rattle.ifs_policy.specs.Meaning.{mentioned, body_yield, init_yield}
+use Rattle.ifs_sched.specs.Schedule.{has_test}
+use Rattle.ifs_gen.specs.PlainImage.{tests_in, mask_in, room_of, plain_image, IsPolicy, CodeFits}
+
+-- What a state's part yields; nothing where there is no such state.
+abbrev pub yield_in : (Part → Effects) → Option Part → Effects
+yield_in yield None = nothing_yet
+yield_in yield (Some part) = yield part
+
+-- What a handler of a policy yields under some facts.
+abbrev pub yield_of : Policy → Handler → Facts → Effects
+yield_of policy AlwaysInit facts = init_yield facts policy.always.init
+yield_of policy AlwaysBody facts = body_yield facts policy.always.body
+yield_of policy (Init k) facts = yield_in (λ part. init_yield facts part.init) (slice_get policy.states k)
+yield_of policy (Body k) facts = yield_in (λ part. body_yield facts part.body) (slice_get policy.states k)
+
+-- The set of tests that a state's body mentions; none where there is no such state.
+abbrev pub mask_of_state : ℕ → Option Part → ℕ
+mask_of_state count None = 0
+mask_of_state count (Some part) = mask_in count part
+
+-- The policy's own behaviour: its handlers answer by their yields and cost nothing, and the tests that a body mentions are active.
+abbrev pub behaviour_of : Policy → Behaviour
+behaviour_of policy = record {
+  answer = yield_of policy;
+  cost = λ handler facts. 0;
+  always = mask_in (tests_in policy) policy.always;
+  active = λ k. mask_of_state (tests_in policy) (slice_get policy.states k);
+}
+
+-- The opening of a policy: nothing is known of its links, and the first run number is 1.
+abbrev pub policy_opening : Policy → Event
+policy_opening policy =
+    opening (behaviour_of policy) (map (λ _. Unknown) policy.tables.interfaces) (map (λ test. test.period) policy.tables.tests) 1 policy.initial
+
+-- The state after it.
+abbrev pub policy_opened : Policy → CoreState
+policy_opened policy = record { position = (policy_opening policy).position; queue = (policy_opening policy).commands; trace = [] }
+
+-- A reply, a record and a state, costs aside.
+abbrev pub reply_without_cost : Reply → Reply
+reply_without_cost (Done state queued cost) = Done state queued 0
+reply_without_cost (Ticked evaluated state queued cost starts exhausted) = Ticked evaluated state queued 0 starts exhausted
+reply_without_cost reply = reply
+
+abbrev pub record_without_cost : Record → Record
+record_without_cost r = record r { cost = 0 }
+
+abbrev pub state_without_costs : CoreState → CoreState
+state_without_costs s = record { position = s.position; queue = s.queue; trace = map record_without_cost s.trace }
+
+-- Over a list of steps, the core that is opened on an image replies and comes to where the policy does, costs aside.
+pub record RunsAsPolicy (policy : Policy) (b : Behaviour) (steps : List Step) : Type 0 where
+  pub opening : state_without_costs (opened b (plain_image policy)) ≡ policy_opened policy
+  pub replies : map reply_without_cost (replies b (room_of policy) steps (opened b (plain_image policy))) ≡ replies (behaviour_of policy) (room_of policy) steps (policy_opened policy)
+  pub state : state_without_costs (after_steps b (room_of policy) steps (opened b (plain_image policy))) ≡ after_steps (behaviour_of policy) (room_of policy) steps (policy_opened policy)
+
+-- The plain image of a policy means what the policy says: whatever behaves as its handlers do on the machine runs as the policy does, whatever the steps are.
+abbrev pub ImageMeansPolicy : Type 0
+ImageMeansPolicy = (policy : Policy) → IsPolicy policy → CodeFits policy → (b : Behaviour) → IsBehaviour (plain_image policy) b → (steps : List Step) → RunsAsPolicy policy b steps
+
+-- A part's set of active tests has exactly those that its body mentions.
+abbrev pub ActiveAreMentioned : Type 0
+ActiveAreMentioned = (count : ℕ) (part : Part) (test : ℕ) → test < count → has_test (mask_in count part) test ≡ list_any (λ other. other.0 == test) (mentioned part.body)

@@ -1,0 +1,112 @@
+-- Plain code: the instructions of a policy's blocks, without sharing, and their sizes apart from the code.
+use Rattle.std.specs.Prelude.{ℕ, zero, suc, ◌+◌, ◌*◌, ◌==◌, max, if◌then◌else◌, List, [], ◌∷◌, ◌++◌, length}
+use Rattle.std.specs.List.{list_any}
+use Rattle.ifs_base.specs.declared.ids.TestId.{TestId}
+use Rattle.ifs_base.specs.declared.op.Op.{Op}
+use Rattle.ifs_base.specs.declared.op.Op.TheVariants.{Ret, Link, Test, Known, Negate, Both, Either, PushCommand, PushState, Queue, Want, JumpFalse}
+use Rattle.ifs_gen.specs.Trees.{Single, LinkIs, TestIs, Condition, Leaf, NotSo, And, Or, Block, Done, RunThen, WantThen, IfThen}
+use Rattle.ifs_policy.specs.Meaning.{mentioned}
+
+-- How a condition is computed: its code, how many instructions that has, how many values stand above the others at most, and how many instructions are executed.
+pub record Coder : Type 0 where
+  pub code : Condition → List Op
+  pub size : Condition → ℕ
+  pub height : Condition → ℕ
+  pub cost : Condition → ℕ
+
+-- The instruction of a single test.
+abbrev pub single_op : Single → Op
+single_op (LinkIs interface state) = Link interface state
+single_op (TestIs test) = Test test
+
+-- The plain code of a condition: every operand is computed.
+abbrev pub condition_code : Condition → List Op
+condition_code (Leaf single) = single_op single ∷ []
+condition_code (NotSo operand) = condition_code operand ++ Negate ∷ []
+condition_code (And left right) = condition_code left ++ (condition_code right ++ Both ∷ [])
+condition_code (Or left right) = condition_code left ++ (condition_code right ++ Either ∷ [])
+
+-- How many instructions that is.
+abbrev pub condition_size : Condition → ℕ
+condition_size (Leaf single) = 1
+condition_size (NotSo operand) = condition_size operand + 1
+condition_size (And left right) = condition_size left + condition_size right + 1
+condition_size (Or left right) = condition_size left + condition_size right + 1
+
+-- How many values it has on the stack at most: the right operand stands above the left one's value.
+abbrev pub condition_height : Condition → ℕ
+condition_height (Leaf single) = 1
+condition_height (NotSo operand) = condition_height operand
+condition_height (And left right) = max (condition_height left) (condition_height right + 1)
+condition_height (Or left right) = max (condition_height left) (condition_height right + 1)
+
+-- Conditions in plain code, each instruction of which is executed once.
+abbrev pub plain_coder : Coder
+plain_coder = record { code = condition_code; size = condition_size; height = condition_height; cost = condition_size }
+
+-- How many instructions a block has.
+abbrev pub block_size : Coder → Block → ℕ
+block_size coder Done = 0
+block_size coder (RunThen command rest) = 2 + block_size coder rest
+block_size coder (WantThen state rest) = 2 + block_size coder rest
+block_size coder (IfThen condition inner rest) = coder.size condition + 1 + block_size coder inner + block_size coder rest
+
+-- The code of a block that begins at a place: where a condition is false, its block is passed over.
+abbrev pub block_code : Coder → ℕ → Block → List Op
+block_code coder place Done = []
+block_code coder place (RunThen command rest) = PushCommand command ∷ Queue ∷ block_code coder (place + 2) rest
+block_code coder place (WantThen state rest) = PushState state ∷ Want ∷ block_code coder (place + 2) rest
+block_code coder place (IfThen condition inner rest) =
+    let from = place + coder.size condition + 1 in
+    let past = from + block_size coder inner in
+    coder.code condition ++ (JumpFalse past ∷ (block_code coder from inner ++ block_code coder past rest))
+
+-- The tests below a number that stand in a list, by index.
+abbrev pub tests_below : ℕ → List TestId → List TestId
+tests_below zero tests = []
+tests_below (suc count) tests = tests_below count tests ++ (if list_any (λ test. test.0 == count) tests then record { 0 = count } ∷ [] else [])
+
+-- A body goes to its end where one of these tests has no value.
+abbrev pub held_code : ℕ → List TestId → List Op
+held_code end [] = []
+held_code end (test ∷ tests) = Known test ∷ JumpFalse end ∷ held_code end tests
+
+-- The tests that a body is held back by, of so many.
+abbrev pub holding : ℕ → Block → List TestId
+holding count body = tests_below count (mentioned body)
+
+-- Where a body's statements begin, and where its `ret` stands.
+abbrev pub body_start : ℕ → Block → ℕ
+body_start count body = 2 * length (holding count body)
+
+abbrev pub body_end : Coder → ℕ → Block → ℕ
+body_end coder count body = body_start count body + block_size coder body
+
+-- The code of a body, of a policy with so many tests.
+abbrev pub body_code : Coder → ℕ → Block → List Op
+body_code coder count body = held_code (body_end coder count body) (holding count body) ++ (block_code coder (body_start count body) body ++ Ret ∷ [])
+
+-- The code of an init, which is never held back.
+abbrev pub init_code : Coder → Block → List Op
+init_code coder init = block_code coder 0 init ++ Ret ∷ []
+
+-- How many instructions they have.
+abbrev pub body_size : Coder → ℕ → Block → ℕ
+body_size coder count body = body_end coder count body + 1
+
+abbrev pub init_size : Coder → Block → ℕ
+init_size coder init = block_size coder init + 1
+
+-- How many values a block has on the stack at most.
+abbrev pub block_height : Coder → Block → ℕ
+block_height coder Done = 0
+block_height coder (RunThen command rest) = max 1 (block_height coder rest)
+block_height coder (WantThen state rest) = max 1 (block_height coder rest)
+block_height coder (IfThen condition inner rest) = max (coder.height condition) (max (block_height coder inner) (block_height coder rest))
+
+-- How many commands a block has to run.
+abbrev pub block_runs : Block → ℕ
+block_runs Done = 0
+block_runs (RunThen command rest) = 1 + block_runs rest
+block_runs (WantThen state rest) = block_runs rest
+block_runs (IfThen condition inner rest) = block_runs inner + block_runs rest

@@ -1,0 +1,122 @@
+-- The plain image of a policy, and its sizes apart from the code: instructions, height and commands, the room, and the budgets.
+use Rattle.std.specs.Prelude.{ℕ, ◌+◌, ◌*◌, ◌^◌, ◌≤◌, max, List, [], ◌∷◌, length, map, sum_by, Option, Some, None, slice_get, All}
+use Rattle.ifs_base.specs.Sizes.{PeriodFits}
+use Rattle.ifs_base.specs.declared.ids.TestId.{TestId}
+use Rattle.ifs_base.specs.declared.op.Op.{Op}
+use Rattle.ifs_image.specs.declared.parts.Budgets.{Budgets}
+use Rattle.ifs_image.specs.declared.parts.Handlers.{Handlers}
+use Rattle.ifs_image.specs.declared.parts.StateSpec.{StateSpec}
+use Rattle.ifs_image.specs.declared.parts.Routine.{Routine}
+use Rattle.ifs_image.specs.declared.parts.ImageParts.{ImageParts}
+use Rattle.ifs_gen.specs.Trees.{Part, Policy}
+use Rattle.ifs_gen.specs.PlainCode.{plain_coder, holding, body_code, init_code, body_size, init_size, block_height, block_runs}
+use Rattle.ifs_policy.specs.Fits.{PolicyFits}
+
+-- How many external tests a policy has.
+abbrev pub tests_in : Policy → ℕ
+tests_in policy = length policy.tables.tests
+
+-- The parts of a policy: the always part, then those of its states in order.
+abbrev pub parts_of : Policy → List Part
+parts_of policy = policy.always ∷ policy.states
+
+-- The set of these tests: the bit of weight 2 ^ t is test t.
+abbrev pub mask_of : List TestId → ℕ
+mask_of [] = 0
+mask_of (test ∷ tests) = 2 ^ test.0 + mask_of tests
+
+-- The set of the tests that a part's body mentions, of so many.
+abbrev pub mask_in : ℕ → Part → ℕ
+mask_in count part = mask_of (holding count part.body)
+
+-- Part k has the routines 2k and 2k + 1.
+abbrev pub handlers_of : ℕ → ℕ → Part → Handlers
+handlers_of count k part = record { init = record { 0 = 2 * k }; body = record { 0 = 2 * k + 1 }; mask = mask_in count part }
+
+-- The states of these names and parts, from a number on, in order.
+abbrev pub states_from : ℕ → ℕ → List (List ℕ) → List Part → List StateSpec
+states_from count k (name ∷ names) (part ∷ parts) = record { name = name; handlers = handlers_of count k part } ∷ states_from count (k + 1) names parts
+states_from count k _ _ = []
+
+-- A routine that leaves nothing.
+abbrev pub routine_of_code : List Op → Routine
+routine_of_code code = record { results = 0; code = code }
+
+-- The routines of parts: of each its init, then its body.
+abbrev pub routines_of : ℕ → List Part → List Routine
+routines_of count [] = []
+routines_of count (part ∷ parts) = routine_of_code (init_code plain_coder part.init) ∷ routine_of_code (body_code plain_coder count part.body) ∷ routines_of count parts
+
+-- The image of a policy in plain code, with these budgets.
+abbrev pub image_with : Budgets → Policy → ImageParts
+image_with budgets policy = record {
+  budgets = budgets;
+  initial = policy.initial;
+  always = handlers_of (tests_in policy) 0 policy.always;
+  interfaces = policy.tables.interfaces;
+  tests = map (λ test. record { period = test.period; text = test.command }) policy.tables.tests;
+  commands = policy.tables.commands;
+  states = states_from (tests_in policy) 1 policy.tables.states policy.states;
+  routines = routines_of (tests_in policy) (parts_of policy);
+}
+
+-- The greatest number that a list's entries have.
+abbrev pub greatest : {T : Type 0} → (T → ℕ) → List T → ℕ
+greatest number [] = 0
+greatest number (x ∷ xs) = max (number x) (greatest number xs)
+
+-- The number of an entry, where there is one.
+abbrev pub number_in : {T : Type 0} → (T → ℕ) → Option T → ℕ
+number_in number None = 0
+number_in number (Some x) = number x
+
+-- What one event may come to, where init and body of a part come to so much: an evaluation to the always body, a state's body and a state's init, the opening to the always init and the initial state's.
+abbrev pub event_total : (Part → ℕ) → (Part → ℕ) → Policy → ℕ
+event_total init body policy =
+    max (body policy.always + greatest body policy.states + greatest init policy.states)
+    (init policy.always + number_in init (slice_get policy.states policy.initial.0))
+
+-- The room of a policy: how many commands one event may run.
+abbrev pub room_of : Policy → ℕ
+room_of policy = event_total (λ part. block_runs part.init) (λ part. block_runs part.body) policy
+
+-- How many instructions a part's init has, and its body.
+abbrev pub init_length : Part → ℕ
+init_length part = init_size plain_coder part.init
+
+abbrev pub body_length : ℕ → Part → ℕ
+body_length count part = body_size plain_coder count part.body
+
+-- How high the stack of either grows.
+abbrev pub part_height : Part → ℕ
+part_height part = max (block_height plain_coder part.init) (block_height plain_coder part.body)
+
+-- The least budgets: the greatest height, one frame, and what one event may cost and run at most.
+abbrev pub least_budgets : Policy → Budgets
+least_budgets policy = record {
+  stack = greatest part_height (parts_of policy);
+  frames = 1;
+  cost = event_total init_length (body_length (tests_in policy)) policy;
+  commands = room_of policy;
+}
+
+-- The image of a policy in plain code.
+abbrev pub plain_image : Policy → ImageParts
+plain_image policy = image_with (least_budgets policy) policy
+
+-- A policy within its limits, those of its tests' periods among them.
+pub record IsPolicy (policy : Policy) : Type 0 where
+  pub fits : PolicyFits policy
+  pub periods : All (λ test. PeriodFits test.period) policy.tables.tests
+
+-- The plain code of a part keeps the limits of one routine.
+pub record RoutinesFit (count : ℕ) (part : Part) : Type 0 where
+  pub init : init_length part ≤ 1024
+  pub body : body_length count part ≤ 1024
+
+-- The plain code of a policy keeps the limits: instructions of each routine and of all, height, and the room.
+pub record CodeFits (policy : Policy) : Type 0 where
+  pub each : All (RoutinesFit (tests_in policy)) (parts_of policy)
+  pub together : sum_by (λ part. init_length part + body_length (tests_in policy) part) (parts_of policy) ≤ 8192
+  pub height : All (λ part. part_height part ≤ 32) (parts_of policy)
+  pub room : room_of policy ≤ 64

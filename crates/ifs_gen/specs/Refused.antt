@@ -1,0 +1,47 @@
+-- Refusals: which limit the plain code of a policy passes first.
+use Rattle.std.specs.Prelude.{ℕ, ◌≡◌, ◌<◌, ◌≤◌, ◌⊎◌, List, [], ◌∷◌, sum, Some, slice_get, All}
+use Rattle.ifs_gen.specs.declared.fault.GenFault.{GenFault}
+use Rattle.ifs_gen.specs.declared.fault.GenFault.TheVariants.{RoutineTooLong, CodeTooLong, StackTooHigh, TooManyCommands, Memory}
+use Rattle.ifs_gen.specs.Trees.{Part, Policy}
+use Rattle.ifs_gen.specs.PlainCode.{plain_coder, block_height}
+use Rattle.ifs_gen.specs.PlainImage.{tests_in, parts_of, init_length, body_length, room_of, CodeFits}
+
+-- How many instructions the routines of parts have, in their order, of so many tests.
+abbrev pub lengths_of : ℕ → List Part → List ℕ
+lengths_of count [] = []
+lengths_of count (part ∷ parts) = init_length part ∷ body_length count part ∷ lengths_of count parts
+
+-- How high the stack of each grows.
+abbrev pub heights_of : List Part → List ℕ
+heights_of [] = []
+heights_of (part ∷ parts) = block_height plain_coder part.init ∷ block_height plain_coder part.body ∷ heights_of parts
+
+-- Those of a policy.
+abbrev pub lengths : Policy → List ℕ
+lengths policy = lengths_of (tests_in policy) (parts_of policy)
+
+abbrev pub heights : Policy → List ℕ
+heights policy = heights_of (parts_of policy)
+
+-- Each number keeps a limit.
+abbrev pub AreWithin : ℕ → List ℕ → Type 0
+AreWithin limit numbers = All (λ n. n ≤ limit) numbers
+
+-- The first number over a limit stands at an index.
+pub record IsFirstOver (limit : ℕ) (numbers : List ℕ) (index : ℕ) : Type 0 where
+  pub number : ℕ
+  pub at : slice_get numbers index ≡ Some number
+  pub over : limit < number
+  pub before : (i n : ℕ) → i < index → slice_get numbers i ≡ Some n → n ≤ limit
+
+-- The plain code of a policy passes this limit, and none that is looked for before it. Want of memory says nothing of a policy.
+abbrev pub IsRefused : Policy → GenFault → Type 0
+IsRefused policy (RoutineTooLong routine) = IsFirstOver 1024 (lengths policy) routine.0
+IsRefused policy CodeTooLong = AreWithin 1024 (lengths policy) × (8192 < sum (lengths policy))
+IsRefused policy (StackTooHigh routine) = AreWithin 1024 (lengths policy) × (sum (lengths policy) ≤ 8192) × IsFirstOver 32 (heights policy) routine.0
+IsRefused policy TooManyCommands = AreWithin 1024 (lengths policy) × (sum (lengths policy) ≤ 8192) × AreWithin 32 (heights policy) × (64 < room_of policy)
+IsRefused policy Memory = ⊥
+
+-- The code of each policy keeps the limits, or it passes one first.
+abbrev pub FitsOrIsRefused : Type 0
+FitsOrIsRefused = (policy : Policy) → CodeFits policy ⊎ ((fault : GenFault) × IsRefused policy fault)

@@ -1,0 +1,107 @@
+-- Runs of plain code on the machine: what each row, condition, block and handler leads to.
+use Rattle.std.specs.Prelude.{ℕ, ◌≡◌, ◌+◌, ◌≤◌, if◌then◌else◌, List, [], ◌∷◌, length, Some, slice_get}
+use Rattle.ifs_base.specs.Facts.{Facts}
+use Rattle.ifs_base.specs.Effects.{Effects, followed}
+use Rattle.ifs_base.specs.declared.ids.TestId.{TestId}
+use Rattle.ifs_base.specs.declared.op.Op.{Op}
+use Rattle.ifs_image.specs.declared.parts.ImageParts.{ImageParts}
+use Rattle.ifs_image.specs.Code.{code_of, results_of}
+use Rattle.ifs_machine.specs.declared.value.Value.{Value}
+use Rattle.ifs_machine.specs.declared.value.Value.TheVariants.{Truth}
+use Rattle.ifs_machine.specs.Table.{Frame, Outcome, GoesOn, height}
+use Rattle.ifs_machine.specs.Run.{after, RunsTo, AreFactsOf}
+use Rattle.ifs_policy.specs.Fits.{Sizes, ConditionFits, BlockFits}
+use Rattle.ifs_gen.specs.Trees.{Condition, Block, Done, RunThen, WantThen, IfThen}
+use Rattle.ifs_policy.specs.Meaning.{truth, is_open, is_held, reached, body_yield, init_yield}
+use Rattle.ifs_gen.specs.PlainCode.{Coder, plain_coder, block_code, block_size, block_height, block_runs, holding, body_code, init_code}
+
+-- How many entries the tables of an image have.
+abbrev pub image_sizes : ImageParts → Sizes
+image_sizes image = record { interfaces = length image.interfaces; tests = length image.tests; commands = length image.commands; states = length image.states }
+
+-- Instructions stand in a code from a place on.
+abbrev pub HasAt : List Op → ℕ → List Op → Type 0
+HasAt code place [] = Unit {0}
+HasAt code place (op ∷ ops) = (slice_get code place ≡ Some op) × HasAt code (place + 1) ops
+
+-- Where a routine's frame stands: its place, its values, and what the event has brought about so far.
+pub record Point : Type 0 where
+  pub place : ℕ
+  pub values : List Value
+  pub effects : Effects
+
+abbrev pub point : ℕ → List Value → Effects → Point
+point place values effects = record { place = place; values = values; effects = effects }
+
+-- The machine stands there, above these callers.
+abbrev pub stands : ℕ → List Frame → Point → Outcome
+stands routine callers p = GoesOn (record { frame = record { routine = routine; place = p.place; values = p.values }; callers = callers; effects = p.effects })
+
+-- So many rows of the table lead from a point of a routine to another.
+pub record Leads (image : ImageParts) (facts : Facts) (routine : ℕ) (callers : List Frame) (from : Point) (rows : ℕ) (to : Point) : Type 0 where
+  pub runs : after image facts rows (stands routine callers from) ≡ stands routine callers to
+
+-- There are this many values of stack above those that stand, and above those of the callers.
+abbrev pub HasStack : ImageParts → List Frame → List Value → ℕ → Type 0
+HasStack image callers values more = more + length values + height callers ≤ image.budgets.stack
+
+-- A coder's code of a condition has its size and needs stack for its truth, and wherever it stands it leads past itself, and leaves the condition's truth on the stack.
+pub record Computes (image : ImageParts) (facts : Facts) (coder : Coder) : Type 0 where
+  pub sized : (condition : Condition) → length (coder.code condition) ≡ coder.size condition
+  pub high : (condition : Condition) → 1 ≤ coder.height condition
+  pub leads : (condition : Condition) (routine : ℕ) (callers : List Frame) (place : ℕ) (values : List Value) (effects : Effects)
+      → ConditionFits (image_sizes image) condition → HasAt (code_of image routine) place (coder.code condition) → HasStack image callers values (coder.height condition)
+      → Leads image facts routine callers (point place values effects) (coder.cost condition) (point (place + coder.size condition) (Truth (truth facts condition) ∷ values) effects)
+
+-- The plain code of conditions computes their truth, on any image and under any facts for it.
+abbrev pub TruthRuns : Type 0
+TruthRuns = (image : ImageParts) (facts : Facts) → AreFactsOf image facts → Computes image facts plain_coder
+
+-- How many instructions of a block are executed.
+abbrev pub block_cost : Coder → Facts → Block → ℕ
+block_cost coder facts Done = 0
+block_cost coder facts (RunThen command rest) = 2 + block_cost coder facts rest
+block_cost coder facts (WantThen state rest) = 2 + block_cost coder facts rest
+block_cost coder facts (IfThen condition inner rest) =
+    coder.cost condition + 1 + (if truth facts condition then block_cost coder facts inner else 0) + block_cost coder facts rest
+
+-- A block leads past itself, and has brought about what it reaches.
+abbrev pub BlockRuns : Type 0
+BlockRuns = (image : ImageParts) (facts : Facts) (coder : Coder) (routine : ℕ) (callers : List Frame) (block : Block) (place : ℕ) (values : List Value) (effects : Effects)
+    → Computes image facts coder → BlockFits (image_sizes image) block → HasAt (code_of image routine) place (block_code coder place block)
+    → HasStack image callers values (block_height coder block) → length effects.commands + block_runs block ≤ image.budgets.commands
+    → Leads image facts routine callers (point place values effects) (block_cost coder facts block) (point (place + block_size coder block) values (followed effects (reached facts block)))
+
+-- How many instructions are executed to find whether a body is held back.
+abbrev pub held_cost : Facts → List TestId → ℕ
+held_cost facts [] = 0
+held_cost facts (test ∷ tests) = 2 + (if is_open facts test then 0 else held_cost facts tests)
+
+-- How many instructions a body executes, and an init.
+abbrev pub body_cost : Coder → ℕ → Facts → Block → ℕ
+body_cost coder count facts body = held_cost facts (holding count body) + (if is_held facts body then 0 else block_cost coder facts body) + 1
+
+abbrev pub init_cost : Coder → Facts → Block → ℕ
+init_cost coder facts init = block_cost coder facts init + 1
+
+-- A routine without results has this code, and the image states enough for a block: a frame, stack for its values, and room for its commands after so many.
+pub record IsHandlerOf (image : ImageParts) (coder : Coder) (routine : ℕ) (code : List Op) (block : Block) (queued : ℕ) : Type 0 where
+  pub listed : code_of image routine ≡ code
+  pub results : results_of image routine ≡ []
+  pub frame : 1 ≤ image.budgets.frames
+  pub stack : block_height coder block ≤ image.budgets.stack
+  pub commands : queued + block_runs block ≤ image.budgets.commands
+  pub fits : BlockFits (image_sizes image) block
+
+-- The handlers of a policy do on the machine what their yields say, at a cost that the facts settle.
+pub record HandlersRun (image : ImageParts) (facts : Facts) (coder : Coder) : Type 0 where
+  pub body : (routine : ℕ) (block : Block) (before : Effects)
+      → IsHandlerOf image coder routine (body_code coder (length image.tests) block) block (length before.commands)
+      → RunsTo image facts routine before (body_cost coder (length image.tests) facts block) (followed before (body_yield facts block))
+  pub init : (routine : ℕ) (block : Block) (before : Effects)
+      → IsHandlerOf image coder routine (init_code coder block) block (length before.commands)
+      → RunsTo image facts routine before (init_cost coder facts block) (followed before (init_yield facts block))
+
+-- They do so on any image and under any facts for it.
+abbrev pub HandlersDo : Type 0
+HandlersDo = (image : ImageParts) (facts : Facts) (coder : Coder) → AreFactsOf image facts → Computes image facts coder → HandlersRun image facts coder

@@ -1,0 +1,4 @@
+-- What only private functions promise one another.
+pub mod Emission
+pub mod Measures
+pub mod Marks

@@ -1,0 +1,23 @@
+-- Marks of tests, by index.
+use Rattle.std.specs.Prelude.{ℕ, Bool, true, false, List, [], ◌∷◌, slice_set}
+use Rattle.ifs_base.specs.declared.ids.CommandId.{CommandId}
+use Rattle.ifs_base.specs.declared.ids.StateId.{StateId}
+use Rattle.ifs_base.specs.declared.ids.TestId.{TestId}
+use Rattle.ifs_parse.specs.Views.{statement_then}
+use Rattle.ifs_parse.specs.declared.block.Statement.{Statement}
+use Rattle.ifs_policy.specs.Meaning.{mentioned}
+use Rattle.ifs_gen.specs.Trees.{Single, Done}
+
+-- The marks after these tests are marked; one that has no place changes nothing.
+abbrev pub marked : List Bool → List TestId → List Bool
+marked marks [] = marks
+marked marks (test ∷ tests) = marked (slice_set marks test.0 true) tests
+
+-- The tests that a statement mentions.
+abbrev pub statement_mentions : Statement Single CommandId StateId → List TestId
+statement_mentions statement = mentioned (statement_then statement Done)
+
+-- The test of an index, where it is marked.
+abbrev pub test_where : Bool → ℕ → List TestId
+test_where true index = record { 0 = index } ∷ []
+test_where false index = []

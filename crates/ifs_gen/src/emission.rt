@@ -1,0 +1,105 @@
+//! The plain code of conditions and blocks.
+
+ghost use Rattle.std.specs.Prelude.{◌≡◌, ◌+◌, ◌<◌, ◌^◌, ◌++◌, [], ◌∷◌, length, OnOk};
+ghost use Rattle.ifs_gen.specs.PlainCode.{block_code, block_size, condition_code, plain_coder, single_op as op_of};
+ghost use Rattle.ifs_gen.specs.inner.Emission.{statement_code, statement_size};
+
+use ifs_base::{CommandId, Op, StateId};
+use ifs_parse::{Condition, Node, Statement};
+use ifs_policy::{PolicyBlock, Single};
+use std::alloc::AllocError;
+
+/// The instruction of a single test.
+fn single_op(single: &Single) -> Op
+    ensures { result ≡ op_of single.now }
+{
+    match single {
+        Single::LinkIs(interface, state) => Op::Link(*interface, *state),
+        Single::TestIs(test) => Op::Test(*test),
+    }
+}
+
+/// Adds the code of a condition: each operand's, then the sign's.
+pub(crate) fn put_condition(
+    condition: &Condition<Single>,
+    code: &mut Vec<Op>,
+) -> Result<(), AllocError>
+    ensures { OnOk result (code.new.items ≡ code.old.items ++ condition_code condition.now) }
+{
+    match condition.node() {
+        Node::Leaf(single) => {
+            code.push(single_op(single))?;
+            Ok(())
+        }
+        Node::Not(operand) => {
+            put_condition(operand, code)?;
+            code.push(Op::Negate)?;
+            Ok(())
+        }
+        Node::All(first, second, rest) => {
+            put_condition(first, code)?;
+            put_condition(second, code)?;
+            code.push(Op::Both)?;
+            for operand in rest {
+                put_condition(operand, code)?;
+                code.push(Op::Both)?;
+            }
+            Ok(())
+        }
+        Node::Any(first, second, rest) => {
+            put_condition(first, code)?;
+            put_condition(second, code)?;
+            code.push(Op::Either)?;
+            for operand in rest {
+                put_condition(operand, code)?;
+                code.push(Op::Either)?;
+            }
+            Ok(())
+        }
+    }
+}
+
+/// Adds the code of a block. Its places are those of the code that it is added to.
+#[cycle(put_block)]
+pub(crate) fn put_block(block: &PolicyBlock, code: &mut Vec<Op>) -> Result<(), AllocError>
+    requires room { length code.old.items + block_size plain_coder block.now < 2 ^ 16 }
+    ensures { OnOk result (code.new.items
+        ≡ code.old.items ++ block_code plain_coder (length code.old.items) block.now) }
+{
+    for statement in block.statements() {
+        put_statement(statement, code)?;
+    }
+    Ok(())
+}
+
+/// Adds the code of a statement: a jump over a block is set once its end is known.
+#[cycle(put_block)]
+fn put_statement(
+    statement: &Statement<Single, CommandId, StateId>,
+    code: &mut Vec<Op>,
+) -> Result<(), AllocError>
+    requires room { length code.old.items + statement_size statement.now < 2 ^ 16 }
+    ensures { OnOk result (code.new.items
+        ≡ code.old.items ++ statement_code (length code.old.items) statement.now) }
+{
+    match statement {
+        Statement::Run(command) => {
+            code.push(Op::PushCommand(*command))?;
+            code.push(Op::Queue)?;
+            Ok(())
+        }
+        Statement::SetState(state) => {
+            code.push(Op::PushState(*state))?;
+            code.push(Op::Want)?;
+            Ok(())
+        }
+        Statement::If(condition, inner) => {
+            put_condition(condition, code)?;
+            let jump = code.len();
+            code.push(Op::JumpFalse(0))?;
+            put_block(inner, code)?;
+            code[jump] = Op::JumpFalse(code.len() as u16);
+            Ok(())
+        }
+    }
+}

@@ -1,0 +1,57 @@
+//! What holds of every policy and its plain code.
+
+ghost use Rattle.ifs_gen.specs.Acceptance.{BudgetsAreLeast, PlainIsAccepted};
+ghost use Rattle.ifs_gen.specs.Events.{ActiveAreMentioned, ImageMeansPolicy};
+ghost use Rattle.ifs_gen.specs.Refused.{FitsOrIsRefused};
+ghost use Rattle.ifs_gen.specs.Runs.{TruthRuns, BlockRuns, HandlersDo};
+
+use ifs_core::laws::accepted_is_kept;
+use ifs_verify::laws::one_typing;
+
+/// Wherever the plain code of a condition stands in a routine, it leads past itself and leaves the
+/// condition's truth on the stack, each instruction executed once.
+pub fn truth_runs()
+    ensures { TruthRuns }
+{}
+
+/// Wherever the code of a block stands in a routine, it leads past itself and brings about what the
+/// block reaches.
+pub fn block_runs()
+    ensures { BlockRuns }
+{}
+
+/// The handlers of a policy do on the machine what their yields say.
+pub fn handlers_do()
+    ensures { HandlersDo }
+{}
+
+/// The plain image of a policy is accepted, where its code keeps the limits.
+pub fn plain_is_accepted()
+    ensures { PlainIsAccepted }
+{}
+
+/// No budgets under those of the plain image are enough for its code.
+pub fn budgets_are_least()
+    ensures { BudgetsAreLeast }
+{
+    one_typing();
+}
+
+/// The plain image of a policy means what the policy says: for every list of steps, the replies of a core
+/// that is opened on it, the states, queues and traces are those of a run over the policy's own events,
+/// costs aside, and it is busy where the queue lacks the policy's room.
+pub fn image_means_policy()
+    ensures { ImageMeansPolicy }
+{
+    accepted_is_kept();
+}
+
+/// The plain code of each policy keeps the limits of images, or there is a first one that it passes.
+pub fn fits_or_is_refused()
+    ensures { FitsOrIsRefused }
+{}
+
+/// The tests that are active with a part, by its mask, are exactly those that its body mentions.
+pub fn active_are_mentioned()
+    ensures { ActiveAreMentioned }
+{}

@@ -1,0 +1,20 @@
+//! The compiler: from a policy to the image that runs it.
+//!
+//! The code is plain: every operand of a condition is computed, and a body begins with a look at each
+//! test that it mentions. Here stand the laws of that code, the limits that it may pass, and the writing
+//! of routines, each measured before it is written.
+//! Contract of the laws: a policy's plain image is accepted, with the least budgets, and means what the
+//! policy says.
+#![tactic(auto)]
+
+mod emission;
+mod fault;
+pub mod laws;
+mod measure;
+mod mention;
+mod routines;
+
+pub use fault::GenFault;
+
+#[cfg(test)]
+mod tests;

@@ -1,0 +1,95 @@
+//! The tests that a body mentions.
+
+ghost use Rattle.std.specs.Prelude.{◌≡◌, ◌<◌, ◌≤◌, ◌^◌, ◌++◌, true, slice_set, IfOk, OnOk};
+ghost use Rattle.ifs_policy.specs.Meaning.{mentioned, mentioned_in};
+ghost use Rattle.ifs_gen.specs.inner.Marks.{marked, statement_mentions, test_where};
+ghost use Rattle.ifs_gen.specs.PlainCode.{holding};
+
+use ifs_base::{CommandId, StateId, TestId};
+use ifs_parse::{Condition, Node, Statement};
+use ifs_policy::{PolicyBlock, Single};
+use std::alloc::{AllocError, Global};
+
+/// How many tests a policy has at most.
+const MAX_TESTS: usize = 64;
+
+/// The tests that a body mentions at any depth, of so many, by index.
+pub(crate) fn tests_of(
+    alloc: Global,
+    body: &PolicyBlock,
+    count: usize,
+) -> Result<Vec<TestId>, AllocError>
+    requires { count ≤ 64 }
+    ensures { IfOk result (λ tests. tests.items ≡ holding count body.now) }
+{
+    let mut marks = [false; MAX_TESTS];
+    mark_block(body, &mut marks);
+    let mut tests = Vec::new(alloc);
+    for index in 0..count {
+        put_test(index, marks[index], &mut tests)?;
+    }
+    Ok(tests)
+}
+
+/// Adds a test where it is marked.
+fn put_test(index: usize, is_marked: bool, tests: &mut Vec<TestId>) -> Result<(), AllocError>
+    requires { index < 2 ^ 16 }
+    ensures { OnOk result (tests.new.items ≡ tests.old.items ++ test_where is_marked index) }
+{
+    if is_marked {
+        tests.push(TestId(index as u16))?;
+    }
+    Ok(())
+}
+
+/// Marks a test, where it has a place.
+fn mark(test: TestId, marks: &mut [bool])
+    ensures { marks.new ≡ slice_set marks.old test.0 true }
+{
+    let index = usize::from(test.0);
+    if index < marks.len() {
+        marks[index] = true;
+    }
+}
+
+/// Marks the tests that a condition mentions.
+fn mark_condition(condition: &Condition<Single>, marks: &mut [bool])
+    ensures { marks.new ≡ marked marks.old (mentioned_in condition.now) }
+{
+    match condition.node() {
+        Node::Leaf(Single::LinkIs(_, _)) => {}
+        Node::Leaf(Single::TestIs(test)) => mark(*test, marks),
+        Node::Not(operand) => mark_condition(operand, marks),
+        Node::All(first, second, rest) | Node::Any(first, second, rest) => {
+            mark_condition(first, marks);
+            mark_condition(second, marks);
+            for operand in rest {
+                mark_condition(operand, marks);
+            }
+        }
+    }
+}
+
+/// Marks the tests that a block mentions.
+#[cycle(mark_block)]
+fn mark_block(block: &PolicyBlock, marks: &mut [bool])
+    ensures { marks.new ≡ marked marks.old (mentioned block.now) }
+{
+    for statement in block.statements() {
+        mark_statement(statement, marks);
+    }
+}
+
+/// Marks the tests that a statement mentions.
+#[cycle(mark_block)]
+fn mark_statement(statement: &Statement<Single, CommandId, StateId>, marks: &mut [bool])
+    ensures { marks.new ≡ marked marks.old (statement_mentions statement.now) }
+{
+    match statement {
+        Statement::Run(_) | Statement::SetState(_) => {}
+        Statement::If(condition, inner) => {
+            mark_condition(condition, marks);
+            mark_block(inner, marks);
+        }
+    }
+}
