@@ -1,6 +1,5 @@
 -- Rules that have no end among their tokens; so tokens that say a file end once.
-use Rattle.std.proofs.Common.{◌≡◌, ℕ, zero, suc, inl, inr, refl, sym, ap, subst, ◌∙◌, cond, Bool, true, false, Option, Some, None, List, [], ◌∷◌, ◌++◌, append_assoc}
-use Rattle.ifs_base.specs.declared.span.Span.{Span}
+use Rattle.std.proofs.Common.{◌≡◌, ℕ, zero, suc, inl, inr, refl, sym, ap, subst, ◌∙◌, Bool, false, Option, Some, None, List, [], ◌∷◌, ◌++◌, append_assoc}
 use Rattle.ifs_lex.specs.declared.token.Token.{Token}
 use Rattle.ifs_lex.specs.declared.token.What.{What}
 use Rattle.ifs_lex.specs.declared.token.What.TheVariants as what
@@ -15,12 +14,12 @@ use Rattle.ifs_parse.specs.declared.block.Statement.{Statement}
 use Rattle.ifs_parse.specs.declared.parser.Operand.{Operand}
 use Rattle.ifs_parse.specs.Trees as tree
 use Rattle.ifs_parse.specs.Files.{File}
-use Rattle.ifs_parse.specs.Rules.{Rule, Gives, OneToken, TheMark, ◌⨟◌, ◌or◌, Never, Noted, Many, Enough, More}
+use Rattle.ifs_parse.specs.Rules.{Rule, Gives, OneToken, TheMark, ◌⨟◌, ◌or◌, Never, Many, Enough, More}
 use Rattle.ifs_parse.specs.Combined.{marked}
 use Rattle.ifs_parse.specs.Reading as reading
 use Rattle.ifs_parse.specs.Grammar as grammar
 use Rattle.ifs_parse.proofs.Read.{taken}
-use Rattle.ifs_parse.proofs.Whole.{end_is_end, end_is_last}
+use Rattle.ifs_parse.proofs.Whole.{end_is_last}
 
 -- No token of a rule is the end.
 abbrev pub Free : {X : Type 0} → Rule X → Type 0

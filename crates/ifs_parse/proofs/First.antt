@@ -32,7 +32,7 @@ use Rattle.std.specs.Prelude.{codes}
 use Rattle.ifs_parse.specs.Rules.{Enough, OneToken}
 use Rattle.ifs_parse.specs.declared.fault.ParseFault.TheVariants.{Unexpected}
 use Rattle.ifs_parse.proofs.Read.{exact_string, exact_period, exact_test, exact_next, exact_all, exact_one, exact_condition, reads_more, begins_longer, exact_braced, exact_part, exact_item, part_longer, item_longer, closes_part, not_statement, close_if, close_run, close_set, No, Over, NoStatement, NoPart, NoItem, known, Known}
-use Rattle.ifs_parse.proofs.Stuck.{found_by_next, line_by_next, ByNext, Fails, fails_as, Sample, Stuck, stuck_pure, stuck_token, stuck_then_at, stuck_then, stuck_either, stuck_deep, stuck_begins, stuck_no_more, stuck_as, stuck_required, stuck_option, stuck_noted, stuck_many, optional_or, Broke, Before, After, broke}
+use Rattle.ifs_parse.proofs.Stuck.{next_token, found_by_next, line_by_next, ByNext, Fails, fails_as, Sample, Stuck, stuck_pure, stuck_token, stuck_then_at, stuck_then, stuck_either, stuck_deep, stuck_begins, stuck_no_more, stuck_as, stuck_required, stuck_option, stuck_noted, stuck_many, optional_or, Broke, Before, After, broke}
 use Rattle.ifs_parse.proofs.Whole.{says_no_fault}
 use Rattle.ifs_parse.proofs.Limits.{no_help_at}
 use Rattle.ifs_parse.proofs.Ends.{ends_there}
@@ -444,7 +444,7 @@ not_whole tokens tail f fault ends said e =
 
 module _ (tokens : List Token) (fault : ParseFault) (ends : EndsOnce tokens) (e : reading.read_within fits 32 tokens ≡ Err fault) where
   stops_by : (front left tail : List Token) (f : File) → tokens ≡ front ++ left → grammar.IsAt fault (line_of left) → grammar.Says (front ++ tail) f
-      → ((w : List Token) → grammar.next_token w ≡ grammar.next_token left → reading.read_within fits 32 (front ++ w) ≡ Err fault) → StopsAt tokens fault
+      → ((w : List Token) → next_token w ≡ next_token left → reading.read_within fits 32 (front ++ w) ≡ Err fault) → StopsAt tokens fault
   stops_by front [] tail f whole line can same =
       let all : front ≡ tokens = sym (append-nil front) ∙ sym whole in
       absurd (not_whole tokens tail f fault ends (subst (λ (l : List Token). grammar.Says (l ++ tail) f) all can) e)

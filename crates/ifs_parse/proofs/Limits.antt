@@ -1,15 +1,14 @@
 -- Which limits would let no token go on.
-use Rattle.std.proofs.Common.{◌≡◌, inl, inr, ℕ, ◌≤◌, ◌+◌, refl, sym, subst, ◌∙◌, Bool, true, false, Ok, Err, List, ◌∷◌, ◌++◌, arith}
+use Rattle.std.proofs.Common.{◌≡◌, ℕ, ◌≤◌, ◌+◌, refl, sym, subst, ◌∙◌, Bool, true, Ok, Err, List, ◌∷◌, ◌++◌, arith}
 use Rattle.std.specs.Prelude.{Result}
 use Rattle.ifs_lex.specs.declared.token.Token.{Token}
 use Rattle.ifs_parse.specs.declared.fault.ParseFault.{ParseFault}
 use Rattle.ifs_parse.specs.declared.fault.ParseFault.TheVariants.{Unexpected, Period, Nesting, Memory}
 use Rattle.ifs_parse.specs.Files.{File}
-use Rattle.ifs_parse.specs.Combined.{line_of}
 use Rattle.ifs_parse.specs.Reading.{read_within, fits_period}
-use Rattle.ifs_parse.specs.Grammar.{IsAt, NoneGoesOn, NoHelp, SaysWithin}
+use Rattle.ifs_parse.specs.Grammar.{NoneGoesOn, NoHelp}
 use Rattle.ifs_parse.proofs.Wider.{Alike, follows_read}
-use Rattle.ifs_parse.proofs.Whole.{says_read, says_no_fault}
+use Rattle.ifs_parse.proofs.Whole.{says_read}
 
 abbrev any_period : ℕ → Bool
 any_period n = true

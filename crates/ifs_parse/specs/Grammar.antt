@@ -21,7 +21,6 @@ use Rattle.ifs_parse.specs.Marks.{mark_of}
 use Rattle.ifs_parse.specs.Reading.{fits_period, name_of, link_state_of, number_of_what, operand, others, with_last, with_operand}
 use Rattle.ifs_parse.specs.declared.fault.ParseFault.{ParseFault}
 use Rattle.ifs_parse.specs.declared.fault.ParseFault.TheVariants.{Unexpected, Period, Nesting, Memory}
-use Rattle.ifs_parse.specs.Combined.{found, line_of}
 use Rattle.ifs_parse.specs.Rules.{Rule, Gives, OneToken, TheMark, ◌⨟◌, ◌or◌, Never, Noted, Many}
 
 -- string : a word that is not reserved | a quoted text
@@ -134,10 +133,6 @@ Says = SaysWithin fits_period 32
 -- Some tokens say the file.
 abbrev pub IsSaid : File → Type 0
 IsSaid f = ∥ ((tokens : List Token) × Says tokens f) ∥₁
-
--- The next token, where there is one.
-abbrev pub next_token : List Token → Option Token
-next_token = found (λ t. Some t)
 
 -- A fault at a line.
 abbrev pub IsAt : ParseFault → ℕ → Type 0
