@@ -1,5 +1,5 @@
 -- Where the parsers of the grammar fail.
-use Rattle.std.proofs.Common.{◌≡◌, inl, inr, ℕ, zero, suc, ◌≤◌, refl, sym, ap, ◌∙◌, Bool, true, false, ◌||◌, Option, Some, None, Ok, Err, List, [], ◌∷◌, ◌++◌, length}
+use Rattle.std.proofs.Common.{◌≡◌, inl, inr, ℕ, zero, suc, ◌≤◌, refl, sym, ap, subst, append-nil, ◌∙◌, Bool, true, false, ◌||◌, Option, Some, None, Ok, Err, List, [], ◌∷◌, ◌++◌, length}
 use Rattle.std.specs.Prelude.{Result, if◌then◌else◌, option_map}
 use Rattle.std.specs.Option.{option_map_or}
 use Rattle.ifs_base.specs.declared.span.Span.{Span}
@@ -32,9 +32,11 @@ use Rattle.std.specs.Prelude.{codes}
 use Rattle.ifs_parse.specs.Rules.{Enough, OneToken}
 use Rattle.ifs_parse.specs.declared.fault.ParseFault.TheVariants.{Unexpected}
 use Rattle.ifs_parse.proofs.Read.{exact_string, exact_period, exact_test, exact_next, exact_all, exact_one, exact_condition, reads_more, begins_longer, exact_braced, exact_part, exact_item, part_longer, item_longer, closes_part, not_statement, close_if, close_run, close_set, No, Over, NoStatement, NoPart, NoItem, known, Known}
-use Rattle.ifs_parse.proofs.Stuck.{found_by_next, line_by_next, ByNext, Fails, fails_as, Sample, Stuck, stuck_pure, stuck_token, stuck_then_at, stuck_then, stuck_either, stuck_deep, stuck_begins, stuck_no_more, stuck_as, stuck_required, stuck_option, stuck_noted, stuck_many, optional_or, Broke, Before, After, broke}
+use Rattle.ifs_parse.proofs.Stuck.{next_token, found_by_next, line_by_next, ByNext, Fails, fails_as, Sample, Stuck, stuck_pure, stuck_token, stuck_then_at, stuck_then, stuck_either, stuck_deep, stuck_begins, stuck_no_more, stuck_as, stuck_required, stuck_option, stuck_noted, stuck_many, optional_or, Broke, Before, After, broke}
 use Rattle.ifs_parse.proofs.Whole.{says_no_fault}
 use Rattle.ifs_parse.proofs.Limits.{no_help_at}
+use Rattle.ifs_parse.proofs.Ends.{ends_there}
+use Rattle.ifs_lex.specs.Expansion.{EndsOnce}
 use Rattle.ifs_parse.specs.Files.{File, file}
 use Rattle.ifs_parse.specs.Grammar.{StopsAt}
 use Rattle.ifs_parse.specs.Combined.{◌>>=◌}
@@ -434,26 +436,40 @@ module _ (statement : Parse (Option (Statement Test Name Wish))) (S : Rule (Stat
 abbrev read_all : Parse (List Item)
 read_all = reading.items (reading.item (reading.part (reading.statement fits 32)))
 
-broke_all : (tokens : List Token) (fault : ParseFault) → Broke {B = File} (read_all (state tokens [])) (λ r. Ok (file r.0 r.1.notes)) fault → StopsAt tokens fault
-unfolding grammar.SaysWithin reading.read_within
-broke_all tokens fault (After r e k) = absurd (cc)
-broke_all tokens fault (Before e) =
-    let f = stuck_items (reading.statement fits 32) (grammar.IsStatement fits 32) (known fits 32) (fallible 32) (state tokens []) fault tt e in
-    record {
-      front = f.front;
-      left = f.left;
-      whole = f.whole;
-      line = f.line;
-      tail = f.tail;
-      file = file f.x f.notes;
-      can = f.can;
-      cannot = λ more other h said.
-          says_no_fault fits 32 (f.front ++ more) other fault said
-          (ap (λ (r : Result (List Item × State) ParseFault). r >>= λ r. Ok (file r.0 r.1.notes)) (f.same more [] h));
-      no_help = no_help_at f.front f.left fault (λ w h. ap (λ (r : Result (List Item × State) ParseFault). r >>= λ r. Ok (file r.0 r.1.notes)) (f.same w [] h));
-    }
+-- Where the tokens up to their end are the front of what says a file, they say it.
+not_whole : (tokens tail : List Token) (f : File) (fault : ParseFault) → EndsOnce tokens → grammar.Says (tokens ++ tail) f → reading.read_within fits 32 tokens ≡ Err fault → ⊥
+not_whole tokens tail f fault ends said e =
+    let none : tail ≡ [] = ends_there fits 32 tokens tail f ends said in
+    says_no_fault fits 32 tokens f fault (subst (λ (l : List Token). grammar.Says l f) (ap (λ (l : List Token). tokens ++ l) none ∙ append-nil tokens) said) e
+
+module _ (tokens : List Token) (fault : ParseFault) (ends : EndsOnce tokens) (e : reading.read_within fits 32 tokens ≡ Err fault) where
+  stops_by : (front left tail : List Token) (f : File) → tokens ≡ front ++ left → grammar.IsAt fault (line_of left) → grammar.Says (front ++ tail) f
+      → ((w : List Token) → next_token w ≡ next_token left → reading.read_within fits 32 (front ++ w) ≡ Err fault) → StopsAt tokens fault
+  stops_by front [] tail f whole line can same =
+      let all : front ≡ tokens = sym (append-nil front) ∙ sym whole in
+      absurd (not_whole tokens tail f fault ends (subst (λ (l : List Token). grammar.Says (l ++ tail) f) all can) e)
+  stops_by front (token ∷ rest) tail f whole line can same =
+      record {
+        front = front;
+        token = token;
+        rest = rest;
+        whole = whole;
+        line = line;
+        tail = tail;
+        file = f;
+        can = can;
+        cannot = λ more other said. says_no_fault fits 32 (front ++ token ∷ more) other fault said (same (token ∷ more) refl);
+        no_help = no_help_at front token fault (λ w. same (token ∷ w) refl);
+      }
+
+  broke_all : Broke {B = File} (read_all (state tokens [])) (λ r. Ok (file r.0 r.1.notes)) fault → StopsAt tokens fault
+  unfolding grammar.SaysWithin reading.read_within
+  broke_all (After r e k) = absurd (cc)
+  broke_all (Before e) =
+      let f = stuck_items (reading.statement fits 32) (grammar.IsStatement fits 32) (known fits 32) (fallible 32) (state tokens []) fault tt e in
+      stops_by f.front f.left f.tail (file f.x f.notes) f.whole f.line f.can (λ w h. ap (λ (r : Result (List Item × State) ParseFault). r >>= λ r. Ok (file r.0 r.1.notes)) (f.same w [] h))
 
 -- A fault is where the tokens stop.
-pub stops_at : (tokens : List Token) (fault : ParseFault) → reading.read_within fits 32 tokens ≡ Err fault → StopsAt tokens fault
+pub stops_at : (tokens : List Token) (fault : ParseFault) → EndsOnce tokens → reading.read_within fits 32 tokens ≡ Err fault → StopsAt tokens fault
 unfolding reading.read_within
-stops_at tokens fault e = broke_all tokens fault (broke (read_all (state tokens [])) (λ r. Ok (file r.0 r.1.notes)) fault e)
+stops_at tokens fault ends e = broke_all tokens fault ends e (broke (read_all (state tokens [])) (λ r. Ok (file r.0 r.1.notes)) fault e)

@@ -4,6 +4,7 @@ pub mod Exact
 pub mod Read
 pub mod Wider
 pub mod Whole
+pub mod Ends
 pub mod Limits
 pub mod Stuck
 pub mod First

@@ -1,37 +1,36 @@
 -- Which limits would let no token go on.
-use Rattle.std.proofs.Common.{◌≡◌, inl, inr, ℕ, ◌≤◌, ◌+◌, refl, sym, subst, ◌∙◌, Bool, true, false, Ok, Err, List, ◌++◌, arith}
+use Rattle.std.proofs.Common.{◌≡◌, ℕ, ◌≤◌, ◌+◌, refl, sym, subst, ◌∙◌, Bool, true, Ok, Err, List, ◌∷◌, ◌++◌, arith}
 use Rattle.std.specs.Prelude.{Result}
 use Rattle.ifs_lex.specs.declared.token.Token.{Token}
 use Rattle.ifs_parse.specs.declared.fault.ParseFault.{ParseFault}
 use Rattle.ifs_parse.specs.declared.fault.ParseFault.TheVariants.{Unexpected, Period, Nesting, Memory}
 use Rattle.ifs_parse.specs.Files.{File}
-use Rattle.ifs_parse.specs.Combined.{line_of}
 use Rattle.ifs_parse.specs.Reading.{read_within, fits_period}
-use Rattle.ifs_parse.specs.Grammar.{IsAt, NoneGoesOn, NoHelp, SaysWithin, next_token}
+use Rattle.ifs_parse.specs.Grammar.{NoneGoesOn, NoHelp}
 use Rattle.ifs_parse.proofs.Wider.{Alike, follows_read}
-use Rattle.ifs_parse.proofs.Whole.{says_read, says_no_fault}
+use Rattle.ifs_parse.proofs.Whole.{says_read}
 
 abbrev any_period : ℕ → Bool
 any_period n = true
 
-module _ (front left : List Token) (fault : ParseFault) (same : (w : List Token) → next_token w ≡ next_token left → read_within fits_period 32 (front ++ w) ≡ Err fault) where
+module _ (front : List Token) (token : Token) (fault : ParseFault) (same : (w : List Token) → read_within fits_period 32 (front ++ token ∷ w) ≡ Err fault) where
   -- Within limits that a fault does not depend on, nothing goes on.
   none_goes_on : (fits top : ℕ → Bool) (room great : ℕ) → ((n : ℕ) → fits n ≡ true → top n ≡ true) → room ≤ great → ((n : ℕ) → fits_period n ≡ true → top n ≡ true) → 32 ≤ great
-      → ((line n : ℕ) → Period line ≡ fault → top n ≡ fits_period n) → ((line : ℕ) → Nesting line ≡ fault → great ≡ 32) → NoneGoesOn fits room front left
-  none_goes_on fits top room great wider less from more periods nested = λ w other h said.
-      let good : read_within top great (front ++ w) ≡ Ok other =
-      subst (λ (r : Result File ParseFault). Alike (λ f. ⊥) r (read_within top great (front ++ w))) (says_read fits room (front ++ w) other said)
-      (follows_read (λ f. ⊥) fits top wider (λ line n k. absurd k) room great less (λ line k. absurd k) (front ++ w)) in
-      let bad : read_within top great (front ++ w) ≡ Err fault =
-      subst (λ (r : Result File ParseFault). Alike (λ f. f ≡ fault) r (read_within top great (front ++ w))) (same w h)
-      (follows_read (λ f. f ≡ fault) fits_period top from periods 32 great more nested (front ++ w)) refl in
+      → ((line n : ℕ) → Period line ≡ fault → top n ≡ fits_period n) → ((line : ℕ) → Nesting line ≡ fault → great ≡ 32) → NoneGoesOn fits room front token
+  none_goes_on fits top room great wider less from more periods nested = λ w other said.
+      let good : read_within top great (front ++ token ∷ w) ≡ Ok other =
+      subst (λ (r : Result File ParseFault). Alike (λ f. ⊥) r (read_within top great (front ++ token ∷ w))) (says_read fits room (front ++ token ∷ w) other said)
+      (follows_read (λ f. ⊥) fits top wider (λ line n k. absurd k) room great less (λ line k. absurd k) (front ++ token ∷ w)) in
+      let bad : read_within top great (front ++ token ∷ w) ≡ Err fault =
+      subst (λ (r : Result File ParseFault). Alike (λ f. f ≡ fault) r (read_within top great (front ++ token ∷ w))) (same w)
+      (follows_read (λ f. f ≡ fault) fits_period top from periods 32 great more nested (front ++ token ∷ w)) refl in
       let clash = sym good ∙ bad in absurd (cc)
 
-pub no_help_at : (front left : List Token) (fault : ParseFault) → ((w : List Token) → next_token w ≡ next_token left → read_within fits_period 32 (front ++ w) ≡ Err fault) → NoHelp fault front left
-no_help_at front left (Unexpected line) same = λ fits room.
-    none_goes_on front left (Unexpected line) same fits any_period room (32 + room) (λ n h. refl) (omega arith) (λ n h. refl) (omega arith) (λ line n k. absurd (cc)) (λ line k. absurd (cc))
-no_help_at front left (Period line) same = λ room.
-    none_goes_on front left (Period line) same fits_period fits_period room (32 + room) (λ n h. h) (omega arith) (λ n h. h) (omega arith) (λ line n k. refl) (λ line k. absurd (cc))
-no_help_at front left (Nesting line) same = λ fits.
-    none_goes_on front left (Nesting line) same fits any_period 32 32 (λ n h. refl) (omega arith) (λ n h. refl) (omega arith) (λ line n k. absurd (cc)) (λ line k. refl)
-no_help_at front left Memory same = tt
+pub no_help_at : (front : List Token) (token : Token) (fault : ParseFault) → ((w : List Token) → read_within fits_period 32 (front ++ token ∷ w) ≡ Err fault) → NoHelp fault front token
+no_help_at front token (Unexpected line) same = λ fits room.
+    none_goes_on front token (Unexpected line) same fits any_period room (32 + room) (λ n h. refl) (omega arith) (λ n h. refl) (omega arith) (λ line n k. absurd (cc)) (λ line k. absurd (cc))
+no_help_at front token (Period line) same = λ room.
+    none_goes_on front token (Period line) same fits_period fits_period room (32 + room) (λ n h. h) (omega arith) (λ n h. h) (omega arith) (λ line n k. refl) (λ line k. absurd (cc))
+no_help_at front token (Nesting line) same = λ fits.
+    none_goes_on front token (Nesting line) same fits any_period 32 32 (λ n h. refl) (omega arith) (λ n h. refl) (omega arith) (λ line n k. absurd (cc)) (λ line k. refl)
+no_help_at front token Memory same = tt

@@ -8,10 +8,14 @@ use Rattle.ifs_parse.specs.declared.fault.ParseFault.{ParseFault}
 use Rattle.ifs_parse.specs.declared.fault.ParseFault.TheVariants.{Unexpected, Nesting}
 use Rattle.ifs_parse.specs.declared.mark.Mark.{Mark}
 use Rattle.ifs_parse.specs.Reading as reading
-use Rattle.ifs_parse.specs.Grammar.{next_token, IsAt}
+use Rattle.ifs_parse.specs.Grammar.{IsAt}
 use Rattle.ifs_parse.specs.Combined.{State, state, Parse, past, line_of, ◌>>=◌, ◌▸◌, pure, found, accepted, one_token, either, unexpected, marked, begins, no_more, required, many, many_from}
 use Rattle.ifs_parse.specs.Rules.{Rule, Gives, OneToken, TheMark, ◌⨟◌, ◌or◌, Never, Optional, Noted, Many, Enough, More}
 use Rattle.ifs_parse.proofs.Exact.{Always, Any, Until, Found, Reads, Exact}
+
+-- The next token, where there is one.
+abbrev pub next_token : List Token → Option Token
+next_token = found (λ t. Some t)
 
 pub record Fails {X : Type 0} (read : Parse X) (rule : Rule X) (s : State) (fault : ParseFault) : Type 0 where
   pub front : List Token

@@ -26,7 +26,7 @@ not_nil [] e left h = absurd (cc)
 not_nil (x ∷ before) e left h = absurd (cc)
 
 -- A token that is the mark of the end is the end.
-end_is_end : (w : What) → is (mark_of w) mark.End ≡ true → is_end w ≡ true
+pub end_is_end : (w : What) → is (mark_of w) mark.End ≡ true → is_end w ≡ true
 unfolding is
 end_is_end (what.Word word) h = absurd (differs (of_words (λ k. is k mark.End ≡ false) refl refl refl refl refl refl refl refl refl refl refl refl word) h)
 end_is_end (what.Quoted t) h = absurd (cc)
@@ -42,7 +42,7 @@ end_is_end what.Or h = absurd (cc)
 end_is_end what.End h = refl
 
 -- The end stands last.
-end_is_last : (before : List Token) (e : Token) (left : List Token) (front : List Token) (last : Token) → before ++ e ∷ left ≡ front ++ last ∷ []
+pub end_is_last : (before : List Token) (e : Token) (left : List Token) (front : List Token) (last : Token) → before ++ e ∷ left ≡ front ++ last ∷ []
     → is_end e.what ≡ true → Endless front → left ≡ []
 end_is_last [] e left [] last same ends none = cc
 end_is_last [] e left (f ∷ front) last same ends none =

@@ -21,7 +21,6 @@ use Rattle.ifs_parse.specs.Marks.{mark_of}
 use Rattle.ifs_parse.specs.Reading.{fits_period, name_of, link_state_of, number_of_what, operand, others, with_last, with_operand}
 use Rattle.ifs_parse.specs.declared.fault.ParseFault.{ParseFault}
 use Rattle.ifs_parse.specs.declared.fault.ParseFault.TheVariants.{Unexpected, Period, Nesting, Memory}
-use Rattle.ifs_parse.specs.Combined.{found, line_of}
 use Rattle.ifs_parse.specs.Rules.{Rule, Gives, OneToken, TheMark, ◌⨟◌, ◌or◌, Never, Noted, Many}
 
 -- string : a word that is not reserved | a quoted text
@@ -135,35 +134,32 @@ Says = SaysWithin fits_period 32
 abbrev pub IsSaid : File → Type 0
 IsSaid f = ∥ ((tokens : List Token) × Says tokens f) ∥₁
 
--- The next token, where there is one.
-abbrev pub next_token : List Token → Option Token
-next_token = found (λ t. Some t)
-
 -- A fault at a line.
 abbrev pub IsAt : ParseFault → ℕ → Type 0
 IsAt fault line = (fault ≡ Unexpected line) ⊎ (fault ≡ Period line) ⊎ (fault ≡ Nesting line)
 
--- Within limits, nothing that begins with these tokens and the next one says a file.
-abbrev pub NoneGoesOn : (ℕ → Bool) → ℕ → List Token → List Token → Type 0
-NoneGoesOn fits room front left = (more : List Token) (other : File) → next_token more ≡ next_token left → SaysWithin fits room (front ++ more) other → ⊥
+-- Within limits, nothing that begins with these tokens and one more says a file.
+abbrev pub NoneGoesOn : (ℕ → Bool) → ℕ → List Token → Token → Type 0
+NoneGoesOn fits room front token = (more : List Token) (other : File) → SaysWithin fits room (front ++ token ∷ more) other → ⊥
 
 -- Which limits do not help: none would let an unexpected token go on, no more room a period that does not fit, and no
 -- other periods what opens too deep.
-abbrev pub NoHelp : ParseFault → List Token → List Token → Type 0
-NoHelp (Unexpected line) front left = (fits : ℕ → Bool) (room : ℕ) → NoneGoesOn fits room front left
-NoHelp (Period line) front left = (room : ℕ) → NoneGoesOn fits_period room front left
-NoHelp (Nesting line) front left = (fits : ℕ → Bool) → NoneGoesOn fits 32 front left
-NoHelp Memory front left = Unit {0}
+abbrev pub NoHelp : ParseFault → List Token → Token → Type 0
+NoHelp (Unexpected line) front token = (fits : ℕ → Bool) (room : ℕ) → NoneGoesOn fits room front token
+NoHelp (Period line) front token = (room : ℕ) → NoneGoesOn fits_period room front token
+NoHelp (Nesting line) front token = (fits : ℕ → Bool) → NoneGoesOn fits 32 front token
+NoHelp Memory front token = Unit {0}
 
--- Tokens stop at a place: those before it can go on so that they say a file, but not with the next token, whatever comes
--- after it; the fault has that token's line, and is P6 only where no limits would let it go on.
+-- Tokens stop at a token: those before it can go on so that they say a file, but not with this one, whatever comes after
+-- it; the fault has its line, and is P6 only where no limits would let it go on.
 pub record StopsAt (tokens : List Token) (fault : ParseFault) : Type 0 where
   pub front : List Token
-  pub left : List Token
-  pub whole : tokens ≡ front ++ left
-  pub line : IsAt fault (line_of left)
+  pub token : Token
+  pub rest : List Token
+  pub whole : tokens ≡ front ++ token ∷ rest
+  pub line : IsAt fault token.span.line
   pub tail : List Token
   pub file : File
   pub can : Says (front ++ tail) file
-  pub cannot : NoneGoesOn fits_period 32 front left
-  pub no_help : NoHelp fault front left
+  pub cannot : NoneGoesOn fits_period 32 front token
+  pub no_help : NoHelp fault front token

@@ -19,4 +19,4 @@ pub returns-in-Err-clause-only : goal.returns-in-Err-clause-only
 returns-in-Err-clause-only c = λ file h other. says_no_fault fits_period 32 _ file c.in-Err.fault h (c.in-Err.ensures (λ e. other (ap (λ f. Err f) e)))
 
 pub returns-in-Err-clause-stops : goal.returns-in-Err-clause-stops
-returns-in-Err-clause-stops c = λ other. stops_at _ c.in-Err.fault (c.in-Err.ensures other)
+returns-in-Err-clause-stops c = λ other. stops_at _ c.in-Err.fault c.requires (c.in-Err.ensures other)

@@ -1,0 +1,234 @@
+-- Rules that have no end among their tokens; so tokens that say a file end once.
+use Rattle.std.proofs.Common.{◌≡◌, ℕ, zero, suc, inl, inr, refl, sym, ap, subst, ◌∙◌, Bool, false, Option, Some, None, List, [], ◌∷◌, ◌++◌, append_assoc}
+use Rattle.ifs_lex.specs.declared.token.Token.{Token}
+use Rattle.ifs_lex.specs.declared.token.What.{What}
+use Rattle.ifs_lex.specs.declared.token.What.TheVariants as what
+use Rattle.ifs_lex.specs.Expansion.{EndsOnce, Endless, is_end}
+use Rattle.ifs_parse.specs.declared.mark.Mark.{Mark}
+use Rattle.ifs_parse.specs.declared.mark.Mark.TheVariants as mark
+use Rattle.ifs_parse.specs.Marks.{mark_of, is}
+use Rattle.ifs_parse.specs.declared.tree.Name.{Name}
+use Rattle.ifs_parse.specs.declared.tree.Test.{Test}
+use Rattle.ifs_parse.specs.declared.tree.Wish.{Wish}
+use Rattle.ifs_parse.specs.declared.block.Statement.{Statement}
+use Rattle.ifs_parse.specs.declared.parser.Operand.{Operand}
+use Rattle.ifs_parse.specs.Trees as tree
+use Rattle.ifs_parse.specs.Files.{File}
+use Rattle.ifs_parse.specs.Rules.{Rule, Gives, OneToken, TheMark, ◌⨟◌, ◌or◌, Never, Many, Enough, More}
+use Rattle.ifs_parse.specs.Combined.{marked}
+use Rattle.ifs_parse.specs.Reading as reading
+use Rattle.ifs_parse.specs.Grammar as grammar
+use Rattle.ifs_parse.proofs.Read.{taken}
+use Rattle.ifs_parse.proofs.Whole.{end_is_last}
+
+-- No token of a rule is the end.
+abbrev pub Free : {X : Type 0} → Rule X → Type 0
+Free {X = X} rule = (p : List Token) (x : X) (ns : List ℕ) → rule p x ns → Endless p
+
+endless_both : (a b : List Token) → Endless a → Endless b → Endless (a ++ b)
+endless_both [] b h k = k
+endless_both (t ∷ a) b h k = (h.0, endless_both a b h.1 k)
+
+free_gives : {X : Type 0} (v : X) → Free (Gives v)
+free_gives v p x ns h = subst Endless (sym h.none) tt
+
+free_token : {X : Type 0} (of : Token → Option X) → ((t : Token) (x : X) → of t ≡ Some x → is_end t.what ≡ false) → Free (OneToken of)
+free_token of apart p x ns h = subst Endless (sym h.only) (apart h.token x h.stands, tt)
+
+free_then : {X Y : Type 0} (P : Rule X) (Q : X → Rule Y) → Free P → ((x : X) → Free (Q x)) → Free (P ⨟ Q)
+free_then P Q free_p free_q p y ns h = subst Endless (sym h.tokens_are) (endless_both h.front h.back (free_p h.front h.x h.before h.first) (free_q h.x h.back y h.after h.second))
+
+free_map : {X Y : Type 0} (P : Rule X) (f : X → Y) → Free P → Free (P ⨟ λ x. Gives (f x))
+free_map P f free_p = free_then P (λ x. Gives (f x)) free_p (λ x. free_gives (f x))
+
+free_or : {X : Type 0} (P Q : Rule X) → Free P → Free Q → Free (P or Q)
+free_or P Q free_p free_q p x ns (inl h) = free_p p x ns h
+free_or P Q free_p free_q p x ns (inr h) = free_q p x ns h
+
+free_never : {X : Type 0} → Free (Never {X = X})
+free_never p x ns h = absurd h
+
+free_many : {A X : Type 0} (P : Rule X) (add : A → X → A) → Free P → (a b : A) (p : List Token) (ns : List ℕ) → Many P add a p b ns → Endless p
+free_many P add free_p a b p ns Enough = tt
+free_many P add free_p a b p ns (More {x = x} {front = front} {back = back} {before = before} {after = after} h rest) =
+    endless_both front back (free_p front x before h) (free_many P add free_p (add a x) b back after rest)
+
+by_what : (w : What) → (w ≡ what.End → ⊥) → is_end w ≡ false
+by_what (what.Word t) h = refl
+by_what (what.Quoted t) h = refl
+by_what what.BraceOpen h = refl
+by_what what.BraceClose h = refl
+by_what what.ParenOpen h = refl
+by_what what.ParenClose h = refl
+by_what what.Dot h = refl
+by_what what.Equals h = refl
+by_what what.Bang h = refl
+by_what what.And h = refl
+by_what what.Or h = refl
+by_what what.End h = absurd (h refl)
+
+-- What the end stands for by no means stands for a token that is not the end.
+by_end : {X : Type 0} (of : What → Option X) → of what.End ≡ None → (w : What) (x : X) → of w ≡ Some x → is_end w ≡ false
+by_end of none w x h = by_what w (λ e. let k = sym none ∙ ap of (sym e) ∙ h in absurd (cc))
+
+free_mark : (m : Mark) → is mark.End m ≡ false → Free (TheMark m)
+free_mark m differ = free_token (marked m) (λ t span h. by_what t.what (λ e. let k = sym differ ∙ ap (λ w. is (mark_of w) m) (sym e) ∙ taken (is (mark_of t.what) m) t.span span h in absurd (cc)))
+
+free_string : Free grammar.IsString
+free_string = free_token reading.name_of (λ t x h. by_what t.what (λ e. let k = sym h ∙ ap (λ w. reading.name_of (record { what = w; span = t.span })) e in absurd (cc)))
+
+free_link_state : Free grammar.IsLinkState
+free_link_state = free_token (λ t. reading.link_state_of (mark_of t.what)) (λ t. by_end (λ w. reading.link_state_of (mark_of w)) refl t.what)
+
+free_bang : Free (TheMark mark.Bang)
+unfolding is
+free_bang = free_mark mark.Bang refl
+
+free_and : Free (TheMark mark.And)
+unfolding is
+free_and = free_mark mark.And refl
+
+free_or_mark : Free (TheMark mark.Or)
+unfolding is
+free_or_mark = free_mark mark.Or refl
+
+free_dot : Free (TheMark mark.Dot)
+unfolding is
+free_dot = free_mark mark.Dot refl
+
+free_link : Free (TheMark mark.Link)
+unfolding is
+free_link = free_mark mark.Link refl
+
+free_every : Free (TheMark mark.Every)
+unfolding is
+free_every = free_mark mark.Every refl
+
+free_paren_open : Free (TheMark mark.ParenOpen)
+unfolding is
+free_paren_open = free_mark mark.ParenOpen refl
+
+free_paren_close : Free (TheMark mark.ParenClose)
+unfolding is
+free_paren_close = free_mark mark.ParenClose refl
+
+free_brace_open : Free (TheMark mark.BraceOpen)
+unfolding is
+free_brace_open = free_mark mark.BraceOpen refl
+
+free_brace_close : Free (TheMark mark.BraceClose)
+unfolding is
+free_brace_close = free_mark mark.BraceClose refl
+
+free_if : Free (TheMark mark.If)
+unfolding is
+free_if = free_mark mark.If refl
+
+free_run : Free (TheMark mark.Run)
+unfolding is
+free_run = free_mark mark.Run refl
+
+free_set_state : Free (TheMark mark.SetState)
+unfolding is
+free_set_state = free_mark mark.SetState refl
+
+free_init : Free (TheMark mark.Init)
+unfolding is
+free_init = free_mark mark.Init refl
+
+free_init_state : Free (TheMark mark.InitState)
+unfolding is
+free_init_state = free_mark mark.InitState refl
+
+free_state : Free (TheMark mark.State)
+unfolding is
+free_state = free_mark mark.State refl
+
+module _ (fits : ℕ → Bool) where
+  free_period : Free (grammar.IsPeriod fits)
+  free_period = free_token (λ t. grammar.fitting fits (reading.number_of_what t.what)) (λ t. by_end (λ w. grammar.fitting fits (reading.number_of_what w)) refl t.what)
+
+  free_test : Free (grammar.IsTest fits)
+  free_test =
+      free_then grammar.IsString _ free_string
+      (λ name. free_or _ _
+      (free_then (TheMark mark.Dot) _ free_dot (λ _. free_then (TheMark mark.Link) _ free_link (λ _. free_then (TheMark mark.Dot) _ free_dot (λ _. free_then grammar.IsLinkState _ free_link_state (λ l. free_gives _)))))
+      (free_then (TheMark mark.Every) _ free_every (λ _. free_then (grammar.IsPeriod fits) _ free_period (λ n. free_gives _))))
+
+  module _ (one : Rule (tree.Condition Test)) (free_one : Free one) where
+    free_all : Free (grammar.IsAll one)
+    free_all =
+        free_then one _ free_one
+        (λ first. free_or _ _
+        (free_then (TheMark mark.And) _ free_and (λ _. free_then one _ free_one (λ second. free_then (Many (TheMark mark.And ⨟ λ _. one) reading.with_last []) _
+        (λ p x ns h. free_many (TheMark mark.And ⨟ λ _. one) reading.with_last (free_then (TheMark mark.And) (λ _. one) free_and (λ _. free_one)) [] x p ns h) (λ rest. free_gives _))))
+        (free_gives _))
+
+  module _ (all : Rule Operand) (free_a : Free all) where
+    free_alternatives : (first : Operand) → Free (grammar.AreAlternatives all first)
+    free_alternatives first =
+        free_then all _ free_a
+        (λ second. free_then (Many (TheMark mark.Or ⨟ λ _. all) reading.with_operand _) _
+        (λ p x ns h. free_many (TheMark mark.Or ⨟ λ _. all) reading.with_operand (free_then (TheMark mark.Or) (λ _. all) free_or_mark (λ _. free_a)) _ x p ns h) (λ more. free_gives _))
+
+    free_any : Free (grammar.IsAny all)
+    free_any =
+        free_then all _ free_a
+        (λ first. free_or _ _ (free_then (TheMark mark.Or) _ free_or_mark (λ span p x ns h. free_alternatives first p (x, h.is_noted) h.within h.said)) (free_gives _))
+
+  free_over : (p q : Rule (tree.Condition Test)) → Free p → Free q → Free (grammar.IsOneOver p q (grammar.IsTest fits))
+  free_over p q free_p free_q =
+      free_or _ _ (free_then (TheMark mark.Bang) _ free_bang (λ _. free_map p tree.NotSo free_p))
+      (free_or _ _ (free_then (TheMark mark.ParenOpen) _ free_paren_open (λ _. free_then q _ free_q (λ c. free_then (TheMark mark.ParenClose) _ free_paren_close (λ _. free_gives _))))
+      (free_map (grammar.IsTest fits) tree.Leaf free_test))
+
+  free_one : (room : ℕ) → Free (grammar.IsOne fits room)
+  free_one zero = free_over Never Never free_never free_never
+  free_one (suc room) = free_over (grammar.IsOne fits room) (grammar.IsCondition fits room) (free_one room) (free_any (grammar.IsAll (grammar.IsOne fits room)) (free_all (grammar.IsOne fits room) (free_one room)))
+
+  free_condition : (room : ℕ) → Free (grammar.IsCondition fits room)
+  free_condition room = free_any (grammar.IsAll (grammar.IsOne fits room)) (free_all (grammar.IsOne fits room) (free_one room))
+
+  free_braced : {X : Type 0} (part : Rule X) → Free part → Free (grammar.AreBraced part)
+  free_braced part free_p =
+      free_then (Many part reading.with_last []) _ (λ p x ns h. free_many part reading.with_last free_p [] x p ns h) (λ xs. free_then (TheMark mark.BraceClose) _ free_brace_close (λ _. free_gives _))
+
+  free_block : (statement : Rule (Statement Test Name Wish)) → Free statement → Free (grammar.IsBlock statement)
+  free_block statement free_s =
+      free_or _ _ (free_then (TheMark mark.BraceOpen) _ free_brace_open (λ _. free_then (grammar.AreBraced statement) _ (free_braced statement free_s) (λ xs. free_gives _)))
+      (free_then statement _ free_s (λ x. free_gives _))
+
+  free_statement_over : (conditional : Rule (Statement Test Name Wish)) → Free conditional → Free (grammar.IsStatementOver conditional)
+  free_statement_over conditional free_c =
+      free_or _ _ (free_then (TheMark mark.If) _ free_if (λ _. free_c))
+      (free_or _ _ (free_then (TheMark mark.Run) _ free_run (λ _. free_then grammar.IsString _ free_string (λ c. free_gives _)))
+      (free_then (TheMark mark.SetState) _ free_set_state (λ span. free_then grammar.IsString _ free_string (λ name. free_gives _))))
+
+  free_statement : (room : ℕ) → Free (grammar.IsStatement fits room)
+  free_statement zero = free_statement_over Never free_never
+  free_statement (suc room) =
+      free_statement_over (grammar.IsConditional (grammar.IsCondition fits room) (grammar.IsBlock (grammar.IsStatement fits room)))
+      (free_then (grammar.IsCondition fits room) _ (free_condition room) (λ c. free_then (grammar.IsBlock (grammar.IsStatement fits room)) _ (free_block (grammar.IsStatement fits room) (free_statement room)) (λ inner. free_gives _)))
+
+  module _ (S : Rule (Statement Test Name Wish)) (free_s : Free S) where
+    free_part : Free (grammar.IsPart S)
+    free_part =
+        free_or _ _ (free_then (TheMark mark.Init) _ free_init (λ span. free_then (grammar.IsBlock S) _ (free_block S free_s) (λ inner. free_gives _))) (free_then S _ free_s (λ s. free_gives _))
+
+    free_item : Free (grammar.IsItem (grammar.IsPart S))
+    free_item =
+        free_or _ _ (free_then (TheMark mark.InitState) _ free_init_state (λ span. free_then grammar.IsString _ free_string (λ name. free_gives _)))
+        (free_or _ _
+        (free_then (TheMark mark.State) _ free_state (λ _. free_then grammar.IsString _ free_string (λ name. free_then (TheMark mark.BraceOpen) _ free_brace_open
+        (λ _. free_then (grammar.AreBraced (grammar.IsPart S)) _ (free_braced (grammar.IsPart S) free_part) (λ parts. free_gives _)))))
+        (free_then (grammar.IsPart S) _ free_part (λ p. free_gives _)))
+
+  -- Where tokens whose one end stands last go on so that they say a file, they say it already.
+  pub ends_there : (room : ℕ) (tokens tail : List Token) (file : File) → EndsOnce tokens → grammar.SaysWithin fits room (tokens ++ tail) file → tail ≡ []
+  unfolding grammar.SaysWithin
+  ends_there room tokens tail file ends h =
+      let free = free_many (grammar.IsItem (grammar.IsPart (grammar.IsStatement fits room))) reading.with_last (free_item (grammar.IsStatement fits room) (free_statement room)) [] h.x h.front h.before h.first in
+      let last : tokens ++ tail ≡ h.front ++ h.second.first.token ∷ [] =
+      h.tokens_are ∙ ap (λ (l : List Token). h.front ++ l) (h.second.tokens_are ∙ rw (h.second.first.only, h.second.second.none)) in
+      end_is_last ends.front ends.last tail h.front h.second.first.token
+      (sym (append_assoc ends.front (ends.last ∷ []) tail) ∙ ap (λ (l : List Token). l ++ tail) (sym ends.whole) ∙ last) (ap is_end ends.ends) free
