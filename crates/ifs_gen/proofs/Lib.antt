@@ -17,3 +17,4 @@ pub mod Refusing
 pub mod Masks
 pub mod CostsAside
 pub mod Lifting
+pub mod Texts

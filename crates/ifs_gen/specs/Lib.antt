@@ -5,6 +5,7 @@ pub mod PlainImage
 pub mod Acceptance
 pub mod Refused
 pub mod Events
+pub mod Compiled
 pub mod inner
 pub use Rattle.ifs_base.specs.Facts
 pub use Rattle.ifs_policy.specs.Meaning

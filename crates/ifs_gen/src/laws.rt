@@ -1,11 +1,16 @@
 //! What holds of every policy and its plain code.
 
 ghost use Rattle.ifs_gen.specs.Acceptance.{BudgetsAreLeast, PlainIsAccepted};
+ghost use Rattle.ifs_gen.specs.Compiled.{TextsMeanTheirPolicy};
 ghost use Rattle.ifs_gen.specs.Events.{ActiveAreMentioned, ImageMeansPolicy};
 ghost use Rattle.ifs_gen.specs.Refused.{FitsOrIsRefused};
 ghost use Rattle.ifs_gen.specs.Runs.{TruthRuns, BlockRuns, HandlersDo};
 
 use ifs_core::laws::accepted_is_kept;
+use ifs_image::laws::one_image;
+use ifs_lex::laws::one_list;
+use ifs_parse::laws::one_tree;
+use ifs_policy::laws::{one_policy, policies_fit};
 use ifs_verify::laws::one_typing;
 
 /// Wherever the plain code of a condition stands in a routine, it leads past itself and leaves the
@@ -55,3 +60,19 @@ pub fn fits_or_is_refused()
 pub fn active_are_mentioned()
     ensures { ActiveAreMentioned }
 {}
+
+/// From text to replies, for every text and whatever is given beside it. It has at most one policy; and
+/// where the code of that policy keeps the limits, the bytes that spell its image are accepted, and so
+/// refused for nothing but memory. For every list of steps, the replies of a core that is opened on that
+/// image, the states, queues and traces are those of a run over the policy's own events, costs aside; it
+/// is busy where the queue lacks the policy's room, and its readers answer the policy's names and texts.
+pub fn means_the_policy()
+    ensures { TextsMeanTheirPolicy }
+{
+    one_list();
+    one_tree();
+    one_policy();
+    policies_fit();
+    one_image();
+    accepted_is_kept();
+}

@@ -1,0 +1,60 @@
+-- From a text to replies: the policy that a text has, and what the bytes of its image mean.
+use Rattle.std.specs.Prelude.{ℕ, ◌≡◌, List, map}
+use Rattle.ifs_lex.specs.declared.token.Token.{Token}
+use Rattle.ifs_lex.specs.Expansion as lex
+use Rattle.ifs_parse.specs.Files.{File}
+use Rattle.ifs_parse.specs.Grammar.{Says}
+use Rattle.ifs_policy.specs.Placed.{Resolves}
+use Rattle.ifs_image.specs.declared.parts.ImageParts.{ImageParts}
+use Rattle.ifs_image.specs.Limits.{names_of}
+use Rattle.ifs_image.specs.Spelling as image
+use Rattle.ifs_core.specs.Event.{Behaviour}
+use Rattle.ifs_core.specs.Machine.{IsBehaviour}
+use Rattle.ifs_core.specs.Headline.{IsVerified}
+use Rattle.ifs_core.specs.declared.step.Step.{Step}
+use Rattle.ifs_gen.specs.Trees.{Policy}
+use Rattle.ifs_gen.specs.PlainImage.{room_of, plain_image, CodeFits}
+use Rattle.ifs_gen.specs.Events.{RunsAsPolicy}
+
+-- A text has a policy under the definitions that are given beside it: it spells tokens, which say a file, whose names resolve to the policy.
+pub record HasPolicy (text : List ℕ) (defs : List (List ℕ × List ℕ)) (policy : Policy) : Type 0 where
+  pub tokens : List Token
+  pub file : File
+  pub spelled : lex.Spells text defs tokens
+  pub said : Says tokens file
+  pub resolved : Resolves file.items policy
+
+-- It has none.
+abbrev pub HasNoPolicy : List ℕ → List (List ℕ × List ℕ) → Type 0
+HasNoPolicy text defs = (policy : Policy) → ¬ HasPolicy text defs policy
+
+-- The names and texts of an image are a policy's, each at its own number.
+pub record HasNamesOf (policy : Policy) (image : ImageParts) : Type 0 where
+  pub interfaces : image.interfaces ≡ policy.tables.interfaces
+  pub tests : map (λ test. test.text) image.tests ≡ map (λ test. test.command) policy.tables.tests
+  pub periods : map (λ test. test.period) image.tests ≡ map (λ test. test.period) policy.tables.tests
+  pub commands : image.commands ≡ policy.tables.commands
+  pub states : names_of image.states ≡ policy.tables.states
+  pub initial : image.initial ≡ policy.initial
+
+-- What the bytes of a policy's image mean.
+pub record MeansPolicy (bytes : List ℕ) (policy : Policy) : Type 0 where
+  -- the verifier accepts them, as the policy's image and no other
+  pub verified : IsVerified bytes (plain_image policy)
+  pub only : (other : ImageParts) → image.Spells bytes other → other ≡ plain_image policy
+  -- its readers answer the policy's names and texts
+  pub names : HasNamesOf policy (plain_image policy)
+  -- a core that is opened on it is busy where its queue lacks the policy's room
+  pub room : (plain_image policy).budgets.commands ≡ room_of policy
+  -- its handlers have a behaviour on the machine, and for every list of steps the replies, the states, queues and traces are those of a run over the policy's own events, costs aside
+  pub behaviour : (b : Behaviour) × IsBehaviour (plain_image policy) b
+  pub runs : (b : Behaviour) → IsBehaviour (plain_image policy) b → (steps : List Step) → RunsAsPolicy policy b steps
+
+-- A text has at most one policy; and where its code keeps the limits, bytes that spell its image mean that policy.
+pub record MeansThePolicy (text : List ℕ) (defs : List (List ℕ × List ℕ)) (policy : Policy) : Type 0 where
+  pub one : (other : Policy) → HasPolicy text defs other → other ≡ policy
+  pub means : CodeFits policy → (bytes : List ℕ) → image.Spells bytes (plain_image policy) → MeansPolicy bytes policy
+
+-- It holds of every text and of what is given beside it.
+abbrev pub TextsMeanTheirPolicy : Type 0
+TextsMeanTheirPolicy = (text : List ℕ) (defs : List (List ℕ × List ℕ)) (policy : Policy) → HasPolicy text defs policy → MeansThePolicy text defs policy
