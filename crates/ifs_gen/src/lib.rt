@@ -7,6 +7,7 @@
 //! policy says.
 #![tactic(auto)]
 
+mod compile_fault;
 mod emission;
 mod fault;
 pub mod laws;
@@ -14,6 +15,7 @@ mod measure;
 mod mention;
 mod routines;
 
+pub use compile_fault::CompileFault;
 pub use fault::GenFault;
 
 #[cfg(test)]
