@@ -17,3 +17,5 @@ pub mod Refusing
 pub mod Masks
 pub mod CostsAside
 pub mod Lifting
+pub mod Totals
+pub mod Copying

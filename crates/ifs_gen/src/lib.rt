@@ -7,14 +7,17 @@
 //! policy says.
 #![tactic(auto)]
 
+mod amounts;
 mod emission;
 mod fault;
+mod generating;
 pub mod laws;
 mod measure;
 mod mention;
 mod routines;
 
 pub use fault::GenFault;
+pub use generating::generate;
 
 #[cfg(test)]
 mod tests;
