@@ -7,9 +7,11 @@
 //! policy says.
 #![tactic(auto)]
 
+mod amounts;
 mod compile_fault;
 mod emission;
 mod fault;
+mod generating;
 pub mod laws;
 mod measure;
 mod mention;
@@ -17,6 +19,7 @@ mod routines;
 
 pub use compile_fault::CompileFault;
 pub use fault::GenFault;
+pub use generating::generate;
 
 #[cfg(test)]
 mod tests;

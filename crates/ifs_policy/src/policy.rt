@@ -99,6 +99,13 @@ impl Policy {
         }
     }
 
+    /// Lends the tables.
+    pub fn tables(&self) -> &Tables
+        ensures { result.now ≡ self.now.tables }
+    {
+        &self.parts.tables
+    }
+
     /// The name of an interface.
     pub fn interface(&self, interface: IfaceId) -> Option<&Text>
         ensures { option_copied result ≡ slice_get self.now.tables.interfaces interface.0 }
@@ -146,5 +153,13 @@ impl Policy {
         ensures { option_copied result ≡ slice_get self.now.states state.0 }
     {
         self.parts.states.as_slice().get(usize::from(state.0))
+    }
+
+    /// What the states do, in the order of their table.
+    pub fn states(&self) -> &[Handlers]
+        ensures value { result.now ≡ self.now.states }
+        ensures count { length result.now ≡ length self.now.tables.states }
+    {
+        self.parts.states.as_slice()
     }
 }

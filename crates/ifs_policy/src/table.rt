@@ -1,6 +1,6 @@
 //! A table of distinct entries, found by hash.
 
-ghost use Rattle.std.specs.Prelude.{◌≡◌, ◌≤◌, [], length, slice_get, option_copied, IfSome, IfOk, OnOk, OnErr};
+ghost use Rattle.std.specs.Prelude.{◌≡◌, ◌≤◌, ◌<◌, ◌↔◌, [], length, slice_get, option_copied, IsSome, IfSome, IfOk, OnOk, OnErr};
 ghost use Rattle.std.specs.List.{list_any, position_or_len};
 ghost use Rattle.indexmap.specs.IndexSet.{insert_key};
 
@@ -42,7 +42,8 @@ impl<T: Eq + Hash + Drop> Table<T> {
 
     /// The entry at an index.
     pub fn get(&self, index: usize) -> Option<&T>
-        ensures { option_copied result ≡ slice_get self.now index }
+        ensures value { option_copied result ≡ slice_get self.now index }
+        ensures known { IsSome result ↔ (index < length self.now) }
     {
         self.entries.get_index(index)
     }
