@@ -9,6 +9,7 @@
 
 mod amounts;
 mod compile_fault;
+mod compiling;
 mod emission;
 mod fault;
 mod generating;
@@ -18,6 +19,7 @@ mod mention;
 mod routines;
 
 pub use compile_fault::CompileFault;
+pub use compiling::compile;
 pub use fault::GenFault;
 pub use generating::generate;
 
