@@ -18,3 +18,5 @@ pub mod Masks
 pub mod CostsAside
 pub mod Lifting
 pub mod Texts
+pub mod Totals
+pub mod Copying

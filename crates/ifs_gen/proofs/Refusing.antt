@@ -16,7 +16,7 @@ record Over (limit : ℕ) (numbers : List ℕ) : Type 0 where
   index : ℕ
   first : IsFirstOver limit numbers index
 
-one_later : (limit x : ℕ) (numbers : List ℕ) (index : ℕ) → x ≤ limit → IsFirstOver limit numbers index → IsFirstOver limit (x ∷ numbers) (suc index)
+pub one_later : (limit x : ℕ) (numbers : List ℕ) (index : ℕ) → x ≤ limit → IsFirstOver limit numbers index → IsFirstOver limit (x ∷ numbers) (suc index)
 one_later limit x numbers index low first = record { number = first.number; at = first.at; over = first.over; before = earlier }
   where
     earlier : (i n : ℕ) → i < suc index → slice_get (x ∷ numbers) i ≡ Some n → n ≤ limit
@@ -34,7 +34,7 @@ first_over limit (x ∷ numbers) =
     (first_over limit numbers))
     (cases_lt limit x)
 
-each_fits : (count : ℕ) (parts : List Part) → AreWithin 1024 (lengths_of count parts) → All (RoutinesFit count) parts
+pub each_fits : (count : ℕ) (parts : List Part) → AreWithin 1024 (lengths_of count parts) → All (RoutinesFit count) parts
 each_fits count [] h = All-nil (RoutinesFit count)
 each_fits count (x ∷ parts) h =
     let rest = All-tail (λ n. n ≤ 1024) (init_length x) (body_length count x ∷ lengths_of count parts) h in
@@ -43,7 +43,7 @@ each_fits count (x ∷ parts) h =
       body = All-head (λ n. n ≤ 1024) (body_length count x) (lengths_of count parts) rest;
     }) (each_fits count parts (All-tail (λ n. n ≤ 1024) (body_length count x) (lengths_of count parts) rest))
 
-heights_fit : (parts : List Part) → AreWithin 32 (heights_of parts) → All (λ part. part_height part ≤ 32) parts
+pub heights_fit : (parts : List Part) → AreWithin 32 (heights_of parts) → All (λ part. part_height part ≤ 32) parts
 heights_fit [] h = All-nil (λ part. part_height part ≤ 32)
 heights_fit (x ∷ parts) h =
     let init = block_height plain_coder x.init in
@@ -53,7 +53,7 @@ heights_fit (x ∷ parts) h =
     let second = All-head (λ n. n ≤ 32) body (heights_of parts) rest in
     All-cons (λ part. part_height part ≤ 32) x parts (omega (arith, first, second)) (heights_fit parts (All-tail (λ n. n ≤ 32) body (heights_of parts) rest))
 
-sums_agree : (count : ℕ) (parts : List Part) → sum (lengths_of count parts) ≡ sum_by (λ part. init_length part + body_length count part) parts
+pub sums_agree : (count : ℕ) (parts : List Part) → sum (lengths_of count parts) ≡ sum_by (λ part. init_length part + body_length count part) parts
 sums_agree count [] = refl
 sums_agree count (x ∷ parts) =
     let a = sum_by-cons (λ (n : ℕ). n) (init_length x) (body_length count x ∷ lengths_of count parts) in

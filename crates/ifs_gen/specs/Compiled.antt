@@ -1,10 +1,18 @@
 -- From a text to replies: the policy that a text has, and what the bytes of its image mean.
-use Rattle.std.specs.Prelude.{ℕ, ◌≡◌, List, map}
+use Rattle.std.specs.Prelude.{ℕ, ◌≡◌, ◌≢◌, List, map, Err}
 use Rattle.ifs_lex.specs.declared.token.Token.{Token}
 use Rattle.ifs_lex.specs.Expansion as lex
+use Rattle.ifs_lex.specs.declared.fault.LexFault.{LexFault}
+use Rattle.ifs_lex.specs.declared.fault.LexFault.TheVariants as lexing
 use Rattle.ifs_parse.specs.Files.{File}
 use Rattle.ifs_parse.specs.Grammar.{Says}
+use Rattle.ifs_parse.specs.Reading.{fits_period, read_within}
+use Rattle.ifs_parse.specs.declared.fault.ParseFault.{ParseFault}
+use Rattle.ifs_parse.specs.declared.fault.ParseFault.TheVariants as parsing
 use Rattle.ifs_policy.specs.Placed.{Resolves}
+use Rattle.ifs_policy.specs.Faults as names
+use Rattle.ifs_policy.specs.declared.fault.ResolveFault.{ResolveFault}
+use Rattle.ifs_policy.specs.declared.fault.ResolveFault.TheVariants as resolving
 use Rattle.ifs_image.specs.declared.parts.ImageParts.{ImageParts}
 use Rattle.ifs_image.specs.Limits.{names_of}
 use Rattle.ifs_image.specs.Spelling as image
@@ -12,7 +20,12 @@ use Rattle.ifs_core.specs.Event.{Behaviour}
 use Rattle.ifs_core.specs.Machine.{IsBehaviour}
 use Rattle.ifs_core.specs.Headline.{IsVerified}
 use Rattle.ifs_core.specs.declared.step.Step.{Step}
+use Rattle.ifs_gen.specs.declared.fault.GenFault.{GenFault}
+use Rattle.ifs_gen.specs.declared.fault.GenFault.TheVariants as generating
+use Rattle.ifs_gen.specs.declared.compile_fault.CompileFault.{CompileFault}
+use Rattle.ifs_gen.specs.declared.compile_fault.CompileFault.TheVariants.{Text, Tokens, Names, Code, Memory}
 use Rattle.ifs_gen.specs.Trees.{Policy}
+use Rattle.ifs_gen.specs.Refused.{IsRefused}
 use Rattle.ifs_gen.specs.PlainImage.{room_of, plain_image, CodeFits}
 use Rattle.ifs_gen.specs.Events.{RunsAsPolicy}
 
@@ -58,3 +71,46 @@ pub record MeansThePolicy (text : List ℕ) (defs : List (List ℕ × List ℕ))
 -- It holds of every text and of what is given beside it.
 abbrev pub TextsMeanTheirPolicy : Type 0
 TextsMeanTheirPolicy = (text : List ℕ) (defs : List (List ℕ × List ℕ)) (policy : Policy) → HasPolicy text defs policy → MeansThePolicy text defs policy
+
+-- Bytes are what a text compiles to: it has a policy, and no other, whose code keeps the limits; they spell its image, and mean it.
+pub record IsCompiled (text : List ℕ) (defs : List (List ℕ × List ℕ)) (bytes : List ℕ) : Type 0 where
+  pub policy : Policy
+  pub of_text : HasPolicy text defs policy
+  pub one : (other : Policy) → HasPolicy text defs other → other ≡ policy
+  pub code : CodeFits policy
+  pub spelled : image.Spells bytes (plain_image policy)
+  pub means : MeansPolicy bytes policy
+
+-- Bytes are those of a policy whose code keeps the limits: they spell its image.
+pub record IsWritten (policy : Policy) (bytes : List ℕ) : Type 0 where
+  pub code : CodeFits policy
+  pub spelled : image.Spells bytes (plain_image policy)
+
+-- The refusals for faults of each step: want of memory stays want of memory.
+abbrev pub of_text : LexFault → CompileFault
+of_text lexing.Memory = Memory
+of_text fault = Text fault
+
+abbrev pub of_tokens : ParseFault → CompileFault
+of_tokens parsing.Memory = Memory
+of_tokens fault = Tokens fault
+
+abbrev pub of_names : ResolveFault → CompileFault
+of_names resolving.Memory = Memory
+of_names fault = Names fault
+
+abbrev pub of_code : GenFault → CompileFault
+of_code generating.Memory = Memory
+of_code fault = Code fault
+
+-- What a refusal says of a text: it has no policy, since it has that fault first; or the code of its policy passes that limit first. Want of memory says nothing of it.
+abbrev pub IsRefusal : List ℕ → List (List ℕ × List ℕ) → CompileFault → Type 0
+IsRefusal text defs (Text fault) = HasNoPolicy text defs × (lex.tokens_of text defs ≡ Err fault)
+IsRefusal text defs (Tokens fault) = HasNoPolicy text defs × ((tokens : List Token) × lex.Spells text defs tokens × (read_within fits_period 32 tokens ≡ Err fault))
+IsRefusal text defs (Names fault) = HasNoPolicy text defs × ((tokens : List Token) × (file : File) × lex.Spells text defs tokens × Says tokens file × names.IsRefused file.items fault)
+IsRefusal text defs (Code fault) = (policy : Policy) × HasPolicy text defs policy × IsRefused policy fault
+IsRefusal text defs Memory = Unit {0}
+
+-- A refusal of a policy: for a limit that its code passes first, or want of memory.
+abbrev pub IsCodeRefusal : Policy → CompileFault → Type 0
+IsCodeRefusal policy fault = (limit : GenFault) × (fault ≡ of_code limit) × (limit ≢ generating.Memory → IsRefused policy limit)

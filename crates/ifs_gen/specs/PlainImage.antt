@@ -8,7 +8,8 @@ use Rattle.ifs_image.specs.declared.parts.Handlers.{Handlers}
 use Rattle.ifs_image.specs.declared.parts.StateSpec.{StateSpec}
 use Rattle.ifs_image.specs.declared.parts.Routine.{Routine}
 use Rattle.ifs_image.specs.declared.parts.ImageParts.{ImageParts}
-use Rattle.ifs_gen.specs.Trees.{Part, Policy}
+use Rattle.ifs_image.specs.declared.parts.TestSpec.{TestSpec}
+use Rattle.ifs_gen.specs.Trees.{Part, External, Policy}
 use Rattle.ifs_gen.specs.PlainCode.{plain_coder, holding, body_code, init_code, body_size, init_size, block_height, block_runs}
 use Rattle.ifs_policy.specs.Fits.{PolicyFits}
 
@@ -47,6 +48,10 @@ abbrev pub routines_of : ℕ → List Part → List Routine
 routines_of count [] = []
 routines_of count (part ∷ parts) = routine_of_code (init_code plain_coder part.init) ∷ routine_of_code (body_code plain_coder count part.body) ∷ routines_of count parts
 
+-- A test as an image has it.
+abbrev pub test_spec : External → TestSpec
+test_spec test = record { period = test.period; text = test.command }
+
 -- The image of a policy in plain code, with these budgets.
 abbrev pub image_with : Budgets → Policy → ImageParts
 image_with budgets policy = record {
@@ -54,7 +59,7 @@ image_with budgets policy = record {
   initial = policy.initial;
   always = handlers_of (tests_in policy) 0 policy.always;
   interfaces = policy.tables.interfaces;
-  tests = map (λ test. record { period = test.period; text = test.command }) policy.tables.tests;
+  tests = map test_spec policy.tables.tests;
   commands = policy.tables.commands;
   states = states_from (tests_in policy) 1 policy.tables.states policy.states;
   routines = routines_of (tests_in policy) (parts_of policy);

@@ -34,13 +34,17 @@ pub record IsFirstOver (limit : ℕ) (numbers : List ℕ) (index : ℕ) : Type 0
   pub over : limit < number
   pub before : (i n : ℕ) → i < index → slice_get numbers i ≡ Some n → n ≤ limit
 
--- The plain code of a policy passes this limit, and none that is looked for before it. Want of memory says nothing of a policy.
+-- Of routines of these lengths and heights, and of a room, this limit is passed, and none that is looked for before it. Want of memory says nothing of them.
+abbrev pub IsPassed : List ℕ → List ℕ → ℕ → GenFault → Type 0
+IsPassed lengths heights room (RoutineTooLong routine) = IsFirstOver 1024 lengths routine.0
+IsPassed lengths heights room CodeTooLong = AreWithin 1024 lengths × (8192 < sum lengths)
+IsPassed lengths heights room (StackTooHigh routine) = AreWithin 1024 lengths × (sum lengths ≤ 8192) × IsFirstOver 32 heights routine.0
+IsPassed lengths heights room TooManyCommands = AreWithin 1024 lengths × (sum lengths ≤ 8192) × AreWithin 32 heights × (64 < room)
+IsPassed lengths heights room Memory = ⊥
+
+-- The plain code of a policy passes this limit first.
 abbrev pub IsRefused : Policy → GenFault → Type 0
-IsRefused policy (RoutineTooLong routine) = IsFirstOver 1024 (lengths policy) routine.0
-IsRefused policy CodeTooLong = AreWithin 1024 (lengths policy) × (8192 < sum (lengths policy))
-IsRefused policy (StackTooHigh routine) = AreWithin 1024 (lengths policy) × (sum (lengths policy) ≤ 8192) × IsFirstOver 32 (heights policy) routine.0
-IsRefused policy TooManyCommands = AreWithin 1024 (lengths policy) × (sum (lengths policy) ≤ 8192) × AreWithin 32 (heights policy) × (64 < room_of policy)
-IsRefused policy Memory = ⊥
+IsRefused policy fault = IsPassed (lengths policy) (heights policy) (room_of policy) fault
 
 -- The code of each policy keeps the limits, or it passes one first.
 abbrev pub FitsOrIsRefused : Type 0

@@ -2,3 +2,4 @@
 pub mod Emission
 pub mod Measures
 pub mod Marks
+pub mod Amounts

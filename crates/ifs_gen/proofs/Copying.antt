@@ -1,0 +1,127 @@
+-- Tables copied entry by entry, and states with their routines.
+use Rattle.std.proofs.Common.{◌≡◌, ℕ, zero, suc, ◌+◌, ◌^◌, ◌<◌, ◌≤◌, Bool, true, false, List, [], ◌∷◌, ◌++◌, length, map, Some, Result, Ok, Err, IfOk, OnOk, IfErr, refl, sym, ap, ◌∙◌, subst, arith, take, drop, get_or, append_assoc}
+use Rattle.std.specs.Prelude.{slice_get, All, ◌==◌, ◌≢◌, if◌then◌else◌}
+use Rattle.std.specs.List.{list_any}
+use Rattle.std.proofs.lemmas.List.{map-append}
+use Rattle.std.proofs.lemmas.List.Elements.{All-append, All-cons, All-nil, All-head, All-tail, All-weaker}
+use Rattle.std.proofs.lemmas.Option.{none-some, same_Some}
+use Rattle.std.proofs.Math.Nat.{pow-le-pow_right}
+use Rattle.ifs_base.specs.declared.ids.TestId.{TestId}
+use Rattle.ifs_base.specs.Sizes.{PeriodFits}
+use Rattle.ifs_image.specs.declared.parts.Budgets.{Budgets}
+use Rattle.ifs_image.specs.declared.parts.Routine.{Routine}
+use Rattle.ifs_image.specs.declared.parts.StateSpec.{StateSpec}
+use Rattle.ifs_image.specs.declared.parts.TestSpec.{TestSpec}
+use Rattle.ifs_gen.specs.declared.amounts.PartMeasure.{PartMeasure}
+use Rattle.ifs_gen.specs.declared.amounts.Amount.TheVariants.{Size, Height, Runs}
+use Rattle.ifs_gen.specs.declared.fault.GenFault.{GenFault}
+use Rattle.ifs_gen.specs.declared.fault.GenFault.TheVariants.{Memory}
+use Rattle.ifs_gen.specs.Trees.{Part, External, Policy}
+use Rattle.ifs_gen.specs.PlainCode.{plain_coder, init_code, body_code, tests_below}
+use Rattle.ifs_gen.specs.PlainImage.{tests_in, parts_of, test_spec, routine_of_code, RoutinesFit, mask_of, handlers_of, states_from, routines_of, least_budgets, CodeFits}
+use Rattle.ifs_gen.specs.Refused.{IsPassed, IsRefused}
+use Rattle.ifs_gen.specs.inner.Amounts.{numbers_of, measured, event_in, budgets_in, AreFine}
+use Rattle.ifs_gen.proofs.Images.{mask_below}
+use Rattle.ifs_gen.proofs.Totals.{code_fits, least, passed}
+
+-- one entry more
+pub take_next : {T : Type 0} (xs : List T) (i : ℕ) (x : T) → slice_get xs i ≡ Some x → take (i + 1) xs ≡ take i xs ++ x ∷ []
+take_next [] i x e = absurd (none-some x e)
+take_next (y ∷ xs) zero x e = ap (λ z. z ∷ []) (same_Some y x e)
+take_next (y ∷ xs) (suc i) x e = let one : suc i + 1 ≡ suc (i + 1) = omega arith in ap (λ n. take n (y ∷ xs)) one ∙ ap (λ l. y ∷ l) (take_next xs i x e)
+
+pub drop_next : {T : Type 0} (xs : List T) (i : ℕ) (x : T) → slice_get xs i ≡ Some x → drop i xs ≡ x ∷ drop (i + 1) xs
+drop_next [] i x e = absurd (none-some x e)
+drop_next (y ∷ xs) zero x e = ap (λ z. z ∷ xs) (same_Some y x e)
+drop_next (y ∷ xs) (suc i) x e = let one : suc i + 1 ≡ suc (i + 1) = omega arith in drop_next xs i x e ∙ ap (λ n. x ∷ drop n (y ∷ xs)) (sym one)
+
+pub copied : {T : Type 0} (xs now next : List T) (i : ℕ) (x : T) → now ≡ take i xs → slice_get xs i ≡ Some x → next ≡ now ++ x ∷ [] → next ≡ take (i + 1) xs
+copied xs now next i x is at more = more ∙ ap (λ l. l ++ x ∷ []) is ∙ sym (take_next xs i x at)
+
+pub spec_copied : (xs : List External) (now next : List TestSpec) (i : ℕ) (x : External) → now ≡ map test_spec (take i xs) → slice_get xs i ≡ Some x → next ≡ now ++ test_spec x ∷ []
+    → next ≡ map test_spec (take (i + 1) xs)
+spec_copied xs now next i x is at more =
+    more ∙ ap (λ l. l ++ test_spec x ∷ []) is ∙ sym (map-append test_spec (take i xs) (x ∷ [])) ∙ ap (map test_spec) (sym (take_next xs i x at))
+
+pub period_copied : (xs : List External) (i : ℕ) (x : External) → slice_get xs i ≡ Some x → PeriodFits x.period → All (λ test. PeriodFits test.period) (take i xs)
+    → All (λ test. PeriodFits test.period) (take (i + 1) xs)
+period_copied xs i x at fits all =
+    subst (All (λ (test : External). PeriodFits test.period)) (sym (take_next xs i x at))
+    (All-append (λ (test : External). PeriodFits test.period) (take i xs) (x ∷ []) all (All-cons (λ (test : External). PeriodFits test.period) x [] fits (All-nil (λ (test : External). PeriodFits test.period))))
+
+-- tests below a number are below it
+chosen_low : (b : Bool) (n : ℕ) → All (λ (test : TestId). test.0 < suc n) (if b then record { 0 = n } ∷ [] else [])
+chosen_low true n = All-cons (λ (test : TestId). test.0 < suc n) (record { 0 = n }) [] (omega arith) (All-nil (λ (test : TestId). test.0 < suc n))
+chosen_low false n = All-nil (λ (test : TestId). test.0 < suc n)
+
+pub below_low : (count : ℕ) (xs : List TestId) → All (λ (test : TestId). test.0 < count) (tests_below count xs)
+below_low zero xs = All-nil (λ (test : TestId). test.0 < zero)
+below_low (suc n) xs =
+    let b = list_any (λ (test : TestId). test.0 == n) xs in
+    All-append (λ (test : TestId). test.0 < suc n) (tests_below n xs) (if b then record { 0 = n } ∷ [] else [])
+    (All-weaker (λ (test : TestId). test.0 < n) (λ (test : TestId). test.0 < suc n) (λ test h. omega (arith, h)) (tests_below n xs) (below_low n xs)) (chosen_low b n)
+
+pub below_64 : (count : ℕ) (xs tests : List TestId) → count ≤ 64 → tests ≡ tests_below count xs → All (λ (test : TestId). test.0 < 64) tests
+below_64 count xs tests few is =
+    subst (All (λ (test : TestId). test.0 < 64)) (sym is)
+    (All-weaker (λ (test : TestId). test.0 < count) (λ (test : TestId). test.0 < 64) (λ test h. omega (arith, h, few)) (tests_below count xs) (below_low count xs))
+
+-- one state more
+pub state_next : (count : ℕ) (names : List (List ℕ)) (parts : List Part) (now next : List StateSpec) (all : List StateSpec) (i : ℕ) (name : List ℕ) (part : Part)
+    → now ++ states_from count (i + 1) (drop i names) (drop i parts) ≡ all → slice_get names i ≡ Some name → slice_get parts i ≡ Some part
+    → next ≡ now ++ (record { name = name; handlers = handlers_of count (i + 1) part }) ∷ []
+    → next ++ states_from count (i + 1 + 1) (drop (i + 1) names) (drop (i + 1) parts) ≡ all
+state_next count names parts now next all i name part before named at more =
+    let spec : StateSpec = record { name = name; handlers = handlers_of count (i + 1) part } in
+    let rest = states_from count (i + 1 + 1) (drop (i + 1) names) (drop (i + 1) parts) in
+    ap (λ l. l ++ rest) more ∙ append_assoc now (spec ∷ []) rest
+    ∙ ap (λ l. now ++ states_from count (i + 1) l (part ∷ drop (i + 1) parts)) (sym (drop_next names i name named))
+    ∙ ap (λ l. now ++ states_from count (i + 1) (drop i names) l) (sym (drop_next parts i part at)) ∙ before
+
+routines_last : (count : ℕ) (xs : List Part) (x : Part) → routines_of count (xs ++ x ∷ []) ≡ routines_of count xs ++ routines_of count (x ∷ [])
+routines_last count [] x = refl
+routines_last count (y ∷ xs) x = ap (λ l. routine_of_code (init_code plain_coder y.init) ∷ routine_of_code (body_code plain_coder count y.body) ∷ l) (routines_last count xs x)
+
+pub routines_next : (count : ℕ) (parts : List Part) (start now next : List Routine) (i : ℕ) (part : Part) → now ≡ start ++ routines_of count (take i parts) → slice_get parts i ≡ Some part
+    → next ≡ now ++ routines_of count (part ∷ []) → next ≡ start ++ routines_of count (take (i + 1) parts)
+routines_next count parts start now next i part is at more =
+    more ∙ ap (λ l. l ++ routines_of count (part ∷ [])) is ∙ append_assoc start (routines_of count (take i parts)) (routines_of count (part ∷ []))
+    ∙ ap (λ l. start ++ l) (sym (routines_last count (take i parts) part)) ∙ ap (λ l. start ++ routines_of count l) (sym (take_next parts i part at))
+
+-- What measures tell is told of the policy.
+pub record Told (policy : Policy) (r : Result Budgets GenFault) : Type 0 where
+  pub budgets : IfOk r (λ budgets. budgets ≡ least_budgets policy)
+  pub fits : OnOk r (CodeFits policy)
+  pub refused : IfErr r (λ fault. fault ≢ Memory → IsRefused policy fault)
+
+at_policy : (policy : Policy) (r : Result Budgets GenFault) → (let ms = map (measured (tests_in policy)) (parts_of policy) in
+    OnOk r (AreFine ms policy.initial.0) → IfOk r (λ budgets. budgets ≡ budgets_in ms policy.initial.0)
+    → IfErr r (λ fault. IsPassed (numbers_of Size ms) (numbers_of Height ms) (event_in Runs ms policy.initial.0) fault) → Told policy r)
+at_policy policy (Ok b) fine is over = record { budgets = is ∙ least policy fine; fits = code_fits policy fine; refused = tt }
+at_policy policy (Err f) fine is over = record { budgets = tt; fits = tt; refused = λ other. passed policy f over }
+
+pub told : (policy : Policy) (r : Result Budgets GenFault) (ms : List PartMeasure) (initial : ℕ) → ms ≡ map (measured (tests_in policy)) (parts_of policy) → initial ≡ policy.initial.0
+    → OnOk r (AreFine ms initial) → IfOk r (λ budgets. budgets ≡ budgets_in ms initial)
+    → IfErr r (λ fault. IsPassed (numbers_of Size ms) (numbers_of Height ms) (event_in Runs ms initial) fault) → Told policy r
+told policy r ms initial ms_is initial_is fine is over =
+    at_policy policy r
+    (subst (λ n. OnOk r (AreFine (map (measured (tests_in policy)) (parts_of policy)) n)) initial_is (subst (λ l. OnOk r (AreFine l initial)) ms_is fine))
+    (subst (λ n. IfOk r (λ budgets. budgets ≡ budgets_in (map (measured (tests_in policy)) (parts_of policy)) n)) initial_is (subst (λ l. IfOk r (λ budgets. budgets ≡ budgets_in l initial)) ms_is is))
+    (subst (λ n. IfErr r (λ fault. IsPassed (numbers_of Size (map (measured (tests_in policy)) (parts_of policy))) (numbers_of Height (map (measured (tests_in policy)) (parts_of policy))) (event_in Runs (map (measured (tests_in policy)) (parts_of policy)) n) fault)) initial_is
+    (subst (λ l. IfErr r (λ fault. IsPassed (numbers_of Size l) (numbers_of Height l) (event_in Runs l initial) fault)) ms_is over))
+
+pub set_64 : (count : ℕ) (xs tests : List TestId) → count ≤ 64 → tests ≡ tests_below count xs → mask_of tests < 2 ^ 64
+set_64 count xs tests few is =
+    let low = mask_below count xs in
+    let wide = pow-le-pow_right {n = 2} (omega arith) few in
+    let e = ap mask_of is in
+    omega (arith, low, wide, e)
+
+pub at_index : {T : Type 0} (xs : List T) (i : ℕ) (d x : T) → i < length xs → x ≡ get_or xs i d → slice_get xs i ≡ Some x
+at_index [] i d x lt e = absurd (omega (arith, lt))
+at_index (y ∷ xs) zero d x lt e = ap (λ z. Some z) (sym e)
+at_index (y ∷ xs) (suc i) d x lt e = at_index xs i d x (omega (arith, lt)) e
+
+pub states_fit : (policy : Policy) (count : ℕ) (states : List Part) → All (RoutinesFit (tests_in policy)) (parts_of policy) → count ≡ tests_in policy → states ≡ policy.states → All (RoutinesFit count) states
+states_fit policy count states fits is same =
+    subst (λ n. All (RoutinesFit n) states) (sym is) (subst (All (RoutinesFit (tests_in policy))) (sym same) (All-tail (RoutinesFit (tests_in policy)) policy.always policy.states fits))

@@ -1,0 +1,64 @@
+-- What the routines of a policy come to, measured part by part.
+use Rattle.std.specs.Prelude.{ℕ, ◌+◌, ◌≤◌, max, List, [], ◌∷◌, sum, slice_get}
+use Rattle.ifs_image.specs.declared.parts.Budgets.{Budgets}
+use Rattle.ifs_gen.specs.declared.measure.BlockMeasure.{BlockMeasure}
+use Rattle.ifs_gen.specs.declared.amounts.PartMeasure.{PartMeasure}
+use Rattle.ifs_gen.specs.declared.amounts.Amount.{Amount}
+use Rattle.ifs_gen.specs.declared.amounts.Amount.TheVariants.{Size, Height, Runs}
+use Rattle.ifs_gen.specs.Trees.{Part}
+use Rattle.ifs_gen.specs.PlainCode.{plain_coder, block_height, block_runs}
+use Rattle.ifs_gen.specs.PlainImage.{greatest, number_in, init_length, body_length}
+use Rattle.ifs_gen.specs.Refused.{AreWithin}
+use Rattle.ifs_gen.specs.inner.Measures.{capped}
+
+-- One number of a routine's measure.
+abbrev pub number_of : Amount → BlockMeasure → ℕ
+number_of Size m = m.size
+number_of Height m = m.height
+number_of Runs m = m.runs
+
+-- What the routines of a part come to, in a policy of so many tests.
+abbrev pub measured : ℕ → Part → PartMeasure
+measured count part = record {
+  init = record { size = capped (init_length part); height = capped (block_height plain_coder part.init); runs = capped (block_runs part.init) };
+  body = record { size = capped (body_length count part); height = capped (block_height plain_coder part.body); runs = capped (block_runs part.body) };
+}
+
+-- One number of all routines: of each part its init's, then its body's.
+abbrev pub numbers_of : Amount → List PartMeasure → List ℕ
+numbers_of amount [] = []
+numbers_of amount (m ∷ ms) = number_of amount m.init ∷ number_of amount m.body ∷ numbers_of amount ms
+
+-- The greatest number of inits, and of bodies.
+abbrev pub most_of_inits : Amount → List PartMeasure → ℕ
+most_of_inits amount ms = greatest (λ (m : PartMeasure). number_of amount m.init) ms
+
+abbrev pub most_of_bodies : Amount → List PartMeasure → ℕ
+most_of_bodies amount ms = greatest (λ (m : PartMeasure). number_of amount m.body) ms
+
+-- What one event may come to, of the always part, the states' parts and the initial state.
+abbrev pub event_of : Amount → PartMeasure → List PartMeasure → ℕ → ℕ
+event_of amount always states initial =
+    max (number_of amount always.body + most_of_bodies amount states + most_of_inits amount states)
+    (number_of amount always.init + number_in (λ (m : PartMeasure). number_of amount m.init) (slice_get states initial))
+
+-- That of the measures of all parts, the always part's first.
+abbrev pub event_in : Amount → List PartMeasure → ℕ → ℕ
+event_in amount [] initial = 0
+event_in amount (always ∷ states) initial = event_of amount always states initial
+
+-- The budgets that measures make.
+abbrev pub budgets_in : List PartMeasure → ℕ → Budgets
+budgets_in ms initial = record {
+  stack = max (most_of_inits Height ms) (most_of_bodies Height ms);
+  frames = 1;
+  cost = event_in Size ms initial;
+  commands = event_in Runs ms initial;
+}
+
+-- Measures that keep all limits.
+pub record AreFine (ms : List PartMeasure) (initial : ℕ) : Type 0 where
+  pub each : AreWithin 1024 (numbers_of Size ms)
+  pub together : sum (numbers_of Size ms) ≤ 8192
+  pub heights : AreWithin 32 (numbers_of Height ms)
+  pub room : event_in Runs ms initial ≤ 64
