@@ -19,4 +19,6 @@ pub use fault::GenFault;
 pub use generating::generate;
 
 #[cfg(test)]
+mod generating_tests;
+#[cfg(test)]
 mod tests;
