@@ -23,4 +23,6 @@ pub use fault::GenFault;
 pub use generating::generate;
 
 #[cfg(test)]
+mod generating_tests;
+#[cfg(test)]
 mod tests;
