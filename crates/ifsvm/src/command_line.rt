@@ -5,8 +5,9 @@ use crate::ending::Ending;
 use clap::error::ErrorKind;
 use clap::{Arg, ArgAction, ArgMatches, Command, Error};
 use std::alloc::{AllocError, Global};
+use std::env::{self, Args};
+use std::io;
 use std::rt::Env;
-use std::{env, io};
 
 /// What the program is, as its help says.
 const ABOUT: &str =
@@ -63,16 +64,14 @@ fn shown<R: Print + Eprint>(rt: &R, error: &Error) -> Ending {
 
 /// What the program's words ask for.
 fn asked_of<R: Env + Alloc<A = Global>>(rt: &R) -> Result<Asked, Error> {
-    let mut command = command(rt.alloc())?;
-    let words: Vec<String> = match env::args(rt) {
-        Ok(words) => words.collect(rt.alloc())?,
-        Err(error) => return Err(unread(&mut command, &error)?),
-    };
-    asked_by(rt.alloc(), command, words.as_slice())
+    match env::args(rt) {
+        Ok(words) => asked_by(rt.alloc(), words),
+        Err(error) => Err(unread(rt.alloc(), &error)?),
+    }
 }
 
 /// Why the words could not be read.
-fn unread(command: &mut Command<'_>, error: &io::Error) -> Result<Error, Error> {
+fn unread(alloc: Global, error: &io::Error) -> Result<Error, AllocError> {
     let (kind, message) = if error.kind() == io::ErrorKind::InvalidData {
         (
             ErrorKind::InvalidValue,
@@ -81,49 +80,74 @@ fn unread(command: &mut Command<'_>, error: &io::Error) -> Result<Error, Error> 
     } else {
         (ErrorKind::Io, "the arguments could not be read")
     };
-    Ok(command.error(kind, message)?)
+    command(alloc)?.error(kind, message)
 }
 
 /// What these words ask for; an error where they ask for nothing, or for help or the version.
-fn asked_by<'a>(
+fn asked_by(alloc: Global, words: Args) -> Result<Asked, Error> {
+    let words: Vec<String> = words.collect(alloc)?;
+    let mut command = command(alloc)?;
+    asked_in(alloc, &mut command, words.as_slice())
+}
+
+fn asked_in<'a>(
     alloc: Global,
-    mut command: Command<'a>,
+    command: &mut Command<'a>,
     words: &'a [String],
 ) -> Result<Asked, Error> {
     let matches = command.try_get_matches_from_mut(words)?;
-    let Some((word, operands)) = matches.subcommand() else {
-        return Ok(Asked::Session);
-    };
-    Ok(match word {
-        "check" => Asked::Check {
-            file: file_of(alloc, operands)?,
-            definitions: definitions_of(alloc, command, operands)?,
-        },
-        "verify" => Asked::Verify {
-            image: file_of(alloc, operands)?,
-        },
-        _ => Asked::Sim {
-            image: file_of(alloc, operands)?,
-        },
+    match matches.subcommand() {
+        None => Ok(Asked::Session),
+        Some((word, operands)) => asked_with(alloc, command, word, operands),
+    }
+}
+
+/// What a word asks for with these operands.
+fn asked_with(
+    alloc: Global,
+    command: &mut Command<'_>,
+    word: &str,
+    operands: &ArgMatches<'_>,
+) -> Result<Asked, Error> {
+    match word {
+        "check" => check_asked(alloc, command, operands),
+        "verify" => Ok(Asked::Verify {
+            image: operand_of(alloc, operands, FILE)?,
+        }),
+        _ => Ok(Asked::Sim {
+            image: operand_of(alloc, operands, FILE)?,
+        }),
+    }
+}
+
+fn check_asked(
+    alloc: Global,
+    command: &mut Command<'_>,
+    operands: &ArgMatches<'_>,
+) -> Result<Asked, Error> {
+    let definitions = definitions_of(alloc, command, operands)?;
+    Ok(Asked::Check {
+        file: operand_of(alloc, operands, FILE)?,
+        definitions,
     })
 }
 
-/// The file that a word works on.
-fn file_of(alloc: Global, operands: &ArgMatches<'_>) -> Result<String, AllocError> {
-    String::from_str(alloc, operands.get_str(FILE).unwrap_or_default())
+/// What stands for an operand of a word.
+fn operand_of(alloc: Global, operands: &ArgMatches<'_>, name: &str) -> Result<String, AllocError> {
+    String::from_str(alloc, operands.get_str(name).unwrap_or_default())
 }
 
 /// The definitions of the command line; an error where one is none.
 fn definitions_of(
     alloc: Global,
-    mut command: Command<'_>,
+    command: &mut Command<'_>,
     operands: &ArgMatches<'_>,
 ) -> Result<Vec<Definition>, Error> {
     let mut definitions = Vec::new(alloc);
     for word in operands.get_strs(DEFINITION).unwrap_or_default() {
         match definition_of(word) {
             Some((name, value)) => definitions.push(Definition::new(alloc, name, value)?)?,
-            None => return Err(no_definition(alloc, &mut command, word)?),
+            None => return Err(no_definition(alloc, command, word)?),
         }
     }
     Ok(definitions)
@@ -142,24 +166,58 @@ fn no_definition(
 }
 
 /// The command line that is understood.
-fn command<'a>(alloc: Global) -> Result<Command<'a>, Error> {
-    let check = Command::new(alloc, "check")
-        .about("Tell whether a file is a policy, with notes on what is easily misread")
-        .arg(file(alloc, "FILE"))?
-        .arg(definition(alloc))?;
-    let verify = Command::new(alloc, "verify")
-        .about("Verify an image and print its stated budgets")
-        .arg(file(alloc, "IMAGE"))?;
-    let sim = Command::new(alloc, "sim")
-        .about("Answer the request lines of standard input on an image")
-        .arg(file(alloc, "IMAGE"))?;
-    let command = Command::new(alloc, "ifsvm")
+fn command<'a>(alloc: Global) -> Result<Command<'a>, AllocError> {
+    Command::new(alloc, "ifsvm")
         .version("0.1.0")
         .about(ABOUT)
-        .subcommand(check)?
-        .subcommand(verify)?
-        .subcommand(sim)?;
-    Ok(command)
+        .subcommands(subcommands(alloc)?)
+}
+
+/// The words that it has.
+fn subcommands<'a>(alloc: Global) -> Result<Vec<Command<'a>>, AllocError> {
+    let mut commands = Vec::new(alloc);
+    for word in [Word::Check, Word::Verify, Word::Sim] {
+        commands.push(word.command(alloc)?)?;
+    }
+    Ok(commands)
+}
+
+/// A word of the command line.
+#[derive(Clone, Copy)]
+enum Word {
+    Check,
+    Verify,
+    Sim,
+}
+
+impl Word {
+    /// What follows the word, and what its help says.
+    fn command<'a>(self, alloc: Global) -> Result<Command<'a>, AllocError> {
+        match self {
+            Word::Check => check(alloc),
+            Word::Verify => verify(alloc),
+            Word::Sim => sim(alloc),
+        }
+    }
+}
+
+fn check<'a>(alloc: Global) -> Result<Command<'a>, AllocError> {
+    Command::new(alloc, "check")
+        .about("Tell whether a file is a policy, with notes on what is easily misread")
+        .arg(file(alloc, "FILE"))?
+        .arg(definition(alloc))
+}
+
+fn verify<'a>(alloc: Global) -> Result<Command<'a>, AllocError> {
+    Command::new(alloc, "verify")
+        .about("Verify an image and print its stated budgets")
+        .arg(file(alloc, "IMAGE"))
+}
+
+fn sim<'a>(alloc: Global) -> Result<Command<'a>, AllocError> {
+    Command::new(alloc, "sim")
+        .about("Answer the request lines of standard input on an image")
+        .arg(file(alloc, "IMAGE"))
 }
 
 /// The operand that names a file, and what help calls it.
