@@ -6,12 +6,9 @@ use Rattle.ifs_parse.specs.declared.fault.ParseFault.{ParseFault}
 use Rattle.ifs_parse.specs.declared.fault.ParseFault.TheVariants.{Unexpected, Period, Nesting, Memory}
 use Rattle.ifs_parse.specs.Files.{File}
 use Rattle.ifs_parse.specs.Reading.{read_within, fits_period}
-use Rattle.ifs_parse.specs.Grammar.{NoneGoesOn, NoHelp}
+use Rattle.ifs_parse.specs.Grammar.{NoneGoesOn, NoHelp, any_period}
 use Rattle.ifs_parse.proofs.Wider.{Alike, follows_read}
 use Rattle.ifs_parse.proofs.Whole.{says_read}
-
-abbrev any_period : ℕ → Bool
-any_period n = true
 
 module _ (front : List Token) (token : Token) (fault : ParseFault) (same : (w : List Token) → read_within fits_period 32 (front ++ token ∷ w) ≡ Err fault) where
   -- Within limits that a fault does not depend on, nothing goes on.

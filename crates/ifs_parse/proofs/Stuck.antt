@@ -1,11 +1,12 @@
--- Where a parser fails: what stands before could go on, and what comes with the next token fails alike.
+-- Where a parser fails: what stands before could go on, and what comes with the next token fails alike. Where a limit is
+-- the reason, the next token could go on by the wider rule that is the same without that limit.
 use Rattle.std.proofs.Common.{◌≡◌, inl, inr, ℕ, zero, suc, ◌≤◌, refl, sym, ap, subst, ◌∙◌, cond, Bool, true, false, Option, Some, None, Ok, Err, List, [], ◌∷◌, ◌++◌, length, length-append, append_assoc, append-nil, arith}
 use Rattle.std.specs.Prelude.{Result, if◌then◌else◌, option_map}
 use Rattle.std.specs.Option.{option_map_or}
 use Rattle.ifs_base.specs.declared.span.Span.{Span}
 use Rattle.ifs_lex.specs.declared.token.Token.{Token}
 use Rattle.ifs_parse.specs.declared.fault.ParseFault.{ParseFault}
-use Rattle.ifs_parse.specs.declared.fault.ParseFault.TheVariants.{Unexpected, Nesting}
+use Rattle.ifs_parse.specs.declared.fault.ParseFault.TheVariants.{Unexpected, Period, Nesting, Memory}
 use Rattle.ifs_parse.specs.declared.mark.Mark.{Mark}
 use Rattle.ifs_parse.specs.Reading as reading
 use Rattle.ifs_parse.specs.Grammar.{IsAt}
@@ -17,27 +18,60 @@ use Rattle.ifs_parse.proofs.Exact.{Always, Any, Until, Found, Reads, Exact}
 abbrev pub next_token : List Token → Option Token
 next_token = found (λ t. Some t)
 
-pub record Fails {X : Type 0} (read : Parse X) (rule : Rule X) (s : State) (fault : ParseFault) : Type 0 where
-  pub front : List Token
-  pub left : List Token
-  pub whole : s.left ≡ front ++ left
+-- The limits of the grammar: of periods, and of how many may be open at once.
+pub data Limit : Type 0 where
+  Periods : Limit
+  Depth : Limit
+
+abbrev pub OfPeriods : Limit → Type 0
+OfPeriods Periods = Unit {0}
+OfPeriods Depth = ⊥
+
+abbrev pub OfDepth : Limit → Type 0
+OfDepth Periods = ⊥
+OfDepth Depth = Unit {0}
+
+-- A fault is told of a limit.
+abbrev pub IsOf : Limit → ParseFault → Type 0
+IsOf limit (Unexpected line) = ⊥
+IsOf limit (Period line) = OfPeriods limit
+IsOf limit (Nesting line) = OfDepth limit
+IsOf limit Memory = ⊥
+
+-- Something in a rule begins with these tokens.
+pub record Begins {X : Type 0} (rule : Rule X) (front : List Token) : Type 0 where
   pub tail : List Token
   pub x : X
   pub notes : List ℕ
-  pub can : rule (front ++ tail) x notes
+  pub said : rule (front ++ tail) x notes
+
+-- Something that a rule has.
+abbrev pub Sample : {X : Type 0} → Rule X → Type 0
+Sample rule = Begins rule []
+
+-- Something begins with these tokens and the next one.
+pub record Goes {X : Type 0} (rule : Rule X) (front left : List Token) : Type 0 where
+  pub token : Token
+  pub next : next_token left ≡ Some token
+  pub begun : Begins rule (front ++ token ∷ [])
+
+pub record Fails (limit : Limit) {X : Type 0} (read : Parse X) (rule wide : Rule X) (s : State) (fault : ParseFault) : Type 0 where
+  pub front : List Token
+  pub left : List Token
+  pub whole : s.left ≡ front ++ left
+  pub can : Begins rule front
+  pub helped : IsOf limit fault → Goes wide front left
   pub same : (w : List Token) (m : List ℕ) → next_token w ≡ next_token left → read (state (front ++ w) m) ≡ Err fault
   pub line : IsAt fault (line_of left)
 
--- Something that a rule has.
-pub record Sample {X : Type 0} (rule : Rule X) : Type 0 where
-  pub tokens : List Token
-  pub x : X
-  pub notes : List ℕ
-  pub said : rule tokens x notes
+-- What a rule has, another has.
+abbrev pub Within : {X : Type 0} → Rule X → Rule X → Type 0
+Within {X = X} P W = (p : List Token) (x : X) (ns : List ℕ) → P p x ns → W p x ns
 
--- Each failure is of that kind.
-abbrev pub Stuck : {X : Type 0} → (List Token → Type 0) → Parse X → Rule X → Type 0
-Stuck start read rule = (s : State) (fault : ParseFault) → start s.left → read s ≡ Err fault → Fails read rule s fault
+-- Each failure is of that kind, and the wider rule has what the rule has.
+pub record Stuck (limit : Limit) {X : Type 0} (start : List Token → Type 0) (read : Parse X) (rule wide : Rule X) : Type 0 where
+  pub fails : (s : State) (fault : ParseFault) → start s.left → read s ≡ Err fault → Fails limit read rule wide s fault
+  pub within : Within rule wide
 
 -- What follows from the next token alone.
 pub found_by_next : {X : Type 0} (what : Token → Option X) (a b : List Token) → next_token a ≡ next_token b → found what a ≡ found what b
@@ -68,32 +102,150 @@ abbrev bad : {A : Type 0} → ParseFault → Result A ParseFault
 bad fault = Err fault
 
 -- The same fault by an equation.
-pub fails_as : {X : Type 0} (read : Parse X) (rule : Rule X) (s : State) (f g : ParseFault) → bad {A = X × State} f ≡ bad g → Fails read rule s f → Fails read rule s g
-fails_as read rule s f g e h = subst (Fails read rule s) (ap (failed f) e) h
+pub fails_as : {limit : Limit} {X : Type 0} (read : Parse X) (P W : Rule X) (s : State) (f g : ParseFault) → bad {A = X × State} f ≡ bad g → Fails limit read P W s f → Fails limit read P W s g
+fails_as {limit = limit} read P W s f g e h = subst (Fails limit read P W s) (ap (failed f) e) h
 
-pub stuck_pure : {X : Type 0} (v : X) → Stuck Any (pure v) (Gives v)
-stuck_pure v s fault a e = absurd (cc)
+-- What the rules that are made of wider ones have.
+pub same_within : {X : Type 0} (P : Rule X) → Within P P
+same_within P p x ns h = h
 
-module _ {X : Type 0} (what : Token → Option X) (sample : Sample (OneToken what)) where
+pub then_within : {X Y : Type 0} (P W : Rule X) (Q V : X → Rule Y) → Within P W → ((x : X) → Within (Q x) (V x)) → Within (P ⨟ Q) (W ⨟ V)
+then_within P W Q V a b p y ns h =
+    record {
+      x = h.x;
+      front = h.front;
+      back = h.back;
+      before = h.before;
+      after = h.after;
+      tokens_are = h.tokens_are;
+      notes_are = h.notes_are;
+      first = a h.front h.x h.before h.first;
+      second = b h.x h.back y h.after h.second;
+    }
+
+pub or_within : {X : Type 0} (P W Q V : Rule X) → Within P W → Within Q V → Within (P or Q) (W or V)
+or_within P W Q V a b p x ns (inl h) = inl (a p x ns h)
+or_within P W Q V a b p x ns (inr h) = inr (b p x ns h)
+
+-- A mark and what comes after it, or something else.
+pub marked_within : {X : Type 0} (mark : Mark) (Q V : Span → Rule X) (R U : Rule X) → ((span : Span) → Within (Q span) (V span)) → Within R U → Within ((TheMark mark ⨟ Q) or R) ((TheMark mark ⨟ V) or U)
+marked_within mark Q V R U a b = or_within (TheMark mark ⨟ Q) (TheMark mark ⨟ V) R U (then_within (TheMark mark) (TheMark mark) Q V (same_within (TheMark mark)) a) b
+
+pub optional_within : {X : Type 0} (P W : Rule X) → Within P W → Within (Optional P) (Optional W)
+optional_within P W a p None ns h = h
+optional_within P W a p (Some x) ns h = a p x ns h
+
+many_within : {A X : Type 0} (P W : Rule X) (add : A → X → A) → Within P W → {a b : A} {p : List Token} {ns : List ℕ} → Many P add a p b ns → Many W add a p b ns
+many_within P W add h Enough = Enough
+many_within P W add h (More {x = x} {front = front} {before = before} one rest) = More (h front x before one) (many_within P W add h rest)
+
+-- What begins with tokens by a rule, by the rules that are made of it.
+pub begins_as : {X : Type 0} (P W : Rule X) → Within P W → (front : List Token) → Begins P front → Begins W front
+begins_as P W within front b = record { tail = b.tail; x = b.x; notes = b.notes; said = within (front ++ b.tail) b.x b.notes b.said }
+
+pub begins_first : {X Y : Type 0} (P : Rule X) (Q : X → Rule Y) → ((x : X) → Sample (Q x)) → (front : List Token) → Begins P front → Begins (P ⨟ Q) front
+begins_first P Q sample front b =
+    let g = sample b.x in
+    record {
+      tail = b.tail ++ g.tail;
+      x = g.x;
+      notes = b.notes ++ g.notes;
+      said = record {
+        x = b.x;
+        front = front ++ b.tail;
+        back = g.tail;
+        before = b.notes;
+        after = g.notes;
+        tokens_are = sym (append_assoc front b.tail g.tail);
+        notes_are = refl;
+        first = b.said;
+        second = g.said;
+      };
+    }
+
+begins_second : {X Y : Type 0} (P : Rule X) (Q : X → Rule Y) (before : List Token) (x : X) (ns : List ℕ) → P before x ns → (front : List Token) → Begins (Q x) front → Begins (P ⨟ Q) (before ++ front)
+begins_second P Q before x ns h front b =
+    record {
+      tail = b.tail;
+      x = b.x;
+      notes = ns ++ b.notes;
+      said = record {
+        x = x;
+        front = before;
+        back = front ++ b.tail;
+        before = ns;
+        after = b.notes;
+        tokens_are = append_assoc before front b.tail;
+        notes_are = refl;
+        first = h;
+        second = b.said;
+      };
+    }
+
+pub begins_left : {X : Type 0} (P Q : Rule X) (front : List Token) → Begins P front → Begins (P or Q) front
+begins_left P Q front b = record { tail = b.tail; x = b.x; notes = b.notes; said = inl b.said }
+
+pub begins_right : {X : Type 0} (P Q : Rule X) (front : List Token) → Begins Q front → Begins (P or Q) front
+begins_right P Q front b = record { tail = b.tail; x = b.x; notes = b.notes; said = inr b.said }
+
+begins_marked : {X : Type 0} (mark : Mark) (Q : Span → Rule X) (R : Rule X) (u : Token) (span : Span) → marked mark u ≡ Some span → (front : List Token) → Begins (Q span) front
+    → Begins ((TheMark mark ⨟ Q) or R) (u ∷ front)
+begins_marked mark Q R u span h front b =
+    begins_left (TheMark mark ⨟ Q) R (u ∷ front) (begins_second (TheMark mark) Q (u ∷ []) span [] (record { token = u; only = refl; stands = h; unnoted = refl }) front b)
+
+begins_some : {X : Type 0} (P : Rule X) (front : List Token) → Begins P front → Begins (Optional P) front
+begins_some P front b = record { tail = b.tail; x = Some b.x; notes = b.notes; said = b.said }
+
+pub optional_or : {X : Type 0} (P R : Rule X) (ts : List Token) (o : Option X) (ns : List ℕ) → Optional R ts o ns → Optional (P or R) ts o ns
+optional_or P R ts None ns h = h
+optional_or P R ts (Some x) ns h = inr h
+
+begins_noted : {X : Type 0} (line : ℕ) (P : Rule (X × Bool)) (front : List Token) → Begins P front → Begins (Noted line P) front
+begins_noted line P front b =
+    record { tail = b.tail; x = b.x.0; notes = if b.x.1 then line ∷ b.notes else b.notes; said = record { is_noted = b.x.1; within = b.notes; notes_are = refl; said = b.said } }
+
+-- So does what goes on.
+goes : {X Y : Type 0} (W : Rule X) (V : Rule Y) (before : List Token) → ((front : List Token) → Begins W front → Begins V (before ++ front)) → (front left : List Token)
+    → Goes W front left → Goes V (before ++ front) left
+goes W V before to front left g =
+    record { token = g.token; next = g.next; begun = subst (Begins V) (sym (append_assoc before front (g.token ∷ []))) (to (front ++ g.token ∷ []) g.begun) }
+
+-- A parser fails where one that it calls does, after what it took before.
+fails_after : {limit : Limit} {X Y : Type 0} (p : Parse X) (P W : Rule X) (s : State) (fault : ParseFault) (f : Fails limit p P W s fault)
+    (q : Parse Y) (R V : Rule Y) (before : List Token) (t : State) → t.left ≡ before ++ s.left
+    → ((front : List Token) → Begins P front → Begins R (before ++ front)) → ((front : List Token) → Begins W front → Begins V (before ++ front))
+    → ((w : List Token) (m : List ℕ) → next_token w ≡ next_token f.left → q (state ((before ++ f.front) ++ w) m) ≡ Err fault) → Fails limit q R V t fault
+fails_after p P W s fault f q R V before t taken to wide_to same =
+    record {
+      front = before ++ f.front;
+      left = f.left;
+      whole = taken ∙ ap (λ l. before ++ l) f.whole ∙ sym (append_assoc before f.front f.left);
+      can = to f.front f.can;
+      helped = λ k. goes W V before wide_to f.front f.left (f.helped k);
+      same = same;
+      line = f.line;
+    }
+
+pub stuck_pure : {limit : Limit} {X : Type 0} {start : List Token → Type 0} (v : X) → Stuck limit start (pure v) (Gives v) (Gives v)
+stuck_pure v = record { fails = λ s fault a e. absurd (cc); within = same_within (Gives v) }
+
+-- A parser fails at its first token.
+pub fails_here : {limit : Limit} {X : Type 0} (read : Parse X) (P W : Rule X) (ts : List Token) (m : List ℕ) (fault : ParseFault) → Sample P
+    → ((w : List Token) (n : List ℕ) → next_token w ≡ next_token ts → read (state w n) ≡ Err fault) → (IsOf limit fault → Goes W [] ts) → IsAt fault (line_of ts) → Fails limit read P W (state ts m) fault
+fails_here read P W ts m fault sample same helped line =
+    record { front = []; left = ts; whole = refl; can = sample; helped = helped; same = same; line = line }
+
+module _ {limit : Limit} {X : Type 0} (what : Token → Option X) (sample : Sample (OneToken what)) where
   token_stuck : (ts : List Token) (m : List ℕ) (o : Option X) → found what ts ≡ o → (fault : ParseFault)
-      → option_map_or (λ x. Ok (x, past (state ts m))) o (unexpected (state ts m)) ≡ Err fault → Fails (one_token what) (OneToken what) (state ts m) fault
+      → option_map_or (λ x. Ok (x, past (state ts m))) o (unexpected (state ts m)) ≡ Err fault → Fails limit (one_token what) (OneToken what) (OneToken what) (state ts m) fault
   token_stuck ts m (Some x) h fault e = absurd (cc)
   token_stuck ts m None h fault e =
-      fails_as (one_token what) (OneToken what) (state ts m) (Unexpected (line_of ts)) fault e
-      (record {
-        front = [];
-        left = ts;
-        whole = refl;
-        tail = sample.tokens;
-        x = sample.x;
-        notes = sample.notes;
-        can = sample.said;
-        line = inl refl;
-        same = λ w n k. rw (found_by_next what w ts k ∙ h, line_by_next w ts k);
-      })
+      fails_as (one_token what) (OneToken what) (OneToken what) (state ts m) (Unexpected (line_of ts)) fault e
+      (fails_here (one_token what) (OneToken what) (OneToken what) ts m (Unexpected (line_of ts)) sample
+      (λ w n k. rw (found_by_next what w ts k ∙ h, line_by_next w ts k)) (λ k. absurd k) (inl refl))
 
-  pub stuck_token : Stuck Any (one_token what) (OneToken what)
-  stuck_token s fault a e = token_stuck s.left s.notes (found what s.left) refl fault e
+  pub stuck_token : Stuck limit Any (one_token what) (OneToken what) (OneToken what)
+  stuck_token = record { fails = λ s fault a e. token_stuck s.left s.notes (found what s.left) refl fault e; within = same_within (OneToken what) }
 
 -- What goes on after a result fails in it or after it.
 pub data Broke {A B : Type 0} (r : Result A ParseFault) (f : A → Result B ParseFault) (fault : ParseFault) : Type 0 where
@@ -104,294 +256,260 @@ pub broke : {A B : Type 0} (r : Result A ParseFault) (f : A → Result B ParseFa
 broke (Ok a) f fault e = After a refl e
 broke (Err g) f fault e = Before (ap (λ g. Err g) (ap (failed g) e))
 
-module _ {X Y : Type 0} (start : List Token → Type 0) (p : Parse X) (q : X → Parse Y) (P : Rule X) (Q : X → Rule Y)
+module _ {limit : Limit} {X Y : Type 0} {W : Rule X} {V : X → Rule Y} (start : List Token → Type 0) (p : Parse X) (q : X → Parse Y) (P : Rule X) (Q : X → Rule Y)
     (stop_p : X → List Token → Type 0) (start_q : X → List Token → Type 0)
-    (exact_p : Reads start p P stop_p) (stuck_p : Stuck start p P) (stuck_q : (x : X) → Stuck (start_q x) (q x) (Q x))
+    (exact_p : Reads start p P stop_p) (stuck_p : Stuck limit start p P W) (stuck_q : (x : X) → Stuck limit (start_q x) (q x) (Q x) (V x))
     (between : (x : X) (next : List Token) → stop_p x next → start_q x next) (by_next : (x : X) → ByNext (stop_p x))
     (sample_q : (x : X) → Sample (Q x)) where
-  then_broke : (s : State) (fault : ParseFault) → start s.left → Broke (p s) (λ r. q r.0 r.1) fault → Fails (p ▸ q) (P ⨟ Q) s fault
+  then_broke : (s : State) (fault : ParseFault) → start s.left → Broke (p s) (λ r. q r.0 r.1) fault → Fails limit (p ▸ q) (P ⨟ Q) (W ⨟ V) s fault
   then_broke s fault begun (Before e) =
-      let h = stuck_p s fault begun e in
-      let g = sample_q h.x in
-      record {
-        front = h.front;
-        left = h.left;
-        whole = h.whole;
-        tail = h.tail ++ g.tokens;
-        x = g.x;
-        notes = h.notes ++ g.notes;
-        line = h.line;
-        can = record { x = h.x; front = h.front ++ h.tail; back = g.tokens; before = h.notes; after = g.notes; tokens_are = sym (append_assoc h.front h.tail g.tokens); notes_are = refl; first = h.can; second = g.said };
-        same = λ w m k. rw (h.same w m k);
-      }
+      let h = stuck_p.fails s fault begun e in
+      fails_after p P W s fault h (p ▸ q) (P ⨟ Q) (W ⨟ V) [] s refl
+      (begins_first P Q sample_q) (begins_first W V (λ x. begins_as (Q x) (V x) (stuck_q x).within [] (sample_q x))) (λ w m k. rw (h.same w m k))
   then_broke s fault begun (After r e k) =
       let f = exact_p.reads s r.0 r.1 begun e in
-      let h = stuck_q r.0 r.1 fault (between r.0 r.1.left f.stops) k in
-      record {
-        front = f.tokens ++ h.front;
-        left = h.left;
-        whole = f.taken ∙ ap (λ l. f.tokens ++ l) h.whole ∙ sym (append_assoc f.tokens h.front h.left);
-        tail = h.tail;
-        x = h.x;
-        notes = f.notes ++ h.notes;
-        line = h.line;
-        can = record { x = r.0; front = f.tokens; back = h.front ++ h.tail; before = f.notes; after = h.notes; tokens_are = append_assoc f.tokens h.front h.tail; notes_are = refl; first = f.said; second = h.can };
-        same = λ w m n.
-            let a = exact_p.again f.tokens r.0 f.notes (h.front ++ w) m f.said
-            (by_next r.0 (h.front ++ h.left) (h.front ++ w) (next_append h.front h.left w (sym n)) (subst (stop_p r.0) h.whole f.stops)) in
-            rw (append_assoc f.tokens h.front w, a, h.same w (m ++ f.notes) n);
-      }
+      let h = (stuck_q r.0).fails r.1 fault (between r.0 r.1.left f.stops) k in
+      fails_after (q r.0) (Q r.0) (V r.0) r.1 fault h (p ▸ q) (P ⨟ Q) (W ⨟ V) f.tokens s f.taken
+      (begins_second P Q f.tokens r.0 f.notes f.said) (begins_second W V f.tokens r.0 f.notes (stuck_p.within f.tokens r.0 f.notes f.said))
+      (λ w m n.
+      let a = exact_p.again f.tokens r.0 f.notes (h.front ++ w) m f.said
+      (by_next r.0 (h.front ++ h.left) (h.front ++ w) (next_append h.front h.left w (sym n)) (subst (stop_p r.0) h.whole f.stops)) in
+      rw (append_assoc f.tokens h.front w, a, h.same w (m ++ f.notes) n))
 
-  pub stuck_then_at : Stuck start (p ▸ q) (P ⨟ Q)
-  stuck_then_at s fault begun e = then_broke s fault begun (broke (p s) (λ r. q r.0 r.1) fault e)
+  pub stuck_then_at : Stuck limit start (p ▸ q) (P ⨟ Q) (W ⨟ V)
+  stuck_then_at = record {
+    fails = λ s fault begun e. then_broke s fault begun (broke (p s) (λ r. q r.0 r.1) fault e);
+    within = then_within P W Q V stuck_p.within (λ x. (stuck_q x).within);
+  }
 
 -- The same, where whatever may come after the first.
-pub stuck_then : {X Y : Type 0} (p : Parse X) (q : X → Parse Y) (P : Rule X) (Q : X → Rule Y) → Exact p P Always → Stuck Any p P → ((x : X) → Stuck Any (q x) (Q x)) → ((x : X) → Sample (Q x))
-    → Stuck Any (p ▸ q) (P ⨟ Q)
+pub stuck_then : {limit : Limit} {X Y : Type 0} {W : Rule X} {V : X → Rule Y} (p : Parse X) (q : X → Parse Y) (P : Rule X) (Q : X → Rule Y) → Exact p P Always
+    → Stuck limit Any p P W → ((x : X) → Stuck limit Any (q x) (Q x) (V x)) → ((x : X) → Sample (Q x)) → Stuck limit Any (p ▸ q) (P ⨟ Q) (W ⨟ V)
 stuck_then p q P Q exact_p stuck_p stuck_q sample_q =
     stuck_then_at Any p q P Q Always (λ x. Any) exact_p stuck_p stuck_q (λ x next a. tt) (λ x a b h k. tt) sample_q
 
-module _ {X : Type 0} (start : List Token → Type 0) (mark : Mark) (q : Span → Parse X) (r : Parse X) (Q : Span → Rule X) (R : Rule X)
-    (stuck_q : (span : Span) → Stuck Any (q span) (Q span)) (stuck_r : Stuck start r R) where
+module _ {limit : Limit} {X : Type 0} {V : Span → Rule X} {U : Rule X} (start : List Token → Type 0) (mark : Mark) (q : Span → Parse X) (r : Parse X) (Q : Span → Rule X) (R : Rule X)
+    (stuck_q : (span : Span) → Stuck limit Any (q span) (Q span) (V span)) (stuck_r : Stuck limit start r R U) where
   either_stuck : (ts : List Token) (m : List ℕ) → start ts → (o : Option Span) → accepted mark ts ≡ o → (fault : ParseFault)
-      → option_map_or (λ span. q span (past (state ts m))) o (r (state ts m)) ≡ Err fault → Fails (either mark q r) ((TheMark mark ⨟ Q) or R) (state ts m) fault
+      → option_map_or (λ span. q span (past (state ts m))) o (r (state ts m)) ≡ Err fault
+      → Fails limit (either mark q r) ((TheMark mark ⨟ Q) or R) ((TheMark mark ⨟ V) or U) (state ts m) fault
   either_stuck ts m begun None h fault e =
-      let f = stuck_r (state ts m) fault begun e in
-      record {
-        front = f.front;
-        left = f.left;
-        whole = f.whole;
-        tail = f.tail;
-        x = f.x;
-        notes = f.notes;
-        line = f.line;
-        can = inr f.can;
-        same = λ w n k. rw (found_by_next (marked mark) (f.front ++ w) (f.front ++ f.left) (next_append f.front w f.left k) ∙ ap (accepted mark) (sym f.whole) ∙ h, f.same w n k);
-      }
+      let f = stuck_r.fails (state ts m) fault begun e in
+      fails_after r R U (state ts m) fault f (either mark q r) ((TheMark mark ⨟ Q) or R) ((TheMark mark ⨟ V) or U) [] (state ts m) refl
+      (begins_right (TheMark mark ⨟ Q) R) (begins_right (TheMark mark ⨟ V) U)
+      (λ w n k. rw (found_by_next (marked mark) (f.front ++ w) (f.front ++ f.left) (next_append f.front w f.left k) ∙ ap (accepted mark) (sym f.whole) ∙ h, f.same w n k))
   either_stuck [] m begun (Some span) h fault e = absurd (cc)
   either_stuck (u ∷ ts) m begun (Some span) h fault e =
-      let f = stuck_q span (state ts m) fault tt e in
-      record {
-        front = u ∷ f.front;
-        left = f.left;
-        whole = ap (λ l. u ∷ l) f.whole;
-        tail = f.tail;
-        x = f.x;
-        notes = f.notes;
-        line = f.line;
-        can = inl (record {
-          x = span;
-          front = u ∷ [];
-          back = f.front ++ f.tail;
-          before = [];
-          after = f.notes;
-          tokens_are = refl;
-          notes_are = refl;
-          first = record { token = u; only = refl; stands = h; unnoted = refl };
-          second = f.can;
-        });
-        same = λ w n k. rw (h, f.same w n k);
-      }
+      let f = (stuck_q span).fails (state ts m) fault tt e in
+      fails_after (q span) (Q span) (V span) (state ts m) fault f (either mark q r) ((TheMark mark ⨟ Q) or R) ((TheMark mark ⨟ V) or U) (u ∷ []) (state (u ∷ ts) m) refl
+      (begins_marked mark Q R u span h) (begins_marked mark V U u span h) (λ w n k. rw (h, f.same w n k))
 
-  pub stuck_either : Stuck start (either mark q r) ((TheMark mark ⨟ Q) or R)
-  stuck_either s fault begun e = either_stuck s.left s.notes begun (accepted mark s.left) refl fault e
+  pub stuck_either : Stuck limit start (either mark q r) ((TheMark mark ⨟ Q) or R) ((TheMark mark ⨟ V) or U)
+  stuck_either = record {
+    fails = λ s fault begun e. either_stuck s.left s.notes begun (accepted mark s.left) refl fault e;
+    within = marked_within mark Q V R U (λ span. (stuck_q span).within) stuck_r.within;
+  }
 
 span_is : (b : Bool) (a c : Span) → cond b (Some a) None ≡ Some c → a ≡ c
 span_is true a c e = cc
 span_is false a c e = absurd (cc)
 
-module _ {X : Type 0} (mark : Mark) (q : Span → Parse X) (r : Parse X) (Q : Span → Rule X) (R : Rule X)
-    (deep : (span : Span) (s : State) → q span s ≡ Err (Nesting span.line)) (stuck_r : Stuck Any r R) (sample_r : Sample R) where
+module _ {limit : Limit} {X : Type 0} {V : Span → Rule X} {U : Rule X} (mark : Mark) (q : Span → Parse X) (r : Parse X) (Q : Span → Rule X) (R : Rule X)
+    (deep : (span : Span) (s : State) → q span s ≡ Err (Nesting span.line)) (stuck_r : Stuck limit Any r R U) (sample_r : Sample R)
+    (within : (span : Span) → Within (Q span) (V span)) (helped : OfDepth limit → (span : Span) → Sample (V span)) where
   deep_stuck : (ts : List Token) (m : List ℕ) (o : Option Span) → accepted mark ts ≡ o → (fault : ParseFault)
-      → option_map_or (λ span. q span (past (state ts m))) o (r (state ts m)) ≡ Err fault → Fails (either mark q r) ((TheMark mark ⨟ Q) or R) (state ts m) fault
+      → option_map_or (λ span. q span (past (state ts m))) o (r (state ts m)) ≡ Err fault
+      → Fails limit (either mark q r) ((TheMark mark ⨟ Q) or R) ((TheMark mark ⨟ V) or U) (state ts m) fault
   deep_stuck ts m None h fault e =
-      let f = stuck_r (state ts m) fault tt e in
-      record {
-        front = f.front;
-        left = f.left;
-        whole = f.whole;
-        tail = f.tail;
-        x = f.x;
-        notes = f.notes;
-        line = f.line;
-        can = inr f.can;
-        same = λ w n k. rw (found_by_next (marked mark) (f.front ++ w) (f.front ++ f.left) (next_append f.front w f.left k) ∙ ap (accepted mark) (sym f.whole) ∙ h, f.same w n k);
-      }
+      let f = stuck_r.fails (state ts m) fault tt e in
+      fails_after r R U (state ts m) fault f (either mark q r) ((TheMark mark ⨟ Q) or R) ((TheMark mark ⨟ V) or U) [] (state ts m) refl
+      (begins_right (TheMark mark ⨟ Q) R) (begins_right (TheMark mark ⨟ V) U)
+      (λ w n k. rw (found_by_next (marked mark) (f.front ++ w) (f.front ++ f.left) (next_append f.front w f.left k) ∙ ap (accepted mark) (sym f.whole) ∙ h, f.same w n k))
   deep_stuck [] m (Some span) h fault e = absurd (cc)
   deep_stuck (u ∷ ts) m (Some span) h fault e =
-      fails_as (either mark q r) ((TheMark mark ⨟ Q) or R) (state (u ∷ ts) m) (Nesting span.line) fault (sym (deep span (state ts m)) ∙ e)
-      (record {
-        front = [];
-        left = u ∷ ts;
-        whole = refl;
-        tail = sample_r.tokens;
-        x = sample_r.x;
-        notes = sample_r.notes;
-        can = inr sample_r.said;
-        line = inr (inr (ap (λ (s : Span). Nesting s.line) (sym (span_is _ u.span span h))));
-        same = λ w n k. rw (found_by_next (marked mark) w (u ∷ ts) k ∙ h, deep span (past (state w n)));
-      })
+      fails_as (either mark q r) ((TheMark mark ⨟ Q) or R) ((TheMark mark ⨟ V) or U) (state (u ∷ ts) m) (Nesting span.line) fault (sym (deep span (state ts m)) ∙ e)
+      (fails_here (either mark q r) ((TheMark mark ⨟ Q) or R) ((TheMark mark ⨟ V) or U) (u ∷ ts) m (Nesting span.line)
+      (begins_right (TheMark mark ⨟ Q) R [] sample_r)
+      (λ w n k. rw (found_by_next (marked mark) w (u ∷ ts) k ∙ h, deep span (past (state w n))))
+      (λ k. record { token = u; next = refl; begun = begins_marked mark V U u span h [] (helped k span) })
+      (inr (inr (ap (λ (s : Span). Nesting s.line) (sym (span_is _ u.span span h))))))
 
   -- Nothing more can be open after a mark.
-  pub stuck_deep : Stuck Any (either mark q r) ((TheMark mark ⨟ Q) or R)
-  stuck_deep s fault a e = deep_stuck s.left s.notes (accepted mark s.left) refl fault e
+  pub stuck_deep : Stuck limit Any (either mark q r) ((TheMark mark ⨟ Q) or R) ((TheMark mark ⨟ V) or U)
+  stuck_deep = record {
+    fails = λ s fault a e. deep_stuck s.left s.notes (accepted mark s.left) refl fault e;
+    within = marked_within mark Q V R U within stuck_r.within;
+  }
 
-pub optional_or : {X : Type 0} (P R : Rule X) (ts : List Token) (o : Option X) (ns : List ℕ) → Optional R ts o ns → Optional (P or R) ts o ns
-optional_or P R ts None ns h = h
-optional_or P R ts (Some x) ns h = inr h
+module _ {limit : Limit} {X : Type 0} {V : Span → Rule X} {U : Rule X} (mark : Mark) (q : Span → Parse X) (r : Parse (Option X)) (Q : Span → Rule X) (R : Rule X)
+    (stuck_q : (span : Span) → Stuck limit Any (q span) (Q span) (V span)) (stuck_r : Stuck limit Any r (Optional R) (Optional U)) where
+  abbrev Narrow : Rule (Option X)
+  Narrow = Optional ((TheMark mark ⨟ Q) or R)
 
-module _ {X : Type 0} (mark : Mark) (q : Span → Parse X) (r : Parse (Option X)) (Q : Span → Rule X) (R : Rule X)
-    (stuck_q : (span : Span) → Stuck Any (q span) (Q span)) (stuck_r : Stuck Any r (Optional R)) where
-  rest_stuck : (ts : List Token) (m : List ℕ) → accepted mark ts ≡ None → (fault : ParseFault) → Fails r (Optional R) (state ts m) fault
-      → Fails (begins mark q r) (Optional ((TheMark mark ⨟ Q) or R)) (state ts m) fault
+  abbrev Wider : Rule (Option X)
+  Wider = Optional ((TheMark mark ⨟ V) or U)
+
+  rest_stuck : (ts : List Token) (m : List ℕ) → accepted mark ts ≡ None → (fault : ParseFault) → Fails limit r (Optional R) (Optional U) (state ts m) fault
+      → Fails limit (begins mark q r) Narrow Wider (state ts m) fault
   rest_stuck ts m h fault f =
-      record {
-        front = f.front;
-        left = f.left;
-        whole = f.whole;
-        tail = f.tail;
-        x = f.x;
-        notes = f.notes;
-        line = f.line;
-        can = optional_or (TheMark mark ⨟ Q) R (f.front ++ f.tail) f.x f.notes f.can;
-        same = λ w n k. rw (found_by_next (marked mark) (f.front ++ w) (f.front ++ f.left) (next_append f.front w f.left k) ∙ ap (accepted mark) (sym f.whole) ∙ h, f.same w n k);
-      }
+      fails_after r (Optional R) (Optional U) (state ts m) fault f (begins mark q r) Narrow Wider [] (state ts m) refl
+      (begins_as (Optional R) Narrow (optional_or (TheMark mark ⨟ Q) R)) (begins_as (Optional U) Wider (optional_or (TheMark mark ⨟ V) U))
+      (λ w n k. rw (found_by_next (marked mark) (f.front ++ w) (f.front ++ f.left) (next_append f.front w f.left k) ∙ ap (accepted mark) (sym f.whole) ∙ h, f.same w n k))
 
   some_stuck : (u : Token) (ts : List Token) (m : List ℕ) (span : Span) → marked mark u ≡ Some span → (fault : ParseFault)
-      → Broke {B = Option X × State} (q span (state ts m)) (λ r. Ok (Some r.0, r.1)) fault → Fails (begins mark q r) (Optional ((TheMark mark ⨟ Q) or R)) (state (u ∷ ts) m) fault
+      → Broke {B = Option X × State} (q span (state ts m)) (λ r. Ok (Some r.0, r.1)) fault → Fails limit (begins mark q r) Narrow Wider (state (u ∷ ts) m) fault
   some_stuck u ts m span h fault (After a e k) = absurd (cc)
   some_stuck u ts m span h fault (Before e) =
-      let f = stuck_q span (state ts m) fault tt e in
-      record {
-        front = u ∷ f.front;
-        left = f.left;
-        whole = ap (λ l. u ∷ l) f.whole;
-        tail = f.tail;
-        x = Some f.x;
-        notes = f.notes;
-        line = f.line;
-        can = inl (record {
-          x = span;
-          front = u ∷ [];
-          back = f.front ++ f.tail;
-          before = [];
-          after = f.notes;
-          tokens_are = refl;
-          notes_are = refl;
-          first = record { token = u; only = refl; stands = h; unnoted = refl };
-          second = f.can;
-        });
-        same = λ w n k. rw (h, f.same w n k);
-      }
+      let f = (stuck_q span).fails (state ts m) fault tt e in
+      fails_after (q span) (Q span) (V span) (state ts m) fault f (begins mark q r) Narrow Wider (u ∷ []) (state (u ∷ ts) m) refl
+      (λ front b. begins_some ((TheMark mark ⨟ Q) or R) (u ∷ front) (begins_marked mark Q R u span h front b))
+      (λ front b. begins_some ((TheMark mark ⨟ V) or U) (u ∷ front) (begins_marked mark V U u span h front b)) (λ w n k. rw (h, f.same w n k))
 
   begins_stuck : (ts : List Token) (m : List ℕ) (c : Option Span) → accepted mark ts ≡ c → (fault : ParseFault)
-      → option_map_or (λ span. (q span ▸ λ x. pure (Some x)) (past (state ts m))) c (r (state ts m)) ≡ Err fault
-      → Fails (begins mark q r) (Optional ((TheMark mark ⨟ Q) or R)) (state ts m) fault
-  begins_stuck ts m None h fault e = rest_stuck ts m h fault (stuck_r (state ts m) fault tt e)
+      → option_map_or (λ span. (q span ▸ λ x. pure (Some x)) (past (state ts m))) c (r (state ts m)) ≡ Err fault → Fails limit (begins mark q r) Narrow Wider (state ts m) fault
+  begins_stuck ts m None h fault e = rest_stuck ts m h fault (stuck_r.fails (state ts m) fault tt e)
   begins_stuck [] m (Some span) h fault e = absurd (cc)
   begins_stuck (u ∷ ts) m (Some span) h fault e = some_stuck u ts m span h fault (broke (q span (state ts m)) (λ r. Ok (Some r.0, r.1)) fault e)
 
-  pub stuck_begins : Stuck Any (begins mark q r) (Optional ((TheMark mark ⨟ Q) or R))
-  stuck_begins s fault a e = begins_stuck s.left s.notes (accepted mark s.left) refl fault e
+  pub stuck_begins : Stuck limit Any (begins mark q r) (Optional ((TheMark mark ⨟ Q) or R)) (Optional ((TheMark mark ⨟ V) or U))
+  stuck_begins = record {
+    fails = λ s fault a e. begins_stuck s.left s.notes (accepted mark s.left) refl fault e;
+    within = optional_within ((TheMark mark ⨟ Q) or R) ((TheMark mark ⨟ V) or U)
+        (marked_within mark Q V R U (λ span. (stuck_q span).within) (λ p x ns h. stuck_r.within p (Some x) ns h));
+  }
 
-pub stuck_no_more : {X : Type 0} → Stuck Any (no_more {X = X}) (Optional Never)
-stuck_no_more s fault a e = absurd (cc)
+pub stuck_no_more : {limit : Limit} {X : Type 0} → Stuck limit Any (no_more {X = X}) (Optional Never) (Optional Never)
+stuck_no_more = record { fails = λ s fault a e. absurd (cc); within = same_within (Optional Never) }
 
--- The same by another rule.
-pub stuck_as : {X : Type 0} (start : List Token → Type 0) (read : Parse X) (P Q : Rule X) → ((p : List Token) (x : X) (ns : List ℕ) → P p x ns → Q p x ns) → Stuck start read P → Stuck start read Q
-stuck_as start read P Q to stuck s fault begun e =
-    let f = stuck s fault begun e in
-    record { front = f.front; left = f.left; whole = f.whole; tail = f.tail; x = f.x; notes = f.notes; can = to (f.front ++ f.tail) f.x f.notes f.can; same = f.same; line = f.line }
+-- The same by other rules.
+pub stuck_as : {limit : Limit} {X : Type 0} (start : List Token → Type 0) (read : Parse X) (P W Q V : Rule X) → Within P Q → Within W V → Within Q V
+    → Stuck limit start read P W → Stuck limit start read Q V
+stuck_as start read P W Q V to wide_to within stuck = record {
+  fails = λ s fault begun e.
+      let f = stuck.fails s fault begun e in
+      fails_after read P W s fault f read Q V [] s refl (begins_as P Q to) (begins_as W V wide_to) f.same;
+  within = within;
+}
 
 no_front : (a b : List Token) → a ++ b ≡ [] → a ≡ []
 no_front [] b h = refl
 no_front (t ∷ a) b h = absurd (cc)
 
-module _ {X : Type 0} (p : Parse (Option X)) (P : Rule X) (none some : List Token → Type 0) (exact_p : Exact p (Optional P) (Until none some)) (stuck_p : Stuck Any p (Optional P))
-    (by_next : ByNext none) (sample : Sample P) where
-  required_can : (front tail : List Token) (o : Option X) (ns : List ℕ) → Optional P (front ++ tail) o ns → (more : List Token) × (x : X) × (ms : List ℕ) × P (front ++ more) x ms
-  required_can front tail None ns h = (sample.tokens, sample.x, sample.notes, subst (λ (l : List Token). P (l ++ sample.tokens) sample.x sample.notes) (sym (no_front front tail h.0)) sample.said)
-  required_can front tail (Some x) ns h = (tail, x, ns, h)
+-- What begins by a rule or with no token begins by the rule, where it has something.
+required_can : {X : Type 0} (P : Rule X) → Sample P → (front tail : List Token) (o : Option X) (ns : List ℕ) → Optional P (front ++ tail) o ns → Begins P front
+required_can P sample front tail None ns h = subst (Begins P) (sym (no_front front tail h.0)) sample
+required_can P sample front tail (Some x) ns h = record { tail = tail; x = x; notes = ns; said = h }
 
-  none_stuck : (s : State) (o : Option X) (u : State) → p s ≡ Ok (o, u) → (fault : ParseFault) → option_map_or pure o unexpected u ≡ Err fault → Fails (required p) P s fault
+begins_required : {X : Type 0} (P : Rule X) → Sample P → (front : List Token) → Begins (Optional P) front → Begins P front
+begins_required P sample front b = required_can P sample front b.tail b.x b.notes b.said
+
+module _ {limit : Limit} {X : Type 0} {W : Rule X} (p : Parse (Option X)) (P : Rule X) (none some : List Token → Type 0) (exact_p : Exact p (Optional P) (Until none some))
+    (stuck_p : Stuck limit Any p (Optional P) (Optional W)) (by_next : ByNext none) (sample : Sample P) where
+  required_within : Within P W
+  required_within ts x ns h = stuck_p.within ts (Some x) ns h
+
+  none_stuck : (s : State) (o : Option X) (u : State) → p s ≡ Ok (o, u) → (fault : ParseFault) → option_map_or pure o unexpected u ≡ Err fault → Fails limit (required p) P W s fault
   none_stuck s (Some x) u e fault k = absurd (cc)
   none_stuck s None u e fault k =
       let f = exact_p.reads s None u tt e in
       let same : s.left ≡ u.left = f.taken ∙ ap (λ (l : List Token). l ++ u.left) f.said.0 in
-      fails_as (required p) P s (Unexpected (line_of u.left)) fault k
-      (record {
-        front = [];
-        left = s.left;
-        whole = refl;
-        tail = sample.tokens;
-        x = sample.x;
-        notes = sample.notes;
-        can = sample.said;
-        line = inl (ap (λ (l : List Token). Unexpected (line_of l)) (sym same));
-        same = λ w n h. rw (exact_p.again [] None [] w n (refl, refl) (by_next u.left w (ap next_token (sym same) ∙ sym h) f.stops), line_by_next w u.left (h ∙ ap next_token same));
-      })
+      fails_as (required p) P W s (Unexpected (line_of u.left)) fault k
+      (fails_here (required p) P W s.left s.notes (Unexpected (line_of u.left)) sample
+      (λ w n h. rw (exact_p.again [] None [] w n (refl, refl) (by_next u.left w (ap next_token (sym same) ∙ sym h) f.stops), line_by_next w u.left (h ∙ ap next_token same)))
+      (λ k. absurd k) (inl (ap (λ (l : List Token). Unexpected (line_of l)) (sym same))))
 
-  required_broke : (s : State) (fault : ParseFault) → Broke (p s) (λ r. option_map_or pure r.0 unexpected r.1) fault → Fails (required p) P s fault
+  required_broke : (s : State) (fault : ParseFault) → Broke (p s) (λ r. option_map_or pure r.0 unexpected r.1) fault → Fails limit (required p) P W s fault
   required_broke s fault (After r e k) = none_stuck s r.0 r.1 e fault k
   required_broke s fault (Before e) =
-      let f = stuck_p s fault tt e in
-      let c = required_can f.front f.tail f.x f.notes f.can in
-      record { front = f.front; left = f.left; whole = f.whole; tail = c.0; x = c.1; notes = c.2; can = c.3; line = f.line; same = λ w n k. rw (f.same w n k) }
+      let f = stuck_p.fails s fault tt e in
+      fails_after p (Optional P) (Optional W) s fault f (required p) P W [] s refl (begins_required P sample) (begins_required W (begins_as P W required_within [] sample))
+      (λ w n k. rw (f.same w n k))
 
-  pub stuck_required : Stuck Any (required p) P
-  stuck_required s fault a e = required_broke s fault (broke (p s) (λ r. option_map_or pure r.0 unexpected r.1) fault e)
+  pub stuck_required : Stuck limit Any (required p) P W
+  stuck_required = record { fails = λ s fault a e. required_broke s fault (broke (p s) (λ r. option_map_or pure r.0 unexpected r.1) fault e); within = required_within }
 
-module _ {X Y : Type 0} (p : Parse (Option X)) (f : X → Y) (P : Rule X) (stuck_p : Stuck Any p (Optional P)) where
-  option_can : (ts : List Token) (o : Option X) (ns : List ℕ) → Optional P ts o ns → Optional (P ⨟ λ x. Gives (f x)) ts (option_map f o) ns
-  option_can ts None ns h = h
-  option_can ts (Some x) ns h = record { x = x; front = ts; back = []; before = ns; after = []; tokens_are = sym (append-nil ts); notes_are = sym (append-nil ns); first = h; second = record { none = refl; is_value = refl; unnoted = refl } }
+-- What is made of what may come.
+option_can : {X Y : Type 0} (f : X → Y) (P : Rule X) (ts : List Token) (o : Option X) (ns : List ℕ) → Optional P ts o ns → Optional (P ⨟ λ x. Gives (f x)) ts (option_map f o) ns
+option_can f P ts None ns h = h
+option_can f P ts (Some x) ns h =
+    record {
+      x = x;
+      front = ts;
+      back = [];
+      before = ns;
+      after = [];
+      tokens_are = sym (append-nil ts);
+      notes_are = sym (append-nil ns);
+      first = h;
+      second = record { none = refl; is_value = refl; unnoted = refl };
+    }
 
-  option_broke : (s : State) (fault : ParseFault) → Broke {B = Option Y × State} (p s) (λ r. Ok (option_map f r.0, r.1)) fault → Fails (p ▸ λ o. pure (option_map f o)) (Optional (P ⨟ λ x. Gives (f x))) s fault
+begins_option : {X Y : Type 0} (f : X → Y) (P : Rule X) (front : List Token) → Begins (Optional P) front → Begins (Optional (P ⨟ λ x. Gives (f x))) front
+begins_option f P front b = record { tail = b.tail; x = option_map f b.x; notes = b.notes; said = option_can f P (front ++ b.tail) b.x b.notes b.said }
+
+module _ {limit : Limit} {X Y : Type 0} {W : Rule X} (p : Parse (Option X)) (f : X → Y) (P : Rule X) (stuck_p : Stuck limit Any p (Optional P) (Optional W)) where
+  option_broke : (s : State) (fault : ParseFault) → Broke {B = Option Y × State} (p s) (λ r. Ok (option_map f r.0, r.1)) fault
+      → Fails limit (p ▸ λ o. pure (option_map f o)) (Optional (P ⨟ λ x. Gives (f x))) (Optional (W ⨟ λ x. Gives (f x))) s fault
   option_broke s fault (After a e k) = absurd (cc)
   option_broke s fault (Before e) =
-      let h = stuck_p s fault tt e in
-      record { front = h.front; left = h.left; whole = h.whole; tail = h.tail; x = option_map f h.x; notes = h.notes; can = option_can (h.front ++ h.tail) h.x h.notes h.can; line = h.line; same = λ w n k. rw (h.same w n k) }
+      let h = stuck_p.fails s fault tt e in
+      fails_after p (Optional P) (Optional W) s fault h (p ▸ λ o. pure (option_map f o)) (Optional (P ⨟ λ x. Gives (f x))) (Optional (W ⨟ λ x. Gives (f x))) [] s refl
+      (begins_option f P) (begins_option f W) (λ w n k. rw (h.same w n k))
 
-  pub stuck_option : Stuck Any (p ▸ λ o. pure (option_map f o)) (Optional (P ⨟ λ x. Gives (f x)))
-  stuck_option s fault a e = option_broke s fault (broke (p s) (λ r. Ok (option_map f r.0, r.1)) fault e)
+  pub stuck_option : Stuck limit Any (p ▸ λ o. pure (option_map f o)) (Optional (P ⨟ λ x. Gives (f x))) (Optional (W ⨟ λ x. Gives (f x)))
+  stuck_option = record {
+    fails = λ s fault a e. option_broke s fault (broke (p s) (λ r. Ok (option_map f r.0, r.1)) fault e);
+    within = optional_within (P ⨟ λ x. Gives (f x)) (W ⨟ λ x. Gives (f x))
+        (then_within P W (λ x. Gives (f x)) (λ x. Gives (f x)) (λ ts x ns h. stuck_p.within ts (Some x) ns h) (λ x. same_within (Gives (f x))));
+  }
 
-module _ {X : Type 0} (line : ℕ) (p : Parse (X × Bool)) (P : Rule (X × Bool)) (stuck_p : Stuck Any p P) where
-  note_broke : (s : State) (fault : ParseFault) → Broke {B = X × State} (p s) (λ r. Ok (r.0.0, reading.noted (length s.notes) line r.0.1 r.1)) fault → Fails (reading.with_note line p) (Noted line P) s fault
+module _ {limit : Limit} {X : Type 0} {W : Rule (X × Bool)} (line : ℕ) (p : Parse (X × Bool)) (P : Rule (X × Bool)) (stuck_p : Stuck limit Any p P W) where
+  note_broke : (s : State) (fault : ParseFault) → Broke {B = X × State} (p s) (λ r. Ok (r.0.0, reading.noted (length s.notes) line r.0.1 r.1)) fault
+      → Fails limit (reading.with_note line p) (Noted line P) (Noted line W) s fault
   note_broke s fault (After a e k) = absurd (cc)
   note_broke s fault (Before e) =
-      let h = stuck_p s fault tt e in
-      record {
-        front = h.front;
-        left = h.left;
-        whole = h.whole;
-        tail = h.tail;
-        x = h.x.0;
-        notes = if h.x.1 then line ∷ h.notes else h.notes;
-        line = h.line;
-        can = record { is_noted = h.x.1; within = h.notes; notes_are = refl; said = h.can };
-        same = λ w n k. rw (h.same w n k);
-      }
+      let h = stuck_p.fails s fault tt e in
+      fails_after p P W s fault h (reading.with_note line p) (Noted line P) (Noted line W) [] s refl (begins_noted line P) (begins_noted line W) (λ w n k. rw (h.same w n k))
 
-  pub stuck_noted : Stuck Any (reading.with_note line p) (Noted line P)
-  stuck_noted s fault a e = note_broke s fault (broke (p s) (λ r. Ok (r.0.0, reading.noted (length s.notes) line r.0.1 r.1)) fault e)
+  noted_within : Within (Noted line P) (Noted line W)
+  noted_within ts x ns h = record { is_noted = h.is_noted; within = h.within; notes_are = h.notes_are; said = stuck_p.within ts (x, h.is_noted) h.within h.said }
 
-module _ {A X : Type 0} (part : Parse (Option X)) (add : A → X → A) (P : Rule X) (none some : List Token → Type 0)
-    (exact_part : Exact part (Optional P) (Until none some)) (stuck_part : Stuck Any part (Optional P)) (by_next : ByNext some)
+  pub stuck_noted : Stuck limit Any (reading.with_note line p) (Noted line P) (Noted line W)
+  stuck_noted = record { fails = λ s fault a e. note_broke s fault (broke (p s) (λ r. Ok (r.0.0, reading.noted (length s.notes) line r.0.1 r.1)) fault e); within = noted_within }
+
+-- What begins with as many as come.
+many_can : {A X : Type 0} (P : Rule X) (add : A → X → A) (a : A) (front tail : List Token) (o : Option X) (ns : List ℕ) → Optional P (front ++ tail) o ns → Begins (Many P add a) front
+many_can P add a front tail None ns h = record { tail = tail; x = a; notes = []; said = subst (λ (l : List Token). Many P add a l a []) (sym h.0) Enough }
+many_can P add a front tail (Some x) ns h =
+    record { tail = tail; x = add a x; notes = ns ++ []; said = subst (λ (l : List Token). Many P add a l (add a x) (ns ++ [])) (append-nil (front ++ tail)) (More h Enough) }
+
+begins_many : {A X : Type 0} (P : Rule X) (add : A → X → A) (a : A) (front : List Token) → Begins (Optional P) front → Begins (Many P add a) front
+begins_many P add a front b = many_can P add a front b.tail b.x b.notes b.said
+
+begins_more : {A X : Type 0} (P : Rule X) (add : A → X → A) (a : A) (before : List Token) (x : X) (ns : List ℕ) → P before x ns → (front : List Token) → Begins (Many P add (add a x)) front
+    → Begins (Many P add a) (before ++ front)
+begins_more P add a before x ns h front b =
+    record {
+      tail = b.tail;
+      x = b.x;
+      notes = ns ++ b.notes;
+      said = subst (λ (l : List Token). Many P add a l b.x (ns ++ b.notes)) (sym (append_assoc before front b.tail)) (More h b.said);
+    }
+
+module _ {limit : Limit} {A X : Type 0} {W : Rule X} (part : Parse (Option X)) (add : A → X → A) (P : Rule X) (none some : List Token → Type 0)
+    (exact_part : Exact part (Optional P) (Until none some)) (stuck_part : Stuck limit Any part (Optional P) (Optional W)) (by_next : ByNext some)
     (consumes : (x : X) (p : List Token) (ns : List ℕ) → P p x ns → 1 ≤ length p) (ended : none []) where
   record Halts (a : A) (ts : List Token) (fault : ParseFault) : Type 0 where
     front : List Token
     left : List Token
     whole : ts ≡ front ++ left
-    tail : List Token
-    b : A
-    notes : List ℕ
-    can : Many P add a (front ++ tail) b notes
+    can : Begins (Many P add a) front
+    helped : IsOf limit fault → Goes (Many W add a) front left
     same : (k : ℕ) (w : List Token) (m : List ℕ) (c : A) → length (front ++ w) ≤ k → next_token w ≡ next_token left → many_from part add k c (state (front ++ w) m) ≡ Err fault
     line : IsAt fault (line_of left)
 
-  many_can : (a : A) (ts : List Token) (o : Option X) (ns : List ℕ) → Optional P ts o ns → (b : A) × (ms : List ℕ) × Many P add a ts b ms
-  many_can a ts None ns h = (a, [], subst (λ (l : List Token). Many P add a l a []) (sym h.0) Enough)
-  many_can a ts (Some x) ns h = (add a x, ns ++ [], subst (λ (l : List Token). Many P add a l (add a x) (ns ++ [])) (append-nil ts) (More h Enough))
+  part_within : Within P W
+  part_within ts x ns h = stuck_part.within ts (Some x) ns h
 
   same_at : (k : ℕ) (ts : List Token) (m : List ℕ) (c : A) (fault : ParseFault) → length ts ≤ k → part (state ts m) ≡ Err fault → many_from part add k c (state ts m) ≡ Err fault
   same_at zero [] m c fault less e = let g = sym (exact_part.again [] None [] [] m (refl, refl) ended) ∙ e in absurd (cc)
@@ -419,11 +537,9 @@ module _ {A X : Type 0} (part : Parse (Option X)) (add : A → X → A) (P : Rul
         front = f.tokens ++ g.front;
         left = g.left;
         whole = f.taken ∙ ap (λ l. f.tokens ++ l) g.whole ∙ sym (append_assoc f.tokens g.front g.left);
-        tail = g.tail;
-        b = g.b;
-        notes = f.notes ++ g.notes;
         line = g.line;
-        can = subst (λ (l : List Token). Many P add a l g.b (f.notes ++ g.notes)) (sym (append_assoc f.tokens g.front g.tail)) (More f.said g.can);
+        can = begins_more P add a f.tokens x f.notes f.said g.front g.can;
+        helped = λ k. goes (Many W add (add a x)) (Many W add a) f.tokens (begins_more W add a f.tokens x f.notes (part_within f.tokens x f.notes f.said)) g.front g.left (g.helped k);
         same = λ k w m c less h.
             subst (λ (l : List Token). many_from part add k c (state l m) ≡ Err fault) (sym (append_assoc f.tokens g.front w))
             (same_more k f.tokens (g.front ++ w) x f.notes m c fault f.said
@@ -437,16 +553,13 @@ module _ {A X : Type 0} (part : Parse (Option X)) (add : A → X → A) (P : Rul
       → ((a : A) (u : State) → length u.left ≤ n → many_from part add n a u ≡ Err fault → Halts a u.left fault) → Halts a ts fault
   halts_by n a ts m fault less (After r e k) more = halts_more n a ts m r.0 r.1 fault less (exact_part.reads (state ts m) r.0 r.1 tt e) (λ a l e. more a r.1 l e) k
   halts_by n a ts m fault less (Before e) more =
-      let f = stuck_part (state ts m) fault tt e in
-      let c = many_can a (f.front ++ f.tail) f.x f.notes f.can in
+      let f = stuck_part.fails (state ts m) fault tt e in
       record {
         front = f.front;
         left = f.left;
         whole = f.whole;
-        tail = f.tail;
-        b = c.0;
-        notes = c.1;
-        can = c.2;
+        can = begins_many P add a f.front f.can;
+        helped = λ k. goes (Optional W) (Many W add a) [] (begins_many W add a) f.front f.left (f.helped k);
         line = f.line;
         same = λ k w m c less h. same_at k (f.front ++ w) m c fault less (f.same w m h);
       }
@@ -457,17 +570,18 @@ module _ {A X : Type 0} (part : Parse (Option X)) (add : A → X → A) (P : Rul
       halts_by n a ts m fault less (broke (part (state ts m)) (λ r. option_map_or (λ x. many_from part add n (add a x) r.1) r.0 (Ok (a, r.1))) fault e)
       (λ a u l e. many_halts n a u.left u.notes fault l e)
 
-  pub stuck_many : (a : A) → Stuck some (many part add a) (Many P add a)
-  stuck_many a s fault begun e =
-      let h = many_halts (length s.left) a s.left s.notes fault (omega arith) e in
-      record {
-        front = h.front;
-        left = h.left;
-        whole = h.whole;
-        tail = h.tail;
-        x = h.b;
-        notes = h.notes;
-        can = h.can;
-        line = h.line;
-        same = λ w m k. h.same (length (h.front ++ w)) w m a (omega arith) k;
-      }
+  pub stuck_many : (a : A) → Stuck limit some (many part add a) (Many P add a) (Many W add a)
+  stuck_many a = record {
+    within = λ p b ns h. many_within P W add part_within h;
+    fails = λ s fault begun e.
+        let h = many_halts (length s.left) a s.left s.notes fault (omega arith) e in
+        record {
+          front = h.front;
+          left = h.left;
+          whole = h.whole;
+          can = h.can;
+          helped = h.helped;
+          line = h.line;
+          same = λ w m k. h.same (length (h.front ++ w)) w m a (omega arith) k;
+        };
+  }

@@ -142,6 +142,22 @@ IsAt fault line = (fault ≡ Unexpected line) ⊎ (fault ≡ Period line) ⊎ (f
 abbrev pub NoneGoesOn : (ℕ → Bool) → ℕ → List Token → Token → Type 0
 NoneGoesOn fits room front token = (more : List Token) (other : File) → SaysWithin fits room (front ++ token ∷ more) other → ⊥
 
+-- Within limits, something that begins with these tokens and one more says a file.
+abbrev pub GoesOn : (ℕ → Bool) → ℕ → List Token → Token → Type 0
+GoesOn fits room front token = (more : List Token) × (other : File) × SaysWithin fits room (front ++ token ∷ more) other
+
+-- Periods of any length.
+abbrev pub any_period : ℕ → Bool
+any_period n = true
+
+-- The limit that a fault is of is the reason: without it the token could go on. With any period a period that does not
+-- fit could, and with one more open at once what opens too deep.
+abbrev pub Helps : ParseFault → List Token → Token → Type 0
+Helps (Unexpected line) front token = Unit {0}
+Helps (Period line) front token = GoesOn any_period 32 front token
+Helps (Nesting line) front token = GoesOn fits_period 33 front token
+Helps Memory front token = Unit {0}
+
 -- Which limits do not help: none would let an unexpected token go on, no more room a period that does not fit, and no
 -- other periods what opens too deep.
 abbrev pub NoHelp : ParseFault → List Token → Token → Type 0
@@ -151,7 +167,8 @@ NoHelp (Nesting line) front token = (fits : ℕ → Bool) → NoneGoesOn fits 32
 NoHelp Memory front token = Unit {0}
 
 -- Tokens stop at a token: those before it can go on so that they say a file, but not with this one, whatever comes after
--- it; the fault has its line, and is P6 only where no limits would let it go on.
+-- it; the fault has its line, and is P7 or P8 where the token could go on without that limit, and P6 where no limits
+-- would let it.
 pub record StopsAt (tokens : List Token) (fault : ParseFault) : Type 0 where
   pub front : List Token
   pub token : Token
@@ -163,3 +180,4 @@ pub record StopsAt (tokens : List Token) (fault : ParseFault) : Type 0 where
   pub can : Says (front ++ tail) file
   pub cannot : NoneGoesOn fits_period 32 front token
   pub no_help : NoHelp fault front token
+  pub helps : Helps fault front token

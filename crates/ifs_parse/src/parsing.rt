@@ -49,7 +49,7 @@ pub fn parse(alloc: Global, tokens: &[Token]) -> Result<Tree, ParseFault>
     // What the tokens say is answered, unless memory runs out.
     ensures only { (file : File) → Says tokens.now file → result ≢ Err Memory → IsOkAnd result (λ tree. tree ≡ file) }
     // Any other refusal is at the first token that cannot go on: what stands before it can, with it nothing can; and
-    // it is P6 only where nothing could within any limits.
+    // it is P7 or P8 where the token could go on without that limit, and P6 where it could within no limits.
     ensures stops { IfErr result (λ fault. fault ≢ Memory → StopsAt tokens.now fault) }
     // Which one it is, and its line, is that of reading from the left.
     ensures first_fault { IfErr result (λ fault. fault ≢ Memory → read_within fits_period 32 tokens.now ≡ Err fault) }

@@ -3,6 +3,7 @@
 use super::*;
 use ifs_base::LinkState;
 use ifs_lex::tokens;
+use ifs_rows::policies::{accepted, refused_names, refused_tokens};
 use std::alloc::Global;
 use std::process::Abort;
 use std::test::Fail;
@@ -238,30 +239,8 @@ const PLACES: [(&str, &str, &str); 6] = [
     ),
 ];
 
-const REFUSED: [(&str, &str, &str); 24] = [
-    ("open state", "state a {", "P6 line 1"),
-    ("period nothing", "if t every 0 run x", "P7 line 1"),
-    (
-        "period over a week",
-        "if t every\n604801 run x",
-        "P7 line 2",
-    ),
-    (
-        "period over every number",
-        "if t every 99999999999999999999 run x",
-        "P7 line 1",
-    ),
-    ("period with a unit", "if t every 5s run x", "P6 line 1"),
-    ("quoted period", "if t every \"5\" run x", "P6 line 1"),
-    ("quoted every", "if t \"every\" 5 run x", "P6 line 1"),
-    ("quoted link", "if a.\"link\".up run x", "P6 line 1"),
-    ("quoted up", "if a.link.\"up\" run x", "P6 line 1"),
-    (
-        "no link state",
-        "state a { if a.link.over run \"x\" }",
-        "P6 line 1",
-    ),
-    ("no block", "if a.link.up }", "P6 line 1"),
+/// Those that no row of a whole policy has.
+const REFUSED: [(&str, &str, &str); 8] = [
     ("nothing to run", "run\nif", "P6 line 2"),
     ("dangling and", "if a.link.up &&\nrun x", "P6 line 2"),
     (
@@ -270,25 +249,12 @@ const REFUSED: [(&str, &str, &str); 24] = [
         "P6 line 2",
     ),
     ("dangling bang", "if !\nrun x", "P6 line 2"),
-    (
-        "parenthesis not closed",
-        "if ( a.link.up\nrun x",
-        "P6 line 2",
-    ),
-    ("parenthesis too many", "if a.link.up ) run x", "P6 line 1"),
-    ("brace too many", "state a { }\n}", "P6 line 2"),
-    (
-        "init in a block",
-        "if a.link.up { init run x }",
-        "P6 line 1",
-    ),
-    ("state in a state", "state a { state b { } }", "P6 line 1"),
+    ("parenthesis too many", "if a.link.up\n) run x", "P6 line 2"),
     (
         "init-state in a state",
-        "state a { init-state a }",
-        "P6 line 1",
+        "state a {\ninit-state a }",
+        "P6 line 2",
     ),
-    ("reserved name", "state if { }", "P6 line 1"),
     ("equals", "run x\n= y", "P6 line 2"),
     ("a word alone", "run x\ny", "P6 line 2"),
 ];
@@ -308,6 +274,57 @@ fn refused_texts_name_the_first_fault(rt: HostRuntime) -> Result<(), Fail> {
     check_rows(&rt, rt.alloc(), &REFUSED)
 }
 
+#[test]
+fn rows_are_refused_with_their_lines(rt: HostRuntime) -> Result<(), Fail> {
+    let alloc = rt.alloc();
+    for row in refused_tokens() {
+        let found = tokens(alloc, row.policy, row.definitions)?;
+        let line = match parse(alloc, found.as_slice()) {
+            Ok(_) => format!(in alloc; "a tree")?,
+            Err(fault) => format!(in alloc; "refused {fault}\n")?,
+        };
+        assert_eq!(rt; line.as_str(), row.answer, "{}", row.name);
+    }
+    Ok(())
+}
+
+/// The lines that are printed of a tree's notes.
+fn note_lines(alloc: Global, tree: &Tree) -> Result<String, Fail> {
+    let mut lines = String::new(alloc);
+    for note in tree.notes() {
+        let shown = format!(in alloc; "note line {note}: || and && without parentheses\n")?;
+        lines.push_str(shown.as_str())?;
+    }
+    lines.push_str("ok ")?;
+    Ok(lines)
+}
+
+#[test]
+fn rows_have_trees_with_their_notes(rt: HostRuntime) -> Result<(), Fail> {
+    let alloc = rt.alloc();
+    for row in accepted() {
+        let tree = parse(
+            alloc,
+            tokens(alloc, row.policy, row.definitions)?.as_slice(),
+        )?;
+        let lines = note_lines(alloc, &tree)?;
+        assert!(rt; row.answer.starts_with(lines.as_str()), "{}", row.name);
+    }
+    Ok(())
+}
+
+/// What names have at fault is not told of a tree.
+#[test]
+fn rows_of_names_have_trees(rt: HostRuntime) -> Result<(), Fail> {
+    let alloc = rt.alloc();
+    for row in refused_names() {
+        let found = tokens(alloc, row.policy, row.definitions)?;
+        let has_tree = parse(alloc, found.as_slice()).is_ok();
+        assert!(rt; has_tree, "{}", row.name);
+    }
+    Ok(())
+}
+
 fn repeat(out: &mut String, part: &str, times: u32) -> Result<(), Fail> {
     for _time in 0..times {
         out.push_str(part)?;
@@ -315,51 +332,167 @@ fn repeat(out: &mut String, part: &str, times: u32) -> Result<(), Fail> {
     Ok(())
 }
 
-/// A text with so many `if`, `!` and `(` open round its last test, the last of them on line 2.
-fn nested(alloc: Global, ifs: u32, bangs: u32, groups: u32) -> Result<String, Fail> {
-    let mut out = String::new(alloc);
-    repeat(&mut out, "if a.link.up ", ifs)?;
-    out.push_str("if ")?;
-    repeat(&mut out, "! ", bangs)?;
-    repeat(&mut out, "( ", groups)?;
-    out.push_str("a.link.up ")?;
-    repeat(&mut out, ") ", groups)?;
-    out.push_str("run x")?;
-    Ok(out)
+/// In which order `!` and `(` open.
+#[derive(Clone, Copy, Debug)]
+enum Order {
+    BangsFirst,
+    GroupsFirst,
+    /// One of each in turn, while there are both.
+    InTurn,
+    /// The same, a `(` before each `!`.
+    GroupsInTurn,
 }
 
-/// 32 of `if`, `!` and `(` may be open at once, in every mixture, and not 33.
-#[test]
-fn nesting_has_a_limit(rt: HostRuntime) -> Result<(), Fail> {
-    let alloc = rt.alloc();
-    for ifs in 0..32 {
-        for bangs in 0..32 - ifs {
-            let groups = 31 - ifs - bangs;
-            let good = nested(alloc, ifs, bangs, groups)?;
-            let one_more = nested(alloc, ifs, bangs, groups + 1)?;
-            let is_good = parse(alloc, tokens(alloc, good.as_str(), &[])?.as_slice()).is_ok();
-            let line = told(alloc, one_more.as_str())?;
-            assert!(&rt; is_good, "{ifs} {bangs} {groups}");
-            assert_eq!(&rt; line.as_str(), "P8 line 1", "{ifs} {bangs} {groups}");
+const ORDERS: [Order; 4] = [
+    Order::BangsFirst,
+    Order::GroupsFirst,
+    Order::InTurn,
+    Order::GroupsInTurn,
+];
+
+/// A `!` and a `(` in turn, and then those that one of them has more of.
+fn in_turn(out: &mut String, one: &str, other: &str, times: u32, others: u32) -> Result<(), Fail> {
+    for time in 0..times.max(others) {
+        if time < times {
+            out.push_str(one)?;
+        }
+        if time < others {
+            out.push_str(other)?;
         }
     }
     Ok(())
 }
 
+/// So many `!` and `(` in an order, each on a line of its own.
+fn openings(alloc: Global, order: Order, bangs: u32, groups: u32) -> Result<String, Fail> {
+    let mut out = String::new(alloc);
+    match order {
+        Order::BangsFirst => {
+            repeat(&mut out, "\n!", bangs)?;
+            repeat(&mut out, "\n(", groups)?;
+        }
+        Order::GroupsFirst => {
+            repeat(&mut out, "\n(", groups)?;
+            repeat(&mut out, "\n!", bangs)?;
+        }
+        Order::InTurn => in_turn(&mut out, "\n!", "\n(", bangs, groups)?,
+        Order::GroupsInTurn => in_turn(&mut out, "\n(", "\n!", groups, bangs)?,
+    }
+    Ok(out)
+}
+
+/// How many are open at once: each `if` but the last, which has `!` and `(` in its condition.
+#[derive(Clone, Copy, Debug)]
+struct Mixture {
+    outer_ifs: u32,
+    bangs: u32,
+    groups: u32,
+}
+
+impl Mixture {
+    /// A text with these open, each on a line of its own.
+    fn text(&self, alloc: Global, order: Order) -> Result<String, Fail> {
+        let mut out = String::new(alloc);
+        repeat(&mut out, "if a.link.up\n", self.outer_ifs)?;
+        out.push_str("if")?;
+        out.push_str(openings(alloc, order, self.bangs, self.groups)?.as_str())?;
+        out.push_str(" a.link.up ")?;
+        repeat(&mut out, ") ", self.groups)?;
+        out.push_str("run x")?;
+        Ok(out)
+    }
+
+    /// What is told of its tree: parentheses leave nothing there.
+    fn tree(&self, alloc: Global) -> Result<String, Fail> {
+        let mut out = String::new(alloc);
+        repeat(&mut out, "if a.up { ", self.outer_ifs)?;
+        out.push_str("if ")?;
+        repeat(&mut out, "!", self.bangs)?;
+        out.push_str("a.up { run x } ")?;
+        repeat(&mut out, "} ", self.outer_ifs)?;
+        Ok(out)
+    }
+}
+
+/// Each order of a mixture is told so.
+fn check_orders(
+    rt: &impl Abort,
+    alloc: Global,
+    mixture: &Mixture,
+    expected: &str,
+) -> Result<(), Fail> {
+    for order in ORDERS {
+        let line = told(alloc, mixture.text(alloc, order)?.as_str())?;
+        assert_eq!(rt; line.as_str(), expected, "{mixture:?} {order:?}");
+    }
+    Ok(())
+}
+
+/// Every mixture of so many open at once, within so many `if`.
+fn check_conditions(
+    rt: &impl Abort,
+    alloc: Global,
+    outer_ifs: u32,
+    others: u32,
+    is_good: bool,
+) -> Result<(), Fail> {
+    for bangs in 0..=others {
+        let mixture = Mixture {
+            outer_ifs,
+            bangs,
+            groups: others - bangs,
+        };
+        let expected = if is_good {
+            mixture.tree(alloc)?
+        } else {
+            format!(in alloc; "P8 line 33")?
+        };
+        check_orders(rt, alloc, &mixture, expected.as_str())?;
+    }
+    Ok(())
+}
+
+/// Every mixture of so many open at once: each has its tree, or is refused at the line of the 33rd.
+fn check_mixtures(rt: &impl Abort, alloc: Global, open: u32, is_good: bool) -> Result<(), Fail> {
+    for outer_ifs in 0..open {
+        check_conditions(rt, alloc, outer_ifs, open - 1 - outer_ifs, is_good)?;
+    }
+    Ok(())
+}
+
 #[test]
-fn the_last_to_open_is_the_one_too_many(rt: HostRuntime) -> Result<(), Fail> {
+fn thirty_two_may_be_open_at_once(rt: HostRuntime) -> Result<(), Fail> {
+    check_mixtures(&rt, rt.alloc(), 32, true)
+}
+
+#[test]
+fn the_thirty_third_is_one_too_many(rt: HostRuntime) -> Result<(), Fail> {
+    check_mixtures(&rt, rt.alloc(), 33, false)
+}
+
+/// The first that is one too many is told, however many there are.
+#[test]
+fn more_are_told_at_the_thirty_third(rt: HostRuntime) -> Result<(), Fail> {
+    check_mixtures(&rt, rt.alloc(), 40, false)
+}
+
+/// A `!` is open to the end of its operand, a `(` to its `)` and an `if` to the end of its block.
+#[test]
+fn what_is_closed_is_open_no_more(rt: HostRuntime) -> Result<(), Fail> {
     let alloc = rt.alloc();
-    let mut bangs = String::new(alloc);
-    repeat(&mut bangs, "! ", 31)?;
-    let bang = format!(in alloc; "if {}\n! a.link.up run x", bangs.as_str())?;
-    assert_eq!(&rt; told(alloc, bang.as_str())?.as_str(), "P8 line 2");
-    let mut ifs = String::new(alloc);
-    repeat(&mut ifs, "if a.link.up ", 32)?;
-    let conditional = format!(in alloc; "{}\nif a.link.up run x", ifs.as_str())?;
-    assert_eq!(&rt; told(alloc, conditional.as_str())?.as_str(), "P8 line 2");
-    let closed = format!(in alloc; "{} run x if a.link.up run x", ifs.as_str())?;
-    let is_good = parse(alloc, tokens(alloc, closed.as_str(), &[])?.as_slice()).is_ok();
-    assert!(&rt; is_good, "a block ends each");
+    for (part, end) in [
+        ("! ! a.link.up && ", "a.link.up run x"),
+        ("( ! a.link.up ) || ", "a.link.up run x"),
+        ("a.link.up { if a.link.up run x } if ", "a.link.up run x"),
+        ("a.link.up if a.link.up run x if ", "a.link.up run x"),
+    ] {
+        let mut text = String::new(alloc);
+        text.push_str("if ")?;
+        repeat(&mut text, part, 40)?;
+        text.push_str(end)?;
+        let has_tree = parse(alloc, tokens(alloc, text.as_str(), &[])?.as_slice()).is_ok();
+        assert!(rt; has_tree, "{part}");
+    }
     Ok(())
 }
 
