@@ -1,16 +1,16 @@
 //! What the words on files answer, apart from the files themselves.
 
-ghost use Rattle.std.specs.Prelude.{◌≡◌, ◌≢◌, map, IfOk};
-ghost use Rattle.ifsvm.specs.Answers.{AreAccepted, AreGood, ArePolicy};
+ghost use Rattle.std.specs.Prelude.{◌≡◌, ◌≢◌, None, map, option_map, IfOk};
+ghost use Rattle.ifsvm.specs.Answers.{AreAccepted, AreGood, IsGiven};
 
-use crate::checking::{CheckFault, lines_of};
+use crate::checking::check;
+use crate::compiling::compile;
 use crate::ending::{Ending, out_of_memory};
 use crate::files::{FileFault, contents};
 use crate::task::{Answer, Task};
 use ifs_image::Budgets;
 use ifs_verify::{VerifyFault, verify};
 use std::alloc::{AllocError, Global};
-use std::fmt::Display;
 use std::rt::Files;
 
 /// The answer to a task on these bytes: its text is the lines on success, and a line on a refusal. An error
@@ -24,32 +24,27 @@ pub fn answer(
     // Bytes are told to be good exactly where they are what the task asks for.
     ensures good { IfOk result (λ answer. answer.status ≡ 0 → AreGood task input.now (map (λ d. (d.0.now, d.1.now)) defs.now)) }
     ensures refused { IfOk result (λ answer. answer.status ≢ 0 → ¬ AreGood task input.now (map (λ d. (d.0.now, d.1.now)) defs.now)) }
+    // The file is the one that the task asks for, and there is none with a refusal.
+    ensures file { IfOk result (λ answer. answer.status ≡ 0 → IsGiven task input.now (map (λ d. (d.0.now, d.1.now)) defs.now) (option_map (λ file. file.items) answer.file)) }
+    ensures no_file { IfOk result (λ answer. answer.status ≢ 0 → answer.file ≡ None) }
 {
     match task {
-        Task::Check => check_answer(alloc, input, defs),
-        Task::Verify => verify_answer(alloc, input),
+        Task::Check => check(alloc, input, defs),
+        Task::Compile => compile(alloc, input, defs),
+        Task::Verify => verified(alloc, input),
     }
 }
 
-fn check_answer(alloc: Global, policy: &[u8], defs: &[(&str, &str)]) -> Result<Answer, AllocError>
-    ensures good { IfOk result (λ answer. answer.status ≡ 0 → ArePolicy policy.now (map (λ d. (d.0.now, d.1.now)) defs.now)) }
-    ensures refused { IfOk result (λ answer. answer.status ≢ 0 → ¬ ArePolicy policy.now (map (λ d. (d.0.now, d.1.now)) defs.now)) }
-{
-    match lines_of(alloc, policy, defs) {
-        Ok(lines) => Ok(good(lines)),
-        Err(CheckFault::Memory) => Err(AllocError),
-        Err(fault) => refused(alloc, fault),
-    }
-}
-
-fn verify_answer(alloc: Global, image: &[u8]) -> Result<Answer, AllocError>
+/// The answer of `verify`: the stated budgets of an image.
+fn verified(alloc: Global, image: &[u8]) -> Result<Answer, AllocError>
     ensures good { IfOk result (λ answer. answer.status ≡ 0 → AreAccepted image.now) }
     ensures refused { IfOk result (λ answer. answer.status ≢ 0 → ¬ AreAccepted image.now) }
+    ensures file { IfOk result (λ answer. answer.file ≡ None) }
 {
     match verify(alloc, image) {
-        Ok(verified) => Ok(good(budgets_line(alloc, verified.budgets())?)),
+        Ok(verified) => Ok(Answer::good(budgets_line(alloc, verified.budgets())?, None)),
         Err(VerifyFault::OutOfMemory) => Err(AllocError),
-        Err(fault) => refused(alloc, fault),
+        Err(fault) => Answer::refused(alloc, fault),
     }
 }
 
@@ -61,26 +56,6 @@ fn budgets_line(alloc: Global, budgets: Budgets) -> Result<String, AllocError> {
         commands,
     } = budgets;
     format!(in alloc; "ok stack {stack} frames {frames} cost {cost} commands {commands}\n")
-}
-
-fn good(text: String) -> Answer
-    ensures { result.status ≡ 0 }
-{
-    Answer {
-        status: 0,
-        text,
-        file: None,
-    }
-}
-
-fn refused<F: Display + Drop>(alloc: Global, fault: F) -> Result<Answer, AllocError>
-    ensures { IfOk result (λ answer. answer.status ≡ 1) }
-{
-    Ok(Answer {
-        status: 1,
-        text: format!(in alloc; "refused {fault}\n")?,
-        file: None,
-    })
 }
 
 /// Does a task on the bytes of a file, and prints the answer.

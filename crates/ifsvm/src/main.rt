@@ -8,6 +8,7 @@
 mod answering;
 mod checking;
 mod command_line;
+mod compiling;
 mod definitions;
 mod ending;
 mod files;
