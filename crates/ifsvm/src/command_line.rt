@@ -15,6 +15,12 @@ const ABOUT: &str =
 /// The operand that names a file.
 const FILE: &str = "file";
 
+/// The operand that names a socket.
+const SOCKET: &str = "socket";
+
+/// The operand that is a request line.
+const REQUEST: &str = "request";
+
 /// What help calls a definition.
 const DEFINITION: &str = "NAME=VALUE";
 
@@ -35,6 +41,16 @@ pub enum Asked {
     /// A session on the image of a file.
     Sim {
         image: String,
+    },
+    /// A daemon on the image of a file, for the clients of a socket.
+    Serve {
+        image: String,
+        socket: String,
+    },
+    /// A request to the daemon of a socket.
+    Send {
+        socket: String,
+        request: String,
     },
 }
 
@@ -102,6 +118,14 @@ fn asked_by<'a>(
         "verify" => Asked::Verify {
             image: file_of(alloc, operands)?,
         },
+        "serve" => Asked::Serve {
+            image: file_of(alloc, operands)?,
+            socket: operand_of(alloc, operands, SOCKET)?,
+        },
+        "send" => Asked::Send {
+            socket: operand_of(alloc, operands, SOCKET)?,
+            request: operand_of(alloc, operands, REQUEST)?,
+        },
         _ => Asked::Sim {
             image: file_of(alloc, operands)?,
         },
@@ -110,7 +134,12 @@ fn asked_by<'a>(
 
 /// The file that a word works on.
 fn file_of(alloc: Global, operands: &ArgMatches<'_>) -> Result<String, AllocError> {
-    String::from_str(alloc, operands.get_str(FILE).unwrap_or_default())
+    operand_of(alloc, operands, FILE)
+}
+
+/// The operand of this name.
+fn operand_of(alloc: Global, operands: &ArgMatches<'_>, name: &str) -> Result<String, AllocError> {
+    String::from_str(alloc, operands.get_str(name).unwrap_or_default())
 }
 
 /// The definitions of the command line; an error where one is none.
@@ -153,12 +182,25 @@ fn command<'a>(alloc: Global) -> Result<Command<'a>, Error> {
     let sim = Command::new(alloc, "sim")
         .about("Answer the request lines of standard input on an image")
         .arg(file(alloc, "IMAGE"))?;
+    let serve = Command::new(alloc, "serve")
+        .about("Serve the clients of a Unix socket on an image, and run its tests and commands")
+        .arg(file(alloc, "IMAGE"))?
+        .arg(socket(
+            alloc,
+            "the socket's file, which is made here and removed at the end",
+        ))?;
+    let send = Command::new(alloc, "send")
+        .about("Send a request line to the daemon of a Unix socket, and print what comes back")
+        .arg(socket(alloc, "the socket's file"))?
+        .arg(request(alloc))?;
     let command = Command::new(alloc, "ifsvm")
         .version("0.1.0")
         .about(ABOUT)
         .subcommand(check)?
         .subcommand(verify)?
-        .subcommand(sim)?;
+        .subcommand(sim)?
+        .subcommand(serve)?
+        .subcommand(send)?;
     Ok(command)
 }
 
@@ -167,6 +209,22 @@ fn file<'a>(alloc: Global, name: &'a str) -> Arg<'a> {
     Arg::new(alloc, FILE)
         .value_name(name)
         .help("a file of at most 16,777,216 bytes")
+        .required(true)
+}
+
+/// The operand that names a socket, and what help says of it.
+fn socket<'a>(alloc: Global, help: &'a str) -> Arg<'a> {
+    Arg::new(alloc, SOCKET)
+        .value_name("SOCKET")
+        .help(help)
+        .required(true)
+}
+
+/// The operand that is a request line.
+fn request<'a>(alloc: Global) -> Arg<'a> {
+    Arg::new(alloc, REQUEST)
+        .value_name("REQUEST")
+        .help("a request line, as one word")
         .required(true)
 }
 
