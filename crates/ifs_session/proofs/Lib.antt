@@ -10,6 +10,9 @@ pub mod Numbers
 pub mod Quoting
 pub mod OneAnswer
 pub mod Serving
+pub mod Logs
+pub mod Taking
+pub mod Accounting
 pub mod Skipping
 pub mod Spelling
 pub mod Spaces

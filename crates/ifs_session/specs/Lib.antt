@@ -1,6 +1,9 @@
 -- From the top down: a run, a session, its lines, their requests and replies, and what these stand on.
 pub mod Runs
 pub mod Sessions
+pub mod Service
+pub mod Accounts
+pub mod Hosts
 pub mod Lines
 pub mod Requests
 pub mod Replies

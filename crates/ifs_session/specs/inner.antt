@@ -3,3 +3,4 @@ pub mod Opening
 pub mod Parsing
 pub mod Reading
 pub mod Serving
+pub mod Connections

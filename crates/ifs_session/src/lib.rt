@@ -10,22 +10,28 @@
 mod device;
 mod fault;
 mod hexadecimal;
+mod host;
 pub mod laws;
 mod lines;
 mod memory;
+mod queue;
 mod refusal;
 mod replies;
 mod request;
 mod running;
+mod service;
 mod session;
 mod std_devices;
 mod words;
 
 pub use device::{ByteIn, ByteOut, DeviceFault};
 pub use fault::{RunFault, SessionFault};
+pub use host::{Host, HostFault};
 pub use memory::{MemoryIn, MemoryOut};
+pub use queue::run_queue;
 pub use request::RequestFault;
 pub use running::run_hex;
+pub use service::{End, Served, serve_one};
 pub use session::{Summary, simulate};
 pub use std_devices::{FromRead, ToWrite};
 

@@ -23,6 +23,7 @@ pub(crate) struct Line {
 impl Line {
     ghost use Rattle.ifs_session.specs.inner.Parsing.{told_by};
     ghost use Rattle.ifs_session.specs.inner.Serving.{kept_asked};
+    ghost use Rattle.ifs_session.specs.inner.Connections.{kept_client_asked};
 
     /// What the line asks for, or its fault.
     pub fn request(&self) -> Result<Request<'_>, RequestFault>
@@ -32,6 +33,20 @@ impl Line {
             return Err(RequestFault::TooLong);
         }
         parse_request(self.kept.as_slice())
+    }
+
+    /// What the line of a client asks for, or its fault: `take` and `result` are no requests there.
+    pub fn client_request(&self) -> Result<Request<'_>, RequestFault>
+        ensures { told_by result ≡ kept_client_asked self.now }
+    {
+        if self.is_longer {
+            return Err(RequestFault::TooLong);
+        }
+        let text = self.kept.as_slice();
+        if text.starts_with(b"result ") || text == b"take".as_slice() {
+            return Err(RequestFault::NoRequest);
+        }
+        parse_request(text)
     }
 }
 

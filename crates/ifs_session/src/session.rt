@@ -18,7 +18,7 @@ use ifs_base::LinkState;
 use ifs_core::{Core, Lists, Step};
 
 /// The most bytes of requests that a session reads.
-const INPUT: u32 = 16_777_216;
+pub(crate) const INPUT: u32 = 16_777_216;
 
 /// How a session went that no fault ended.
 #[derive(Clone, Copy, Debug, PartialEq, Eq)]

@@ -1,3 +1,4 @@
 mod Names
 mod Texts
+mod Waiting
 mod Whole

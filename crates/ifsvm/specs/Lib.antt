@@ -1,3 +1,5 @@
 pub mod Answers
+pub mod Children
 pub mod Definitions
 pub mod Files
+pub mod Shells

@@ -13,8 +13,14 @@ use std::rt::Env;
 const ABOUT: &str =
     "Checks failover policies, and verifies and runs their images. Without words it reads an image as a line of hexadecimal digits and then request lines from standard input.";
 
-/// The operand that names a file.
+/// The operand that names the file that is read.
 const FILE: &str = "file";
+
+/// The operand that names a socket.
+const SOCKET: &str = "socket";
+
+/// The operand that is a request line.
+const REQUEST: &str = "request";
 
 /// What help calls a definition.
 const DEFINITION: &str = "NAME=VALUE";
@@ -36,6 +42,16 @@ pub enum Asked {
     /// A session on the image of a file.
     Sim {
         image: String,
+    },
+    /// A daemon on the image of a file, for the clients of a socket.
+    Serve {
+        image: String,
+        socket: String,
+    },
+    /// A request to the daemon of a socket.
+    Send {
+        socket: String,
+        request: String,
     },
 }
 
@@ -114,6 +130,14 @@ fn asked_with(
         "verify" => Ok(Asked::Verify {
             image: operand_of(alloc, operands, FILE)?,
         }),
+        "serve" => Ok(Asked::Serve {
+            image: operand_of(alloc, operands, FILE)?,
+            socket: operand_of(alloc, operands, SOCKET)?,
+        }),
+        "send" => Ok(Asked::Send {
+            socket: operand_of(alloc, operands, SOCKET)?,
+            request: operand_of(alloc, operands, REQUEST)?,
+        }),
         _ => Ok(Asked::Sim {
             image: operand_of(alloc, operands, FILE)?,
         }),
@@ -176,7 +200,13 @@ fn command<'a>(alloc: Global) -> Result<Command<'a>, AllocError> {
 /// The words that it has.
 fn subcommands<'a>(alloc: Global) -> Result<Vec<Command<'a>>, AllocError> {
     let mut commands = Vec::new(alloc);
-    for word in [Word::Check, Word::Verify, Word::Sim] {
+    for word in [
+        Word::Check,
+        Word::Verify,
+        Word::Sim,
+        Word::Serve,
+        Word::Send,
+    ] {
         commands.push(word.command(alloc)?)?;
     }
     Ok(commands)
@@ -188,6 +218,8 @@ enum Word {
     Check,
     Verify,
     Sim,
+    Serve,
+    Send,
 }
 
 impl Word {
@@ -197,6 +229,8 @@ impl Word {
             Word::Check => check(alloc),
             Word::Verify => verify(alloc),
             Word::Sim => sim(alloc),
+            Word::Serve => serve(alloc),
+            Word::Send => send(alloc),
         }
     }
 }
@@ -220,11 +254,44 @@ fn sim<'a>(alloc: Global) -> Result<Command<'a>, AllocError> {
         .arg(file(alloc, "IMAGE"))
 }
 
-/// The operand that names a file, and what help calls it.
+fn serve<'a>(alloc: Global) -> Result<Command<'a>, AllocError> {
+    Command::new(alloc, "serve")
+        .about("Serve the clients of a Unix socket on an image, and run its tests and commands")
+        .arg(file(alloc, "IMAGE"))?
+        .arg(socket(
+            alloc,
+            "the socket's file, which is made here and removed at the end",
+        ))
+}
+
+fn send<'a>(alloc: Global) -> Result<Command<'a>, AllocError> {
+    Command::new(alloc, "send")
+        .about("Send a request line to the daemon of a Unix socket, and print what comes back")
+        .arg(socket(alloc, "the socket's file"))?
+        .arg(request(alloc))
+}
+
+/// The operand that names the file that is read, and what help calls it.
 fn file<'a>(alloc: Global, name: &'a str) -> Arg<'a> {
     Arg::new(alloc, FILE)
         .value_name(name)
         .help("a file of at most 16,777,216 bytes")
+        .required(true)
+}
+
+/// The operand that names a socket, and what help says of it.
+fn socket<'a>(alloc: Global, help: &'a str) -> Arg<'a> {
+    Arg::new(alloc, SOCKET)
+        .value_name("SOCKET")
+        .help(help)
+        .required(true)
+}
+
+/// The operand that is a request line.
+fn request<'a>(alloc: Global) -> Arg<'a> {
+    Arg::new(alloc, REQUEST)
+        .value_name("REQUEST")
+        .help("a request line, as one word")
         .required(true)
 }
 

@@ -7,12 +7,16 @@
 
 mod answering;
 mod checking;
+mod children;
 mod command_line;
 mod compiling;
 mod definitions;
 mod ending;
 mod files;
+mod sending;
+mod serving;
 mod sessions;
+mod shell;
 mod task;
 #[cfg(test)]
 mod tests;
@@ -20,9 +24,11 @@ mod tests;
 use command_line::Asked;
 use definitions::Definition;
 use ending::{Ending, out_of_memory};
+use log::Log;
 use std::alloc::{AllocError, Global};
-use std::process::ExitCode;
-use std::rt::{Env, Files};
+use std::net::Net;
+use std::process::{ExitCode, Processes};
+use std::rt::{Clock, Env, Files};
 use task::Task;
 
 fn main(rt: HostRuntime) -> ExitCode {
@@ -31,14 +37,17 @@ fn main(rt: HostRuntime) -> ExitCode {
 }
 
 /// Does what the command line asks for. An error is what keeps it from being done.
-fn run<R: Env + Files + Input + Print + Eprint + Alloc<A = Global>>(
-    rt: &R,
-) -> Result<Ending, Ending> {
+fn run<R>(rt: &R) -> Result<Ending, Ending>
+where
+    R: Env + Files + Input + Print + Eprint + Net + Processes + Clock + Log + Alloc<A = Global>,
+{
     match command_line::read(rt)? {
         Asked::Session => sessions::by_hexadecimal(rt),
         Asked::Check { file, definitions } => check(rt, file, definitions.as_slice()),
         Asked::Verify { image } => answering::on_file(rt, Task::Verify, image, &[]),
         Asked::Sim { image } => sessions::on_file(rt, image),
+        Asked::Serve { image, socket } => serving::serve(rt, image, socket),
+        Asked::Send { socket, request } => sending::send(rt, socket, request.as_str()),
     }
 }
 

@@ -32,12 +32,18 @@ pub fn on_file<R: Files + Input + Print + Alloc<A = Global>>(
     rt: &R,
     path: String,
 ) -> Result<Ending, Ending> {
+    let mut core = core_at(rt, path)?;
+    simulated(rt, &mut core)
+}
+
+/// A core on the image of a file. Where it is refused, its line is printed.
+pub fn core_at<R: Files + Print + Alloc<A = Global>>(rt: &R, path: String) -> Result<Core, Ending> {
     let image = input_at(rt, Task::Verify, path)?;
     match opened(rt.alloc(), image.as_slice()) {
-        Ok(mut core) => simulated(rt, &mut core),
+        Ok(core) => Ok(core),
         Err(fault) => {
             println!(rt; "refused {fault}")?;
-            Ok(Ending::Refused)
+            Err(Ending::Refused)
         }
     }
 }

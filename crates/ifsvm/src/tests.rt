@@ -1,5 +1,7 @@
 //! What the program answers to the bytes of a file.
 
+mod hosts;
+
 use crate::answering::answer;
 use crate::definitions::definition_of;
 use crate::files::{FileFault, whole};

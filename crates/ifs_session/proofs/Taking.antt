@@ -1,0 +1,35 @@
+-- Commands that are taken one after the other.
+use Rattle.std.proofs.Common.{◌≡◌, ℕ, List, [], ◌∷◌, ◌++◌, Option, Some, None, refl, sym, ap, ◌∙◌, append_assoc, append-nil}
+use Rattle.ifs_base.specs.declared.ids.CommandId.{CommandId}
+use Rattle.ifs_core.specs.declared.step.Step.{Step}
+use Rattle.ifs_core.specs.declared.step.Step.TheVariants.{Take}
+use Rattle.ifs_core.specs.declared.step.Reply.TheVariants.{Taken, Empty}
+use Rattle.ifs_core.specs.Event.{Behaviour}
+use Rattle.ifs_core.specs.Steps.{CoreState, Makes, take_turn, turn, after_steps, taken_reply}
+use Rattle.ifs_session.specs.Accounts.{takes_of}
+
+taken_from : (queue : List CommandId) (s s' : CoreState) (command : CommandId) → Makes (take_turn queue s) (Taken command) s' → queue ≡ command ∷ s'.queue
+taken_from [] s s' command m = cc
+taken_from (first ∷ queue) s s' command m =
+    let one : first ≡ command = cc in
+    let rest : s'.queue ≡ queue = ap (λ x. x.queue) m.came_to ∙ append-nil queue in
+    rw (one, rest) refl
+
+none_taken : (queue : List CommandId) (s s' : CoreState) → Makes (take_turn queue s) Empty s' → queue ≡ []
+none_taken [] s s' m = refl
+none_taken (first ∷ queue) s s' m = cc
+
+-- A command that was taken was the first of the queue.
+pub taken : (s s' : CoreState) (command : CommandId) → Makes (take_turn s.queue s) (Taken command) s' → s.queue ≡ command ∷ s'.queue
+taken s s' command m = taken_from s.queue s s' command m
+
+-- The queue was empty where none was taken, and nothing has changed.
+pub nothing_taken : (s s' : CoreState) → Makes (take_turn s.queue s) Empty s' → s.queue ≡ []
+nothing_taken s s' m = none_taken s.queue s s' m
+
+-- What is still to be taken leads to the same state.
+pub rest_taken : (b : Behaviour) (room : ℕ) (s s' : CoreState) (command : CommandId) → Makes (take_turn s.queue s) (Taken command) s'
+    → after_steps b room (takes_of s.queue) s ≡ after_steps b room (takes_of s'.queue) s'
+rest_taken b room s s' command m =
+    ap (λ queue. after_steps b room (takes_of queue) s) (taken s s' command m)
+    ∙ ap (after_steps b room (takes_of s'.queue)) (sym m.came_to)

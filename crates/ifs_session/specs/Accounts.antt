@@ -1,0 +1,149 @@
+-- Accounts: what the requests of a connection and the ends of tests make of a core and of a host.
+use Rattle.std.specs.Prelude.{◌≡◌, ◌≢◌, ℕ, ◌+◌, ◌-◌, ◌<◌, ◌≤◌, nat_lt, Bool, true, false, ◌||◌, if◌then◌else◌, List, [], ◌∷◌, ◌++◌, length, map, slice_get, codes, All, Option, Some, None, unwrap_or, option_map}
+use Rattle.std.specs.List.{flat_map}
+use Rattle.std.specs.Str.{bytes_eq}
+use Rattle.ifs_base.specs.declared.ids.CommandId.{CommandId}
+use Rattle.ifs_image.specs.declared.parts.ImageParts.{ImageParts}
+use Rattle.ifs_sched.specs.declared.start.Start.{Start}
+use Rattle.ifs_core.specs.declared.step.Step.{Step}
+use Rattle.ifs_core.specs.declared.step.Step.TheVariants.{Link, Finished, Tick, Take}
+use Rattle.ifs_core.specs.declared.step.Reply.{Reply}
+use Rattle.ifs_core.specs.declared.step.Reply.TheVariants.{Ticked, Taken, Busy}
+use Rattle.ifs_core.specs.Event.{Behaviour}
+use Rattle.ifs_core.specs.Steps.{CoreState, turn, replies, after_steps}
+use Rattle.ifs_core.specs.Gateway.{interface_of}
+use Rattle.ifs_session.specs.declared.request.RequestFault.TheVariants.{NoRequest, TooLong, NoInterface}
+use Rattle.ifs_session.specs.Requests.{Asked, ALink, AResult, ATick, ATake, AStatus, ATrace, AStop, AFault, begins_with, short_asked}
+use Rattle.ifs_session.specs.Replies.{command_text, reply_line, status_line, trace_lines, fault_line, bye_line}
+use Rattle.ifs_session.specs.Hosts.{Ending, Launch, HostLog, ran, launched, polled, joined, nothing_given}
+
+-- What a line of a client asks for, or its fault: as in a session, but `take` and `result` are no requests of a client.
+abbrev pub client_asked : List ℕ → Asked
+client_asked line =
+    if nat_lt 256 (length line) then AFault TooLong else
+    if begins_with (codes "result ") line || bytes_eq line (codes "take") then AFault NoRequest else
+    short_asked line
+
+-- The step that is asked for, if one is.
+abbrev pub step_asked : ImageParts → Asked → Option Step
+step_asked image (ALink name link) = option_map (λ interface. Link interface link) (interface_of image.interfaces name)
+step_asked image (ATick moment) = Some (Tick moment)
+step_asked image _ = None
+
+-- The reply to what asks for no step, told of a core.
+abbrev pub told_line : ImageParts → Asked → CoreState → List ℕ
+told_line image AStatus s = status_line image s
+told_line image ATrace s = trace_lines image s.trace
+told_line image AStop s = bye_line
+told_line image (AFault fault) s = fault_line fault
+told_line image (ALink name link) s = fault_line NoInterface
+told_line image _ s = fault_line NoRequest
+
+-- The test that starts, as a host is told, with the text of its command.
+abbrev pub launch_of : ImageParts → Start → Launch
+launch_of image start = record {
+  test = start.test;
+  run = start.run;
+  text = unwrap_or (option_map (λ test. test.text) (slice_get image.tests start.test.0)) [];
+}
+
+-- The tests that a reply says are started.
+abbrev pub launches_told : ImageParts → Reply → List Launch
+launches_told image (Ticked evaluated state queued cost starts exhausted) = map (launch_of image) starts.items
+launches_told image _ = []
+
+-- The account of a connection: the core's state, the steps made, what the host was given and answered, and what was written.
+pub record Account : Type 0 where
+  pub state : CoreState
+  pub steps : List Step
+  pub log : HostLog
+  pub said : List ℕ
+
+-- The account at the beginning.
+abbrev pub begun : CoreState → Account
+begun s = record { state = s; steps = []; log = nothing_given; said = [] }
+
+-- A step is made, and the tests that it starts are told to the host.
+abbrev pub made : Behaviour → ImageParts → Step → Account → Account
+made b image step a =
+    let t = turn b image.budgets.commands step a.state in
+    record { state = t.next; steps = a.steps ++ step ∷ []; log = joined a.log (launched (launches_told image t.reply)); said = a.said }
+
+-- The steps that take the commands of a queue, and their texts.
+abbrev pub takes_of : List CommandId → List Step
+takes_of queue = map (λ _. Take) queue
+
+abbrev pub texts_of : ImageParts → List CommandId → List (List ℕ)
+texts_of image queue = map (λ command. command_text image command.0) queue
+
+-- The queue is emptied: each command is taken, and its text given to the host, in order.
+abbrev pub emptied : Behaviour → ImageParts → Account → Account
+emptied b image a = record {
+  state = after_steps b image.budgets.commands (takes_of a.state.queue) a.state;
+  steps = a.steps ++ takes_of a.state.queue;
+  log = joined a.log (ran (texts_of image a.state.queue));
+  said = a.said;
+}
+
+-- The host answered this when it was polled.
+abbrev pub heard : Option Ending → Account → Account
+heard answer a = record { state = a.state; steps = a.steps; log = joined a.log (polled answer); said = a.said }
+
+-- The end of a test's run was answered, its step is made, and the queue is emptied.
+abbrev pub ended : Behaviour → ImageParts → Ending → Account → Account
+ended b image e a = emptied b image (made b image (Finished e.0 e.1 e.2) (heard (Some e) a))
+
+-- The same of several, one after the other.
+abbrev pub all_ended : Behaviour → ImageParts → List Ending → Account → Account
+all_ended b image [] a = a
+all_ended b image (e ∷ es) a = all_ended b image es (ended b image e a)
+
+-- The host is polled where at least 130 places for steps are free, and answers that there is no more.
+abbrev pub heard_out : Account → Account
+heard_out a = if nat_lt (512 - length a.steps) 130 then a else heard None a
+
+-- What is asked is done: the step, if it is one, is made, and the queue is emptied.
+abbrev pub acted : Behaviour → ImageParts → Option Step → Account → Account
+acted b image None a = a
+acted b image (Some step) a = emptied b image (made b image step a)
+
+-- What is replied: the reply to the step, or what is told where there is none.
+abbrev pub replied : Behaviour → ImageParts → Option Step → List ℕ → CoreState → List ℕ
+replied b image None told s = told
+replied b image (Some step) told s = reply_line image (turn b image.budgets.commands step s).reply
+
+-- A reply is written.
+abbrev pub with_said : List ℕ → Account → Account
+with_said more a = record { state = a.state; steps = a.steps; log = a.log; said = a.said ++ more }
+
+-- One part of a connection: the line of a request, and the ends of tests that were answered before it was done.
+pub record Part : Type 0 where
+  pub line : List ℕ
+  pub endings : List Ending
+
+-- The account when the ends of a part were heard, and when its request was done too.
+abbrev pub listened : Behaviour → ImageParts → Part → Account → Account
+listened b image part a = heard_out (all_ended b image part.endings a)
+
+abbrev pub attended : Behaviour → ImageParts → Part → Account → Account
+attended b image part a = acted b image (step_asked image (client_asked part.line)) (listened b image part a)
+
+-- The reply to the request of a part, by the core's state before it was done.
+abbrev pub answered : Behaviour → ImageParts → Asked → CoreState → List ℕ
+answered b image asked s = replied b image (step_asked image asked) (told_line image asked s) s
+
+abbrev pub spoken : Behaviour → ImageParts → Part → Account → List ℕ
+spoken b image part a = answered b image (client_asked part.line) (listened b image part a).state
+
+-- The account after a part, whose request was replied to.
+abbrev pub served : Behaviour → ImageParts → Part → Account → Account
+served b image part a = with_said (spoken b image part a) (attended b image part a)
+
+-- The account after parts, one after the other.
+abbrev pub all_served : Behaviour → ImageParts → List Part → Account → Account
+all_served b image [] a = a
+all_served b image (part ∷ parts) a = all_served b image parts (served b image part a)
+
+-- The account of a connection of these parts, on a core of this state: its queue is emptied first.
+abbrev pub account : Behaviour → ImageParts → List Part → CoreState → Account
+account b image parts s = all_served b image parts (emptied b image (begun s))

@@ -1,0 +1,124 @@
+-- Service: what a served connection gives, in each way that it ends.
+use Rattle.std.specs.Prelude.{◌≡◌, ◌≢◌, ℕ, ◌<◌, Bool, true, false, List, [], ◌∷◌, ◌++◌, length, map, All, Option, Some, None}
+use Rattle.std.specs.List.{flat_map, filter_map}
+use Rattle.std.specs.Io.KnownBytes.{append_known, Consumes, IsAtEnd}
+use Rattle.ifs_image.specs.declared.parts.ImageParts.{ImageParts}
+use Rattle.ifs_core.specs.declared.step.Step.{Step}
+use Rattle.ifs_core.specs.declared.step.Step.TheVariants.{Link, Finished, Tick, Take}
+use Rattle.ifs_core.specs.declared.step.Reply.{Reply}
+use Rattle.ifs_core.specs.declared.step.Reply.TheVariants.{Taken, Busy}
+use Rattle.ifs_core.specs.Event.{Behaviour}
+use Rattle.ifs_core.specs.Steps.{CoreState, replies, after_steps}
+use Rattle.ifs_session.specs.declared.fault.SessionFault.TheVariants.{ReadFailed, WriteFailed, TooMuchInput}
+use Rattle.ifs_session.specs.declared.service.End.{End}
+use Rattle.ifs_session.specs.declared.service.End.TheVariants.{Closed, Stop, Full, Fault}
+use Rattle.ifs_session.specs.Device.{counted}
+use Rattle.ifs_session.specs.Hosts.{Ending, Launch, HostLog, Adds}
+use Rattle.ifs_session.specs.Lines.{lines_of, whole_lines}
+use Rattle.ifs_session.specs.Replies.{command_text}
+use Rattle.ifs_session.specs.Sessions.{Moment, HasRead, EndsLine, EndsLines, is_stop}
+use Rattle.ifs_session.specs.Accounts.{Part, client_asked, step_asked, launches_told, account}
+
+-- ---- what the steps of a connection are, whatever its parts
+
+-- The ends of tests that steps tell of.
+abbrev pub ending_made : Step → Option Ending
+ending_made (Finished test run value) = Some (test, run, value)
+ending_made _ = None
+
+-- The steps that a client can ask for: those that are no end of a test and take no command.
+abbrev pub request_made : Step → Option Step
+request_made (Link interface link) = Some (Link interface link)
+request_made (Tick now) = Some (Tick now)
+request_made _ = None
+
+-- The text of the command that a reply hands out.
+abbrev pub text_taken : ImageParts → Reply → List (List ℕ)
+text_taken image (Taken command) = command_text image command.0 ∷ []
+text_taken image _ = []
+
+-- These steps lead from one state of a core to another, and none of them was answered `Busy`. The ends of tests among them are those that the host answered, each once, in order; the requests are those of the lines, in order; and the host was given the tests that they start, and the texts of the commands that they take, in order. They leave the queue empty.
+pub record Keeps (b : Behaviour) (image : ImageParts) (lines : List (List ℕ)) (steps : List Step) (log : HostLog) (s s' : CoreState) : Type 0 where
+  pub made : s' ≡ after_steps b image.budgets.commands steps s
+  pub never_busy : All (λ reply. reply ≢ Busy) (replies b image.budgets.commands steps s)
+  pub endings : filter_map ending_made steps ≡ filter_map (λ answer. answer) log.polls
+  pub requests : filter_map request_made steps ≡ filter_map (λ line. step_asked image (client_asked line)) lines
+  pub starts : log.starts ≡ flat_map (launches_told image) (replies b image.budgets.commands steps s)
+  pub texts : log.texts ≡ flat_map (text_taken image) (replies b image.budgets.commands steps s)
+  pub empty : s'.queue ≡ []
+
+-- ---- its parts and its end
+
+-- The lines of parts.
+abbrev pub lines_in : List Part → List (List ℕ)
+lines_in parts = map (λ part. part.line) parts
+
+-- A line does not ask for the end of the service.
+abbrev pub GoesOn : List ℕ → Type 0
+GoesOn line = is_stop (client_asked line) ≡ false
+
+-- From one moment to another these parts were attended to, of a host that told this before and tells that now.
+pub record HasAttended (b : Behaviour) (parts : List Part) (steps : List Step) (told told' : Option HostLog) (before after : Moment) : Type 0 where
+  pub image : after.core.image ≡ before.core.image
+  pub state : after.core.state ≡ (account b before.core.image parts before.core.state).state
+  pub steps_are : steps ≡ (account b before.core.image parts before.core.state).steps
+  pub told_is : Adds (account b before.core.image parts before.core.state).log told told'
+  pub keeps : Keeps b before.core.image (lines_in parts) steps (account b before.core.image parts before.core.state).log before.core.state after.core.state
+
+-- And each was replied to, in order, and nothing else was written.
+pub record HasAnswered (b : Behaviour) (parts : List Part) (before after : Moment) : Type 0 where
+  pub written : after.written ≡ append_known before.written (account b before.core.image parts before.core.state).said
+  pub same_faults : after.write_faults ≡ before.write_faults
+
+-- How a connection ends without a fault: at the end of input; with a line that asks for it, the only one; or where fewer than 65 places for steps are left. After the last line nothing more was read.
+abbrev pub EndsAs : End → List ℕ → List Step → Moment → Type 0
+EndsAs Closed input steps after = All GoesOn (lines_of input) × IsAtEnd after.left
+EndsAs Stop input steps after =
+    (earlier : List (List ℕ)) × (stop : List ℕ) × (lines_of input ≡ earlier ++ stop ∷ []) × All GoesOn earlier × (is_stop (client_asked stop) ≡ true) × EndsLine input after.left
+EndsAs Full input steps after = All GoesOn (lines_of input) × (447 < length steps) × EndsLines input after.left
+EndsAs (Fault fault) input steps after = ⊥
+
+-- A connection has ended without a fault: each line is that of a part, in order.
+pub record Completes (b : Behaviour) (end : End) (input : List ℕ) (parts : List Part) (steps : List Step) (told told' : Option HostLog) (before after : Moment) : Type 0 where
+  pub read : HasRead input before after
+  pub lines : lines_of input ≡ lines_in parts
+  pub attended : HasAttended b parts steps told told' before after
+  pub answered : HasAnswered b parts before after
+  pub same_faults : after.read_faults ≡ before.read_faults
+  pub ends : EndsAs end input steps after
+
+-- A read failed: the lines that were whole by then were served.
+pub record BreaksReading (b : Behaviour) (input : List ℕ) (parts : List Part) (steps : List Step) (told told' : Option HostLog) (before after : Moment) : Type 0 where
+  pub read : HasRead input before after
+  pub lines : whole_lines input ≡ lines_in parts
+  pub attended : HasAttended b parts steps told told' before after
+  pub answered : HasAnswered b parts before after
+  pub one_fault : after.read_faults ≡ counted before.read_faults
+  pub go_on : All GoesOn (whole_lines input)
+
+-- A write failed: the lines that were read by then, each to its end, were attended to.
+pub record BreaksWriting (b : Behaviour) (input : List ℕ) (parts : List Part) (steps : List Step) (told told' : Option HostLog) (before after : Moment) : Type 0 where
+  pub read : HasRead input before after
+  pub whole : EndsLines input after.left
+  pub lines : lines_of input ≡ lines_in parts
+  pub attended : HasAttended b parts steps told told' before after
+  pub same_faults : after.read_faults ≡ before.read_faults
+  pub one_fault : after.write_faults ≡ counted before.write_faults
+
+-- A byte was read after the 16,777,216 of a connection: the lines that were whole before it were served.
+pub record ReadsPast (b : Behaviour) (input : List ℕ) (byte : ℕ) (parts : List Part) (steps : List Step) (told told' : Option HostLog) (before after : Moment) : Type 0 where
+  pub given : Consumes before.left after.left (input ++ byte ∷ [])
+  pub full : length input ≡ 16777216
+  pub lines : whole_lines input ≡ lines_in parts
+  pub attended : HasAttended b parts steps told told' before after
+  pub answered : HasAnswered b parts before after
+  pub same_faults : after.read_faults ≡ before.read_faults
+  pub go_on : All GoesOn (whole_lines input)
+
+-- What a connection gives: there is an input that was read, and parts, one for each of its lines.
+abbrev pub ConnectionGives : Behaviour → End → List Step → Option HostLog → Option HostLog → Moment → Moment → Type 0
+ConnectionGives b (Fault ReadFailed) steps told told' before after = (input : List ℕ) × (parts : List Part) × BreaksReading b input parts steps told told' before after
+ConnectionGives b (Fault WriteFailed) steps told told' before after = (input : List ℕ) × (parts : List Part) × BreaksWriting b input parts steps told told' before after
+ConnectionGives b (Fault TooMuchInput) steps told told' before after =
+    (input : List ℕ) × (byte : ℕ) × (parts : List Part) × ReadsPast b input byte parts steps told told' before after
+ConnectionGives b end steps told told' before after = (input : List ℕ) × (parts : List Part) × Completes b end input parts steps told told' before after

@@ -1,0 +1,298 @@
+//! One served connection: requests of a client, ends of tests and commands, in one order.
+
+ghost use Rattle.std.specs.Prelude.{◌≡◌, ◌≢◌, ◌+◌, ◌<◌, ◌≤◌, ◌∷◌, [], List, length, take, map, None, Some, IfOk, IfSome, MatchResult};
+ghost use Rattle.ifs_core.specs.Event.{Behaviour};
+ghost use Rattle.ifs_core.specs.Machine.{IsBehaviour};
+ghost use Rattle.ifs_core.specs.Gateway.{IsReplyOf};
+ghost use Rattle.ifs_core.specs.Steps.{turn, reply_of};
+ghost use Rattle.ifs_session.specs.Device.{HoldsNothing, PutGives};
+ghost use Rattle.ifs_session.specs.Hosts.{Ending, Adds, launched};
+ghost use Rattle.ifs_session.specs.Accounts.{launch_of, launches_told, acted, all_ended, heard_out, step_asked, told_line, answered};
+ghost use Rattle.ifs_session.specs.Sessions.{is_stop};
+ghost use Rattle.ifs_session.specs.inner.Parsing.{told_by};
+ghost use Rattle.ifs_session.specs.inner.Connections.{Carries, PartGives, end_of};
+
+use crate::device::{ByteIn, ByteOut, DeviceFault};
+use crate::fault::SessionFault;
+use crate::host::Host;
+use crate::lines::next_line;
+use crate::queue::empty_queue;
+use crate::replies::{put_fault, put_reply, put_status, put_trace};
+use crate::request::{Request, RequestFault};
+use crate::session::INPUT;
+use arrayvec::ArrayVec;
+use ifs_core::{Core, Lists, Outcome, Step};
+use ifs_sched::Start;
+
+/// The most steps of a connection.
+pub(crate) const STEPS: usize = 512;
+
+/// The most places that a step and the taking of all commands after it want.
+const PART: usize = 65;
+
+/// Why a connection ended.
+#[derive(Clone, Copy, Debug, PartialEq, Eq)]
+pub enum End {
+    /// The input was at its end.
+    Closed,
+    /// The last line asked for the end of the service.
+    Stop,
+    /// Fewer than 65 places for steps were left.
+    Full,
+    /// A read or a write failed, or too much was read.
+    Fault(SessionFault),
+}
+
+/// How a connection went.
+#[derive(Debug, Drop)]
+pub struct Served {
+    /// The steps that were made, in order.
+    pub steps: ArrayVec<Step, STEPS>,
+    /// Why it ended.
+    pub end: End,
+}
+
+/// Serves one connection. The queue is emptied: each command is taken and its text run by the host.
+/// Then, for one request line after the other: the host is polled while it answers ends of tests and at
+/// least 130 places for steps are free, and each is made a step, after which the queue is emptied; the
+/// step of the line is made, the tests that it starts are told to the host, and the queue is emptied;
+/// and the reply is written. It has gone out before the next line is waited for.
+///
+/// A client cannot take commands nor tell results of tests: `take` and `result` are no requests here.
+pub fn serve_one<H: Host, R: ByteIn, W: ByteOut>(
+    core: &mut Core,
+    host: &mut H,
+    reader: &mut R,
+    writer: &mut W,
+) -> Served {
+    let mut steps = ArrayVec::new();
+    let end = serve_lines(core, host, reader, writer, &mut steps);
+    Served { steps, end }
+}
+
+/// A line that was served.
+#[derive(Clone, Copy, Debug, PartialEq, Eq)]
+pub(crate) struct ServedLine {
+    /// Whether it asked for the end of the service.
+    pub is_stop: bool,
+    /// Whether a newline ends it; else the input does.
+    pub is_ended: bool,
+}
+
+/// Serves the lines of a connection, and adds the steps.
+fn serve_lines<H: Host, R: ByteIn, W: ByteOut>(
+    core: &mut Core,
+    host: &mut H,
+    reader: &mut R,
+    writer: &mut W,
+    steps: &mut ArrayVec<Step, STEPS>,
+) -> End {
+    empty_queue(core, host, steps);
+    let mut lists = Lists::new();
+    let mut budget = INPUT;
+    'parts: loop {
+        let line = match serve_part(core, host, &mut lists, steps, reader, writer, &mut budget) {
+            Err(fault) => return End::Fault(fault),
+            Ok(None) => return End::Closed,
+            Ok(Some(line)) => line,
+        };
+        if let Some(end) = end_after(line, steps.len()) {
+            return flushed(writer, end);
+        }
+    }
+}
+
+/// The end after a line, where so many steps were made; `None` where another line is to be read.
+fn end_after(line: ServedLine, steps: usize) -> Option<End>
+    requires { steps ≤ 512 }
+    ensures { result ≡ end_of line steps }
+{
+    if line.is_stop {
+        Some(End::Stop)
+    } else if STEPS - steps < PART {
+        Some(End::Full)
+    } else if line.is_ended {
+        None
+    } else {
+        Some(End::Closed)
+    }
+}
+
+/// This end, once what was written has gone out.
+fn flushed<W: ByteOut>(writer: &mut W, end: End) -> End {
+    match writer.flush() {
+        Ok(()) => end,
+        Err(_) => End::Fault(SessionFault::WriteFailed),
+    }
+}
+
+/// Reads the next line, once what was written has gone out, and serves it.
+fn serve_part<H: Host, R: ByteIn, W: ByteOut>(
+    core: &mut Core,
+    host: &mut H,
+    lists: &mut Lists,
+    steps: &mut ArrayVec<Step, STEPS>,
+    reader: &mut R,
+    writer: &mut W,
+    budget: &mut u32,
+) -> Result<Option<ServedLine>, SessionFault>
+    requires { length steps.old.items + 65 ≤ 512 }
+    ensures part { (b : Behaviour) → IsBehaviour core.old.image b → PartGives b result
+        (record { core = core.old; left = R.left reader.old; written = W.written writer.old; read_faults = R.faults reader.old; write_faults = W.faults writer.old })
+        (record { state = core.old.state; steps = steps.old.items; told = H.told host.old }) budget.old
+        (record { core = core.new; left = R.left reader.new; written = W.written writer.new; read_faults = R.faults reader.new; write_faults = W.faults writer.new })
+        (record { state = core.new.state; steps = steps.new.items; told = H.told host.new }) budget.new }
+    ensures counts { IfOk result (λ next. IfSome next (λ _. budget.new < budget.old)) }
+    ensures out { MatchResult result (λ next. next ≡ None → HoldsNothing (W.held writer.new)) (λ fault. fault ≢ SessionFault.WriteFailed → HoldsNothing (W.held writer.new)) }
+    ensures few { length steps.new.items ≤ 512 }
+{
+    let Ok(()) = writer.flush() else {
+        return Err(SessionFault::WriteFailed);
+    };
+    let Some(line) = next_line(reader, budget)? else {
+        return Ok(None);
+    };
+    hear_endings(core, host, lists, steps);
+    let asked = line.client_request();
+    match answer(core, host, lists, steps, writer, asked) {
+        Ok(()) => Ok(Some(ServedLine {
+            is_stop: asks_stop(asked),
+            is_ended: line.is_ended,
+        })),
+        Err(_) => Err(SessionFault::WriteFailed),
+    }
+}
+
+/// Polls the host for ends of tests, and makes each a step, after which the queue is emptied.
+fn hear_endings<H: Host>(
+    core: &mut Core,
+    host: &mut H,
+    lists: &mut Lists,
+    steps: &mut ArrayVec<Step, STEPS>,
+)
+    requires { length steps.old.items + 65 ≤ 512 }
+    ensures image { core.new.image ≡ core.old.image }
+    ensures room { length steps.new.items + 65 ≤ 512 }
+    ensures heard { (b : Behaviour) → IsBehaviour core.old.image b → (endings : List Ending) × Carries (λ a. heard_out (all_ended b core.old.image endings a))
+        (record { state = core.old.state; steps = steps.old.items; told = H.told host.old })
+        (record { state = core.new.state; steps = steps.new.items; told = H.told host.new }) }
+{
+    'endings: while STEPS - steps.len() >= 2 * PART {
+        let Some((test, run, value)) = host.poll() else {
+            return;
+        };
+        make(core, host, lists, steps, Step::Finished(test, run, value));
+    }
+}
+
+/// Makes a step, tells the host the tests that it starts, and empties the queue.
+fn make<H: Host>(
+    core: &mut Core,
+    host: &mut H,
+    lists: &mut Lists,
+    steps: &mut ArrayVec<Step, STEPS>,
+    step: Step,
+) -> Outcome
+    requires { length steps.old.items + 65 ≤ 512 }
+    ensures image { core.new.image ≡ core.old.image }
+    ensures reply { (b : Behaviour) → IsBehaviour core.old.image b → reply_of result lists.new ≡ (turn b core.old.image.budgets.commands step core.old.state).reply }
+    ensures carries { (b : Behaviour) → IsBehaviour core.old.image b → Carries (acted b core.old.image (Some step))
+        (record { state = core.old.state; steps = steps.old.items; told = H.told host.old })
+        (record { state = core.new.state; steps = steps.new.items; told = H.told host.new }) }
+    ensures named { IsReplyOf core.old.image (reply_of result lists.new) }
+    ensures more { length steps.old.items < length steps.new.items }
+    ensures few { length steps.new.items ≤ length steps.old.items + 65 }
+{
+    let outcome = core.step_into(step, lists);
+    steps.push(step);
+    tell_starts(core, host, outcome, lists);
+    empty_queue(core, host, steps);
+    outcome
+}
+
+/// Tells the host the tests that a step starts, if it does.
+fn tell_starts<H: Host>(core: &Core, host: &mut H, outcome: Outcome, lists: &Lists)
+    ensures { Adds (launched (launches_told core.now.image (reply_of outcome lists.now))) (H.told host.old) (H.told host.new) }
+{
+    if let Outcome::Ticked { .. } = outcome {
+        start_tests(core, host, lists.starts.as_slice());
+    }
+}
+
+/// Tells the host the tests that start.
+fn start_tests<H: Host>(core: &Core, host: &mut H, starts: &[Start])
+    ensures { Adds (launched (map (launch_of core.now.image) starts.now)) (H.told host.old) (H.told host.new) }
+{
+    for start in starts {
+        let text = core.test_text(start.test).unwrap_or("");
+        host.start(start.test, start.run, text);
+    }
+}
+
+/// Makes the step that is asked for, if one is, and writes the reply.
+fn answer<H: Host, W: ByteOut>(
+    core: &mut Core,
+    host: &mut H,
+    lists: &mut Lists,
+    steps: &mut ArrayVec<Step, STEPS>,
+    writer: &mut W,
+    asked: Result<Request<'_>, RequestFault>,
+) -> Result<(), DeviceFault>
+    requires { length steps.old.items + 65 ≤ 512 }
+    ensures image { core.new.image ≡ core.old.image }
+    ensures acts { (b : Behaviour) → IsBehaviour core.old.image b → Carries (acted b core.old.image (step_asked core.old.image (told_by asked.entry)))
+        (record { state = core.old.state; steps = steps.old.items; told = H.told host.old })
+        (record { state = core.new.state; steps = steps.new.items; told = H.told host.new }) }
+    ensures replies { (b : Behaviour) → IsBehaviour core.old.image b
+        → PutGives result (answered b core.old.image (told_by asked.entry) core.old.state) (W.written writer.old) (W.written writer.new) (W.faults writer.old) (W.faults writer.new) }
+    ensures few { length steps.new.items ≤ 512 }
+{
+    match step_of(core, asked) {
+        None => tell(core, writer, asked),
+        Some(step) => {
+            let outcome = make(core, host, lists, steps, step);
+            put_reply(writer, core, outcome, lists)
+        }
+    }
+}
+
+/// The step that is asked for, if one is.
+fn step_of(core: &Core, asked: Result<Request<'_>, RequestFault>) -> Option<Step>
+    ensures { result ≡ step_asked core.now.image (told_by asked.entry) }
+{
+    match asked {
+        Ok(Request::Link(name, link)) => {
+            let interface = core.iface_of(name)?;
+            Some(Step::Link(interface, link))
+        }
+        Ok(Request::Tick(now)) => Some(Step::Tick(now)),
+        _ => None,
+    }
+}
+
+/// Writes the reply to what asks for no step.
+fn tell<W: ByteOut>(
+    core: &Core,
+    writer: &mut W,
+    asked: Result<Request<'_>, RequestFault>,
+) -> Result<(), DeviceFault>
+    ensures { PutGives result (told_line core.now.image (told_by asked.entry) core.now.state) (W.written writer.old) (W.written writer.new) (W.faults writer.old) (W.faults writer.new) }
+{
+    match asked {
+        Ok(Request::Status) => put_status(writer, core),
+        Ok(Request::Trace) => put_trace(writer, core),
+        Ok(Request::Stop) => writer.put(b"bye\n"),
+        Ok(Request::Link(..)) => put_fault(writer, RequestFault::NoInterface),
+        Ok(Request::Tick(_) | Request::Take | Request::Result(..)) => {
+            put_fault(writer, RequestFault::NoRequest)
+        }
+        Err(fault) => put_fault(writer, fault),
+    }
+}
+
+/// Whether this asks for the end of the service.
+fn asks_stop(asked: Result<Request<'_>, RequestFault>) -> bool
+    ensures { result ≡ is_stop (told_by asked.entry) }
+{
+    matches!(asked, Ok(Request::Stop))
+}
