@@ -10,10 +10,13 @@ use std::{env, io};
 
 /// What the program is, as its help says.
 const ABOUT: &str =
-    "Checks failover policies, and verifies and runs their images. Without words it reads an image as a line of hexadecimal digits and then request lines from standard input.";
+    "Checks and compiles failover policies, and verifies and runs their images. Without words it reads an image as a line of hexadecimal digits and then request lines from standard input.";
 
-/// The operand that names a file.
+/// The operand that names the file that is read.
 const FILE: &str = "file";
+
+/// The operand that names the image that is written.
+const IMAGE: &str = "image";
 
 /// What help calls a definition.
 const DEFINITION: &str = "NAME=VALUE";
@@ -28,8 +31,23 @@ pub enum Asked {
         file: String,
         definitions: Vec<Definition>,
     },
+    /// Compile the policy of a file, with these definitions beside it, and write its image.
+    Compile {
+        file: String,
+        image: String,
+        definitions: Vec<Definition>,
+    },
     /// Verify the image of a file, and tell its stated budgets.
     Verify {
+        image: String,
+    },
+    /// Print the assembly text of the image of a file.
+    Disasm {
+        image: String,
+    },
+    /// Assemble the text of a file, and write its image.
+    Asm {
+        file: String,
         image: String,
     },
     /// A session on the image of a file.
@@ -96,21 +114,33 @@ fn asked_by<'a>(
     };
     Ok(match word {
         "check" => Asked::Check {
-            file: file_of(alloc, operands)?,
+            file: operand(alloc, operands, FILE)?,
+            definitions: definitions_of(alloc, command, operands)?,
+        },
+        "compile" => Asked::Compile {
+            file: operand(alloc, operands, FILE)?,
+            image: operand(alloc, operands, IMAGE)?,
             definitions: definitions_of(alloc, command, operands)?,
         },
         "verify" => Asked::Verify {
-            image: file_of(alloc, operands)?,
+            image: operand(alloc, operands, FILE)?,
+        },
+        "disasm" => Asked::Disasm {
+            image: operand(alloc, operands, FILE)?,
+        },
+        "asm" => Asked::Asm {
+            file: operand(alloc, operands, FILE)?,
+            image: operand(alloc, operands, IMAGE)?,
         },
         _ => Asked::Sim {
-            image: file_of(alloc, operands)?,
+            image: operand(alloc, operands, FILE)?,
         },
     })
 }
 
-/// The file that a word works on.
-fn file_of(alloc: Global, operands: &ArgMatches<'_>) -> Result<String, AllocError> {
-    String::from_str(alloc, operands.get_str(FILE).unwrap_or_default())
+/// What stands for an operand of a word.
+fn operand(alloc: Global, operands: &ArgMatches<'_>, name: &str) -> Result<String, AllocError> {
+    String::from_str(alloc, operands.get_str(name).unwrap_or_default())
 }
 
 /// The definitions of the command line; an error where one is none.
@@ -147,9 +177,21 @@ fn command<'a>(alloc: Global) -> Result<Command<'a>, Error> {
         .about("Tell whether a file is a policy, with notes on what is easily misread")
         .arg(file(alloc, "FILE"))?
         .arg(definition(alloc))?;
+    let compile = Command::new(alloc, "compile")
+        .about("Compile a policy and write its image, with the notes of check")
+        .arg(file(alloc, "FILE"))?
+        .arg(image(alloc))?
+        .arg(definition(alloc))?;
     let verify = Command::new(alloc, "verify")
         .about("Verify an image and print its stated budgets")
         .arg(file(alloc, "IMAGE"))?;
+    let disasm = Command::new(alloc, "disasm")
+        .about("Print the assembly text of an image")
+        .arg(file(alloc, "IMAGE"))?;
+    let asm = Command::new(alloc, "asm")
+        .about("Write the image that assembly text spells, which is not verified")
+        .arg(file(alloc, "FILE"))?
+        .arg(image(alloc))?;
     let sim = Command::new(alloc, "sim")
         .about("Answer the request lines of standard input on an image")
         .arg(file(alloc, "IMAGE"))?;
@@ -157,16 +199,29 @@ fn command<'a>(alloc: Global) -> Result<Command<'a>, Error> {
         .version("0.1.0")
         .about(ABOUT)
         .subcommand(check)?
+        .subcommand(compile)?
         .subcommand(verify)?
+        .subcommand(disasm)?
+        .subcommand(asm)?
         .subcommand(sim)?;
     Ok(command)
 }
 
-/// The operand that names a file, and what help calls it.
+/// The operand that names the file that is read, and what help calls it.
 fn file<'a>(alloc: Global, name: &'a str) -> Arg<'a> {
     Arg::new(alloc, FILE)
         .value_name(name)
         .help("a file of at most 16,777,216 bytes")
+        .required(true)
+}
+
+/// The operand that names the image that is written.
+fn image<'a>(alloc: Global) -> Arg<'a> {
+    Arg::new(alloc, IMAGE)
+        .value_name("IMAGE")
+        .help(
+            "the file that is written, whole or not at all; what is no regular file is written as it stands",
+        )
         .required(true)
 }
 

@@ -54,7 +54,8 @@ pub fn whole<R: Read + Drop>(alloc: Global, reader: R) -> Result<Vec<u8>, FileFa
     }
 }
 
-fn fault_of(error: io::Error) -> FileFault
+/// The fault of a call of the system that failed.
+pub fn fault_of(error: io::Error) -> FileFault
     ensures { result ≢ TooLarge }
 {
     if error.kind() == ErrorKind::OutOfMemory {
