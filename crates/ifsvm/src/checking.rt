@@ -14,7 +14,7 @@ use thiserror::Error;
 #[derive(Clone, Copy, Debug, PartialEq, Eq, Error)]
 #[error("P1 line {line}")]
 pub struct NotText {
-    line: usize,
+    pub line: usize,
 }
 
 /// The text of these bytes. They are none where a byte is no UTF-8: the line is that of the first one.

@@ -11,10 +11,13 @@ use std::rt::Env;
 
 /// What the program is, as its help says.
 const ABOUT: &str =
-    "Checks failover policies, and verifies and runs their images. Without words it reads an image as a line of hexadecimal digits and then request lines from standard input.";
+    "Checks and compiles failover policies, and verifies and runs their images. Without words it reads an image as a line of hexadecimal digits and then request lines from standard input.";
 
 /// The operand that names the file that is read.
 const FILE: &str = "file";
+
+/// The operand that names the image that is written.
+const IMAGE: &str = "image";
 
 /// The operand that names a socket.
 const SOCKET: &str = "socket";
@@ -35,8 +38,23 @@ pub enum Asked {
         file: String,
         definitions: Vec<Definition>,
     },
+    /// Compile the policy of a file, with these definitions beside it, and write its image.
+    Compile {
+        file: String,
+        image: String,
+        definitions: Vec<Definition>,
+    },
     /// Verify the image of a file, and tell its stated budgets.
     Verify {
+        image: String,
+    },
+    /// Print the assembly text of the image of a file.
+    Disasm {
+        image: String,
+    },
+    /// Assemble the text of a file, and write its image.
+    Asm {
+        file: String,
         image: String,
     },
     /// A session on the image of a file.
@@ -127,8 +145,16 @@ fn asked_with(
 ) -> Result<Asked, Error> {
     match word {
         "check" => check_asked(alloc, command, operands),
+        "compile" => compile_asked(alloc, command, operands),
         "verify" => Ok(Asked::Verify {
             image: operand_of(alloc, operands, FILE)?,
+        }),
+        "disasm" => Ok(Asked::Disasm {
+            image: operand_of(alloc, operands, FILE)?,
+        }),
+        "asm" => Ok(Asked::Asm {
+            file: operand_of(alloc, operands, FILE)?,
+            image: operand_of(alloc, operands, IMAGE)?,
         }),
         "serve" => Ok(Asked::Serve {
             image: operand_of(alloc, operands, FILE)?,
@@ -152,6 +178,19 @@ fn check_asked(
     let definitions = definitions_of(alloc, command, operands)?;
     Ok(Asked::Check {
         file: operand_of(alloc, operands, FILE)?,
+        definitions,
+    })
+}
+
+fn compile_asked(
+    alloc: Global,
+    command: &mut Command<'_>,
+    operands: &ArgMatches<'_>,
+) -> Result<Asked, Error> {
+    let definitions = definitions_of(alloc, command, operands)?;
+    Ok(Asked::Compile {
+        file: operand_of(alloc, operands, FILE)?,
+        image: operand_of(alloc, operands, IMAGE)?,
         definitions,
     })
 }
@@ -202,7 +241,10 @@ fn subcommands<'a>(alloc: Global) -> Result<Vec<Command<'a>>, AllocError> {
     let mut commands = Vec::new(alloc);
     for word in [
         Word::Check,
+        Word::Compile,
         Word::Verify,
+        Word::Disasm,
+        Word::Asm,
         Word::Sim,
         Word::Serve,
         Word::Send,
@@ -216,7 +258,10 @@ fn subcommands<'a>(alloc: Global) -> Result<Vec<Command<'a>>, AllocError> {
 #[derive(Clone, Copy)]
 enum Word {
     Check,
+    Compile,
     Verify,
+    Disasm,
+    Asm,
     Sim,
     Serve,
     Send,
@@ -227,7 +272,10 @@ impl Word {
     fn command<'a>(self, alloc: Global) -> Result<Command<'a>, AllocError> {
         match self {
             Word::Check => check(alloc),
+            Word::Compile => compile(alloc),
             Word::Verify => verify(alloc),
+            Word::Disasm => disasm(alloc),
+            Word::Asm => asm(alloc),
             Word::Sim => sim(alloc),
             Word::Serve => serve(alloc),
             Word::Send => send(alloc),
@@ -242,10 +290,31 @@ fn check<'a>(alloc: Global) -> Result<Command<'a>, AllocError> {
         .arg(definition(alloc))
 }
 
+fn compile<'a>(alloc: Global) -> Result<Command<'a>, AllocError> {
+    Command::new(alloc, "compile")
+        .about("Compile a policy and write its image, with the notes of check")
+        .arg(file(alloc, "FILE"))?
+        .arg(image(alloc))?
+        .arg(definition(alloc))
+}
+
 fn verify<'a>(alloc: Global) -> Result<Command<'a>, AllocError> {
     Command::new(alloc, "verify")
         .about("Verify an image and print its stated budgets")
         .arg(file(alloc, "IMAGE"))
+}
+
+fn disasm<'a>(alloc: Global) -> Result<Command<'a>, AllocError> {
+    Command::new(alloc, "disasm")
+        .about("Print the assembly text of an image")
+        .arg(file(alloc, "IMAGE"))
+}
+
+fn asm<'a>(alloc: Global) -> Result<Command<'a>, AllocError> {
+    Command::new(alloc, "asm")
+        .about("Write the image that assembly text spells, which is not verified")
+        .arg(file(alloc, "FILE"))?
+        .arg(image(alloc))
 }
 
 fn sim<'a>(alloc: Global) -> Result<Command<'a>, AllocError> {
@@ -276,6 +345,16 @@ fn file<'a>(alloc: Global, name: &'a str) -> Arg<'a> {
     Arg::new(alloc, FILE)
         .value_name(name)
         .help("a file of at most 16,777,216 bytes")
+        .required(true)
+}
+
+/// The operand that names the image that is written.
+fn image<'a>(alloc: Global) -> Arg<'a> {
+    Arg::new(alloc, IMAGE)
+        .value_name("IMAGE")
+        .help(
+            "the file that is written, whole or not at all; what is no regular file is written as it stands",
+        )
         .required(true)
 }
 

@@ -14,6 +14,10 @@ pub enum Task {
     Compile,
     /// Verify an image.
     Verify,
+    /// Tell the assembly text of an image.
+    Disasm,
+    /// Make the image that an assembly text spells.
+    Asm,
 }
 
 impl Task {
@@ -22,6 +26,8 @@ impl Task {
         match self {
             Task::Check | Task::Compile => "P0",
             Task::Verify => "V0",
+            Task::Disasm => "I0",
+            Task::Asm => "A0",
         }
     }
 }
@@ -38,6 +44,7 @@ impl Answer {
     /// The answer to bytes that are good: its lines and its file.
     pub fn good(text: String, file: Option<Vec<u8>>) -> Answer
         ensures status { result.status ≡ 0 }
+        ensures text { result.text ≡ text }
         ensures file { result.file ≡ file }
     {
         Answer {
