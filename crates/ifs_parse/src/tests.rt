@@ -3,6 +3,7 @@
 use super::*;
 use ifs_base::LinkState;
 use ifs_lex::tokens;
+use ifs_rows::Checked;
 use ifs_rows::policies::{accepted, refused_names, refused_tokens};
 use std::alloc::Global;
 use std::process::Abort;
@@ -140,22 +141,35 @@ fn show_item(alloc: Global, out: &mut String, item: &Item) -> Result<(), Fail> {
     }
 }
 
-/// The items and then the lines of the notes, or the fault.
-fn told(alloc: Global, text: &str) -> Result<String, Fail> {
+/// The tree of a text that has tokens, or its refusal.
+fn parsed(
+    alloc: Global,
+    text: &str,
+    definitions: &[(&str, &str)],
+) -> Result<Result<Tree, ParseFault>, Fail> {
+    let tokens = tokens(alloc, text, definitions)?;
+    Ok(parse(alloc, tokens.as_slice()))
+}
+
+/// The items of a tree and then the lines of its notes.
+fn show_tree(alloc: Global, tree: &Tree) -> Result<String, Fail> {
     let mut out = String::new(alloc);
-    match parse(alloc, tokens(alloc, text, &[])?.as_slice()) {
-        Ok(tree) => {
-            for item in tree.items() {
-                show_item(alloc, &mut out, item)?;
-            }
-            for line in tree.notes() {
-                let shown = format!(in alloc; "note {line} ")?;
-                out.push_str(shown.as_str())?;
-            }
-        }
-        Err(fault) => out.push_str(format!(in alloc; "{fault}")?.as_str())?,
+    for item in tree.items() {
+        show_item(alloc, &mut out, item)?;
+    }
+    for line in tree.notes() {
+        let shown = format!(in alloc; "note {line} ")?;
+        out.push_str(shown.as_str())?;
     }
     Ok(out)
+}
+
+/// What is told of a text: its tree, or the fault.
+fn told(alloc: Global, text: &str) -> Result<String, Fail> {
+    match parsed(alloc, text, &[])? {
+        Ok(tree) => show_tree(alloc, &tree),
+        Err(fault) => Ok(format!(in alloc; "{fault}")?),
+    }
 }
 
 fn check_rows(rt: &impl Abort, alloc: Global, rows: &[(&str, &str, &str)]) -> Result<(), Fail> {
@@ -274,21 +288,7 @@ fn refused_texts_name_the_first_fault(rt: HostRuntime) -> Result<(), Fail> {
     check_rows(&rt, rt.alloc(), &REFUSED)
 }
 
-#[test]
-fn rows_are_refused_with_their_lines(rt: HostRuntime) -> Result<(), Fail> {
-    let alloc = rt.alloc();
-    for row in refused_tokens() {
-        let found = tokens(alloc, row.policy, row.definitions)?;
-        let line = match parse(alloc, found.as_slice()) {
-            Ok(_) => format!(in alloc; "a tree")?,
-            Err(fault) => format!(in alloc; "refused {fault}\n")?,
-        };
-        assert_eq!(rt; line.as_str(), row.answer, "{}", row.name);
-    }
-    Ok(())
-}
-
-/// The lines that are printed of a tree's notes.
+/// How what is printed of a tree begins: the lines of its notes.
 fn note_lines(alloc: Global, tree: &Tree) -> Result<String, Fail> {
     let mut lines = String::new(alloc);
     for note in tree.notes() {
@@ -299,27 +299,37 @@ fn note_lines(alloc: Global, tree: &Tree) -> Result<String, Fail> {
     Ok(lines)
 }
 
-#[test]
-fn rows_have_trees_with_their_notes(rt: HostRuntime) -> Result<(), Fail> {
-    let alloc = rt.alloc();
-    for row in accepted() {
-        let tree = parse(
-            alloc,
-            tokens(alloc, row.policy, row.definitions)?.as_slice(),
-        )?;
-        let lines = note_lines(alloc, &tree)?;
-        assert!(rt; row.answer.starts_with(lines.as_str()), "{}", row.name);
+/// How what is printed of a row's text begins.
+fn answer(alloc: Global, row: &Checked) -> Result<String, Fail> {
+    match parsed(alloc, row.policy, row.definitions)? {
+        Ok(tree) => note_lines(alloc, &tree),
+        Err(fault) => Ok(format!(in alloc; "refused {fault}\n")?),
+    }
+}
+
+fn check_answers(rt: &impl Abort, alloc: Global, rows: &[Checked]) -> Result<(), Fail> {
+    for row in rows {
+        let line = answer(alloc, row)?;
+        assert!(rt; row.answer.starts_with(line.as_str()), "{}", row.name);
     }
     Ok(())
+}
+
+#[test]
+fn rows_are_refused_with_their_lines(rt: HostRuntime) -> Result<(), Fail> {
+    check_answers(&rt, rt.alloc(), refused_tokens())
+}
+
+#[test]
+fn rows_have_trees_with_their_notes(rt: HostRuntime) -> Result<(), Fail> {
+    check_answers(&rt, rt.alloc(), accepted())
 }
 
 /// What names have at fault is not told of a tree.
 #[test]
 fn rows_of_names_have_trees(rt: HostRuntime) -> Result<(), Fail> {
-    let alloc = rt.alloc();
     for row in refused_names() {
-        let found = tokens(alloc, row.policy, row.definitions)?;
-        let has_tree = parse(alloc, found.as_slice()).is_ok();
+        let has_tree = parsed(rt.alloc(), row.policy, row.definitions)?.is_ok();
         assert!(rt; has_tree, "{}", row.name);
     }
     Ok(())
@@ -476,21 +486,29 @@ fn more_are_told_at_the_thirty_third(rt: HostRuntime) -> Result<(), Fail> {
     check_mixtures(&rt, rt.alloc(), 40, false)
 }
 
+/// What opens and closes again.
+const CLOSED: [&str; 4] = [
+    "! ! a.link.up && ",
+    "( ! a.link.up ) || ",
+    "a.link.up { if a.link.up run x } if ",
+    "a.link.up if a.link.up run x if ",
+];
+
+/// A condition with this before it, 40 times.
+fn repeated(alloc: Global, part: &str) -> Result<String, Fail> {
+    let mut text = String::new(alloc);
+    text.push_str("if ")?;
+    repeat(&mut text, part, 40)?;
+    text.push_str("a.link.up run x")?;
+    Ok(text)
+}
+
 /// A `!` is open to the end of its operand, a `(` to its `)` and an `if` to the end of its block.
 #[test]
 fn what_is_closed_is_open_no_more(rt: HostRuntime) -> Result<(), Fail> {
-    let alloc = rt.alloc();
-    for (part, end) in [
-        ("! ! a.link.up && ", "a.link.up run x"),
-        ("( ! a.link.up ) || ", "a.link.up run x"),
-        ("a.link.up { if a.link.up run x } if ", "a.link.up run x"),
-        ("a.link.up if a.link.up run x if ", "a.link.up run x"),
-    ] {
-        let mut text = String::new(alloc);
-        text.push_str("if ")?;
-        repeat(&mut text, part, 40)?;
-        text.push_str(end)?;
-        let has_tree = parse(alloc, tokens(alloc, text.as_str(), &[])?.as_slice()).is_ok();
+    for part in CLOSED {
+        let text = repeated(rt.alloc(), part)?;
+        let has_tree = parsed(rt.alloc(), text.as_str(), &[])?.is_ok();
         assert!(rt; has_tree, "{part}");
     }
     Ok(())
