@@ -15,6 +15,7 @@ pub mod Taking
 pub mod Accounting
 pub mod Growing
 pub mod Lawful
+pub mod Answering
 pub mod Parts
 pub mod Skipping
 pub mod Spelling
