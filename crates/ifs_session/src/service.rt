@@ -138,10 +138,8 @@ fn serve_part<H: Host, R: ByteIn, W: ByteOut>(
 ) -> Result<Option<ServedLine>, SessionFault>
     requires { length steps.old.items + 65 ≤ 512 }
     ensures part { (b : Behaviour) → IsBehaviour core.old.image b → PartGives b result
-        (record { core = core.old; left = R.left reader.old; written = W.written writer.old; read_faults = R.faults reader.old; write_faults = W.faults writer.old })
-        (record { state = core.old.state; steps = steps.old.items; told = H.told host.old }) budget.old
-        (record { core = core.new; left = R.left reader.new; written = W.written writer.new; read_faults = R.faults reader.new; write_faults = W.faults writer.new })
-        (record { state = core.new.state; steps = steps.new.items; told = H.told host.new }) budget.new }
+        (record { moment = record { core = core.old; left = R.left reader.old; written = W.written writer.old; read_faults = R.faults reader.old; write_faults = W.faults writer.old }; budget = budget.old; steps = steps.old.items; told = H.told host.old })
+        (record { moment = record { core = core.new; left = R.left reader.new; written = W.written writer.new; read_faults = R.faults reader.new; write_faults = W.faults writer.new }; budget = budget.new; steps = steps.new.items; told = H.told host.new }) }
     ensures counts { IfOk result (λ next. IfSome next (λ _. budget.new < budget.old)) }
     ensures out { MatchResult result (λ next. next ≡ None → HoldsNothing (W.held writer.new)) (λ fault. fault ≢ SessionFault.WriteFailed → HoldsNothing (W.held writer.new)) }
     ensures few { length steps.new.items ≤ 512 }
