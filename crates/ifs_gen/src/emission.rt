@@ -1,8 +1,9 @@
 //! The plain code of conditions and blocks.
 
-ghost use Rattle.std.specs.Prelude.{◌≡◌, ◌+◌, ◌<◌, ◌^◌, ◌++◌, [], ◌∷◌, length, OnOk};
+ghost use Rattle.std.specs.Prelude.{◌≡◌, ◌+◌, ◌<◌, ◌^◌, ◌++◌, [], ◌∷◌, length, slice_set, OnOk};
+ghost use Rattle.ifs_base.specs.declared.op.Op.TheVariants.{JumpFalse};
 ghost use Rattle.ifs_gen.specs.PlainCode.{block_code, block_size, condition_code, plain_coder, single_op as op_of};
-ghost use Rattle.ifs_gen.specs.inner.Emission.{statement_code, statement_size};
+ghost use Rattle.ifs_gen.specs.inner.Emission.{op_of_sign, statement_code, statement_size};
 
 use ifs_base::{CommandId, Op, StateId};
 use ifs_parse::{Condition, Node, Statement};
@@ -16,6 +17,25 @@ fn single_op(single: &Single) -> Op
     match single {
         Single::LinkIs(interface, state) => Op::Link(*interface, *state),
         Single::TestIs(test) => Op::Test(*test),
+    }
+}
+
+/// The sign between the operands of a chain.
+#[derive(Clone, Copy)]
+enum Sign {
+    /// `&&`.
+    And,
+    /// `||`.
+    Or,
+}
+
+/// The instruction of a sign, which makes one truth of two.
+fn sign_op(sign: Sign) -> Op
+    ensures { result ≡ op_of_sign sign }
+{
+    match sign {
+        Sign::And => Op::Both,
+        Sign::Or => Op::Either,
     }
 }
 
@@ -39,20 +59,20 @@ pub(crate) fn put_condition(
         Node::All(first, second, rest) => {
             put_condition(first, code)?;
             put_condition(second, code)?;
-            code.push(Op::Both)?;
+            code.push(sign_op(Sign::And))?;
             for operand in rest {
                 put_condition(operand, code)?;
-                code.push(Op::Both)?;
+                code.push(sign_op(Sign::And))?;
             }
             Ok(())
         }
         Node::Any(first, second, rest) => {
             put_condition(first, code)?;
             put_condition(second, code)?;
-            code.push(Op::Either)?;
+            code.push(sign_op(Sign::Or))?;
             for operand in rest {
                 put_condition(operand, code)?;
-                code.push(Op::Either)?;
+                code.push(sign_op(Sign::Or))?;
             }
             Ok(())
         }
@@ -98,8 +118,17 @@ fn put_statement(
             let jump = code.len();
             code.push(Op::JumpFalse(0))?;
             put_block(inner, code)?;
-            code[jump] = Op::JumpFalse(code.len() as u16);
+            set_jump(jump, code);
             Ok(())
         }
     }
+}
+
+/// Lets the jump at a place lead to the end of the code, where a truth is false.
+fn set_jump(jump: usize, code: &mut Vec<Op>)
+    requires place { jump < length code.old.items }
+    requires room { length code.old.items < 2 ^ 16 }
+    ensures { code.new.items ≡ slice_set code.old.items jump (JumpFalse (length code.old.items)) }
+{
+    code[jump] = Op::JumpFalse(code.len() as u16);
 }

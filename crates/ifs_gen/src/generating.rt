@@ -132,6 +132,7 @@ fn handlers_of(part: u16, mask: u64) -> Handlers
 }
 
 /// Adds the routines of a part, and answers the set of the tests that its body mentions.
+#[tactic(auto, using(crate::proofs::Copying::below_64, crate::proofs::Copying::set_64))]
 fn put_routines(
     alloc: Global,
     part: &Part,

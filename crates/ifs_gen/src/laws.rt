@@ -1,17 +1,26 @@
 //! What holds of every policy and its plain code.
 
+ghost use Rattle.std.specs.Prelude.{◌≡◌, ◌≢◌, IfOk, IfErr, map};
 ghost use Rattle.ifs_gen.specs.Acceptance.{BudgetsAreLeast, PlainIsAccepted};
-ghost use Rattle.ifs_gen.specs.Compiled.{TextsMeanTheirPolicy};
+ghost use Rattle.ifs_gen.specs.Compiled.{Compiles, TextsMeanTheirPolicy};
+ghost use Rattle.ifs_gen.specs.PlainImage.{plain_image};
+ghost use Rattle.ifs_gen.specs.Trees.{Policy};
+ghost use Rattle.ifs_gen.specs.declared.compile_fault.CompileFault.TheVariants.{Memory};
+ghost use Rattle.ifs_policy.specs.Texts.{HasPolicy};
 ghost use Rattle.ifs_gen.specs.Events.{ActiveAreMentioned, ImageMeansPolicy};
 ghost use Rattle.ifs_gen.specs.Refused.{FitsOrIsRefused};
 ghost use Rattle.ifs_gen.specs.Runs.{TruthRuns, BlockRuns, HandlersDo};
 
+use crate::compile_fault::CompileFault;
+use crate::compiling::compile;
 use ifs_core::laws::accepted_is_kept;
 use ifs_image::laws::one_image;
 use ifs_lex::laws::one_list;
 use ifs_parse::laws::one_tree;
 use ifs_policy::laws::{one_policy, policies_fit};
 use ifs_verify::laws::one_typing;
+use ifs_verify::{Verified, VerifyFault, verify};
+use std::alloc::Global;
 
 /// Wherever the plain code of a condition stands in a routine, it leads past itself and leaves the
 /// condition's truth on the stack, each instruction executed once.
@@ -75,4 +84,25 @@ pub fn means_the_policy()
     policies_fit();
     one_image();
     accepted_is_kept();
+}
+
+/// A text that compiles is verified: the one call after the other has nothing to answer but the image of
+/// the text's policy, or want of memory.
+pub fn compiled_is_verified<'a>(
+    alloc: Global,
+    text: &'a str,
+    defs: &'a [(&'a str, &'a str)],
+) -> Result<Verified, CompileFault>
+    ensures image { IfOk result (λ verified. (policy : Policy) × HasPolicy text.now (map (λ d. (d.0.now, d.1.now)) defs.now) policy × (verified ≡ plain_image policy)) }
+    ensures none { IfErr result (λ fault. fault ≢ Memory → ¬ Compiles text.now (map (λ d. (d.0.now, d.1.now)) defs.now)) }
+{
+    let bytes = match compile(alloc, text, defs) {
+        Ok(bytes) => bytes,
+        Err(fault) => return Err(fault),
+    };
+    match verify(alloc, bytes.as_slice()) {
+        Ok(verified) => Ok(verified),
+        Err(VerifyFault::OutOfMemory) => Err(CompileFault::Memory),
+        Err(_) => unreachable!(),
+    }
 }

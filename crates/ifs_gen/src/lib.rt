@@ -21,8 +21,3 @@ pub use compile_fault::CompileFault;
 pub use compiling::{CompiledText, compile, compile_with_notes};
 pub use fault::GenFault;
 pub use generating::generate;
-
-#[cfg(test)]
-mod generating_tests;
-#[cfg(test)]
-mod tests;

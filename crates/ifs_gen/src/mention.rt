@@ -87,9 +87,15 @@ fn mark_statement(statement: &Statement<Single, CommandId, StateId>, marks: &mut
 {
     match statement {
         Statement::Run(_) | Statement::SetState(_) => {}
-        Statement::If(condition, inner) => {
-            mark_condition(condition, marks);
-            mark_block(inner, marks);
-        }
+        Statement::If(condition, inner) => mark_if(condition, inner, marks),
     }
+}
+
+/// Marks the tests that a condition mentions, and those of the block under it.
+#[cycle(mark_block)]
+fn mark_if(condition: &Condition<Single>, inner: &PolicyBlock, marks: &mut [bool])
+    ensures { marks.new ≡ marked (marked marks.old (mentioned_in condition.now)) (mentioned inner.now) }
+{
+    mark_condition(condition, marks);
+    mark_block(inner, marks);
 }

@@ -1,10 +1,13 @@
--- The code of one statement, by itself.
+-- The code of one statement by itself, and of a sign.
 use Rattle.std.specs.Prelude.{ℕ, List}
 use Rattle.ifs_base.specs.declared.ids.CommandId.{CommandId}
 use Rattle.ifs_base.specs.declared.ids.StateId.{StateId}
 use Rattle.ifs_base.specs.declared.op.Op.{Op}
+use Rattle.ifs_base.specs.declared.op.Op.TheVariants.{Both, Either}
 use Rattle.ifs_parse.specs.Views.{statement_then}
 use Rattle.ifs_parse.specs.declared.block.Statement.{Statement}
+use Rattle.ifs_gen.specs.declared.emission.Sign.{Sign}
+use Rattle.ifs_gen.specs.declared.emission.Sign.TheVariants.{And, Or}
 use Rattle.ifs_gen.specs.Trees.{Single, Done}
 use Rattle.ifs_gen.specs.PlainCode.{plain_coder, block_code, block_size}
 
@@ -15,3 +18,8 @@ statement_code place statement = block_code plain_coder place (statement_then st
 -- So is its size.
 abbrev pub statement_size : Statement Single CommandId StateId → ℕ
 statement_size statement = block_size plain_coder (statement_then statement Done)
+
+-- The instruction of a sign.
+abbrev pub op_of_sign : Sign → Op
+op_of_sign And = Both
+op_of_sign Or = Either

@@ -1,5 +1,5 @@
 -- A jump over a block leads to its end, and statements one after the other are the block's code.
-use Rattle.std.proofs.Common.{◌≡◌, length, rules, arith}
+use Rattle.std.proofs.Common.{◌≡◌, ◌∙◌, length, refl, rules, arith}
 use Rattle.ifs_base.specs.declared.op.Op.TheVariants.{JumpFalse}
 use Rattle.ifs_gen.proofs.Chains.{if_room, if_fits, if_code, loop_room, loop_next, item_within, inner_within}
 use Rattle.ifs_gen.proofs.emission.+put_block.Goals as goal
@@ -24,17 +24,14 @@ put_statement-put_block-requires t c =
     let smaller = inner_within c.args.statement.now c.in-If.condition c.in-If.inner c.in-If.is in
     (omega (arith, smaller), room)
 
-pub put_statement-overflow_cast-len : goal.put_statement-overflow_cast-len
-put_statement-overflow_cast-len t c =
-    let long : c.len.result ≡ length c.put_block.new.code.items = search rules in
-    let fits = if_fits c.push-in-If.new.self.items c.put_block.new.code.items c.in-If.inner c.len.result c.in_ok-put_block-in-If.ensures long
+pub put_statement-set_jump-requires-clause-room : goal.put_statement-set_jump-requires-clause-room
+put_statement-set_jump-requires-clause-room t c =
+    if_fits c.push-in-If.new.self.items c.put_block.new.code.items c.in-If.inner (length c.put_block.new.code.items) c.in_ok-put_block-in-If.ensures refl
     (if_room c.args.code.now.items c.put_condition.new.code.items c.push-in-If.new.self.items c.args.statement.now c.in-If.condition c.in-If.inner (JumpFalse 0)
-    c.in-If.is c.in_ok-put_condition-in-If.ensures c.in_ok-push-in-If.ensures.items c.requires.room) in
-    omega (arith, fits)
+    c.in-If.is c.in_ok-put_condition-in-If.ensures c.in_ok-push-in-If.ensures.items c.requires.room)
 
 pub put_statement-returns-in_ok-put_block-in-If : goal.put_statement-returns-in_ok-put_block-in-If
 put_statement-returns-in_ok-put_block-in-If t c =
     let jump : c.len-jump.result ≡ length c.put_condition.new.code.items = search rules in
-    let long : c.len.result ≡ length c.put_block.new.code.items = search rules in
-    if_code c.args.code.now.items c.put_condition.new.code.items c.push-in-If.new.self.items c.put_block.new.code.items c.args.statement.now c.in-If.condition c.in-If.inner c.len-jump.result c.len.result
-    c.in-If.is c.in_ok-put_condition-in-If.ensures jump c.in_ok-push-in-If.ensures.items c.in_ok-put_block-in-If.ensures long
+    c.set_jump.ensures ∙ if_code c.args.code.now.items c.put_condition.new.code.items c.push-in-If.new.self.items c.put_block.new.code.items c.args.statement.now c.in-If.condition c.in-If.inner c.len-jump.result
+    (length c.put_block.new.code.items) c.in-If.is c.in_ok-put_condition-in-If.ensures jump c.in_ok-push-in-If.ensures.items c.in_ok-put_block-in-If.ensures refl

@@ -1,9 +1,16 @@
--- One statement more, the block at its end, and a block under a condition.
-use Rattle.std.proofs.Common.{ap, sym, ◌∙◌}
-use Rattle.ifs_policy.specs.Meaning.{mentioned}
+-- One statement more, and the block at its end.
+use Rattle.std.proofs.Common.{ap, sym, refl, ◌∙◌, arith}
+use Rattle.ifs_policy.specs.Meaning.{mentioned, mentioned_in}
 use Rattle.ifs_gen.specs.inner.Marks.{marked, statement_mentions}
+use Rattle.ifs_gen.proofs.Chains.{item_within}
 use Rattle.ifs_gen.proofs.Marking.{marked_more, marked_end, statements_mention, if_marked}
 use Rattle.ifs_gen.proofs.mention.+mark_block.Goals as goal
+
+pub mark_block-mark_statement-requires : goal.mark_block-mark_statement-requires
+mark_block-mark_statement-requires t c =
+    let smaller = item_within c.args.block.now c.statements-statement-items.result.now c.loop-statement.statement-index c.statement-item.result
+    c.statements-statement-items.ensures.value c.loop-statement-test.true c.statement-item.is in
+    (omega (arith, smaller), tt)
 
 pub mark_block-loop-statement-preserved : goal.mark_block-loop-statement-preserved
 mark_block-loop-statement-preserved t c =
@@ -18,4 +25,4 @@ mark_block-returns t c =
 
 pub mark_statement-returns-in-If : goal.mark_statement-returns-in-If
 mark_statement-returns-in-If t c =
-    if_marked c.args.marks.now c.mark_condition.new.marks c.mark_block.new.marks c.args.statement.now c.in-If.condition c.in-If.inner c.in-If.is c.mark_condition.ensures c.mark_block.ensures
+    if_marked c.args.marks.now (marked c.args.marks.now (mentioned_in c.in-If.condition)) c.mark_if.new.marks c.args.statement.now c.in-If.condition c.in-If.inner c.in-If.is refl c.mark_if.ensures
