@@ -50,6 +50,19 @@ impl Others {
     }
 }
 
+/// The first two operands of a chain, each in its box.
+fn boxed(
+    alloc: Global,
+    first: Condition<Test>,
+    second: Condition<Test>,
+) -> Result<(Box<Condition<Test>>, Box<Condition<Test>>), ParseFault>
+    ensures { MatchResult result (λ pair. (pair.0.value ≡ first) × (pair.1.value ≡ second)) (λ fault. fault ≡ Memory) }
+{
+    let first = Box::new(alloc, first)?;
+    let second = Box::new(alloc, second)?;
+    Ok((first, second))
+}
+
 /// How many more may be open within what opens at a span, where so many may be.
 pub fn within(room: u32, span: Span) -> Result<u32, ParseFault>
     ensures { MatchResult result (λ inner. room ≡ suc inner) (λ fault. (room ≡ zero) × (fault ≡ Nesting span.line)) }
@@ -121,8 +134,7 @@ impl<'a> Parser<'a> {
         }
         let second = self.one(room)?;
         let rest = self.ones(room)?;
-        let first = Box::new(self.alloc, first)?;
-        let second = Box::new(self.alloc, second)?;
+        let (first, second) = boxed(self.alloc, first, second)?;
         Ok(Operand {
             condition: Condition::new(Node::All(first, second, rest)),
             is_chain: true,
@@ -190,8 +202,7 @@ impl<'a> Parser<'a> {
         let second = self.all(room)?;
         let others = self.alls(room, Others::after(self.alloc, &first, &second))?;
         self.note(place, span.line, others.is_mixed)?;
-        let first = Box::new(self.alloc, first.condition)?;
-        let second = Box::new(self.alloc, second.condition)?;
+        let (first, second) = boxed(self.alloc, first.condition, second.condition)?;
         Ok(Condition::new(Node::Any(first, second, others.rest)))
     }
 

@@ -32,6 +32,28 @@ pub enum Mark {
     Other,
 }
 
+/// What a word of a test is in the grammar.
+fn mark_of_test_word(word: &str) -> Mark
+    ensures { result ≡ marks.mark_of_test_word word.now }
+{
+    if word == "every" {
+        return Mark::Every;
+    }
+    if word == "link" {
+        return Mark::Link;
+    }
+    if word == "up" {
+        return Mark::Up;
+    }
+    if word == "down" {
+        return Mark::Down;
+    }
+    if word == "unknown" {
+        return Mark::Unknown;
+    }
+    Mark::Other
+}
+
 /// What a word is in the grammar.
 fn mark_of_word(word: &str) -> Mark
     ensures { result ≡ marks.mark_of_word word.now }
@@ -54,22 +76,7 @@ fn mark_of_word(word: &str) -> Mark
     if word == "set-state" {
         return Mark::SetState;
     }
-    if word == "every" {
-        return Mark::Every;
-    }
-    if word == "link" {
-        return Mark::Link;
-    }
-    if word == "up" {
-        return Mark::Up;
-    }
-    if word == "down" {
-        return Mark::Down;
-    }
-    if word == "unknown" {
-        return Mark::Unknown;
-    }
-    Mark::Other
+    mark_of_test_word(word)
 }
 
 /// What a token is in the grammar.

@@ -38,6 +38,6 @@ pub alternatives-returns : goal.alternatives-returns
 alternatives-returns t c =
     alternatives_are (reading.all (reading.one reading.fits_period c.args.room)) c.args.first c.in_ok-second.second c.args.span c.len-place.result
     (state_of c.args.self.now) (state_of c.all.new.self) (state_of c.alls.new.self) (state_of c.note.new.self)
-    (others_of c.after.result) (others_of c.in_ok-others.others) c.new-3.result
+    (others_of c.after.result) (others_of c.in_ok-others.others) c.new.result
     c.in_ok-second.ensures c.after.ensures c.in_ok-others.ensures (c.len-place.ensures ∙ c.args.self.now.notes.ok.0) c.in_ok-note.ensures
-    (c.new-3.ensures ∙ rw (c.in_ok-first.ensures.ok, c.in_ok-second-2.ensures.ok))
+    (c.new.ensures ∙ rw (c.in_ok-first.ensures.0, c.in_ok-first.ensures.1))
