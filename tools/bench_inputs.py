@@ -89,26 +89,71 @@ def wide(routines):
     return image([straight(1_024)] * routines, [state("a", 0, 0)])
 
 
-def block(number, after):
-    """A state of 46 tokens that leads to another one, filled up with comments to 4,096 bytes."""
-    code = (
+def state_text(number, after, more=""):
+    """A state of 46 tokens and 23 instructions that leads to another one, with more at its end."""
+    return (
         f"state gateway_{number:04} {{\n"
         f"\tinit {{ run \"logger -t gateway 'state {number:04} is entered, and the address is ours'\" }}\n"
         f"\tif $carp_up && ! $peer_up {{ set-state gateway_{after:04} }}\n"
         f"\tif ( em0.link.up || \"ping -q -c 1 -w 1 192.0.2.7 > /dev/null\" every 10 ) && $carp_up {{\n"
-        f"\t\trun \"ifconfig carp0 advskew {number:04}\"\n\t}}\n}}\n"
+        f"\t\trun \"ifconfig carp0 advskew {number:04}\"\n\t}}\n{more}}}\n"
     )
+
+
+def filled(code):
+    """A block that ends with this text and is filled up with comments."""
     fill = BLOCK - len(code)
     comments = COMMENT * (fill // len(COMMENT) + 1)
     return comments[:fill - 1] + "\n" + code
 
 
+def block(number, after):
+    return filled(state_text(number, after))
+
+
+def full_block(number, after):
+    """A block of 62 tokens and 31 instructions."""
+    more = f"\tif ! em1.link.up && ! $peer_up {{\n\t\trun \"logger -t gateway 'em1 is down in state {number:04}'\"\n\t}}\n"
+    return filled(state_text(number, after, more))
+
+
+def head(text):
+    """A block that begins with these lines and two macros."""
+    macros = "carp_up = 'carp0.link.up'\npeer_up = '\"ping -q -c 1 192.0.2.2 > /dev/null\" every 5'\n"
+    return (macros + text).ljust(BLOCK - 1, "#") + "\n"
+
+
 def policy(blocks):
     """A policy whose size is that of so many blocks: one of macros, and for each other one a state, from which the
     next one is reached, and from the last one the first."""
-    macros = "carp_up = 'carp0.link.up'\npeer_up = '\"ping -q -c 1 192.0.2.2 > /dev/null\" every 5'\n"
-    head = macros + "#" * (BLOCK - len(macros) - 1) + "\n"
-    return head + "".join(block(number, number % (blocks - 1) + 1) for number in range(1, blocks))
+    return head("") + "".join(block(number, number % (blocks - 1) + 1) for number in range(1, blocks))
+
+
+def full_policy():
+    """A policy near all limits: 1,048,576 bytes, 16,301 tokens and 8,189 instructions."""
+    always = "".join(f"if ! em1.link.up && ! $peer_up run \"logger -t gateway {number}\"\n" for number in range(35))
+    blocks = MOST_BLOCKS - 1
+    return head(always) + "".join(full_block(number, number % blocks + 1) for number in range(1, MOST_BLOCKS))
+
+
+def quoted(stem, number):
+    """A quoted text of 1,024 bytes, of which 44 are spelled by escapes."""
+    raw = f"{stem} {number:04} "
+    return '"' + raw + "x" * (1_024 - len(raw) - 44) + "\\x1b" * 44 + '"'
+
+
+def assembly(commands=1_024):
+    """A text of an image whose tables are full of texts of 1,024 bytes, if its commands are as many, and which has
+    8,192 instructions."""
+    lines = ["ifsv 1", "stack 32", "frames 32", "cost 300000", "commands 0", "start 0", "always init 0 body 0 tests -"]
+    lines += [f"iface {quoted('em', number)}" for number in range(64)]
+    lines += [f"test 604800 {quoted('ping', number)}" for number in range(64)]
+    lines += [f"command {quoted('logger', number)}" for number in range(commands)]
+    lines += [f"state {quoted('gateway', number)} init 0 body 0 tests -" for number in range(256)]
+    code = ["link 0 up", "link 0 down", "or", "not", "true", "and", "pop"] * 146 + ["ret"]
+    for _ in range(8):
+        lines += ["routine results 0", *code, *["ret"] * (1_024 - len(code))]
+    return "".join(f"{line}\n" for line in lines)
 
 
 def uses(size):

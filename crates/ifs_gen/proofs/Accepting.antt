@@ -14,7 +14,8 @@ use Rattle.ifs_verify.specs.Accepted.{IsAccepted}
 use Rattle.ifs_gen.specs.Trees.{Part, Policy}
 use Rattle.ifs_policy.specs.Meaning.{mentioned}
 use Rattle.ifs_gen.specs.PlainCode.{plain_coder, body_code, init_code, block_runs}
-use Rattle.ifs_gen.specs.PlainImage.{image_with, least_budgets, tests_in, parts_of, mask_in, handlers_of, greatest, room_of, init_length, body_length, part_height, plain_image, IsPolicy, RoutinesFit, CodeFits}
+use Rattle.ifs_gen.specs.PlainImage.{image_with, least_budgets, tests_in, parts_of, mask_in, handlers_of, greatest, room_of, init_length, body_length, part_height, plain_image, RoutinesFit, CodeFits}
+use Rattle.ifs_policy.specs.Fits.{PolicyFits}
 use Rattle.ifs_gen.specs.Acceptance.{PlainIsAccepted}
 use Rattle.ifs_policy.specs.Fits as fits
 use Rattle.ifs_policy.specs.Fits.{Sizes, HandlersFit}
@@ -24,7 +25,7 @@ use Rattle.ifs_gen.proofs.GoodCode.{cost_is_length, init_queues, body_queues, in
 use Rattle.ifs_gen.proofs.Images.{routines_long, states_long, state_at, greatest_below, mask_below, each_good, heights_within, Below, routines_within, parts_below, fits_events}
 use Rattle.ifs_gen.proofs.Limits.{fits}
 
-module _ (policy : Policy) (is : IsPolicy policy) (budgets : Budgets) where
+module _ (policy : Policy) (is : PolicyFits policy) (budgets : Budgets) where
   abbrev pub image : ImageParts
   image = image_with budgets policy
 
@@ -35,7 +36,7 @@ module _ (policy : Policy) (is : IsPolicy policy) (budgets : Budgets) where
   tests_long = length-map policy.tables.tests _
 
   states_are : length image.states ≡ length policy.tables.states
-  states_are = states_long count 1 policy.tables.states policy.states is.fits.count
+  states_are = states_long count 1 policy.tables.states policy.states is.count
 
   routines_are : length image.routines ≡ 2 * suc (length policy.states)
   routines_are = routines_long count (parts_of policy)
@@ -46,7 +47,7 @@ module _ (policy : Policy) (is : IsPolicy policy) (budgets : Budgets) where
       ap (λ n. made n (length policy.tables.states)) (sym tests_long) ∙ ap (λ n. made (length image.tests) n) (sym states_are)
 
   pub parts_fit : All (HandlersFit (image_sizes image)) (parts_of policy)
-  parts_fit = subst (λ sizes. All (HandlersFit sizes) (parts_of policy)) same_sizes (All-cons (HandlersFit (fits.sizes_of policy.tables)) policy.always policy.states is.fits.always is.fits.states)
+  parts_fit = subst (λ sizes. All (HandlersFit sizes) (parts_of policy)) same_sizes (All-cons (HandlersFit (fits.sizes_of policy.tables)) policy.always policy.states is.always is.states)
 
   abbrev pub good : EachGood image image.routines
   good = each_good image count tests_long (parts_of policy) parts_fit
@@ -66,7 +67,7 @@ module _ (policy : Policy) (is : IsPolicy policy) (budgets : Budgets) where
 
   pub indexes : IndexesFit image
   indexes = record {
-    initial = let h = is.fits.initial in omega (arith, h, states_are);
+    initial = let h = is.initial in omega (arith, h, states_are);
     always = routine_there 0 (omega arith);
     always_mask = mask_there policy.always;
     states = λ k spec at. (state_there k spec at).0;
@@ -84,7 +85,7 @@ module _ (policy : Policy) (is : IsPolicy policy) (budgets : Budgets) where
         (leave_nothing image good spec.handlers.init.0 there.0, leave_nothing image good spec.handlers.body.0 there.1);
   }
 
-module _ (policy : Policy) (is : IsPolicy policy) (code : CodeFits policy) where
+module _ (policy : Policy) (is : PolicyFits policy) (code : CodeFits policy) where
   abbrev stated : Budgets
   stated = least_budgets policy
 

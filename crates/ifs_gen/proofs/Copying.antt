@@ -3,11 +3,10 @@ use Rattle.std.proofs.Common.{◌≡◌, ℕ, zero, suc, ◌+◌, ◌^◌, ◌<�
 use Rattle.std.specs.Prelude.{slice_get, All, ◌==◌, ◌≢◌, if◌then◌else◌}
 use Rattle.std.specs.List.{list_any}
 use Rattle.std.proofs.lemmas.List.{map-append}
-use Rattle.std.proofs.lemmas.List.Elements.{All-append, All-cons, All-nil, All-head, All-tail, All-weaker}
+use Rattle.std.proofs.lemmas.List.Elements.{All-append, All-cons, All-nil, All-tail, All-weaker}
 use Rattle.std.proofs.lemmas.Option.{none-some, same_Some}
 use Rattle.std.proofs.Math.Nat.{pow-le-pow_right}
 use Rattle.ifs_base.specs.declared.ids.TestId.{TestId}
-use Rattle.ifs_base.specs.Sizes.{PeriodFits}
 use Rattle.ifs_image.specs.declared.parts.Budgets.{Budgets}
 use Rattle.ifs_image.specs.declared.parts.Routine.{Routine}
 use Rattle.ifs_image.specs.declared.parts.StateSpec.{StateSpec}
@@ -42,12 +41,6 @@ pub spec_copied : (xs : List External) (now next : List TestSpec) (i : ℕ) (x :
     → next ≡ map test_spec (take (i + 1) xs)
 spec_copied xs now next i x is at more =
     more ∙ ap (λ l. l ++ test_spec x ∷ []) is ∙ sym (map-append test_spec (take i xs) (x ∷ [])) ∙ ap (map test_spec) (sym (take_next xs i x at))
-
-pub period_copied : (xs : List External) (i : ℕ) (x : External) → slice_get xs i ≡ Some x → PeriodFits x.period → All (λ test. PeriodFits test.period) (take i xs)
-    → All (λ test. PeriodFits test.period) (take (i + 1) xs)
-period_copied xs i x at fits all =
-    subst (All (λ (test : External). PeriodFits test.period)) (sym (take_next xs i x at))
-    (All-append (λ (test : External). PeriodFits test.period) (take i xs) (x ∷ []) all (All-cons (λ (test : External). PeriodFits test.period) x [] fits (All-nil (λ (test : External). PeriodFits test.period))))
 
 -- tests below a number are below it
 chosen_low : (b : Bool) (n : ℕ) → All (λ (test : TestId). test.0 < suc n) (if b then record { 0 = n } ∷ [] else [])

@@ -12,7 +12,8 @@ use Rattle.ifs_verify.specs.Bounds.{AreAmounts, cost_of, commands_of, FitsEvents
 use Rattle.ifs_verify.specs.Accepted.{IsAccepted}
 use Rattle.ifs_gen.specs.Trees.{Part, Policy}
 use Rattle.ifs_gen.specs.PlainCode.{plain_coder, body_code, init_code, block_runs}
-use Rattle.ifs_gen.specs.PlainImage.{tests_in, parts_of, image_with, greatest, number_in, event_total, init_length, body_length, part_height, IsPolicy}
+use Rattle.ifs_gen.specs.PlainImage.{tests_in, parts_of, image_with, greatest, number_in, event_total, init_length, body_length, part_height}
+use Rattle.ifs_policy.specs.Fits.{PolicyFits}
 use Rattle.ifs_gen.specs.Acceptance.{BudgetsAreLeast}
 use Rattle.ifs_gen.proofs.GoodRoutines.{amount, heights_in, least_amount, least_height}
 use Rattle.ifs_gen.proofs.GoodCode.{cost_is_length, init_queues, body_queues, init_long, body_long}
@@ -41,7 +42,7 @@ greatest_of : {T : Type 0} (number : T → ℕ) (xs : List T) → 1 ≤ length x
 greatest_of number [] some = absurd (omega (arith, some))
 greatest_of number (x ∷ xs) some = greatest_is number x xs
 
-module _ (policy : Policy) (is : IsPolicy policy) (budgets : Budgets) (accepted : IsAccepted (image_with budgets policy)) where
+module _ (policy : Policy) (is : PolicyFits policy) (budgets : Budgets) (accepted : IsAccepted (image_with budgets policy)) where
   abbrev image : ImageParts
   image = image_with budgets policy
 
@@ -49,7 +50,7 @@ module _ (policy : Policy) (is : IsPolicy policy) (budgets : Budgets) (accepted 
   count = tests_in policy
 
   some_state : 1 ≤ length policy.states
-  some_state = let h = is.fits.initial in let e = is.fits.count in omega (arith, h, e)
+  some_state = let h = is.initial in let e = is.count in omega (arith, h, e)
 
   -- what an event may come to is within what is stated, where it is within for each of its handlers
   events_least : (init body : Part → ℕ) (reach : ℕ → ℕ) (stated : ℕ) → FitsEvents image reach stated
@@ -61,15 +62,15 @@ module _ (policy : Policy) (is : IsPolicy policy) (budgets : Budgets) (accepted 
       let most_init = greatest_of init policy.states some_state in
       let own = (each (1 + most_body.k) most_body.x (part_at policy most_body.k most_body.x most_body.at)).1 in
       let next = (each (1 + most_init.k) most_init.x (part_at policy most_init.k most_init.x most_init.at)).0 in
-      let spec_j = spec_at count 1 policy.tables.states policy.states most_body.k most_body.x is.fits.count most_body.at in
-      let spec_k = spec_at count 1 policy.tables.states policy.states most_init.k most_init.x is.fits.count most_init.at in
+      let spec_j = spec_at count 1 policy.tables.states policy.states most_body.k most_body.x is.count most_body.at in
+      let spec_k = spec_at count 1 policy.tables.states policy.states most_init.k most_init.x is.count most_init.at in
       let turn = fits.evaluation most_body.k most_init.k spec_j.spec spec_k.spec spec_j.at spec_k.at in
       let reach_j = ap (λ (h : Handlers). reach h.body.0) spec_j.handlers in
       let reach_k = ap (λ (h : Handlers). reach h.init.0) spec_k.handlers in
-      let some = is.fits.initial in
-      let same = is.fits.count in
+      let some = is.initial in
+      let same = is.count in
       let first = entry_at policy.states policy.initial.0 (omega (arith, some, same)) in
-      let spec = spec_at count 1 policy.tables.states policy.states policy.initial.0 first.0 is.fits.count first.1 in
+      let spec = spec_at count 1 policy.tables.states policy.states policy.initial.0 first.0 is.count first.1 in
       let start = fits.opening spec.spec spec.at in
       let reach_first = ap (λ (h : Handlers). reach h.init.0) spec.handlers in
       let entry = (each (1 + policy.initial.0) first.0 (part_at policy policy.initial.0 first.0 first.1)).0 in
@@ -113,7 +114,7 @@ module _ (policy : Policy) (is : IsPolicy policy) (budgets : Budgets) (accepted 
         let stated_init = stated.always_init in
         let stated_body = stated.always_body in
         let states : (k : ℕ) (part : Part) → slice_get policy.states k ≡ Some part → part_height part ≤ budgets.stack = λ k part e.
-        let spec = spec_at count 1 policy.tables.states policy.states k part is.fits.count e in
+        let spec = spec_at count 1 policy.tables.states policy.states k part is.count e in
         let routines = subst (λ (h : Handlers). AreRoutines image h) spec.handlers (there.states k spec.spec spec.at) in
         let init_low = low (2 * (1 + k)) routines.0 in
         let body_low = low (2 * (1 + k) + 1) routines.1 in

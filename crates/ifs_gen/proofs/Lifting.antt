@@ -24,7 +24,8 @@ use Rattle.ifs_core.specs.Steps.{CoreState, replies, after_steps}
 use Rattle.ifs_gen.specs.Trees.{Part, External, Policy}
 use Rattle.ifs_policy.specs.Meaning.{body_yield, init_yield}
 use Rattle.ifs_gen.specs.PlainCode.{plain_coder, body_code}
-use Rattle.ifs_gen.specs.PlainImage.{least_budgets, tests_in, parts_of, part_height, plain_image, room_of, IsPolicy, CodeFits}
+use Rattle.ifs_gen.specs.PlainImage.{least_budgets, tests_in, parts_of, part_height, plain_image, room_of, CodeFits}
+use Rattle.ifs_policy.specs.Fits.{PolicyFits}
 use Rattle.ifs_policy.specs.Fits.{HandlersFit}
 use Rattle.ifs_gen.specs.Runs.{image_sizes, init_cost, body_cost}
 use Rattle.ifs_gen.specs.Events.{yield_in, yield_of, mask_of_state, behaviour_of, policy_opened, reply_without_cost, state_without_costs, RunsAsPolicy, ImageMeansPolicy}
@@ -51,7 +52,7 @@ abbrev cost_in : (Part → ℕ) → Option Part → ℕ
 cost_in cost None = 0
 cost_in cost (Some part) = cost part
 
-module _ (policy : Policy) (is : IsPolicy policy) (code : CodeFits policy) where
+module _ (policy : Policy) (is : PolicyFits policy) (code : CodeFits policy) where
   abbrev image : ImageParts
   image = plain_image policy
 

@@ -12,7 +12,8 @@ use Rattle.ifs_image.specs.declared.parts.ImageParts.{ImageParts}
 use Rattle.ifs_image.specs.Limits.{TestFits, RoutineFits, names_of, AreDistinct, instructions, Fits}
 use Rattle.ifs_gen.specs.Trees.{Part, External, Policy}
 use Rattle.ifs_gen.specs.PlainCode.{plain_coder, body_code, init_code}
-use Rattle.ifs_gen.specs.PlainImage.{tests_in, parts_of, states_from, routine_of_code, routines_of, greatest, number_in, event_total, init_length, body_length, part_height, plain_image, IsPolicy, RoutinesFit as PartLengths, CodeFits}
+use Rattle.ifs_gen.specs.PlainImage.{tests_in, parts_of, states_from, routine_of_code, routines_of, greatest, number_in, event_total, init_length, body_length, part_height, plain_image, RoutinesFit as PartLengths, CodeFits}
+use Rattle.ifs_policy.specs.Fits.{PolicyFits}
 use Rattle.ifs_gen.proofs.GoodCode.{init_long, body_long}
 use Rattle.ifs_gen.proofs.Images.{routines_long, states_long, at_most_greatest, greatest_below}
 
@@ -65,7 +66,7 @@ tests_fit (x ∷ tests) texts periods =
     (record { period = All-head (λ test. PeriodFits test.period) x tests periods; text = All-head (λ test. TextFits test.command) x tests texts })
     (tests_fit tests (All-tail (λ test. TextFits test.command) x tests texts) (All-tail (λ test. PeriodFits test.period) x tests periods))
 
-module _ (policy : Policy) (is : IsPolicy policy) (code : CodeFits policy) where
+module _ (policy : Policy) (is : PolicyFits policy) (code : CodeFits policy) where
   abbrev count : ℕ
   count = tests_in policy
 
@@ -92,28 +93,28 @@ module _ (policy : Policy) (is : IsPolicy policy) (code : CodeFits policy) where
       commands = code.room;
     };
     counts =
-        let states = states_long count 1 policy.tables.states policy.states is.fits.count in
+        let states = states_long count 1 policy.tables.states policy.states is.count in
         let tests = length-map policy.tables.tests (λ (test : External). let t : TestSpec = record { period = test.period; text = test.command } in t) in
         let routines = routines_long count (parts_of policy) in
-        let parts = is.fits.count in
-        let some = is.fits.initial in
-        let few = is.fits.tables.states.within in
-        let few_tests = is.fits.tables.tests.within in
+        let parts = is.count in
+        let some = is.initial in
+        let few = is.tables.states.within in
+        let few_tests = is.tables.tests.within in
         record {
-          interfaces = is.fits.tables.interfaces.within;
+          interfaces = is.tables.interfaces.within;
           tests = omega (arith, tests, few_tests);
-          commands = is.fits.tables.commands.within;
+          commands = is.tables.commands.within;
           some_state = omega (arith, states, some);
           states = omega (arith, states, few);
           routines = omega (arith, routines, parts, few);
         };
-    interfaces = record { texts = is.fits.tables.interfaces.each; distinct = is.fits.tables.interfaces.distinct };
+    interfaces = record { texts = is.tables.interfaces.each; distinct = is.tables.interfaces.distinct };
     tests = All-map TestFits (λ (test : External). record { period = test.period; text = test.command }) policy.tables.tests
-        (tests_fit policy.tables.tests is.fits.tables.tests.each is.periods);
-    commands = is.fits.tables.commands.each;
+        (tests_fit policy.tables.tests is.tables.tests.each is.periods);
+    commands = is.tables.commands.each;
     states = record {
-      texts = unmapped TextFits (λ (s : StateSpec). s.name) (states_from count 1 policy.tables.states policy.states) (subst (All TextFits) (sym (names_same count 1 policy.tables.states policy.states is.fits.count)) is.fits.tables.states.each);
-      distinct = subst AreDistinct (sym (names_same count 1 policy.tables.states policy.states is.fits.count)) is.fits.tables.states.distinct;
+      texts = unmapped TextFits (λ (s : StateSpec). s.name) (states_from count 1 policy.tables.states policy.states) (subst (All TextFits) (sym (names_same count 1 policy.tables.states policy.states is.count)) is.tables.states.each);
+      distinct = subst AreDistinct (sym (names_same count 1 policy.tables.states policy.states is.count)) is.tables.states.distinct;
     };
     routines = record {
       each = routines_fit count (parts_of policy) code.each;

@@ -4,12 +4,13 @@ use Rattle.std.specs.Prelude.{slice_get, All, sum, sum_by}
 use Rattle.std.proofs.lemmas.Bool.{cases_lt}
 use Rattle.std.proofs.lemmas.List.Elements.{All-head, All-tail, All-cons, All-nil}
 use Rattle.std.proofs.lemmas.List.Sums.{sum_by-cons}
-use Rattle.std.proofs.lemmas.Option.{same_Some}
-use Rattle.ifs_gen.specs.declared.fault.GenFault.TheVariants.{RoutineTooLong, CodeTooLong, StackTooHigh, TooManyCommands}
-use Rattle.ifs_gen.specs.Trees.{Part}
+use Rattle.std.proofs.lemmas.Option.{none-some, same_Some}
+use Rattle.ifs_gen.specs.declared.fault.GenFault.{GenFault}
+use Rattle.ifs_gen.specs.declared.fault.GenFault.TheVariants.{RoutineTooLong, CodeTooLong, StackTooHigh, TooManyCommands, Memory}
+use Rattle.ifs_gen.specs.Trees.{Part, Policy}
 use Rattle.ifs_gen.specs.PlainCode.{plain_coder, block_height}
-use Rattle.ifs_gen.specs.PlainImage.{tests_in, parts_of, init_length, body_length, part_height, room_of, RoutinesFit}
-use Rattle.ifs_gen.specs.Refused.{lengths_of, heights_of, lengths, heights, AreWithin, IsFirstOver, FitsOrIsRefused}
+use Rattle.ifs_gen.specs.PlainImage.{tests_in, parts_of, init_length, body_length, part_height, room_of, RoutinesFit, CodeFits}
+use Rattle.ifs_gen.specs.Refused.{lengths_of, heights_of, lengths, heights, AreWithin, IsFirstOver, IsRefused, FitsOrIsRefused}
 
 -- The index of the first number over a limit, where there is one.
 record Over (limit : ℕ) (numbers : List ℕ) : Type 0 where
@@ -83,3 +84,49 @@ fits_or_is_refused policy =
     (cases_lt 8192 (sum (lengths policy))))
     (λ long. inr (RoutineTooLong (record { 0 = long.index }), long.first))
     (first_over 1024 (lengths policy))
+
+-- Of numbers that keep a limit none is over it.
+each_low : (limit : ℕ) (numbers : List ℕ) (index number : ℕ) → AreWithin limit numbers → slice_get numbers index ≡ Some number → number ≤ limit
+each_low limit [] index number within at = absurd (none-some number at)
+each_low limit (x ∷ numbers) zero number within at =
+    let same = same_Some x number at in
+    let low = All-head (λ n. n ≤ limit) x numbers within in
+    omega (arith, same, low)
+each_low limit (x ∷ numbers) (suc index) number within at = each_low limit numbers index number (All-tail (λ n. n ≤ limit) x numbers within) at
+
+none_over : (limit : ℕ) (numbers : List ℕ) (index : ℕ) → AreWithin limit numbers → ¬ IsFirstOver limit numbers index
+none_over limit numbers index within first =
+    let low = each_low limit numbers index first.number within first.at in
+    let over = first.over in
+    absurd (omega (arith, low, over))
+
+lengths_low : (count : ℕ) (parts : List Part) → All (RoutinesFit count) parts → AreWithin 1024 (lengths_of count parts)
+lengths_low count [] h = All-nil (λ n. n ≤ 1024)
+lengths_low count (x ∷ parts) h =
+    let fits = All-head (RoutinesFit count) x parts h in
+    All-cons (λ n. n ≤ 1024) (init_length x) (body_length count x ∷ lengths_of count parts) fits.init
+    (All-cons (λ n. n ≤ 1024) (body_length count x) (lengths_of count parts) fits.body (lengths_low count parts (All-tail (RoutinesFit count) x parts h)))
+
+heights_low : (parts : List Part) → All (λ part. part_height part ≤ 32) parts → AreWithin 32 (heights_of parts)
+heights_low [] h = All-nil (λ n. n ≤ 32)
+heights_low (x ∷ parts) h =
+    let low = All-head (λ part. part_height part ≤ 32) x parts h in
+    let init = block_height plain_coder x.init in
+    let body = block_height plain_coder x.body in
+    All-cons (λ n. n ≤ 32) init (body ∷ heights_of parts) (omega (arith, low))
+    (All-cons (λ n. n ≤ 32) body (heights_of parts) (omega (arith, low)) (heights_low parts (All-tail (λ part. part_height part ≤ 32) x parts h)))
+
+-- A code that passes a limit does not keep the limits.
+pub does_not_fit : (policy : Policy) (fault : GenFault) → IsRefused policy fault → ¬ CodeFits policy
+does_not_fit policy (RoutineTooLong routine) h code = none_over 1024 (lengths policy) routine.0 (lengths_low (tests_in policy) (parts_of policy) code.each) h
+does_not_fit policy CodeTooLong h code =
+    let sums = sums_agree (tests_in policy) (parts_of policy) in
+    let many = h.1 in
+    let few = code.together in
+    absurd (omega (arith, sums, many, few))
+does_not_fit policy (StackTooHigh routine) h code = none_over 32 (heights policy) routine.0 (heights_low (parts_of policy) code.height) h.2
+does_not_fit policy TooManyCommands h code =
+    let many = h.3 in
+    let few = code.room in
+    absurd (omega (arith, many, few))
+does_not_fit policy Memory h code = h

@@ -1,35 +1,36 @@
 -- What a text means through the image of its policy.
-use Rattle.std.proofs.Common.{◌≡◌, ◌≢◌, ℕ, ◌+◌, List, [], ◌∷◌, length, refl, sym, ap, subst, ◌∙◌, Err, arith}
+use Rattle.std.proofs.Common.{◌≡◌, ◌≢◌, ℕ, ◌+◌, List, [], ◌∷◌, length, refl, sym, ap, subst, arith}
 use Rattle.std.proofs.lemmas.Simd.{map-map}
 use Rattle.ifs_lex.specs.declared.token.Token.{Token}
 use Rattle.ifs_lex.specs.Expansion as lex
-use Rattle.ifs_lex.specs.declared.fault.LexFault.{LexFault}
-use Rattle.ifs_lex.specs.declared.fault.LexFault.TheVariants as lexing
 use Rattle.ifs_parse.specs.Files.{File}
 use Rattle.ifs_parse.specs.Grammar.{Says, IsSaid}
 use Rattle.ifs_parse.specs.declared.tree.Item.{Item}
-use Rattle.ifs_parse.specs.Reading.{fits_period, read_within}
-use Rattle.ifs_parse.specs.declared.fault.ParseFault.{ParseFault}
-use Rattle.ifs_parse.specs.declared.fault.ParseFault.TheVariants as parsing
 use Rattle.ifs_policy.specs.Placed.{Resolves}
-use Rattle.ifs_policy.specs.Faults as names
-use Rattle.ifs_policy.specs.declared.fault.ResolveFault.{ResolveFault}
-use Rattle.ifs_policy.specs.declared.fault.ResolveFault.TheVariants as resolving
 use Rattle.ifs_policy.specs.Fits.{PolicyFits}
+use Rattle.ifs_policy.specs.Texts.{HasPolicy, IsTextRefused}
+use Rattle.ifs_policy.specs.declared.front.PolicyFault.{PolicyFault}
+use Rattle.ifs_policy.specs.declared.front.PolicyFault.TheVariants as fronting
 use Rattle.ifs_image.specs.declared.parts.TestSpec.{TestSpec}
 use Rattle.ifs_image.specs.declared.parts.ImageParts.{ImageParts}
 use Rattle.ifs_image.specs.Limits.{names_of}
 use Rattle.ifs_image.specs.Spelling as image
+use Rattle.ifs_verify.specs.Accepted.{IsAccepted}
+use Rattle.ifs_verify.specs.declared.fault.VerifyFault.{VerifyFault}
+use Rattle.ifs_verify.specs.declared.fault.VerifyFault.TheVariants as verifying
 use Rattle.ifs_core.specs.Headline.{AcceptedIsKept}
 use Rattle.ifs_gen.specs.Trees.{Part, Policy, External}
-use Rattle.ifs_gen.specs.PlainImage.{tests_in, states_from, plain_image, IsPolicy, CodeFits}
-use Rattle.ifs_gen.specs.Compiled.{HasPolicy, HasNoPolicy, MeansPolicy, TextsMeanTheirPolicy, IsCompiled, IsRefusal, IsWritten, IsCodeRefusal, of_text, of_tokens, of_names, of_code}
+use Rattle.ifs_gen.specs.PlainImage.{tests_in, states_from, plain_image, CodeFits}
+use Rattle.ifs_gen.specs.Compiled.{RefusesAsVerify, MeansPolicy, TextsMeanTheirPolicy, IsCompiled, Compiles, IsRefusal, IsWritten, IsCodeRefusal, of_policy, of_code}
 use Rattle.ifs_gen.specs.Refused.{IsRefused}
 use Rattle.ifs_gen.specs.declared.compile_fault.CompileFault.{CompileFault}
+use Rattle.ifs_gen.specs.declared.compile_fault.CompileFault.TheVariants as compiling
+use Rattle.ifs_gen.specs.declared.compile_fault.CompileFault.TheVariants.{Memory}
 use Rattle.ifs_gen.specs.declared.fault.GenFault.{GenFault}
 use Rattle.ifs_gen.specs.declared.fault.GenFault.TheVariants as generating
 use Rattle.ifs_gen.proofs.Accepting.{plain_is_accepted}
 use Rattle.ifs_gen.proofs.Lifting as lifting
+use Rattle.ifs_gen.proofs.Refusing.{does_not_fit}
 
 -- the names of states stand in the image as in the policy
 state_names : (count k : ℕ) (names : List (List ℕ)) (parts : List Part) → length parts ≡ length names → names_of (states_from count k names parts) ≡ names
@@ -61,23 +62,40 @@ one_of_text one_list one_tree one_policy text defs policy other h k =
     let same_file = one_tree h.tokens k.file h.file said h.said in
     one_policy h.file.items other policy (subst (λ (f : File). Resolves f.items other) same_file k.resolved) h.resolved
 
-pub is_policy : PoliciesFit → (text : List ℕ) (defs : List (List ℕ × List ℕ)) (policy : Policy) → HasPolicy text defs policy → IsPolicy policy
-is_policy fit text defs policy h =
-    let fits = fit h.file policy ∣ (h.tokens, h.said) ∣₁ h.resolved in
-    record { fits = fits; periods = fits.periods }
+pub is_policy : PoliciesFit → (text : List ℕ) (defs : List (List ℕ × List ℕ)) (policy : Policy) → HasPolicy text defs policy → PolicyFits policy
+is_policy fit text defs policy h = fit h.file policy ∣ (h.tokens, h.said) ∣₁ h.resolved
 
-pub means : AcceptedIsKept → OneImage → (policy : Policy) → IsPolicy policy → CodeFits policy → (bytes : List ℕ) → image.Spells bytes (plain_image policy) → MeansPolicy bytes policy
+-- What is accepted is refused for nothing but memory.
+only_memory : (bytes : List ℕ) (parts : ImageParts) → image.Spells bytes parts → IsAccepted parts → (fault : VerifyFault) → RefusesAsVerify bytes fault → fault ≡ verifying.OutOfMemory
+only_memory bytes parts spelled accepted verifying.OutOfMemory refuses = refl
+only_memory bytes parts spelled accepted (verifying.NoImage at) refuses = absurd (refuses (λ k. absurd (cc)) parts spelled accepted)
+only_memory bytes parts spelled accepted (verifying.NoEntry at) refuses = absurd (refuses (λ k. absurd (cc)) parts spelled accepted)
+only_memory bytes parts spelled accepted (verifying.JumpTarget at) refuses = absurd (refuses (λ k. absurd (cc)) parts spelled accepted)
+only_memory bytes parts spelled accepted (verifying.LeftAtEnd at) refuses = absurd (refuses (λ k. absurd (cc)) parts spelled accepted)
+only_memory bytes parts spelled accepted (verifying.Unreached at) refuses = absurd (refuses (λ k. absurd (cc)) parts spelled accepted)
+only_memory bytes parts spelled accepted (verifying.WrongOperand at) refuses = absurd (refuses (λ k. absurd (cc)) parts spelled accepted)
+only_memory bytes parts spelled accepted (verifying.WaysDisagree at) refuses = absurd (refuses (λ k. absurd (cc)) parts spelled accepted)
+only_memory bytes parts spelled accepted (verifying.CallNotLower at) refuses = absurd (refuses (λ k. absurd (cc)) parts spelled accepted)
+only_memory bytes parts spelled accepted (verifying.WrongResults at) refuses = absurd (refuses (λ k. absurd (cc)) parts spelled accepted)
+only_memory bytes parts spelled accepted (verifying.StackOver at) refuses = absurd (refuses (λ k. absurd (cc)) parts spelled accepted)
+only_memory bytes parts spelled accepted (verifying.FramesOver at) refuses = absurd (refuses (λ k. absurd (cc)) parts spelled accepted)
+only_memory bytes parts spelled accepted (verifying.CostOver at) refuses = absurd (refuses (λ k. absurd (cc)) parts spelled accepted)
+only_memory bytes parts spelled accepted (verifying.CommandsOver at) refuses = absurd (refuses (λ k. absurd (cc)) parts spelled accepted)
+only_memory bytes parts spelled accepted (verifying.HandlerLeaves at) refuses = absurd (refuses (λ k. absurd (cc)) parts spelled accepted)
+
+pub means : AcceptedIsKept → OneImage → (policy : Policy) → PolicyFits policy → CodeFits policy → (bytes : List ℕ) → image.Spells bytes (plain_image policy) → MeansPolicy bytes policy
 means kept one_image policy is code bytes spelled =
     let a = plain_is_accepted policy is code in
     record {
       verified = record { spelled = spelled; accepted = a.0 };
       only = λ other h. one_image bytes other (plain_image policy) h spelled;
+      refused = only_memory bytes (plain_image policy) spelled a.0;
       names = record {
         interfaces = refl;
         tests = map-map (λ (test : TestSpec). test.text) (λ (test : External). record { period = test.period; text = test.command }) policy.tables.tests;
         periods = map-map (λ (test : TestSpec). test.period) (λ (test : External). record { period = test.period; text = test.command }) policy.tables.tests;
         commands = refl;
-        states = state_names (tests_in policy) 1 policy.tables.states policy.states is.fits.count;
+        states = state_names (tests_in policy) 1 policy.tables.states policy.states is.count;
         initial = refl;
       };
       room = refl;
@@ -91,48 +109,13 @@ texts_mean one_list one_tree one_policy fit one_image kept text defs policy h = 
   means = λ code bytes spelled. means kept one_image policy (is_policy fit text defs policy h) code bytes spelled;
 }
 
--- What each step refuses.
+-- What stops the compiler.
 module _ (text : List ℕ) (defs : List (List ℕ × List ℕ)) where
-  no_tokens : (fault : LexFault) → lex.tokens_of text defs ≡ Err fault → HasNoPolicy text defs
-  no_tokens fault e policy h = let k = sym e ∙ h.spelled in absurd (cc)
-
-  pub refused_text : (fault : LexFault) → (fault ≢ lexing.Memory → lex.tokens_of text defs ≡ Err fault) → IsRefusal text defs (of_text fault)
-  refused_text lexing.Memory e = tt
-  refused_text (lexing.Stray line) e = (no_tokens (lexing.Stray line) (e (λ k. absurd (cc))), e (λ k. absurd (cc)))
-  refused_text (lexing.Unclosed line) e = (no_tokens (lexing.Unclosed line) (e (λ k. absurd (cc))), e (λ k. absurd (cc)))
-  refused_text (lexing.UnknownMacro line) e = (no_tokens (lexing.UnknownMacro line) (e (λ k. absurd (cc))), e (λ k. absurd (cc)))
-  refused_text (lexing.BadMacro line) e = (no_tokens (lexing.BadMacro line) (e (λ k. absurd (cc))), e (λ k. absurd (cc)))
-  refused_text (lexing.OverLimit line) e = (no_tokens (lexing.OverLimit line) (e (λ k. absurd (cc))), e (λ k. absurd (cc)))
-
-  -- Tokens that the text spells.
-  module _ (one_list : OneList) (tokens : List Token) (spelled : lex.Spells text defs tokens) where
-    abbrev Unread : ParseFault → Type 0
-    Unread fault = read_within fits_period 32 tokens ≡ Err fault
-
-    said_by : (policy : Policy) (h : HasPolicy text defs policy) → Says tokens h.file
-    said_by policy h = subst (λ (ts : List Token). Says ts h.file) (one_list text defs h.tokens tokens h.spelled spelled) h.said
-
-    pub refused_tokens : (fault : ParseFault) → (fault ≢ parsing.Memory → Unread fault) → (fault ≢ parsing.Memory → (file : File) → ¬ Says tokens file) → IsRefusal text defs (of_tokens fault)
-    refused_tokens parsing.Memory e none = tt
-    refused_tokens (parsing.Unexpected line) e none = ((λ policy h. none (λ k. absurd (cc)) h.file (said_by policy h)), (tokens, spelled, e (λ k. absurd (cc))))
-    refused_tokens (parsing.Period line) e none = ((λ policy h. none (λ k. absurd (cc)) h.file (said_by policy h)), (tokens, spelled, e (λ k. absurd (cc))))
-    refused_tokens (parsing.Nesting line) e none = ((λ policy h. none (λ k. absurd (cc)) h.file (said_by policy h)), (tokens, spelled, e (λ k. absurd (cc))))
-
-    module _ (one_tree : OneTree) (file : File) (said : Says tokens file) where
-      resolved_by : (policy : Policy) → HasPolicy text defs policy → Resolves file.items policy
-      resolved_by policy h = subst (λ (f : File). Resolves f.items policy) (one_tree tokens h.file file (said_by policy h) said) h.resolved
-
-      pub refused_names : (fault : ResolveFault) → (fault ≢ resolving.Memory → names.IsRefused file.items fault)
-          → (fault ≢ resolving.Memory → (policy : Policy) → ¬ Resolves file.items policy) → IsRefusal text defs (of_names fault)
-      refused_names resolving.Memory e none = tt
-      refused_names (resolving.NoState line) e none = ((λ policy h. none (λ k. absurd (cc)) policy (resolved_by policy h)), (tokens, file, spelled, said, e (λ k. absurd (cc))))
-      refused_names (resolving.StateTwice line) e none = ((λ policy h. none (λ k. absurd (cc)) policy (resolved_by policy h)), (tokens, file, spelled, said, e (λ k. absurd (cc))))
-      refused_names (resolving.SecondInit line) e none = ((λ policy h. none (λ k. absurd (cc)) policy (resolved_by policy h)), (tokens, file, spelled, said, e (λ k. absurd (cc))))
-      refused_names (resolving.SetStateInInit line) e none = ((λ policy h. none (λ k. absurd (cc)) policy (resolved_by policy h)), (tokens, file, spelled, said, e (λ k. absurd (cc))))
-      refused_names (resolving.TestInInit line) e none = ((λ policy h. none (λ k. absurd (cc)) policy (resolved_by policy h)), (tokens, file, spelled, said, e (λ k. absurd (cc))))
-      refused_names (resolving.TableFull line) e none = ((λ policy h. none (λ k. absurd (cc)) policy (resolved_by policy h)), (tokens, file, spelled, said, e (λ k. absurd (cc))))
-      refused_names (resolving.BadText line) e none = ((λ policy h. none (λ k. absurd (cc)) policy (resolved_by policy h)), (tokens, file, spelled, said, e (λ k. absurd (cc))))
-      refused_names (resolving.UnknownState line) e none = ((λ policy h. none (λ k. absurd (cc)) policy (resolved_by policy h)), (tokens, file, spelled, said, e (λ k. absurd (cc))))
+  pub refused_policy : (fault : PolicyFault) → (fault ≢ fronting.Memory → IsTextRefused text defs fault) → IsRefusal text defs (of_policy fault)
+  refused_policy (fronting.Text fault) e = e (λ k. absurd (cc))
+  refused_policy (fronting.Tokens fault) e = e (λ k. absurd (cc))
+  refused_policy (fronting.Names fault) e = e (λ k. absurd (cc))
+  refused_policy fronting.Memory e = tt
 
   pub refused_code : (policy : Policy) → HasPolicy text defs policy → (fault : GenFault) → (fault ≢ generating.Memory → IsRefused policy fault) → IsRefusal text defs (of_code fault)
   refused_code policy h generating.Memory e = tt
@@ -148,3 +131,17 @@ module _ (text : List ℕ) (defs : List (List ℕ × List ℕ)) where
 
 pub code_refusal : (policy : Policy) (text : List ℕ) (defs : List (List ℕ × List ℕ)) → HasPolicy text defs policy → (fault : CompileFault) → IsCodeRefusal policy fault → IsRefusal text defs fault
 code_refusal policy text defs h fault r = subst (IsRefusal text defs) (sym r.1) (refused_code text defs policy h r.0 r.2)
+
+-- A text that is refused for another cause than memory does not compile.
+pub no_policy : (text : List ℕ) (defs : List (List ℕ × List ℕ)) (fault : PolicyFault) → IsTextRefused text defs fault → ¬ Compiles text defs
+no_policy text defs (fronting.Text fault) h k = h.0 k.policy k.of_text
+no_policy text defs (fronting.Tokens fault) h k = h.0 k.policy k.of_text
+no_policy text defs (fronting.Names fault) h k = h.0 k.policy k.of_text
+no_policy text defs fronting.Memory h k = h
+
+pub none_compiled : TextsMeanTheirPolicy → (text : List ℕ) (defs : List (List ℕ × List ℕ)) (fault : CompileFault) → IsRefusal text defs fault → fault ≢ Memory → ¬ Compiles text defs
+none_compiled law text defs (compiling.Text fault) h other k = no_policy text defs fault h k
+none_compiled law text defs (compiling.Code fault) h other k =
+    let same = (law text defs h.0 h.1).one k.policy k.of_text in
+    does_not_fit h.0 fault h.2 (subst CodeFits same k.code)
+none_compiled law text defs compiling.Memory h other k = absurd (other refl)

@@ -1,12 +1,11 @@
 -- What measures of a policy's parts say of the policy.
-use Rattle.std.proofs.Common.{◌≡◌, ℕ, zero, suc, ◌+◌, ◌*◌, ◌<◌, ◌≤◌, List, [], ◌∷◌, length, map, Some, refl, sym, ap, ◌∙◌, subst, arith}
-use Rattle.std.specs.Prelude.{slice_get, All, sum, max}
+use Rattle.std.proofs.Common.{◌≡◌, ℕ, zero, suc, ◌+◌, ◌*◌, ◌<◌, ◌≤◌, List, [], ◌∷◌, map, Some, refl, sym, ap, ◌∙◌, subst, arith}
+use Rattle.std.specs.Prelude.{slice_get, sum, max}
 use Rattle.std.proofs.lemmas.List.Elements.{All-head, All-tail, All-cons, All-nil}
 use Rattle.std.proofs.lemmas.List.Sums.{sum_by-cons}
 use Rattle.std.proofs.lemmas.Option.{none-some, same_Some}
 use Rattle.ifs_gen.specs.declared.fault.GenFault.{GenFault}
 use Rattle.ifs_gen.specs.declared.fault.GenFault.TheVariants.{RoutineTooLong, CodeTooLong, StackTooHigh, TooManyCommands, Memory}
-use Rattle.ifs_gen.specs.declared.measure.BlockMeasure.{BlockMeasure}
 use Rattle.ifs_gen.specs.declared.amounts.PartMeasure.{PartMeasure}
 use Rattle.ifs_gen.specs.declared.amounts.Amount.{Amount}
 use Rattle.ifs_gen.specs.declared.amounts.Amount.TheVariants.{Size, Height, Runs}

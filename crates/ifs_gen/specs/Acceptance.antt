@@ -4,11 +4,12 @@ use Rattle.ifs_image.specs.declared.parts.Budgets.{Budgets}
 use Rattle.ifs_image.specs.Limits.{Fits}
 use Rattle.ifs_verify.specs.Accepted.{IsAccepted}
 use Rattle.ifs_gen.specs.Trees.{Policy}
-use Rattle.ifs_gen.specs.PlainImage.{image_with, least_budgets, plain_image, IsPolicy, CodeFits}
+use Rattle.ifs_gen.specs.PlainImage.{image_with, least_budgets, plain_image, CodeFits}
+use Rattle.ifs_policy.specs.Fits.{PolicyFits}
 
 -- A policy whose plain code keeps the limits has an image that keeps them, and that is accepted.
 abbrev pub PlainIsAccepted : Type 0
-PlainIsAccepted = (policy : Policy) → IsPolicy policy → CodeFits policy → IsAccepted (plain_image policy) × Fits (plain_image policy)
+PlainIsAccepted = (policy : Policy) → PolicyFits policy → CodeFits policy → IsAccepted (plain_image policy) × Fits (plain_image policy)
 
 -- No part of these budgets is over that of the others.
 pub record AreNoGreater (budgets others : Budgets) : Type 0 where
@@ -19,4 +20,4 @@ pub record AreNoGreater (budgets others : Budgets) : Type 0 where
 
 -- The budgets of the plain image are the least with which its code is accepted.
 abbrev pub BudgetsAreLeast : Type 0
-BudgetsAreLeast = (policy : Policy) → IsPolicy policy → (budgets : Budgets) → IsAccepted (image_with budgets policy) → AreNoGreater (least_budgets policy) budgets
+BudgetsAreLeast = (policy : Policy) → PolicyFits policy → (budgets : Budgets) → IsAccepted (image_with budgets policy) → AreNoGreater (least_budgets policy) budgets

@@ -1,21 +1,14 @@
 -- From a text to replies: the policy that a text has, and what the bytes of its image mean.
-use Rattle.std.specs.Prelude.{ℕ, ◌≡◌, ◌≢◌, List, map, Err}
-use Rattle.ifs_lex.specs.declared.token.Token.{Token}
-use Rattle.ifs_lex.specs.Expansion as lex
-use Rattle.ifs_lex.specs.declared.fault.LexFault.{LexFault}
-use Rattle.ifs_lex.specs.declared.fault.LexFault.TheVariants as lexing
-use Rattle.ifs_parse.specs.Files.{File}
-use Rattle.ifs_parse.specs.Grammar.{Says}
-use Rattle.ifs_parse.specs.Reading.{fits_period, read_within}
-use Rattle.ifs_parse.specs.declared.fault.ParseFault.{ParseFault}
-use Rattle.ifs_parse.specs.declared.fault.ParseFault.TheVariants as parsing
-use Rattle.ifs_policy.specs.Placed.{Resolves}
-use Rattle.ifs_policy.specs.Faults as names
-use Rattle.ifs_policy.specs.declared.fault.ResolveFault.{ResolveFault}
-use Rattle.ifs_policy.specs.declared.fault.ResolveFault.TheVariants as resolving
+use Rattle.std.specs.Prelude.{ℕ, ◌≡◌, ◌≢◌, List, map}
+use Rattle.ifs_policy.specs.Texts.{HasPolicy, IsTextRefused}
+use Rattle.ifs_policy.specs.declared.front.PolicyFault.{PolicyFault}
+use Rattle.ifs_policy.specs.declared.front.PolicyFault.TheVariants as fronting
 use Rattle.ifs_image.specs.declared.parts.ImageParts.{ImageParts}
 use Rattle.ifs_image.specs.Limits.{names_of}
 use Rattle.ifs_image.specs.Spelling as image
+use Rattle.ifs_verify.specs.Accepted.{IsAccepted}
+use Rattle.ifs_verify.specs.declared.fault.VerifyFault.{VerifyFault}
+use Rattle.ifs_verify.specs.declared.fault.VerifyFault.TheVariants.{OutOfMemory}
 use Rattle.ifs_core.specs.Event.{Behaviour}
 use Rattle.ifs_core.specs.Machine.{IsBehaviour}
 use Rattle.ifs_core.specs.Headline.{IsVerified}
@@ -23,23 +16,11 @@ use Rattle.ifs_core.specs.declared.step.Step.{Step}
 use Rattle.ifs_gen.specs.declared.fault.GenFault.{GenFault}
 use Rattle.ifs_gen.specs.declared.fault.GenFault.TheVariants as generating
 use Rattle.ifs_gen.specs.declared.compile_fault.CompileFault.{CompileFault}
-use Rattle.ifs_gen.specs.declared.compile_fault.CompileFault.TheVariants.{Text, Tokens, Names, Code, Memory}
+use Rattle.ifs_gen.specs.declared.compile_fault.CompileFault.TheVariants.{Text, Code, Memory}
 use Rattle.ifs_gen.specs.Trees.{Policy}
 use Rattle.ifs_gen.specs.Refused.{IsRefused}
 use Rattle.ifs_gen.specs.PlainImage.{room_of, plain_image, CodeFits}
 use Rattle.ifs_gen.specs.Events.{RunsAsPolicy}
-
--- A text has a policy under the definitions that are given beside it: it spells tokens, which say a file, whose names resolve to the policy.
-pub record HasPolicy (text : List ℕ) (defs : List (List ℕ × List ℕ)) (policy : Policy) : Type 0 where
-  pub tokens : List Token
-  pub file : File
-  pub spelled : lex.Spells text defs tokens
-  pub said : Says tokens file
-  pub resolved : Resolves file.items policy
-
--- It has none.
-abbrev pub HasNoPolicy : List ℕ → List (List ℕ × List ℕ) → Type 0
-HasNoPolicy text defs = (policy : Policy) → ¬ HasPolicy text defs policy
 
 -- The names and texts of an image are a policy's, each at its own number.
 pub record HasNamesOf (policy : Policy) (image : ImageParts) : Type 0 where
@@ -50,11 +31,17 @@ pub record HasNamesOf (policy : Policy) (image : ImageParts) : Type 0 where
   pub states : names_of image.states ≡ policy.tables.states
   pub initial : image.initial ≡ policy.initial
 
+-- What a refusal by `verify` says of bytes: but for memory, they spell no image that is accepted.
+abbrev pub RefusesAsVerify : List ℕ → VerifyFault → Type 0
+RefusesAsVerify bytes fault = fault ≢ OutOfMemory → (other : ImageParts) → image.Spells bytes other → ¬ IsAccepted other
+
 -- What the bytes of a policy's image mean.
 pub record MeansPolicy (bytes : List ℕ) (policy : Policy) : Type 0 where
   -- the verifier accepts them, as the policy's image and no other
   pub verified : IsVerified bytes (plain_image policy)
   pub only : (other : ImageParts) → image.Spells bytes other → other ≡ plain_image policy
+  -- so it refuses them for nothing but memory
+  pub refused : (fault : VerifyFault) → RefusesAsVerify bytes fault → fault ≡ OutOfMemory
   -- its readers answer the policy's names and texts
   pub names : HasNamesOf policy (plain_image policy)
   -- a core that is opened on it is busy where its queue lacks the policy's room
@@ -72,6 +59,12 @@ pub record MeansThePolicy (text : List ℕ) (defs : List (List ℕ × List ℕ))
 abbrev pub TextsMeanTheirPolicy : Type 0
 TextsMeanTheirPolicy = (text : List ℕ) (defs : List (List ℕ × List ℕ)) (policy : Policy) → HasPolicy text defs policy → MeansThePolicy text defs policy
 
+-- A text compiles: it has a policy whose code keeps the limits.
+pub record Compiles (text : List ℕ) (defs : List (List ℕ × List ℕ)) : Type 0 where
+  pub policy : Policy
+  pub of_text : HasPolicy text defs policy
+  pub code : CodeFits policy
+
 -- Bytes are what a text compiles to: it has a policy, and no other, whose code keeps the limits; they spell its image, and mean it.
 pub record IsCompiled (text : List ℕ) (defs : List (List ℕ × List ℕ)) (bytes : List ℕ) : Type 0 where
   pub policy : Policy
@@ -87,17 +80,9 @@ pub record IsWritten (policy : Policy) (bytes : List ℕ) : Type 0 where
   pub spelled : image.Spells bytes (plain_image policy)
 
 -- The refusals for faults of each step: want of memory stays want of memory.
-abbrev pub of_text : LexFault → CompileFault
-of_text lexing.Memory = Memory
-of_text fault = Text fault
-
-abbrev pub of_tokens : ParseFault → CompileFault
-of_tokens parsing.Memory = Memory
-of_tokens fault = Tokens fault
-
-abbrev pub of_names : ResolveFault → CompileFault
-of_names resolving.Memory = Memory
-of_names fault = Names fault
+abbrev pub of_policy : PolicyFault → CompileFault
+of_policy fronting.Memory = Memory
+of_policy fault = Text fault
 
 abbrev pub of_code : GenFault → CompileFault
 of_code generating.Memory = Memory
@@ -105,9 +90,7 @@ of_code fault = Code fault
 
 -- What a refusal says of a text: it has no policy, since it has that fault first; or the code of its policy passes that limit first. Want of memory says nothing of it.
 abbrev pub IsRefusal : List ℕ → List (List ℕ × List ℕ) → CompileFault → Type 0
-IsRefusal text defs (Text fault) = HasNoPolicy text defs × (lex.tokens_of text defs ≡ Err fault)
-IsRefusal text defs (Tokens fault) = HasNoPolicy text defs × ((tokens : List Token) × lex.Spells text defs tokens × (read_within fits_period 32 tokens ≡ Err fault))
-IsRefusal text defs (Names fault) = HasNoPolicy text defs × ((tokens : List Token) × (file : File) × lex.Spells text defs tokens × Says tokens file × names.IsRefused file.items fault)
+IsRefusal text defs (Text fault) = IsTextRefused text defs fault
 IsRefusal text defs (Code fault) = (policy : Policy) × HasPolicy text defs policy × IsRefused policy fault
 IsRefusal text defs Memory = Unit {0}
 

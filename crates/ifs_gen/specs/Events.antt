@@ -15,7 +15,8 @@ use Rattle.ifs_core.specs.Steps.{CoreState, replies, after_steps}
 use Rattle.ifs_gen.specs.Trees.{Part, Policy}
 use Rattle.ifs_policy.specs.Meaning.{mentioned, body_yield, init_yield}
 use Rattle.ifs_sched.specs.Schedule.{has_test}
-use Rattle.ifs_gen.specs.PlainImage.{tests_in, mask_in, room_of, plain_image, IsPolicy, CodeFits}
+use Rattle.ifs_gen.specs.PlainImage.{tests_in, mask_in, room_of, plain_image, CodeFits}
+use Rattle.ifs_policy.specs.Fits.{PolicyFits}
 
 -- What a state's part yields; nothing where there is no such state.
 abbrev pub yield_in : (Part → Effects) → Option Part → Effects
@@ -72,7 +73,7 @@ pub record RunsAsPolicy (policy : Policy) (b : Behaviour) (steps : List Step) : 
 
 -- The plain image of a policy means what the policy says: whatever behaves as its handlers do on the machine runs as the policy does, whatever the steps are.
 abbrev pub ImageMeansPolicy : Type 0
-ImageMeansPolicy = (policy : Policy) → IsPolicy policy → CodeFits policy → (b : Behaviour) → IsBehaviour (plain_image policy) b → (steps : List Step) → RunsAsPolicy policy b steps
+ImageMeansPolicy = (policy : Policy) → PolicyFits policy → CodeFits policy → (b : Behaviour) → IsBehaviour (plain_image policy) b → (steps : List Step) → RunsAsPolicy policy b steps
 
 -- A part's set of active tests has exactly those that its body mentions.
 abbrev pub ActiveAreMentioned : Type 0

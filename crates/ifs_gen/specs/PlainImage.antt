@@ -1,6 +1,5 @@
 -- The plain image of a policy, and its sizes apart from the code: instructions, height and commands, the room, and the budgets.
 use Rattle.std.specs.Prelude.{ℕ, ◌+◌, ◌*◌, ◌^◌, ◌≤◌, max, List, [], ◌∷◌, length, map, sum_by, Option, Some, None, slice_get, All}
-use Rattle.ifs_base.specs.Sizes.{PeriodFits}
 use Rattle.ifs_base.specs.declared.ids.TestId.{TestId}
 use Rattle.ifs_base.specs.declared.op.Op.{Op}
 use Rattle.ifs_image.specs.declared.parts.Budgets.{Budgets}
@@ -11,7 +10,6 @@ use Rattle.ifs_image.specs.declared.parts.ImageParts.{ImageParts}
 use Rattle.ifs_image.specs.declared.parts.TestSpec.{TestSpec}
 use Rattle.ifs_gen.specs.Trees.{Part, External, Policy}
 use Rattle.ifs_gen.specs.PlainCode.{plain_coder, holding, body_code, init_code, body_size, init_size, block_height, block_runs}
-use Rattle.ifs_policy.specs.Fits.{PolicyFits}
 
 -- How many external tests a policy has.
 abbrev pub tests_in : Policy → ℕ
@@ -108,11 +106,6 @@ least_budgets policy = record {
 -- The image of a policy in plain code.
 abbrev pub plain_image : Policy → ImageParts
 plain_image policy = image_with (least_budgets policy) policy
-
--- A policy within its limits, those of its tests' periods among them.
-pub record IsPolicy (policy : Policy) : Type 0 where
-  pub fits : PolicyFits policy
-  pub periods : All (λ test. PeriodFits test.period) policy.tables.tests
 
 -- The plain code of a part keeps the limits of one routine.
 pub record RoutinesFit (count : ℕ) (part : Part) : Type 0 where

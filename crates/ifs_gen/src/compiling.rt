@@ -1,42 +1,23 @@
 //! From a text to the bytes of its image.
 
-ghost use Rattle.std.specs.Prelude.{IfOk, IfErr, map};
-ghost use Rattle.ifs_gen.specs.Compiled.{HasPolicy, IsCodeRefusal, IsCompiled, IsRefusal, IsWritten};
+ghost use Rattle.std.specs.Prelude.{◌≢◌, IfOk, IfErr, map};
+ghost use Rattle.ifs_gen.specs.declared.compile_fault.CompileFault.TheVariants.{Memory};
+ghost use Rattle.ifs_gen.specs.Compiled.{Compiles, IsCodeRefusal, IsCompiled, IsRefusal, IsWritten};
+ghost use Rattle.ifs_policy.specs.Texts.{SaysFile};
 
 use crate::compile_fault::CompileFault;
 use crate::generating::generate;
 use crate::laws::means_the_policy;
 use ifs_image::write;
-use ifs_lex::laws::one_list;
-use ifs_lex::tokens;
-use ifs_parse::laws::one_tree;
-use ifs_parse::parse;
-use ifs_policy::{Policy, resolve};
+use ifs_parse::Tree;
+use ifs_policy::{Policy, PolicyText, policy_of};
 use std::alloc::Global;
 
-/// The policy of a text, under the definitions that are given beside it.
-fn policy_of<'a>(
-    alloc: Global,
-    text: &'a str,
-    defs: &'a [(&'a str, &'a str)],
-) -> Result<Policy, CompileFault>
-    ensures found { IfOk result (λ policy. HasPolicy text.now (map (λ d. (d.0.now, d.1.now)) defs.now) policy) }
-    ensures refused { IfErr result (λ fault. IsRefusal text.now (map (λ d. (d.0.now, d.1.now)) defs.now) fault) }
-{
-    one_list();
-    one_tree();
-    let tokens = match tokens(alloc, text, defs) {
-        Ok(tokens) => tokens,
-        Err(fault) => return Err(CompileFault::from(fault)),
-    };
-    let tree = match parse(alloc, tokens.as_slice()) {
-        Ok(tree) => tree,
-        Err(fault) => return Err(CompileFault::from(fault)),
-    };
-    match resolve(alloc, &tree) {
-        Ok(policy) => Ok(policy),
-        Err(fault) => Err(CompileFault::from(fault)),
-    }
+/// A text that is compiled: what it says by the grammar, with its notes, and the bytes of its image.
+#[derive(Drop)]
+pub struct CompiledText {
+    pub tree: Tree,
+    pub bytes: Vec<u8>,
 }
 
 /// The bytes of the image of a policy.
@@ -68,16 +49,35 @@ pub fn compile<'a>(
     // What is answered is the image of the text's one policy, and means it; the verifier accepts it.
     ensures compiled { IfOk result (λ bytes. IsCompiled text.now (map (λ d. (d.0.now, d.1.now)) defs.now) bytes.items) }
     // A refusal but for memory comes only where the text has no policy, or where the code of the policy
-    // passes the limit that it names.
+    // passes the limit that it names,
     ensures refused { IfErr result (λ fault. IsRefusal text.now (map (λ d. (d.0.now, d.1.now)) defs.now) fault) }
+    // so that nothing is refused that compiles.
+    ensures none { IfErr result (λ fault. fault ≢ Memory → ¬ Compiles text.now (map (λ d. (d.0.now, d.1.now)) defs.now)) }
+{
+    match compile_with_notes(alloc, text, defs) {
+        Ok(CompiledText { tree: _, bytes }) => Ok(bytes),
+        Err(fault) => Err(fault),
+    }
+}
+
+/// The same, with the tree of the text beside the bytes.
+pub fn compile_with_notes<'a>(
+    alloc: Global,
+    text: &'a str,
+    defs: &'a [(&'a str, &'a str)],
+) -> Result<CompiledText, CompileFault>
+    ensures compiled { IfOk result (λ it. IsCompiled text.now (map (λ d. (d.0.now, d.1.now)) defs.now) it.bytes.items) }
+    ensures tree { IfOk result (λ it. SaysFile text.now (map (λ d. (d.0.now, d.1.now)) defs.now) it.tree) }
+    ensures refused { IfErr result (λ fault. IsRefusal text.now (map (λ d. (d.0.now, d.1.now)) defs.now) fault) }
+    ensures none { IfErr result (λ fault. fault ≢ Memory → ¬ Compiles text.now (map (λ d. (d.0.now, d.1.now)) defs.now)) }
 {
     means_the_policy();
-    let policy = match policy_of(alloc, text, defs) {
-        Ok(policy) => policy,
-        Err(fault) => return Err(fault),
+    let PolicyText { tree, policy } = match policy_of(alloc, text, defs) {
+        Ok(it) => it,
+        Err(fault) => return Err(CompileFault::from(fault)),
     };
     match bytes_of(alloc, &policy) {
-        Ok(bytes) => Ok(bytes),
+        Ok(bytes) => Ok(CompiledText { tree, bytes }),
         Err(fault) => Err(fault),
     }
 }

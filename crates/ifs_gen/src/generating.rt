@@ -1,10 +1,10 @@
 //! From a policy to its image.
 
 ghost use Rattle.std.specs.Prelude.{◌≡◌, ◌≢◌, ◌+◌, ◌≤◌, ◌^◌, ◌<◌, ◌*◌, ◌++◌, [], ◌∷◌, length, map, All, IfOk, IfErr, OnOk};
-ghost use Rattle.ifs_base.specs.Sizes.{PeriodFits};
 ghost use Rattle.ifs_verify.specs.Accepted.{IsAccepted};
 ghost use Rattle.ifs_gen.specs.declared.fault.GenFault.TheVariants.{Memory};
-ghost use Rattle.ifs_gen.specs.PlainImage.{handlers_of, image_with, least_budgets, mask_in, mask_of, plain_image, routines_of, states_from, test_spec, tests_in, CodeFits, IsPolicy, RoutinesFit};
+ghost use Rattle.ifs_gen.specs.PlainImage.{handlers_of, image_with, least_budgets, mask_in, mask_of, plain_image, routines_of, states_from, test_spec, tests_in, CodeFits, RoutinesFit};
+ghost use Rattle.ifs_policy.specs.Fits.{PolicyFits};
 ghost use Rattle.ifs_gen.specs.Refused.{IsRefused};
 
 use crate::amounts::{PartMeasure, budgets_of, measure_part, measure_parts};
@@ -54,7 +54,7 @@ fn least_budgets(alloc: Global, policy: &Policy) -> Result<Budgets, GenFault>
 fn image_with(alloc: Global, policy: &Policy, budgets: Budgets) -> Result<ImageParts, AllocError>
     requires { CodeFits policy.now }
     ensures image { IfOk result (λ image. image ≡ image_with budgets policy.now) }
-    ensures policy { OnOk result (IsPolicy policy.now) }
+    ensures policy { OnOk result (PolicyFits policy.now) }
 {
     let tables = policy.tables();
     let count = usize::from(policy.counts().tests);
@@ -89,8 +89,7 @@ fn texts_of(alloc: Global, table: &Table<Text>) -> Result<Items<Text>, AllocErro
 
 /// The tests of a table.
 fn specs_of(alloc: Global, table: &Table<ExternalTest>) -> Result<Items<TestSpec>, AllocError>
-    ensures tests { IfOk result (λ tests. tests ≡ map test_spec table.now) }
-    ensures periods { OnOk result (All (λ test. PeriodFits test.period) table.now) }
+    ensures { IfOk result (λ tests. tests ≡ map test_spec table.now) }
 {
     let mut specs = Vec::new(alloc);
     for index in 0..table.len() {

@@ -18,7 +18,7 @@ mod mention;
 mod routines;
 
 pub use compile_fault::CompileFault;
-pub use compiling::compile;
+pub use compiling::{CompiledText, compile, compile_with_notes};
 pub use fault::GenFault;
 pub use generating::generate;
 

@@ -7,3 +7,4 @@ mod Fitting
 mod Refusals
 mod OneRefusal
 mod Ordered
+mod Unresolved

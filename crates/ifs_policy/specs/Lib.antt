@@ -3,6 +3,7 @@ pub mod Tables
 pub mod Faults
 pub mod Placed
 pub mod Fits
+pub mod Texts
 pub mod Meaning
 pub mod Order
 pub mod inner

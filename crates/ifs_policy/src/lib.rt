@@ -1,11 +1,14 @@
-//! From the tree of a text to its policy: each name becomes an index of a table.
+//! From the tree of a text to its policy: each name becomes an index of a table. And from the text
+//! itself, by all steps.
 //!
 //! Interfaces, tests and commands are numbered from 0 in the order of their first use in the text,
 //! states in the order of their definitions.
-//! Contract: `resolve` answers the policy of the tree, or the fault that stands first with its line.
+//! Contract: `resolve` answers the policy of the tree, and `policy_of` that of a text, or the fault that
+//! stands first with its line.
 #![tactic(auto)]
 
 mod fault;
+mod front;
 pub mod laws;
 mod mention;
 mod names;
@@ -16,6 +19,7 @@ mod table;
 mod tables;
 
 pub use fault::ResolveFault;
+pub use front::{PolicyFault, PolicyText, policy_of};
 pub use mention::{Mention, Owner, Place};
 pub use names::Names;
 pub use policy::{Counts, Handlers, Policy, PolicyBlock, PolicyParts, Single};

@@ -1,4 +1,4 @@
-//! `ifsvm`: checks failover policies, and verifies and runs their images.
+//! `ifsvm`: checks and compiles failover policies, and verifies and runs their images.
 //!
 //! Without words it reads an image as a line of hexadecimal digits and then request lines from
 //! standard input, and writes the replies to standard output. Exit statuses: 0 done, 1 refused
@@ -6,12 +6,20 @@
 #![tactic(auto)]
 
 mod answering;
+mod assembling;
+#[cfg(test)]
+mod assembly_tests;
 mod checking;
 mod children;
 mod command_line;
+mod compiling;
 mod definitions;
+mod disassembling;
 mod ending;
 mod files;
+mod images;
+#[cfg(test)]
+mod images_tests;
 mod sending;
 mod serving;
 mod sessions;
@@ -42,18 +50,29 @@ where
 {
     match command_line::read(rt)? {
         Asked::Session => sessions::by_hexadecimal(rt),
-        Asked::Check { file, definitions } => check(rt, file, definitions.as_slice()),
-        Asked::Verify { image } => answering::on_file(rt, Task::Verify, image, &[]),
+        Asked::Check { file, definitions } => {
+            on_policy(rt, Task::Check, file, None, definitions.as_slice())
+        }
+        Asked::Compile {
+            file,
+            image,
+            definitions,
+        } => on_policy(rt, Task::Compile, file, Some(image), definitions.as_slice()),
+        Asked::Verify { image } => answering::on_file(rt, Task::Verify, image, None, &[]),
+        Asked::Disasm { image } => answering::on_file(rt, Task::Disasm, image, None, &[]),
+        Asked::Asm { file, image } => { answering::on_file(rt, Task::Asm, file, Some(image), &[]) }
         Asked::Sim { image } => sessions::on_file(rt, image),
         Asked::Serve { image, socket } => serving::serve(rt, image, socket),
         Asked::Send { socket, request } => sending::send(rt, socket, request.as_str()),
     }
 }
 
-/// Checks the policy of a file, with the definitions of the command line.
-fn check<R: Files + Print + Alloc<A = Global>>(
+/// Does a task on the policy of a file, with the definitions of the command line.
+fn on_policy<R: Files + Print + Alloc<A = Global>>(
     rt: &R,
+    task: Task,
     file: String,
+    image: Option<String>,
     definitions: &[Definition],
 ) -> Result<Ending, Ending> {
     let pairs: Result<Vec<(&str, &str)>, _> = definitions
@@ -61,7 +80,7 @@ fn check<R: Files + Print + Alloc<A = Global>>(
         .map(Definition::pair)
         .collect(rt.alloc());
     match pairs {
-        Ok(pairs) => answering::on_file(rt, Task::Check, file, pairs.as_slice()),
-        Err(AllocError) => out_of_memory(rt, Task::Check),
+        Ok(pairs) => answering::on_file(rt, task, file, image, pairs.as_slice()),
+        Err(AllocError) => out_of_memory(rt, task),
     }
 }

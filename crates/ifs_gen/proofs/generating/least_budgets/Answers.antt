@@ -1,5 +1,5 @@
 -- What the measures tell is told of the policy.
-use Rattle.std.proofs.Common.{◌≡◌, ◌∷◌, map, rules, sym, ap, ◌∙◌}
+use Rattle.std.proofs.Common.{◌≡◌, map, rules, ap}
 use Rattle.ifs_gen.specs.PlainImage.{tests_in, parts_of}
 use Rattle.ifs_gen.specs.inner.Amounts.{measured}
 use Rattle.ifs_gen.proofs.Copying.{told}

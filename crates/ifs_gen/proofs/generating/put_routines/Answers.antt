@@ -1,7 +1,6 @@
 -- The tests of a body are below 64, and so is their set.
-use Rattle.std.proofs.Common.{◌∙◌, ap, arith}
+use Rattle.std.proofs.Common.{◌∙◌}
 use Rattle.ifs_policy.specs.Meaning.{mentioned}
-use Rattle.ifs_gen.specs.PlainImage.{mask_of}
 use Rattle.ifs_gen.proofs.Copying.{below_64, set_64}
 use Rattle.ifs_gen.proofs.generating.put_routines.Goals as goal
 

@@ -1,5 +1,5 @@
 -- One state more.
-use Rattle.std.proofs.Common.{◌≡◌, Some, rules, sym}
+use Rattle.std.proofs.Common.{◌≡◌, Some, rules}
 use Rattle.std.specs.Prelude.{slice_get}
 use Rattle.ifs_gen.proofs.Copying.{state_next, routines_next, at_index}
 use Rattle.ifs_gen.proofs.generating.put_states.Goals as goal

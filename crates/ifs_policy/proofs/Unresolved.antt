@@ -1,0 +1,72 @@
+-- Why a text has no policy, from what each step refuses.
+use Rattle.std.proofs.Common.{◌≡◌, ◌≢◌, ℕ, List, refl, sym, subst, ◌∙◌, Err}
+use Rattle.ifs_lex.specs.declared.token.Token.{Token}
+use Rattle.ifs_lex.specs.Expansion as lex
+use Rattle.ifs_lex.specs.declared.fault.LexFault.{LexFault}
+use Rattle.ifs_lex.specs.declared.fault.LexFault.TheVariants as lexing
+use Rattle.ifs_parse.specs.Files.{File}
+use Rattle.ifs_parse.specs.Grammar.{Says}
+use Rattle.ifs_parse.specs.Reading.{fits_period, read_within}
+use Rattle.ifs_parse.specs.declared.fault.ParseFault.{ParseFault}
+use Rattle.ifs_parse.specs.declared.fault.ParseFault.TheVariants as parsing
+use Rattle.ifs_policy.specs.Placed.{Resolves}
+use Rattle.ifs_policy.specs.Faults as names
+use Rattle.ifs_policy.specs.declared.fault.ResolveFault.{ResolveFault}
+use Rattle.ifs_policy.specs.declared.fault.ResolveFault.TheVariants as resolving
+use Rattle.ifs_policy.specs.declared.front.PolicyFault.{PolicyFault}
+use Rattle.ifs_policy.specs.declared.front.PolicyFault.TheVariants.{Memory}
+use Rattle.ifs_policy.specs.declared.policy.PolicyParts.{PolicyParts}
+use Rattle.ifs_policy.specs.Texts.{HasPolicy, HasNoPolicy, IsTextRefused, of_text, of_tokens, of_names}
+
+-- The laws of the crates below.
+abbrev pub OneList : Type 0
+OneList = (text : List ℕ) (defs : List (List ℕ × List ℕ)) (tokens other : List Token) → lex.Spells text defs tokens → lex.Spells text defs other → tokens ≡ other
+
+abbrev pub OneTree : Type 0
+OneTree = (tokens : List Token) (file other : File) → Says tokens file → Says tokens other → file ≡ other
+
+-- What a refusal says, if it is for another cause than memory.
+abbrev pub Refuses : List ℕ → List (List ℕ × List ℕ) → PolicyFault → Type 0
+Refuses text defs fault = fault ≢ Memory → IsTextRefused text defs fault
+
+module _ (text : List ℕ) (defs : List (List ℕ × List ℕ)) where
+  no_tokens : (fault : LexFault) → lex.tokens_of text defs ≡ Err fault → HasNoPolicy text defs
+  no_tokens fault e policy h = let k = sym e ∙ h.spelled in absurd (cc)
+
+  pub refused_text : (fault : LexFault) → (fault ≢ lexing.Memory → lex.tokens_of text defs ≡ Err fault) → Refuses text defs (of_text fault)
+  refused_text lexing.Memory e other = absurd (other refl)
+  refused_text (lexing.Stray line) e other = (no_tokens (lexing.Stray line) (e (λ k. absurd (cc))), e (λ k. absurd (cc)))
+  refused_text (lexing.Unclosed line) e other = (no_tokens (lexing.Unclosed line) (e (λ k. absurd (cc))), e (λ k. absurd (cc)))
+  refused_text (lexing.UnknownMacro line) e other = (no_tokens (lexing.UnknownMacro line) (e (λ k. absurd (cc))), e (λ k. absurd (cc)))
+  refused_text (lexing.BadMacro line) e other = (no_tokens (lexing.BadMacro line) (e (λ k. absurd (cc))), e (λ k. absurd (cc)))
+  refused_text (lexing.OverLimit line) e other = (no_tokens (lexing.OverLimit line) (e (λ k. absurd (cc))), e (λ k. absurd (cc)))
+
+  -- Tokens that the text spells.
+  module _ (one_list : OneList) (tokens : List Token) (spelled : lex.Spells text defs tokens) where
+    abbrev Unread : ParseFault → Type 0
+    Unread fault = read_within fits_period 32 tokens ≡ Err fault
+
+    said_by : (policy : PolicyParts) (h : HasPolicy text defs policy) → Says tokens h.file
+    said_by policy h = subst (λ (ts : List Token). Says ts h.file) (one_list text defs h.tokens tokens h.spelled spelled) h.said
+
+    pub refused_tokens : (fault : ParseFault) → (fault ≢ parsing.Memory → Unread fault) → (fault ≢ parsing.Memory → (file : File) → ¬ Says tokens file) → Refuses text defs (of_tokens fault)
+    refused_tokens parsing.Memory e none other = absurd (other refl)
+    refused_tokens (parsing.Unexpected line) e none other = ((λ policy h. none (λ k. absurd (cc)) h.file (said_by policy h)), (tokens, spelled, e (λ k. absurd (cc))))
+    refused_tokens (parsing.Period line) e none other = ((λ policy h. none (λ k. absurd (cc)) h.file (said_by policy h)), (tokens, spelled, e (λ k. absurd (cc))))
+    refused_tokens (parsing.Nesting line) e none other = ((λ policy h. none (λ k. absurd (cc)) h.file (said_by policy h)), (tokens, spelled, e (λ k. absurd (cc))))
+
+    module _ (one_tree : OneTree) (file : File) (said : Says tokens file) where
+      resolved_by : (policy : PolicyParts) → HasPolicy text defs policy → Resolves file.items policy
+      resolved_by policy h = subst (λ (f : File). Resolves f.items policy) (one_tree tokens h.file file (said_by policy h) said) h.resolved
+
+      pub refused_names : (fault : ResolveFault) → (fault ≢ resolving.Memory → names.IsRefused file.items fault)
+          → (fault ≢ resolving.Memory → (policy : PolicyParts) → ¬ Resolves file.items policy) → Refuses text defs (of_names fault)
+      refused_names resolving.Memory e none other = absurd (other refl)
+      refused_names (resolving.NoState line) e none other = ((λ policy h. none (λ k. absurd (cc)) policy (resolved_by policy h)), (tokens, file, spelled, said, e (λ k. absurd (cc))))
+      refused_names (resolving.StateTwice line) e none other = ((λ policy h. none (λ k. absurd (cc)) policy (resolved_by policy h)), (tokens, file, spelled, said, e (λ k. absurd (cc))))
+      refused_names (resolving.SecondInit line) e none other = ((λ policy h. none (λ k. absurd (cc)) policy (resolved_by policy h)), (tokens, file, spelled, said, e (λ k. absurd (cc))))
+      refused_names (resolving.SetStateInInit line) e none other = ((λ policy h. none (λ k. absurd (cc)) policy (resolved_by policy h)), (tokens, file, spelled, said, e (λ k. absurd (cc))))
+      refused_names (resolving.TestInInit line) e none other = ((λ policy h. none (λ k. absurd (cc)) policy (resolved_by policy h)), (tokens, file, spelled, said, e (λ k. absurd (cc))))
+      refused_names (resolving.TableFull line) e none other = ((λ policy h. none (λ k. absurd (cc)) policy (resolved_by policy h)), (tokens, file, spelled, said, e (λ k. absurd (cc))))
+      refused_names (resolving.BadText line) e none other = ((λ policy h. none (λ k. absurd (cc)) policy (resolved_by policy h)), (tokens, file, spelled, said, e (λ k. absurd (cc))))
+      refused_names (resolving.UnknownState line) e none other = ((λ policy h. none (λ k. absurd (cc)) policy (resolved_by policy h)), (tokens, file, spelled, said, e (λ k. absurd (cc))))

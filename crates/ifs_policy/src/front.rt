@@ -1,0 +1,105 @@
+//! From a text to its policy: its tokens, their tree and its names.
+
+ghost use Rattle.std.specs.Prelude.{◌≡◌, ◌≢◌, IfOk, IfErr, map};
+ghost use Rattle.ifs_policy.specs.Texts.{of_names, of_text, of_tokens, HasPolicy, IsTextRefused, SaysFile};
+ghost use Rattle.ifs_policy.specs.declared.front.PolicyFault.TheVariants.{Memory};
+
+use crate::fault::ResolveFault;
+use crate::policy::Policy;
+use crate::resolving::resolve;
+use ifs_lex::laws::one_list;
+use ifs_lex::{LexFault, tokens};
+use ifs_parse::laws::one_tree;
+use ifs_parse::{ParseFault, Tree, parse};
+use std::alloc::Global;
+use thiserror::Error;
+
+/// Why a text has no policy: the fault of the first step that refuses it.
+#[derive(Clone, Copy, Debug, PartialEq, Eq, Error)]
+pub enum PolicyFault {
+    /// P1 to P5: the text has no tokens.
+    #[error("{0}")]
+    Text(LexFault),
+    /// P6 to P8: the tokens are no policy by the grammar.
+    #[error("{0}")]
+    Tokens(ParseFault),
+    /// P9 to P16: the names are at fault.
+    #[error("{0}")]
+    Names(ResolveFault),
+    /// P0: no memory was found.
+    #[error("P0")]
+    Memory,
+}
+
+impl From<LexFault> for PolicyFault {
+    ghost from_gives = { λ fault e. e ≡ of_text fault };
+
+    fn from(fault: LexFault) -> PolicyFault {
+        match fault {
+            LexFault::Memory => PolicyFault::Memory,
+            fault => PolicyFault::Text(fault),
+        }
+    }
+}
+
+impl From<ParseFault> for PolicyFault {
+    ghost from_gives = { λ fault e. e ≡ of_tokens fault };
+
+    fn from(fault: ParseFault) -> PolicyFault {
+        match fault {
+            ParseFault::Memory => PolicyFault::Memory,
+            fault => PolicyFault::Tokens(fault),
+        }
+    }
+}
+
+impl From<ResolveFault> for PolicyFault {
+    ghost from_gives = { λ fault e. e ≡ of_names fault };
+
+    fn from(fault: ResolveFault) -> PolicyFault {
+        match fault {
+            ResolveFault::Memory => PolicyFault::Memory,
+            fault => PolicyFault::Names(fault),
+        }
+    }
+}
+
+/// A text that has a policy: what it says by the grammar, with its notes, and the policy.
+#[derive(Drop)]
+pub struct PolicyText {
+    pub tree: Tree,
+    pub policy: Policy,
+}
+
+/// The policy of a text, and its tree. `defs` are definitions that win over the text's: of two with one
+/// name the first holds.
+///
+/// A refusal is the fault of the first step that refuses: of the tokens, of the grammar and of the names,
+/// each with its line. P0 comes where a growth was refused, wherever that is.
+pub fn policy_of<'a>(
+    alloc: Global,
+    text: &'a str,
+    defs: &'a [(&'a str, &'a str)],
+) -> Result<PolicyText, PolicyFault>
+    // What is answered is a policy of the text,
+    ensures policy { IfOk result (λ it. HasPolicy text.now (map (λ d. (d.0.now, d.1.now)) defs.now) it.policy) }
+    // and the tree of its tokens.
+    ensures tree { IfOk result (λ it. SaysFile text.now (map (λ d. (d.0.now, d.1.now)) defs.now) it.tree) }
+    // A refusal but for memory comes only where the text has no policy, with the fault that stands first.
+    ensures refused { IfErr result (λ fault. fault ≢ Memory → IsTextRefused text.now (map (λ d. (d.0.now, d.1.now)) defs.now) fault) }
+{
+    one_list();
+    one_tree();
+    let tokens = match tokens(alloc, text, defs) {
+        Ok(tokens) => tokens,
+        Err(fault) => return Err(PolicyFault::from(fault)),
+    };
+    let tree = match parse(alloc, tokens.as_slice()) {
+        Ok(tree) => tree,
+        Err(fault) => return Err(PolicyFault::from(fault)),
+    };
+    match resolve(alloc, &tree) {
+        Ok(policy) => Ok(PolicyText { tree, policy }),
+        Err(fault) => Err(PolicyFault::from(fault)),
+    }
+}

@@ -1,0 +1,39 @@
+//! What `asm` answers to the bytes of an assembly text.
+
+ghost use Rattle.std.specs.Prelude.{◌≡◌, ◌≢◌, None, option_map, IsSomeAnd, IfOk};
+ghost use Rattle.std.specs.Str.{IsUtf8};
+ghost use Rattle.ifsvm.specs.Answers.{AreImage};
+
+use crate::checking::{NotText, text_of};
+use crate::task::Answer;
+use ifs_asm::{AsmFault, assemble};
+use ifs_image::write;
+use std::alloc::{AllocError, Global};
+
+/// The answer of `asm`: the length of the image that a text spells, which is the file. It is not verified.
+pub fn asm(alloc: Global, bytes: &[u8]) -> Result<Answer, AllocError>
+    ensures good { IfOk result (λ answer. answer.status ≡ 0 → IsUtf8 bytes.now) }
+    ensures file { IfOk result (λ answer. answer.status ≡ 0 → IsSomeAnd (option_map (λ file. file.items) answer.file) AreImage) }
+    ensures no_file { IfOk result (λ answer. answer.status ≢ 0 → answer.file ≡ None) }
+{
+    let text = match text_of(bytes) {
+        Ok(text) => text,
+        Err(fault) => return Answer::refused(alloc, unknown(fault)),
+    };
+    match assemble(alloc, text) {
+        Ok(image) => {
+            let file = write(alloc, &image)?;
+            let line = format!(in alloc; "ok {} bytes\n", file.len())?;
+            Ok(Answer::good(line, Some(file)))
+        }
+        Err(AsmFault::Memory) => Err(AllocError),
+        Err(fault) => Answer::refused(alloc, fault),
+    }
+}
+
+/// A line with a byte that is no UTF-8 has no form that is known.
+fn unknown(fault: NotText) -> AsmFault {
+    AsmFault::Unknown {
+        line: fault.line as u64,
+    }
+}

@@ -1,0 +1,272 @@
+"""Runs of a built program that write an image: what it says, and what then stands in the folder `made`."""
+import os
+import resource
+import shutil
+import signal
+import stat
+import subprocess
+import threading
+
+# what compile makes of `state a { if carp0.link.up run "echo m" }`
+FIRST = bytes.fromhex(
+    "49465356 01 0001 0001 00000007 0001"
+    "0001 0000 0001 0001 0004 0000"
+    "0000 0001 0000000000000000"
+    "0005 6361727030"
+    "0006 6563686f206d"
+    "0001 61 0002 0003 0000000000000000"
+    "00 0001 00000000"
+    "00 0001 00000000"
+    "00 0001 00000000"
+    "00 0005 03020000 0e000004 09000000 0b000000 00000000"
+)
+SMALLEST = bytes.fromhex(
+    "49465356 01 0000 0001 00000003 0000"
+    "0000 0000 0000 0001 0001 0000"
+    "0000 0000 0000000000000000"
+    "0001 61 0000 0000 0000000000000000"
+    "00 0001 00000000"
+)
+SMALLEST_LINES = [
+    "ifsv 1", "stack 0", "frames 1", "cost 3", "commands 0", "start 0", "always init 0 body 0 tests -",
+    'state "a" init 0 body 0 tests -', "routine results 0", "ret",
+]
+# without a routine, which the verifier and not the assembler refuses
+WITHOUT_ROUTINES = SMALLEST[:23] + b"\0\0" + SMALLEST[25:-7]
+OLD = b"what stood there"
+MISSING = "No such file or directory (os error 2)"
+FULL = "No space left on device (os error 28)"
+NOTE = "note line 1: || and && without parentheses\n"
+
+
+def lines(*given):
+    return "".join(f"{line}\n" for line in given)
+
+
+def smallest(number=0, *others):
+    """The text of the smallest image, of which a line from 1 gives way to others."""
+    changed = list(SMALLEST_LINES)
+    if number:
+        changed[number - 1:number] = others
+    return lines(*changed)
+
+
+# texts of files by their names
+TEXTS = {
+    "first": 'state a { if carp0.link.up run "echo m" }\n',
+    "none_told": 'state a { init { ' + 'run "x" ' * 64 + "} }\n",
+    "one_over": 'state a { init { ' + 'run "x" ' * 65 + "} }\n",
+    "long": 'state a { init { ' + 'run "x" ' * 512 + "} }\n",
+    "smallest": smallest(),
+    "loose": "; the smallest\n\n" + smallest().replace(" ", " \t").replace("init 0", "init 000").rstrip("\n"),
+    "version": smallest(1, "ifsv 2"),
+    "stack": smallest(2, "stack 33"),
+    "no_stack": smallest(2),
+    "capital": smallest(10, "Ret"),
+    "seven": lines(*SMALLEST_LINES[:7]),
+    "eight": lines(*SMALLEST_LINES[:8]),
+}
+TRY = "\n\nFor more information, try '--help'.\n"
+
+
+def missing(word, usage, *operands):
+    named = "".join(f"\n  <{operand}>" for operand in operands)
+    return f"error: the following required arguments were not provided:{named}\n\nUsage: ifsvm {word} {usage}{TRY}"
+
+
+def undefined(word):
+    return (f"error: invalid value '{word}' for '-D <NAME=VALUE>': it is no macro name, '=' and a value"
+            f"\n\nUsage: ifsvm [COMMAND]{TRY}")
+
+
+# words; what stands in the folder before; status, standard output, standard error; what stands there then
+WRITING = [
+    ("compile first made/image", {}, 0, "ok 113 bytes\n", "", {"image": FIRST}),
+    ("compile first made/image", {"image": OLD}, 0, "ok 113 bytes\n", "", {"image": FIRST}),
+    ("compile first made/image", {"image.1.new": OLD}, 0, "ok 113 bytes\n", "", {"image": FIRST, "image.1.new": OLD}),
+    ("compile made/first made/first", {"first": TEXTS["first"].encode()}, 0, "ok 113 bytes\n", "", {"first": FIRST}),
+    ("compile twice made/image", {"image": OLD}, 1, "refused P10 line 2\n", "", {"image": OLD}),
+    ("compile twice nowhere/image", {}, 1, "refused P10 line 2\n", "", {}),
+    ("compile one_over made/image", {"image": OLD}, 1, "refused G4\n", "", {"image": OLD}),
+    ("compile long made/image", {}, 1, "refused G1 routine 2\n", "", {}),
+    ("compile empty made/image", {}, 1, "refused P9 line 1\n", "", {}),
+    ("compile bytes made/image", {"image": OLD}, 1, "refused P1 line 3\n", "", {"image": OLD}),
+    ("compile bytes made/image -D x=&", {}, 1, "refused P1 line 3\n", "", {}),
+    ("compile longest made/image", {}, 1, "refused P5 line 1\n", "", {}),
+    ("compile outside made/image -D y=&", {}, 1, "refused P4 line 0\n", "", {}),
+    ("compile longer made/image", {"image": OLD}, 3, "", "device longer: too large\n", {"image": OLD}),
+    ("compile missing made/image", {}, 3, "", f"device missing: {MISSING}\n", {}),
+    ("compile first nowhere/image", {}, 3, "", f"device nowhere/image: {MISSING}\n", {}),
+    ("compile first made", {}, 3, "", "device made: Is a directory (os error 21)\n", {}),
+    ("compile first first/image", {}, 3, "", "device first/image: Not a directory (os error 20)\n", {}),
+    ("compile first /dev/full", {}, 3, "", f"device /dev/full: {FULL}\n", {}),
+    ("compile first /dev/null", {}, 0, "ok 113 bytes\n", "", {}),
+    ("compile binding /dev/full", {}, 3, "", f"device /dev/full: {FULL}\n", {}),
+    ("compile", {}, 2, "", missing("compile", "<FILE> <IMAGE>", "FILE", "IMAGE"), {}),
+    ("compile first", {}, 2, "", missing("compile", "<FILE> <IMAGE>", "IMAGE"), {}),
+    ("compile missing nowhere/image -D x", {}, 2, "", undefined("x"), {}),
+    ("compile first made/image -D 1x=a", {"image": OLD}, 2, "", undefined("1x=a"), {"image": OLD}),
+    ("asm smallest made/image", {}, 0, "ok 61 bytes\n", "", {"image": SMALLEST}),
+    ("asm smallest made/image", {"image": OLD}, 0, "ok 61 bytes\n", "", {"image": SMALLEST}),
+    ("asm loose made/image", {}, 0, "ok 61 bytes\n", "", {"image": SMALLEST}),
+    ("asm eight made/image", {}, 0, "ok 54 bytes\n", "", {"image": WITHOUT_ROUTINES}),
+    ("asm empty made/image", {"image": OLD}, 1, "refused A3 line 1\n", "", {"image": OLD}),
+    ("asm version made/image", {}, 1, "refused A1 line 1\n", "", {}),
+    ("asm stack made/image", {}, 1, "refused A2 line 2\n", "", {}),
+    ("asm no_stack made/image", {}, 1, "refused A3 line 2\n", "", {}),
+    ("asm seven made/image", {}, 1, "refused A3 line 8\n", "", {}),
+    ("asm capital nowhere/image", {}, 1, "refused A1 line 10\n", "", {}),
+    ("asm bytes made/image", {"image": OLD}, 1, "refused A1 line 3\n", "", {"image": OLD}),
+    ("asm longest made/image", {}, 1, "refused A1 line 1\n", "", {}),
+    ("asm longer made/image", {}, 3, "", "device longer: too large\n", {}),
+    ("asm missing made/image", {}, 3, "", f"device missing: {MISSING}\n", {}),
+    ("asm smallest nowhere/image", {}, 3, "", f"device nowhere/image: {MISSING}\n", {}),
+    ("asm smallest /dev/full", {}, 3, "", f"device /dev/full: {FULL}\n", {}),
+    ("asm smallest", {}, 2, "", missing("asm", "<FILE> <IMAGE>", "IMAGE"), {}),
+    ("asm smallest made/image more", {}, 2, "", "error: unexpected argument 'more' found\n\n"
+     f"Usage: ifsvm asm <FILE> <IMAGE>{TRY}", {}),
+]
+# policies with notes, which stand before the last line
+NOTED = [("compile binding made/image", NOTE + "ok 131 bytes\n"), ("compile none_told made/image", "ok 597 bytes\n")]
+
+
+def run(program, words, **streams):
+    """The status of a run, and the bytes of its output and error."""
+    ran = subprocess.run(["ifsvm", *words.split()], executable=program, stderr=subprocess.PIPE, env={}, timeout=120, **streams)
+    return ran.returncode, ran.stdout or b"", ran.stderr
+
+
+def make(before):
+    """The folder with these files alone."""
+    shutil.rmtree("made", ignore_errors=True)
+    os.mkdir("made")
+    for name, data in before.items():
+        with open(os.path.join("made", name), "wb") as file:
+            file.write(data)
+
+
+def read(path):
+    with open(path, "rb") as file:
+        return file.read()
+
+
+def made():
+    return {name: read(os.path.join("made", name)) for name in sorted(os.listdir("made"))}
+
+
+def mode(path):
+    return stat.S_IMODE(os.stat(path).st_mode)
+
+
+def table(program):
+    for words, before, status, output, error, after in WRITING:
+        make(before)
+        ran = run(program, words, stdin=subprocess.DEVNULL, stdout=subprocess.PIPE)
+        yield f"ifsvm {words}", (*ran, made()), (status, output.encode(), error.encode(), after)
+    for words, output in NOTED:
+        make({})
+        ran = run(program, words, stdin=subprocess.DEVNULL, stdout=subprocess.PIPE)
+        size = len(made().get("image", b""))
+        yield f"ifsvm {words}", (*ran, f"ok {size} bytes".encode() in ran[1]), (0, output.encode(), b"", True)
+
+
+def modes(program):
+    """A file keeps its mode, and a new one has that of the process."""
+    for before, kept in ((0o600, 0o600), (0o444, 0o444), (0o755, 0o755), (None, 0o640)):
+        make({"image": OLD} if before else {})
+        if before:
+            os.chmod("made/image", before)
+        ran = run(program, "compile first made/image", stdout=subprocess.PIPE, umask=0o027)
+        yield f"the mode {before} of an image", (*ran, mode("made/image"), made()), (0, b"ok 113 bytes\n", b"", kept, {"image": FIRST})
+
+
+def links(program):
+    """The file that a link leads to is replaced; a link that leads nowhere is a fault, and stays."""
+    make({"image": OLD})
+    os.symlink("image", "made/link")
+    ran = run(program, "compile first made/link", stdout=subprocess.PIPE)
+    gave = (*ran, os.readlink("made/link"), made())
+    yield "a link", gave, (0, b"ok 113 bytes\n", b"", "image", {"image": FIRST, "link": FIRST})
+    make({})
+    os.symlink("missing", "made/link")
+    ran = run(program, "compile first made/link", stdout=subprocess.PIPE)
+    gave = (*ran, os.listdir("made"), os.readlink("made/link"))
+    yield "a link that leads nowhere", gave, (3, b"", f"device made/link: {MISSING}\n".encode(), ["link"], "missing")
+
+
+def cut_off():
+    """Lets the program write 50 bytes to a file and no more."""
+    signal.signal(signal.SIGXFSZ, signal.SIG_IGN)
+    resource.setrlimit(resource.RLIMIT_FSIZE, (50, 50))
+
+
+def no_room(program):
+    """Where the bytes find no room the old image stands, and nothing else."""
+    for words in ("compile first made/image", "asm smallest made/image"):
+        for before in ({}, {"image": OLD}):
+            make(before)
+            ran = run(program, words, stdout=subprocess.PIPE, preexec_fn=cut_off, restore_signals=False)
+            wanted = (3, b"", b"device made/image: File too large (os error 27)\n", before)
+            yield f"ifsvm {words}, on {len(before)} files without room", (*ran, made()), wanted
+
+
+def streams(program):
+    """What is no regular file is written as it stands; the image stands whole where its line finds no place."""
+    ran = run(program, "compile first /dev/stdout", stdout=subprocess.PIPE)
+    yield "ifsvm compile first /dev/stdout", ran, (0, FIRST + b"ok 113 bytes\n", b"")
+    make({})
+    os.mkfifo("made/pipe")
+    got = []
+    reader = threading.Thread(target=lambda: got.append(read("made/pipe")))
+    reader.start()
+    ran = run(program, "asm smallest made/pipe", stdout=subprocess.PIPE)
+    if ran[0] != 0:
+        os.close(os.open("made/pipe", os.O_WRONLY))
+    reader.join()
+    yield "ifsvm asm smallest PIPE", (*ran, got, os.listdir("made")), (0, b"ok 61 bytes\n", b"", [SMALLEST], ["pipe"])
+    for words, after in (("compile first made/image", FIRST), ("asm smallest made/image", SMALLEST)):
+        make({})
+        with open("/dev/full", "wb") as full:
+            ran = run(program, words, stdout=full)
+        told = f"device standard output: {FULL}\n".encode()
+        yield f"ifsvm {words} > /dev/full", (*ran, made()), (3, b"", told, {"image": after})
+
+
+def starved(program):
+    """Want of memory is told, and the old image stands."""
+    limit = 16_777_216
+
+    def limited():
+        resource.setrlimit(resource.RLIMIT_AS, (limit, limit))
+
+    for word, code in (("compile", "P0"), ("asm", "A0")):
+        make({"image": OLD})
+        ran = run(program, f"{word} longest made/image", stdout=subprocess.PIPE, preexec_fn=limited)
+        yield f"ifsvm {word} with little memory", (*ran, made()), (1, f"refused {code}\n".encode(), b"", {"image": OLD})
+
+
+def there_and_back(program):
+    """What compile and asm write is verified or refused as it has to be, and is the same through disasm and asm."""
+    for words, told in (
+        ("compile first made/image", "ok stack 1 frames 1 cost 7 commands 1\n"),
+        ("compile binding made/image", "ok stack 3 frames 1 cost 11 commands 1\n"),
+        ("asm smallest made/image", "ok stack 0 frames 1 cost 3 commands 0\n"),
+        ("asm eight made/image", "refused V2 head\n"),
+    ):
+        make({})
+        run(program, words, stdout=subprocess.PIPE)
+        verified = run(program, "verify made/image", stdout=subprocess.PIPE)
+        yield f"ifsvm {words}, verified", verified[1:], (told.encode(), b"")
+        with open("made/text", "wb") as text:
+            shown = run(program, "disasm made/image", stdout=text)
+        back = run(program, "asm made/text made/back", stdout=subprocess.PIPE)
+        stand = made()
+        size = len(stand.get("image", b""))
+        gave = (shown, back, stand.get("back") == stand.get("image") != None)
+        yield f"ifsvm {words}, there and back", gave, ((0, b"", b""), (0, f"ok {size} bytes\n".encode(), b""), True)
+
+
+def answers(program):
+    """Each run's name, what it gave, and what it has to give."""
+    for runs in (table, modes, links, no_room, streams, starved, there_and_back):
+        yield from runs(program)
