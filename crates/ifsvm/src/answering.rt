@@ -9,7 +9,7 @@ use crate::checking::check;
 use crate::compiling::compile;
 use crate::disassembling::disasm;
 use crate::ending::{Ending, out_of_memory};
-use crate::files::{FileFault, contents};
+use crate::files::{FileFault, contents, fault_of};
 use crate::images::write_image;
 use crate::task::{Answer, Task};
 use ifs_image::Budgets;
@@ -110,7 +110,7 @@ fn output_at<R: Files + Print + Alloc<A = Global>>(
     path: String,
     image: &[u8],
 ) -> Result<(), Ending> {
-    match write_image(rt, path.as_str(), image).map_err(FileFault::from) {
+    match write_image(rt, path.as_str(), image).map_err(fault_of) {
         Ok(()) => Ok(()),
         Err(FileFault::Memory) => Err(out_of_memory(rt, task)?),
         Err(fault) => Err(Ending::File { path, fault }),

@@ -33,7 +33,7 @@ pub fn contents<R: Files + Alloc<A = Global>>(rt: &R, path: &str) -> Result<Vec<
 {
     match fs::open(rt, path) {
         Ok(file) => whole(rt.alloc(), file),
-        Err(error) => Err(FileFault::from(error)),
+        Err(error) => Err(fault_of(error)),
     }
 }
 
@@ -48,20 +48,19 @@ pub fn whole<R: Read + Drop>(alloc: Global, reader: R) -> Result<Vec<u8>, FileFa
 {
     let mut bytes = Vec::new(alloc);
     match reader.take(LIMIT + 1).read_to_end(&mut bytes) {
-        Err(error) => Err(FileFault::from(error)),
+        Err(error) => Err(fault_of(error)),
         Ok(_count) if LIMIT < bytes.len() as u64 => Err(FileFault::TooLarge),
         Ok(_count) => Ok(bytes),
     }
 }
 
-impl From<io::Error> for FileFault {
-    ghost from_gives = { λ _ fault. fault ≢ TooLarge };
-
-    fn from(error: io::Error) -> FileFault {
-        if error.kind() == ErrorKind::OutOfMemory {
-            FileFault::Memory
-        } else {
-            FileFault::System(error)
-        }
+/// The fault of a call of the system that failed.
+pub fn fault_of(error: io::Error) -> FileFault
+    ensures { result ≢ TooLarge }
+{
+    if error.kind() == ErrorKind::OutOfMemory {
+        FileFault::Memory
+    } else {
+        FileFault::System(error)
     }
 }

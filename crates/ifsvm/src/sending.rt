@@ -1,10 +1,10 @@
 //! One request to a daemon, and what comes back.
 
 use crate::ending::{Ending, out_of_memory};
-use crate::files::{FileFault, whole};
+use crate::files::{FileFault, fault_of, whole};
 use crate::task::Task;
 use std::alloc::Global;
-use std::io::Write;
+use std::io::{self, Write};
 use std::net::{Net, Shutdown};
 use std::os::unix::net::UnixStream;
 
@@ -34,10 +34,18 @@ fn exchanged<R: Net + Alloc<A = Global>>(
     socket: &str,
     request: &str,
 ) -> Result<Vec<u8>, FileFault> {
-    let stream = UnixStream::connect(rt, socket)?;
+    match asked(rt, socket, request) {
+        Ok(stream) => whole(rt.alloc(), &stream),
+        Err(error) => Err(fault_of(error)),
+    }
+}
+
+/// A connection on which a request was written, and nothing more will be.
+fn asked(net: &impl Net, socket: &str, request: &str) -> io::Result<UnixStream> {
+    let stream = UnixStream::connect(net, socket)?;
     let mut writer = &stream;
     writer.write_all(request.as_bytes())?;
     writer.write_all(b"\n")?;
     stream.shutdown(Shutdown::Write)?;
-    whole(rt.alloc(), &stream)
+    Ok(stream)
 }

@@ -1,7 +1,7 @@
 //! The daemon: one connection after another over a Unix socket.
 
 use crate::ending::{Ending, out_of_memory};
-use crate::files::FileFault;
+use crate::files::fault_of;
 use crate::sessions::core_at;
 use crate::shell::Shell;
 use crate::task::Task;
@@ -51,7 +51,7 @@ pub fn serve<R: Files + Net + Processes + Clock + Log + Print + Alloc<A = Global
 fn socket_fault(path: String, error: io::Error) -> Ending {
     Ending::File {
         path,
-        fault: FileFault::from(error),
+        fault: fault_of(error),
     }
 }
 
