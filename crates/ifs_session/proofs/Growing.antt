@@ -1,5 +1,5 @@
 -- What steps make of a core and of a host's log, one list after the other.
-use Rattle.std.proofs.Common.{◌≡◌, ◌≢◌, ℕ, Bool, true, false, cond, List, [], ◌∷◌, ◌++◌, map, All, Option, Some, None, refl, sym, ap, ◌∙◌, subst, append_assoc, append-nil}
+use Rattle.std.proofs.Common.{◌≡◌, ◌≢◌, ℕ, Bool, true, false, not, nat_lt, if◌then◌else◌, cond, List, [], ◌∷◌, ◌++◌, map, All, Option, Some, None, refl, sym, ap, ◌∙◌, subst, append_assoc, append-nil}
 use Rattle.std.specs.List.{flat_map, filter_map}
 use Rattle.std.proofs.lemmas.Grind.{flat_map-append}
 use Rattle.std.proofs.lemmas.List.Elements.{All-nil, All-cons, All-append, filter_map-append}
@@ -9,12 +9,15 @@ use Rattle.ifs_image.specs.declared.parts.ImageParts.{ImageParts}
 use Rattle.ifs_core.specs.declared.step.Step.{Step}
 use Rattle.ifs_core.specs.declared.step.Step.TheVariants.{Link, Finished, Tick, Take}
 use Rattle.ifs_core.specs.declared.step.Reply.{Reply}
-use Rattle.ifs_core.specs.declared.step.Reply.TheVariants.{Taken, Busy}
+use Rattle.ifs_core.specs.declared.step.Reply.TheVariants.{Taken, Busy, Stale, Backwards}
 use Rattle.ifs_core.specs.Event.{Behaviour}
 use Rattle.ifs_core.specs.Machine.{IsBehaviour}
 use Rattle.ifs_core.specs.Gateway.{IsStateOf}
 use Rattle.ifs_core.specs.Headline.{IsKept}
-use Rattle.ifs_core.specs.Steps.{CoreState, Turn, LinkSeen, RunEnded, turn, take_turn, link_turn, finished_turn, tick_turn, changing, lacks_room, is_link, has_value, replies, after_steps}
+use Rattle.ifs_base.specs.Facts.{is_link}
+use Rattle.ifs_sched.specs.Schedule.{is_running}
+use Rattle.ifs_core.specs.Event.{Position, evaluation}
+use Rattle.ifs_core.specs.Steps.{CoreState, Turn, LinkSeen, RunEnded, turn, take_turn, link_turn, finished_turn, tick_turn, changing, unchanged, same, done, ticked_after, no_event, at_position, with_link, with_value, with_run_over, lacks_room, has_value, replies, after_steps}
 use Rattle.ifs_session.specs.Hosts.{Ending, HostLog, joined, ran, launched, polled}
 use Rattle.ifs_session.specs.Accounts.{client_asked, step_asked, takes_of, texts_of, launches_told}
 use Rattle.ifs_session.specs.Service.{ending_made, request_made, text_taken, Keeps}
@@ -110,26 +113,43 @@ takes_grow b image (command ∷ queue) s kept is stands e =
 -- ---- a step that is no take
 
 -- Its reply takes no command.
-abbrev pub TakesNone : ImageParts → Turn → Type 0
-TakesNone image t = text_taken image t.reply ≡ []
+pub record TakesNone (image : ImageParts) (t : Turn) : Type 0 where
+  pub none : text_taken image t.reply ≡ []
 
 either : (image : ImageParts) (c : Bool) (x y : Turn) → TakesNone image x → TakesNone image y → TakesNone image (cond c x y)
 either image true x y p q = p
 either image false x y p q = q
 
-changing_takes : (b : Behaviour) (image : ImageParts) (room : ℕ) (step : Step) (p : _) (s : CoreState) → TakesNone image (changing b room step p s)
-changing_takes b image room step p s = either image (lacks_room room s) _ _ refl refl
+changing_takes : (b : Behaviour) (image : ImageParts) (room : ℕ) (step : Step) (p : Position) (s : CoreState) → TakesNone image (changing b room step p s)
+changing_takes b image room step p s =
+    either image (lacks_room room s) (unchanged Busy s) (done step (evaluation b p) s) (record { none = refl }) (record { none = refl })
 
-link_takes : (b : Behaviour) (image : ImageParts) (room : ℕ) (seen : LinkSeen) (before : Option LinkState) (s : CoreState) → TakesNone image (link_turn b room seen before s)
-link_takes b image room seen None s = refl
-link_takes b image room seen (Some before) s = either image _ _ _ refl (changing_takes b image room _ _ s)
+pub link_takes : (b : Behaviour) (image : ImageParts) (room : ℕ) (seen : LinkSeen) (before : Option LinkState) (s : CoreState) → TakesNone image (link_turn b room seen before s)
+link_takes b image room seen None s = record { none = refl }
+link_takes b image room seen (Some before) s =
+    let step = Link seen.interface seen.link in
+    let p = with_link seen.interface.0 seen.link s.position in
+    either image (is_link before seen.link) (same step s) (changing b room step p s) (record { none = refl }) (changing_takes b image room step p s)
 
-finished_takes : (b : Behaviour) (image : ImageParts) (room : ℕ) (ended : RunEnded) (before : Option (Option Bool)) (s : CoreState) → TakesNone image (finished_turn b room ended before s)
-finished_takes b image room ended None s = refl
-finished_takes b image room ended (Some before) s = either image _ _ _ refl (either image _ _ _ refl (changing_takes b image room _ _ s))
+pub finished_takes : (b : Behaviour) (image : ImageParts) (room : ℕ) (ended : RunEnded) (before : Option (Option Bool)) (s : CoreState) → TakesNone image (finished_turn b room ended before s)
+finished_takes b image room ended None s = record { none = refl }
+finished_takes b image room ended (Some before) s =
+    let step = Finished ended.test ended.run ended.value in
+    let over = with_run_over ended.test.0 ended.run s.position in
+    let late = same step (at_position over s) in
+    let p = with_value ended.test.0 ended.value over in
+    let change = changing b room step p s in
+    either image (not (is_running ended.test.0 ended.run s.position.schedule)) (unchanged Stale s) (if has_value ended.value before then late else change) (record { none = refl })
+    (either image (has_value ended.value before) late change (record { none = refl }) (changing_takes b image room step p s))
 
-tick_takes : (b : Behaviour) (image : ImageParts) (room now : ℕ) (s : CoreState) → TakesNone image (tick_turn b room now s)
-tick_takes b image room now s = either image _ _ _ refl (either image _ _ _ (either image _ _ _ refl refl) refl)
+pub tick_takes : (b : Behaviour) (image : ImageParts) (room now : ℕ) (s : CoreState) → TakesNone image (tick_turn b room now s)
+tick_takes b image room now s =
+    let p = s.position in
+    let full = ticked_after now true (evaluation b p) s in
+    let plain = ticked_after now false (no_event p) s in
+    either image (nat_lt now p.schedule.present) (unchanged Backwards s) (if p.owed then (if lacks_room room s then unchanged Busy s else full) else plain) (record { none = refl })
+    (either image p.owed (if lacks_room room s then unchanged Busy s else full) plain
+    (either image (lacks_room room s) (unchanged Busy s) full (record { none = refl }) (record { none = refl })) (record { none = refl }))
 
 -- A step that is no take grows, where the queue is empty, by its own.
 pub step_grows : (b : Behaviour) (image : ImageParts) (step : Step) (lines : List (List ℕ)) (polls : List (Option Ending)) (s : CoreState)
@@ -142,9 +162,9 @@ step_grows b image step lines polls s kept is stands empty none endings requests
     record {
       stands = keeps.next;
       made = refl;
-      never_busy = All-cons (λ reply. reply ≢ Busy) _ _ (keeps.not_busy empty) (All-nil _);
+      never_busy = All-cons (λ reply. reply ≢ Busy) (turn b image.budgets.commands step s).reply [] (keeps.not_busy empty) (All-nil (λ reply. reply ≢ Busy));
       endings = endings;
       requests = requests;
       starts = sym (append-nil _);
-      texts = sym (ap (λ x. x ++ []) none);
+      texts = sym (ap (λ x. x ++ []) none.none);
     }

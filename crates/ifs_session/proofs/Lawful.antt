@@ -1,5 +1,5 @@
 -- What an account keeps: its steps lead from the state at its beginning to its own, and are those of its lines and of its log.
-use Rattle.std.proofs.Common.{◌≡◌, ◌≢◌, ℕ, ◌-◌, Bool, true, false, cond, nat_lt, List, [], ◌∷◌, ◌++◌, length, map, Option, Some, None, option_map, refl, sym, ap, ◌∙◌, subst, append_assoc, append-nil}
+use Rattle.std.proofs.Common.{◌≡◌, ◌≢◌, ℕ, ◌-◌, Bool, true, false, cond, nat_lt, List, [], ◌∷◌, ◌++◌, length, map, Option, slice_get, Some, None, option_map, refl, sym, ap, ◌∙◌, subst, append_assoc, append-nil}
 use Rattle.std.specs.List.{filter_map}
 use Rattle.std.proofs.lemmas.List.Elements.{All-nil}
 use Rattle.ifs_base.specs.declared.ids.IfaceId.{IfaceId}
@@ -35,6 +35,12 @@ begun_lawful b image s k stands =
     let e = takes_grow b image s.queue s k.kept k.behaves stands refl in
     record { grows = e.grows; empty = e.empty }
 
+no_more_lines : {b : Behaviour} {image : ImageParts} {lines : List (List ℕ)} {steps : List Step} {log : HostLog} {s s' : CoreState} → Grows b image (lines ++ []) steps log s s' → Grows b image lines steps log s s'
+no_more_lines {b} {image} {lines} {steps} {log} {s} {s'} g = subst (λ ls. Grows b image ls steps log s s') (append-nil lines) g
+
+same_log : {b : Behaviour} {image : ImageParts} {lines : List (List ℕ)} {steps : List Step} {log log' : HostLog} {s s' : CoreState} → log ≡ log' → Grows b image lines steps log s s' → Grows b image lines steps log' s s'
+same_log {b} {image} {lines} {steps} {s = s} {s'} e g = subst (λ l. Grows b image lines steps l s s') e g
+
 -- A step that was made, and the taking of the commands after it.
 acts_lawful : (b : Behaviour) (image : ImageParts) (step : Step) (lines more : List (List ℕ)) (polls : List (Option Ending)) (s : CoreState) (a : Account)
     → Kept b image → Lawful b image lines s a → TakesNone image (turn b image.budgets.commands step a.state)
@@ -52,7 +58,7 @@ acts_lawful b image step lines more polls s a k l none endings requests =
     let takes = takes_grow b image next.queue next k.kept k.behaves one.stands refl in
     let all = grows_more b image (lines ++ more) [] _ (takes_of next.queue) _ _ s next _ made takes.grows in
     record {
-      grows = subst (λ ls. Grows b image ls _ _ s _) (append-nil (lines ++ more)) all;
+      grows = no_more_lines all;
       empty = takes.empty;
     }
 
@@ -61,10 +67,10 @@ acts_lawful b image step lines more polls s a k l none endings requests =
 ended_lawful : (b : Behaviour) (image : ImageParts) (e : Ending) (lines : List (List ℕ)) (s : CoreState) (a : Account) → Kept b image → Lawful b image lines s a
     → Lawful b image lines s (ended b image e a)
 ended_lawful b image e lines s a k l =
-    let acts = acts_lawful b image (Finished e.0 e.1 e.2) lines [] (Some e ∷ []) s a k l (finished_takes b image _ _ _ a.state) refl refl in
+    let acts = acts_lawful b image (Finished e.0 e.1 e.2) lines [] (Some e ∷ []) s a k l (finished_takes b image image.budgets.commands (record { test = e.0; run = e.1; value = e.2 }) (slice_get a.state.position.facts.tests e.0.0) a.state) refl refl in
     let same = joined-joined a.log (polled (Some e)) (launched (launches_told image (turn b image.budgets.commands (Finished e.0 e.1 e.2) a.state).reply)) in
     record {
-      grows = subst (λ log. Grows b image lines _ (joined log _) s _) (sym same) (subst (λ ls. Grows b image ls _ _ s _) (append-nil lines) acts.grows);
+      grows = same_log (ap (λ x. joined x (ran (texts_of image (turn b image.budgets.commands (Finished e.0 e.1 e.2) a.state).next.queue))) (sym same)) (no_more_lines acts.grows);
       empty = acts.empty;
     }
 
@@ -78,19 +84,20 @@ heard_lawful b image lines s a l =
     let quiet : Grows b image [] [] (polled None) a.state a.state = record { stands = l.grows.stands; made = refl; never_busy = All-nil _; endings = refl; requests = refl; starts = refl; texts = refl } in
     let more = grows_more b image lines [] a.steps [] a.log (polled None) s a.state a.state l.grows quiet in
     record {
-      grows = subst (λ steps. Grows b image lines steps _ s a.state) (append-nil a.steps) (subst (λ ls. Grows b image ls _ _ s a.state) (append-nil lines) more);
+      grows = subst (λ steps. Grows b image lines steps (joined a.log (polled None)) s a.state) (append-nil a.steps)
+          (subst (λ ls. Grows b image ls (a.steps ++ []) (joined a.log (polled None)) s a.state) (append-nil lines) more);
       empty = l.empty;
     }
 
-either : (b : Behaviour) (image : ImageParts) (lines : List (List ℕ)) (s : CoreState) (c : Bool) (x y : Account) → Lawful b image lines s x → Lawful b image lines s y → Lawful b image lines s (cond c x y)
-either b image lines s true x y p q = p
-either b image lines s false x y p q = q
+lawful_either : (b : Behaviour) (image : ImageParts) (lines : List (List ℕ)) (s : CoreState) (c : Bool) (x y : Account) → Lawful b image lines s x → Lawful b image lines s y → Lawful b image lines s (cond c x y)
+lawful_either b image lines s true x y p q = p
+lawful_either b image lines s false x y p q = q
 
 listened_lawful : (b : Behaviour) (image : ImageParts) (part : Part) (lines : List (List ℕ)) (s : CoreState) (a : Account) → Kept b image → Lawful b image lines s a
     → Lawful b image lines s (listened b image part a)
 listened_lawful b image part lines s a k l =
     let all = all_ended_lawful b image part.endings lines s a k l in
-    either b image lines s _ _ _ all (heard_lawful b image lines s _ all)
+    lawful_either b image lines s _ _ _ all (heard_lawful b image lines s _ all)
 
 -- ---- requests
 
@@ -104,13 +111,13 @@ linked : (image : ImageParts) (link : LinkState) (found : Option IfaceId) (step 
 linked image link None step e = cc
 linked image link (Some interface) step e =
     let same : Link interface link ≡ step = cc in
-    subst (Requested image) same (record { request = refl; no_ending = refl; no_take = λ b s. link_takes b image _ _ _ s })
+    subst (Requested image) same (record { request = refl; no_ending = refl; no_take = λ b s. link_takes b image image.budgets.commands (record { interface = interface; link = link }) (slice_get s.position.facts.links interface.0) s })
 
 requested : (image : ImageParts) (a : Asked) (step : Step) → step_asked image a ≡ Some step → Requested image step
 requested image (ALink name link) step e = linked image link (interface_of image.interfaces name) step e
 requested image (ATick moment) step e =
     let same : Tick moment ≡ step = cc in
-    subst (Requested image) same (record { request = refl; no_ending = refl; no_take = λ b s. tick_takes b image _ moment s })
+    subst (Requested image) same (record { request = refl; no_ending = refl; no_take = λ b s. tick_takes b image image.budgets.commands moment s })
 requested image (AResult test run value) step e = cc
 requested image ATake step e = cc
 requested image AStatus step e = cc

@@ -8,7 +8,9 @@ use Rattle.ifs_image.specs.declared.parts.ImageParts.{ImageParts}
 use Rattle.ifs_core.specs.declared.step.Step.{Step}
 use Rattle.ifs_core.specs.Event.{Behaviour}
 use Rattle.ifs_core.specs.Gateway.{IsStateOf}
-use Rattle.ifs_core.specs.Steps.{CoreState}
+use Rattle.ifs_core.specs.Machine.{IsBehaviour}
+use Rattle.ifs_core.specs.Headline.{IsKept}
+use Rattle.ifs_core.specs.Steps.{CoreState, after_steps}
 use Rattle.ifs_session.specs.declared.fault.SessionFault.{SessionFault}
 use Rattle.ifs_session.specs.declared.fault.SessionFault.TheVariants.{ReadFailed, WriteFailed, TooMuchInput}
 use Rattle.ifs_session.specs.declared.service.End.{End}
@@ -17,15 +19,16 @@ use Rattle.ifs_session.specs.declared.service.ServedLine.{ServedLine}
 use Rattle.ifs_session.specs.Device.{counted}
 use Rattle.ifs_session.specs.Lines.{lines_of, whole_lines, ending}
 use Rattle.ifs_session.specs.Sessions.{Moment, is_stop, HasRead, EndsLine, EndsLines}
-use Rattle.ifs_session.specs.Hosts.{HostLog, Adds}
-use Rattle.ifs_session.specs.Accounts.{Account, Part, client_asked, spoken, attended, served, all_served, emptied, begun, account}
+use Rattle.ifs_session.specs.Hosts.{HostLog, Adds, ran}
+use Rattle.ifs_session.specs.Accounts.{Account, Part, takes_of, texts_of, client_asked, spoken, attended, served, all_served, emptied, begun, account}
 use Rattle.ifs_session.specs.Service.{lines_in, GoesOn, Keeps, HasAttended, HasAnswered, EndsAs, Completes, BreaksReading, BreaksWriting, ReadsPast, ConnectionGives}
 use Rattle.ifs_session.specs.inner.Reading.{ReadsNothing, ReadFails, ReadsTooMuch}
 use Rattle.ifs_session.specs.inner.Serving.{OnlyReads, OnlyWrites}
-use Rattle.ifs_session.specs.inner.Connections.{Stands, Point, standing, taken_in, Idles, ServesPart, AnswersPart, PartGives, end_of}
+use Rattle.ifs_session.specs.inner.Connections.{Stands, Point, standing, taken_in, Idles, ServesPart, AnswersPart, PartGives, FlushGives, end_of}
 use Rattle.ifs_session.proofs.Known.{consumes_nothing, consumes_more, consumes_kept, append_known-append, append_known-nil}
 use Rattle.ifs_session.proofs.Serving.{unlines, ArePlain, unlines-push, ArePlain-push, unlines-ends_lines, last_line, line_ends, all_lines, lines_of-unlines, whole_lines-unlines}
-use Rattle.ifs_session.proofs.Accounting.{all_served-push}
+use Rattle.ifs_session.proofs.Accounting.{empties, all_served-push, attended_said}
+use Rattle.ifs_session.proofs.Logs.{adds_nothing}
 use Rattle.ifs_session.proofs.Lawful.{Kept, account_keeps}
 
 -- The account of these parts since a moment.
@@ -45,19 +48,22 @@ pub record Ongoing (b : Behaviour) (parts : List Part) (origin : Option HostLog)
   pub written : now.moment.written ≡ append_known before.written (so_far b parts before).said
 
 -- The queue was emptied, and no line was read yet.
-pub ongoing_start : (b : Behaviour) (origin : Option HostLog) (before : Moment) (now : Point)
+pub ongoing_start : (b : Behaviour) (origin : Option HostLog) (before : Moment) (now : Point) (steps : List Step)
     → now.moment.left ≡ before.left → now.moment.written ≡ before.written → now.moment.read_faults ≡ before.read_faults → now.moment.write_faults ≡ before.write_faults
-    → now.moment.core.image ≡ before.core.image → now.budget ≡ 16777216 → Stands origin (emptied b before.core.image (begun before.core.state)) (standing now)
+    → now.moment.core.image ≡ before.core.image → now.budget ≡ 16777216
+    → now.moment.core.state ≡ after_steps b before.core.image.budgets.commands (takes_of before.core.state.queue) before.core.state
+    → now.steps ≡ steps ++ takes_of before.core.state.queue → steps ≡ [] → Adds (ran (texts_of before.core.image before.core.state.queue)) origin now.told
     → Ongoing b [] origin before now
-ongoing_start b origin before now left written reads writes image budget stands = record {
+ongoing_start b origin before now steps left written reads writes image budget state made none told = record {
   plain = tt;
   on = All-nil _;
   given = subst (λ l. Consumes before.left l []) (sym left) (consumes_nothing before.left);
-  spent = sym budget;
+  spent = omega (arith, budget);
   read_faults = reads;
   write_faults = writes;
   image = image;
-  stands = stands;
+  stands = empties b before.core.image origin (begun before.core.state) (record { state = before.core.state; steps = []; told = origin }) (standing now)
+      (record { state_is = refl; steps_are = refl; told_is = adds_nothing origin }) state (made ∙ ap (λ l. l ++ takes_of before.core.state.queue) none) told;
   written = written ∙ sym (append_known-nil before.written);
 }
 
@@ -67,6 +73,9 @@ ongoing_start b origin before now left written reads writes image budget stands 
 pub record Sound (b : Behaviour) (before : Moment) : Type 0 where
   pub kept : Kept b before.core.image
   pub at : IsStateOf before.core.image before.core.state
+
+pub sound : (b : Behaviour) (before : Moment) → IsKept before.core.image → IsBehaviour before.core.image b → IsStateOf before.core.image before.core.state → Sound b before
+sound b before kept behaves at = record { kept = record { kept = kept; behaves = behaves }; at = at }
 
 attends_so_far : (b : Behaviour) (parts : List Part) (origin : Option HostLog) (before : Moment) (now : Point) → Sound b before
     → now.moment.core.image ≡ before.core.image → Stands origin (so_far b parts before) (standing now) → HasAttended b parts now.steps origin now.told before now.moment
@@ -227,6 +236,7 @@ answers {b} {parts} {origin} {before} {now} {after} {part} u r =
       written = r.written origin a u.stands ∙ ap (λ image. append_known now.moment.written (spoken b image part a)) u.image
           ∙ ap (λ k. append_known k (spoken b before.core.image part a)) u.written
           ∙ append_known-append before.written a.said (spoken b before.core.image part a)
+          ∙ ap (λ said. append_known before.written (said ++ spoken b before.core.image part a)) (sym (attended_said b before.core.image part a))
           ∙ ap (λ x. append_known before.written x.said) (sym (so_far-push b parts part before));
       same_faults = r.same_faults ∙ u.write_faults;
     }
@@ -273,3 +283,162 @@ completes {b} {parts} {origin} {before} {now} {after} {part} end sound u m r end
 
 no_room : (steps : ℕ) → nat_lt (512 - steps) 65 ≡ true → 447 < steps
 no_room steps h = grind (arith, nat_tests)
+
+has_room : (steps : ℕ) → nat_lt (512 - steps) 65 ≡ false → steps ≤ 512 → steps + 65 ≤ 512
+has_room steps h within = grind (arith, nat_tests)
+
+-- Why it ends after a line.
+abbrev EndsBy : Bool → Bool → Bool → End → Type 0
+EndsBy stop full ended end =
+    ((end ≡ Stop) × (stop ≡ true)) ⊎ (((end ≡ Full) × (stop ≡ false) × (full ≡ true)) ⊎ ((end ≡ Closed) × (stop ≡ false) × (ended ≡ false)))
+
+abbrev end_by : Bool → Bool → Bool → Option End
+end_by stop full ended = cond stop (Some Stop) (cond full (Some Full) (cond ended None (Some Closed)))
+
+ends_by : (stop full ended : Bool) (end : End) → end_by stop full ended ≡ Some end → EndsBy stop full ended end
+ends_by true full ended end e = inl (cc, refl)
+ends_by false true ended end e = inr (inl (cc, refl, refl))
+ends_by false false false end e = inr (inr (cc, refl, refl))
+ends_by false false true end e = cc
+
+-- Why it goes on.
+record OnBy (stop full ended : Bool) : Type 0 where
+  pub not_stop : stop ≡ false
+  pub not_full : full ≡ false
+  pub is_ended : ended ≡ true
+
+on_by : (stop full ended : Bool) → end_by stop full ended ≡ None → OnBy stop full ended
+on_by true full ended e = cc
+on_by false true ended e = cc
+on_by false false false e = cc
+on_by false false true e = record { not_stop = refl; not_full = refl; is_ended = refl }
+
+ends_as : {b : Behaviour} {parts : List Part} {origin : Option HostLog} {before : Moment} {now after : Point} {part : Part} {ended stop : Bool} (end : End) → Ongoing b parts origin before now
+    → ServesPart b part ended now after → AnswersPart b part stop now after → EndsBy stop (nat_lt (512 - length after.steps) 65) ended end
+    → EndsAs end (unlines (lines_in parts) ++ (part.line ++ ending ended)) after.steps after.moment
+ends_as {b} {parts} {origin} {before} {now} {after} {part} {ended} {stop} end u m r (inl (is, stops)) =
+    subst (λ e. EndsAs e (unlines (lines_in parts) ++ (part.line ++ ending ended)) after.steps after.moment) (sym is)
+    (lines_in parts, part.line, (advances u m).lines_are ∙ lines_in-push parts part, u.on, sym r.stops ∙ stops, line_ends (unlines (lines_in parts)) part.line ended after.moment.left m.read.last)
+ends_as {b} {parts} {origin} {before} {now} {after} {part} {ended} {stop} end u m r (inr (inl (is, going, full))) =
+    subst (λ e. EndsAs e (unlines (lines_in parts) ++ (part.line ++ ending ended)) after.steps after.moment) (sym is) (
+      subst (All GoesOn) (sym (advances u m).lines_are) (GoesOn-push parts part u.on (sym r.stops ∙ going)),
+      no_room (length after.steps) full,
+      inr (line_ends (unlines (lines_in parts)) part.line ended after.moment.left m.read.last),
+    )
+ends_as {b} {parts} {origin} {before} {now} {after} {part} {ended} {stop} end u m r (inr (inr (is, going, over))) =
+    subst (λ e. EndsAs e (unlines (lines_in parts) ++ (part.line ++ ending ended)) after.steps after.moment) (sym is)
+    (subst (All GoesOn) (sym (advances u m).lines_are) (GoesOn-push parts part u.on (sym r.stops ∙ going)), (m.read.last over).1)
+
+-- ---- what was written last goes out, or does not
+
+-- The moment at which the writer tells this.
+abbrev pub at_end : Moment → Option (List ℕ) → Option ℕ → Moment
+at_end now written faults = record { core = now.core; left = now.left; written = written; read_faults = now.read_faults; write_faults = faults }
+
+ends_alike : (end : End) (input : List ℕ) (steps : List Step) (now : Moment) (written : Option (List ℕ)) (faults : Option ℕ) → EndsAs end input steps now → EndsAs end input steps (at_end now written faults)
+ends_alike Closed input steps now written faults e = e
+ends_alike Stop input steps now written faults e = e
+ends_alike Full input steps now written faults e = e
+ends_alike (Fault fault) input steps now written faults e = e
+
+attended_alike : {b : Behaviour} {parts : List Part} {steps : List Step} {told told' : Option HostLog} {before now : Moment} (written : Option (List ℕ)) (faults : Option ℕ)
+    → HasAttended b parts steps told told' before now → HasAttended b parts steps told told' before (at_end now written faults)
+attended_alike written faults a = record { image = a.image; state = a.state; steps_are = a.steps_are; told_is = a.told_is; keeps = a.keeps }
+
+goes_out : {b : Behaviour} {end : End} {input : List ℕ} {parts : List Part} {steps : List Step} {told told' : Option HostLog} {before now : Moment} (written : Option (List ℕ)) (faults : Option ℕ)
+    → Completes b end input parts steps told told' before now → written ≡ append_known now.written [] → faults ≡ now.write_faults
+    → Completes b end input parts steps told told' before (at_end now written faults)
+goes_out {end = end} {input} {steps = steps} {now = now} written faults c put same = record {
+  read = record { given = c.read.given; within = c.read.within };
+  lines = c.lines;
+  attended = attended_alike written faults c.attended;
+  answered = record { written = put ∙ append_known-nil now.written ∙ c.answered.written; same_faults = same ∙ c.answered.same_faults };
+  same_faults = c.same_faults;
+  ends = ends_alike end input steps now written faults c.ends;
+}
+
+whole_at_end : (end : End) (input : List ℕ) (steps : List Step) (now : Moment) → EndsAs end input steps now → EndsLines input now.left
+whole_at_end Closed input steps now e = inr (inr e.1)
+whole_at_end Stop input steps now e = inr e.5
+whole_at_end Full input steps now e = e.2
+whole_at_end (Fault fault) input steps now e = absurd e
+
+stays_in : {b : Behaviour} {end : End} {input : List ℕ} {parts : List Part} {steps : List Step} {told told' : Option HostLog} {before now : Moment} (written : Option (List ℕ)) (faults : Option ℕ)
+    → Completes b end input parts steps told told' before now → faults ≡ counted now.write_faults
+    → BreaksWriting b input parts steps told told' before (at_end now written faults)
+stays_in {end = end} {input} {steps = steps} {now = now} written faults c one = record {
+  read = record { given = c.read.given; within = c.read.within };
+  whole = whole_at_end end input steps now c.ends;
+  lines = c.lines;
+  attended = attended_alike written faults c.attended;
+  same_faults = c.same_faults;
+  one_fault = one ∙ ap counted c.answered.same_faults;
+}
+
+completed : (b : Behaviour) (end : End) (input : List ℕ) (parts : List Part) (steps : List Step) (told told' : Option HostLog) (before now : Moment)
+    → Completes b end input parts steps told told' before now → ConnectionGives b end steps told told' before now
+completed b Closed input parts steps told told' before now c = (input, parts, c)
+completed b Stop input parts steps told told' before now c = (input, parts, c)
+completed b Full input parts steps told told' before now c = (input, parts, c)
+completed b (Fault fault) input parts steps told told' before now c = absurd c.ends
+
+-- The connection ended after a line.
+pub ends_after : {b : Behaviour} {parts : List Part} {origin : Option HostLog} {before : Moment} {now : Point} (line : ServedLine) (end result : End) (after : Point) (written : Option (List ℕ)) (faults : Option ℕ)
+    → Sound b before → Ongoing b parts origin before now → PartGives b (Ok (Some line)) now after → Some end ≡ end_of line (length after.steps)
+    → FlushGives end result after.moment.written written after.moment.write_faults faults
+    → ConnectionGives b result after.steps origin after.told before (at_end after.moment written faults)
+ends_after {b} {origin = origin} {before} line end result after written faults sound u (part, m, r) is (inl (same, put, kept)) =
+    subst (λ e. ConnectionGives b e after.steps origin after.told before (at_end after.moment written faults)) (sym same)
+    (completed b end _ _ after.steps origin after.told before _ (goes_out written faults (completes end sound u m r (ends_as end u m r (ends_by line.is_stop _ line.is_ended end (sym is)))) put kept))
+ends_after {b} {origin = origin} {before} line end result after written faults sound u (part, m, r) is (inr (broken, one)) =
+    subst (λ e. ConnectionGives b e after.steps origin after.told before (at_end after.moment written faults)) (sym broken)
+    (_, _, stays_in written faults (completes end sound u m r (ends_as end u m r (ends_by line.is_stop _ line.is_ended end (sym is)))) one)
+
+-- The connection goes on after a line.
+pub record GoesFurther (b : Behaviour) (origin : Option HostLog) (before : Moment) (after : Point) : Type 0 where
+  pub parts : List Part
+  pub ongoing : Ongoing b parts origin before after
+
+pub goes_further : {b : Behaviour} {parts : List Part} {origin : Option HostLog} {before : Moment} {now : Point} (line : ServedLine) (after : Point)
+    → Ongoing b parts origin before now → PartGives b (Ok (Some line)) now after → None ≡ end_of line (length after.steps) → GoesFurther b origin before after
+goes_further {b} {parts} {origin} {before} {now} line after u (part, m, r) is =
+    let on = on_by line.is_stop _ line.is_ended (sym is) in
+    record {
+      parts = parts ++ part ∷ [];
+      ongoing = goes_on u (subst (λ ended. ServesPart b part ended now after) on.is_ended m) (subst (λ stop. AnswersPart b part stop now after) on.not_stop r);
+    }
+
+pub room_left : (line : ServedLine) (steps : ℕ) → None ≡ end_of line steps → steps ≤ 512 → steps + 65 ≤ 512
+room_left line steps is within =
+    let on = on_by line.is_stop (nat_lt (512 - steps) 65) line.is_ended (sym is) in
+    has_room steps on.not_full within
+
+-- Only where no room is left it ends so.
+pub full_without_room : (line : ServedLine) (steps : ℕ) (end result : End) (written written' : Option (List ℕ)) (faults faults' : Option ℕ)
+    → Some end ≡ end_of line steps → FlushGives end result written written' faults faults' → result ≡ Full → 447 < steps
+full_without_room line steps end result written written' faults faults' is (inr (broken, one)) full = cc
+full_without_room line steps end result written written' faults faults' is (inl (same, put, kept)) full =
+    elim (ends_by line.is_stop (nat_lt (512 - steps) 65) line.is_ended end (sym is)) [
+      | inl stop ↦ cc
+      | inr (inl why) ↦ no_room steps why.2
+      | inr (inr closed) ↦ cc
+    ]
+
+-- ---- whatever its end was
+
+-- Parts were attended to, and the steps are theirs.
+pub record Attended (b : Behaviour) (steps : List Step) (told told' : Option HostLog) (before after : Moment) : Type 0 where
+  pub parts : List Part
+  pub attended : HasAttended b parts steps told told' before after
+  pub keeps : Keeps b before.core.image (lines_in parts) steps (so_far b parts before).log before.core.state after.core.state
+
+these : {b : Behaviour} {parts : List Part} {steps : List Step} {told told' : Option HostLog} {before after : Moment} → HasAttended b parts steps told told' before after → Attended b steps told told' before after
+these {parts = parts} a = record { parts = parts; attended = a; keeps = a.keeps }
+
+pub was_attended : {b : Behaviour} {steps : List Step} {told told' : Option HostLog} {before after : Moment} (end : End) → ConnectionGives b end steps told told' before after → Attended b steps told told' before after
+was_attended (Fault ReadFailed) (input, parts, r) = these r.attended
+was_attended (Fault WriteFailed) (input, parts, r) = these r.attended
+was_attended (Fault TooMuchInput) (input, byte, parts, r) = these r.attended
+was_attended Closed (input, parts, r) = these r.attended
+was_attended Stop (input, parts, r) = these r.attended
+was_attended Full (input, parts, r) = these r.attended

@@ -1,5 +1,5 @@
 -- What the functions that serve a connection give.
-use Rattle.std.specs.Prelude.{◌≡◌, ◌⊎◌, ℕ, Bool, true, false, nat_lt, ◌-◌, ◌||◌, if◌then◌else◌, List, length, codes, Option, Some, None, Result, Ok, Err}
+use Rattle.std.specs.Prelude.{◌≡◌, ◌⊎◌, ℕ, Bool, true, false, nat_lt, ◌-◌, ◌||◌, if◌then◌else◌, List, [], length, codes, Option, Some, None, Result, Ok, Err}
 use Rattle.std.specs.Str.{bytes_eq}
 use Rattle.std.specs.Io.KnownBytes.{append_known}
 use Rattle.ifs_core.specs.declared.step.Step.{Step}
@@ -10,7 +10,7 @@ use Rattle.ifs_session.specs.declared.fault.SessionFault.TheVariants.{ReadFailed
 use Rattle.ifs_session.specs.declared.lines.Line.{Line}
 use Rattle.ifs_session.specs.declared.request.RequestFault.TheVariants.{NoRequest, TooLong}
 use Rattle.ifs_session.specs.declared.service.End.{End}
-use Rattle.ifs_session.specs.declared.service.End.TheVariants.{Closed, Stop, Full}
+use Rattle.ifs_session.specs.declared.service.End.TheVariants.{Closed, Stop, Full, Fault}
 use Rattle.ifs_session.specs.declared.service.ServedLine.{ServedLine}
 use Rattle.ifs_session.specs.Device.{counted}
 use Rattle.ifs_session.specs.Requests.{Asked, AFault, begins_with, short_asked}
@@ -92,3 +92,8 @@ end_of line steps =
     if nat_lt (512 - steps) 65 then Some Full else
     if line.is_ended then None else
     Some Closed
+
+-- What the end of a connection gives, when what was written was to go out: that end, or that a write failed.
+abbrev pub FlushGives : End → End → Option (List ℕ) → Option (List ℕ) → Option ℕ → Option ℕ → Type 0
+FlushGives end result written written' faults faults' =
+    ((result ≡ end) × (written' ≡ append_known written []) × (faults' ≡ faults)) ⊎ ((result ≡ Fault WriteFailed) × (faults' ≡ counted faults))
