@@ -29,7 +29,7 @@ const REQUEST: &str = "request";
 const DEFINITION: &str = "NAME=VALUE";
 
 /// What the command line asks for.
-#[derive(Debug, Drop)]
+#[derive(Drop)]
 pub enum Asked {
     /// No words: a session whose first line is the image.
     Session,
