@@ -8,3 +8,4 @@ pub mod Ends
 pub mod Limits
 pub mod Stuck
 pub mod First
+pub mod OneFault
