@@ -29,22 +29,33 @@ fn check_back(
     line: &str,
 ) -> Result<(), Fail> {
     let bytes = bytes_of(alloc, image)?;
-    let listing = answer(alloc, Task::Disasm, bytes.as_slice(), &[])?;
-    assert!(rt; listing.file.is_none(), "{name}");
+    let Answer { status, text, file } = answer(alloc, Task::Disasm, bytes.as_slice(), &[])?;
+    assert!(rt; file.is_none(), "{name}");
     if line.starts_with("refused I") {
-        assert_eq!(rt; listing.text.as_str(), line, "{name}");
-        assert_eq!(rt; listing.status, 1, "{name}");
+        assert_eq!(rt; text.as_str(), line, "{name}");
+        assert_eq!(rt; status, 1, "{name}");
         return Ok(());
     }
-    assert_eq!(rt; listing.status, 0, "{name}");
-    let Answer { status, text, file } = answer(alloc, Task::Asm, listing.text.as_bytes(), &[])?;
+    assert_eq!(rt; status, 0, "{name}");
+    check_assembled(rt, alloc, name, text.as_bytes(), bytes.as_slice())
+}
+
+/// A text is assembled to these bytes.
+fn check_assembled(
+    rt: &impl Abort,
+    alloc: Global,
+    name: &str,
+    listing: &[u8],
+    bytes: &[u8],
+) -> Result<(), Fail> {
+    let Answer { status, text, file } = answer(alloc, Task::Asm, listing, &[])?;
     assert_eq!(rt; status, 0, "{name}");
     let told = format!(in alloc; "ok {} bytes\n", bytes.len())?;
     assert_eq!(rt; text.as_str(), told.as_str(), "{name}");
     let Some(file) = file else {
         return Err(Fail::from("no image"));
     };
-    assert_eq!(rt; file.as_slice(), bytes.as_slice(), "{name}");
+    assert_eq!(rt; file.as_slice(), bytes, "{name}");
     Ok(())
 }
 

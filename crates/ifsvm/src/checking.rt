@@ -47,14 +47,19 @@ pub fn check(alloc: Global, bytes: &[u8], defs: &[(&str, &str)]) -> Result<Answe
         Err(fault) => return Answer::refused(alloc, fault),
     };
     match policy_of(alloc, text, defs) {
-        Ok(PolicyText { tree, policy }) => {
-            let mut lines = notes_of(alloc, tree.notes())?;
-            put_counts(&mut lines, policy.counts())?;
-            Ok(Answer::good(lines, None))
-        }
+        Ok(found) => told(alloc, &found),
         Err(PolicyFault::Memory) => Err(AllocError),
         Err(fault) => Answer::refused(alloc, fault),
     }
+}
+
+/// What is told of a policy.
+fn told(alloc: Global, found: &PolicyText) -> Result<Answer, AllocError>
+    ensures { IfOk result (λ answer. (answer.status ≡ 0) × (answer.file ≡ None)) }
+{
+    let mut lines = notes_of(alloc, found.tree.notes())?;
+    put_counts(&mut lines, found.policy.counts())?;
+    Ok(Answer::good(lines, None))
 }
 
 /// A line for each note, whose number it has.
