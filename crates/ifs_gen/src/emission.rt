@@ -1,6 +1,6 @@
 //! The plain code of conditions and blocks.
 
-ghost use Rattle.std.specs.Prelude.{◌≡◌, ◌+◌, ◌<◌, ◌^◌, ◌++◌, [], ◌∷◌, length, slice_set, OnOk};
+ghost use Rattle.std.specs.Prelude.{◌≡◌, ◌+◌, ◌<◌, ◌^◌, ◌++◌, length, slice_set, OnOk};
 ghost use Rattle.ifs_base.specs.declared.op.Op.TheVariants.{JumpFalse};
 ghost use Rattle.ifs_gen.specs.PlainCode.{block_code, block_size, condition_code, plain_coder, single_op as op_of};
 ghost use Rattle.ifs_gen.specs.inner.Emission.{op_of_sign, statement_code, statement_size};
