@@ -21,6 +21,17 @@ pub enum Step {
     Take,
 }
 
+/// What an unused place of a list holds.
+impl Default for Step {
+    ghost use Rattle.ifs_core.specs.declared.step.Step.TheVariants.{Take};
+
+    ghost is_default = { λ step. step ≡ Take };
+
+    fn default() -> Self {
+        Step::Take
+    }
+}
+
 /// What a step made of the core. The last five change nothing.
 #[derive(Debug, Drop)]
 pub enum Reply {

@@ -1,13 +1,15 @@
 -- Accounts: each thing that is done carries them on.
-use Rattle.std.proofs.Common.{◌≡◌, ℕ, List, [], ◌∷◌, ◌++◌, Option, Some, None, refl, sym, ap, ◌∙◌, subst}
+use Rattle.std.proofs.Common.{◌≡◌, ℕ, ◌-◌, Bool, true, false, not, cond, nat_lt, ◌<◌, ◌≤◌, length, List, [], ◌∷◌, ◌++◌, Option, Some, None, refl, sym, ap, ◌∙◌, subst, arith}
+use Rattle.std.proofs.lemmas.Bool.Decides.{nat_tests}
 use Rattle.ifs_image.specs.declared.parts.ImageParts.{ImageParts}
 use Rattle.ifs_core.specs.declared.step.Step.{Step}
+use Rattle.ifs_core.specs.declared.step.Step.TheVariants.{Finished}
 use Rattle.ifs_core.specs.declared.step.Reply.{Reply}
 use Rattle.ifs_core.specs.Event.{Behaviour}
 use Rattle.ifs_core.specs.Steps.{CoreState, turn, after_steps}
 use Rattle.ifs_session.specs.Hosts.{Ending, HostLog, Adds, ran, launched, polled}
-use Rattle.ifs_session.specs.Accounts.{Account, Part, takes_of, texts_of, launches_told, made, emptied, heard, ended, all_ended, served, all_served}
-use Rattle.ifs_session.specs.inner.Connections.{Standing, Stands}
+use Rattle.ifs_session.specs.Accounts.{Account, Part, attended, listened, takes_of, texts_of, launches_told, made, emptied, acted, heard, heard_out, ended, all_ended, served, all_served}
+use Rattle.ifs_session.specs.inner.Connections.{Standing, Stands, Carries}
 use Rattle.ifs_session.proofs.Logs.{adds_both}
 
 -- A step was made, and its starts were told.
@@ -52,3 +54,61 @@ pub all_served-push : (b : Behaviour) (image : ImageParts) (parts : List Part) (
     → all_served b image (parts ++ part ∷ []) a ≡ served b image part (all_served b image parts a)
 all_served-push b image [] part a = refl
 all_served-push b image (first ∷ parts) part a = all_served-push b image parts part (served b image first a)
+
+is_few : (steps : ℕ) → nat_lt (512 - steps) 130 ≡ true → 512 - steps < 130
+is_few steps h = grind (arith, nat_tests)
+
+is_many : (steps : ℕ) → nat_lt (512 - steps) 130 ≡ false → 130 ≤ 512 - steps
+is_many steps h = grind (arith, nat_tests)
+
+heard_by : (few : Bool) (origin : Option HostLog) (a : Account) (before : Standing) (told : Option HostLog) → nat_lt (512 - length before.steps) 130 ≡ few → Stands origin a before
+    → (512 - length before.steps < 130 → told ≡ before.told) → (130 ≤ 512 - length before.steps → Adds (polled None) before.told told)
+    → Stands origin (cond few a (heard None a)) (record { state = before.state; steps = before.steps; told = told })
+heard_by true origin a before told is h unasked asked = record { state_is = h.state_is; steps_are = h.steps_are; told_is = subst (Adds a.log origin) (sym (unasked (is_few _ is))) h.told_is }
+heard_by false origin a before told is h unasked asked = hears origin a before None told h (asked (is_many _ is))
+
+-- The host was polled to the end, or too few places are free.
+pub heard_no_more : (origin : Option HostLog) (a : Account) (before : Standing) (told : Option HostLog) → Stands origin a before
+    → (512 - length before.steps < 130 → told ≡ before.told) → (130 ≤ 512 - length before.steps → Adds (polled None) before.told told)
+    → Stands origin (heard_out a) (record { state = before.state; steps = before.steps; told = told })
+heard_no_more origin a before told h unasked asked =
+    heard_by (nat_lt (512 - length a.steps) 130) origin a before told (ap (λ steps. nat_lt (512 - length steps) 130) h.steps_are) h unasked asked
+
+-- The host answered one more end of a test, and its step was made.
+pub hear_more : (b : Behaviour) (image image' : ImageParts) (endings : List Ending) (e : Ending) (start before after : Standing) (told : Option HostLog) → image' ≡ image
+    → Carries (all_ended b image endings) start before → Adds (polled (Some e)) before.told told
+    → Carries (acted b image' (Some (Finished e.0 e.1 e.2))) (record { state = before.state; steps = before.steps; told = told }) after
+    → Carries (all_ended b image (endings ++ e ∷ [])) start after
+hear_more b image image' endings e start before after told same so_far answer more origin a h =
+    subst (λ account. Stands origin account after) (sym (all_ended-push b image endings e a))
+    (subst (λ i. Stands origin (ended b i e (all_ended b image endings a)) after) same
+    (more origin _ (hears origin (all_ended b image endings a) before (Some e) told (so_far origin a h) answer)))
+
+-- ---- what was written stays
+
+ended_said : (b : Behaviour) (image : ImageParts) (endings : List Ending) (a : Account) → (all_ended b image endings a).said ≡ a.said
+ended_said b image [] a = refl
+ended_said b image (e ∷ endings) a = ended_said b image endings (ended b image e a)
+
+either_said : (c : Bool) (x y : Account) → x.said ≡ y.said → (cond c x y).said ≡ y.said
+either_said true x y e = e
+either_said false x y e = refl
+
+acted_said : (b : Behaviour) (image : ImageParts) (wanted : Option Step) (a : Account) → (acted b image wanted a).said ≡ a.said
+acted_said b image None a = refl
+acted_said b image (Some step) a = refl
+
+-- Nothing is written while a part is attended to.
+pub attended_said : (b : Behaviour) (image : ImageParts) (part : Part) (a : Account) → (attended b image part a).said ≡ a.said
+attended_said b image part a =
+    acted_said b image _ (listened b image part a)
+    ∙ either_said _ (all_ended b image part.endings a) (heard None (all_ended b image part.endings a)) refl
+    ∙ ended_said b image part.endings a
+
+not_few : (w : Bool) (steps : ℕ) (answer : Option Ending) (e : Ending) → nat_lt (512 - steps) 130 ≡ w → (512 - steps < 130 → answer ≡ None) → answer ≡ Some e → 130 ≤ 512 - steps
+not_few true steps answer e w few is = let none = few (is_few steps w) in cc
+not_few false steps answer e w few is = is_many steps w
+
+-- Where an end of a test was answered, enough places are free.
+pub room_asked : (steps : ℕ) (answer : Option Ending) (e : Ending) → (512 - steps < 130 → answer ≡ None) → answer ≡ Some e → 130 ≤ 512 - steps
+room_asked steps answer e few is = not_few (nat_lt (512 - steps) 130) steps answer e refl few is

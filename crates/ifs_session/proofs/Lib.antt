@@ -13,6 +13,10 @@ pub mod Serving
 pub mod Logs
 pub mod Taking
 pub mod Accounting
+pub mod Growing
+pub mod Lawful
+pub mod Answering
+pub mod Parts
 pub mod Skipping
 pub mod Spelling
 pub mod Spaces

@@ -5,7 +5,7 @@ use Rattle.ifs_session.specs.Hosts.{HostLog, joined, nothing_given, Adds}
 joined-nothing : (log : HostLog) → joined log nothing_given ≡ log
 joined-nothing log = rw (append-nil log.texts, append-nil log.starts, append-nil log.polls) refl
 
-joined-joined : (log more last : HostLog) → joined (joined log more) last ≡ joined log (joined more last)
+pub joined-joined : (log more last : HostLog) → joined (joined log more) last ≡ joined log (joined more last)
 joined-joined log more last =
     rw (append_assoc log.texts more.texts last.texts, append_assoc log.starts more.starts last.starts, append_assoc log.polls more.polls last.polls) refl
 

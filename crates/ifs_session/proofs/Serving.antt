@@ -71,11 +71,11 @@ whole_lines-unlines (line ∷ lines) rest plain rest_plain =
     ∙ whole_lines-ended line (unlines lines ++ rest) plain.0
     ∙ ap (λ ls. line ∷ ls) (whole_lines-unlines lines rest plain.1 rest_plain)
 
-unlines-push : (lines : List (List ℕ)) (text : List ℕ) → unlines (lines ++ text ∷ []) ≡ unlines lines ++ (text ++ 10 ∷ [])
+pub unlines-push : (lines : List (List ℕ)) (text : List ℕ) → unlines (lines ++ text ∷ []) ≡ unlines lines ++ (text ++ 10 ∷ [])
 unlines-push [] text = refl
 unlines-push (line ∷ lines) text = ap (λ rest. line ++ 10 ∷ rest) (unlines-push lines text) ∙ sym (append_assoc line (10 ∷ unlines lines) (text ++ 10 ∷ []))
 
-ArePlain-push : (lines : List (List ℕ)) (text : List ℕ) → ArePlain lines → HasNoNewline text → ArePlain (lines ++ text ∷ [])
+pub ArePlain-push : (lines : List (List ℕ)) (text : List ℕ) → ArePlain lines → HasNoNewline text → ArePlain (lines ++ text ∷ [])
 ArePlain-push [] text plain last = (last, tt)
 ArePlain-push (line ∷ lines) text plain last = (plain.0, ArePlain-push lines text plain.1 last)
 
@@ -102,7 +102,7 @@ unlines-end (line ∷ lines) =
       | inr end ↦ inr (line ++ 10 ∷ end.0, ap (λ rest. line ++ 10 ∷ rest) end.1 ∙ sym (append_assoc line (10 ∷ end.0) (10 ∷ [])))
     ]
 
-unlines-ends_lines : (lines : List (List ℕ)) (left : Option (List ℕ)) → EndsLines (unlines lines) left
+pub unlines-ends_lines : (lines : List (List ℕ)) (left : Option (List ℕ)) → EndsLines (unlines lines) left
 unlines-ends_lines lines left =
     elim (unlines-end lines) [
       | inl none ↦ inl none
@@ -160,7 +160,7 @@ underway_start b now = record {
   running = refl;
 }
 
-all_lines : (lines : List (List ℕ)) → ArePlain lines → lines_of (unlines lines) ≡ lines
+pub all_lines : (lines : List (List ℕ)) → ArePlain lines → lines_of (unlines lines) ≡ lines
 all_lines lines plain = ap lines_of (sym (append-nil (unlines lines))) ∙ lines_of-unlines lines [] plain ∙ append-nil lines
 
 -- What was written could not go out.
@@ -264,11 +264,11 @@ counted_line image AStop s running = record { requests = refl; steps = omega ari
 counted_line image (AFault fault) s running = counted_other image (AFault fault) false s refl refl running
 
 -- The last line of an input, whatever ends it.
-last_line : (text : List ℕ) (ended : Bool) (P : Type 0) → HasNoNewline text → (ended ≡ false → (0 < length text) × P) → lines_of (text ++ ending ended) ≡ text ∷ []
+pub last_line : (text : List ℕ) (ended : Bool) (P : Type 0) → HasNoNewline text → (ended ≡ false → (0 < length text) × P) → lines_of (text ++ ending ended) ≡ text ∷ []
 last_line text true P plain last = lines_of-ended text [] plain
 last_line text false P plain last = ap lines_of (append-nil text) ∙ lines_of-rest text plain (last refl).0
 
-line_ends : (front text : List ℕ) (ended : Bool) (left : Option (List ℕ)) → (ended ≡ false → (0 < length text) × IsAtEnd left) → EndsLine (front ++ (text ++ ending ended)) left
+pub line_ends : (front text : List ℕ) (ended : Bool) (left : Option (List ℕ)) → (ended ≡ false → (0 < length text) × IsAtEnd left) → EndsLine (front ++ (text ++ ending ended)) left
 line_ends front text true left last = inl (front ++ text, sym (append_assoc front text (10 ∷ [])))
 line_ends front text false left last = inr (last refl).1
 

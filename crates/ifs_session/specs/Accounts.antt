@@ -17,11 +17,15 @@ use Rattle.ifs_session.specs.Requests.{Asked, ALink, AResult, ATick, ATake, ASta
 use Rattle.ifs_session.specs.Replies.{command_text, reply_line, status_line, trace_lines, fault_line, bye_line}
 use Rattle.ifs_session.specs.Hosts.{Ending, Launch, HostLog, ran, launched, polled, joined, nothing_given}
 
+-- Whether a line asks for what the service does by itself: a result, or the taking of a command.
+abbrev pub asks_of_hosts : List ℕ → Bool
+asks_of_hosts line = begins_with (codes "result ") line || bytes_eq line (codes "take")
+
 -- What a line of a client asks for, or its fault: as in a session, but `take` and `result` are no requests of a client.
 abbrev pub client_asked : List ℕ → Asked
 client_asked line =
     if nat_lt 256 (length line) then AFault TooLong else
-    if begins_with (codes "result ") line || bytes_eq line (codes "take") then AFault NoRequest else
+    if asks_of_hosts line then AFault NoRequest else
     short_asked line
 
 -- The step that is asked for, if one is.

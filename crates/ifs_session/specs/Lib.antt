@@ -4,6 +4,7 @@ pub mod Sessions
 pub mod Service
 pub mod Accounts
 pub mod Hosts
+pub mod Script
 pub mod Lines
 pub mod Requests
 pub mod Replies

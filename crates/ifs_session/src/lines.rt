@@ -2,6 +2,7 @@
 
 ghost use Rattle.std.specs.Prelude.{◌≡◌, ◌==◌, IfSome};
 ghost use Rattle.std.specs.List.{position};
+ghost use Rattle.ifs_session.specs.Accounts.{asks_of_hosts};
 ghost use Rattle.ifs_session.specs.inner.Reading.{LineGives, StandsFirst};
 
 use crate::device::ByteIn;
@@ -43,10 +44,20 @@ impl Line {
             return Err(RequestFault::TooLong);
         }
         let text = self.kept.as_slice();
-        if text.starts_with(b"result ") || text == b"take".as_slice() {
+        if is_of_hosts(text) {
             return Err(RequestFault::NoRequest);
         }
         parse_request(text)
+    }
+}
+
+/// Whether a line asks for what hosts do: `result` or `take`.
+fn is_of_hosts(line: &[u8]) -> bool
+    ensures { result ≡ asks_of_hosts line.now }
+{
+    match line.strip_prefix(b"result ") {
+        Some(_) => true,
+        None => line == b"take".as_slice(),
     }
 }
 

@@ -1,16 +1,17 @@
 //! One served connection: requests of a client, ends of tests and commands, in one order.
 
-ghost use Rattle.std.specs.Prelude.{◌≡◌, ◌≢◌, ◌+◌, ◌<◌, ◌≤◌, ◌∷◌, [], List, length, take, map, None, Some, IfOk, IfSome, MatchResult};
+ghost use Rattle.std.specs.Prelude.{◌≡◌, ◌≢◌, ◌+◌, ◌-◌, ◌<◌, ◌≤◌, ◌∷◌, [], List, All, length, map, None, Some, IfOk, IfSome, MatchResult};
 ghost use Rattle.ifs_core.specs.Event.{Behaviour};
 ghost use Rattle.ifs_core.specs.Machine.{IsBehaviour};
 ghost use Rattle.ifs_core.specs.Gateway.{IsReplyOf};
-ghost use Rattle.ifs_core.specs.Steps.{turn, reply_of};
+ghost use Rattle.ifs_core.specs.Steps.{turn, reply_of, replies, after_steps};
 ghost use Rattle.ifs_session.specs.Device.{HoldsNothing, PutGives};
-ghost use Rattle.ifs_session.specs.Hosts.{Ending, Adds, launched};
+ghost use Rattle.ifs_session.specs.Hosts.{Ending, Adds, launched, polled};
 ghost use Rattle.ifs_session.specs.Accounts.{launch_of, launches_told, acted, all_ended, heard_out, step_asked, told_line, answered};
+ghost use Rattle.ifs_session.specs.Service.{ConnectionGives};
 ghost use Rattle.ifs_session.specs.Sessions.{is_stop};
 ghost use Rattle.ifs_session.specs.inner.Parsing.{told_by};
-ghost use Rattle.ifs_session.specs.inner.Connections.{Carries, PartGives, end_of};
+ghost use Rattle.ifs_session.specs.inner.Connections.{Carries, PartGives, FlushGives, end_of};
 
 use crate::device::{ByteIn, ByteOut, DeviceFault};
 use crate::fault::SessionFault;
@@ -21,7 +22,8 @@ use crate::replies::{put_fault, put_reply, put_status, put_trace};
 use crate::request::{Request, RequestFault};
 use crate::session::INPUT;
 use arrayvec::ArrayVec;
-use ifs_core::{Core, Lists, Outcome, Step};
+use ifs_base::TestId;
+use ifs_core::{Core, Lists, Outcome, Reply, Step};
 use ifs_sched::Start;
 
 /// The most steps of a connection.
@@ -64,7 +66,17 @@ pub fn serve_one<H: Host, R: ByteIn, W: ByteOut>(
     host: &mut H,
     reader: &mut R,
     writer: &mut W,
-) -> Served {
+) -> Served
+    ensures image { core.new.image ≡ core.old.image }
+    // The core is the one before with the steps made, and none of them was answered `Busy`.
+    ensures made { (b : Behaviour) → IsBehaviour core.old.image b → core.new.state ≡ after_steps b core.old.image.budgets.commands result.steps.items core.old.state }
+    ensures never_busy { (b : Behaviour) → IsBehaviour core.old.image b → All (λ reply. reply ≢ Reply.Busy) (replies b core.old.image.budgets.commands result.steps.items core.old.state) }
+    ensures full { result.end ≡ End.Full → 447 < length result.steps.items }
+    ensures connection { (b : Behaviour) → IsBehaviour core.old.image b → ConnectionGives b result.end result.steps.items (H.told host.old) (H.told host.new)
+        (record { core = core.old; left = R.left reader.old; written = W.written writer.old; read_faults = R.faults reader.old; write_faults = W.faults writer.old })
+        (record { core = core.new; left = R.left reader.new; written = W.written writer.new; read_faults = R.faults reader.new; write_faults = W.faults writer.new }) }
+    ensures out { result.end ≢ End.Fault SessionFault.WriteFailed → HoldsNothing (W.held writer.new) }
+{
     let mut steps = ArrayVec::new();
     let end = serve_lines(core, host, reader, writer, &mut steps);
     Served { steps, end }
@@ -86,7 +98,16 @@ fn serve_lines<H: Host, R: ByteIn, W: ByteOut>(
     reader: &mut R,
     writer: &mut W,
     steps: &mut ArrayVec<Step, STEPS>,
-) -> End {
+) -> End
+    requires { steps.old.items ≡ [] }
+    ensures image { core.new.image ≡ core.old.image }
+    ensures full { result ≡ End.Full → 447 < length steps.new.items }
+    ensures connection { (b : Behaviour) → IsBehaviour core.old.image b → ConnectionGives b result steps.new.items (H.told host.old) (H.told host.new)
+        (record { core = core.old; left = R.left reader.old; written = W.written writer.old; read_faults = R.faults reader.old; write_faults = W.faults writer.old })
+        (record { core = core.new; left = R.left reader.new; written = W.written writer.new; read_faults = R.faults reader.new; write_faults = W.faults writer.new }) }
+    ensures out { result ≢ End.Fault SessionFault.WriteFailed → HoldsNothing (W.held writer.new) }
+{
+    core.image();
     empty_queue(core, host, steps);
     let mut lists = Lists::new();
     let mut budget = INPUT;
@@ -119,7 +140,10 @@ fn end_after(line: ServedLine, steps: usize) -> Option<End>
 }
 
 /// This end, once what was written has gone out.
-fn flushed<W: ByteOut>(writer: &mut W, end: End) -> End {
+fn flushed<W: ByteOut>(writer: &mut W, end: End) -> End
+    ensures ends { FlushGives end result (W.written writer.old) (W.written writer.new) (W.faults writer.old) (W.faults writer.new) }
+    ensures out { result ≢ End.Fault SessionFault.WriteFailed → HoldsNothing (W.held writer.new) }
+{
     match writer.flush() {
         Ok(()) => end,
         Err(_) => End::Fault(SessionFault::WriteFailed),
@@ -137,11 +161,10 @@ fn serve_part<H: Host, R: ByteIn, W: ByteOut>(
     budget: &mut u32,
 ) -> Result<Option<ServedLine>, SessionFault>
     requires { length steps.old.items + 65 ≤ 512 }
+    ensures image { core.new.image ≡ core.old.image }
     ensures part { (b : Behaviour) → IsBehaviour core.old.image b → PartGives b result
-        (record { core = core.old; left = R.left reader.old; written = W.written writer.old; read_faults = R.faults reader.old; write_faults = W.faults writer.old })
-        (record { state = core.old.state; steps = steps.old.items; told = H.told host.old }) budget.old
-        (record { core = core.new; left = R.left reader.new; written = W.written writer.new; read_faults = R.faults reader.new; write_faults = W.faults writer.new })
-        (record { state = core.new.state; steps = steps.new.items; told = H.told host.new }) budget.new }
+        (record { moment = record { core = core.old; left = R.left reader.old; written = W.written writer.old; read_faults = R.faults reader.old; write_faults = W.faults writer.old }; budget = budget.old; steps = steps.old.items; told = H.told host.old })
+        (record { moment = record { core = core.new; left = R.left reader.new; written = W.written writer.new; read_faults = R.faults reader.new; write_faults = W.faults writer.new }; budget = budget.new; steps = steps.new.items; told = H.told host.new }) }
     ensures counts { IfOk result (λ next. IfSome next (λ _. budget.new < budget.old)) }
     ensures out { MatchResult result (λ next. next ≡ None → HoldsNothing (W.held writer.new)) (λ fault. fault ≢ SessionFault.WriteFailed → HoldsNothing (W.held writer.new)) }
     ensures few { length steps.new.items ≤ 512 }
@@ -177,12 +200,22 @@ fn hear_endings<H: Host>(
         (record { state = core.old.state; steps = steps.old.items; told = H.told host.old })
         (record { state = core.new.state; steps = steps.new.items; told = H.told host.new }) }
 {
-    'endings: while STEPS - steps.len() >= 2 * PART {
-        let Some((test, run, value)) = host.poll() else {
-            return;
-        };
+    'endings: while let Some((test, run, value)) = next_ending(host, steps.len()) {
         make(core, host, lists, steps, Step::Finished(test, run, value));
     }
+}
+
+/// Polls the host where at least 130 places are left beside so many steps; `None` where fewer are.
+fn next_ending<H: Host>(host: &mut H, steps: usize) -> Option<(TestId, u64, bool)>
+    requires { steps ≤ 512 }
+    ensures few { 512 - steps < 130 → result ≡ None }
+    ensures unasked { 512 - steps < 130 → H.told host.new ≡ H.told host.old }
+    ensures asked { 130 ≤ 512 - steps → Adds (polled result) (H.told host.old) (H.told host.new) }
+{
+    if STEPS - steps < 2 * PART {
+        return None;
+    }
+    host.poll()
 }
 
 /// Makes a step, tells the host the tests that it starts, and empties the queue.

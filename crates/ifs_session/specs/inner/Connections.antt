@@ -1,5 +1,5 @@
 -- What the functions that serve a connection give.
-use Rattle.std.specs.Prelude.{◌≡◌, ◌⊎◌, ℕ, Bool, true, false, nat_lt, ◌-◌, ◌||◌, if◌then◌else◌, List, length, codes, Option, Some, None, Result, Ok, Err}
+use Rattle.std.specs.Prelude.{◌≡◌, ◌⊎◌, ℕ, Bool, true, false, nat_lt, ◌-◌, ◌||◌, if◌then◌else◌, List, [], length, codes, Option, Some, None, Result, Ok, Err}
 use Rattle.std.specs.Str.{bytes_eq}
 use Rattle.std.specs.Io.KnownBytes.{append_known}
 use Rattle.ifs_core.specs.declared.step.Step.{Step}
@@ -10,21 +10,21 @@ use Rattle.ifs_session.specs.declared.fault.SessionFault.TheVariants.{ReadFailed
 use Rattle.ifs_session.specs.declared.lines.Line.{Line}
 use Rattle.ifs_session.specs.declared.request.RequestFault.TheVariants.{NoRequest, TooLong}
 use Rattle.ifs_session.specs.declared.service.End.{End}
-use Rattle.ifs_session.specs.declared.service.End.TheVariants.{Closed, Stop, Full}
+use Rattle.ifs_session.specs.declared.service.End.TheVariants.{Closed, Stop, Full, Fault}
 use Rattle.ifs_session.specs.declared.service.ServedLine.{ServedLine}
 use Rattle.ifs_session.specs.Device.{counted}
 use Rattle.ifs_session.specs.Requests.{Asked, AFault, begins_with, short_asked}
 use Rattle.ifs_session.specs.Sessions.{Moment, is_stop}
 use Rattle.ifs_session.specs.Hosts.{HostLog, Adds}
-use Rattle.ifs_session.specs.Accounts.{Account, Part, client_asked, attended, spoken}
-use Rattle.ifs_session.specs.inner.Reading.{ReadsText, ReadsNothing, ReadFails, ReadsTooMuch}
+use Rattle.ifs_session.specs.Accounts.{Account, Part, asks_of_hosts, client_asked, attended, spoken}
+use Rattle.ifs_session.specs.inner.Reading.{Intake, ReadsText, ReadsNothing, ReadFails, ReadsTooMuch}
 use Rattle.ifs_session.specs.inner.Serving.{intake, OnlyReads, OnlyWrites}
 
 -- What is asked by a line of a client of which the first 256 bytes are kept.
 abbrev pub kept_client_asked : Line → Asked
 kept_client_asked line =
     if line.is_longer then AFault TooLong else
-    if begins_with (codes "result ") line.kept.items || bytes_eq line.kept.items (codes "take") then AFault NoRequest else
+    if asks_of_hosts line.kept.items then AFault NoRequest else
     short_asked line.kept.items
 
 -- Where a connection stands: the core's state, the steps made, and what the host tells.
@@ -43,30 +43,47 @@ pub record Stands (origin : Option HostLog) (a : Account) (s : Standing) : Type 
 abbrev pub Carries : (Account → Account) → Standing → Standing → Type 0
 Carries f before after = (origin : Option HostLog) (a : Account) → Stands origin a before → Stands origin (f a) after
 
+-- A point of a connection: its moment, how many more bytes may be read, the steps made, and what the host tells.
+pub record Point : Type 0 where
+  pub moment : Moment
+  pub budget : ℕ
+  pub steps : List Step
+  pub told : Option HostLog
+
+abbrev pub standing : Point → Standing
+standing p = record { state = p.moment.core.state; steps = p.steps; told = p.told }
+
+abbrev pub taken_in : Point → Intake
+taken_in p = intake p.moment p.budget
+
+-- No step was made and the host was given nothing.
+pub record Idles (before after : Point) : Type 0 where
+  pub steps : after.steps ≡ before.steps
+  pub told : after.told ≡ before.told
+
 -- A line was read and attended to.
-pub record ServesPart (b : Behaviour) (part : Part) (ended : Bool) (before : Moment) (s : Standing) (budget : ℕ) (after : Moment) (s' : Standing) (budget' : ℕ) : Type 0 where
-  pub read : ReadsText part.line ended (intake before budget) (intake after budget')
-  pub image : after.core.image ≡ before.core.image
-  pub attends : Carries (attended b before.core.image part) s s'
+pub record ServesPart (b : Behaviour) (part : Part) (ended : Bool) (before after : Point) : Type 0 where
+  pub read : ReadsText part.line ended (taken_in before) (taken_in after)
+  pub image : after.moment.core.image ≡ before.moment.core.image
+  pub attends : Carries (attended b before.moment.core.image part) (standing before) (standing after)
 
 -- And it was replied to.
-pub record AnswersPart (b : Behaviour) (part : Part) (stop : Bool) (before : Moment) (s : Standing) (after : Moment) : Type 0 where
-  pub written : (origin : Option HostLog) (a : Account) → Stands origin a s → after.written ≡ append_known before.written (spoken b before.core.image part a)
-  pub same_faults : after.write_faults ≡ before.write_faults
+pub record AnswersPart (b : Behaviour) (part : Part) (stop : Bool) (before after : Point) : Type 0 where
+  pub written : (origin : Option HostLog) (a : Account) → Stands origin a (standing before)
+      → after.moment.written ≡ append_known before.moment.written (spoken b before.moment.core.image part a)
+  pub same_faults : after.moment.write_faults ≡ before.moment.write_faults
   pub stops : stop ≡ is_stop (client_asked part.line)
 
--- What the serving of the next line gives, from one moment to another, with where the connection stands and how many more bytes may be read at each.
-abbrev pub PartGives : Behaviour → Result (Option ServedLine) SessionFault → Moment → Standing → ℕ → Moment → Standing → ℕ → Type 0
-PartGives b (Ok (Some line)) before s budget after s' budget' =
-    (part : Part) × ServesPart b part line.is_ended before s budget after s' budget' × AnswersPart b part line.is_stop before s after
-PartGives b (Ok None) before s budget after s' budget' = ReadsNothing (intake before budget) (intake after budget') × OnlyReads before after × (s' ≡ s)
-PartGives b (Err ReadFailed) before s budget after s' budget' =
-    (text : List ℕ) × ReadFails text (intake before budget) (intake after budget') × OnlyReads before after × (s' ≡ s)
-PartGives b (Err TooMuchInput) before s budget after s' budget' =
-    (text : List ℕ) × (byte : ℕ) × ReadsTooMuch text byte (intake before budget) (intake after budget') × OnlyReads before after × (s' ≡ s)
-PartGives b (Err WriteFailed) before s budget after s' budget' =
-    (after.write_faults ≡ counted before.write_faults)
-    × ((OnlyWrites before after × (s' ≡ s)) ⊎ ((part : Part) × (ended : Bool) × ServesPart b part ended before s budget after s' budget'))
+-- What the serving of the next line gives, from one point to another.
+abbrev pub PartGives : Behaviour → Result (Option ServedLine) SessionFault → Point → Point → Type 0
+PartGives b (Ok (Some line)) before after = (part : Part) × ServesPart b part line.is_ended before after × AnswersPart b part line.is_stop before after
+PartGives b (Ok None) before after = ReadsNothing (taken_in before) (taken_in after) × OnlyReads before.moment after.moment × Idles before after
+PartGives b (Err ReadFailed) before after = (text : List ℕ) × ReadFails text (taken_in before) (taken_in after) × OnlyReads before.moment after.moment × Idles before after
+PartGives b (Err TooMuchInput) before after =
+    (text : List ℕ) × (byte : ℕ) × ReadsTooMuch text byte (taken_in before) (taken_in after) × OnlyReads before.moment after.moment × Idles before after
+PartGives b (Err WriteFailed) before after =
+    (after.moment.write_faults ≡ counted before.moment.write_faults)
+    × ((OnlyWrites before.moment after.moment × Idles before after) ⊎ ((part : Part) × (ended : Bool) × ServesPart b part ended before after))
 
 -- The end after a line that was served, where so many steps were made, if it is one.
 abbrev pub end_of : ServedLine → ℕ → Option End
@@ -75,3 +92,8 @@ end_of line steps =
     if nat_lt (512 - steps) 65 then Some Full else
     if line.is_ended then None else
     Some Closed
+
+-- What the end of a connection gives, when what was written was to go out: that end, or that a write failed.
+abbrev pub FlushGives : End → End → Option (List ℕ) → Option (List ℕ) → Option ℕ → Option ℕ → Type 0
+FlushGives end result written written' faults faults' =
+    ((result ≡ end) × (written' ≡ append_known written []) × (faults' ≡ faults)) ⊎ ((result ≡ Fault WriteFailed) × (faults' ≡ counted faults))

@@ -8,7 +8,7 @@ use Rattle.ifs_session.proofs.queue.empty_rest.Given as goal
 abbrev pub invariant-commands : goal.invariant-commands
 invariant-commands g l = record {
   image : l.core.image ≡ l.fn.core.image;
-  room : length l.steps.items + length l.core.state.queue ≤ g.N;
+  room : length l.steps.items + length l.core.state.queue ≤ g.row.N;
   steps : l.steps.items ++ takes_of l.core.state.queue ≡ l.fn.steps.items ++ takes_of l.fn.core.state.queue;
   state : (b : Behaviour) → after_steps b l.fn.core.image.budgets.commands (takes_of l.core.state.queue) l.core.state
       ≡ after_steps b l.fn.core.image.budgets.commands (takes_of l.fn.core.state.queue) l.fn.core.state;

@@ -1,0 +1,444 @@
+-- A connection part by part: what was read so far, and what was made of it.
+use Rattle.std.proofs.Common.{◌≡◌, ◌⊎◌, ℕ, ◌+◌, ◌-◌, ◌<◌, ◌≤◌, Bool, true, false, nat_lt, cond, List, [], ◌∷◌, ◌++◌, length, map, All, Option, Some, None, Ok, Err, inl, inr, subst, refl, sym, ap, ◌∙◌, append_assoc, append-nil, arith, length-append}
+use Rattle.std.proofs.lemmas.Bool.Decides.{nat_tests}
+use Rattle.std.proofs.lemmas.List.{map-append}
+use Rattle.std.proofs.lemmas.List.Elements.{All-nil, All-cons, All-append}
+use Rattle.std.specs.Io.KnownBytes.{append_known, Consumes, IsAtEnd}
+use Rattle.ifs_image.specs.declared.parts.ImageParts.{ImageParts}
+use Rattle.ifs_core.specs.declared.step.Step.{Step}
+use Rattle.ifs_core.specs.Event.{Behaviour}
+use Rattle.ifs_core.specs.Gateway.{IsStateOf}
+use Rattle.ifs_core.specs.Machine.{IsBehaviour}
+use Rattle.ifs_core.specs.Headline.{IsKept}
+use Rattle.ifs_core.specs.Steps.{CoreState, after_steps}
+use Rattle.ifs_session.specs.declared.fault.SessionFault.{SessionFault}
+use Rattle.ifs_session.specs.declared.fault.SessionFault.TheVariants.{ReadFailed, WriteFailed, TooMuchInput}
+use Rattle.ifs_session.specs.declared.service.End.{End}
+use Rattle.ifs_session.specs.declared.service.End.TheVariants.{Closed, Stop, Full, Fault}
+use Rattle.ifs_session.specs.declared.service.ServedLine.{ServedLine}
+use Rattle.ifs_session.specs.Device.{counted}
+use Rattle.ifs_session.specs.Lines.{lines_of, whole_lines, ending}
+use Rattle.ifs_session.specs.Sessions.{Moment, is_stop, HasRead, EndsLine, EndsLines}
+use Rattle.ifs_session.specs.Hosts.{HostLog, Adds, ran}
+use Rattle.ifs_session.specs.Accounts.{Account, Part, takes_of, texts_of, client_asked, spoken, attended, served, all_served, emptied, begun, account}
+use Rattle.ifs_session.specs.Service.{lines_in, GoesOn, Keeps, HasAttended, HasAnswered, EndsAs, Completes, BreaksReading, BreaksWriting, ReadsPast, ConnectionGives}
+use Rattle.ifs_session.specs.inner.Reading.{ReadsNothing, ReadFails, ReadsTooMuch}
+use Rattle.ifs_session.specs.inner.Serving.{OnlyReads, OnlyWrites}
+use Rattle.ifs_session.specs.inner.Connections.{Stands, Point, standing, taken_in, Idles, ServesPart, AnswersPart, PartGives, FlushGives, end_of}
+use Rattle.ifs_session.proofs.Known.{consumes_nothing, consumes_more, consumes_kept, append_known-append, append_known-nil}
+use Rattle.ifs_session.proofs.Serving.{unlines, ArePlain, unlines-push, ArePlain-push, unlines-ends_lines, last_line, line_ends, all_lines, lines_of-unlines, whole_lines-unlines}
+use Rattle.ifs_session.proofs.Accounting.{empties, all_served-push, attended_said}
+use Rattle.ifs_session.proofs.Logs.{adds_nothing}
+use Rattle.ifs_session.proofs.Lawful.{Kept, account_keeps}
+
+-- The account of these parts since a moment.
+abbrev pub so_far : Behaviour → List Part → Moment → Account
+so_far b parts before = account b before.core.image parts before.core.state
+
+-- These parts were served since a moment, at which the host told this, and none of them ended the connection.
+pub record Ongoing (b : Behaviour) (parts : List Part) (origin : Option HostLog) (before : Moment) (now : Point) : Type 0 where
+  pub plain : ArePlain (lines_in parts)
+  pub on : All GoesOn (lines_in parts)
+  pub given : Consumes before.left now.moment.left (unlines (lines_in parts))
+  pub spent : 16777216 ≡ length (unlines (lines_in parts)) + now.budget
+  pub read_faults : now.moment.read_faults ≡ before.read_faults
+  pub write_faults : now.moment.write_faults ≡ before.write_faults
+  pub image : now.moment.core.image ≡ before.core.image
+  pub stands : Stands origin (so_far b parts before) (standing now)
+  pub written : now.moment.written ≡ append_known before.written (so_far b parts before).said
+
+-- The queue was emptied, and no line was read yet.
+pub ongoing_start : (b : Behaviour) (origin : Option HostLog) (before : Moment) (now : Point) (steps : List Step)
+    → now.moment.left ≡ before.left → now.moment.written ≡ before.written → now.moment.read_faults ≡ before.read_faults → now.moment.write_faults ≡ before.write_faults
+    → now.moment.core.image ≡ before.core.image → now.budget ≡ 16777216
+    → now.moment.core.state ≡ after_steps b before.core.image.budgets.commands (takes_of before.core.state.queue) before.core.state
+    → now.steps ≡ steps ++ takes_of before.core.state.queue → steps ≡ [] → Adds (ran (texts_of before.core.image before.core.state.queue)) origin now.told
+    → Ongoing b [] origin before now
+ongoing_start b origin before now steps left written reads writes image budget state made none told = record {
+  plain = tt;
+  on = All-nil _;
+  given = subst (λ l. Consumes before.left l []) (sym left) (consumes_nothing before.left);
+  spent = omega (arith, budget);
+  read_faults = reads;
+  write_faults = writes;
+  image = image;
+  stands = empties b before.core.image origin (begun before.core.state) (record { state = before.core.state; steps = []; told = origin }) (standing now)
+      (record { state_is = refl; steps_are = refl; told_is = adds_nothing origin }) state (made ∙ ap (λ l. l ++ takes_of before.core.state.queue) none) told;
+  written = written ∙ sym (append_known-nil before.written);
+}
+
+-- ---- what was attended to
+
+-- What is known of the core at the beginning.
+pub record Sound (b : Behaviour) (before : Moment) : Type 0 where
+  pub kept : Kept b before.core.image
+  pub at : IsStateOf before.core.image before.core.state
+
+pub sound : (b : Behaviour) (before : Moment) → IsKept before.core.image → IsBehaviour before.core.image b → IsStateOf before.core.image before.core.state → Sound b before
+sound b before kept behaves at = record { kept = record { kept = kept; behaves = behaves }; at = at }
+
+attends_so_far : (b : Behaviour) (parts : List Part) (origin : Option HostLog) (before : Moment) (now : Point) → Sound b before
+    → now.moment.core.image ≡ before.core.image → Stands origin (so_far b parts before) (standing now) → HasAttended b parts now.steps origin now.told before now.moment
+attends_so_far b parts origin before now sound image stands = record {
+  image = image;
+  state = stands.state_is;
+  steps_are = stands.steps_are;
+  told_is = stands.told_is;
+  keeps = subst (λ steps. Keeps b before.core.image (lines_in parts) steps (so_far b parts before).log before.core.state now.moment.core.state) (sym stands.steps_are)
+      (subst (λ s. Keeps b before.core.image (lines_in parts) (so_far b parts before).steps (so_far b parts before).log before.core.state s) (sym stands.state_is)
+      (account_keeps b before.core.image parts before.core.state sound.kept sound.at));
+}
+
+idle_stands : (origin : Option HostLog) (a : Account) (now after : Point) → after.moment.core ≡ now.moment.core → Idles now after → Stands origin a (standing now) → Stands origin a (standing after)
+idle_stands origin a now after core idle stands = record {
+  state_is = ap (λ c. c.state) core ∙ stands.state_is;
+  steps_are = idle.steps ∙ stands.steps_are;
+  told_is = subst (Adds a.log origin) (sym idle.told) stands.told_is;
+}
+
+-- Parts were served, and since then nothing was done.
+served_before : {b : Behaviour} {parts : List Part} {origin : Option HostLog} {before : Moment} {now : Point} (after : Point) → Sound b before → Ongoing b parts origin before now
+    → OnlyReads now.moment after.moment → Idles now after → HasAttended b parts after.steps origin after.told before after.moment × HasAnswered b parts before after.moment
+served_before {b} {parts} {origin} {before} {now} after sound u o idle = (
+  attends_so_far b parts origin before after sound (ap (λ c. c.image) o.core ∙ u.image) (idle_stands origin _ now after o.core idle u.stands),
+  record { written = o.written ∙ u.written; same_faults = o.same_faults ∙ u.write_faults },
+)
+
+-- ---- the next line was not served
+
+reading_fails : {b : Behaviour} {parts : List Part} {origin : Option HostLog} {before : Moment} {now : Point} (text : List ℕ) (after : Point) → Sound b before → Ongoing b parts origin before now
+    → ReadFails text (taken_in now) (taken_in after) → OnlyReads now.moment after.moment → Idles now after
+    → BreaksReading b (unlines (lines_in parts) ++ text) parts after.steps origin after.told before after.moment
+reading_fails {b} {parts} {origin} {before} {now} text after sound u r o idle =
+    let whole = whole_lines-unlines (lines_in parts) text u.plain r.plain in
+    let done = served_before after sound u o idle in
+    record {
+      read = record {
+        given = consumes_more before.left now.moment.left after.moment.left (unlines (lines_in parts)) text u.given r.given;
+        within = omega (arith, u.spent, r.within, length-append (unlines (lines_in parts)) text);
+      };
+      lines = whole;
+      attended = done.0;
+      answered = done.1;
+      one_fault = r.one_fault ∙ ap counted u.read_faults;
+      go_on = subst (All GoesOn) (sym whole) u.on;
+    }
+
+reading_past : {b : Behaviour} {parts : List Part} {origin : Option HostLog} {before : Moment} {now : Point} (text : List ℕ) (byte : ℕ) (after : Point) → Sound b before → Ongoing b parts origin before now
+    → ReadsTooMuch text byte (taken_in now) (taken_in after) → OnlyReads now.moment after.moment → Idles now after
+    → ReadsPast b (unlines (lines_in parts) ++ text) byte parts after.steps origin after.told before after.moment
+reading_past {b} {parts} {origin} {before} {now} text byte after sound u r o idle =
+    let whole = whole_lines-unlines (lines_in parts) text u.plain r.plain in
+    let done = served_before after sound u o idle in
+    record {
+      given = subst (λ t. Consumes before.left after.moment.left t) (sym (append_assoc (unlines (lines_in parts)) text (byte ∷ [])))
+          (consumes_more before.left now.moment.left after.moment.left (unlines (lines_in parts)) (text ++ byte ∷ []) u.given r.given);
+      full = omega (arith, u.spent, r.spent, length-append (unlines (lines_in parts)) text);
+      lines = whole;
+      attended = done.0;
+      answered = done.1;
+      same_faults = r.same_faults ∙ u.read_faults;
+      go_on = subst (All GoesOn) (sym whole) u.on;
+    }
+
+-- What was written could not go out.
+flushing_fails : {b : Behaviour} {parts : List Part} {origin : Option HostLog} {before : Moment} {now : Point} (after : Point) → Sound b before → Ongoing b parts origin before now
+    → OnlyWrites now.moment after.moment → Idles now after → after.moment.write_faults ≡ counted now.moment.write_faults
+    → BreaksWriting b (unlines (lines_in parts)) parts after.steps origin after.told before after.moment
+flushing_fails {b} {parts} {origin} {before} {now} after sound u o idle one = record {
+  read = record { given = subst (λ left. Consumes before.left left (unlines (lines_in parts))) (sym o.left) u.given; within = omega (arith, u.spent) };
+  whole = unlines-ends_lines (lines_in parts) after.moment.left;
+  lines = all_lines (lines_in parts) u.plain;
+  attended = attends_so_far b parts origin before after sound (ap (λ c. c.image) o.core ∙ u.image) (idle_stands origin _ now after o.core idle u.stands);
+  same_faults = o.same_faults ∙ u.read_faults;
+  one_fault = one ∙ ap counted u.write_faults;
+}
+
+-- The input was at its end.
+pub nothing_left : {b : Behaviour} {parts : List Part} {origin : Option HostLog} {before : Moment} {now : Point} (after : Point) → Sound b before → Ongoing b parts origin before now
+    → PartGives b (Ok None) now after → Completes b Closed (unlines (lines_in parts)) parts after.steps origin after.told before after.moment
+nothing_left {b} {parts} {origin} {before} {now} after sound u (r, o, idle) =
+    let all = all_lines (lines_in parts) u.plain in
+    let done = served_before after sound u o idle in
+    record {
+      read = record { given = consumes_kept before.left now.moment.left after.moment.left (unlines (lines_in parts)) u.given r.same; within = omega (arith, u.spent) };
+      lines = all;
+      attended = done.0;
+      answered = done.1;
+      same_faults = r.same_faults ∙ u.read_faults;
+      ends = (subst (All GoesOn) (sym all) u.on, r.at_end);
+    }
+
+-- ---- a line was read and attended to
+
+-- One more part, since the moment at the beginning.
+record Advances (b : Behaviour) (parts : List Part) (origin : Option HostLog) (input : List ℕ) (before : Moment) (after : Point) : Type 0 where
+  pub given : Consumes before.left after.moment.left input
+  pub spent : 16777216 ≡ length input + after.budget
+  pub read_faults : after.moment.read_faults ≡ before.read_faults
+  pub lines_are : lines_of input ≡ lines_in parts
+  pub image : after.moment.core.image ≡ before.core.image
+  pub stands : Stands origin (so_far b parts before) (standing after)
+
+lines_in-push : (parts : List Part) (part : Part) → lines_in (parts ++ part ∷ []) ≡ lines_in parts ++ part.line ∷ []
+lines_in-push parts part = map-append (λ (p : Part). p.line) parts (part ∷ [])
+
+so_far-push : (b : Behaviour) (parts : List Part) (part : Part) (before : Moment) → so_far b (parts ++ part ∷ []) before ≡ served b before.core.image part (so_far b parts before)
+so_far-push b parts part before = all_served-push b before.core.image parts part (emptied b before.core.image (begun before.core.state))
+
+served_stands : (b : Behaviour) (image : ImageParts) (part : Part) (origin : Option HostLog) (a : Account) (now : Point)
+    → Stands origin (attended b image part a) (standing now) → Stands origin (served b image part a) (standing now)
+served_stands b image part origin a now h = record { state_is = h.state_is; steps_are = h.steps_are; told_is = h.told_is }
+
+advances : {b : Behaviour} {parts : List Part} {origin : Option HostLog} {before : Moment} {now after : Point} {part : Part} {ended : Bool} → Ongoing b parts origin before now → ServesPart b part ended now after
+    → Advances b (parts ++ part ∷ []) origin (unlines (lines_in parts) ++ (part.line ++ ending ended)) before after
+advances {b} {parts} {origin} {before} {now} {after} {part} {ended} u m = record {
+  given = consumes_more before.left now.moment.left after.moment.left (unlines (lines_in parts)) (part.line ++ ending ended) u.given m.read.given;
+  spent = omega (arith, u.spent, m.read.spent, length-append (unlines (lines_in parts)) (part.line ++ ending ended));
+  read_faults = m.read.same_faults ∙ u.read_faults;
+  lines_are = lines_of-unlines (lines_in parts) (part.line ++ ending ended) u.plain ∙ ap (λ ls. lines_in parts ++ ls) (last_line part.line ended (IsAtEnd after.moment.left) m.read.plain m.read.last)
+      ∙ sym (lines_in-push parts part);
+  image = m.image ∙ u.image;
+  stands = subst (λ a. Stands origin a (standing after)) (sym (so_far-push b parts part before))
+      (served_stands b before.core.image part origin (so_far b parts before) after
+      (subst (λ image. Stands origin (attended b image part (so_far b parts before)) (standing after)) u.image (m.attends origin (so_far b parts before) u.stands)));
+}
+
+-- The reply could not be written.
+replying_fails : {b : Behaviour} {parts : List Part} {origin : Option HostLog} {before : Moment} {now after : Point} {part : Part} {ended : Bool} → Sound b before → Ongoing b parts origin before now
+    → ServesPart b part ended now after → after.moment.write_faults ≡ counted now.moment.write_faults
+    → BreaksWriting b (unlines (lines_in parts) ++ (part.line ++ ending ended)) (parts ++ part ∷ []) after.steps origin after.told before after.moment
+replying_fails {b} {parts} {origin} {before} {now} {after} {part} {ended} sound u m one =
+    let a = advances u m in
+    record {
+      read = record { given = a.given; within = omega (arith, a.spent) };
+      whole = inr (line_ends (unlines (lines_in parts)) part.line ended after.moment.left m.read.last);
+      lines = a.lines_are;
+      attended = attends_so_far b (parts ++ part ∷ []) origin before after sound a.image a.stands;
+      same_faults = a.read_faults;
+      one_fault = one ∙ ap counted u.write_faults;
+    }
+
+-- No reply was written.
+pub not_served : {b : Behaviour} {parts : List Part} {origin : Option HostLog} {before : Moment} {now : Point} (fault : SessionFault) (after : Point) → Sound b before → Ongoing b parts origin before now
+    → PartGives b (Err fault) now after → ConnectionGives b (Fault fault) after.steps origin after.told before after.moment
+not_served ReadFailed after sound u (text, r, o, idle) = (_, _, reading_fails text after sound u r o idle)
+not_served TooMuchInput after sound u (text, byte, r, o, idle) = (_, byte, _, reading_past text byte after sound u r o idle)
+not_served WriteFailed after sound u (one, inl (o, idle)) = (_, _, flushing_fails after sound u o idle one)
+not_served WriteFailed after sound u (one, inr (part, ended, m)) = (_, _, replying_fails sound u m one)
+
+-- And it was replied to.
+answers : {b : Behaviour} {parts : List Part} {origin : Option HostLog} {before : Moment} {now after : Point} {part : Part} {stop : Bool} → Ongoing b parts origin before now → AnswersPart b part stop now after
+    → HasAnswered b (parts ++ part ∷ []) before after.moment
+answers {b} {parts} {origin} {before} {now} {after} {part} u r =
+    let a = so_far b parts before in
+    record {
+      written = r.written origin a u.stands ∙ ap (λ image. append_known now.moment.written (spoken b image part a)) u.image
+          ∙ ap (λ k. append_known k (spoken b before.core.image part a)) u.written
+          ∙ append_known-append before.written a.said (spoken b before.core.image part a)
+          ∙ ap (λ said. append_known before.written (said ++ spoken b before.core.image part a)) (sym (attended_said b before.core.image part a))
+          ∙ ap (λ x. append_known before.written x.said) (sym (so_far-push b parts part before));
+      same_faults = r.same_faults ∙ u.write_faults;
+    }
+
+GoesOn-push : (parts : List Part) (part : Part) → All GoesOn (lines_in parts) → is_stop (client_asked part.line) ≡ false → All GoesOn (lines_in (parts ++ part ∷ []))
+GoesOn-push parts part on last = subst (All GoesOn) (sym (lines_in-push parts part)) (All-append GoesOn (lines_in parts) (part.line ∷ []) on (All-cons GoesOn part.line [] last (All-nil GoesOn)))
+
+-- The connection goes on after the line.
+goes_on : {b : Behaviour} {parts : List Part} {origin : Option HostLog} {before : Moment} {now after : Point} {part : Part} → Ongoing b parts origin before now
+    → ServesPart b part true now after → AnswersPart b part false now after → Ongoing b (parts ++ part ∷ []) origin before after
+goes_on {b} {parts} {origin} {before} {now} {after} {part} u m r =
+    let a = advances u m in
+    let said = answers u r in
+    let push = lines_in-push parts part in
+    let all : unlines (lines_in parts) ++ (part.line ++ 10 ∷ []) ≡ unlines (lines_in (parts ++ part ∷ [])) = sym (unlines-push (lines_in parts) part.line) ∙ ap unlines (sym push) in
+    record {
+      plain = subst ArePlain (sym push) (ArePlain-push (lines_in parts) part.line u.plain m.read.plain);
+      on = GoesOn-push parts part u.on (sym r.stops);
+      given = subst (λ t. Consumes before.left after.moment.left t) all a.given;
+      spent = a.spent ∙ ap (λ t. length t + after.budget) all;
+      read_faults = a.read_faults;
+      write_faults = said.same_faults;
+      image = a.image;
+      stands = a.stands;
+      written = said.written;
+    }
+
+-- ---- its end
+
+completes : {b : Behaviour} {parts : List Part} {origin : Option HostLog} {before : Moment} {now after : Point} {part : Part} {ended stop : Bool} (end : End) → Sound b before → Ongoing b parts origin before now
+    → ServesPart b part ended now after → AnswersPart b part stop now after
+    → EndsAs end (unlines (lines_in parts) ++ (part.line ++ ending ended)) after.steps after.moment
+    → Completes b end (unlines (lines_in parts) ++ (part.line ++ ending ended)) (parts ++ part ∷ []) after.steps origin after.told before after.moment
+completes {b} {parts} {origin} {before} {now} {after} {part} end sound u m r ends =
+    let a = advances u m in
+    record {
+      read = record { given = a.given; within = omega (arith, a.spent) };
+      lines = a.lines_are;
+      attended = attends_so_far b (parts ++ part ∷ []) origin before after sound a.image a.stands;
+      answered = answers u r;
+      same_faults = a.read_faults;
+      ends = ends;
+    }
+
+no_room : (steps : ℕ) → nat_lt (512 - steps) 65 ≡ true → 447 < steps
+no_room steps h = grind (arith, nat_tests)
+
+has_room : (steps : ℕ) → nat_lt (512 - steps) 65 ≡ false → steps ≤ 512 → steps + 65 ≤ 512
+has_room steps h within = grind (arith, nat_tests)
+
+-- Why it ends after a line.
+abbrev EndsBy : Bool → Bool → Bool → End → Type 0
+EndsBy stop full ended end =
+    ((end ≡ Stop) × (stop ≡ true)) ⊎ (((end ≡ Full) × (stop ≡ false) × (full ≡ true)) ⊎ ((end ≡ Closed) × (stop ≡ false) × (ended ≡ false)))
+
+abbrev end_by : Bool → Bool → Bool → Option End
+end_by stop full ended = cond stop (Some Stop) (cond full (Some Full) (cond ended None (Some Closed)))
+
+ends_by : (stop full ended : Bool) (end : End) → end_by stop full ended ≡ Some end → EndsBy stop full ended end
+ends_by true full ended end e = inl (cc, refl)
+ends_by false true ended end e = inr (inl (cc, refl, refl))
+ends_by false false false end e = inr (inr (cc, refl, refl))
+ends_by false false true end e = cc
+
+-- Why it goes on.
+record OnBy (stop full ended : Bool) : Type 0 where
+  pub not_stop : stop ≡ false
+  pub not_full : full ≡ false
+  pub is_ended : ended ≡ true
+
+on_by : (stop full ended : Bool) → end_by stop full ended ≡ None → OnBy stop full ended
+on_by true full ended e = cc
+on_by false true ended e = cc
+on_by false false false e = cc
+on_by false false true e = record { not_stop = refl; not_full = refl; is_ended = refl }
+
+ends_as : {b : Behaviour} {parts : List Part} {origin : Option HostLog} {before : Moment} {now after : Point} {part : Part} {ended stop : Bool} (end : End) → Ongoing b parts origin before now
+    → ServesPart b part ended now after → AnswersPart b part stop now after → EndsBy stop (nat_lt (512 - length after.steps) 65) ended end
+    → EndsAs end (unlines (lines_in parts) ++ (part.line ++ ending ended)) after.steps after.moment
+ends_as {b} {parts} {origin} {before} {now} {after} {part} {ended} {stop} end u m r (inl (is, stops)) =
+    subst (λ e. EndsAs e (unlines (lines_in parts) ++ (part.line ++ ending ended)) after.steps after.moment) (sym is)
+    (lines_in parts, part.line, (advances u m).lines_are ∙ lines_in-push parts part, u.on, sym r.stops ∙ stops, line_ends (unlines (lines_in parts)) part.line ended after.moment.left m.read.last)
+ends_as {b} {parts} {origin} {before} {now} {after} {part} {ended} {stop} end u m r (inr (inl (is, going, full))) =
+    subst (λ e. EndsAs e (unlines (lines_in parts) ++ (part.line ++ ending ended)) after.steps after.moment) (sym is) (
+      subst (All GoesOn) (sym (advances u m).lines_are) (GoesOn-push parts part u.on (sym r.stops ∙ going)),
+      no_room (length after.steps) full,
+      inr (line_ends (unlines (lines_in parts)) part.line ended after.moment.left m.read.last),
+    )
+ends_as {b} {parts} {origin} {before} {now} {after} {part} {ended} {stop} end u m r (inr (inr (is, going, over))) =
+    subst (λ e. EndsAs e (unlines (lines_in parts) ++ (part.line ++ ending ended)) after.steps after.moment) (sym is)
+    (subst (All GoesOn) (sym (advances u m).lines_are) (GoesOn-push parts part u.on (sym r.stops ∙ going)), (m.read.last over).1)
+
+-- ---- what was written last goes out, or does not
+
+-- The moment at which the writer tells this.
+abbrev pub at_end : Moment → Option (List ℕ) → Option ℕ → Moment
+at_end now written faults = record { core = now.core; left = now.left; written = written; read_faults = now.read_faults; write_faults = faults }
+
+ends_alike : (end : End) (input : List ℕ) (steps : List Step) (now : Moment) (written : Option (List ℕ)) (faults : Option ℕ) → EndsAs end input steps now → EndsAs end input steps (at_end now written faults)
+ends_alike Closed input steps now written faults e = e
+ends_alike Stop input steps now written faults e = e
+ends_alike Full input steps now written faults e = e
+ends_alike (Fault fault) input steps now written faults e = e
+
+attended_alike : {b : Behaviour} {parts : List Part} {steps : List Step} {told told' : Option HostLog} {before now : Moment} (written : Option (List ℕ)) (faults : Option ℕ)
+    → HasAttended b parts steps told told' before now → HasAttended b parts steps told told' before (at_end now written faults)
+attended_alike written faults a = record { image = a.image; state = a.state; steps_are = a.steps_are; told_is = a.told_is; keeps = a.keeps }
+
+goes_out : {b : Behaviour} {end : End} {input : List ℕ} {parts : List Part} {steps : List Step} {told told' : Option HostLog} {before now : Moment} (written : Option (List ℕ)) (faults : Option ℕ)
+    → Completes b end input parts steps told told' before now → written ≡ append_known now.written [] → faults ≡ now.write_faults
+    → Completes b end input parts steps told told' before (at_end now written faults)
+goes_out {end = end} {input} {steps = steps} {now = now} written faults c put same = record {
+  read = record { given = c.read.given; within = c.read.within };
+  lines = c.lines;
+  attended = attended_alike written faults c.attended;
+  answered = record { written = put ∙ append_known-nil now.written ∙ c.answered.written; same_faults = same ∙ c.answered.same_faults };
+  same_faults = c.same_faults;
+  ends = ends_alike end input steps now written faults c.ends;
+}
+
+whole_at_end : (end : End) (input : List ℕ) (steps : List Step) (now : Moment) → EndsAs end input steps now → EndsLines input now.left
+whole_at_end Closed input steps now e = inr (inr e.1)
+whole_at_end Stop input steps now e = inr e.5
+whole_at_end Full input steps now e = e.2
+whole_at_end (Fault fault) input steps now e = absurd e
+
+stays_in : {b : Behaviour} {end : End} {input : List ℕ} {parts : List Part} {steps : List Step} {told told' : Option HostLog} {before now : Moment} (written : Option (List ℕ)) (faults : Option ℕ)
+    → Completes b end input parts steps told told' before now → faults ≡ counted now.write_faults
+    → BreaksWriting b input parts steps told told' before (at_end now written faults)
+stays_in {end = end} {input} {steps = steps} {now = now} written faults c one = record {
+  read = record { given = c.read.given; within = c.read.within };
+  whole = whole_at_end end input steps now c.ends;
+  lines = c.lines;
+  attended = attended_alike written faults c.attended;
+  same_faults = c.same_faults;
+  one_fault = one ∙ ap counted c.answered.same_faults;
+}
+
+completed : (b : Behaviour) (end : End) (input : List ℕ) (parts : List Part) (steps : List Step) (told told' : Option HostLog) (before now : Moment)
+    → Completes b end input parts steps told told' before now → ConnectionGives b end steps told told' before now
+completed b Closed input parts steps told told' before now c = (input, parts, c)
+completed b Stop input parts steps told told' before now c = (input, parts, c)
+completed b Full input parts steps told told' before now c = (input, parts, c)
+completed b (Fault fault) input parts steps told told' before now c = absurd c.ends
+
+-- The connection ended after a line.
+pub ends_after : {b : Behaviour} {parts : List Part} {origin : Option HostLog} {before : Moment} {now : Point} (line : ServedLine) (end result : End) (after : Point) (written : Option (List ℕ)) (faults : Option ℕ)
+    → Sound b before → Ongoing b parts origin before now → PartGives b (Ok (Some line)) now after → Some end ≡ end_of line (length after.steps)
+    → FlushGives end result after.moment.written written after.moment.write_faults faults
+    → ConnectionGives b result after.steps origin after.told before (at_end after.moment written faults)
+ends_after {b} {origin = origin} {before} line end result after written faults sound u (part, m, r) is (inl (same, put, kept)) =
+    subst (λ e. ConnectionGives b e after.steps origin after.told before (at_end after.moment written faults)) (sym same)
+    (completed b end _ _ after.steps origin after.told before _ (goes_out written faults (completes end sound u m r (ends_as end u m r (ends_by line.is_stop _ line.is_ended end (sym is)))) put kept))
+ends_after {b} {origin = origin} {before} line end result after written faults sound u (part, m, r) is (inr (broken, one)) =
+    subst (λ e. ConnectionGives b e after.steps origin after.told before (at_end after.moment written faults)) (sym broken)
+    (_, _, stays_in written faults (completes end sound u m r (ends_as end u m r (ends_by line.is_stop _ line.is_ended end (sym is)))) one)
+
+-- The connection goes on after a line.
+pub record GoesFurther (b : Behaviour) (origin : Option HostLog) (before : Moment) (after : Point) : Type 0 where
+  pub parts : List Part
+  pub ongoing : Ongoing b parts origin before after
+
+pub goes_further : {b : Behaviour} {parts : List Part} {origin : Option HostLog} {before : Moment} {now : Point} (line : ServedLine) (after : Point)
+    → Ongoing b parts origin before now → PartGives b (Ok (Some line)) now after → None ≡ end_of line (length after.steps) → GoesFurther b origin before after
+goes_further {b} {parts} {origin} {before} {now} line after u (part, m, r) is =
+    let on = on_by line.is_stop _ line.is_ended (sym is) in
+    record {
+      parts = parts ++ part ∷ [];
+      ongoing = goes_on u (subst (λ ended. ServesPart b part ended now after) on.is_ended m) (subst (λ stop. AnswersPart b part stop now after) on.not_stop r);
+    }
+
+pub room_left : (line : ServedLine) (steps : ℕ) → None ≡ end_of line steps → steps ≤ 512 → steps + 65 ≤ 512
+room_left line steps is within =
+    let on = on_by line.is_stop (nat_lt (512 - steps) 65) line.is_ended (sym is) in
+    has_room steps on.not_full within
+
+-- Only where no room is left it ends so.
+pub full_without_room : (line : ServedLine) (steps : ℕ) (end result : End) (written written' : Option (List ℕ)) (faults faults' : Option ℕ)
+    → Some end ≡ end_of line steps → FlushGives end result written written' faults faults' → result ≡ Full → 447 < steps
+full_without_room line steps end result written written' faults faults' is (inr (broken, one)) full = cc
+full_without_room line steps end result written written' faults faults' is (inl (same, put, kept)) full =
+    elim (ends_by line.is_stop (nat_lt (512 - steps) 65) line.is_ended end (sym is)) [
+      | inl stop ↦ cc
+      | inr (inl why) ↦ no_room steps why.2
+      | inr (inr closed) ↦ cc
+    ]
+
+-- ---- whatever its end was
+
+-- Parts were attended to, and the steps are theirs.
+pub record Attended (b : Behaviour) (steps : List Step) (told told' : Option HostLog) (before after : Moment) : Type 0 where
+  pub parts : List Part
+  pub attended : HasAttended b parts steps told told' before after
+  pub keeps : Keeps b before.core.image (lines_in parts) steps (so_far b parts before).log before.core.state after.core.state
+
+these : {b : Behaviour} {parts : List Part} {steps : List Step} {told told' : Option HostLog} {before after : Moment} → HasAttended b parts steps told told' before after → Attended b steps told told' before after
+these {parts = parts} a = record { parts = parts; attended = a; keeps = a.keeps }
+
+pub was_attended : {b : Behaviour} {steps : List Step} {told told' : Option HostLog} {before after : Moment} (end : End) → ConnectionGives b end steps told told' before after → Attended b steps told told' before after
+was_attended (Fault ReadFailed) (input, parts, r) = these r.attended
+was_attended (Fault WriteFailed) (input, parts, r) = these r.attended
+was_attended (Fault TooMuchInput) (input, byte, parts, r) = these r.attended
+was_attended Closed (input, parts, r) = these r.attended
+was_attended Stop (input, parts, r) = these r.attended
+was_attended Full (input, parts, r) = these r.attended

@@ -1,0 +1,5 @@
+use Rattle.std.proofs.Common.{sym, ◌∙◌}
+use Rattle.ifs_session.proofs.service.answer.Goals as goal
+
+pub returns-in-Some-clause-acts : goal.returns-in-Some-clause-acts
+returns-in-Some-clause-acts g c = λ b h. rw (sym c.step_of.ensures ∙ c.in-Some.is) (c.make-outcome.ensures.carries b h)
