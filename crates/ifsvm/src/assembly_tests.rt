@@ -1,7 +1,7 @@
 //! What `disasm` and `asm` answer.
 
 use crate::answering::answer;
-use crate::task::Task;
+use crate::task::{Answer, Task};
 use ifs_rows::{bytes_of, cost_through_calls, images, refusals, rows};
 use std::alloc::Global;
 use std::process::Abort;
@@ -37,11 +37,11 @@ fn check_back(
         return Ok(());
     }
     assert_eq!(rt; listing.status, 0, "{name}");
-    let back = answer(alloc, Task::Asm, listing.text.as_bytes(), &[])?;
-    assert_eq!(rt; back.status, 0, "{name}");
+    let Answer { status, text, file } = answer(alloc, Task::Asm, listing.text.as_bytes(), &[])?;
+    assert_eq!(rt; status, 0, "{name}");
     let told = format!(in alloc; "ok {} bytes\n", bytes.len())?;
-    assert_eq!(rt; back.text.as_str(), told.as_str(), "{name}");
-    let Some(file) = back.file else {
+    assert_eq!(rt; text.as_str(), told.as_str(), "{name}");
+    let Some(file) = file else {
         return Err(Fail::from("no image"));
     };
     assert_eq!(rt; file.as_slice(), bytes.as_slice(), "{name}");
