@@ -9,6 +9,8 @@ mod answering;
 mod checking;
 mod command_line;
 mod compiling;
+#[cfg(test)]
+mod compiling_tests;
 mod definitions;
 mod ending;
 mod files;
