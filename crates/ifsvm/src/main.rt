@@ -13,6 +13,8 @@ mod checking;
 mod children;
 mod command_line;
 mod compiling;
+#[cfg(test)]
+mod compiling_tests;
 mod definitions;
 mod disassembling;
 mod ending;
