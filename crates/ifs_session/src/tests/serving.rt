@@ -47,12 +47,16 @@ fn macros(rt: HostRuntime) -> Result<(), Fail> {
     assert_eq!(rt; served.steps.as_slice(), steps.as_slice());
     assert_eq!(rt; served.end, End::Stop);
     assert!(rt; host.whole());
-    assert_eq!(rt; host.starts().len(), 1);
-    assert_eq!(rt; host.starts()[0].test(), TestId(0));
-    assert_eq!(rt; host.starts()[0].run(), 1);
-    assert_eq!(rt; host.starts()[0].text(), b"ping -q -c 1 host".as_slice());
-    assert_eq!(rt; host.texts().len(), 1);
-    assert_eq!(rt; host.texts()[0].as_bytes(), b"echo d".as_slice());
+    let [start] = host.starts() else {
+        panic!(rt; "one test is started")
+    };
+    assert_eq!(rt; start.test(), TestId(0));
+    assert_eq!(rt; start.run(), 1);
+    assert_eq!(rt; start.text(), b"ping -q -c 1 host".as_slice());
+    let [text] = host.texts() else {
+        panic!(rt; "one command is run")
+    };
+    assert_eq!(rt; text.as_bytes(), b"echo d".as_slice());
     assert_eq!(rt; host.polls(), [None, ended, None, None].as_slice());
     Ok(())
 }
@@ -101,7 +105,10 @@ fn what_hosts_do_is_no_request(rt: HostRuntime) -> Result<(), Fail> {
     assert_eq!(rt; served.end, End::Closed);
     let steps = [Step::Link(IfaceId(0), LinkState::Up), Step::Take];
     assert_eq!(rt; served.steps.as_slice(), steps.as_slice());
-    assert_eq!(rt; host.texts()[0].as_bytes(), b"echo m".as_slice());
+    let [text] = host.texts() else {
+        panic!(rt; "one command is run")
+    };
+    assert_eq!(rt; text.as_bytes(), b"echo m".as_slice());
     Ok(())
 }
 
@@ -121,8 +128,10 @@ fn queues_are_run(rt: HostRuntime) -> Result<(), Fail> {
         [Step::Take, Step::Take, Step::Take].as_slice()
     );
     assert_eq!(rt; core.queue_len(), 0);
-    assert_eq!(rt; host.texts().len(), 3);
-    assert_eq!(rt; host.texts()[2].as_bytes(), b"echo m".as_slice());
+    let [_, _, last] = host.texts() else {
+        panic!(rt; "three commands are run")
+    };
+    assert_eq!(rt; last.as_bytes(), b"echo m".as_slice());
     Ok(())
 }
 
