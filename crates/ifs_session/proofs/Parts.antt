@@ -87,6 +87,7 @@ attends_so_far b parts origin before now sound image stands = record {
   keeps = subst (λ steps. Keeps b before.core.image (lines_in parts) steps (so_far b parts before).log before.core.state now.moment.core.state) (sym stands.steps_are)
       (subst (λ s. Keeps b before.core.image (lines_in parts) (so_far b parts before).steps (so_far b parts before).log before.core.state s) (sym stands.state_is)
       (account_keeps b before.core.image parts before.core.state sound.kept sound.at));
+  each_empties = λ front rest are. (account_keeps b before.core.image front before.core.state sound.kept sound.at).empty;
 }
 
 idle_stands : (origin : Option HostLog) (a : Account) (now after : Point) → after.moment.core ≡ now.moment.core → Idles now after → Stands origin a (standing now) → Stands origin a (standing after)
@@ -343,7 +344,7 @@ ends_alike (Fault fault) input steps now written faults e = e
 
 attended_alike : {b : Behaviour} {parts : List Part} {steps : List Step} {told told' : Option HostLog} {before now : Moment} (written : Option (List ℕ)) (faults : Option ℕ)
     → HasAttended b parts steps told told' before now → HasAttended b parts steps told told' before (at_end now written faults)
-attended_alike written faults a = record { image = a.image; state = a.state; steps_are = a.steps_are; told_is = a.told_is; keeps = a.keeps }
+attended_alike written faults a = record { image = a.image; state = a.state; steps_are = a.steps_are; told_is = a.told_is; keeps = a.keeps; each_empties = a.each_empties }
 
 goes_out : {b : Behaviour} {end : End} {input : List ℕ} {parts : List Part} {steps : List Step} {told told' : Option HostLog} {before now : Moment} (written : Option (List ℕ)) (faults : Option ℕ)
     → Completes b end input parts steps told told' before now → written ≡ append_known now.written [] → faults ≡ now.write_faults

@@ -57,13 +57,14 @@ lines_in parts = map (λ part. part.line) parts
 abbrev pub GoesOn : List ℕ → Type 0
 GoesOn line = is_stop (client_asked line) ≡ false
 
--- From one moment to another these parts were attended to, of a host that told this before and tells that now.
+-- From one moment to another these parts were attended to, of a host that told this before and tells that now. Each of them left the queue empty.
 pub record HasAttended (b : Behaviour) (parts : List Part) (steps : List Step) (told told' : Option HostLog) (before after : Moment) : Type 0 where
   pub image : after.core.image ≡ before.core.image
   pub state : after.core.state ≡ (account b before.core.image parts before.core.state).state
   pub steps_are : steps ≡ (account b before.core.image parts before.core.state).steps
   pub told_is : Adds (account b before.core.image parts before.core.state).log told told'
   pub keeps : Keeps b before.core.image (lines_in parts) steps (account b before.core.image parts before.core.state).log before.core.state after.core.state
+  pub each_empties : (front rest : List Part) → parts ≡ front ++ rest → (account b before.core.image front before.core.state).state.queue ≡ []
 
 -- And each was replied to, in order, and nothing else was written.
 pub record HasAnswered (b : Behaviour) (parts : List Part) (before after : Moment) : Type 0 where
