@@ -1,5 +1,6 @@
 -- Words by how many they are.
 use Rattle.std.proofs.Common.{◌≡◌, ℕ, ◌<◌, ◌≤◌, List, [], ◌∷◌, length, map, get_or, Option, Some, None, refl, arith}
+use Rattle.ifs_asm.specs.declared.line.Line.{Line}
 use Rattle.ifs_asm.specs.inner.Forms.{line_of, state_line, handlers_in}
 
 pub none_short : {X : Type 0} (view : X → List ℕ) (xs : List X) → length xs < 1 → None ≡ line_of (map view xs)
@@ -40,3 +41,16 @@ eight view (a ∷ b ∷ c ∷ d ∷ e ∷ f ∷ []) p q r s t u v w le lt = absu
 eight view (a ∷ b ∷ c ∷ d ∷ e ∷ f ∷ g ∷ []) p q r s t u v w le lt = absurd (omega (arith, le))
 eight view (a ∷ b ∷ c ∷ d ∷ e ∷ f ∷ g ∷ h ∷ []) p q r s t u v w le lt = refl
 eight view (a ∷ b ∷ c ∷ d ∷ e ∷ f ∷ g ∷ h ∷ i ∷ xs) p q r s t u v w le lt = absurd (omega (arith, lt))
+
+pub eight_from : {X : Type 0} (view : X → List ℕ) (xs : List X) (o : Option Line) → 8 ≤ length xs → length xs < 9
+    → ((a b c d e f g h : X) → xs ≡ a ∷ b ∷ c ∷ d ∷ e ∷ f ∷ g ∷ h ∷ [] → o ≡ state_line (view a) (view b) (handlers_in (view c) (view d) (view e) (view f) (view g) (view h))) → o ≡ line_of (map view xs)
+eight_from view [] o le lt k = absurd (omega (arith, le))
+eight_from view (a ∷ []) o le lt k = absurd (omega (arith, le))
+eight_from view (a ∷ b ∷ []) o le lt k = absurd (omega (arith, le))
+eight_from view (a ∷ b ∷ c ∷ []) o le lt k = absurd (omega (arith, le))
+eight_from view (a ∷ b ∷ c ∷ d ∷ []) o le lt k = absurd (omega (arith, le))
+eight_from view (a ∷ b ∷ c ∷ d ∷ e ∷ []) o le lt k = absurd (omega (arith, le))
+eight_from view (a ∷ b ∷ c ∷ d ∷ e ∷ f ∷ []) o le lt k = absurd (omega (arith, le))
+eight_from view (a ∷ b ∷ c ∷ d ∷ e ∷ f ∷ g ∷ []) o le lt k = absurd (omega (arith, le))
+eight_from view (a ∷ b ∷ c ∷ d ∷ e ∷ f ∷ g ∷ h ∷ []) o le lt k = k a b c d e f g h refl
+eight_from view (a ∷ b ∷ c ∷ d ∷ e ∷ f ∷ g ∷ h ∷ i ∷ xs) o le lt k = absurd (omega (arith, lt))

@@ -47,7 +47,10 @@ pub(crate) struct HandlersForm {
 }
 
 /// The line that words say; `None` where they have no form.
-pub(crate) fn form_of(alloc: Global, words: &[&[u8]]) -> Result<Option<Formed>, AllocError> {
+#[tactic(auto, using(crate::proofs::Shapes::none_short, crate::proofs::Shapes::none_middle, crate::proofs::Shapes::none_long, crate::proofs::Shapes::eight))]
+pub(crate) fn form_of(alloc: Global, words: &[&[u8]]) -> Result<Option<Formed>, AllocError>
+    ensures { IfOk result (λ form. formed form ≡ line_of (map (λ word. word.now) words.now)) }
+{
     match words {
         [] => Ok(None),
         [name] => Ok(one_word(name)),

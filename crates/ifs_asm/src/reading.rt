@@ -1,9 +1,12 @@
 //! Text to image, line by line.
 
-ghost use Rattle.std.specs.Prelude.{◌≡◌, ◌<◌, ◌==◌, ◌++◌, length};
+ghost use Rattle.std.specs.Prelude.{◌≡◌, ◌≢◌, ◌<◌, ◌==◌, Some, None, ◌++◌, MatchResult, IfOk, IfErr, length};
 ghost use Rattle.std.specs.List.{position};
-ghost use Rattle.ifs_asm.specs.Spellings.{spoken};
-ghost use Rattle.ifs_asm.specs.inner.Building.{spoken_line};
+ghost use Rattle.ifs_image.specs.declared.parts.ImageParts.{ImageParts};
+ghost use Rattle.ifs_asm.specs.declared.fault.AsmFault.TheVariants.{Memory};
+ghost use Rattle.ifs_asm.specs.declared.fault.LineFault.TheVariants as faults;
+ghost use Rattle.ifs_asm.specs.Spellings.{Spells, spoken};
+ghost use Rattle.ifs_asm.specs.inner.Building.{built_by, nothing, spoken_line};
 
 use crate::building::Building;
 use crate::fault::{AsmFault, LineFault};
@@ -16,7 +19,10 @@ use std::alloc::Global;
 ///
 /// A1 to A3 name the first line with a fault, counted from 1; a part that is missing at the end is told at
 /// the number of lines plus 1. A0 comes where a growth was refused, wherever that is.
-pub fn assemble(alloc: Global, text: &str) -> Result<Image, AsmFault> {
+pub fn assemble(alloc: Global, text: &str) -> Result<Image, AsmFault>
+    ensures spelled { IfOk result (λ image. Spells text.now image) }
+    ensures refused { IfErr result (λ fault. fault ≢ Memory → (image : ImageParts) → Spells text.now image → ⊥) }
+{
     let mut building = Building::new(alloc);
     let mut left = text.as_bytes();
     let mut line = 1u64;
@@ -56,7 +62,11 @@ fn newline(text: &[u8]) -> Option<usize>
 }
 
 /// Takes a line, unless it is empty or a comment.
-fn take_line(alloc: Global, building: &mut Building, line: &[u8]) -> Result<(), LineFault> {
+fn take_line(alloc: Global, building: &mut Building, line: &[u8]) -> Result<(), LineFault>
+    ensures { MatchResult result
+        (λ _. built_by building.old (spoken_line line.now) ≡ Some building.new)
+        (λ fault. fault ≢ faults.Memory → built_by building.old (spoken_line line.now) ≡ None) }
+{
     if is_silent(line) {
         return Ok(());
     }
