@@ -1,3 +1,17 @@
 mod Puts
 mod Masks
 mod Runs
+mod Bytes
+mod Cutting
+mod Quotes
+mod MaskLists
+mod FormLaws
+mod FormFound
+mod TextLaws
+mod BuildAgain
+mod BuildFound
+mod ImageLaws
+mod Cuts
+mod Steps
+mod Utf8
+mod Shapes

@@ -7,7 +7,7 @@ use Rattle.std.proofs.lemmas.List.{take_all, drop_all, append-nil}
 use Rattle.std.proofs.lemmas.List.Sums.{prefix_len-le-length, prefix_len_stops}
 use Rattle.std.proofs.lemmas.Bool.Decides.{nat_tests}
 use Rattle.ifs_base.specs.Words.{quoted_byte}
-use Rattle.ifs_asm.specs.inner.Quoting.{is_plain}
+use Rattle.ifs_asm.specs.Spellings.{is_plain}
 
 plain_byte : (b : ℕ) → is_plain b ≡ true → quoted_byte b ≡ b ∷ []
 plain_byte b h = grind (arith, nat_tests)

@@ -11,56 +11,70 @@ use Rattle.ifs_image.specs.declared.parts.ImageParts.{ImageParts}
 use Rattle.ifs_asm.specs.declared.line.Line.{Line}
 use Rattle.ifs_asm.specs.declared.line.Line.TheVariants as lines
 
--- The words of an instruction: its name, and its operand where it has one.
-abbrev pub op_words : Op → List (List ℕ)
-op_words Ret = codes "ret" ∷ []
-op_words Yes = codes "true" ∷ []
-op_words No = codes "false" ∷ []
-op_words (Link n s) = codes "link" ∷ decimal n.0 ∷ link_word s ∷ []
-op_words (Test n) = codes "test" ∷ decimal n.0 ∷ []
-op_words (Known n) = codes "known" ∷ decimal n.0 ∷ []
-op_words Negate = codes "not" ∷ []
-op_words Both = codes "and" ∷ []
-op_words Either = codes "or" ∷ []
-op_words (PushCommand n) = codes "cmd" ∷ decimal n.0 ∷ []
-op_words (PushState n) = codes "state" ∷ decimal n.0 ∷ []
-op_words Queue = codes "queue" ∷ []
-op_words Want = codes "want" ∷ []
-op_words (Jump n) = codes "jump" ∷ decimal n ∷ []
-op_words (JumpFalse n) = codes "jf" ∷ decimal n ∷ []
-op_words (JumpTrue n) = codes "jt" ∷ decimal n ∷ []
-op_words (Call n) = codes "call" ∷ decimal n.0 ∷ []
-op_words Pop = codes "pop" ∷ []
-op_words Dup = codes "dup" ∷ []
-
 -- The tests of a mask that it names from a test on, so many of them looked at, ascending: its bit of weight 2 ^ t is test t.
 unfoldable pub tests_from : ℕ → ℕ → ℕ → List ℕ
 tests_from zero t mask = []
 tests_from (suc n) t mask = if bit_at mask t == 1 then t ∷ tests_from n (t + 1) mask else tests_from n (t + 1) mask
 
--- The tests of a mask.
+-- The tests of a mask, ascending.
 unfoldable pub tests_of : ℕ → List ℕ
 tests_of mask = tests_from 64 0 mask
 
+-- A word of a line, by what it says: a word that stands as it is, a number, a text in quotes, or the tests of a mask.
+pub data Word : Type 0 where
+  Key : (text : List ℕ) → Word
+  Number : (n : ℕ) → Word
+  Quoted : (text : List ℕ) → Word
+  Tests : (mask : ℕ) → Word
+
+-- A word as it is written: a number in decimal digits, the tests of a mask with commas between them.
+abbrev pub written : Word → List ℕ
+written (Key text) = text
+written (Number n) = decimal n
+written (Quoted text) = quoted text
+written (Tests mask) = listed (map decimal (tests_of mask))
+
+-- The words of an instruction: its name, and its operand where it has one.
+abbrev pub op_words : Op → List Word
+op_words Ret = Key (codes "ret") ∷ []
+op_words Yes = Key (codes "true") ∷ []
+op_words No = Key (codes "false") ∷ []
+op_words (Link n s) = Key (codes "link") ∷ Number n.0 ∷ Key (link_word s) ∷ []
+op_words (Test n) = Key (codes "test") ∷ Number n.0 ∷ []
+op_words (Known n) = Key (codes "known") ∷ Number n.0 ∷ []
+op_words Negate = Key (codes "not") ∷ []
+op_words Both = Key (codes "and") ∷ []
+op_words Either = Key (codes "or") ∷ []
+op_words (PushCommand n) = Key (codes "cmd") ∷ Number n.0 ∷ []
+op_words (PushState n) = Key (codes "state") ∷ Number n.0 ∷ []
+op_words Queue = Key (codes "queue") ∷ []
+op_words Want = Key (codes "want") ∷ []
+op_words (Jump n) = Key (codes "jump") ∷ Number n ∷ []
+op_words (JumpFalse n) = Key (codes "jf") ∷ Number n ∷ []
+op_words (JumpTrue n) = Key (codes "jt") ∷ Number n ∷ []
+op_words (Call n) = Key (codes "call") ∷ Number n.0 ∷ []
+op_words Pop = Key (codes "pop") ∷ []
+op_words Dup = Key (codes "dup") ∷ []
+
 -- The words of handlers: their routines, and the tests of their mask.
-abbrev pub handlers_words : Handlers → List (List ℕ)
+abbrev pub handlers_words : Handlers → List Word
 handlers_words h =
-    codes "init" ∷ decimal h.init.0 ∷ codes "body" ∷ decimal h.body.0 ∷ codes "tests" ∷ listed (map decimal (tests_of h.mask)) ∷ []
+    Key (codes "init") ∷ Number h.init.0 ∷ Key (codes "body") ∷ Number h.body.0 ∷ Key (codes "tests") ∷ Tests h.mask ∷ []
 
 -- The words of a line.
-abbrev pub words_of : Line → List (List ℕ)
-words_of lines.Version = codes "ifsv" ∷ codes "1" ∷ []
-words_of (lines.Stack n) = codes "stack" ∷ decimal n ∷ []
-words_of (lines.Frames n) = codes "frames" ∷ decimal n ∷ []
-words_of (lines.Cost n) = codes "cost" ∷ decimal n ∷ []
-words_of (lines.Commands n) = codes "commands" ∷ decimal n ∷ []
-words_of (lines.Start n) = codes "start" ∷ decimal n.0 ∷ []
-words_of (lines.Always h) = codes "always" ∷ handlers_words h
-words_of (lines.Interface name) = codes "iface" ∷ quoted name ∷ []
-words_of (lines.Test t) = codes "test" ∷ decimal t.period ∷ quoted t.text ∷ []
-words_of (lines.Command text) = codes "command" ∷ quoted text ∷ []
-words_of (lines.State s) = codes "state" ∷ quoted s.name ∷ handlers_words s.handlers
-words_of (lines.Routine results) = codes "routine" ∷ codes "results" ∷ decimal results ∷ []
+abbrev pub words_of : Line → List Word
+words_of lines.Version = Key (codes "ifsv") ∷ Key (codes "1") ∷ []
+words_of (lines.Stack n) = Key (codes "stack") ∷ Number n ∷ []
+words_of (lines.Frames n) = Key (codes "frames") ∷ Number n ∷ []
+words_of (lines.Cost n) = Key (codes "cost") ∷ Number n ∷ []
+words_of (lines.Commands n) = Key (codes "commands") ∷ Number n ∷ []
+words_of (lines.Start n) = Key (codes "start") ∷ Number n.0 ∷ []
+words_of (lines.Always h) = Key (codes "always") ∷ handlers_words h
+words_of (lines.Interface name) = Key (codes "iface") ∷ Quoted name ∷ []
+words_of (lines.Test t) = Key (codes "test") ∷ Number t.period ∷ Quoted t.text ∷ []
+words_of (lines.Command text) = Key (codes "command") ∷ Quoted text ∷ []
+words_of (lines.State s) = Key (codes "state") ∷ Quoted s.name ∷ handlers_words s.handlers
+words_of (lines.Routine results) = Key (codes "routine") ∷ Key (codes "results") ∷ Number results ∷ []
 words_of (lines.Instruction op) = op_words op
 
 -- Words with a space between them.
@@ -70,7 +84,7 @@ spaced (word ∷ words) = word ++ flat_map (λ other. codes " " ++ other) words
 
 -- The text of a line, and its newline.
 abbrev pub line_text : Line → List ℕ
-line_text line = spaced (words_of line) ++ codes "\n"
+line_text line = spaced (map written (words_of line)) ++ codes "\n"
 
 -- The lines of a routine.
 abbrev pub routine_lines : Routine → List Line

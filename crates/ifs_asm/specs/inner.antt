@@ -1,3 +1,5 @@
 -- What only private functions promise one another.
-pub mod Quoting
 pub mod Lists
+pub mod Words
+pub mod Forms
+pub mod Building

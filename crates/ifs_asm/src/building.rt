@@ -1,12 +1,24 @@
 //! An image that is built line by line.
 
+ghost use Rattle.std.specs.Prelude.{◌≡◌, ◌≢◌, ◌++◌, ◌∷◌, [], Some, None, MatchResult, OnOk, IfErr, option_and_then};
+ghost use Rattle.ifs_asm.specs.declared.fault.LineFault.TheVariants as faults;
+ghost use Rattle.std.specs.Prelude.{IfOk};
+ghost use Rattle.std.specs.List.{list_any};
+ghost use Rattle.std.specs.Str.{bytes_eq};
+ghost use Rattle.ifs_image.specs.Limits.{names_of};
+ghost use Rattle.ifs_image.specs.Reading.{stands_in};
+ghost use Rattle.ifs_base.specs.declared.op.Op.TheVariants.{Ret};
+ghost use Rattle.ifs_asm.specs.declared.line.Line.TheVariants as lines;
+ghost use Rattle.ifs_asm.specs.inner.Forms.{formed};
+ghost use Rattle.ifs_asm.specs.inner.Building.{Built, has_name, is_full, is_in_order, with_line, step, nothing, parts_of};
+
 use crate::fault::LineFault;
-use crate::forms::{Form, HandlersForm, u16_of};
+use crate::forms::Formed;
 use crate::line::Line;
-use crate::lists::ListForm;
-use ifs_base::{Items, Number, Op, RoutineId, StateId, Text};
+use ifs_base::{Items, Op, RoutineId, StateId, Text};
 use ifs_image::{Budgets, Handlers, Image, ImageParts, Routine, StateSpec, TestSpec, limits};
-use std::alloc::Global;
+use std::alloc::{AllocError, Global};
+use std::marker::Model;
 
 /// The lines before the tables.
 const FRONT: u8 = 7;
@@ -27,15 +39,37 @@ pub(crate) struct Building {
     /// Those that are whole.
     routines: Vec<Routine>,
     /// The results of the routine that instructions go to, and they.
-    open: Option<u8>,
+    current: Option<u8>,
     code: Vec<Op>,
-    /// How many instructions all routines have.
-    instructions: usize,
+    /// How many instructions all routines have, up to 65,535.
+    count: u16,
+}
+
+impl Model for Building {
+    ghost use Rattle.ifs_asm.specs.inner.Building.{Built, opened};
+
+    ghost Value = { Built };
+
+    ghost view = { λ a. record {
+      front = a.front;
+      budgets = a.budgets;
+      initial = a.initial;
+      always = a.always;
+      interfaces = a.interfaces.items;
+      tests = a.tests.items;
+      commands = a.commands.items;
+      states = a.states.items;
+      routines = a.routines.items;
+      current = opened a.current a.code.items;
+      count = a.count;
+    } };
 }
 
 impl Building {
     /// Nothing was said yet.
-    pub(crate) fn new(alloc: Global) -> Self {
+    pub(crate) fn new(alloc: Global) -> Self
+        ensures { result ≡ nothing }
+    {
         Building {
             alloc,
             front: 0,
@@ -56,70 +90,91 @@ impl Building {
             commands: Vec::new(alloc),
             states: Vec::new(alloc),
             routines: Vec::new(alloc),
-            open: None,
+            current: None,
             code: Vec::new(alloc),
-            instructions: 0,
+            count: 0,
         }
     }
 
     /// Takes a line that fits a form.
-    pub(crate) fn take(&mut self, form: Form) -> Result<(), LineFault> {
-        if self.has_name(&form) {
+    pub(crate) fn take(&mut self, form: Formed) -> Result<(), LineFault>
+        ensures { MatchResult result
+            (λ _. option_and_then (step self.old) (formed (Some form)) ≡ Some self.new)
+            (λ fault. fault ≢ faults.Memory → option_and_then (step self.old) (formed (Some form)) ≡ None) }
+    {
+        self.check(&form)?;
+        self.add(form.line)?;
+        Ok(())
+    }
+
+    /// Whether a line may be said now: its name is new, it is in its range, its table has room, and it is in order.
+    fn check(&self, form: &Formed) -> Result<(), LineFault>
+        ensures { MatchResult result
+            (λ _. option_and_then (step self.now) (formed (Some form.now)) ≡ Some (with_line self.now form.now.line))
+            (λ _. option_and_then (step self.now) (formed (Some form.now)) ≡ None) }
+    {
+        if self.has_name(&form.line) {
             return Err(LineFault::Unknown);
         }
-        let Some(line) = line_of(form) else {
-            return Err(LineFault::OutOfRange);
-        };
-        if self.is_full(&line) {
+        if !form.fits || self.is_full(&form.line) {
             return Err(LineFault::OutOfRange);
         }
-        if !self.is_in_order(&line) {
+        if !self.is_in_order(&form.line) {
             return Err(LineFault::OutOfOrder);
         }
-        self.add(line)
+        Ok(())
     }
 
     /// Whether the name of an interface or a state stands before in its table.
-    fn has_name(&self, form: &Form) -> bool {
-        match form {
-            Form::Interface(name) => self
-                .interfaces
-                .iter()
-                .any(|other| other.as_bytes() == name.as_bytes()),
-            Form::State(name, _) => self
-                .states
-                .iter()
-                .any(|other| other.name.as_bytes() == name.as_bytes()),
+    fn has_name(&self, line: &Line) -> bool
+        ensures { result ≡ has_name self.now line.now }
+    {
+        match line {
+            Line::Interface(name) => is_among(self.interfaces.as_slice(), name.as_bytes()),
+            Line::State(state) => is_name_among(self.states.as_slice(), state.name.as_bytes()),
             _ => false,
         }
     }
 
     /// Whether a table has no room for a line.
-    fn is_full(&self, line: &Line) -> bool {
+    fn is_full(&self, line: &Line) -> bool
+        ensures { result ≡ is_full self.now line.now }
+    {
         match line {
             Line::Interface(_) => self.interfaces.len() >= usize::from(limits::INTERFACES),
             Line::Test(_) => self.tests.len() >= usize::from(limits::TESTS),
             Line::Command(_) => self.commands.len() >= usize::from(limits::COMMANDS),
             Line::State(_) => self.states.len() >= usize::from(limits::STATES),
-            Line::Routine(_) => self.routine_count() >= usize::from(limits::ROUTINES),
-            Line::Instruction(_) => {
-                self.code.len() >= usize::from(limits::CODE_OF_ROUTINE)
-                    || self.instructions >= usize::from(limits::CODE_OF_IMAGE)
-            }
+            Line::Routine(_) => self.has_routines(),
+            Line::Instruction(_) => self.has_code(),
             _ => false,
         }
     }
 
-    /// How many routines there are, the one that instructions go to among them.
-    fn routine_count(&self) -> usize {
-        match self.open {
-            Some(_) => self.routines.len().saturating_add(1),
-            None => 0,
-        }
+    /// Whether there are as many routines as there may be.
+    fn has_routines(&self) -> bool
+        ensures { result ≡ is_full self.now (lines.Routine 0) }
+    {
+        let one = usize::from(self.current.is_some());
+        self.routines.len().saturating_add(one) >= usize::from(limits::ROUTINES)
+    }
+
+    /// Whether no instruction has room in the routine that they go to, or in the image.
+    fn has_code(&self) -> bool
+        ensures { result ≡ is_full self.now (lines.Instruction Ret) }
+    {
+        let length = if self.current.is_some() {
+            self.code.len()
+        } else {
+            0
+        };
+        length >= usize::from(limits::CODE_OF_ROUTINE) || self.count >= limits::CODE_OF_IMAGE
     }
 
     /// Whether a line may stand here: no later line was read, and each line before the tables stands once.
-    fn is_in_order(&self, line: &Line) -> bool {
+    fn is_in_order(&self, line: &Line) -> bool
+        ensures { result ≡ is_in_order self.now line.now }
+    {
         match line {
             Line::Version => self.front == 0,
             Line::Stack(_) => self.front == 1,
@@ -130,81 +185,120 @@ impl Building {
             Line::Always(_) => self.front == 6,
             Line::Interface(_) => {
                 self.front == FRONT
-                    && self.tests.is_empty()
-                    && self.commands.is_empty()
-                    && self.states.is_empty()
+                    && (self.tests.is_empty()
+                        && (self.commands.is_empty() && self.states.is_empty()))
             }
             Line::Test(_) => {
-                self.front == FRONT && self.commands.is_empty() && self.states.is_empty()
+                self.front == FRONT && (self.commands.is_empty() && self.states.is_empty())
             }
             Line::Command(_) => self.front == FRONT && self.states.is_empty(),
-            Line::State(_) => self.front == FRONT && self.open.is_none(),
+            Line::State(_) => self.front == FRONT && self.current.is_none(),
             Line::Routine(_) => !self.states.is_empty(),
-            Line::Instruction(_) => self.open.is_some(),
+            Line::Instruction(_) => self.current.is_some(),
         }
     }
 
     /// Adds what a line says.
-    fn add(&mut self, line: Line) -> Result<(), LineFault> {
+    fn add(&mut self, line: Line) -> Result<(), AllocError>
+        ensures { OnOk result (self.new ≡ with_line self.old line) }
+    {
         match line {
-            Line::Interface(name) => self.interfaces.push(name)?,
-            Line::Test(test) => self.tests.push(test)?,
-            Line::Command(text) => self.commands.push(text)?,
-            Line::State(state) => self.states.push(state)?,
-            Line::Routine(results) => {
-                self.close_routine()?;
-                self.open = Some(results);
+            Line::Interface(name) => self.add_interface(name),
+            Line::Test(test) => self.add_test(test),
+            Line::Command(text) => self.add_command(text),
+            Line::State(state) => self.add_state(state),
+            Line::Routine(results) => self.add_routine(results),
+            Line::Instruction(op) => self.add_instruction(op),
+            Line::Version => {
+                self.front = 1;
+                Ok(())
             }
-            Line::Instruction(op) => {
-                self.code.push(op)?;
-                self.instructions = self.instructions.saturating_add(1);
-            }
-            Line::Version => self.front = 1,
             Line::Stack(stack) => {
                 self.budgets.stack = stack;
                 self.front = 2;
+                Ok(())
             }
             Line::Frames(frames) => {
                 self.budgets.frames = frames;
                 self.front = 3;
+                Ok(())
             }
             Line::Cost(cost) => {
                 self.budgets.cost = cost;
                 self.front = 4;
+                Ok(())
             }
             Line::Commands(commands) => {
                 self.budgets.commands = commands;
                 self.front = 5;
+                Ok(())
             }
             Line::Start(initial) => {
                 self.initial = initial;
                 self.front = 6;
+                Ok(())
             }
             Line::Always(always) => {
                 self.always = always;
                 self.front = FRONT;
+                Ok(())
             }
         }
+    }
+
+    fn add_interface(&mut self, name: Text) -> Result<(), AllocError>
+        ensures { OnOk result (self.new ≡ with_line self.old (lines.Interface name)) }
+    {
+        self.interfaces.push(name)?;
         Ok(())
     }
 
-    /// Puts the routine that instructions go to among those that are whole.
-    fn close_routine(&mut self) -> Result<(), LineFault> {
-        if let Some(results) = self.open {
-            let code = std::mem::replace(&mut self.code, Vec::new(self.alloc));
-            self.open = None;
-            self.routines.push(Routine {
-                results,
-                code: Items::new(code),
-            })?;
+    fn add_test(&mut self, test: TestSpec) -> Result<(), AllocError>
+        ensures { OnOk result (self.new ≡ with_line self.old (lines.Test test)) }
+    {
+        self.tests.push(test)?;
+        Ok(())
+    }
+
+    fn add_command(&mut self, text: Text) -> Result<(), AllocError>
+        ensures { OnOk result (self.new ≡ with_line self.old (lines.Command text)) }
+    {
+        self.commands.push(text)?;
+        Ok(())
+    }
+
+    fn add_state(&mut self, state: StateSpec) -> Result<(), AllocError>
+        ensures { OnOk result (self.new ≡ with_line self.old (lines.State state)) }
+    {
+        self.states.push(state)?;
+        Ok(())
+    }
+
+    /// Begins a routine. The one before is whole.
+    fn add_routine(&mut self, results: u8) -> Result<(), AllocError>
+        ensures { OnOk result (self.new ≡ with_line self.old (lines.Routine results)) }
+    {
+        let code = std::mem::replace(&mut self.code, Vec::new(self.alloc));
+        if let Some(results) = self.current {
+            let code = Items::new(code);
+            self.routines.push(Routine { results, code })?;
         }
+        self.current = Some(results);
         Ok(())
     }
 
-    /// The image that was said; `OutOfOrder` where a part is missing.
-    pub(crate) fn finish(self) -> Result<Image, LineFault> {
-        let mut whole = self;
-        whole.close_routine()?;
+    fn add_instruction(&mut self, op: Op) -> Result<(), AllocError>
+        ensures { OnOk result (self.new ≡ with_line self.old (lines.Instruction op)) }
+    {
+        self.code.push(op)?;
+        self.count = self.count.saturating_add(1);
+        Ok(())
+    }
+
+    /// The parts that were said.
+    pub(crate) fn finish(self) -> Result<ImageParts, AllocError>
+        ensures { IfOk result (λ parts. parts ≡ parts_of self) }
+    {
         let Building {
             budgets,
             initial,
@@ -213,10 +307,16 @@ impl Building {
             tests,
             commands,
             states,
-            routines,
+            mut routines,
+            current,
+            code,
             ..
-        } = whole;
-        let parts = ImageParts {
+        } = self;
+        if let Some(results) = current {
+            let code = Items::new(code);
+            routines.push(Routine { results, code })?;
+        }
+        Ok(ImageParts {
             budgets,
             initial,
             always,
@@ -225,82 +325,26 @@ impl Building {
             commands: Items::new(commands),
             states: Items::new(states),
             routines: Items::new(routines),
-        };
-        if parts.fits() {
-            Ok(Image::new(parts))
-        } else {
-            Err(LineFault::OutOfOrder)
-        }
+        })
     }
 }
 
-/// What a form says, where its numbers are in their ranges.
-fn line_of(form: Form) -> Option<Line> {
-    Some(match form {
-        Form::Version => Line::Version,
-        Form::Stack(number) => Line::Stack(u16_to(number, limits::STACK)?),
-        Form::Frames(number) => Line::Frames(u16_to(number, limits::FRAMES)?),
-        Form::Cost(number) => Line::Cost(u32_to(number, limits::EVENT_COST)?),
-        Form::Commands(number) => Line::Commands(u16_to(number, limits::COMMANDS_OF_EVENT)?),
-        Form::Start(number) => Line::Start(StateId(u16_of(number)?)),
-        Form::Always(handlers) => Line::Always(handlers_of(handlers)?),
-        Form::Interface(name) => Line::Interface(sized(name)?),
-        Form::Test(period, text) => Line::Test(TestSpec {
-            period: period_of(period)?,
-            text: sized(text)?,
-        }),
-        Form::Command(text) => Line::Command(sized(text)?),
-        Form::State(name, handlers) => Line::State(StateSpec {
-            name: sized(name)?,
-            handlers: handlers_of(handlers)?,
-        }),
-        Form::Routine(number) => Line::Routine(results_of(number)?),
-        Form::Instruction(op) => Line::Instruction(op),
-        Form::GreatOperand => return None,
-    })
+/// Whether a name stands in a table.
+fn is_among(names: &[Text], name: &[u8]) -> bool
+    ensures { result ≡ stands_in name.now names.now }
+{
+    names.iter().any(|other| other.as_bytes() == name)
 }
 
-/// A text of 1 to 1,024 bytes.
-fn sized(text: Text) -> Option<Text> {
-    if limits::text_fits(text.as_bytes()) {
-        Some(text)
-    } else {
-        None
-    }
+/// Whether a state of a table has a name.
+fn is_name_among(states: &[StateSpec], name: &[u8]) -> bool
+    ensures { result ≡ stands_in name.now (names_of states.now) }
+{
+    have_name(states, name)
 }
 
-/// A number of 16 bits up to a limit.
-fn u16_to(number: Number, most: u16) -> Option<u16> {
-    u16_of(number).filter(|value| *value <= most)
-}
-
-/// A number of 32 bits up to a limit.
-fn u32_to(number: Number, most: u32) -> Option<u32> {
-    match number {
-        Number::Within(value) => u32::try_from(value).ok().filter(|value| *value <= most),
-        Number::TooGreat => None,
-    }
-}
-
-fn period_of(number: Number) -> Option<u32> {
-    u32_to(number, limits::PERIOD).filter(|value| limits::period_fits(*value))
-}
-
-fn results_of(number: Number) -> Option<u8> {
-    match u16_to(number, u16::from(limits::RESULTS)) {
-        Some(0) => Some(0),
-        Some(_) => Some(1),
-        None => None,
-    }
-}
-
-fn handlers_of(form: HandlersForm) -> Option<Handlers> {
-    match form.tests {
-        ListForm::Mask(mask) => Some(Handlers {
-            init: RoutineId(u16_of(form.init)?),
-            body: RoutineId(u16_of(form.body)?),
-            mask,
-        }),
-        ListForm::OutOfRange => None,
-    }
+fn have_name(states: &[StateSpec], name: &[u8]) -> bool
+    ensures { result ≡ list_any (λ s. bytes_eq s.name name.now) states.now }
+{
+    states.iter().any(|other| other.name.as_bytes() == name)
 }

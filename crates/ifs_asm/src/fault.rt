@@ -2,7 +2,7 @@
 
 ghost use Rattle.std.specs.Prelude.{◌≡◌};
 ghost use Rattle.ifs_asm.specs.declared.fault.AsmFault.TheVariants.{Memory};
-ghost use Rattle.ifs_asm.specs.declared.fault.LineFault.TheVariants as line;
+ghost use Rattle.ifs_asm.specs.declared.fault.LineFault.TheVariants as faults;
 
 use std::alloc::{AllocError, AllocFailed};
 use thiserror::Error;
@@ -43,7 +43,9 @@ pub(crate) enum LineFault {
 
 impl LineFault {
     /// The fault at a line.
-    pub(crate) fn at(self, line: u64) -> AsmFault {
+    pub(crate) fn at(self, line: u64) -> AsmFault
+        ensures { self ≡ faults.Memory → result ≡ Memory }
+    {
         match self {
             LineFault::Unknown => AsmFault::Unknown { line },
             LineFault::OutOfRange => AsmFault::OutOfRange { line },
@@ -54,7 +56,7 @@ impl LineFault {
 }
 
 impl From<AllocError> for LineFault {
-    ghost from_gives = { λ _ e. e ≡ line.Memory };
+    ghost from_gives = { λ _ e. e ≡ faults.Memory };
 
     fn from(_e: AllocError) -> LineFault {
         LineFault::Memory
@@ -62,7 +64,7 @@ impl From<AllocError> for LineFault {
 }
 
 impl<T: Drop> From<AllocFailed<T>> for LineFault {
-    ghost from_gives = { λ _ e. e ≡ line.Memory };
+    ghost from_gives = { λ _ e. e ≡ faults.Memory };
 
     fn from(_e: AllocFailed<T>) -> LineFault {
         LineFault::Memory

@@ -1,177 +1,447 @@
-//! The forms of lines: what their words are, before any number is looked at.
+//! The forms of lines: what their words are, and whether their numbers and texts are in their ranges.
 
-use crate::fault::LineFault;
+ghost use Rattle.std.specs.Prelude.{◌≡◌, ◌≤◌, IfOk, IfSome, map};
+ghost use Rattle.std.specs.Prelude.{◌&&◌, ℕ, nat_lt, length, option_map};
+ghost use Rattle.ifs_asm.specs.declared.line.Line.TheVariants as lines;
+ghost use Rattle.ifs_asm.specs.inner.Forms.{plain_op, indexed_op, link_state, number_up_to, sized_text, period_in, version, indexed_line, number_line, two_words, routine_line, link_line, test_line, three_words, handlers_in, handlers_of, always_line, state_line, line_of, formed, bounded, sized_by, handlers_by};
+
+use crate::line::Line;
 use crate::lists::{ListForm, list_of};
 use crate::quoting::text_of;
 use ifs_base::{
     CommandId, IfaceId, LinkState, Number, Op, RoutineId, StateId, TestId, Text, parse_number,
 };
-use std::alloc::Global;
+use ifs_image::{Handlers, StateSpec, TestSpec, limits};
+use std::alloc::{AllocError, Global};
 
-/// The words of handlers.
-#[derive(Clone, Copy, Debug)]
-pub(crate) struct HandlersForm {
-    pub init: Number,
-    pub body: Number,
-    pub tests: ListForm,
-}
-
-/// A line that fits a form. Its numbers may be out of their ranges.
+/// A line that fits a form.
 #[derive(Debug, Drop)]
-pub(crate) enum Form {
-    Version,
-    Stack(Number),
-    Frames(Number),
-    Cost(Number),
-    Commands(Number),
-    Start(Number),
-    Always(HandlersForm),
-    Interface(Text),
-    Test(Number, Text),
-    Command(Text),
-    State(Text, HandlersForm),
-    Routine(Number),
-    Instruction(Op),
-    /// An instruction whose operand is over 65,535.
-    GreatOperand,
+pub(crate) struct Formed {
+    /// The line; in place of a number out of its range it has another.
+    pub line: Line,
+    /// Whether all its numbers and texts are in their ranges.
+    pub fits: bool,
 }
 
-/// The form that words fit; `Unknown` where they fit none.
-pub(crate) fn form_of(alloc: Global, words: &[&[u8]]) -> Result<Form, LineFault> {
-    let form = match words {
-        [name] => plain(name).map(Form::Instruction),
-        [name, word] => with_one(alloc, name, word)?,
-        [name, first, second] => with_two(alloc, name, first, second)?,
-        [b"always", rest @ ..] => handlers_of(rest).map(Form::Always),
-        [b"state", name, rest @ ..] => with_name(alloc, name, rest)?,
-        _ => None,
-    };
-    form.ok_or(LineFault::Unknown)
+/// A number.
+#[derive(Clone, Copy)]
+pub(crate) struct Bounded {
+    /// Its value; 0 where it is out of its range.
+    value: u32,
+    fits: bool,
 }
 
-/// An instruction without operand.
-fn plain(name: &[u8]) -> Option<Op> {
-    match name {
-        b"ret" => Some(Op::Ret),
-        b"true" => Some(Op::Yes),
-        b"false" => Some(Op::No),
-        b"not" => Some(Op::Negate),
-        b"and" => Some(Op::Both),
-        b"or" => Some(Op::Either),
-        b"queue" => Some(Op::Queue),
-        b"want" => Some(Op::Want),
-        b"pop" => Some(Op::Pop),
-        b"dup" => Some(Op::Dup),
-        _ => None,
-    }
+/// A text.
+#[derive(Drop)]
+pub(crate) struct SizedText {
+    text: Text,
+    /// Whether it has from 1 to 1,024 bytes.
+    fits: bool,
 }
 
-/// An instruction with an operand.
-fn indexed(name: &[u8], operand: u16) -> Option<Op> {
-    match name {
-        b"test" => Some(Op::Test(TestId(operand))),
-        b"known" => Some(Op::Known(TestId(operand))),
-        b"cmd" => Some(Op::PushCommand(CommandId(operand))),
-        b"state" => Some(Op::PushState(StateId(operand))),
-        b"jump" => Some(Op::Jump(operand)),
-        b"jf" => Some(Op::JumpFalse(operand)),
-        b"jt" => Some(Op::JumpTrue(operand)),
-        b"call" => Some(Op::Call(RoutineId(operand))),
-        _ => None,
-    }
+/// Handlers.
+#[derive(Clone, Copy)]
+pub(crate) struct HandlersForm {
+    handlers: Handlers,
+    fits: bool,
 }
 
-/// A number of 16 bits.
-pub(crate) fn u16_of(number: Number) -> Option<u16> {
-    match number {
-        Number::Within(value) => u16::try_from(value).ok(),
-        Number::TooGreat => None,
-    }
-}
-
-/// A name and one word.
-fn with_one(alloc: Global, name: &[u8], word: &[u8]) -> Result<Option<Form>, LineFault> {
-    match name {
-        b"ifsv" if word == b"1".as_slice() => Ok(Some(Form::Version)),
-        b"iface" => Ok(text_of(alloc, word)?.map(Form::Interface)),
-        b"command" => Ok(text_of(alloc, word)?.map(Form::Command)),
-        _ => Ok(parse_number(word).and_then(|number| with_number(name, number))),
-    }
-}
-
-/// A name and a number.
-fn with_number(name: &[u8], number: Number) -> Option<Form> {
-    match name {
-        b"stack" => Some(Form::Stack(number)),
-        b"frames" => Some(Form::Frames(number)),
-        b"cost" => Some(Form::Cost(number)),
-        b"commands" => Some(Form::Commands(number)),
-        b"start" => Some(Form::Start(number)),
-        _ => {
-            let op = indexed(name, u16_of(number).unwrap_or(0))?;
-            Some(match u16_of(number) {
-                Some(_) => Form::Instruction(op),
-                None => Form::GreatOperand,
-            })
-        }
-    }
-}
-
-/// A name and two words.
-fn with_two(
-    alloc: Global,
-    name: &[u8],
-    first: &[u8],
-    second: &[u8],
-) -> Result<Option<Form>, LineFault> {
-    match name {
-        b"routine" if first == b"results".as_slice() => Ok(parse_number(second).map(Form::Routine)),
-        b"link" => Ok(link(first, second)),
-        b"test" => {
-            let Some(period) = parse_number(first) else {
-                return Ok(None);
+/// The line that words say; `None` where they have no form.
+#[tactic(auto, using(crate::proofs::Shapes::none_short, crate::proofs::Shapes::none_middle, crate::proofs::Shapes::none_long, crate::proofs::Shapes::eight))]
+pub(crate) fn form_of(alloc: Global, words: &[&[u8]]) -> Result<Option<Formed>, AllocError>
+    ensures { IfOk result (λ form. formed form ≡ line_of (map (λ word. word.now) words.now)) }
+{
+    match words {
+        [] => Ok(None),
+        [name] => Ok(one_word(name)),
+        [name, word] => two_words(alloc, name, word),
+        [name, first, second] => three_words(alloc, name, first, second),
+        [_, _, _, _] => Ok(None),
+        [_, _, _, _, _] => Ok(None),
+        [_, _, _, _, _, _] => Ok(None),
+        [name, a, init, b, body, c, tests] => {
+            let words = HandlersWords {
+                a,
+                init,
+                b,
+                body,
+                c,
+                tests,
             };
-            Ok(text_of(alloc, second)?.map(|text| Form::Test(period, text)))
+            Ok(always_line(name, words))
+        }
+        [name, text, a, init, b, body, c, tests] => {
+            let words = HandlersWords {
+                a,
+                init,
+                b,
+                body,
+                c,
+                tests,
+            };
+            let form = state_line(alloc, name, text, words)?;
+            Ok(form)
         }
         _ => Ok(None),
     }
 }
 
-/// The instruction on a link.
-fn link(number: &[u8], state: &[u8]) -> Option<Form> {
-    let number = parse_number(number)?;
-    let state = link_state(state)?;
-    Some(match u16_of(number) {
-        Some(operand) => Form::Instruction(Op::Link(IfaceId(operand), state)),
-        None => Form::GreatOperand,
+/// An instruction without operand.
+fn one_word(name: &[u8]) -> Option<Formed>
+    ensures { formed result ≡ option_map lines.Instruction (plain_op name.now) }
+{
+    let line = Line::Instruction(plain_op(name)?);
+    Some(Formed { line, fits: true })
+}
+
+fn plain_op(name: &[u8]) -> Option<Op>
+    ensures { result ≡ plain_op name.now }
+{
+    if name == b"ret".as_slice() {
+        Some(Op::Ret)
+    } else if name == b"true".as_slice() {
+        Some(Op::Yes)
+    } else if name == b"false".as_slice() {
+        Some(Op::No)
+    } else if name == b"not".as_slice() {
+        Some(Op::Negate)
+    } else if name == b"and".as_slice() {
+        Some(Op::Both)
+    } else if name == b"or".as_slice() {
+        Some(Op::Either)
+    } else if name == b"queue".as_slice() {
+        Some(Op::Queue)
+    } else if name == b"want".as_slice() {
+        Some(Op::Want)
+    } else if name == b"pop".as_slice() {
+        Some(Op::Pop)
+    } else if name == b"dup".as_slice() {
+        Some(Op::Dup)
+    } else {
+        None
+    }
+}
+
+/// An instruction with an operand.
+fn indexed_op(name: &[u8], operand: u16) -> Option<Op>
+    ensures { result ≡ indexed_op name.now operand }
+{
+    if name == b"test".as_slice() {
+        Some(Op::Test(TestId(operand)))
+    } else if name == b"known".as_slice() {
+        Some(Op::Known(TestId(operand)))
+    } else if name == b"cmd".as_slice() {
+        Some(Op::PushCommand(CommandId(operand)))
+    } else if name == b"state".as_slice() {
+        Some(Op::PushState(StateId(operand)))
+    } else if name == b"jump".as_slice() {
+        Some(Op::Jump(operand))
+    } else if name == b"jf".as_slice() {
+        Some(Op::JumpFalse(operand))
+    } else if name == b"jt".as_slice() {
+        Some(Op::JumpTrue(operand))
+    } else if name == b"call".as_slice() {
+        Some(Op::Call(RoutineId(operand)))
+    } else {
+        None
+    }
+}
+
+/// A number up to a limit; `None` where a word is no number.
+fn number_up_to(word: &[u8], most: u32) -> Option<Bounded>
+    ensures value { bounded result ≡ number_up_to most word.now }
+    ensures within { IfSome result (λ b. b.value ≤ most) }
+{
+    match parse_number(word)? {
+        Number::Within(value) if value <= u64::from(most) => Some(Bounded {
+            value: value as u32,
+            fits: true,
+        }),
+        _ => Some(Bounded {
+            value: 0,
+            fits: false,
+        }),
+    }
+}
+
+/// A period.
+fn period_in(word: &[u8]) -> Option<Bounded>
+    ensures { bounded result ≡ period_in word.now }
+{
+    let number = number_up_to(word, limits::PERIOD)?;
+    Some(Bounded {
+        value: number.value,
+        fits: number.fits && limits::period_fits(number.value),
     })
 }
 
-fn link_state(word: &[u8]) -> Option<LinkState> {
-    match word {
-        b"unknown" => Some(LinkState::Unknown),
-        b"down" => Some(LinkState::Down),
-        b"up" => Some(LinkState::Up),
-        _ => None,
-    }
-}
-
-/// A state: its name and its handlers.
-fn with_name(alloc: Global, name: &[u8], rest: &[&[u8]]) -> Result<Option<Form>, LineFault> {
-    let Some(handlers) = handlers_of(rest) else {
+/// A text in quotes.
+fn sized_text(alloc: Global, word: &[u8]) -> Result<Option<SizedText>, AllocError>
+    ensures { IfOk result (λ text. sized_by text ≡ sized_text word.now) }
+{
+    let Some(text) = text_of(alloc, word)? else {
         return Ok(None);
     };
-    Ok(text_of(alloc, name)?.map(|name| Form::State(name, handlers)))
+    let fits = is_sized(&text);
+    Ok(Some(SizedText { text, fits }))
 }
 
-/// The words of handlers.
-fn handlers_of(words: &[&[u8]]) -> Option<HandlersForm> {
-    match words {
-        [b"init", init, b"body", body, b"tests", tests] => Some(HandlersForm {
-            init: parse_number(init)?,
-            body: parse_number(body)?,
-            tests: list_of(tests)?,
-        }),
-        _ => None,
+/// Whether a text has from 1 to 1,024 bytes.
+fn is_sized(text: &Text) -> bool
+    ensures { result ≡ (nat_lt 0 (length text.now) && nat_lt (length text.now) 1025) }
+{
+    let length = text.as_bytes().len();
+    0 < length && length <= usize::from(limits::TEXT)
+}
+
+fn version(word: &[u8]) -> Option<Formed>
+    ensures { formed result ≡ version word.now }
+{
+    if word == b"1".as_slice() {
+        Some(Formed {
+            line: Line::Version,
+            fits: true,
+        })
+    } else {
+        None
     }
+}
+
+/// An instruction with an operand.
+fn indexed_line(name: &[u8], word: &[u8]) -> Option<Formed>
+    ensures { formed result ≡ indexed_line name.now word.now }
+{
+    let number = number_up_to(word, 65_535)?;
+    let line = Line::Instruction(indexed_op(name, number.value as u16)?);
+    Some(Formed {
+        line,
+        fits: number.fits,
+    })
+}
+
+/// A name and a number.
+fn number_line(name: &[u8], word: &[u8]) -> Option<Formed>
+    ensures { formed result ≡ number_line name.now word.now }
+{
+    if name == b"stack".as_slice() {
+        let number = number_up_to(word, 32)?;
+        Some(number.says(Line::Stack(number.value as u16)))
+    } else if name == b"frames".as_slice() {
+        let number = number_up_to(word, 32)?;
+        Some(number.says(Line::Frames(number.value as u16)))
+    } else if name == b"cost".as_slice() {
+        let number = number_up_to(word, limits::EVENT_COST)?;
+        Some(number.says(Line::Cost(number.value)))
+    } else if name == b"commands".as_slice() {
+        let number = number_up_to(word, 64)?;
+        Some(number.says(Line::Commands(number.value as u16)))
+    } else if name == b"start".as_slice() {
+        let number = number_up_to(word, 65_535)?;
+        Some(number.says(Line::Start(StateId(number.value as u16))))
+    } else {
+        indexed_line(name, word)
+    }
+}
+
+impl Bounded {
+    /// A line with this number.
+    fn says(self, line: Line) -> Formed
+        ensures line { result.line ≡ line }
+        ensures fits { result.fits ≡ self.fits }
+    {
+        Formed {
+            line,
+            fits: self.fits,
+        }
+    }
+}
+
+/// A name and a word.
+fn two_words(alloc: Global, name: &[u8], word: &[u8]) -> Result<Option<Formed>, AllocError>
+    ensures { IfOk result (λ form. formed form ≡ two_words name.now word.now) }
+{
+    if name == b"ifsv".as_slice() {
+        Ok(version(word))
+    } else if name == b"iface".as_slice() {
+        interface_line(alloc, word)
+    } else if name == b"command".as_slice() {
+        command_line(alloc, word)
+    } else {
+        Ok(number_line(name, word))
+    }
+}
+
+fn interface_line(alloc: Global, word: &[u8]) -> Result<Option<Formed>, AllocError>
+    ensures { IfOk result (λ form. formed form ≡ option_map lines.Interface (sized_text word.now)) }
+{
+    let Some(SizedText { text, fits }) = sized_text(alloc, word)? else {
+        return Ok(None);
+    };
+    let line = Line::Interface(text);
+    Ok(Some(Formed { line, fits }))
+}
+
+fn command_line(alloc: Global, word: &[u8]) -> Result<Option<Formed>, AllocError>
+    ensures { IfOk result (λ form. formed form ≡ option_map lines.Command (sized_text word.now)) }
+{
+    let Some(SizedText { text, fits }) = sized_text(alloc, word)? else {
+        return Ok(None);
+    };
+    let line = Line::Command(text);
+    Ok(Some(Formed { line, fits }))
+}
+
+/// A name and two words.
+fn three_words(
+    alloc: Global,
+    name: &[u8],
+    first: &[u8],
+    second: &[u8],
+) -> Result<Option<Formed>, AllocError>
+    ensures { IfOk result (λ form. formed form ≡ three_words name.now first.now second.now) }
+{
+    if name == b"routine".as_slice() {
+        Ok(routine_line(first, second))
+    } else if name == b"link".as_slice() {
+        Ok(link_line(first, second))
+    } else if name == b"test".as_slice() {
+        test_line(alloc, first, second)
+    } else {
+        Ok(None)
+    }
+}
+
+/// The line that begins a routine.
+fn routine_line(word: &[u8], results: &[u8]) -> Option<Formed>
+    ensures { formed result ≡ routine_line word.now results.now }
+{
+    if word != b"results".as_slice() {
+        return None;
+    }
+    let number = number_up_to(results, 1)?;
+    Some(number.says(Line::Routine(number.value as u8)))
+}
+
+/// The instruction on a link.
+fn link_line(number: &[u8], state: &[u8]) -> Option<Formed>
+    ensures { formed result ≡ link_line number.now state.now }
+{
+    let number = number_up_to(number, 65_535)?;
+    let op = Op::Link(IfaceId(number.value as u16), link_state(state)?);
+    Some(number.says(Line::Instruction(op)))
+}
+
+fn link_state(word: &[u8]) -> Option<LinkState>
+    ensures { result ≡ link_state word.now }
+{
+    if word == b"unknown".as_slice() {
+        Some(LinkState::Unknown)
+    } else if word == b"down".as_slice() {
+        Some(LinkState::Down)
+    } else if word == b"up".as_slice() {
+        Some(LinkState::Up)
+    } else {
+        None
+    }
+}
+
+/// An external test.
+fn test_line(alloc: Global, number: &[u8], text: &[u8]) -> Result<Option<Formed>, AllocError>
+    ensures { IfOk result (λ form. formed form ≡ test_line number.now text.now) }
+{
+    let Some(period) = period_in(number) else {
+        return Ok(None);
+    };
+    let Some(SizedText { text, fits }) = sized_text(alloc, text)? else {
+        return Ok(None);
+    };
+    let line = Line::Test(TestSpec {
+        period: period.value,
+        text,
+    });
+    let fits = period.fits && fits;
+    Ok(Some(Formed { line, fits }))
+}
+
+/// The words of handlers, of which every other stands as it is.
+#[derive(Clone, Copy)]
+struct HandlersWords<'a> {
+    a: &'a [u8],
+    init: &'a [u8],
+    b: &'a [u8],
+    body: &'a [u8],
+    c: &'a [u8],
+    tests: &'a [u8],
+}
+
+/// Handlers, by their words.
+fn handlers_in(words: HandlersWords<'_>) -> Option<HandlersForm>
+    ensures { handlers_by result ≡ handlers_in words.entry.a.now words.entry.init.now words.entry.b.now words.entry.body.now words.entry.c.now words.entry.tests.now }
+{
+    if words.a == b"init".as_slice()
+        && words.b == b"body".as_slice()
+        && words.c == b"tests".as_slice()
+    {
+        handlers_of(words.init, words.body, words.tests)
+    } else {
+        None
+    }
+}
+
+/// Handlers, by two numbers and a list.
+fn handlers_of(init: &[u8], body: &[u8], tests: &[u8]) -> Option<HandlersForm>
+    ensures { handlers_by result ≡ handlers_of init.now body.now tests.now }
+{
+    let init = number_up_to(init, 65_535)?;
+    let body = number_up_to(body, 65_535)?;
+    let (mask, ascend) = match list_of(tests)? {
+        ListForm::Mask(mask) => (mask, true),
+        ListForm::OutOfRange => (0, false),
+    };
+    Some(HandlersForm {
+        handlers: Handlers {
+            init: RoutineId(init.value as u16),
+            body: RoutineId(body.value as u16),
+            mask,
+        },
+        fits: init.fits && body.fits && ascend,
+    })
+}
+
+/// The line of the always part.
+fn always_line(name: &[u8], words: HandlersWords<'_>) -> Option<Formed>
+    ensures { formed result ≡ always_line name.now (handlers_in words.entry.a.now words.entry.init.now words.entry.b.now words.entry.body.now words.entry.c.now words.entry.tests.now) }
+{
+    if name != b"always".as_slice() {
+        return None;
+    }
+    let HandlersForm { handlers, fits } = handlers_in(words)?;
+    let line = Line::Always(handlers);
+    Some(Formed { line, fits })
+}
+
+/// The line of a state.
+fn state_line(
+    alloc: Global,
+    name: &[u8],
+    text: &[u8],
+    words: HandlersWords<'_>,
+) -> Result<Option<Formed>, AllocError>
+    ensures { IfOk result (λ form. formed form ≡ state_line name.now text.now (handlers_in words.entry.a.now words.entry.init.now words.entry.b.now words.entry.body.now words.entry.c.now words.entry.tests.now)) }
+{
+    if name != b"state".as_slice() {
+        return Ok(None);
+    }
+    let Some(form) = handlers_in(words) else {
+        return Ok(None);
+    };
+    let Some(SizedText { text: name, fits }) = sized_text(alloc, text)? else {
+        return Ok(None);
+    };
+    let line = Line::State(StateSpec {
+        name,
+        handlers: form.handlers,
+    });
+    let fits = fits && form.fits;
+    Ok(Some(Formed { line, fits }))
 }

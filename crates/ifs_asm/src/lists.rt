@@ -1,5 +1,10 @@
 //! Lists of tests.
 
+ghost use Rattle.std.specs.Prelude.{◌≡◌, ◌∷◌, ◌<◌, ◌==◌, ℕ, IfSome, length, option_map, option_and_then};
+ghost use Rattle.std.specs.List.{slice_split, position};
+ghost use Rattle.ifs_asm.specs.inner.Words.{mask_in, masked, with_test};
+ghost use Rattle.ifs_asm.specs.inner.Forms.{mask_by, listed_by, parts_left};
+
 use ifs_base::{Number, parse_number};
 
 /// A list of tests.
@@ -11,38 +16,71 @@ pub(crate) enum ListForm {
     OutOfRange,
 }
 
-/// The list that a word is; `None` where it is none.
-pub(crate) fn list_of(word: &[u8]) -> Option<ListForm> {
-    if !is_list(word) {
-        return None;
-    }
-    Some(mask_of(word).map_or(ListForm::OutOfRange, ListForm::Mask))
-}
-
-/// Whether a word is a dash, or numbers with commas between them.
-fn is_list(word: &[u8]) -> bool {
-    word == b"-".as_slice()
-        || word
-            .split(|byte| *byte == b',')
-            .all(|part| parse_number(part).is_some())
-}
-
-/// The mask of a list; `None` where a test is over 63 or not over the one before it.
-fn mask_of(word: &[u8]) -> Option<u64> {
+/// The list that a word is: a dash, or numbers with commas between them; `None` where it is none.
+pub(crate) fn list_of(word: &[u8]) -> Option<ListForm>
+    ensures { listed_by result ≡ mask_in word.now }
+{
     if word == b"-".as_slice() {
-        return Some(0);
+        return Some(ListForm::Mask(0));
     }
-    let mut mask = 0;
-    for part in word.split(|byte| *byte == b',') {
-        mask = with_test(mask, parse_number(part)?)?;
+    numbers_of(word)
+}
+
+/// The list that numbers with commas between them are.
+fn numbers_of(word: &[u8]) -> Option<ListForm>
+    ensures { listed_by result ≡ masked 0 (slice_split (λ byte. byte == 44) word.now) }
+{
+    let mut list = ListForm::Mask(0);
+    let mut left = Some(word);
+    while let Some(text) = left {
+        let (part, rest) = cut_at_comma(text);
+        list = list.with(parse_number(part)?);
+        left = rest;
     }
-    Some(mask)
+    Some(list)
+}
+
+/// What stands before the first comma, and what stands after it where there is one.
+fn cut_at_comma(text: &[u8]) -> (&[u8], Option<&[u8]>)
+    ensures parts { slice_split (λ byte. byte == 44) text.now ≡ result.0.now ∷ parts_left (option_map (λ rest. rest.now) result.1) }
+    ensures shorter { IfSome result.1 (λ rest. length rest.now < length text.now) }
+{
+    match comma(text) {
+        Some(place) => (&text[..place], Some(&text[place + 1..])),
+        None => (text, None),
+    }
+}
+
+/// The place of the first comma.
+fn comma(text: &[u8]) -> Option<usize>
+    ensures { result ≡ position (λ byte. byte == 44) text.now }
+{
+    text.iter().position(|byte| *byte == b',')
+}
+
+impl ListForm {
+    ghost use Rattle.ifs_asm.specs.inner.Forms.{mask_by};
+    ghost use Rattle.ifs_asm.specs.inner.Words.{with_test};
+    ghost use Rattle.ifs_base.specs.Numbers.{sized};
+
+    /// The list with one test more.
+    fn with(self, test: Number) -> ListForm
+        ensures { (n : ℕ) → test ≡ sized n → mask_by result ≡ option_and_then (λ mask. with_test mask n) (mask_by self) }
+    {
+        match (self, test) {
+            (ListForm::Mask(mask), Number::Within(test)) => with_test(mask, test),
+            _ => ListForm::OutOfRange,
+        }
+    }
 }
 
 /// A mask with one test more, which is over all that it has.
-fn with_test(mask: u64, test: Number) -> Option<u64> {
-    match test {
-        Number::Within(test) if test < 64 && mask >> test == 0 => Some(mask | 1 << test),
-        _ => None,
+fn with_test(mask: u64, test: u64) -> ListForm
+    ensures { mask_by result ≡ with_test mask test }
+{
+    if test < 64 && mask < 1 << test {
+        ListForm::Mask((1 << test) + mask)
+    } else {
+        ListForm::OutOfRange
     }
 }

@@ -6,7 +6,7 @@ ghost use Rattle.std.specs.List.{flat_map};
 ghost use Rattle.ifs_base.specs.Words.{link_word, listed, quoted};
 ghost use Rattle.ifs_asm.specs.declared.line.Line.TheVariants as lines;
 ghost use Rattle.ifs_asm.specs.inner.Lists.{before_item, left_at};
-ghost use Rattle.ifs_asm.specs.Texts.{canonical, line_text, tests_of, handlers_words, op_words, spaced, routine_lines, front_lines};
+ghost use Rattle.ifs_asm.specs.Texts.{canonical, line_text, tests_of, written, handlers_words, op_words, spaced, routine_lines, front_lines};
 
 use crate::quoting::put_quoted;
 use ifs_base::{LinkState, Op, Text};
@@ -74,7 +74,7 @@ fn put_always(out: &mut String, handlers: Handlers) -> Result<(), AllocError>
 
 /// Writes the words of handlers, each after a space, and ends the line.
 fn put_handlers(out: &mut String, handlers: Handlers) -> Result<(), AllocError>
-    ensures { OnOk result (string_bytes out.new ≡ string_bytes out.old ++ flat_map (λ word. codes " " ++ word) (handlers_words handlers) ++ codes "\n") }
+    ensures { OnOk result (string_bytes out.new ≡ string_bytes out.old ++ flat_map (λ word. codes " " ++ word) (map written (handlers_words handlers)) ++ codes "\n") }
 {
     put_number(out, " init ", u64::from(handlers.init.0))?;
     put_number(out, " body ", u64::from(handlers.body.0))?;

@@ -1,9 +1,11 @@
 //! Texts in quotes.
 
-ghost use Rattle.std.specs.Prelude.{◌≡◌, ◌++◌, ◌<◌, length, string_bytes, MatchOption, IfSome, OnOk, codes};
+ghost use Rattle.std.specs.Prelude.{◌≡◌, ◌++◌, ◌<◌, length, string_bytes, MatchOption, IfSome, IfOk, OnOk, codes};
+ghost use Rattle.std.specs.Option.{option_map};
+ghost use Rattle.ifs_asm.specs.inner.Words.{Start, Within, Backslash, text_in, text_from, in_utf8, turn, high_turn, low_turn, hex_value};
 ghost use Rattle.std.specs.List.{flat_map, prefix_len};
 ghost use Rattle.ifs_base.specs.Words.{quoted_byte, quoted};
-ghost use Rattle.ifs_asm.specs.inner.Quoting.{is_plain};
+ghost use Rattle.ifs_asm.specs.Spellings.{is_plain};
 
 use ifs_base::{QuotedByte, Text, digit_value, quote_byte};
 use std::alloc::{AllocError, Global};
@@ -98,46 +100,154 @@ fn is_plain(byte: u8) -> bool
 }
 
 /// The text that a word in quotes stands for; `None` where the word is none.
-pub(crate) fn text_of(alloc: Global, word: &[u8]) -> Result<Option<Text>, AllocError> {
-    let [b'"', inside @ .., b'"'] = word else {
+pub(crate) fn text_of(alloc: Global, word: &[u8]) -> Result<Option<Text>, AllocError>
+    ensures { IfOk result (λ text. text ≡ text_in word.now) }
+{
+    let Some(bytes) = unquoted(alloc, word)? else {
         return Ok(None);
     };
-    let mut bytes = Vec::new(alloc);
-    bytes.try_reserve(inside.len())?;
-    let mut left = inside;
-    while !left.is_empty() {
-        let Some((byte, rest)) = next_byte(left) else {
-            return Ok(None);
-        };
-        bytes.push(byte)?;
-        left = rest;
-    }
-    Ok(String::from_utf8(bytes).ok().map(Text::new))
+    Ok(in_utf8(bytes))
 }
 
-/// The byte that stands first between quotes, and what is left.
-fn next_byte(bytes: &[u8]) -> Option<(u8, &[u8])>
-    ensures { IfSome result (λ found. length found.1.now < length bytes.now) }
+/// The text of bytes; `None` where they are no UTF-8.
+fn in_utf8(bytes: Vec<u8>) -> Option<Text>
+    ensures { result ≡ in_utf8 bytes.items }
 {
-    match bytes {
-        [b'\\', b'"', rest @ ..] => Some((b'"', rest)),
-        [b'\\', b'\\', rest @ ..] => Some((b'\\', rest)),
-        [b'\\', b'x', high, low, rest @ ..] => Some((escaped(*high, *low)?, rest)),
-        [b'\\', ..] => None,
-        [b'"', ..] => None,
-        [0..=31 | 127, ..] => None,
-        [byte, rest @ ..] => Some((*byte, rest)),
-        [] => None,
+    match String::from_utf8(bytes) {
+        Ok(text) => Some(Text::new(text)),
+        Err(_) => None,
     }
 }
 
-/// The character from 1 to 127 of two hexadecimal digits.
-fn escaped(high: u8, low: u8) -> Option<u8> {
-    let high = digit_value(high)?;
-    let low = digit_value(low)?;
-    if high < 8 && 0 < high + low {
-        Some(16 * high + low)
-    } else {
-        None
+/// The bytes that a word in quotes stands for.
+fn unquoted(alloc: Global, word: &[u8]) -> Result<Option<Vec<u8>>, AllocError>
+    ensures { IfOk result (λ bytes. option_map (λ vec. vec.items) bytes ≡ text_from word.now Start) }
+{
+    let mut bytes = Vec::new(alloc);
+    let mut quote = Quote::Start;
+    for byte in word {
+        match turn_at(quote, *byte) {
+            Turn::Goes(next) => quote = next,
+            Turn::Gives(given) => {
+                bytes.push(given)?;
+                quote = Quote::Within;
+            }
+            Turn::Stops => return Ok(None),
+        }
     }
+    if quote.is_done() {
+        Ok(Some(bytes))
+    } else {
+        Ok(None)
+    }
+}
+
+/// Where the next byte of a quoted text stands.
+#[derive(Clone, Copy)]
+pub(crate) enum Quote {
+    /// At the first quote.
+    Start,
+    /// Between the quotes.
+    Within,
+    /// After a backslash.
+    Backslash,
+    /// Where the first hexadecimal digit stands.
+    High,
+    /// Where the second one stands, after the first.
+    Low(u8),
+    /// Behind the second quote.
+    Done,
+}
+
+impl Quote {
+    ghost use Rattle.ifs_asm.specs.inner.Words.{at_end};
+    ghost use Rattle.std.specs.Prelude.{Some, None, [], if◌then◌else◌};
+
+    /// Whether the text is whole.
+    fn is_done(self) -> bool
+        ensures { (if result then Some [] else None) ≡ at_end self }
+    {
+        match self {
+            Quote::Done => true,
+            Quote::Start | Quote::Within | Quote::Backslash | Quote::High | Quote::Low(_) => false,
+        }
+    }
+}
+
+/// What a byte of a quoted text does.
+#[derive(Clone, Copy)]
+pub(crate) enum Turn {
+    /// The next byte stands there.
+    Goes(Quote),
+    /// This byte of the text is given.
+    Gives(u8),
+    /// It cannot stand here.
+    Stops,
+}
+
+/// What a byte does where it stands.
+fn turn_at(quote: Quote, byte: u8) -> Turn
+    ensures { result ≡ turn quote byte }
+{
+    match quote {
+        Quote::Start if byte == b'"' => Turn::Goes(Quote::Within),
+        Quote::Start | Quote::Done => Turn::Stops,
+        Quote::Within => turn_within(byte),
+        Quote::Backslash => turn_escaped(byte),
+        Quote::High => turn_high(hex_value(byte)),
+        Quote::Low(high) => turn_low(high, hex_value(byte)),
+    }
+}
+
+fn turn_within(byte: u8) -> Turn
+    ensures { result ≡ turn Within byte }
+{
+    if byte == b'"' {
+        Turn::Goes(Quote::Done)
+    } else if byte == b'\\' {
+        Turn::Goes(Quote::Backslash)
+    } else if is_plain(byte) {
+        Turn::Gives(byte)
+    } else {
+        Turn::Stops
+    }
+}
+
+fn turn_escaped(byte: u8) -> Turn
+    ensures { result ≡ turn Backslash byte }
+{
+    if byte == b'"' || byte == b'\\' {
+        Turn::Gives(byte)
+    } else if byte == b'x' {
+        Turn::Goes(Quote::High)
+    } else {
+        Turn::Stops
+    }
+}
+
+fn turn_high(digit: Option<u8>) -> Turn
+    ensures { result ≡ high_turn digit }
+{
+    match digit {
+        Some(digit) => Turn::Goes(Quote::Low(digit)),
+        None => Turn::Stops,
+    }
+}
+
+fn turn_low(high: u8, digit: Option<u8>) -> Turn
+    requires { IfSome digit (λ value. value < 16) }
+    ensures { result ≡ low_turn high digit }
+{
+    match digit {
+        Some(digit) if high < 8 && 0 < high + digit => Turn::Gives(16 * high + digit),
+        _ => Turn::Stops,
+    }
+}
+
+/// The value of a hexadecimal digit in lower case.
+fn hex_value(byte: u8) -> Option<u8>
+    ensures value { result ≡ hex_value byte }
+    ensures small { IfSome result (λ value. value < 16) }
+{
+    digit_value(byte)
 }

@@ -1,11 +1,17 @@
 //! Text to image, line by line.
 
-ghost use Rattle.std.specs.Prelude.{◌<◌, length};
+ghost use Rattle.std.specs.Prelude.{◌≡◌, ◌≢◌, ◌<◌, ◌==◌, Some, None, ◌++◌, MatchResult, IfOk, IfErr, length};
+ghost use Rattle.std.specs.List.{position};
+ghost use Rattle.ifs_image.specs.declared.parts.ImageParts.{ImageParts};
+ghost use Rattle.ifs_asm.specs.declared.fault.AsmFault.TheVariants.{Memory};
+ghost use Rattle.ifs_asm.specs.declared.fault.LineFault.TheVariants as faults;
+ghost use Rattle.ifs_asm.specs.Spellings.{Spells, spoken};
+ghost use Rattle.ifs_asm.specs.inner.Building.{built_by, nothing, spoken_line};
 
 use crate::building::Building;
 use crate::fault::{AsmFault, LineFault};
 use crate::forms::form_of;
-use crate::words::words_of;
+use crate::words::{is_silent, words_of};
 use ifs_image::Image;
 use std::alloc::Global;
 
@@ -13,34 +19,60 @@ use std::alloc::Global;
 ///
 /// A1 to A3 name the first line with a fault, counted from 1; a part that is missing at the end is told at
 /// the number of lines plus 1. A0 comes where a growth was refused, wherever that is.
-pub fn assemble(alloc: Global, text: &str) -> Result<Image, AsmFault> {
+pub fn assemble(alloc: Global, text: &str) -> Result<Image, AsmFault>
+    ensures spelled { IfOk result (λ image. Spells text.now image) }
+    ensures refused { IfErr result (λ fault. fault ≢ Memory → (image : ImageParts) → Spells text.now image → ⊥) }
+{
     let mut building = Building::new(alloc);
     let mut left = text.as_bytes();
     let mut line = 1u64;
     while !left.is_empty() {
         let (bytes, rest) = split_line(left);
-        take_line(alloc, &mut building, bytes).map_err(|fault| fault.at(line))?;
+        if let Err(fault) = take_line(alloc, &mut building, bytes) {
+            return Err(fault.at(line));
+        }
         line = line.saturating_add(1);
         left = rest;
     }
-    building.finish().map_err(|fault| fault.at(line))
+    let parts = building.finish()?;
+    if parts.fits() {
+        Ok(Image::new(parts))
+    } else {
+        Err(AsmFault::OutOfOrder { line })
+    }
 }
 
 /// A line without its newline, and what follows it.
 fn split_line(text: &[u8]) -> (&[u8], &[u8])
     requires { 0 < length text.now }
-    ensures { length result.1.now < length text.now }
+    ensures spoken { spoken text.now ≡ spoken_line result.0.now ++ spoken result.1.now }
+    ensures shorter { length result.1.now < length text.now }
 {
-    let length = text.iter().take_while(|byte| **byte != b'\n').count();
-    let (line, rest) = text.split_at(length);
-    (line, rest.get(1..).unwrap_or(&[]))
+    match newline(text) {
+        Some(place) => (&text[..place], &text[place + 1..]),
+        None => (text, &[]),
+    }
 }
 
-/// Takes a line, unless it has no words or is a comment.
-fn take_line(alloc: Global, building: &mut Building, line: &[u8]) -> Result<(), LineFault> {
-    let words = words_of(line);
-    if let None | Some([b';', ..]) = words.first() {
+/// The place of the first newline.
+fn newline(text: &[u8]) -> Option<usize>
+    ensures { result ≡ position (λ byte. byte == 10) text.now }
+{
+    text.iter().position(|byte| *byte == b'\n')
+}
+
+/// Takes a line, unless it is empty or a comment.
+fn take_line(alloc: Global, building: &mut Building, line: &[u8]) -> Result<(), LineFault>
+    ensures { MatchResult result
+        (λ _. built_by building.old (spoken_line line.now) ≡ Some building.new)
+        (λ fault. fault ≢ faults.Memory → built_by building.old (spoken_line line.now) ≡ None) }
+{
+    if is_silent(line) {
         return Ok(());
     }
-    building.take(form_of(alloc, words.as_slice())?)
+    let words = words_of(line);
+    let Some(form) = form_of(alloc, words.as_slice())? else {
+        return Err(LineFault::Unknown);
+    };
+    building.take(form)
 }

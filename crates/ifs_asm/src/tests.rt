@@ -270,3 +270,99 @@ fn reads_back_what_it_writes(rt: HostRuntime) -> Result<(), Fail> {
     }
     Ok(())
 }
+
+/// In each row: the line of the smallest image's text before which lines are put (11 is its end), such a line, in
+/// which a sharp stands for a number of its own, and how many of them its table has room for.
+const TABLES: &str = "
+8 => iface \"#\" => 64
+8 => test 1 \"#\" => 64
+8 => command \"#\" => 1024
+9 => state \"#\" init 0 body 0 tests - => 255
+11 => routine results 0# => 1023
+11 => jump # => 1023
+";
+
+/// The smallest image's text, with so many lines of one kind before one of its lines.
+fn with_many(alloc: Global, number: usize, line: &str, count: usize) -> Result<String, Fail> {
+    let (front, back) = line.split_once('#').ok_or("a sharp")?;
+    let mut many = String::new(alloc);
+    for index in 0..count {
+        let digits = if front.ends_with('0') {
+            String::new(alloc)
+        } else {
+            format!(in alloc; "{index}")?
+        };
+        many.push_str(front)?;
+        many.push_str(digits.as_str())?;
+        many.push_str(back)?;
+        many.push_str("\n")?;
+    }
+    let mut text = String::new(alloc);
+    for (index, line) in SMALLEST_TEXT.lines().enumerate() {
+        if index.saturating_add(1) == number {
+            text.push_str(many.as_str())?;
+        }
+        text.push_str(line)?;
+        text.push_str("\n")?;
+    }
+    if number == 11 {
+        text.push_str(many.as_str())?;
+    }
+    Ok(text)
+}
+
+#[test]
+fn fills_each_table(rt: HostRuntime) -> Result<(), Fail> {
+    let alloc = rt.alloc();
+    for row in TABLES.lines().filter(|row| !row.is_empty()) {
+        let (number, rest) = row.split_once(" => ").ok_or("a number")?;
+        let (line, count) = rest.split_once(" => ").ok_or("a count")?;
+        let number = number.parse::<usize>()?;
+        let count = count.parse::<usize>()?;
+        let full = with_many(alloc, number, line, count)?;
+        assert!(rt;
+            told(alloc, full.as_str())?.as_str().starts_with("ok"),
+            "row {row:?}"
+        );
+        let over = with_many(alloc, number, line, count.saturating_add(1))?;
+        let wanted = format!(in alloc; "A2 line {}", number.saturating_add(count))?;
+        assert_eq!(rt; told(alloc, over.as_str())?, wanted, "row {row:?}");
+    }
+    Ok(())
+}
+
+#[test]
+fn takes_8192_instructions(rt: HostRuntime) -> Result<(), Fail> {
+    let alloc = rt.alloc();
+    let mut text = String::new(alloc);
+    for line in SMALLEST_TEXT.lines().take(8) {
+        text.push_str(line)?;
+        text.push_str("\n")?;
+    }
+    for _ in 0..8 {
+        text.push_str("routine results 0\n")?;
+        for _ in 0..1024 {
+            text.push_str("pop\n")?;
+        }
+    }
+    assert_eq!(rt; told(alloc, text.as_str())?.as_str(), "ok 32846 bytes");
+    text.push_str("routine results 0\npop\n")?;
+    assert_eq!(rt; told(alloc, text.as_str())?.as_str(), "A2 line 8210");
+    Ok(())
+}
+
+#[test]
+fn takes_texts_of_1024_bytes(rt: HostRuntime) -> Result<(), Fail> {
+    let alloc = rt.alloc();
+    let mut name = String::new(alloc);
+    for _ in 0..1024 {
+        name.push_str("x")?;
+    }
+    let whole = format!(in alloc; "state \"{name}\" init 0 body 0 tests -\n")?;
+    let text = with_line(alloc, 8, whole.as_str())?;
+    assert_eq!(rt; told(alloc, text.as_str())?.as_str(), "ok 1084 bytes");
+    let over = format!(in alloc; "state \"{name}\\x41\" init 0 body 0 tests -\n")?;
+    let text = with_line(alloc, 8, over.as_str())?;
+    assert_eq!(rt; told(alloc, text.as_str())?.as_str(), "A2 line 8");
+    Ok(())
+}

@@ -1,0 +1,202 @@
+-- The lines of an image build it.
+use Rattle.std.proofs.Common.{◌≡◌, ◌≢◌, ℕ, zero, suc, ◌+◌, ◌<◌, ◌≤◌, Bool, true, false, cond, List, [], ◌∷◌, ◌++◌, length, map, get_or, Option, Some, None, refl, sym, ap, subst, ◌∙◌, arith, append_assoc, length-append}
+use Rattle.std.specs.Prelude.{◌==◌, ◌&&◌, ◌||◌, not, nat_lt, All, option_and_then, is_some, Contains, min}
+use Rattle.std.specs.Bool.{Decides}
+use Rattle.std.specs.List.{flat_map, AllByRecursion, AllZip}
+use Rattle.std.specs.Str.{bytes_eq}
+use Rattle.std.proofs.lemmas.Bool.{false_from_ne_true, lt-ltb}
+use Rattle.std.proofs.lemmas.Bool.Decides.{Decides-by_or}
+use Rattle.std.proofs.lemmas.List.{append-nil, get_or_at, get_or_append_left, map-append}
+use Rattle.std.proofs.lemmas.List.Elements.{Decides-contains}
+use Rattle.std.proofs.lemmas.List.Sums.{sum_by-append}
+use Rattle.std.proofs.lemmas.Slice.Eq.{bytes_eq-Decides}
+use Rattle.ifs_base.specs.declared.op.Op.{Op}
+use Rattle.ifs_image.specs.declared.parts.TestSpec.{TestSpec}
+use Rattle.ifs_image.specs.declared.parts.StateSpec.{StateSpec}
+use Rattle.ifs_image.specs.declared.parts.Routine.{Routine}
+use Rattle.ifs_image.specs.declared.parts.ImageParts.{ImageParts}
+use Rattle.ifs_image.specs.Limits.{Fits, InRange, AreDistinct, names_of, instructions, RoutineFits}
+use Rattle.ifs_image.specs.Reading.{stands_in}
+use Rattle.ifs_asm.specs.declared.line.Line.{Line}
+use Rattle.ifs_asm.specs.declared.line.Line.TheVariants as lines
+use Rattle.ifs_asm.specs.Texts.{front_lines, routine_lines, lines_of}
+use Rattle.ifs_asm.specs.inner.Building.{Built, listed_routine, parts_of, has_name, is_full, is_in_order, with_line, step, built_of, nothing, is_none}
+
+-- ---- names
+
+stands_in-Decides : (name : List ℕ) (names : List (List ℕ)) → Decides (stands_in name names) (Contains names name)
+stands_in-Decides name names =
+    Decides-contains names name (stands_in name names) (Decides-by_or (λ other. bytes_eq other name) (λ other. other ≡ name) (stands_in name) (λ other. bytes_eq-Decides other name) refl (λ _ _. refl) names)
+
+pub absent : (before : List (List ℕ)) (name : List ℕ) (after : List (List ℕ)) → AreDistinct (before ++ name ∷ after) → stands_in name before ≡ false
+absent before name after apart = false_from_ne_true (stands_in name before) (λ there.
+    let found = (stands_in-Decides name before).0 there in
+    apart found.0 (length before) name found.1 (omega (arith, length-append before (name ∷ after)))
+    (get_or_append_left before (name ∷ after) name found.0 found.1 ∙ found.2 ∙ sym (get_or_at before name after name (length before) refl)))
+
+-- ---- one line
+
+step_by : (x y z : Bool) (b : Built) → x ≡ false → y ≡ false → z ≡ true → cond (x || (y || not z)) None (Some b) ≡ Some b
+step_by x y z b ex ey ez = rw (ex, ey, ez) refl
+
+step_taken : (b : Built) (l : Line) → has_name b l ≡ false → is_full b l ≡ false → is_in_order b l ≡ true → step b l ≡ Some (with_line b l)
+step_taken b l new room order = step_by (has_name b l) (is_full b l) (is_in_order b l) (with_line b l) new room order
+
+has_room : (n most : ℕ) → n < most → not (nat_lt n most) ≡ false
+has_room n most lt = rw (lt-ltb n most lt) refl
+
+-- ---- the tables
+
+-- What was said behind the lines before the tables.
+abbrev mk : ImageParts → List (List ℕ) → List TestSpec → List (List ℕ) → List StateSpec → List Routine → Option Routine → ℕ → Built
+mk p i t c s r current n = record { front = 7; budgets = p.budgets; initial = p.initial; always = p.always; interfaces = i; tests = t; commands = c; states = s; routines = r; current = current; count = n }
+
+front_built : (p : ImageParts) → built_of nothing (front_lines p) ≡ Some (mk p [] [] [] [] [] None 0)
+front_built p = refl
+
+interfaces_built : (p : ImageParts) (xs ys : List (List ℕ)) → AreDistinct (ys ++ xs) → length (ys ++ xs) ≤ 64
+    → built_of (mk p ys [] [] [] [] None 0) (map lines.Interface xs) ≡ Some (mk p (ys ++ xs) [] [] [] [] None 0)
+interfaces_built p [] ys apart few = ap (λ (i : List (List ℕ)). Some (mk p i [] [] [] [] None 0)) (sym (append-nil ys))
+interfaces_built p (x ∷ xs) ys apart few =
+    let b = mk p ys [] [] [] [] None 0 in
+    let same = append_assoc ys (x ∷ []) xs in
+    let s = step_taken b (lines.Interface x) (absent ys x xs apart) (has_room (length ys) 64 (omega (arith, few, length-append ys (x ∷ xs)))) refl in
+    let ih = interfaces_built p xs (ys ++ x ∷ []) (subst AreDistinct (sym same) apart) (subst (λ (zs : List (List ℕ)). length zs ≤ 64) (sym same) few) in
+    ap (option_and_then (λ next. built_of next (map lines.Interface xs))) s ∙ ih ∙ ap (λ (i : List (List ℕ)). Some (mk p i [] [] [] [] None 0)) same
+
+tests_built : (p : ImageParts) (i : List (List ℕ)) (xs ys : List TestSpec) → length (ys ++ xs) ≤ 64
+    → built_of (mk p i ys [] [] [] None 0) (map lines.Test xs) ≡ Some (mk p i (ys ++ xs) [] [] [] None 0)
+tests_built p i [] ys few = ap (λ (t : List TestSpec). Some (mk p i t [] [] [] None 0)) (sym (append-nil ys))
+tests_built p i (x ∷ xs) ys few =
+    let b = mk p i ys [] [] [] None 0 in
+    let same = append_assoc ys (x ∷ []) xs in
+    let s = step_taken b (lines.Test x) refl (has_room (length ys) 64 (omega (arith, few, length-append ys (x ∷ xs)))) refl in
+    let ih = tests_built p i xs (ys ++ x ∷ []) (subst (λ (zs : List TestSpec). length zs ≤ 64) (sym same) few) in
+    ap (option_and_then (λ next. built_of next (map lines.Test xs))) s ∙ ih ∙ ap (λ (t : List TestSpec). Some (mk p i t [] [] [] None 0)) same
+
+commands_built : (p : ImageParts) (i : List (List ℕ)) (t : List TestSpec) (xs ys : List (List ℕ)) → length (ys ++ xs) ≤ 1024
+    → built_of (mk p i t ys [] [] None 0) (map lines.Command xs) ≡ Some (mk p i t (ys ++ xs) [] [] None 0)
+commands_built p i t [] ys few = ap (λ (c : List (List ℕ)). Some (mk p i t c [] [] None 0)) (sym (append-nil ys))
+commands_built p i t (x ∷ xs) ys few =
+    let b = mk p i t ys [] [] None 0 in
+    let same = append_assoc ys (x ∷ []) xs in
+    let s = step_taken b (lines.Command x) refl (has_room (length ys) 1024 (omega (arith, few, length-append ys (x ∷ xs)))) refl in
+    let ih = commands_built p i t xs (ys ++ x ∷ []) (subst (λ (zs : List (List ℕ)). length zs ≤ 1024) (sym same) few) in
+    ap (option_and_then (λ next. built_of next (map lines.Command xs))) s ∙ ih ∙ ap (λ (c : List (List ℕ)). Some (mk p i t c [] [] None 0)) same
+
+states_built : (p : ImageParts) (i : List (List ℕ)) (t : List TestSpec) (c : List (List ℕ)) (xs ys : List StateSpec) → AreDistinct (names_of (ys ++ xs)) → length (ys ++ xs) ≤ 256
+    → built_of (mk p i t c ys [] None 0) (map lines.State xs) ≡ Some (mk p i t c (ys ++ xs) [] None 0)
+states_built p i t c [] ys apart few = ap (λ (s : List StateSpec). Some (mk p i t c s [] None 0)) (sym (append-nil ys))
+states_built p i t c (x ∷ xs) ys apart few =
+    let b = mk p i t c ys [] None 0 in
+    let same = append_assoc ys (x ∷ []) xs in
+    let new = absent (names_of ys) x.name (names_of xs) (subst AreDistinct (map-append (λ (s : StateSpec). s.name) ys (x ∷ xs)) apart) in
+    let s = step_taken b (lines.State x) new (has_room (length ys) 256 (omega (arith, few, length-append ys (x ∷ xs)))) refl in
+    let ih = states_built p i t c xs (ys ++ x ∷ []) (subst (λ (zs : List StateSpec). AreDistinct (names_of zs)) (sym same) apart) (subst (λ (zs : List StateSpec). length zs ≤ 256) (sym same) few) in
+    ap (option_and_then (λ next. built_of next (map lines.State xs))) s ∙ ih ∙ ap (λ (s : List StateSpec). Some (mk p i t c s [] None 0)) same
+
+-- ---- routines
+
+full_by : (k n : ℕ) → k < 1024 → n < 8192 → (not (nat_lt k 1024) || not (nat_lt n 8192)) ≡ false
+full_by k n a b = rw (lt-ltb k 1024 a, lt-ltb n 8192 b) refl
+
+code_built : (p : ImageParts) (i : List (List ℕ)) (t : List TestSpec) (c : List (List ℕ)) (s : List StateSpec) (rs : List Routine) (results n : ℕ) (xs ys : List Op)
+    → length (ys ++ xs) ≤ 1024 → n + length xs ≤ 8192
+    → built_of (mk p i t c s rs (Some (record { results = results; code = ys })) n) (map lines.Instruction xs) ≡ Some (mk p i t c s rs (Some (record { results = results; code = ys ++ xs })) (n + length xs))
+code_built p i t c s rs results n [] ys few room =
+    let same : n ≡ n + length {A = Op} [] = omega arith in
+    ap (λ (o : List Op). Some (mk p i t c s rs (Some (record { results = results; code = o })) n)) (sym (append-nil ys))
+    ∙ ap (λ (k : ℕ). Some (mk p i t c s rs (Some (record { results = results; code = ys ++ [] })) k)) same
+code_built p i t c s rs results n (x ∷ xs) ys few room =
+    let b = mk p i t c s rs (Some (record { results = results; code = ys })) n in
+    let same = append_assoc ys (x ∷ []) xs in
+    let fits : (not (nat_lt (length ys) 1024) || not (nat_lt n 8192)) ≡ false = full_by (length ys) n (omega (arith, few, length-append ys (x ∷ xs))) (omega (arith, room)) in
+    let one = step_taken b (lines.Instruction x) refl fits refl in
+    let ih = code_built p i t c s rs results (n + 1) xs (ys ++ x ∷ []) (subst (λ (zs : List Op). length zs ≤ 1024) (sym same) few) (omega (arith, room)) in
+    let next : min (n + 1) 65535 ≡ n + 1 = omega (arith, room) in
+    let count : n + 1 + length xs ≡ n + length (x ∷ xs) = omega arith in
+    ap (option_and_then (λ next. built_of next (map lines.Instruction xs))) one
+    ∙ ap (λ (k : ℕ). built_of (mk p i t c s rs (Some (record { results = results; code = ys ++ x ∷ [] })) k) (map lines.Instruction xs)) next ∙ ih
+    ∙ ap (λ (o : List Op). Some (mk p i t c s rs (Some (record { results = results; code = o })) (n + 1 + length xs))) same
+    ∙ ap (λ (k : ℕ). Some (mk p i t c s rs (Some (record { results = results; code = ys ++ (x ∷ xs) })) k)) count
+
+append_case : (o : Option Built) (xs ys : List Line) → ((next : Built) → built_of next (xs ++ ys) ≡ option_and_then (λ after. built_of after ys) (built_of next xs))
+    → option_and_then (λ next. built_of next (xs ++ ys)) o ≡ option_and_then (λ after. built_of after ys) (option_and_then (λ next. built_of next xs) o)
+append_case None xs ys ih = refl
+append_case (Some next) xs ys ih = ih next
+
+built_append : (b : Built) (xs ys : List Line) → built_of b (xs ++ ys) ≡ option_and_then (λ next. built_of next ys) (built_of b xs)
+built_append b [] ys = refl
+built_append b (x ∷ xs) ys = append_case (step b x) xs ys (λ next. built_append next xs ys)
+
+pub built_then : (b c : Built) (d : Option Built) (xs ys : List Line) → built_of b xs ≡ Some c → built_of c ys ≡ d → built_of b (xs ++ ys) ≡ d
+built_then b c d xs ys first second = built_append b xs ys ∙ ap (option_and_then (λ next. built_of next ys)) first ∙ second
+
+-- What routines build.
+record Routed (p : ImageParts) (i : List (List ℕ)) (t : List TestSpec) (c : List (List ℕ)) (s : List StateSpec) (b : Built) (more all : List Routine) : Type 0 where
+  routines : List Routine
+  current : Option Routine
+  count : ℕ
+  built : built_of b (flat_map routine_lines more) ≡ Some (mk p i t c s routines current count)
+  are : routines ++ listed_routine current ≡ all
+
+routines_built : (p : ImageParts) (i : List (List ℕ)) (t : List TestSpec) (c : List (List ℕ)) (s : List StateSpec) → is_none s ≡ false → (more rs : List Routine) (current : Option Routine) (n : ℕ)
+    → AllByRecursion RoutineFits more → length ((rs ++ listed_routine current) ++ more) ≤ 1024 → n + instructions more ≤ 8192
+    → Routed p i t c s (mk p i t c s rs current n) more ((rs ++ listed_routine current) ++ more)
+routines_built p i t c s some [] rs current n fit few room = record { routines = rs; current = current; count = n; built = refl; are = sym (append-nil (rs ++ listed_routine current)) }
+routines_built p i t c s some (r ∷ more) rs current n fit few room =
+    let before = rs ++ listed_routine current in
+    let same = append_assoc before (r ∷ []) more in
+    let order : not (is_none s) ≡ true = rw some refl in
+    let head = step_taken (mk p i t c s rs current n) (lines.Routine r.results) refl (has_room (length before) 1024 (omega (arith, few, length-append before (r ∷ more)))) order in
+    let all : instructions (r ∷ more) ≡ length r.code + instructions more = omega (arith, sum_by-append (λ (x : Routine). length x.code) (r ∷ []) more) in
+    let body = code_built p i t c s before r.results n r.code [] fit.0.code (omega (arith, room, all)) in
+    let rest = routines_built p i t c s some more before (Some r) (n + length r.code) fit.1 (subst (λ (zs : List Routine). length zs ≤ 1024) (sym same) few) (omega (arith, room, all)) in
+    let one : built_of (mk p i t c s rs current n) (routine_lines r) ≡ Some (mk p i t c s before (Some r) (n + length r.code)) =
+    ap (option_and_then (λ next. built_of next (map lines.Instruction r.code))) head ∙ body in
+    record {
+      routines = rest.routines;
+      current = rest.current;
+      count = rest.count;
+      built = built_then (mk p i t c s rs current n) (mk p i t c s before (Some r) (n + length r.code)) (Some (mk p i t c s rest.routines rest.current rest.count)) (routine_lines r) (flat_map routine_lines more) one rest.built;
+      are = rest.are ∙ same;
+    }
+
+-- ---- an image
+
+-- What the lines of an image build is its parts.
+pub record IsBuilt (p : ImageParts) : Type 0 where
+  pub after : Built
+  pub built : built_of nothing (lines_of p) ≡ Some after
+  pub parts : parts_of after ≡ p
+
+some_states : (s : List StateSpec) → 1 ≤ length s → is_none s ≡ false
+some_states [] h = absurd (omega (arith, h))
+some_states (x ∷ xs) h = refl
+
+pub image_built : (p : ImageParts) → Fits p → AllByRecursion RoutineFits p.routines → IsBuilt p
+image_built p f each =
+    let b0 = mk p [] [] [] [] [] None 0 in
+    let b1 = mk p p.interfaces [] [] [] [] None 0 in
+    let b2 = mk p p.interfaces p.tests [] [] [] None 0 in
+    let b3 = mk p p.interfaces p.tests p.commands [] [] None 0 in
+    let b4 = mk p p.interfaces p.tests p.commands p.states [] None 0 in
+    let i = interfaces_built p p.interfaces [] f.interfaces.distinct f.counts.interfaces in
+    let t = tests_built p p.interfaces p.tests [] f.counts.tests in
+    let c = commands_built p p.interfaces p.tests p.commands [] f.counts.commands in
+    let s = states_built p p.interfaces p.tests p.commands p.states [] f.states.distinct f.counts.states in
+    let r = routines_built p p.interfaces p.tests p.commands p.states (some_states p.states f.counts.some_state) p.routines [] None 0 each f.counts.routines (omega (arith, f.routines.together)) in
+    let l1 = front_lines p ++ map lines.Interface p.interfaces in
+    let l2 = l1 ++ map lines.Test p.tests in
+    let l3 = l2 ++ map lines.Command p.commands in
+    let l4 = l3 ++ map lines.State p.states in
+    let after = mk p p.interfaces p.tests p.commands p.states r.routines r.current r.count in
+    let e1 = built_then nothing b0 (Some b1) (front_lines p) (map lines.Interface p.interfaces) (front_built p) i in
+    let e2 = built_then nothing b1 (Some b2) l1 (map lines.Test p.tests) e1 t in
+    let e3 = built_then nothing b2 (Some b3) l2 (map lines.Command p.commands) e2 c in
+    let e4 = built_then nothing b3 (Some b4) l3 (map lines.State p.states) e3 s in
+    record {
+      after = after;
+      built = built_then nothing b4 (Some after) l4 (flat_map routine_lines p.routines) e4 r.built;
+      parts = ap (λ (rs : List Routine). record { budgets = p.budgets; initial = p.initial; always = p.always; interfaces = p.interfaces; tests = p.tests; commands = p.commands; states = p.states; routines = rs }) r.are;
+    }

@@ -1,0 +1,193 @@
+-- What words say: the line that is read of them has those words, and fits.
+use Rattle.std.proofs.Common.{◌≡◌, ℕ, zero, suc, ◌+◌, ◌^◌, ◌<◌, ◌≤◌, Bool, true, false, cond, List, [], ◌∷◌, ◌++◌, length, Option, Some, None, refl, sym, ap, subst, ◌∙◌, arith, codes}
+use Rattle.std.specs.Prelude.{◌==◌, ◌&&◌, nat_lt, IfSome, IsUtf8, option_and_then, option_map, All}
+use Rattle.std.specs.List.{AllByRecursion, AllZip}
+use Rattle.std.specs.Str.{bytes_eq, is_utf8}
+use Rattle.std.proofs.lemmas.Str.{is_utf8-from_IsUtf8, IsUtf8-from_is_utf8}
+use Rattle.std.proofs.lemmas.Bool.{and_parts, cond_both, ltb-true, ltb-false}
+use Rattle.ifs_base.specs.Numbers.{number_of}
+use Rattle.ifs_base.specs.Sizes.{PeriodFits}
+use Rattle.ifs_base.specs.Spelling.{HasSpelling}
+use Rattle.ifs_base.specs.declared.op.LinkState.{LinkState}
+use Rattle.ifs_base.specs.declared.op.LinkState.TheVariants.{Unknown, Down, Up}
+use Rattle.ifs_base.specs.Words.{link_word}
+use Rattle.ifs_base.specs.declared.op.Op.{Op}
+use Rattle.ifs_base.specs.declared.op.Op.TheVariants.{Ret, Yes, No, Link, Test, Known, Negate, Both, Either, PushCommand, PushState, Queue, Want, Jump, JumpFalse, JumpTrue, Call, Pop, Dup}
+use Rattle.ifs_image.specs.declared.parts.Handlers.{Handlers}
+use Rattle.ifs_image.specs.declared.parts.TestSpec.{TestSpec}
+use Rattle.ifs_image.specs.declared.parts.StateSpec.{StateSpec}
+use Rattle.ifs_image.specs.Limits.{HandlersInRange}
+use Rattle.ifs_asm.specs.declared.line.Line.{Line}
+use Rattle.ifs_asm.specs.declared.line.Line.TheVariants as lines
+use Rattle.ifs_asm.specs.Texts.{Word, Key, Number, Quoted, Tests, words_of, op_words, handlers_words, tests_of}
+use Rattle.ifs_asm.specs.Spellings.{IsSpelling, IsQuoted, IsList}
+use Rattle.ifs_asm.specs.inner.Words.{Start, text_from, in_utf8, text_in, mask_in}
+use Rattle.ifs_asm.specs.inner.Forms.{plain_op, indexed_op, link_state, up_to, number_up_to, sized, sized_text, period, period_in, version, indexed_line, number_line, two_words, routine_line, link_line, test_line, three_words, handlers_of, handlers_in, always_line, state_line, line_of}
+use Rattle.ifs_asm.proofs.Bytes.{same_word}
+use Rattle.ifs_asm.proofs.Quotes.{text_found}
+use Rattle.ifs_asm.proofs.MaskLists.{mask_found, mask_small}
+use Rattle.ifs_asm.proofs.Cutting.{Spelled}
+use Rattle.ifs_asm.proofs.FormLaws.{TextGood, LineFits}
+
+-- ---- what an option has, by cases
+
+cases_of : {X : Type 0} (o : Option X) (H : Option X → Type 0) → H None → ((x : X) → o ≡ Some x → H (Some x)) → H o
+cases_of None H none some = none
+cases_of (Some x) H none some = some x refl
+
+up_case : (most n : ℕ) (H : Option ℕ → Type 0) → H None → (n ≤ most → H (Some n)) → H (up_to most n)
+up_case most n H none some = cond_both (nat_lt most n) None (Some n) H (λ _. none) (λ e. some (ltb-false most n e))
+
+up_cases : (most : ℕ) (word : List ℕ) (H : Option ℕ → Type 0) → H None → ((n : ℕ) → number_of word ≡ Some n → n ≤ most → H (Some n)) → H (number_up_to most word)
+up_cases most word H none some = cases_of (number_of word) (λ o. H (option_and_then (up_to most) o)) none (λ n e. up_case most n H none (some n e))
+
+period_cases : (word : List ℕ) (H : Option ℕ → Type 0) → H None → ((n : ℕ) → number_of word ≡ Some n → PeriodFits n → H (Some n)) → H (period_in word)
+period_cases word H none some = cases_of (number_of word) (λ o. H (option_and_then period o)) none (λ n e.
+    cond_both (nat_lt 0 n && nat_lt n 604801) (Some n) None H
+    (λ t.
+    let p = and_parts (nat_lt 0 n) (nat_lt n 604801) t in
+    some n e (record { not_zero = omega (arith, ltb-true 0 n p.0); within = omega (arith, ltb-true n 604801 p.1) }))
+    (λ _. none))
+
+text_cases : (word : List ℕ) (H : Option (List ℕ) → Type 0) → H None → ((text : List ℕ) → IsQuoted text word → TextGood text → H (Some text)) → H (sized_text word)
+text_cases word H none some = cases_of (text_from word Start) (λ o. H (option_and_then sized (option_and_then in_utf8 o))) none (λ text e.
+    cond_both (is_utf8 text) (Some text) None (λ o. H (option_and_then sized o))
+    (λ u. cond_both (nat_lt 0 (length text) && nat_lt (length text) 1025) (Some text) None H
+    (λ t.
+    let p = and_parts (nat_lt 0 (length text)) (nat_lt (length text) 1025) t in
+    some text (text_found word text e) (record { some = omega (arith, ltb-true 0 (length text) p.0); within = omega (arith, ltb-true (length text) 1025 p.1); utf8 = IsUtf8-from_is_utf8 text u }))
+    (λ _. none))
+    (λ _. none))
+
+handlers_cases : (a init b body c tests : List ℕ) (H : Option Handlers → Type 0) → H None
+    → ((h : Handlers) → AllZip Spelled (a ∷ init ∷ b ∷ body ∷ c ∷ tests ∷ []) (handlers_words h) → HandlersInRange h → H (Some h)) → H (handlers_in a init b body c tests)
+handlers_cases a init b body c tests H none some =
+    cond_both (bytes_eq a (codes "init") && (bytes_eq b (codes "body") && bytes_eq c (codes "tests"))) (handlers_of init body tests) None H
+    (λ t.
+    let p = and_parts (bytes_eq a (codes "init")) (bytes_eq b (codes "body") && bytes_eq c (codes "tests")) t in
+    let q = and_parts (bytes_eq b (codes "body")) (bytes_eq c (codes "tests")) p.1 in
+    up_cases 65535 init (λ o. H (option_and_then (λ i. option_and_then (λ n. option_map (λ m. record { init = record { 0 = i }; body = record { 0 = n }; mask = m }) (mask_in tests)) (number_up_to 65535 body)) o)) none (λ i is_i small_i.
+    up_cases 65535 body (λ o. H (option_and_then (λ n. option_map (λ m. record { init = record { 0 = i }; body = record { 0 = n }; mask = m }) (mask_in tests)) o)) none (λ n is_n small_n.
+    cases_of (mask_in tests) (λ o. H (option_map (λ m. record { init = record { 0 = i }; body = record { 0 = n }; mask = m }) o)) none (λ m is_m.
+    some (record { init = record { 0 = i }; body = record { 0 = n }; mask = m })
+    (same_word a (codes "init") p.0, (is_i, (same_word b (codes "body") q.0, (is_n, (same_word c (codes "tests") q.1, (mask_found tests m is_m, tt))))))
+    (record { init = omega (arith, small_i); body = omega (arith, small_n); mask = mask_small tests m is_m })))))
+    (λ _. none)
+
+-- ---- the lines
+
+-- A line that is read has the words, and fits.
+abbrev Has : List (List ℕ) → Line → Type 0
+Has words line = AllZip Spelled words (words_of line) × LineFits line
+
+abbrev Gives : List (List ℕ) → Option Line → Type 0
+Gives words o = IfSome o (Has words)
+
+-- A choice by a word.
+pick : (words : List (List ℕ)) (name key : List ℕ) (x y : Option Line) → (name ≡ key → Gives words x) → Gives words y → Gives words (cond (bytes_eq name key) x y)
+pick words name key x y taken others = cond_both (bytes_eq name key) x y (Gives words) (λ e. taken (same_word name key e)) (λ _. others)
+
+pick_op : (words : List (List ℕ)) (name key : List ℕ) (x y : Option Op) → (name ≡ key → Gives words (option_map lines.Instruction x)) → Gives words (option_map lines.Instruction y) → Gives words (option_map lines.Instruction (cond (bytes_eq name key) x y))
+pick_op words name key x y taken others = cond_both (bytes_eq name key) x y (λ o. Gives words (option_map lines.Instruction o)) (λ e. taken (same_word name key e)) (λ _. others)
+
+one_found : (name : List ℕ) → Gives (name ∷ []) (option_map lines.Instruction (plain_op name))
+one_found name =
+    pick_op (name ∷ []) name (codes "ret") _ _ (λ e. ((e, tt), tt)) (
+    pick_op (name ∷ []) name (codes "true") _ _ (λ e. ((e, tt), tt)) (
+    pick_op (name ∷ []) name (codes "false") _ _ (λ e. ((e, tt), tt)) (
+    pick_op (name ∷ []) name (codes "not") _ _ (λ e. ((e, tt), tt)) (
+    pick_op (name ∷ []) name (codes "and") _ _ (λ e. ((e, tt), tt)) (
+    pick_op (name ∷ []) name (codes "or") _ _ (λ e. ((e, tt), tt)) (
+    pick_op (name ∷ []) name (codes "queue") _ _ (λ e. ((e, tt), tt)) (
+    pick_op (name ∷ []) name (codes "want") _ _ (λ e. ((e, tt), tt)) (
+    pick_op (name ∷ []) name (codes "pop") _ _ (λ e. ((e, tt), tt)) (
+    pick_op (name ∷ []) name (codes "dup") _ _ (λ e. ((e, tt), tt)) tt)))))))))
+
+indexed_found : (name word : List ℕ) (n : ℕ) → number_of word ≡ Some n → n < 2 ^ 16 → Gives (name ∷ word ∷ []) (option_map lines.Instruction (indexed_op name n))
+indexed_found name word n is small =
+    pick_op (name ∷ word ∷ []) name (codes "test") _ _ (λ e. ((e, (is, tt)), small)) (
+    pick_op (name ∷ word ∷ []) name (codes "known") _ _ (λ e. ((e, (is, tt)), small)) (
+    pick_op (name ∷ word ∷ []) name (codes "cmd") _ _ (λ e. ((e, (is, tt)), small)) (
+    pick_op (name ∷ word ∷ []) name (codes "state") _ _ (λ e. ((e, (is, tt)), small)) (
+    pick_op (name ∷ word ∷ []) name (codes "jump") _ _ (λ e. ((e, (is, tt)), small)) (
+    pick_op (name ∷ word ∷ []) name (codes "jf") _ _ (λ e. ((e, (is, tt)), small)) (
+    pick_op (name ∷ word ∷ []) name (codes "jt") _ _ (λ e. ((e, (is, tt)), small)) (
+    pick_op (name ∷ word ∷ []) name (codes "call") _ _ (λ e. ((e, (is, tt)), small)) tt)))))))
+
+-- A word and a number up to a limit.
+numbered : (name key word : List ℕ) (most : ℕ) (f : ℕ → Line) → ((n : ℕ) → name ≡ key → number_of word ≡ Some n → n ≤ most → Has (name ∷ word ∷ []) (f n)) → name ≡ key → Gives (name ∷ word ∷ []) (option_map f (number_up_to most word))
+numbered name key word most f h e = up_cases most word (λ o. Gives (name ∷ word ∷ []) (option_map f o)) tt (λ n is le. h n e is le)
+
+texted : (name key word : List ℕ) (f : List ℕ → Line) → ((t : List ℕ) → name ≡ key → IsQuoted t word → TextGood t → Has (name ∷ word ∷ []) (f t)) → name ≡ key → Gives (name ∷ word ∷ []) (option_map f (sized_text word))
+texted name key word f h e = text_cases word (λ o. Gives (name ∷ word ∷ []) (option_map f o)) tt (λ t is good. h t e is good)
+
+number_found : (name word : List ℕ) → Gives (name ∷ word ∷ []) (number_line name word)
+number_found name word =
+    pick (name ∷ word ∷ []) name (codes "stack") _ _ (numbered name (codes "stack") word 32 lines.Stack (λ n e is le. ((e, (is, tt)), le))) (
+    pick (name ∷ word ∷ []) name (codes "frames") _ _ (numbered name (codes "frames") word 32 lines.Frames (λ n e is le. ((e, (is, tt)), le))) (
+    pick (name ∷ word ∷ []) name (codes "cost") _ _ (numbered name (codes "cost") word 300000 lines.Cost (λ n e is le. ((e, (is, tt)), le))) (
+    pick (name ∷ word ∷ []) name (codes "commands") _ _ (numbered name (codes "commands") word 64 lines.Commands (λ n e is le. ((e, (is, tt)), le))) (
+    pick (name ∷ word ∷ []) name (codes "start") _ _ (numbered name (codes "start") word 65535 (λ n. lines.Start (record { 0 = n })) (λ n e is le. ((e, (is, tt)), omega (arith, le))))
+    (up_cases 65535 word (λ o. Gives (name ∷ word ∷ []) (option_and_then (λ n. option_map lines.Instruction (indexed_op name n)) o)) tt (λ n is le. indexed_found name word n is (omega (arith, le))))))))
+
+two_found : (name word : List ℕ) → Gives (name ∷ word ∷ []) (two_words name word)
+two_found name word =
+    pick (name ∷ word ∷ []) name (codes "ifsv") _ _ (λ e. pick (name ∷ word ∷ []) word (codes "1") (Some lines.Version) None (λ one. ((e, (one, tt)), tt)) tt) (
+    pick (name ∷ word ∷ []) name (codes "iface") _ _ (texted name (codes "iface") word lines.Interface (λ t e is good. ((e, (is, tt)), good))) (
+    pick (name ∷ word ∷ []) name (codes "command") _ _ (texted name (codes "command") word lines.Command (λ t e is good. ((e, (is, tt)), good)))
+    (number_found name word)))
+
+state_cases : (word : List ℕ) (H : Option LinkState → Type 0) → H None → ((s : LinkState) → word ≡ link_word s → H (Some s)) → H (link_state word)
+state_cases word H none some =
+    cond_both (bytes_eq word (codes "unknown")) _ _ H (λ e. some Unknown (same_word word (codes "unknown") e)) (λ _.
+    cond_both (bytes_eq word (codes "down")) _ _ H (λ e. some Down (same_word word (codes "down") e)) (λ _.
+    cond_both (bytes_eq word (codes "up")) _ _ H (λ e. some Up (same_word word (codes "up") e)) (λ _. none)))
+
+link_found : (name first second : List ℕ) → name ≡ codes "link" → Gives (name ∷ first ∷ second ∷ []) (link_line first second)
+link_found name first second e =
+    up_cases 65535 first (λ o. Gives (name ∷ first ∷ second ∷ []) (option_and_then (λ n. option_map (λ s. lines.Instruction (Link (record { 0 = n }) s)) (link_state second)) o)) tt (λ n is le.
+    state_cases second (λ o. Gives (name ∷ first ∷ second ∷ []) (option_map (λ s. lines.Instruction (Link (record { 0 = n }) s)) o)) tt (λ s at. ((e, (is, (at, tt))), omega (arith, le))))
+
+test_found : (name first second : List ℕ) → name ≡ codes "test" → Gives (name ∷ first ∷ second ∷ []) (test_line first second)
+test_found name first second e =
+    period_cases first (λ o. Gives (name ∷ first ∷ second ∷ []) (option_and_then (λ n. option_map (λ t. lines.Test (record { period = n; text = t })) (sized_text second)) o)) tt (λ n is fits.
+    text_cases second (λ o. Gives (name ∷ first ∷ second ∷ []) (option_map (λ t. lines.Test (record { period = n; text = t })) o)) tt (λ t at good. ((e, (is, (at, tt))), (fits, good))))
+
+routine_found : (name first second : List ℕ) → name ≡ codes "routine" → Gives (name ∷ first ∷ second ∷ []) (routine_line first second)
+routine_found name first second e =
+    pick (name ∷ first ∷ second ∷ []) first (codes "results") (option_map lines.Routine (number_up_to 1 second)) None (λ at.
+    up_cases 1 second (λ o. Gives (name ∷ first ∷ second ∷ []) (option_map lines.Routine o)) tt (λ n is le. ((e, (at, (is, tt))), le))) tt
+
+three_found : (name first second : List ℕ) → Gives (name ∷ first ∷ second ∷ []) (three_words name first second)
+three_found name first second =
+    pick (name ∷ first ∷ second ∷ []) name (codes "routine") _ _ (routine_found name first second) (
+    pick (name ∷ first ∷ second ∷ []) name (codes "link") _ _ (link_found name first second) (
+    pick (name ∷ first ∷ second ∷ []) name (codes "test") _ _ (test_found name first second) tt))
+
+seven_found : (name a init b body c tests : List ℕ) → Gives (name ∷ a ∷ init ∷ b ∷ body ∷ c ∷ tests ∷ []) (always_line name (handlers_in a init b body c tests))
+seven_found name a init b body c tests =
+    let words = name ∷ a ∷ init ∷ b ∷ body ∷ c ∷ tests ∷ [] in
+    handlers_cases a init b body c tests (λ o. Gives words (always_line name o)) (pick words name (codes "always") None None (λ _. tt) tt) (λ h are small.
+    pick words name (codes "always") (Some (lines.Always h)) None (λ e. ((e, are), small)) tt)
+
+eight_found : (name text a init b body c tests : List ℕ) → Gives (name ∷ text ∷ a ∷ init ∷ b ∷ body ∷ c ∷ tests ∷ []) (state_line name text (handlers_in a init b body c tests))
+eight_found name text a init b body c tests =
+    let words = name ∷ text ∷ a ∷ init ∷ b ∷ body ∷ c ∷ tests ∷ [] in
+    handlers_cases a init b body c tests (λ o. Gives words (state_line name text o)) (pick words name (codes "state") None None (λ _. tt) tt) (λ h are small.
+    pick words name (codes "state") (option_map (λ t. lines.State (record { name = t; handlers = h })) (sized_text text)) None (λ e.
+    text_cases text (λ o. Gives words (option_map (λ t. lines.State (record { name = t; handlers = h })) o)) tt (λ t at good. ((e, (at, are)), (good, small)))) tt)
+
+gives : (words : List (List ℕ)) → Gives words (line_of words)
+gives [] = tt
+gives (a ∷ []) = one_found a
+gives (a ∷ b ∷ []) = two_found a b
+gives (a ∷ b ∷ c ∷ []) = three_found a b c
+gives (a ∷ b ∷ c ∷ d ∷ []) = tt
+gives (a ∷ b ∷ c ∷ d ∷ e ∷ []) = tt
+gives (a ∷ b ∷ c ∷ d ∷ e ∷ f ∷ []) = tt
+gives (a ∷ b ∷ c ∷ d ∷ e ∷ f ∷ g ∷ []) = seven_found a b c d e f g
+gives (a ∷ b ∷ c ∷ d ∷ e ∷ f ∷ g ∷ h ∷ []) = eight_found a b c d e f g h
+gives (a ∷ b ∷ c ∷ d ∷ e ∷ f ∷ g ∷ h ∷ i ∷ more) = tt
+
+pub line_found : (words : List (List ℕ)) (line : Line) → line_of words ≡ Some line → AllZip Spelled words (words_of line) × LineFits line
+line_found words line h = subst (Gives words) h (gives words)

@@ -1,0 +1,54 @@
+-- Reading a text line by line.
+use Rattle.std.proofs.Common.{◌≡◌, ℕ, Bool, true, false, cond, List, [], ◌∷◌, ◌++◌, Option, Some, None, refl, sym, ap, ◌∙◌}
+use Rattle.std.specs.Prelude.{option_and_then}
+use Rattle.ifs_asm.specs.declared.forms.Formed.{Formed}
+use Rattle.ifs_asm.specs.declared.line.Line.{Line}
+use Rattle.ifs_asm.specs.Spellings.{is_silent, spoken}
+use Rattle.ifs_asm.specs.inner.Words.{words_up_to}
+use Rattle.ifs_asm.specs.inner.Forms.{line_of, formed}
+use Rattle.ifs_asm.specs.inner.Building.{Built, step, line_in, built_by, spoken_line}
+
+append_case : (o : Option Built) (xs ys : List (List ℕ)) → ((next : Built) → built_by next (xs ++ ys) ≡ option_and_then (λ after. built_by after ys) (built_by next xs))
+    → option_and_then (λ next. built_by next (xs ++ ys)) o ≡ option_and_then (λ after. built_by after ys) (option_and_then (λ next. built_by next xs) o)
+append_case None xs ys ih = refl
+append_case (Some next) xs ys ih = ih next
+
+line_case : (o : Option Line) (b : Built) (xs ys : List (List ℕ)) → ((next : Built) → built_by next (xs ++ ys) ≡ option_and_then (λ after. built_by after ys) (built_by next xs))
+    → option_and_then (λ line. option_and_then (λ next. built_by next (xs ++ ys)) (step b line)) o ≡ option_and_then (λ after. built_by after ys) (option_and_then (λ line. option_and_then (λ next. built_by next xs) (step b line)) o)
+line_case None b xs ys ih = refl
+line_case (Some line) b xs ys ih = append_case (step b line) xs ys ih
+
+by_append : (xs ys : List (List ℕ)) (b : Built) → built_by b (xs ++ ys) ≡ option_and_then (λ next. built_by next ys) (built_by b xs)
+by_append [] ys b = refl
+by_append (x ∷ xs) ys b = line_case (line_in x) b xs ys (λ next. by_append xs ys next)
+
+pub goes_on : (b c : Built) (left line rest : List ℕ) (total : Option Built) → spoken left ≡ spoken_line line ++ spoken rest → built_by b (spoken_line line) ≡ Some c → built_by b (spoken left) ≡ total → built_by c (spoken rest) ≡ total
+goes_on b c left line rest total cut one so_far =
+    sym (ap (built_by b) cut ∙ by_append (spoken_line line) (spoken rest) b ∙ ap (option_and_then (λ next. built_by next (spoken rest))) one) ∙ so_far
+
+pub stops : (b : Built) (left line rest : List ℕ) (total : Option Built) → spoken left ≡ spoken_line line ++ spoken rest → built_by b (spoken_line line) ≡ None → built_by b (spoken left) ≡ total → total ≡ None
+stops b left line rest total cut one so_far =
+    sym so_far ∙ ap (built_by b) cut ∙ by_append (spoken_line line) (spoken rest) b ∙ ap (option_and_then (λ next. built_by next (spoken rest))) one
+
+pub ends : (b : Built) (left : List ℕ) (total : Option Built) → left ≡ [] → built_by b (spoken left) ≡ total → total ≡ Some b
+unfolding spoken
+ends b left total empty so_far = sym so_far ∙ ap (λ (t : List ℕ). built_by b (spoken t)) empty
+
+-- ---- one line
+
+pub silent_line : (b : Built) (line : List ℕ) → is_silent line ≡ true → built_by b (spoken_line line) ≡ Some b
+silent_line b line e = rw e refl
+
+same_option : (o : Option Built) → option_and_then (λ next. built_by next []) o ≡ o
+same_option None = refl
+same_option (Some b) = refl
+
+formed_case : (b : Built) (o : Option Line) → option_and_then (λ line. option_and_then (λ next. built_by next []) (step b line)) o ≡ option_and_then (step b) o
+formed_case b None = refl
+formed_case b (Some line) = same_option (step b line)
+
+pub one_line : (b : Built) (line : List ℕ) (words : List (List ℕ)) (form : Option Formed) → is_silent line ≡ false → words ≡ words_up_to 9 line → formed form ≡ line_of words → built_by b (spoken_line line) ≡ option_and_then (step b) (formed form)
+unfolding line_in
+one_line b line words form e cut says =
+    let whole : line_in line ≡ formed form = sym (says ∙ ap line_of cut) in
+    rw (e, whole) (formed_case b (formed form))

@@ -1,0 +1,7 @@
+use Rattle.std.proofs.Common.{◌≡◌, ◌++◌, drop}
+use Rattle.std.specs.Option.{option_map}
+use Rattle.ifs_asm.specs.inner.Words.{Start, text_from}
+use Rattle.ifs_asm.proofs.quoting.unquoted.Given as goal
+
+abbrev pub invariant-loop-byte : goal.invariant-loop-byte
+invariant-loop-byte l = option_map (λ text. l.bytes.items ++ text) (text_from (drop l.byte-index l.word) l.quote) ≡ text_from l.word Start

@@ -1,0 +1,96 @@
+-- Which texts spell an image: its lines in their order, each by its words.
+use Rattle.std.specs.Prelude.{ℕ, ◌≡◌, ◌≤◌, ◌<◌, ◌/◌, ◌%◌, ◌==◌, ◌&&◌, ◌||◌, not, nat_lt, Bool, true, false, if◌then◌else◌, List, [], ◌∷◌, ◌++◌, codes, filter, Option, Some}
+use Rattle.std.specs.List.{slice_split, AllZip, AllByRecursion}
+use Rattle.ifs_base.specs.Words.{hex_digit, listed}
+use Rattle.ifs_base.specs.Numbers.{number_of}
+use Rattle.ifs_image.specs.declared.parts.ImageParts.{ImageParts}
+use Rattle.ifs_image.specs.Limits.{Fits, InRange}
+use Rattle.ifs_asm.specs.declared.line.Line.{Line}
+use Rattle.ifs_asm.specs.Texts.{Word, Key, Number, Quoted, Tests, tests_of, words_of, lines_of}
+
+-- A space or a tab.
+abbrev pub is_blank : ℕ → Bool
+is_blank byte = (byte == 32) || (byte == 9)
+
+-- A byte that may stand in quotes as it is: no control character, no quote and no backslash.
+abbrev pub is_plain : ℕ → Bool
+is_plain byte = not (nat_lt byte 32) && not (byte == 127) && not (byte == 34) && not (byte == 92)
+
+-- A byte in quotes is written as it is; a quote or a backslash after a backslash; a character from 1 to 127 by its two
+-- hexadecimal digits, in lower case.
+pub data StandsFor (byte : ℕ) (bytes : List ℕ) : Type 0 where
+  itself : is_plain byte ≡ true → bytes ≡ byte ∷ [] → StandsFor byte bytes
+  escaped : ((byte == 34) || (byte == 92)) ≡ true → bytes ≡ 92 ∷ byte ∷ [] → StandsFor byte bytes
+  hexadecimal : 1 ≤ byte → byte < 128 → bytes ≡ 92 ∷ 120 ∷ hex_digit (byte / 16) ∷ hex_digit (byte % 16) ∷ [] → StandsFor byte bytes
+
+-- Bytes begin with one that stands for a byte, and the others stand for what follows it.
+pub record BeginsWith (byte : ℕ) (Others : List ℕ → Type 0) (bytes : List ℕ) : Type 0 where
+  pub front : List ℕ
+  pub rest : List ℕ
+  pub stands : StandsFor byte front
+  pub others : Others rest
+  pub whole : bytes ≡ front ++ rest
+
+-- Bytes between quotes stand for a text, byte by byte.
+abbrev pub StandFor : List ℕ → List ℕ → Type 0
+StandFor [] bytes = bytes ≡ []
+StandFor (byte ∷ text) bytes = BeginsWith byte (StandFor text) bytes
+
+-- Bytes are a text in quotes.
+pub record IsQuoted (text bytes : List ℕ) : Type 0 where
+  pub inside : List ℕ
+  pub stand : StandFor text inside
+  pub whole : bytes ≡ 34 ∷ (inside ++ codes "\"")
+
+-- Bytes are numbers in digits, with commas between them; a dash where there is none.
+pub record IsList (numbers : List ℕ) (bytes : List ℕ) : Type 0 where
+  pub parts : List (List ℕ)
+  pub each : AllZip (λ part n. number_of part ≡ Some n) parts numbers
+  pub whole : bytes ≡ listed parts
+
+-- Bytes are a spelling of a word. Digits of numbers may have zeros before them.
+abbrev pub IsSpelling : Word → List ℕ → Type 0
+IsSpelling (Key text) bytes = bytes ≡ text
+IsSpelling (Number n) bytes = number_of bytes ≡ Some n
+IsSpelling (Quoted text) bytes = IsQuoted text bytes
+IsSpelling (Tests mask) bytes = IsList (tests_of mask) bytes
+
+-- Nothing follows a word, or a blank.
+abbrev pub EndsWord : List ℕ → Type 0
+EndsWord [] = Unit {0}
+EndsWord (byte ∷ bytes) = is_blank byte ≡ true
+
+-- Bytes begin, after blanks or none, with a spelling of a word that ends there, and the others have the words after it.
+pub record FirstWord (word : Word) (Others : List ℕ → Type 0) (bytes : List ℕ) : Type 0 where
+  pub gap : List ℕ
+  pub first : List ℕ
+  pub rest : List ℕ
+  pub blank : AllByRecursion (λ byte. is_blank byte ≡ true) gap
+  pub spelling : IsSpelling word first
+  pub ends : EndsWord rest
+  pub others : Others rest
+  pub whole : bytes ≡ gap ++ (first ++ rest)
+
+-- Bytes have these words, and blanks.
+abbrev pub HaveWords : List Word → List ℕ → Type 0
+HaveWords [] bytes = AllByRecursion (λ byte. is_blank byte ≡ true) bytes
+HaveWords (word ∷ words) bytes = FirstWord word (HaveWords words) bytes
+
+-- Bytes without newline say a line.
+abbrev pub Says : List ℕ → Line → Type 0
+Says bytes line = HaveWords (words_of line) bytes
+
+-- An empty line and a comment say nothing: after blanks or none nothing stands there, or a semicolon.
+abbrev pub is_silent : List ℕ → Bool
+is_silent [] = true
+is_silent (byte ∷ bytes) = if is_blank byte then is_silent bytes else byte == 59
+
+-- The lines of a text that say something. It is cut at newlines; what follows the last one may be a line, too.
+unfoldable pub spoken : List ℕ → List (List ℕ)
+spoken text = filter (λ bytes. not (is_silent bytes)) (slice_split (λ byte. byte == 10) text)
+
+-- A text spells an image that keeps to its limits: its lines that say something say the lines of the image.
+pub record Spells (text : List ℕ) (p : ImageParts) : Type 0 where
+  pub fits : Fits p
+  pub in_range : InRange p
+  pub says : AllZip Says (spoken text) (lines_of p)

@@ -1,0 +1,158 @@
+-- What lines have said so far, and how one more changes it.
+use Rattle.std.specs.Prelude.{ℕ, ◌+◌, ◌==◌, ◌&&◌, ◌||◌, not, nat_lt, Bool, true, false, if◌then◌else◌, List, [], ◌∷◌, ◌++◌, length, Option, Some, None, option_and_then, is_some, take, map, min}
+use Rattle.std.specs.List.{flat_map}
+use Rattle.ifs_base.specs.declared.ids.StateId.{StateId}
+use Rattle.ifs_base.specs.declared.op.Op.{Op}
+use Rattle.ifs_image.specs.declared.parts.Budgets.{Budgets}
+use Rattle.ifs_image.specs.declared.parts.Handlers.{Handlers}
+use Rattle.ifs_image.specs.declared.parts.TestSpec.{TestSpec}
+use Rattle.ifs_image.specs.declared.parts.StateSpec.{StateSpec}
+use Rattle.ifs_image.specs.declared.parts.Routine.{Routine}
+use Rattle.ifs_image.specs.declared.parts.ImageParts.{ImageParts}
+use Rattle.ifs_image.specs.Limits.{names_of}
+use Rattle.ifs_image.specs.Reading.{stands_in}
+use Rattle.ifs_asm.specs.declared.line.Line.{Line}
+use Rattle.ifs_asm.specs.declared.line.Line.TheVariants as lines
+use Rattle.ifs_asm.specs.Texts.{front_lines, routine_lines}
+use Rattle.ifs_asm.specs.Spellings.{is_silent}
+use Rattle.ifs_asm.specs.inner.Words.{words_up_to}
+use Rattle.ifs_asm.specs.inner.Forms.{line_of}
+
+-- What was said: how many of the lines before the tables, what they say, the tables, the routines that are whole and
+-- the one that instructions go to, and how many instructions all have, up to 65,535.
+pub record Built : Type 0 where
+  pub front : ℕ
+  pub budgets : Budgets
+  pub initial : StateId
+  pub always : Handlers
+  pub interfaces : List (List ℕ)
+  pub tests : List TestSpec
+  pub commands : List (List ℕ)
+  pub states : List StateSpec
+  pub routines : List Routine
+  pub current : Option Routine
+  pub count : ℕ
+
+-- The current routine, where there is one.
+abbrev pub listed_routine : Option Routine → List Routine
+listed_routine None = []
+listed_routine (Some r) = r ∷ []
+
+-- The current routine, by its results and its instructions.
+abbrev pub opened : Option ℕ → List Op → Option Routine
+opened None code = None
+opened (Some results) code = Some (record { results = results; code = code })
+
+-- The parts of what was said.
+abbrev pub parts_of : Built → ImageParts
+parts_of b = record { budgets = b.budgets; initial = b.initial; always = b.always; interfaces = b.interfaces; tests = b.tests; commands = b.commands; states = b.states; routines = b.routines ++ listed_routine b.current }
+
+-- The lines that were said.
+abbrev pub lines_said : Built → List Line
+lines_said b =
+    take b.front (front_lines (parts_of b)) ++ map lines.Interface b.interfaces ++ map lines.Test b.tests ++ map lines.Command b.commands
+    ++ map lines.State b.states ++ flat_map routine_lines (b.routines ++ listed_routine b.current)
+
+abbrev pub is_none : {A : Type 0} → List A → Bool
+is_none [] = true
+is_none (x ∷ xs) = false
+
+-- How many instructions the current routine has.
+abbrev pub current_len : Option Routine → ℕ
+current_len None = 0
+current_len (Some r) = length r.code
+
+-- How many routines there are.
+abbrev pub routine_count : Built → ℕ
+routine_count b = length (b.routines ++ listed_routine b.current)
+
+-- The name of an interface or a state stands before in its table.
+abbrev pub has_name : Built → Line → Bool
+has_name b (lines.Interface name) = stands_in name b.interfaces
+has_name b (lines.State s) = stands_in s.name (names_of b.states)
+has_name b _ = false
+
+-- A table has no room for a line.
+abbrev pub is_full : Built → Line → Bool
+is_full b (lines.Interface name) = not (nat_lt (length b.interfaces) 64)
+is_full b (lines.Test t) = not (nat_lt (length b.tests) 64)
+is_full b (lines.Command text) = not (nat_lt (length b.commands) 1024)
+is_full b (lines.State s) = not (nat_lt (length b.states) 256)
+is_full b (lines.Routine results) = not (nat_lt (routine_count b) 1024)
+is_full b (lines.Instruction op) = not (nat_lt (current_len b.current) 1024) || not (nat_lt b.count 8192)
+is_full b _ = false
+
+-- A line may stand here: no later line was said, and each line before the tables stands once.
+abbrev pub is_in_order : Built → Line → Bool
+is_in_order b lines.Version = b.front == 0
+is_in_order b (lines.Stack n) = b.front == 1
+is_in_order b (lines.Frames n) = b.front == 2
+is_in_order b (lines.Cost n) = b.front == 3
+is_in_order b (lines.Commands n) = b.front == 4
+is_in_order b (lines.Start n) = b.front == 5
+is_in_order b (lines.Always h) = b.front == 6
+is_in_order b (lines.Interface name) = (b.front == 7) && (is_none b.tests && (is_none b.commands && is_none b.states))
+is_in_order b (lines.Test t) = (b.front == 7) && (is_none b.commands && is_none b.states)
+is_in_order b (lines.Command text) = (b.front == 7) && is_none b.states
+is_in_order b (lines.State s) = (b.front == 7) && not (is_some b.current)
+is_in_order b (lines.Routine results) = not (is_none b.states)
+is_in_order b (lines.Instruction op) = is_some b.current
+
+-- A routine with one instruction more.
+abbrev pub with_op : Op → Option Routine → Option Routine
+with_op op None = None
+with_op op (Some r) = Some (record r { code = r.code ++ op ∷ [] })
+
+-- What was said, with a line more.
+abbrev pub with_line : Built → Line → Built
+with_line b lines.Version = record b { front = 1 }
+with_line b (lines.Stack n) = record b { front = 2; budgets = record b.budgets { stack = n } }
+with_line b (lines.Frames n) = record b { front = 3; budgets = record b.budgets { frames = n } }
+with_line b (lines.Cost n) = record b { front = 4; budgets = record b.budgets { cost = n } }
+with_line b (lines.Commands n) = record b { front = 5; budgets = record b.budgets { commands = n } }
+with_line b (lines.Start n) = record b { front = 6; initial = n }
+with_line b (lines.Always h) = record b { front = 7; always = h }
+with_line b (lines.Interface name) = record b { interfaces = b.interfaces ++ name ∷ [] }
+with_line b (lines.Test t) = record b { tests = b.tests ++ t ∷ [] }
+with_line b (lines.Command text) = record b { commands = b.commands ++ text ∷ [] }
+with_line b (lines.State s) = record b { states = b.states ++ s ∷ [] }
+with_line b (lines.Routine results) = record b { routines = b.routines ++ listed_routine b.current; current = Some (record { results = results; code = [] }) }
+with_line b (lines.Instruction op) = record b { current = with_op op b.current; count = min (b.count + 1) 65535 }
+
+-- One line more, where it may stand here.
+abbrev pub step : Built → Line → Option Built
+step b line = if has_name b line || (is_full b line || not (is_in_order b line)) then None else Some (with_line b line)
+
+-- The line of bytes without newline.
+unfoldable pub line_in : List ℕ → Option Line
+line_in bytes = line_of (words_up_to 9 bytes)
+
+-- What is said after lines, each by its bytes.
+abbrev pub built_by : Built → List (List ℕ) → Option Built
+built_by b [] = Some b
+built_by b (bytes ∷ others) = option_and_then (λ line. option_and_then (λ next. built_by next others) (step b line)) (line_in bytes)
+
+-- What is said after lines.
+abbrev pub built_of : Built → List Line → Option Built
+built_of b [] = Some b
+built_of b (line ∷ others) = option_and_then (λ next. built_of next others) (step b line)
+
+-- What a line adds to the lines that say something.
+abbrev pub spoken_line : List ℕ → List (List ℕ)
+spoken_line bytes = if is_silent bytes then [] else bytes ∷ []
+
+-- Nothing was said.
+abbrev pub nothing : Built
+nothing = record {
+  front = 0;
+  budgets = record { stack = 0; frames = 0; cost = 0; commands = 0 };
+  initial = record { 0 = 0 };
+  always = record { init = record { 0 = 0 }; body = record { 0 = 0 }; mask = 0 };
+  interfaces = [];
+  tests = [];
+  commands = [];
+  states = [];
+  routines = [];
+  current = None;
+  count = 0;
+}

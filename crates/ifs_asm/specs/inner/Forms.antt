@@ -1,0 +1,186 @@
+-- Which line words say, by the first word and how many there are.
+use Rattle.std.specs.Prelude.{ℕ, ◌+◌, ◌==◌, ◌&&◌, nat_lt, Bool, true, false, if◌then◌else◌, List, [], ◌∷◌, codes, length, Option, Some, None, option_and_then, option_map}
+use Rattle.std.specs.List.{slice_split}
+use Rattle.std.specs.Str.{bytes_eq}
+use Rattle.ifs_base.specs.Numbers.{number_of}
+use Rattle.ifs_base.specs.declared.op.LinkState.{LinkState}
+use Rattle.ifs_base.specs.declared.op.LinkState.TheVariants.{Unknown, Down, Up}
+use Rattle.ifs_base.specs.declared.op.Op.{Op}
+use Rattle.ifs_base.specs.declared.op.Op.TheVariants.{Ret, Yes, No, Link, Test, Known, Negate, Both, Either, PushCommand, PushState, Queue, Want, Jump, JumpFalse, JumpTrue, Call, Pop, Dup}
+use Rattle.ifs_image.specs.declared.parts.Handlers.{Handlers}
+use Rattle.ifs_asm.specs.declared.line.Line.{Line}
+use Rattle.ifs_asm.specs.declared.line.Line.TheVariants as lines
+use Rattle.ifs_asm.specs.declared.forms.Formed.{Formed}
+use Rattle.ifs_asm.specs.declared.forms.Bounded.{Bounded}
+use Rattle.ifs_asm.specs.declared.forms.SizedText.{SizedText}
+use Rattle.ifs_asm.specs.declared.forms.HandlersForm.{HandlersForm}
+use Rattle.ifs_asm.specs.declared.lists.ListForm.{ListForm}
+use Rattle.ifs_asm.specs.declared.lists.ListForm.TheVariants.{Mask, OutOfRange}
+use Rattle.ifs_asm.specs.inner.Words.{text_in, mask_in, masked}
+
+-- An instruction without operand.
+abbrev pub plain_op : List ℕ → Option Op
+plain_op name =
+    if bytes_eq name (codes "ret") then Some Ret else
+    if bytes_eq name (codes "true") then Some Yes else
+    if bytes_eq name (codes "false") then Some No else
+    if bytes_eq name (codes "not") then Some Negate else
+    if bytes_eq name (codes "and") then Some Both else
+    if bytes_eq name (codes "or") then Some Either else
+    if bytes_eq name (codes "queue") then Some Queue else
+    if bytes_eq name (codes "want") then Some Want else
+    if bytes_eq name (codes "pop") then Some Pop else
+    if bytes_eq name (codes "dup") then Some Dup else None
+
+-- An instruction with an operand.
+abbrev pub indexed_op : List ℕ → ℕ → Option Op
+indexed_op name n =
+    if bytes_eq name (codes "test") then Some (Test (record { 0 = n })) else
+    if bytes_eq name (codes "known") then Some (Known (record { 0 = n })) else
+    if bytes_eq name (codes "cmd") then Some (PushCommand (record { 0 = n })) else
+    if bytes_eq name (codes "state") then Some (PushState (record { 0 = n })) else
+    if bytes_eq name (codes "jump") then Some (Jump n) else
+    if bytes_eq name (codes "jf") then Some (JumpFalse n) else
+    if bytes_eq name (codes "jt") then Some (JumpTrue n) else
+    if bytes_eq name (codes "call") then Some (Call (record { 0 = n })) else None
+
+-- The link state of a word.
+abbrev pub link_state : List ℕ → Option LinkState
+link_state word =
+    if bytes_eq word (codes "unknown") then Some Unknown else
+    if bytes_eq word (codes "down") then Some Down else
+    if bytes_eq word (codes "up") then Some Up else None
+
+-- A number up to a limit.
+abbrev pub up_to : ℕ → ℕ → Option ℕ
+up_to most n = if nat_lt most n then None else Some n
+
+abbrev pub number_up_to : ℕ → List ℕ → Option ℕ
+number_up_to most word = option_and_then (up_to most) (number_of word)
+
+-- A text of 1 to 1,024 bytes.
+abbrev pub sized : List ℕ → Option (List ℕ)
+sized text = if nat_lt 0 (length text) && nat_lt (length text) 1025 then Some text else None
+
+abbrev pub sized_text : List ℕ → Option (List ℕ)
+sized_text word = option_and_then sized (text_in word)
+
+-- A period.
+abbrev pub period : ℕ → Option ℕ
+period n = if nat_lt 0 n && nat_lt n 604801 then Some n else None
+
+abbrev pub period_in : List ℕ → Option ℕ
+period_in word = option_and_then period (number_of word)
+
+-- The version, which is written in one way.
+abbrev pub version : List ℕ → Option Line
+version word = if bytes_eq word (codes "1") then Some lines.Version else None
+
+-- An instruction with an operand that fits.
+abbrev pub indexed_line : List ℕ → List ℕ → Option Line
+indexed_line name word = option_and_then (λ n. option_map lines.Instruction (indexed_op name n)) (number_up_to 65535 word)
+
+-- A name and a number.
+abbrev pub number_line : List ℕ → List ℕ → Option Line
+number_line name word =
+    if bytes_eq name (codes "stack") then option_map lines.Stack (number_up_to 32 word) else
+    if bytes_eq name (codes "frames") then option_map lines.Frames (number_up_to 32 word) else
+    if bytes_eq name (codes "cost") then option_map lines.Cost (number_up_to 300000 word) else
+    if bytes_eq name (codes "commands") then option_map lines.Commands (number_up_to 64 word) else
+    if bytes_eq name (codes "start") then option_map (λ n. lines.Start (record { 0 = n })) (number_up_to 65535 word) else
+    indexed_line name word
+
+-- A name and a word.
+abbrev pub two_words : List ℕ → List ℕ → Option Line
+two_words name word =
+    if bytes_eq name (codes "ifsv") then version word else
+    if bytes_eq name (codes "iface") then option_map lines.Interface (sized_text word) else
+    if bytes_eq name (codes "command") then option_map lines.Command (sized_text word) else
+    number_line name word
+
+-- The line that begins a routine.
+abbrev pub routine_line : List ℕ → List ℕ → Option Line
+routine_line word number = if bytes_eq word (codes "results") then option_map lines.Routine (number_up_to 1 number) else None
+
+-- The instruction on a link.
+abbrev pub link_line : List ℕ → List ℕ → Option Line
+link_line number state = option_and_then (λ n. option_map (λ s. lines.Instruction (Link (record { 0 = n }) s)) (link_state state)) (number_up_to 65535 number)
+
+-- An external test.
+abbrev pub test_line : List ℕ → List ℕ → Option Line
+test_line number text = option_and_then (λ n. option_map (λ t. lines.Test (record { period = n; text = t })) (sized_text text)) (period_in number)
+
+-- A name and two words.
+abbrev pub three_words : List ℕ → List ℕ → List ℕ → Option Line
+three_words name first second =
+    if bytes_eq name (codes "routine") then routine_line first second else
+    if bytes_eq name (codes "link") then link_line first second else
+    if bytes_eq name (codes "test") then test_line first second else None
+
+-- Handlers, by two numbers and a list.
+abbrev pub handlers_of : List ℕ → List ℕ → List ℕ → Option Handlers
+handlers_of init body tests =
+    option_and_then (λ i. option_and_then (λ b. option_map (λ m. record { init = record { 0 = i }; body = record { 0 = b }; mask = m }) (mask_in tests)) (number_up_to 65535 body)) (number_up_to 65535 init)
+
+-- The words of handlers, of which every other stands as it is.
+abbrev pub handlers_in : List ℕ → List ℕ → List ℕ → List ℕ → List ℕ → List ℕ → Option Handlers
+handlers_in a init b body c tests =
+    if bytes_eq a (codes "init") && (bytes_eq b (codes "body") && bytes_eq c (codes "tests")) then handlers_of init body tests else None
+
+-- The always part.
+abbrev pub always_line : List ℕ → Option Handlers → Option Line
+always_line name handlers = if bytes_eq name (codes "always") then option_map lines.Always handlers else None
+
+-- A state.
+abbrev pub state_line : List ℕ → List ℕ → Option Handlers → Option Line
+state_line name text handlers =
+    if bytes_eq name (codes "state") then option_and_then (λ h. option_map (λ t. lines.State (record { name = t; handlers = h })) (sized_text text)) handlers else None
+
+-- The line that words say; none where they have no form, or a number or a text is out of its range.
+abbrev pub line_of : List (List ℕ) → Option Line
+line_of (name ∷ []) = option_map lines.Instruction (plain_op name)
+line_of (name ∷ word ∷ []) = two_words name word
+line_of (name ∷ first ∷ second ∷ []) = three_words name first second
+line_of (name ∷ a ∷ init ∷ b ∷ body ∷ c ∷ tests ∷ []) = always_line name (handlers_in a init b body c tests)
+line_of (name ∷ text ∷ a ∷ init ∷ b ∷ body ∷ c ∷ tests ∷ []) = state_line name text (handlers_in a init b body c tests)
+line_of words = None
+
+-- What the functions that take words apart answer: the line of a form whose numbers are in their ranges.
+abbrev pub formed : Option Formed → Option Line
+formed None = None
+formed (Some f) = if f.fits then Some f.line else None
+
+abbrev pub bounded : Option Bounded → Option ℕ
+bounded None = None
+bounded (Some b) = if b.fits then Some b.value else None
+
+abbrev pub sized_by : Option SizedText → Option (List ℕ)
+sized_by None = None
+sized_by (Some s) = if s.fits then Some s.text else None
+
+abbrev pub handlers_by : Option HandlersForm → Option Handlers
+handlers_by None = None
+handlers_by (Some h) = if h.fits then Some h.handlers else None
+
+abbrev pub mask_by : ListForm → Option ℕ
+mask_by (Mask mask) = Some mask
+mask_by OutOfRange = None
+
+abbrev pub listed_by : Option ListForm → Option ℕ
+listed_by None = None
+listed_by (Some list) = mask_by list
+
+-- The parts that are left of a list, where some are.
+abbrev pub parts_left : Option (List ℕ) → List (List ℕ)
+parts_left None = []
+parts_left (Some text) = slice_split (λ byte. byte == 44) text
+
+-- The mask after parts that are left.
+abbrev pub masked_on : Option ℕ → List (List ℕ) → Option ℕ
+masked_on None parts = None
+masked_on (Some mask) parts = masked mask parts
+
+-- How much is left of a list: one more than its bytes, and nothing where no part is.
+abbrev pub len_left : Option (List ℕ) → ℕ
+len_left None = 0
+len_left (Some text) = length text + 1

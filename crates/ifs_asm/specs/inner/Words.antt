@@ -1,0 +1,129 @@
+-- Reading words: where a word ends, the words of a line, and what quoted texts and lists of tests say.
+use Rattle.std.specs.Prelude.{ℕ, zero, suc, ◌+◌, ◌-◌, ◌*◌, ◌^◌, ◌==◌, ◌&&◌, ◌||◌, not, nat_lt, Bool, true, false, if◌then◌else◌, List, [], ◌∷◌, ◌++◌, codes, length, take, drop, Option, Some, None, option_and_then}
+use Rattle.std.specs.List.{slice_split, prefix_len}
+use Rattle.std.specs.Str.{bytes_eq, is_utf8}
+use Rattle.ifs_base.specs.Numbers.{number_of}
+pub use Rattle.ifs_asm.specs.declared.words.Mode.{Mode}
+pub use Rattle.ifs_asm.specs.declared.words.Mode.TheVariants.{Bare, Inside, Escaped}
+pub use Rattle.ifs_asm.specs.declared.quoting.Quote.{Quote}
+pub use Rattle.ifs_asm.specs.declared.quoting.Quote.TheVariants.{Start, Within, Backslash, High, Low, Done}
+pub use Rattle.ifs_asm.specs.declared.quoting.Turn.{Turn}
+pub use Rattle.ifs_asm.specs.declared.quoting.Turn.TheVariants.{Goes, Gives, Stops}
+use Rattle.ifs_asm.specs.Spellings.{is_blank, is_plain}
+
+-- Where the byte after a byte stands.
+abbrev pub mode_after : Mode → ℕ → Mode
+mode_after Bare byte = if byte == 34 then Inside else Bare
+mode_after Inside byte = if byte == 34 then Bare else if byte == 92 then Escaped else Inside
+mode_after Escaped byte = Inside
+
+-- A word ends before a blank that stands outside quotes.
+abbrev pub ends_at : Mode → ℕ → Bool
+ends_at Bare byte = is_blank byte
+ends_at Inside byte = false
+ends_at Escaped byte = false
+
+-- How many bytes of a word are left.
+abbrev pub word_len : Mode → List ℕ → ℕ
+word_len mode [] = 0
+word_len mode (byte ∷ bytes) = if ends_at mode byte then 0 else 1 + word_len (mode_after mode byte) bytes
+
+-- What stands after blanks.
+abbrev pub after_blanks : List ℕ → List ℕ
+after_blanks bytes = drop (prefix_len is_blank bytes) bytes
+
+-- The word at the front, and what stands after it.
+abbrev pub word_of : List ℕ → List ℕ
+word_of bytes = take (word_len Bare bytes) bytes
+
+abbrev pub after_word : List ℕ → List ℕ
+after_word bytes = drop (word_len Bare bytes) bytes
+
+-- The first word of bytes that do not begin with a blank, and what others gives of the rest; none where there is none.
+abbrev pub first_then : (List ℕ → List (List ℕ)) → List ℕ → List (List ℕ)
+first_then others [] = []
+first_then others (byte ∷ bytes) = word_of (byte ∷ bytes) ∷ others (after_word (byte ∷ bytes))
+
+-- The first words, so many at most.
+abbrev pub words_up_to : ℕ → List ℕ → List (List ℕ)
+words_up_to zero bytes = []
+words_up_to (suc n) bytes = first_then (words_up_to n) (after_blanks bytes)
+
+-- ---- texts in quotes
+
+-- The value of a hexadecimal digit in lower case.
+abbrev pub hex_value : ℕ → Option ℕ
+hex_value byte =
+    if nat_lt 47 byte && nat_lt byte 58 then Some (byte - 48) else
+    if nat_lt 96 byte && nat_lt byte 103 then Some (byte - 87) else None
+
+-- After the first hexadecimal digit of a character.
+abbrev pub high_turn : Option ℕ → Turn
+high_turn None = Stops
+high_turn (Some digit) = Goes (Low digit)
+
+-- After its second one; it is a character from 1 to 127.
+abbrev pub low_turn : ℕ → Option ℕ → Turn
+low_turn high None = Stops
+low_turn high (Some digit) = if nat_lt high 8 && nat_lt 0 (high + digit) then Gives (16 * high + digit) else Stops
+
+abbrev pub turn : Quote → ℕ → Turn
+turn Start byte = if byte == 34 then Goes Within else Stops
+turn Within byte =
+    if byte == 34 then Goes Done else
+    if byte == 92 then Goes Backslash else
+    if is_plain byte then Gives byte else Stops
+turn Backslash byte =
+    if (byte == 34) || (byte == 92) then Gives byte else
+    if byte == 120 then Goes High else Stops
+turn High byte = high_turn (hex_value byte)
+turn (Low high) byte = low_turn high (hex_value byte)
+turn Done byte = Stops
+
+-- A byte before the rest of a text.
+abbrev pub onto : ℕ → Option (List ℕ) → Option (List ℕ)
+onto byte None = None
+onto byte (Some text) = Some (byte ∷ text)
+
+-- The text after a turn, by what the bytes after it give from where they stand.
+abbrev pub after_turn : (Quote → Option (List ℕ)) → Turn → Option (List ℕ)
+after_turn others (Goes quote) = others quote
+after_turn others (Gives byte) = onto byte (others Within)
+after_turn others Stops = None
+
+-- The text at the end of the bytes.
+abbrev pub at_end : Quote → Option (List ℕ)
+at_end Done = Some []
+at_end Start = None
+at_end Within = None
+at_end Backslash = None
+at_end High = None
+at_end (Low high) = None
+
+-- The text that bytes from a place on stand for.
+abbrev pub text_from : List ℕ → Quote → Option (List ℕ)
+text_from [] quote = at_end quote
+text_from (byte ∷ bytes) quote = after_turn (text_from bytes) (turn quote byte)
+
+-- A text in UTF-8.
+abbrev pub in_utf8 : List ℕ → Option (List ℕ)
+in_utf8 text = if is_utf8 text then Some text else None
+
+-- The text that a word in quotes stands for.
+abbrev pub text_in : List ℕ → Option (List ℕ)
+text_in word = option_and_then in_utf8 (text_from word Start)
+
+-- ---- lists of tests
+
+-- A mask with one test more, which is over all that it has.
+abbrev pub with_test : ℕ → ℕ → Option ℕ
+with_test mask test = if nat_lt test 64 && nat_lt mask (2 ^ test) then Some (2 ^ test + mask) else None
+
+-- A mask with the tests of numbers in digits.
+abbrev pub masked : ℕ → List (List ℕ) → Option ℕ
+masked mask [] = Some mask
+masked mask (part ∷ parts) = option_and_then (λ test. option_and_then (λ more. masked more parts) (with_test mask test)) (number_of part)
+
+-- The mask that a list stands for.
+abbrev pub mask_in : List ℕ → Option ℕ
+mask_in word = if bytes_eq word (codes "-") then Some 0 else masked 0 (slice_split (λ byte. byte == 44) word)
