@@ -2,7 +2,6 @@
 
 ghost use Rattle.std.specs.Prelude.{◌≡◌, ◌≢◌, None, map, option_map, string_bytes, IfOk};
 ghost use Rattle.ifsvm.specs.Answers.{AreAccepted, AreGood, IsGiven, IsPrinted};
-ghost use Rattle.ifsvm.specs.declared.task.Task.TheVariants.{Asm};
 
 use crate::assembling::asm;
 use crate::checking::check;
@@ -25,10 +24,9 @@ pub fn answer(
     input: &[u8],
     defs: &[(&str, &str)],
 ) -> Result<Answer, AllocError>
-    // Bytes are told to be good exactly where they are what the task asks for. That an assembly text which is refused
-    // spells no image is not claimed.
+    // Bytes are told to be good exactly where they are what the task asks for.
     ensures good { IfOk result (λ answer. answer.status ≡ 0 → AreGood task input.now (map (λ d. (d.0.now, d.1.now)) defs.now)) }
-    ensures refused { IfOk result (λ answer. answer.status ≢ 0 → task ≢ Asm → ¬ AreGood task input.now (map (λ d. (d.0.now, d.1.now)) defs.now)) }
+    ensures refused { IfOk result (λ answer. answer.status ≢ 0 → ¬ AreGood task input.now (map (λ d. (d.0.now, d.1.now)) defs.now)) }
     // What is printed of an image is its canonical text.
     ensures text { IfOk result (λ answer. answer.status ≡ 0 → IsPrinted task input.now (string_bytes answer.text)) }
     // The file is the one that the task asks for, and there is none with a refusal.

@@ -1,9 +1,8 @@
 //! What `asm` answers to the bytes of an assembly text.
 
 ghost use Rattle.std.specs.Prelude.{◌≡◌, ◌≢◌, None, option_map, IsSomeAnd, IfOk};
-ghost use Rattle.std.specs.Str.{IsUtf8};
 ghost use Rattle.ifs_image.specs.Spelling.{Spells};
-ghost use Rattle.ifsvm.specs.Answers.{AreImage};
+ghost use Rattle.ifsvm.specs.Answers.{AreAssembly, IsAssembled};
 
 use crate::checking::{NotText, text_of};
 use crate::task::Answer;
@@ -13,8 +12,9 @@ use std::alloc::{AllocError, Global};
 
 /// The answer of `asm`: the length of the image that a text spells, which is the file. It is not verified.
 pub fn asm(alloc: Global, bytes: &[u8]) -> Result<Answer, AllocError>
-    ensures good { IfOk result (λ answer. answer.status ≡ 0 → IsUtf8 bytes.now) }
-    ensures file { IfOk result (λ answer. answer.status ≡ 0 → IsSomeAnd (option_map (λ file. file.items) answer.file) AreImage) }
+    ensures good { IfOk result (λ answer. answer.status ≡ 0 → AreAssembly bytes.now) }
+    ensures refused { IfOk result (λ answer. answer.status ≢ 0 → ¬ AreAssembly bytes.now) }
+    ensures file { IfOk result (λ answer. answer.status ≡ 0 → IsSomeAnd (option_map (λ file. file.items) answer.file) (IsAssembled bytes.now)) }
     ensures no_file { IfOk result (λ answer. answer.status ≢ 0 → answer.file ≡ None) }
 {
     let text = match text_of(bytes) {
