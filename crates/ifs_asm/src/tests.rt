@@ -1,7 +1,7 @@
 //! Texts that were written by hand from the table of the format.
 
 use super::*;
-use ifs_image::{read, write};
+use ifs_image::{Image, read, write};
 use ifs_rows::{bytes_of, images};
 use std::alloc::Global;
 use std::test::Fail;
@@ -259,16 +259,31 @@ fn reads_back_what_it_writes(rt: HostRuntime) -> Result<(), Fail> {
     let alloc = rt.alloc();
     for hex in IMAGES {
         let bytes = bytes_of(alloc, hex)?;
-        let text = disassemble(alloc, &read(alloc, bytes.as_slice())?)?;
-        let image = assemble(alloc, text.as_str())?;
-        assert_eq!(rt;
-            write(alloc, &image)?.as_slice(),
-            bytes.as_slice(),
-            "{text}"
-        );
-        assert_eq!(rt; disassemble(alloc, &image)?, text);
+        let text = text_in(alloc, bytes.as_slice())?;
+        let back = bytes_in(alloc, text.as_str())?;
+        assert_eq!(rt; back.as_slice(), bytes.as_slice(), "{text}");
     }
     Ok(())
+}
+
+/// The text of the image that bytes spell.
+fn text_in(alloc: Global, bytes: &[u8]) -> Result<String, Fail> {
+    let image = read(alloc, bytes)?;
+    listing(alloc, &image)
+}
+
+fn listing(alloc: Global, image: &Image) -> Result<String, Fail> {
+    Ok(disassemble(alloc, image)?)
+}
+
+/// The bytes of the image that a text spells.
+fn bytes_in(alloc: Global, text: &str) -> Result<Vec<u8>, Fail> {
+    let image = assemble(alloc, text)?;
+    spelling(alloc, &image)
+}
+
+fn spelling(alloc: Global, image: &Image) -> Result<Vec<u8>, Fail> {
+    Ok(write(alloc, image)?)
 }
 
 /// In each row: the line of the smallest image's text before which lines are put (11 is its end), such a line, in

@@ -5,8 +5,8 @@ use crate::task::{Answer, Task};
 use ifs_core::Core;
 use ifs_gen::laws::compiled_is_verified;
 use ifs_gen::{compile, generate};
-use ifs_image::write;
-use ifs_policy::policy_of;
+use ifs_image::{Image, write};
+use ifs_policy::{Policy, policy_of};
 use ifs_rows::compiling::{LIMITS_OF_ACTIONS, LIMITS_OF_PAIRS, actions, compiled_policies, pairs};
 use ifs_rows::policies::{accepted, refused_names, refused_texts, refused_tokens};
 use ifs_rows::{Checked, bytes_of, rows, sessions};
@@ -125,8 +125,16 @@ fn first_policy_is_compiled(rt: HostRuntime) -> Result<(), Fail> {
 /// The bytes of the image that is generated of a text's policy.
 fn written(alloc: Global, text: &str) -> Result<Vec<u8>, Fail> {
     let found = policy_of(alloc, text, &[])?;
-    let image = generate(alloc, &found.policy)?;
-    Ok(write(alloc, &image)?)
+    generated(alloc, &found.policy)
+}
+
+fn generated(alloc: Global, policy: &Policy) -> Result<Vec<u8>, Fail> {
+    let image = generate(alloc, policy)?;
+    spelling(alloc, &image)
+}
+
+fn spelling(alloc: Global, image: &Image) -> Result<Vec<u8>, Fail> {
+    Ok(write(alloc, image)?)
 }
 
 #[test]
