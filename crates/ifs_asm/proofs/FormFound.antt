@@ -1,28 +1,25 @@
 -- What words say: the line that is read of them has those words, and fits.
-use Rattle.std.proofs.Common.{◌≡◌, ℕ, zero, suc, ◌+◌, ◌^◌, ◌<◌, ◌≤◌, Bool, true, false, cond, List, [], ◌∷◌, ◌++◌, length, Option, Some, None, refl, sym, ap, subst, ◌∙◌, arith, codes}
-use Rattle.std.specs.Prelude.{◌==◌, ◌&&◌, nat_lt, IfSome, IsUtf8, option_and_then, option_map, All}
-use Rattle.std.specs.List.{AllByRecursion, AllZip}
+use Rattle.std.proofs.Common.{◌≡◌, ℕ, ◌^◌, ◌<◌, ◌≤◌, cond, List, [], ◌∷◌, length, Option, Some, None, refl, subst, arith, codes}
+use Rattle.std.specs.Prelude.{◌&&◌, nat_lt, IfSome, option_and_then, option_map}
+use Rattle.std.specs.List.{AllZip}
 use Rattle.std.specs.Str.{bytes_eq, is_utf8}
-use Rattle.std.proofs.lemmas.Str.{is_utf8-from_IsUtf8, IsUtf8-from_is_utf8}
+use Rattle.std.proofs.lemmas.Str.{IsUtf8-from_is_utf8}
 use Rattle.std.proofs.lemmas.Bool.{and_parts, cond_both, ltb-true, ltb-false}
 use Rattle.ifs_base.specs.Numbers.{number_of}
 use Rattle.ifs_base.specs.Sizes.{PeriodFits}
-use Rattle.ifs_base.specs.Spelling.{HasSpelling}
 use Rattle.ifs_base.specs.declared.op.LinkState.{LinkState}
 use Rattle.ifs_base.specs.declared.op.LinkState.TheVariants.{Unknown, Down, Up}
 use Rattle.ifs_base.specs.Words.{link_word}
 use Rattle.ifs_base.specs.declared.op.Op.{Op}
-use Rattle.ifs_base.specs.declared.op.Op.TheVariants.{Ret, Yes, No, Link, Test, Known, Negate, Both, Either, PushCommand, PushState, Queue, Want, Jump, JumpFalse, JumpTrue, Call, Pop, Dup}
+use Rattle.ifs_base.specs.declared.op.Op.TheVariants.{Link}
 use Rattle.ifs_image.specs.declared.parts.Handlers.{Handlers}
-use Rattle.ifs_image.specs.declared.parts.TestSpec.{TestSpec}
-use Rattle.ifs_image.specs.declared.parts.StateSpec.{StateSpec}
 use Rattle.ifs_image.specs.Limits.{HandlersInRange}
 use Rattle.ifs_asm.specs.declared.line.Line.{Line}
 use Rattle.ifs_asm.specs.declared.line.Line.TheVariants as lines
-use Rattle.ifs_asm.specs.Texts.{Word, Key, Number, Quoted, Tests, words_of, op_words, handlers_words, tests_of}
-use Rattle.ifs_asm.specs.Spellings.{IsSpelling, IsQuoted, IsList}
-use Rattle.ifs_asm.specs.inner.Words.{Start, text_from, in_utf8, text_in, mask_in}
-use Rattle.ifs_asm.specs.inner.Forms.{plain_op, indexed_op, link_state, up_to, number_up_to, sized, sized_text, period, period_in, version, indexed_line, number_line, two_words, routine_line, link_line, test_line, three_words, handlers_of, handlers_in, always_line, state_line, line_of}
+use Rattle.ifs_asm.specs.Texts.{words_of, handlers_words}
+use Rattle.ifs_asm.specs.Spellings.{IsQuoted}
+use Rattle.ifs_asm.specs.inner.Words.{Start, text_from, in_utf8, mask_in}
+use Rattle.ifs_asm.specs.inner.Forms.{plain_op, indexed_op, link_state, up_to, number_up_to, sized, sized_text, period, period_in, number_line, two_words, routine_line, link_line, test_line, three_words, handlers_of, handlers_in, always_line, state_line, line_of}
 use Rattle.ifs_asm.proofs.Bytes.{same_word}
 use Rattle.ifs_asm.proofs.Quotes.{text_found}
 use Rattle.ifs_asm.proofs.MaskLists.{mask_found, mask_small}

@@ -1,28 +1,26 @@
 -- Images and the texts that spell them.
-use Rattle.std.proofs.Common.{◌≡◌, ◌≢◌, ℕ, zero, suc, ◌+◌, ◌^◌, ◌<◌, ◌≤◌, List, [], ◌∷◌, ◌++◌, length, map, Option, Some, None, refl, sym, ap, subst, ◌∙◌, arith}
+use Rattle.std.proofs.Common.{◌≡◌, ◌≢◌, ℕ, ◌<◌, List, [], ◌∷◌, ◌++◌, map, Option, Some, None, refl, sym, ap, subst, ◌∙◌, arith}
 use Rattle.std.specs.Prelude.{option_and_then, All, IsUtf8}
 use Rattle.std.specs.List.{flat_map, AllByRecursion, AllZip}
 use Rattle.std.proofs.lemmas.Option.{same_Some, none-some}
 use Rattle.std.proofs.lemmas.List.Elements.{All-from_recursion, recursion_from_All}
 use Rattle.ifs_base.specs.Sizes.{TextFits}
 use Rattle.ifs_base.specs.Spelling.{HasSpelling}
-use Rattle.ifs_base.specs.declared.op.LinkState.TheVariants.{Unknown, Down, Up}
 use Rattle.ifs_base.specs.declared.op.Op.{Op}
 use Rattle.ifs_base.specs.declared.op.Op.TheVariants.{Ret, Yes, No, Link, Test, Known, Negate, Both, Either, PushCommand, PushState, Queue, Want, Jump, JumpFalse, JumpTrue, Call, Pop, Dup}
 use Rattle.ifs_image.specs.declared.parts.Handlers.{Handlers}
-use Rattle.ifs_image.specs.declared.parts.TestSpec.{TestSpec}
 use Rattle.ifs_image.specs.declared.parts.StateSpec.{StateSpec}
 use Rattle.ifs_image.specs.declared.parts.Routine.{Routine}
 use Rattle.ifs_image.specs.declared.parts.ImageParts.{ImageParts}
 use Rattle.ifs_image.specs.Limits.{Fits, InRange, HandlersInRange, StateInRange, TestFits, RoutineFits}
 use Rattle.ifs_asm.specs.declared.line.Line.{Line}
 use Rattle.ifs_asm.specs.declared.line.Line.TheVariants as lines
-use Rattle.ifs_asm.specs.Texts.{words_of, op_words, front_lines, routine_lines, lines_of, line_text, canonical}
+use Rattle.ifs_asm.specs.Texts.{words_of, op_words, front_lines, routine_lines, lines_of, canonical}
 use Rattle.ifs_asm.specs.Spellings.{Says, spoken, Spells}
 use Rattle.ifs_asm.specs.inner.Building.{Built, parts_of, step, line_in, built_by, built_of, nothing}
 use Rattle.ifs_asm.proofs.Bytes.{each_append, each_weaker}
 use Rattle.ifs_asm.proofs.FormLaws.{LineFits, TextGood}
-use Rattle.ifs_asm.proofs.TextLaws.{WordFits, LineWritten, line_in_again, spoken_lines, lines_say, bare}
+use Rattle.ifs_asm.proofs.TextLaws.{WordFits, LineWritten, line_in_again, spoken_lines, lines_say}
 use Rattle.ifs_asm.proofs.BuildAgain.{image_built}
 use Rattle.ifs_asm.proofs.BuildFound.{image_said}
 

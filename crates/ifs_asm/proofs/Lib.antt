@@ -4,6 +4,7 @@ mod Runs
 mod Bytes
 mod Cutting
 mod Quotes
+mod Finds
 mod MaskLists
 mod FormLaws
 mod FormFound

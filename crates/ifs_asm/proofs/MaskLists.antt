@@ -1,10 +1,10 @@
 -- Lists of tests: what is read of one is the mask whose tests it lists.
-use Rattle.std.proofs.Common.{◌≡◌, ℕ, zero, suc, ◌+◌, ◌-◌, ◌*◌, ◌/◌, ◌%◌, ◌^◌, ◌<◌, ◌≤◌, ◌≢◌, Bool, true, false, cond, List, [], ◌∷◌, ◌++◌, length, map, Option, Some, None, refl, sym, ap, subst, ◌∙◌, arith, codes, decimal, append_assoc, pow-suc, mod-lt, length-append, inl, inr}
-use Rattle.std.specs.Prelude.{◌==◌, ◌&&◌, ◌||◌, not, nat_lt, option_and_then}
+use Rattle.std.proofs.Common.{◌≡◌, ℕ, zero, suc, ◌+◌, ◌-◌, ◌*◌, ◌%◌, ◌^◌, ◌<◌, ◌≤◌, Bool, true, false, cond, List, [], ◌∷◌, ◌++◌, length, map, Option, Some, refl, sym, ap, subst, ◌∙◌, arith, codes, decimal, append_assoc, pow-suc, mod-lt, length-append, inl, inr}
+use Rattle.std.specs.Prelude.{◌==◌, ◌&&◌, nat_lt, option_and_then}
 use Rattle.std.specs.Int.{bit_at}
 use Rattle.std.specs.List.{flat_map, slice_split, onto_first, AllByRecursion, AllZip, All}
 use Rattle.std.specs.Str.{bytes_eq}
-use Rattle.std.proofs.lemmas.Bool.{and_parts, and_from, cond_both, ne_eqb, eqb-true, eqb-false, eq-eqb, or_from, cond-false, ltb-true, lt-ltb, not-true, cases_Bool, cases_order, false_from_ne_true}
+use Rattle.std.proofs.lemmas.Bool.{and_parts, cond_both, eqb-true, eqb-false, or_from, cond-false, ltb-true, lt-ltb, cases_order}
 use Rattle.std.proofs.lemmas.List.{append-nil}
 use Rattle.std.proofs.lemmas.List.Elements.{All-from_recursion}
 use Rattle.std.proofs.lemmas.List.Splits.{slice_split_none, slice_split_at, length-slice_split}
@@ -16,8 +16,8 @@ use Rattle.ifs_base.specs.Words.{listed}
 use Rattle.ifs_base.specs.Numbers.{number_of}
 use Rattle.ifs_asm.specs.Texts.{tests_from, tests_of}
 use Rattle.ifs_asm.specs.Spellings.{is_blank, IsList}
-use Rattle.ifs_asm.specs.inner.Words.{Mode, Bare, mode_after, ends_at, with_test, masked, mask_in}
-use Rattle.ifs_asm.proofs.Bytes.{IsDigit, number_digits, number_nonempty, number_decimal, digit_is_not, each_append, each_weaker, same_word, same_itself}
+use Rattle.ifs_asm.specs.inner.Words.{Bare, with_test, masked, mask_in}
+use Rattle.ifs_asm.proofs.Bytes.{IsDigit, number_digits, number_nonempty, number_decimal, digit_is_not, each_append, each_weaker, same_word}
 use Rattle.ifs_asm.proofs.Cutting.{runs, IsOneWord}
 
 abbrev pub IsNumber : List ℕ → ℕ → Type 0

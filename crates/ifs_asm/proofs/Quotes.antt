@@ -1,14 +1,13 @@
 -- Texts in quotes: what is read of one is the text that its bytes stand for.
-use Rattle.std.proofs.Common.{◌≡◌, ℕ, zero, suc, ◌+◌, ◌-◌, ◌*◌, ◌/◌, ◌%◌, ◌<◌, ◌≤◌, ◌≢◌, Bool, true, false, cond, List, [], ◌∷◌, ◌++◌, length, Option, Some, None, refl, sym, ap, subst, ◌∙◌, arith, codes, append_assoc}
-use Rattle.std.specs.Prelude.{◌==◌, ◌&&◌, ◌||◌, not, nat_lt}
+use Rattle.std.proofs.Common.{◌≡◌, ℕ, ◌+◌, ◌*◌, ◌/◌, ◌%◌, ◌<◌, true, false, cond, List, [], ◌∷◌, ◌++◌, Option, Some, None, refl, sym, ap, subst, ◌∙◌, arith, append_assoc}
+use Rattle.std.specs.Prelude.{◌==◌, ◌&&◌, ◌||◌, nat_lt}
 use Rattle.std.specs.List.{flat_map, AllByRecursion}
-use Rattle.std.proofs.lemmas.Bool.{and_parts, and_from, cond_both, ne_eqb, eqb-true, ltb-true, not-true, or_cases, cases_Bool, false_from_ne_true}
+use Rattle.std.proofs.lemmas.Bool.{and_parts, cond_both, eqb-true, ltb-true}
 use Rattle.std.proofs.lemmas.Bool.Decides.{nat_tests}
-use Rattle.std.proofs.lemmas.List.{append-nil}
 use Rattle.ifs_base.specs.Words.{hex_digit, quoted_byte, quoted}
-use Rattle.ifs_asm.specs.Spellings.{is_blank, is_plain, StandsFor, itself, escaped, hexadecimal, BeginsWith, StandFor, IsQuoted}
-use Rattle.ifs_asm.specs.inner.Words.{Mode, Bare, Inside, Escaped, mode_after, ends_at, Quote, Start, Within, Backslash, High, Low, Done, Turn, Goes, Gives, Stops, hex_value, high_turn, low_turn, turn, onto, after_turn, at_end, text_from}
-use Rattle.ifs_asm.proofs.Cutting.{runs, is_bare, IsOneWord}
+use Rattle.ifs_asm.specs.Spellings.{is_plain, StandsFor, itself, escaped, hexadecimal, StandFor, IsQuoted}
+use Rattle.ifs_asm.specs.inner.Words.{Inside, Quote, Start, Within, Backslash, High, Low, Done, Turn, Goes, Gives, Stops, hex_value, high_turn, low_turn, turn, onto, after_turn, text_from}
+use Rattle.ifs_asm.proofs.Cutting.{runs, IsOneWord}
 
 -- ---- hexadecimal digits
 
@@ -29,7 +28,7 @@ plain_parts b e = (grind (arith, nat_tests), grind (arith, nat_tests))
 quote_parts : (b : ℕ) → ((b == 34) || (b == 92)) ≡ true → b < 128
 quote_parts b e = grind (arith, nat_tests)
 
-read_plain : (b : ℕ) (rest : List ℕ) → is_plain b ≡ true → text_from (b ∷ rest) Within ≡ onto b (text_from rest Within)
+pub read_plain : (b : ℕ) (rest : List ℕ) → is_plain b ≡ true → text_from (b ∷ rest) Within ≡ onto b (text_from rest Within)
 read_plain b rest e =
     let p = plain_parts b e in
     rw (e, p.0, p.1) refl

@@ -1,29 +1,26 @@
 -- The lines of a text: which line bytes say, and that the canonical text says the lines of its image.
-use Rattle.std.proofs.Common.{◌≡◌, ◌≢◌, ℕ, zero, suc, ◌+◌, ◌^◌, ◌/◌, ◌%◌, ◌<◌, ◌≤◌, Bool, true, false, cond, List, [], ◌∷◌, ◌++◌, length, map, Option, Some, None, refl, sym, ap, subst, ◌∙◌, arith, codes, decimal, append_assoc, inl, inr}
-use Rattle.std.specs.Prelude.{◌==◌, ◌&&◌, ◌||◌, not, nat_lt, All, IsUtf8, filter}
+use Rattle.std.proofs.Common.{◌≡◌, ℕ, ◌^◌, ◌/◌, ◌%◌, ◌<◌, Bool, true, false, List, [], ◌∷◌, ◌++◌, length, map, Some, refl, sym, ap, subst, ◌∙◌, arith, codes, append_assoc, inl}
+use Rattle.std.specs.Prelude.{◌==◌, ◌&&◌, ◌||◌, not, nat_lt, filter}
 use Rattle.std.specs.List.{flat_map, slice_split, AllByRecursion, AllZip}
-use Rattle.std.proofs.lemmas.Bool.{and_parts, ltb-true, not-true, ne_eqb}
+use Rattle.std.proofs.lemmas.Bool.{and_parts, ltb-true, not-true}
 use Rattle.std.proofs.lemmas.Bool.Decides.{nat_tests}
-use Rattle.std.proofs.lemmas.List.Elements.{All-from_recursion, recursion_from_All}
+use Rattle.std.proofs.lemmas.List.Elements.{All-from_recursion}
 use Rattle.std.proofs.lemmas.List.Splits.{slice_split_at}
-use Rattle.ifs_base.specs.Words.{quoted, listed, hex_digit, link_word}
-use Rattle.ifs_base.specs.Numbers.{number_of}
-use Rattle.ifs_base.specs.Spelling.{HasSpelling}
+use Rattle.ifs_base.specs.Words.{listed, hex_digit}
 use Rattle.ifs_base.specs.declared.op.LinkState.TheVariants.{Unknown, Down, Up}
 use Rattle.ifs_base.specs.declared.op.Op.{Op}
 use Rattle.ifs_base.specs.declared.op.Op.TheVariants.{Ret, Yes, No, Link, Test, Known, Negate, Both, Either, PushCommand, PushState, Queue, Want, Jump, JumpFalse, JumpTrue, Call, Pop, Dup}
 use Rattle.ifs_asm.specs.declared.line.Line.{Line}
 use Rattle.ifs_asm.specs.declared.line.Line.TheVariants as lines
 use Rattle.ifs_asm.specs.Texts.{Word, Key, Number, Quoted, Tests, written, words_of, op_words, tests_of, spaced, line_text}
-use Rattle.ifs_asm.specs.Spellings.{is_blank, is_plain, is_silent, StandsFor, itself, escaped, hexadecimal, StandFor, IsQuoted, IsList, IsSpelling, EndsWord, HaveWords, Says, spoken}
+use Rattle.ifs_asm.specs.Spellings.{is_blank, is_plain, is_silent, StandsFor, itself, escaped, hexadecimal, StandFor, IsSpelling, EndsWord, HaveWords, Says, spoken}
 use Rattle.ifs_asm.specs.inner.Words.{Bare, words_up_to}
-use Rattle.ifs_asm.specs.inner.Forms.{line_of}
 use Rattle.ifs_asm.specs.inner.Building.{line_in}
 use Rattle.ifs_asm.proofs.Bytes.{IsDigit, number_digits, number_decimal, digit_is_not, each_append, each_weaker}
-use Rattle.ifs_asm.proofs.Cutting.{runs, IsOneWord, IsSingle, Spelled, cut_found, cut_again}
+use Rattle.ifs_asm.proofs.Cutting.{runs, IsOneWord, IsSingle, cut_found, cut_again}
 use Rattle.ifs_asm.proofs.Quotes.{quoted_single, quoted_is}
 use Rattle.ifs_asm.proofs.MaskLists.{IsNumber, number_single, list_single, list_written}
-use Rattle.ifs_asm.proofs.FormLaws.{LineFits, TextGood, line_again}
+use Rattle.ifs_asm.proofs.FormLaws.{LineFits, line_again}
 use Rattle.ifs_asm.proofs.FormFound.{line_found}
 
 -- ---- the words of lines, as the table has them

@@ -1,8 +1,7 @@
 //! An image that is built line by line.
 
-ghost use Rattle.std.specs.Prelude.{◌≡◌, ◌≢◌, ◌++◌, ◌∷◌, [], Some, None, MatchResult, OnOk, IfErr, option_and_then};
+ghost use Rattle.std.specs.Prelude.{◌≡◌, ◌≢◌, ◌++◌, ◌∷◌, [], Some, None, MatchResult, OnOk, IfErr, IfOk, option_and_then};
 ghost use Rattle.ifs_asm.specs.declared.fault.LineFault.TheVariants as faults;
-ghost use Rattle.std.specs.Prelude.{IfOk};
 ghost use Rattle.std.specs.List.{list_any};
 ghost use Rattle.std.specs.Str.{bytes_eq};
 ghost use Rattle.ifs_image.specs.Limits.{names_of};

@@ -1,7 +1,6 @@
 //! The forms of lines: what their words are, and whether their numbers and texts are in their ranges.
 
-ghost use Rattle.std.specs.Prelude.{◌≡◌, ◌≤◌, IfOk, IfSome, map};
-ghost use Rattle.std.specs.Prelude.{◌&&◌, ℕ, nat_lt, length, option_map};
+ghost use Rattle.std.specs.Prelude.{◌≡◌, ◌≤◌, ◌&&◌, ℕ, IfOk, IfSome, length, map, nat_lt, option_map};
 ghost use Rattle.ifs_asm.specs.declared.line.Line.TheVariants as lines;
 ghost use Rattle.ifs_asm.specs.inner.Forms.{plain_op, indexed_op, link_state, number_up_to, sized_text, period_in, version, indexed_line, number_line, two_words, routine_line, link_line, test_line, three_words, handlers_in, handlers_of, always_line, state_line, line_of, formed, bounded, sized_by, handlers_by};
 
@@ -13,6 +12,9 @@ use ifs_base::{
 };
 use ifs_image::{Handlers, StateSpec, TestSpec, limits};
 use std::alloc::{AllocError, Global};
+
+/// The greatest number of an entry, a routine or a place.
+const INDEX: u32 = 65_535;
 
 /// A line that fits a form.
 #[derive(Debug, Drop)]
@@ -211,7 +213,7 @@ fn version(word: &[u8]) -> Option<Formed>
 fn indexed_line(name: &[u8], word: &[u8]) -> Option<Formed>
     ensures { formed result ≡ indexed_line name.now word.now }
 {
-    let number = number_up_to(word, 65_535)?;
+    let number = number_up_to(word, INDEX)?;
     let line = Line::Instruction(indexed_op(name, number.value as u16)?);
     Some(Formed {
         line,
@@ -224,19 +226,19 @@ fn number_line(name: &[u8], word: &[u8]) -> Option<Formed>
     ensures { formed result ≡ number_line name.now word.now }
 {
     if name == b"stack".as_slice() {
-        let number = number_up_to(word, 32)?;
+        let number = number_up_to(word, u32::from(limits::STACK))?;
         Some(number.says(Line::Stack(number.value as u16)))
     } else if name == b"frames".as_slice() {
-        let number = number_up_to(word, 32)?;
+        let number = number_up_to(word, u32::from(limits::FRAMES))?;
         Some(number.says(Line::Frames(number.value as u16)))
     } else if name == b"cost".as_slice() {
         let number = number_up_to(word, limits::EVENT_COST)?;
         Some(number.says(Line::Cost(number.value)))
     } else if name == b"commands".as_slice() {
-        let number = number_up_to(word, 64)?;
+        let number = number_up_to(word, u32::from(limits::COMMANDS_OF_EVENT))?;
         Some(number.says(Line::Commands(number.value as u16)))
     } else if name == b"start".as_slice() {
-        let number = number_up_to(word, 65_535)?;
+        let number = number_up_to(word, INDEX)?;
         Some(number.says(Line::Start(StateId(number.value as u16))))
     } else {
         indexed_line(name, word)
@@ -318,7 +320,7 @@ fn routine_line(word: &[u8], results: &[u8]) -> Option<Formed>
     if word != b"results".as_slice() {
         return None;
     }
-    let number = number_up_to(results, 1)?;
+    let number = number_up_to(results, u32::from(limits::RESULTS))?;
     Some(number.says(Line::Routine(number.value as u8)))
 }
 
@@ -326,7 +328,7 @@ fn routine_line(word: &[u8], results: &[u8]) -> Option<Formed>
 fn link_line(number: &[u8], state: &[u8]) -> Option<Formed>
     ensures { formed result ≡ link_line number.now state.now }
 {
-    let number = number_up_to(number, 65_535)?;
+    let number = number_up_to(number, INDEX)?;
     let op = Op::Link(IfaceId(number.value as u16), link_state(state)?);
     Some(number.says(Line::Instruction(op)))
 }
@@ -392,8 +394,8 @@ fn handlers_in(words: HandlersWords<'_>) -> Option<HandlersForm>
 fn handlers_of(init: &[u8], body: &[u8], tests: &[u8]) -> Option<HandlersForm>
     ensures { handlers_by result ≡ handlers_of init.now body.now tests.now }
 {
-    let init = number_up_to(init, 65_535)?;
-    let body = number_up_to(body, 65_535)?;
+    let init = number_up_to(init, INDEX)?;
+    let body = number_up_to(body, INDEX)?;
     let (mask, ascend) = match list_of(tests)? {
         ListForm::Mask(mask) => (mask, true),
         ListForm::OutOfRange => (0, false),

@@ -10,6 +10,7 @@ mod forms;
 pub mod laws;
 mod line;
 mod lists;
+mod plain;
 mod printing;
 mod quoting;
 mod reading;

@@ -1,12 +1,12 @@
 //! Texts in quotes.
 
-ghost use Rattle.std.specs.Prelude.{◌≡◌, ◌++◌, ◌<◌, length, string_bytes, MatchOption, IfSome, IfOk, OnOk, codes};
+ghost use Rattle.std.specs.Prelude.{◌≡◌, ◌++◌, ◌<◌, ◌≤◌, List, ℕ, length, option_and_then, string_bytes, MatchOption, IfSome, IfOk, OnOk, codes};
 ghost use Rattle.std.specs.Option.{option_map};
-ghost use Rattle.ifs_asm.specs.inner.Words.{Start, Within, Backslash, text_in, text_from, in_utf8, turn, high_turn, low_turn, hex_value};
-ghost use Rattle.std.specs.List.{flat_map, prefix_len};
+ghost use Rattle.ifs_asm.specs.inner.Words.{Start, Within, Backslash, text_in, text_from, in_utf8, turn, after_turn, high_turn, low_turn, hex_value};
+ghost use Rattle.std.specs.List.{flat_map};
 ghost use Rattle.ifs_base.specs.Words.{quoted_byte, quoted};
-ghost use Rattle.ifs_asm.specs.Spellings.{is_plain};
 
+use crate::plain::{is_plain, plain_run};
 use ifs_base::{QuotedByte, Text, digit_value, quote_byte};
 use std::alloc::{AllocError, Global};
 
@@ -85,20 +85,6 @@ fn split_plain(text: &str) -> Option<Parts<'_>>
     })
 }
 
-/// How many bytes at the front of a text stand in quotes as they are.
-fn plain_run(bytes: &[u8]) -> usize
-    ensures { result ≡ prefix_len is_plain bytes.now }
-{
-    bytes.iter().take_while(|byte| is_plain(**byte)).count()
-}
-
-/// Whether a byte stands in quotes as it is.
-fn is_plain(byte: u8) -> bool
-    ensures { result ≡ is_plain byte }
-{
-    byte >= 32 && byte != 127 && byte != b'"' && byte != b'\\'
-}
-
 /// The text that a word in quotes stands for; `None` where the word is none.
 pub(crate) fn text_of(alloc: Global, word: &[u8]) -> Result<Option<Text>, AllocError>
     ensures { IfOk result (λ text. text ≡ text_in word.now) }
@@ -125,20 +111,49 @@ fn unquoted(alloc: Global, word: &[u8]) -> Result<Option<Vec<u8>>, AllocError>
 {
     let mut bytes = Vec::new(alloc);
     let mut quote = Quote::Start;
-    for byte in word {
-        match turn_at(quote, *byte) {
-            Turn::Goes(next) => quote = next,
-            Turn::Gives(given) => {
-                bytes.push(given)?;
-                quote = Quote::Within;
-            }
-            Turn::Stops => return Ok(None),
-        }
+    let mut left = word;
+    while let Some((byte, rest)) = left.split_first() {
+        let Some(next) = take_byte(&mut bytes, quote, *byte)? else {
+            return Ok(None);
+        };
+        quote = next;
+        left = take_run(&mut bytes, quote, rest)?;
     }
     if quote.is_done() {
         Ok(Some(bytes))
     } else {
         Ok(None)
+    }
+}
+
+/// Takes a byte, and gives where the next one stands; `None` where it cannot stand here.
+fn take_byte(bytes: &mut Vec<u8>, quote: Quote, byte: u8) -> Result<Option<Quote>, AllocError>
+    ensures { IfOk result (λ next. (rest : List ℕ) → option_map (λ text. bytes.new.items ++ text) (option_and_then (text_from rest) next)
+        ≡ option_map (λ text. bytes.old.items ++ text) (after_turn (text_from rest) (turn quote byte))) }
+{
+    match turn_at(quote, byte) {
+        Turn::Goes(next) => Ok(Some(next)),
+        Turn::Gives(given) => {
+            bytes.push(given)?;
+            Ok(Some(Quote::Within))
+        }
+        Turn::Stops => Ok(None),
+    }
+}
+
+/// Takes the bytes that stand between quotes as they are, if the next one stands there, and gives what follows.
+fn take_run<'a>(bytes: &mut Vec<u8>, quote: Quote, left: &'a [u8]) -> Result<&'a [u8], AllocError>
+    ensures text { IfOk result (λ rest. option_map (λ text. bytes.new.items ++ text) (text_from rest.now quote)
+        ≡ option_map (λ text. bytes.old.items ++ text) (text_from left.now quote)) }
+    ensures shorter { IfOk result (λ rest. length rest.now ≤ length left.now) }
+{
+    match quote {
+        Quote::Within => {
+            let (run, rest) = left.split_at(plain_run(left));
+            bytes.extend_from_slice(run)?;
+            Ok(rest)
+        }
+        _ => Ok(left),
     }
 }
 

@@ -13,6 +13,7 @@ use crate::fault::{AsmFault, LineFault};
 use crate::forms::form_of;
 use crate::words::{is_silent, words_of};
 use ifs_image::Image;
+use memchr::memchr;
 use std::alloc::Global;
 
 /// The image that a text spells. After a refusal nothing is kept.
@@ -58,7 +59,7 @@ fn split_line(text: &[u8]) -> (&[u8], &[u8])
 fn newline(text: &[u8]) -> Option<usize>
     ensures { result ≡ position (λ byte. byte == 10) text.now }
 {
-    text.iter().position(|byte| *byte == b'\n')
+    memchr(b'\n', text)
 }
 
 /// Takes a line, unless it is empty or a comment.

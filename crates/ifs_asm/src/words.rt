@@ -5,6 +5,7 @@ ghost use Rattle.std.specs.List.{prefix_len};
 ghost use Rattle.ifs_asm.specs.Spellings.{is_blank, is_silent};
 ghost use Rattle.ifs_asm.specs.inner.Words.{Bare, word_len, after_blanks, words_up_to};
 
+use crate::plain::run_in_quotes;
 use arrayvec::ArrayVec;
 
 /// One word more than the longest form of a line has.
@@ -76,7 +77,8 @@ pub(crate) enum Mode {
 }
 
 impl Mode {
-    ghost use Rattle.ifs_asm.specs.inner.Words.{mode_after, ends_at};
+    ghost use Rattle.std.specs.Prelude.{◌≡◌, ◌≤◌, ◌+◌, length};
+    ghost use Rattle.ifs_asm.specs.inner.Words.{mode_after, ends_at, word_len};
 
     /// Where the byte after a byte stands.
     fn after(self, byte: u8) -> Mode
@@ -100,6 +102,17 @@ impl Mode {
             Mode::Inside | Mode::Escaped => false,
         }
     }
+
+    /// What stands behind the bytes that leave everything as it is: inside quotes all but a quote and a backslash.
+    fn skip(self, bytes: &[u8]) -> &[u8]
+        ensures value { length bytes.now + word_len self result.now ≡ length result.now + word_len self bytes.now }
+        ensures within { length result.now ≤ length bytes.now }
+    {
+        match self {
+            Mode::Inside => &bytes[run_in_quotes(bytes)..],
+            Mode::Bare | Mode::Escaped => bytes,
+        }
+    }
 }
 
 /// How many bytes stand before the first blank outside of quotes.
@@ -108,11 +121,13 @@ fn word_len(bytes: &[u8]) -> usize
     ensures within { result ≤ length bytes.now }
 {
     let mut mode = Mode::Bare;
-    for (index, byte) in bytes.iter().enumerate() {
+    let mut left = bytes;
+    while let Some((byte, rest)) = left.split_first() {
         if mode.ends_at(*byte) {
-            return index;
+            return bytes.len() - left.len();
         }
         mode = mode.after(*byte);
+        left = mode.skip(rest);
     }
     bytes.len()
 }

@@ -1,5 +1,5 @@
 -- Reading words: where a word ends, the words of a line, and what quoted texts and lists of tests say.
-use Rattle.std.specs.Prelude.{ℕ, zero, suc, ◌+◌, ◌-◌, ◌*◌, ◌^◌, ◌==◌, ◌&&◌, ◌||◌, not, nat_lt, Bool, true, false, if◌then◌else◌, List, [], ◌∷◌, ◌++◌, codes, length, take, drop, Option, Some, None, option_and_then}
+use Rattle.std.specs.Prelude.{ℕ, zero, suc, ◌+◌, ◌-◌, ◌*◌, ◌^◌, ◌==◌, ◌&&◌, ◌||◌, not, nat_lt, Bool, false, if◌then◌else◌, List, [], ◌∷◌, codes, take, drop, Option, Some, None, option_and_then}
 use Rattle.std.specs.List.{slice_split, prefix_len}
 use Rattle.std.specs.Str.{bytes_eq, is_utf8}
 use Rattle.ifs_base.specs.Numbers.{number_of}
@@ -22,6 +22,10 @@ abbrev pub ends_at : Mode → ℕ → Bool
 ends_at Bare byte = is_blank byte
 ends_at Inside byte = false
 ends_at Escaped byte = false
+
+-- A byte inside quotes that neither ends them nor begins an escape.
+abbrev pub goes_on : ℕ → Bool
+goes_on byte = not ((byte == 34) || (byte == 92))
 
 -- How many bytes of a word are left.
 abbrev pub word_len : Mode → List ℕ → ℕ

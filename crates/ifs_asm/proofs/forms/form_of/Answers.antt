@@ -1,4 +1,3 @@
-use Rattle.std.proofs.Common.{arith}
 use Rattle.ifs_asm.specs.inner.Forms.{formed}
 use Rattle.ifs_asm.proofs.Shapes.{eight_from}
 use Rattle.ifs_asm.proofs.forms.form_of.Goals as goal

@@ -1,4 +1,4 @@
-use Rattle.std.proofs.Common.{◌≡◌, ◌==◌, length, option_map}
+use Rattle.std.proofs.Common.{◌≡◌, ◌==◌, option_map}
 use Rattle.std.specs.List.{slice_split}
 use Rattle.ifs_asm.specs.inner.Words.{masked}
 use Rattle.ifs_asm.specs.inner.Forms.{mask_by, parts_left, masked_on, len_left}

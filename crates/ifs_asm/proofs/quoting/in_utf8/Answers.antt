@@ -1,4 +1,4 @@
-use Rattle.std.proofs.Common.{refl, sym, ap, ◌∙◌}
+use Rattle.std.proofs.Common.{ap, ◌∙◌}
 use Rattle.std.proofs.lemmas.Str.{IsUtf8-string_bytes}
 use Rattle.ifs_asm.proofs.Utf8.{is_text, is_no_text}
 use Rattle.ifs_asm.proofs.quoting.in_utf8.Goals as goal

@@ -1,4 +1,4 @@
-use Rattle.std.proofs.Common.{◌≡◌, ◌≢◌, List, ℕ, map, Option, Some, None, subst, sym, ap, ◌∙◌, MatchResult}
+use Rattle.std.proofs.Common.{◌≡◌, ◌≢◌, map, Option, Some, None, subst, sym, ap, ◌∙◌, MatchResult}
 use Rattle.std.specs.Prelude.{option_and_then}
 use Rattle.ifs_asm.specs.declared.forms.Formed.{Formed}
 use Rattle.ifs_asm.specs.declared.fault.LineFault.TheVariants as faults

@@ -1,4 +1,4 @@
-use Rattle.std.proofs.Common.{List, ℕ, take, drop, arith, ap, ◌∙◌}
+use Rattle.std.proofs.Common.{ℕ, take, drop, arith, ap, ◌∙◌}
 use Rattle.ifs_asm.proofs.Cutting.{one_more_word, some_bytes}
 use Rattle.ifs_asm.proofs.words.words_of.Goals as goal
 

@@ -1,0 +1,159 @@
+-- What a search for a byte finds, and what stands before it.
+use Rattle.std.proofs.Common.{◌≡◌, ℕ, suc, ◌+◌, ◌-◌, ◌<◌, Bool, true, false, cond, List, [], ◌∷◌, ◌++◌, length, length-drop, take, drop, Option, Some, None, refl, sym, ap, subst, ◌∙◌, arith, append_assoc}
+use Rattle.std.specs.Prelude.{◌==◌, not, nat_lt, option_and_then}
+use Rattle.std.specs.Option.{option_map, unwrap_or}
+use Rattle.std.specs.List.{prefix_len, position, list_all}
+use Rattle.std.proofs.lemmas.Bool.{true≢false, and_parts, not_from_true, not_from_false, false_from_ne_true}
+use Rattle.std.proofs.lemmas.Bool.Decides.{nat_tests}
+use Rattle.std.proofs.lemmas.List.{take_rest}
+use Rattle.std.proofs.lemmas.List.Sums.{prefix_len_is, prefix_len-le-length}
+use Rattle.memchr.specs.Find.{IsFirstByte}
+use Rattle.ifs_asm.specs.Spellings.{is_plain}
+use Rattle.ifs_asm.specs.inner.Words.{Quote, Within, Mode, Inside, mode_after, word_len, goes_on, onto, text_from, turn, after_turn}
+use Rattle.ifs_asm.proofs.Quotes.{read_plain}
+
+-- ---- searches
+
+abbrev pub others : (ℕ → Bool) → ℕ → Bool
+others test x = not (test x)
+
+nowhere_len : (test : ℕ → Bool) (bs : List ℕ) → IsFirstByte test bs None → prefix_len (others test) bs ≡ length bs
+nowhere_len test bs h =
+    prefix_len_is (others test) bs (length bs) 0 (omega arith) (λ k lt. not_from_false _ (false_from_ne_true _ (h k (omega arith) lt))) (λ lt. absurd (omega (arith, lt)))
+
+found_len : (test : ℕ → Bool) (bs : List ℕ) (k : ℕ) → IsFirstByte test bs (Some k) → (k < length bs) × (prefix_len (others test) bs ≡ k)
+found_len test bs k h =
+    let first = h.0 in
+    (first.high, prefix_len_is (others test) bs k 0 (omega (arith, first.high)) (λ i lt. not_from_false _ (false_from_ne_true _ (first.before i (omega arith) lt))) (λ lt. not_from_true _ h.1))
+
+-- What is found is the first place.
+pub found_place : (test : ℕ → Bool) (bs : List ℕ) (r : Option ℕ) → IsFirstByte test bs r → r ≡ position test bs
+found_place test bs None h =
+    let n = nowhere_len test bs h in
+    let not_below : nat_lt (prefix_len (others test) bs) (length bs) ≡ false = grind (arith, nat_tests) in
+    rw not_below refl
+found_place test bs (Some k) h =
+    let f = found_len test bs k h in
+    let below : nat_lt (prefix_len (others test) bs) (length bs) ≡ true = grind (arith, nat_tests) in
+    rw below (ap Some (sym f.1))
+
+-- So many bytes stand before it.
+pub found_before : (test : ℕ → Bool) (bs : List ℕ) (r : Option ℕ) → IsFirstByte test bs r → unwrap_or r (length bs) ≡ prefix_len (others test) bs
+found_before test bs None h = sym (nowhere_len test bs h)
+found_before test bs (Some k) h = sym (found_len test bs k h).1
+
+-- ---- runs of bytes in quotes
+
+goes_parts : (b : ℕ) → goes_on b ≡ true → ((b == 34) ≡ false) × ((b == 92) ≡ false)
+goes_parts b e = (grind (arith, nat_tests), grind (arith, nat_tests))
+
+plain_goes : (b : ℕ) → goes_on b ≡ false → is_plain b ≡ false
+plain_goes b e = grind (arith, nat_tests)
+
+skip_case : (b n : ℕ) (bs : List ℕ) (t : Bool) → goes_on b ≡ t → word_len Inside bs ≡ n + word_len Inside (drop n bs)
+    → 1 + word_len (mode_after Inside b) bs ≡ cond t (1 + n) 0 + word_len Inside (drop (cond t (1 + n) 0) (b ∷ bs))
+skip_case b n bs true e ih =
+    let p = goes_parts b e in
+    let k : 1 + n ≡ suc n = omega arith in
+    let one_more : 1 + word_len Inside bs ≡ suc n + word_len Inside (drop n bs) = omega (arith, ih) in
+    subst (λ (m : ℕ). 1 + word_len (mode_after Inside b) bs ≡ m + word_len Inside (drop m (b ∷ bs))) (sym k) (rw (p.0, p.1) one_more)
+skip_case b n bs false e ih = omega arith
+
+-- Inside quotes a word goes on behind a run as it did before it.
+pub skips : (bs : List ℕ) → word_len Inside bs ≡ prefix_len goes_on bs + word_len Inside (drop (prefix_len goes_on bs) bs)
+skips [] = omega arith
+skips (b ∷ bs) = skip_case b (prefix_len goes_on bs) bs (goes_on b) refl (skips bs)
+
+plain_case : (b n m : ℕ) (bs : List ℕ) (t u : Bool) → goes_on b ≡ t → is_plain b ≡ u → (list_all is_plain (take n bs) ≡ true → n ≡ m)
+    → list_all is_plain (take (cond t (1 + n) 0) (b ∷ bs)) ≡ true → cond t (1 + n) 0 ≡ cond u (1 + m) 0
+plain_case b n m bs true true e f ih all =
+    let k : 1 + n ≡ suc n = omega arith in
+    let more : list_all is_plain (take (suc n) (b ∷ bs)) ≡ true = subst (λ (j : ℕ). list_all is_plain (take j (b ∷ bs)) ≡ true) k all in
+    ap (λ (j : ℕ). 1 + j) (ih (and_parts (is_plain b) (list_all is_plain (take n bs)) more).1)
+plain_case b n m bs true false e f ih all =
+    let k : 1 + n ≡ suc n = omega arith in
+    let more : list_all is_plain (take (suc n) (b ∷ bs)) ≡ true = subst (λ (j : ℕ). list_all is_plain (take j (b ∷ bs)) ≡ true) k all in
+    absurd (true≢false (sym (and_parts (is_plain b) (list_all is_plain (take n bs)) more).0 ∙ f))
+plain_case b n m bs false true e f ih all = absurd (true≢false (sym f ∙ plain_goes b e))
+plain_case b n m bs false false e f ih all = refl
+
+-- Where all of a run is plain, it is the run of plain bytes.
+pub plain_len : (bs : List ℕ) → list_all is_plain (take (prefix_len goes_on bs) bs) ≡ true → prefix_len goes_on bs ≡ prefix_len is_plain bs
+plain_len [] all = refl
+plain_len (b ∷ bs) all = plain_case b (prefix_len goes_on bs) (prefix_len is_plain bs) bs (goes_on b) (is_plain b) refl refl (plain_len bs) all
+
+-- ---- texts
+
+abbrev before : List ℕ → Option (List ℕ) → Option (List ℕ)
+before front o = option_map (λ text. front ++ text) o
+
+before_none : (o : Option (List ℕ)) → o ≡ before [] o
+before_none None = refl
+before_none (Some text) = refl
+
+before_onto : (b : ℕ) (front : List ℕ) (o : Option (List ℕ)) → onto b (before front o) ≡ before (b ∷ front) o
+before_onto b front None = refl
+before_onto b front (Some text) = refl
+
+before_both : (first second : List ℕ) (o : Option (List ℕ)) → before (first ++ second) o ≡ before first (before second o)
+before_both first second None = refl
+before_both first second (Some text) = ap Some (append_assoc first second text)
+
+run_case : (b n : ℕ) (bs : List ℕ) (t : Bool) → is_plain b ≡ t → text_from bs Within ≡ before (take n bs) (text_from (drop n bs) Within)
+    → text_from (b ∷ bs) Within ≡ before (take (cond t (1 + n) 0) (b ∷ bs)) (text_from (drop (cond t (1 + n) 0) (b ∷ bs)) Within)
+run_case b n bs true e ih =
+    let k : 1 + n ≡ suc n = omega arith in
+    subst (λ (m : ℕ). text_from (b ∷ bs) Within ≡ before (take m (b ∷ bs)) (text_from (drop m (b ∷ bs)) Within)) (sym k)
+    (read_plain b bs e ∙ ap (onto b) ih ∙ before_onto b (take n bs) (text_from (drop n bs) Within))
+run_case b n bs false e ih = before_none (text_from (b ∷ bs) Within)
+
+run_text : (bs : List ℕ) → text_from bs Within ≡ before (take (prefix_len is_plain bs) bs) (text_from (drop (prefix_len is_plain bs) bs) Within)
+run_text [] = refl
+run_text (b ∷ bs) = run_case b (prefix_len is_plain bs) bs (is_plain b) refl (run_text bs)
+
+-- A run of plain bytes is taken as it stands.
+pub takes : (bs front front' rest run : List ℕ) (n : ℕ) → n ≡ prefix_len is_plain bs → run ≡ take n bs → rest ≡ drop n bs → front' ≡ front ++ run
+    → option_map (λ text. front' ++ text) (text_from rest Within) ≡ option_map (λ text. front ++ text) (text_from bs Within)
+takes bs front front' rest run n len is others pushed =
+    let split : text_from bs Within ≡ before (take n bs) (text_from (drop n bs) Within) =
+    subst (λ (m : ℕ). text_from bs Within ≡ before (take m bs) (text_from (drop m bs) Within)) (sym len) (run_text bs) in
+    ap (λ (f : List ℕ). before f (text_from rest Within)) pushed ∙ before_both front run (text_from rest Within)
+    ∙ ap (λ (r : List ℕ). before front (before r (text_from rest Within))) is ∙ ap (λ (r : List ℕ). before front (before (take n bs) (text_from r Within))) others
+    ∙ ap (before front) (sym split)
+
+-- A byte that is given is taken behind the others.
+pub gives : (front front' : List ℕ) (b : ℕ) (o : Option (List ℕ)) → front' ≡ front ++ b ∷ [] → option_map (λ text. front' ++ text) o ≡ option_map (λ text. front ++ text) (onto b o)
+gives front front' b None pushed = refl
+gives front front' b (Some text) pushed = ap (λ (f : List ℕ). Some (f ++ text)) pushed ∙ ap Some (append_assoc front (b ∷ []) text)
+
+-- Behind a run inside quotes as many bytes of the word are left as before it, but for the run.
+pub skipped : (mode : Mode) (bytes rest : List ℕ) (n : ℕ) → mode ≡ Inside → n ≡ prefix_len goes_on bytes → rest ≡ take (length bytes - n) (drop n bytes)
+    → length bytes + word_len mode rest ≡ length rest + word_len mode bytes
+skipped mode bytes rest n inside len back =
+    let le = prefix_len-le-length goes_on bytes in
+    let is : rest ≡ drop (prefix_len goes_on bytes) bytes = back ∙ take_rest bytes n ∙ ap (λ (m : ℕ). drop m bytes) len in
+    let left = length-drop (prefix_len goes_on bytes) bytes in
+    rw (inside, is) (omega (arith, le, left, skips bytes))
+
+-- ---- a turn of the loop over a quoted text
+
+-- What a byte does is what it does in the text.
+abbrev pub TakesByte : List ℕ → List ℕ → Quote → ℕ → Option Quote → Type 0
+TakesByte made made' quote byte next =
+    (rest : List ℕ) → option_map (λ text. made' ++ text) (option_and_then (text_from rest) next) ≡ option_map (λ text. made ++ text) (after_turn (text_from rest) (turn quote byte))
+
+stood : (made left rest : List ℕ) (quote : Quote) (byte : ℕ) (total : Option (List ℕ)) → left ≡ byte ∷ rest
+    → option_map (λ text. made ++ text) (text_from left quote) ≡ total → option_map (λ text. made ++ text) (after_turn (text_from rest) (turn quote byte)) ≡ total
+stood made left rest quote byte total cut so_far = subst (λ (l : List ℕ). option_map (λ text. made ++ text) (text_from l quote) ≡ total) cut so_far
+
+pub goes_further : (made made' made'' left rest rest' : List ℕ) (quote next : Quote) (byte : ℕ) (o : Option Quote) (total : Option (List ℕ)) → left ≡ byte ∷ rest
+    → option_map (λ text. made ++ text) (text_from left quote) ≡ total → TakesByte made made' quote byte o → o ≡ Some next
+    → option_map (λ text. made'' ++ text) (text_from rest' next) ≡ option_map (λ text. made' ++ text) (text_from rest next)
+    → option_map (λ text. made'' ++ text) (text_from rest' next) ≡ total
+goes_further made made' made'' left rest rest' quote next byte o total cut so_far takes is run =
+    run ∙ sym (ap (λ (n : Option Quote). option_map (λ text. made' ++ text) (option_and_then (text_from rest) n)) is) ∙ takes rest ∙ stood made left rest quote byte total cut so_far
+
+pub stops_here : (made made' left rest : List ℕ) (quote : Quote) (byte : ℕ) (o : Option Quote) (total : Option (List ℕ)) → left ≡ byte ∷ rest
+    → option_map (λ text. made ++ text) (text_from left quote) ≡ total → TakesByte made made' quote byte o → o ≡ None → None ≡ total
+stops_here made made' left rest quote byte o total cut so_far takes is =
+    sym (ap (λ (n : Option Quote). option_map (λ text. made' ++ text) (option_and_then (text_from rest) n)) is) ∙ takes rest ∙ stood made left rest quote byte total cut so_far
