@@ -6,25 +6,12 @@ use ifs_rows::{bytes_of, images};
 use std::alloc::Global;
 use std::test::Fail;
 
-/// The text of the smallest image.
-const SMALLEST_TEXT: &str = "ifsv 1
-stack 0
-frames 1
-cost 3
-commands 0
-start 0
-always init 0 body 0 tests -
-state \"a\" init 0 body 0 tests -
-routine results 0
-ret
-";
-
 #[test]
 fn writes_the_smallest_image(rt: HostRuntime) -> Result<(), Fail> {
     let alloc = rt.alloc();
     let bytes = bytes_of(alloc, images::SMALLEST_IMAGE)?;
     let image = read(alloc, bytes.as_slice())?;
-    assert_eq!(rt; disassemble(alloc, &image)?.as_str(), SMALLEST_TEXT);
+    assert_eq!(rt; disassemble(alloc, &image)?.as_str(), images::SMALLEST_TEXT);
     Ok(())
 }
 
@@ -42,7 +29,7 @@ fn told(alloc: Global, text: &str) -> Result<String, Fail> {
 /// The smallest image's text, of which a line from 1 gives way to others.
 fn with_line(alloc: Global, number: usize, others: &str) -> Result<String, Fail> {
     let mut text = String::new(alloc);
-    for (index, line) in SMALLEST_TEXT.lines().enumerate() {
+    for (index, line) in images::SMALLEST_TEXT.lines().enumerate() {
         if index.saturating_add(1) == number {
             text.push_str(others)?;
         } else {
@@ -156,7 +143,7 @@ fn answers_fronts_of_the_text(rt: HostRuntime) -> Result<(), Fail> {
     let alloc = rt.alloc();
     let mut front = String::new(alloc);
     assert_eq!(rt; told(alloc, "")?.as_str(), "A3 line 1");
-    for (index, line) in SMALLEST_TEXT.lines().enumerate() {
+    for (index, line) in images::SMALLEST_TEXT.lines().enumerate() {
         front.push_str(line)?;
         let whole = index >= 7;
         let missing = format!(in alloc; "A3 line {}", index.saturating_add(2))?;
@@ -313,7 +300,7 @@ fn with_many(alloc: Global, number: usize, line: &str, count: usize) -> Result<S
         many.push_str("\n")?;
     }
     let mut text = String::new(alloc);
-    for (index, line) in SMALLEST_TEXT.lines().enumerate() {
+    for (index, line) in images::SMALLEST_TEXT.lines().enumerate() {
         if index.saturating_add(1) == number {
             text.push_str(many.as_str())?;
         }
@@ -350,7 +337,7 @@ fn fills_each_table(rt: HostRuntime) -> Result<(), Fail> {
 fn takes_8192_instructions(rt: HostRuntime) -> Result<(), Fail> {
     let alloc = rt.alloc();
     let mut text = String::new(alloc);
-    for line in SMALLEST_TEXT.lines().take(8) {
+    for line in images::SMALLEST_TEXT.lines().take(8) {
         text.push_str(line)?;
         text.push_str("\n")?;
     }

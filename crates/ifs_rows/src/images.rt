@@ -9,6 +9,19 @@ pub const SMALLEST_IMAGE: &str = "
     00 0001 00000000
 ";
 
+/// Its text form.
+pub const SMALLEST_TEXT: &str = "ifsv 1
+stack 0
+frames 1
+cost 3
+commands 0
+start 0
+always init 0 body 0 tests -
+state \"a\" init 0 body 0 tests -
+routine results 0
+ret
+";
+
 /// Body of `a`: `link 0 up, pop, cmd 0, queue, ret`.
 pub const FIRST_RUN: &str = "
     49465356 01 0001 0001 00000007 0001

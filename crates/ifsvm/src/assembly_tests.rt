@@ -7,19 +7,6 @@ use std::alloc::Global;
 use std::process::Abort;
 use std::test::Fail;
 
-/// The text of the smallest image.
-const SMALLEST_TEXT: &str = "ifsv 1
-stack 0
-frames 1
-cost 3
-commands 0
-start 0
-always init 0 body 0 tests -
-state \"a\" init 0 body 0 tests -
-routine results 0
-ret
-";
-
 /// Bytes in hexadecimal that spell an image are the same through its text; others are refused by this line.
 fn check_back(
     rt: &impl Abort,
@@ -82,7 +69,7 @@ fn images_there_and_back(rt: HostRuntime) -> Result<(), Fail> {
 fn smallest_image_as_text(rt: HostRuntime) -> Result<(), Fail> {
     let bytes = bytes_of(rt.alloc(), images::SMALLEST_IMAGE)?;
     let listing = answer(rt.alloc(), Task::Disasm, bytes.as_slice(), &[])?;
-    assert_eq!(rt; listing.text.as_str(), SMALLEST_TEXT);
+    assert_eq!(rt; listing.text.as_str(), images::SMALLEST_TEXT);
     Ok(())
 }
 
