@@ -9,8 +9,9 @@ mod plain;
 
 use super::*;
 use arrayvec::ArrayVec;
-use ifs_base::{CommandId, IfaceId, Items, LinkState, Op, RoutineId, StateId, TestId, Text};
-use ifs_image::{Budgets, Handlers, Image, ImageParts, Routine, StateSpec, TestSpec, write};
+use ifs_asm::assemble;
+use ifs_base::LinkState;
+use ifs_image::{ImageParts, write};
 use ifs_rows::{bytes_of, images};
 use ifs_verify::{Verified, verify};
 use std::alloc::{AllocError, Global};
@@ -23,75 +24,67 @@ const DOWN: [LinkState; 2] = [LinkState::Down, LinkState::Unknown];
 
 const UP: [LinkState; 2] = [LinkState::Up, LinkState::Unknown];
 
-/// A list of texts.
-fn texts(alloc: Global, words: [&str; 2]) -> Result<Items<Text>, AllocError> {
-    let mut texts = Vec::new(alloc);
-    for word in words {
-        texts.push(Text::new(String::from_str(alloc, word)?))?;
+/// What the images of these tests say of themselves.
+const BUDGETS: &str = "ifsv 1
+stack 32
+frames 32
+cost 300000
+commands 64
+start 0
+";
+
+/// Two interfaces, two tests and two commands.
+const TABLES: &str = "iface \"a\"
+iface \"b\"
+test 1 \"t\"
+test 1 \"u\"
+command \"c\"
+command \"d\"
+";
+
+/// The text form of an image up to its routines, with two states; all handlers are one routine.
+fn front_of(alloc: Global, routine: usize) -> Result<String, AllocError> {
+    let handlers = format!(in alloc; "init {routine} body {routine} tests -\n")?;
+    let handlers = handlers.as_str();
+    let mut text = String::from_str(alloc, BUDGETS)?;
+    for words in [
+        "always ",
+        handlers,
+        TABLES,
+        "state \"a\" ",
+        handlers,
+        "state \"b\" ",
+        handlers,
+    ] {
+        text.push_str(words)?;
     }
-    Ok(Items::new(texts))
+    Ok(text)
 }
 
-/// Two tests, `t` and `u`.
-fn two_tests(alloc: Global) -> Result<Items<TestSpec>, AllocError> {
-    let mut tests = Vec::new(alloc);
-    for word in ["t", "u"] {
-        let text = Text::new(String::from_str(alloc, word)?);
-        tests.push(TestSpec { period: 1, text })?;
+/// The bytes of an image whose handlers are all the last of these routines. All but it have one result.
+fn spelled(alloc: Global, routines: &[&str]) -> Result<Vec<u8>, Fail> {
+    let last = routines.len().saturating_sub(1);
+    let mut text = front_of(alloc, last)?;
+    for (index, code) in routines.iter().enumerate() {
+        put_routine(alloc, &mut text, if index < last { 1 } else { 0 }, code)?;
     }
-    Ok(Items::new(tests))
+    let image = assemble(alloc, text.as_str())?;
+    Ok(write(alloc, &image)?)
 }
 
-/// Two states, `a` and `b`, with these handlers.
-fn two_states(alloc: Global, handlers: Handlers) -> Result<Items<StateSpec>, AllocError> {
-    let mut states = Vec::new(alloc);
-    for word in ["a", "b"] {
-        let name = Text::new(String::from_str(alloc, word)?);
-        states.push(StateSpec { name, handlers })?;
+/// Puts the lines of a routine, whose instructions have commas between them.
+fn put_routine(
+    alloc: Global,
+    text: &mut String,
+    results: u8,
+    code: &str,
+) -> Result<(), AllocError> {
+    text.push_str(format!(in alloc; "routine results {results}\n")?.as_str())?;
+    for instruction in code.split(',') {
+        text.push_str(instruction)?;
+        text.push_str("\n")?;
     }
-    Ok(Items::new(states))
-}
-
-/// Routines of these instructions. All but the last have one result.
-fn routines_of(alloc: Global, codes: &[&[Op]]) -> Result<Items<Routine>, AllocError> {
-    let mut routines = Vec::new(alloc);
-    for (index, code) in codes.iter().enumerate() {
-        routines.push(Routine {
-            results: if index < codes.len() - 1 { 1 } else { 0 },
-            code: Items::new(code.to_vec(alloc)?),
-        })?;
-    }
-    Ok(Items::new(routines))
-}
-
-/// The bytes of an image with two interfaces, two tests, two commands and two states, whose handlers
-/// are all the last routine.
-fn spelled(alloc: Global, codes: &[&[Op]]) -> Result<Vec<u8>, Fail> {
-    let last = RoutineId(u16::try_from(codes.len().saturating_sub(1)).unwrap_or(0));
-    let handlers = Handlers {
-        init: last,
-        body: last,
-        mask: 0,
-    };
-    let parts = ImageParts {
-        budgets: Budgets {
-            stack: 32,
-            frames: 32,
-            cost: 300_000,
-            commands: 64,
-        },
-        initial: StateId(0),
-        always: handlers,
-        interfaces: texts(alloc, ["a", "b"])?,
-        tests: two_tests(alloc)?,
-        commands: texts(alloc, ["c", "d"])?,
-        states: two_states(alloc, handlers)?,
-        routines: routines_of(alloc, codes)?,
-    };
-    if !parts.fits() {
-        return Err(Fail::from("no image"));
-    }
-    Ok(write(alloc, &Image::new(parts))?)
+    Ok(())
 }
 
 /// Facts for an image: the first entry of each table has the first value, and so on by turns.
@@ -155,15 +148,15 @@ fn compared(
 fn check(
     rt: &impl Abort,
     alloc: Global,
-    code: &[Op],
+    code: &str,
     facts: ([LinkState; 2], [Option<bool>; 2]),
     want: (u32, &[u16], Option<u16>),
 ) -> Result<(), Fail> {
     let verified = verify(alloc, &spelled(alloc, &[code])?)?;
     let run = compared(rt, alloc, &verified, facts.0, facts.1)?;
-    assert_eq!(rt; run.cost, want.0, "{code:?}");
-    assert_eq!(rt; run.commands.as_slice(), want.1, "{code:?}");
-    assert_eq!(rt; run.wish, want.2, "{code:?}");
+    assert_eq!(rt; run.cost, want.0, "{code}");
+    assert_eq!(rt; run.commands.as_slice(), want.1, "{code}");
+    assert_eq!(rt; run.wish, want.2, "{code}");
     Ok(())
 }
 
@@ -188,119 +181,71 @@ fn worked_rows(rt: HostRuntime) -> Result<(), Fail> {
 /// One command, whatever the link is.
 #[test]
 fn queues(rt: HostRuntime) -> Result<(), Fail> {
-    let code = [
-        Op::Link(IfaceId(0), LinkState::Up),
-        Op::Pop,
-        Op::PushCommand(CommandId(0)),
-        Op::Queue,
-        Op::Ret,
-    ];
-    check(&rt, rt.alloc(), &code, (UP, NEVER), (5, &[0], None))
+    let code = "link 0 up, pop, cmd 0, queue, ret";
+    check(&rt, rt.alloc(), code, (UP, NEVER), (5, &[0], None))
 }
 
 /// Queues command 1 where the code leaves true, and command 0 too where it leaves false.
 fn check_truth(
     rt: &impl Abort,
     alloc: Global,
-    code: &[Op],
+    code: &str,
     facts: ([LinkState; 2], [Option<bool>; 2]),
     truth: bool,
 ) -> Result<(), Fail> {
-    let end = (code.len() % 1000).saturating_add(3) as u16;
-    let mut all = code.to_vec(alloc)?;
-    all.extend_from_slice(&[
-        Op::JumpTrue(end),
-        Op::PushCommand(CommandId(0)),
-        Op::Queue,
-        Op::PushCommand(CommandId(1)),
-        Op::Queue,
-        Op::Ret,
-    ])?;
-    let verified = verify(alloc, &spelled(alloc, &[all.as_slice()])?)?;
+    let end = code.split(',').count().saturating_add(3);
+    let all = format!(in alloc; "{code}, jt {end}, cmd 0, queue, cmd 1, queue, ret")?;
+    let verified = verify(alloc, &spelled(alloc, &[all.as_str()])?)?;
     let run = compared(rt, alloc, &verified, facts.0, facts.1)?;
     let queued: &[u16] = if truth { &[1] } else { &[0, 1] };
-    assert_eq!(rt; run.commands.as_slice(), queued, "{code:?}");
+    assert_eq!(rt; run.commands.as_slice(), queued, "{code}");
     Ok(())
 }
 
 #[test]
 fn each_truth(rt: HostRuntime) -> Result<(), Fail> {
-    let alloc = rt.alloc();
-    let (up, known, test) = (
-        Op::Link(IfaceId(0), LinkState::Up),
-        Op::Known(TestId(1)),
-        Op::Test(TestId(1)),
-    );
     let failed = [None, Some(false)];
     let held = [None, Some(true)];
-    check_truth(&rt, alloc, &[Op::Yes], (DOWN, NEVER), true)?;
-    check_truth(&rt, alloc, &[Op::No], (DOWN, NEVER), false)?;
-    check_truth(&rt, alloc, &[up], (UP, NEVER), true)?;
-    check_truth(&rt, alloc, &[up], (DOWN, NEVER), false)?;
-    check_truth(&rt, alloc, &[known], (DOWN, NEVER), false)?;
-    check_truth(&rt, alloc, &[known], (DOWN, failed), true)?;
-    check_truth(&rt, alloc, &[test], (DOWN, NEVER), false)?;
-    check_truth(&rt, alloc, &[test], (DOWN, failed), false)?;
-    check_truth(&rt, alloc, &[test], (DOWN, held), true)?;
-    check_truth(&rt, alloc, &[Op::Yes, Op::Negate], (DOWN, NEVER), false)?;
-    check_truth(
-        &rt,
-        alloc,
-        &[Op::Yes, Op::No, Op::Both],
-        (DOWN, NEVER),
-        false,
-    )?;
-    check_truth(
-        &rt,
-        alloc,
-        &[Op::Yes, Op::No, Op::Either],
-        (DOWN, NEVER),
-        true,
-    )?;
-    check_truth(
-        &rt,
-        alloc,
-        &[Op::No, Op::Dup, Op::Either],
-        (DOWN, NEVER),
-        false,
-    )
+    for (code, links, tests, truth) in [
+        ("true", DOWN, NEVER, true),
+        ("false", DOWN, NEVER, false),
+        ("link 0 up", UP, NEVER, true),
+        ("link 0 up", DOWN, NEVER, false),
+        ("known 1", DOWN, NEVER, false),
+        ("known 1", DOWN, failed, true),
+        ("test 1", DOWN, NEVER, false),
+        ("test 1", DOWN, failed, false),
+        ("test 1", DOWN, held, true),
+        ("true, not", DOWN, NEVER, false),
+        ("true, false, and", DOWN, NEVER, false),
+        ("true, false, or", DOWN, NEVER, true),
+        ("false, dup, or", DOWN, NEVER, false),
+    ] {
+        check_truth(&rt, rt.alloc(), code, (links, tests), truth)?;
+    }
+    Ok(())
 }
 
 #[test]
 fn last_wish(rt: HostRuntime) -> Result<(), Fail> {
-    let code = [
-        Op::PushState(StateId(1)),
-        Op::Want,
-        Op::PushState(StateId(0)),
-        Op::Dup,
-        Op::Want,
-        Op::Pop,
-        Op::Ret,
-    ];
-    check(&rt, rt.alloc(), &code, (DOWN, NEVER), (7, &[], Some(0)))
+    let code = "state 1, want, state 0, dup, want, pop, ret";
+    check(&rt, rt.alloc(), code, (DOWN, NEVER), (7, &[], Some(0)))
 }
 
 /// Routine k costs 6 * 2^k - 4, which for 14 is 98,300; its handler adds `call`, `pop` and `ret`.
 #[test]
 fn cost_through_calls(rt: HostRuntime) -> Result<(), Fail> {
     let alloc = rt.alloc();
-    let base = [Op::Yes, Op::Ret];
     let mut codes = Vec::new(alloc);
-    for k in 0..14u16 {
-        codes.push([
-            Op::Call(RoutineId(k)),
-            Op::Call(RoutineId(k)),
-            Op::Both,
-            Op::Ret,
-        ])?;
+    for k in 0..14 {
+        codes.push(format!(in alloc; "call {k}, call {k}, and, ret")?)?;
     }
-    let handler = [Op::Call(RoutineId(14)), Op::Pop, Op::Ret];
-    let mut routines: Vec<&[Op]> = Vec::new(alloc);
-    routines.push(&base)?;
+    let mut routines: Vec<&str> = Vec::new(alloc);
+    routines.push("true, ret")?;
     for code in &codes {
-        routines.push(code)?;
+        routines.push(code.as_str())?;
     }
-    routines.push(&handler)?;
+    routines.push("call 14, pop, ret")?;
     let verified = verify(alloc, &spelled(alloc, routines.as_slice())?)?;
     let run = compared(&rt, alloc, &verified, DOWN, NEVER)?;
     assert_eq!(rt; run.cost, 98_303);
@@ -308,27 +253,9 @@ fn cost_through_calls(rt: HostRuntime) -> Result<(), Fail> {
 }
 
 /// The instructions of the small routines, with how many of the routines the rules accept.
-const SMALL: [([Op; 5], u32); 2] = [
-    (
-        [
-            Op::Known(TestId(0)),
-            Op::JumpFalse(4),
-            Op::Pop,
-            Op::PushCommand(CommandId(1)),
-            Op::Queue,
-        ],
-        206,
-    ),
-    (
-        [
-            Op::Known(TestId(0)),
-            Op::Negate,
-            Op::Pop,
-            Op::PushCommand(CommandId(1)),
-            Op::Queue,
-        ],
-        197,
-    ),
+const SMALL: [([&str; 5], u32); 2] = [
+    (["known 0", "jf 4", "pop", "cmd 1", "queue"], 206),
+    (["known 0", "not", "pop", "cmd 1", "queue"], 197),
 ];
 
 /// Whether the routine of these digits in base 5, with `ret` at its end, is accepted; then it runs as
@@ -336,18 +263,19 @@ const SMALL: [([Op; 5], u32); 2] = [
 fn small(
     rt: &impl Abort,
     alloc: Global,
-    ops: &[Op; 5],
+    ops: &[&str; 5],
     length: u32,
     digits: u32,
 ) -> Result<bool, Fail> {
-    let mut code = Vec::new(alloc);
+    let mut code = String::new(alloc);
     let mut rest = digits;
     for _ in 0..length {
-        code.push(ops[(rest % 5) as usize])?;
+        code.push_str(ops[(rest % 5) as usize])?;
+        code.push_str(",")?;
         rest /= 5;
     }
-    code.push(Op::Ret)?;
-    let Ok(verified) = verify(alloc, &spelled(alloc, &[code.as_slice()])?) else {
+    code.push_str("ret")?;
+    let Ok(verified) = verify(alloc, &spelled(alloc, &[code.as_str()])?) else {
         return Ok(false);
     };
     compared(rt, alloc, &verified, DOWN, NEVER)?;
@@ -359,7 +287,7 @@ fn small(
 fn smalls(
     rt: &impl Abort,
     alloc: Global,
-    ops: &[Op; 5],
+    ops: &[&str; 5],
     length: u32,
     count: u32,
 ) -> Result<u32, Fail> {

@@ -17,10 +17,10 @@ const LIMITS: [Row; 25] = [
         "ok",
     ),
     ("commands", "0 ret; 0 order 64, ret", "ok"),
-    ("mask", "always 0 0 1; 0 ret", "ok"),
+    ("mask", "always 0 0 0; 0 ret", "ok"),
     (
         "mask of 64 tests",
-        "tests 64; always 0 0 18446744073709551615; 0 ret",
+        "tests 64; always 0 0 0,1,2,3,4,5,6,7,8,9,10,11,12,13,14,15,16,17,18,19,20,21,22,23,24,25,26,27,28,29,30,31,32,33,34,35,36,37,38,39,40,41,42,43,44,45,46,47,48,49,50,51,52,53,54,55,56,57,58,59,60,61,62,63; 0 ret",
         "ok",
     ),
     (
@@ -32,7 +32,7 @@ const LIMITS: [Row; 25] = [
     ("stated frames", "frames 1; 0 ret; chain 1", "ok"),
     (
         "stated frames passed",
-        "frames 1; state 1 0 0; 0 ret; chain 1",
+        "frames 1; state 1 0 -; 0 ret; chain 1",
         "V11 head",
     ),
     ("stated cost", "cost 8; 0 cmd 0, queue, ret", "V12 head"),
@@ -43,28 +43,28 @@ const LIMITS: [Row; 25] = [
     ),
     (
         "another state's init",
-        "cost 4; state 0 0 0; state 1 0 0; 0 ret; 0 jump 1, ret",
+        "cost 4; state 0 0 -; state 1 0 -; 0 ret; 0 jump 1, ret",
         "ok",
     ),
     (
         "the opening",
-        "cost 10; always 1 0 0; state 1 0 0; 0 ret; 0 spend 2, ret",
+        "cost 10; always 1 0 -; state 1 0 -; 0 ret; 0 spend 2, ret",
         "ok",
     ),
     ("jump to the next place", "0 true, jf 2, ret", "ok"),
     (
         "256 states",
-        "stack 0; frames 1; cost 3; commands 0; initial 255; states 256 0 0 0; 0 ret",
+        "stack 0; frames 1; cost 3; commands 0; start 255; states 256 0 0 -; 0 ret",
         "ok",
     ),
     (
         "256 states, one index too many",
-        "initial 256; states 256 0 0 0; 0 ret",
+        "start 256; states 256 0 0 -; 0 ret",
         "V2 head",
     ),
     (
         "near all limits",
-        "tests 64; texts 1024; states 256 0 7 0; 0 spend 511, jump 1023, ret; 0 spend 511, jump 1023, ret; 0 spend 511, jump 1023, ret; 0 spend 511, jump 1023, ret; 0 spend 511, jump 1023, ret; 0 spend 511, jump 1023, ret; 0 spend 511, jump 1023, ret; 0 spend 3, jump 7, ret; rets 1016",
+        "tests 64; texts 1024; states 256 0 7 -; 0 spend 511, jump 1023, ret; 0 spend 511, jump 1023, ret; 0 spend 511, jump 1023, ret; 0 spend 511, jump 1023, ret; 0 spend 511, jump 1023, ret; 0 spend 511, jump 1023, ret; 0 spend 511, jump 1023, ret; 0 spend 3, jump 7, ret; rets 1016",
         "ok",
     ),
     (
@@ -87,22 +87,22 @@ const LIMITS: [Row; 25] = [
 const SEVERAL: [Row; 4] = [
     (
         "cost through fewer calls",
-        "always 15 15 0; state 15 15 0; 1 true, ret; double 14; 0 ret",
+        "always 15 15 -; state 15 15 -; 1 true, ret; double 14; 0 ret",
         "ok",
     ),
     (
         "several states",
-        "stack 1; frames 1; cost 11; commands 2; texts 3; state 0 1 0; state 2 0 0; state 2 0 0; 0 ret; 0 state 1, want, state 2, want, cmd 0, queue, ret; 0 cmd 0, queue, ret",
+        "stack 1; frames 1; cost 11; commands 2; texts 3; state 0 1 -; state 2 0 -; state 2 0 -; 0 ret; 0 state 1, want, state 2, want, cmd 0, queue, ret; 0 cmd 0, queue, ret",
         "ok",
     ),
     (
         "several states, fewer commands stated",
-        "commands 1; texts 3; state 0 1 0; state 2 0 0; state 2 0 0; 0 ret; 0 state 1, want, state 2, want, cmd 0, queue, ret; 0 cmd 0, queue, ret",
+        "commands 1; texts 3; state 0 1 -; state 2 0 -; state 2 0 -; 0 ret; 0 state 1, want, state 2, want, cmd 0, queue, ret; 0 cmd 0, queue, ret",
         "V13 head",
     ),
     (
         "a called routine that asks a test",
-        "always 2 1 1; state 2 1 1; 1 test 0, ret; 0 call 0, jf 4, cmd 0, queue, ret; 0 ret",
+        "always 2 1 0; state 2 1 0; 1 test 0, ret; 0 call 0, jf 4, cmd 0, queue, ret; 0 ret",
         "ok",
     ),
 ];

@@ -1,267 +1,191 @@
-//! Images written as one line of text. Its parts, with `; ` between them, are what the front says of
-//! itself (`stack N`, `frames N`, `cost N`, `commands N`, `tests N`, `texts N`, `initial N`,
-//! `always INIT BODY MASK`), a state (`state INIT BODY MASK`), a routine (its results and its
-//! instructions, as `0 true, pop, ret`), and so many states or routines: `states N INIT BODY MASK`,
-//! `rets N`, and `chain N`, `lift N` and `double N`, each of which calls the one before it, with nothing
-//! on the stack, above one value, or twice. Budgets are at their limits where nothing is said, handlers
-//! are routine 0, and there is one state, one test and one command.
+//! Images written as one line of text, which is put into the text form of images and assembled. Its parts, with
+//! `; ` between them, are what the front says of itself (`stack N`, `frames N`, `cost N`, `commands N`, `start N`,
+//! `always INIT BODY TESTS`), how many tests and commands there are (`tests N`, `texts N`), a state (`state INIT BODY
+//! TESTS`), a routine (its results and its instructions, as `0 true, pop, ret`), and so many states or routines:
+//! `states N INIT BODY TESTS`, `rets N`, and `chain N`, `lift N` and `double N`, each of which calls the one before
+//! it, with nothing on the stack, above one value, or twice. Budgets are at their limits where nothing is said,
+//! handlers are routine 0, and there is one state, one test and one command.
 //!
 //! Among the instructions `up N` is so many of `true`, `down N` of `pop`, `spend N` of `true, pop`,
-//! `order N` of `cmd 0, queue` and `many N R` of `call R`.
+//! `order N` of `cmd 0, queue` and `many N R` of `call R`; `before` is a call of the routine before this one.
 
+use ifs_asm::assemble;
+use ifs_image::write;
 use std::alloc::{AllocError, Global};
+use std::test::Fail;
 
-/// Init, body and mask.
-type Named = (u16, u16, u64);
-
-/// What an image says of itself, its states, and the bytes of its routines.
+/// What an image says of itself, and the lines of its states and routines.
 #[derive(Drop)]
-struct Draft {
-    stack: u16,
-    frames: u16,
-    cost: u32,
-    commands: u16,
+struct Draft<'a> {
+    stack: &'a str,
+    frames: &'a str,
+    cost: &'a str,
+    commands: &'a str,
+    start: &'a str,
+    always: &'a str,
     tests: u16,
     texts: u16,
-    initial: u16,
-    always: Named,
-    states: Vec<Named>,
-    routines: u16,
-    code: Vec<u8>,
+    states: String,
+    state_count: u16,
+    routines: String,
+    routine_count: u16,
 }
 
 /// The bytes of an image.
-pub fn image(alloc: Global, text: &str) -> Result<Vec<u8>, AllocError> {
+pub fn image(alloc: Global, text: &str) -> Result<Vec<u8>, Fail> {
     let mut draft = Draft {
-        stack: 32,
-        frames: 32,
-        cost: 300_000,
-        commands: 64,
+        stack: "32",
+        frames: "32",
+        cost: "300000",
+        commands: "64",
+        start: "0",
+        always: "0 0 -",
         tests: 1,
         texts: 1,
-        initial: 0,
-        always: (0, 0, 0),
-        states: Vec::new(alloc),
-        routines: 0,
-        code: Vec::new(alloc),
+        states: String::new(alloc),
+        state_count: 0,
+        routines: String::new(alloc),
+        routine_count: 0,
     };
     for part in text.split(';') {
         add(alloc, &mut draft, part.trim())?;
     }
-    if draft.states.is_empty() {
-        draft.states.push((0, 0, 0))?;
+    if draft.state_count == 0 {
+        add_states(alloc, &mut draft, 1, "0 0 -")?;
     }
-    spelled(alloc, &draft)
+    let listing = listing_of(alloc, &draft)?;
+    let image = assemble(alloc, listing.as_str())?;
+    Ok(write(alloc, &image)?)
 }
 
 /// Adds a part.
-fn add(alloc: Global, draft: &mut Draft, part: &str) -> Result<(), AllocError> {
-    let (key, rest) = part.split_once(' ').unwrap_or((part, ""));
+fn add<'a>(alloc: Global, draft: &mut Draft<'a>, part: &'a str) -> Result<(), AllocError> {
+    let (key, rest) = parted(part);
     match key {
-        "stack" => draft.stack = number(rest),
-        "frames" => draft.frames = number(rest),
-        "cost" => draft.cost = rest.parse::<u32>().unwrap_or(0),
-        "commands" => draft.commands = number(rest),
+        "stack" => draft.stack = rest,
+        "frames" => draft.frames = rest,
+        "cost" => draft.cost = rest,
+        "commands" => draft.commands = rest,
+        "start" => draft.start = rest,
+        "always" => draft.always = rest,
         "tests" => draft.tests = number(rest),
         "texts" => draft.texts = number(rest),
-        "initial" => draft.initial = number(rest),
-        "always" => draft.always = named(rest),
-        "state" => draft.states.push(named(rest))?,
-        "states" => add_states(draft, rest)?,
-        "rets" => add_chain(alloc, draft, number(rest), 0, [0x00].as_slice())?,
-        "chain" => add_chain(alloc, draft, number(rest), 0, [0x10, 0x00].as_slice())?,
-        "lift" => add_chain(
-            alloc,
-            draft,
-            number(rest),
-            0,
-            [0x01, 0x10, 0x11, 0x00].as_slice(),
-        )?,
-        "double" => add_chain(
-            alloc,
-            draft,
-            number(rest),
-            1,
-            [0x10, 0x10, 0x07, 0x00].as_slice(),
-        )?,
-        results => add_routine(alloc, draft, number(results), rest)?,
+        "state" => add_states(alloc, draft, 1, rest)?,
+        "states" => {
+            let (count, handlers) = parted(rest);
+            add_states(alloc, draft, number(count), handlers)?;
+        }
+        "rets" => add_routines(alloc, draft, number(rest), "0 ret")?,
+        "chain" => add_routines(alloc, draft, number(rest), "0 before, ret")?,
+        "lift" => add_routines(alloc, draft, number(rest), "0 true, before, pop, ret")?,
+        "double" => add_routines(alloc, draft, number(rest), "1 before, before, and, ret")?,
+        _ => add_routine(alloc, draft, part)?,
     }
     Ok(())
+}
+
+/// A word, and what stands after it and a space.
+fn parted(text: &str) -> (&str, &str) {
+    text.split_once(' ').unwrap_or((text, ""))
 }
 
 fn number(text: &str) -> u16 {
     text.parse::<u16>().unwrap_or(0)
 }
 
-fn named(text: &str) -> Named {
-    let (init, rest) = text.split_once(' ').unwrap_or((text, ""));
-    let (body, mask) = rest.split_once(' ').unwrap_or((rest, ""));
-    (number(init), number(body), mask.parse::<u64>().unwrap_or(0))
+/// The words of handlers.
+fn handlers_of(alloc: Global, text: &str) -> Result<String, AllocError> {
+    let (init, rest) = parted(text);
+    let (body, tests) = parted(rest);
+    format!(in alloc; "init {init} body {body} tests {tests}")
 }
 
-/// Adds so many states.
-fn add_states(draft: &mut Draft, text: &str) -> Result<(), AllocError> {
-    let (count, rest) = text.split_once(' ').unwrap_or((text, ""));
-    for _state in 0..number(count) {
-        draft.states.push(named(rest))?;
+/// Adds so many states, named by their numbers.
+fn add_states(
+    alloc: Global,
+    draft: &mut Draft<'_>,
+    count: u16,
+    text: &str,
+) -> Result<(), AllocError> {
+    let handlers = handlers_of(alloc, text)?;
+    for _state in 0..count {
+        let line = format!(in alloc; "state \"s{}\" {handlers}\n", draft.state_count)?;
+        draft.states.push_str(line.as_str())?;
+        draft.state_count = draft.state_count.saturating_add(1);
     }
     Ok(())
 }
 
-/// Adds so many routines, each of which calls the one before it.
-fn add_chain(
+/// Adds so many routines.
+fn add_routines(
     alloc: Global,
-    draft: &mut Draft,
+    draft: &mut Draft<'_>,
     count: u16,
-    results: u16,
-    ops: &[u8],
+    text: &str,
 ) -> Result<(), AllocError> {
     for _routine in 0..count {
-        let before = draft.routines.saturating_sub(1);
-        let mut code: Vec<u8> = Vec::new(alloc);
-        for byte in ops {
-            put_op(&mut code, *byte, if *byte == 0x10 { before } else { 0 })?;
-        }
-        put_routine(draft, results, &code)?;
+        add_routine(alloc, draft, text)?;
     }
     Ok(())
 }
 
 /// Adds a routine.
-fn add_routine(
-    alloc: Global,
-    draft: &mut Draft,
-    results: u16,
-    text: &str,
-) -> Result<(), AllocError> {
-    let mut code: Vec<u8> = Vec::new(alloc);
-    if !text.is_empty() {
-        for item in text.split(',') {
-            put_item(&mut code, item.trim())?;
+fn add_routine(alloc: Global, draft: &mut Draft<'_>, text: &str) -> Result<(), AllocError> {
+    let (results, code) = parted(text);
+    let before = draft.routine_count.saturating_sub(1);
+    let line = format!(in alloc; "routine results {results}\n")?;
+    draft.routines.push_str(line.as_str())?;
+    draft.routine_count = draft.routine_count.saturating_add(1);
+    if !code.is_empty() {
+        for item in code.split(',') {
+            put_item(alloc, &mut draft.routines, item.trim(), before)?;
         }
     }
-    put_routine(draft, results, &code)
-}
-
-fn put_routine(draft: &mut Draft, results: u16, code: &Vec<u8>) -> Result<(), AllocError> {
-    let [_, results] = results.to_be_bytes();
-    draft.routines = draft.routines.saturating_add(1);
-    draft.code.push(results)?;
-    put_count(&mut draft.code, code.len() / 4)?;
-    draft.code.extend_from_slice(code.as_slice())?;
     Ok(())
 }
 
 /// Puts an instruction, or so many of them.
-fn put_item(code: &mut Vec<u8>, item: &str) -> Result<(), AllocError> {
-    let (word, rest) = item.split_once(' ').unwrap_or((item, ""));
-    let (times, callee) = rest.split_once(' ').unwrap_or((rest, ""));
+fn put_item(alloc: Global, lines: &mut String, item: &str, before: u16) -> Result<(), AllocError> {
+    let (word, rest) = parted(item);
+    let (times, callee) = parted(rest);
     match word {
-        "up" => put_ops(code, number(times), [(0x01, 0)].as_slice()),
-        "down" => put_ops(code, number(times), [(0x11, 0)].as_slice()),
-        "spend" => put_ops(code, number(times), [(0x01, 0), (0x11, 0)].as_slice()),
-        "order" => put_ops(code, number(times), [(0x09, 0), (0x0b, 0)].as_slice()),
-        "many" => put_ops(code, number(times), [(0x10, number(callee))].as_slice()),
-        word => put_op(code, byte_of(word), number(rest)),
-    }
-}
-
-/// The code of an instruction.
-fn byte_of(word: &str) -> u8 {
-    match word {
-        "true" => 0x01,
-        "false" => 0x02,
-        "link" => 0x03,
-        "test" => 0x04,
-        "known" => 0x05,
-        "not" => 0x06,
-        "and" => 0x07,
-        "or" => 0x08,
-        "cmd" => 0x09,
-        "state" => 0x0a,
-        "queue" => 0x0b,
-        "want" => 0x0c,
-        "jump" => 0x0d,
-        "jf" => 0x0e,
-        "jt" => 0x0f,
-        "call" => 0x10,
-        "pop" => 0x11,
-        "dup" => 0x12,
-        _ => 0x00,
-    }
-}
-
-fn put_ops(code: &mut Vec<u8>, times: u16, ops: &[(u8, u16)]) -> Result<(), AllocError> {
-    for _time in 0..times {
-        for (byte, operand) in ops {
-            put_op(code, *byte, *operand)?;
+        "up" => put_lines(lines, number(times), "true\n"),
+        "down" => put_lines(lines, number(times), "pop\n"),
+        "spend" => put_lines(lines, number(times), "true\npop\n"),
+        "order" => put_lines(lines, number(times), "cmd 0\nqueue\n"),
+        "many" => {
+            let line = format!(in alloc; "call {callee}\n")?;
+            put_lines(lines, number(times), line.as_str())
+        }
+        "before" => {
+            let line = format!(in alloc; "call {before}\n")?;
+            put_lines(lines, 1, line.as_str())
+        }
+        _ => {
+            lines.push_str(item)?;
+            put_lines(lines, 1, "\n")
         }
     }
+}
+
+/// Puts lines so many times.
+fn put_lines(text: &mut String, times: u16, lines: &str) -> Result<(), AllocError> {
+    for _time in 0..times {
+        text.push_str(lines)?;
+    }
     Ok(())
 }
 
-fn put_op(code: &mut Vec<u8>, byte: u8, operand: u16) -> Result<(), AllocError> {
-    code.push(byte)?;
-    code.push(0)?;
-    put16(code, operand)
-}
-
-fn put16(bytes: &mut Vec<u8>, number: u16) -> Result<(), AllocError> {
-    bytes.extend_from_slice(number.to_be_bytes().as_slice())?;
-    Ok(())
-}
-
-fn put_count(bytes: &mut Vec<u8>, count: usize) -> Result<(), AllocError> {
-    put16(bytes, u16::try_from(count).unwrap_or(0))
-}
-
-fn put_handlers(bytes: &mut Vec<u8>, named: Named) -> Result<(), AllocError> {
-    let (init, body, mask) = named;
-    put16(bytes, init)?;
-    put16(bytes, body)?;
-    bytes.extend_from_slice(mask.to_be_bytes().as_slice())?;
-    Ok(())
-}
-
-/// The bytes of a draft.
-fn spelled(alloc: Global, draft: &Draft) -> Result<Vec<u8>, AllocError> {
-    let mut bytes: Vec<u8> = Vec::new(alloc);
-    put_front(&mut bytes, draft)?;
-    for _test in 0..draft.tests {
-        bytes.extend_from_slice(b"\x00\x00\x00\x01\x00\x01t")?;
-    }
-    for _text in 0..draft.texts {
-        bytes.extend_from_slice(b"\x00\x01t")?;
-    }
-    for (number, named) in draft.states.iter().enumerate() {
-        put_state(&mut bytes, number, *named)?;
-    }
-    bytes.extend_from_slice(draft.code.as_slice())?;
-    Ok(bytes)
-}
-
-/// Magic, version, budgets, counts, initial state and always part.
-fn put_front(bytes: &mut Vec<u8>, draft: &Draft) -> Result<(), AllocError> {
-    bytes.extend_from_slice(b"IFSV\x01")?;
-    put16(bytes, draft.stack)?;
-    put16(bytes, draft.frames)?;
-    bytes.extend_from_slice(draft.cost.to_be_bytes().as_slice())?;
-    put16(bytes, draft.commands)?;
-    put16(bytes, 0)?;
-    put16(bytes, draft.tests)?;
-    put16(bytes, draft.texts)?;
-    put_count(bytes, draft.states.len())?;
-    put16(bytes, draft.routines)?;
-    put16(bytes, draft.initial)?;
-    put_handlers(bytes, draft.always)
-}
-
-/// A state, named by its number in two letters.
-fn put_state(bytes: &mut Vec<u8>, number: usize, named: Named) -> Result<(), AllocError> {
-    let high = u8::try_from(number / 16).unwrap_or(0);
-    let low = u8::try_from(number % 16).unwrap_or(0);
-    put16(bytes, 2)?;
-    bytes.push(b'A'.saturating_add(high))?;
-    bytes.push(b'a'.saturating_add(low))?;
-    put_handlers(bytes, named)
+/// The text form of a draft.
+fn listing_of(alloc: Global, draft: &Draft<'_>) -> Result<String, AllocError> {
+    let always = handlers_of(alloc, draft.always)?;
+    let mut text = format!(in alloc;
+        "ifsv 1\nstack {}\nframes {}\ncost {}\ncommands {}\nstart {}\nalways {always}\n",
+        draft.stack, draft.frames, draft.cost, draft.commands, draft.start
+    )?;
+    put_lines(&mut text, draft.tests, "test 1 \"t\"\n")?;
+    put_lines(&mut text, draft.texts, "command \"t\"\n")?;
+    text.push_str(draft.states.as_str())?;
+    text.push_str(draft.routines.as_str())?;
+    Ok(text)
 }

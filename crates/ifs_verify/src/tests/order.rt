@@ -5,25 +5,25 @@ use std::test::Fail;
 
 /// Images that fail two checks, which are neighbours in the order, or one check at two places.
 const NEIGHBOURS: [Row; 27] = [
-    ("head, states", "initial 1; state 1 0 0; 0 ret", "V2 head"),
+    ("head, states", "start 1; state 1 0 -; 0 ret", "V2 head"),
     (
         "states, operands",
-        "state 0 0 0; state 0 1 0; 0 test 1, pop, ret",
+        "state 0 0 -; state 0 1 -; 0 test 1, pop, ret",
         "V2 state 1",
     ),
     (
         "operands, handlers",
-        "state 1 0 0; 0 ret; 1 true, test 1, and, ret",
+        "state 1 0 -; 0 ret; 1 true, test 1, and, ret",
         "V2 routine 1 place 1",
     ),
     (
         "handlers of the head, of a state",
-        "always 0 1 0; state 1 0 0; 0 ret; 1 true, ret",
+        "always 0 1 -; state 1 0 -; 0 ret; 1 true, ret",
         "V14 head",
     ),
     (
         "handlers, jumps",
-        "state 0 0 0; state 0 1 0; 0 jump 0, ret; 1 true, ret",
+        "state 0 0 -; state 0 1 -; 0 jump 0, ret; 1 true, ret",
         "V14 state 1",
     ),
     (
@@ -138,18 +138,18 @@ const NEIGHBOURS: [Row; 27] = [
 const PLACES: [Row; 50] = [
     (
         "initial state",
-        "initial 2; state 0 0 0; state 0 0 0; 0 ret",
+        "start 2; state 0 0 -; state 0 0 -; 0 ret",
         "V2 head",
     ),
-    ("always init", "always 1 0 0; 0 ret", "V2 head"),
-    ("always body", "always 0 1 0; 0 ret", "V2 head"),
-    ("always mask", "always 0 0 2; 0 ret", "V2 head"),
-    ("init", "state 0 0 1; state 1 0 0; 0 ret", "V2 state 1"),
-    ("body", "state 0 0 1; state 0 1 0; 0 ret", "V2 state 1"),
-    ("mask", "state 0 0 1; state 0 0 2; 0 ret", "V2 state 1"),
+    ("always init", "always 1 0 -; 0 ret", "V2 head"),
+    ("always body", "always 0 1 -; 0 ret", "V2 head"),
+    ("always mask", "always 0 0 1; 0 ret", "V2 head"),
+    ("init", "state 0 0 0; state 1 0 -; 0 ret", "V2 state 1"),
+    ("body", "state 0 0 0; state 0 1 -; 0 ret", "V2 state 1"),
+    ("mask", "state 0 0 0; state 0 0 1; 0 ret", "V2 state 1"),
     (
         "no interface",
-        "0 ret; 0 true, pop, link 0, pop, ret",
+        "0 ret; 0 true, pop, link 0 up, pop, ret",
         "V2 routine 1 place 2",
     ),
     (
@@ -179,22 +179,22 @@ const PLACES: [Row; 50] = [
     ),
     (
         "always init leaves",
-        "always 1 0 0; 0 ret; 1 true, ret",
+        "always 1 0 -; 0 ret; 1 true, ret",
         "V14 head",
     ),
     (
         "always body leaves",
-        "always 0 1 0; 0 ret; 1 true, ret",
+        "always 0 1 -; 0 ret; 1 true, ret",
         "V14 head",
     ),
     (
         "init leaves",
-        "state 0 0 0; state 1 0 0; 0 ret; 1 true, ret",
+        "state 0 0 -; state 1 0 -; 0 ret; 1 true, ret",
         "V14 state 1",
     ),
     (
         "body leaves",
-        "state 0 0 0; state 0 1 0; 0 ret; 1 true, ret",
+        "state 0 0 -; state 0 1 -; 0 ret; 1 true, ret",
         "V14 state 1",
     ),
     (
@@ -331,27 +331,27 @@ const PLACES: [Row; 50] = [
     ),
     (
         "stated stack, of a body",
-        "stack 1; state 0 0 0; state 0 1 0; 0 ret; 0 up 2, down 2, ret",
+        "stack 1; state 0 0 -; state 0 1 -; 0 ret; 0 up 2, down 2, ret",
         "V10 head",
     ),
     (
         "stated frames, of an init",
-        "frames 1; state 0 0 0; state 1 0 0; 0 ret; 0 call 0, ret",
+        "frames 1; state 0 0 -; state 1 0 -; 0 ret; 0 call 0, ret",
         "V11 head",
     ),
     (
         "stated cost, of another state's init",
-        "cost 3; state 0 0 0; state 1 0 0; 0 ret; 0 jump 1, ret",
+        "cost 3; state 0 0 -; state 1 0 -; 0 ret; 0 jump 1, ret",
         "V12 head",
     ),
     (
         "stated cost, of the opening",
-        "cost 9; always 1 0 0; state 1 0 0; 0 ret; 0 spend 2, ret",
+        "cost 9; always 1 0 -; state 1 0 -; 0 ret; 0 spend 2, ret",
         "V12 head",
     ),
     (
         "stated commands, of another state's init",
-        "commands 2; always 0 1 0; state 0 1 0; state 1 0 0; 0 ret; 0 order 1, ret",
+        "commands 2; always 0 1 -; state 0 1 -; state 1 0 -; 0 ret; 0 order 1, ret",
         "V13 head",
     ),
 ];
