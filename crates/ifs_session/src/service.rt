@@ -9,6 +9,7 @@ ghost use Rattle.ifs_session.specs.Device.{HoldsNothing, PutGives};
 ghost use Rattle.ifs_session.specs.Hosts.{Ending, Adds, launched, polled};
 ghost use Rattle.ifs_session.specs.Accounts.{launch_of, launches_told, acted, all_ended, heard_out, step_asked, told_line, answered};
 ghost use Rattle.ifs_session.specs.Service.{ConnectionGives};
+ghost use Rattle.ifs_session.specs.Replies.{reply_line};
 ghost use Rattle.ifs_session.specs.Sessions.{is_stop};
 ghost use Rattle.ifs_session.specs.inner.Parsing.{told_by};
 ghost use Rattle.ifs_session.specs.inner.Connections.{Carries, PartGives, FlushGives, end_of};
@@ -282,11 +283,30 @@ fn answer<H: Host, W: ByteOut>(
 {
     match step_of(core, asked) {
         None => tell(core, writer, asked),
-        Some(step) => {
-            let outcome = make(core, host, lists, steps, step);
-            put_reply(writer, core, outcome, lists)
-        }
+        Some(step) => answer_step(core, host, lists, steps, writer, step),
     }
+}
+
+/// Makes a step, empties the queue, and then writes the reply.
+fn answer_step<H: Host, W: ByteOut>(
+    core: &mut Core,
+    host: &mut H,
+    lists: &mut Lists,
+    steps: &mut ArrayVec<Step, STEPS>,
+    writer: &mut W,
+    step: Step,
+) -> Result<(), DeviceFault>
+    requires { length steps.old.items + 65 ≤ 512 }
+    ensures image { core.new.image ≡ core.old.image }
+    ensures acts { (b : Behaviour) → IsBehaviour core.old.image b → Carries (acted b core.old.image (Some step))
+        (record { state = core.old.state; steps = steps.old.items; told = H.told host.old })
+        (record { state = core.new.state; steps = steps.new.items; told = H.told host.new }) }
+    ensures replies { (b : Behaviour) → IsBehaviour core.old.image b
+        → PutGives result (reply_line core.old.image (turn b core.old.image.budgets.commands step core.old.state).reply) (W.written writer.old) (W.written writer.new) (W.faults writer.old) (W.faults writer.new) }
+    ensures few { length steps.new.items ≤ 512 }
+{
+    let outcome = make(core, host, lists, steps, step);
+    put_reply(writer, core, outcome, lists)
 }
 
 /// The step that is asked for, if one is.
