@@ -47,6 +47,20 @@ fn image_of(
     Ok(image)
 }
 
+/// A core on an image.
+fn opened(alloc: Global, image: &[u8]) -> Result<Core, Fail> {
+    match Core::open(alloc, verify(alloc, image)?) {
+        Ok(core) => Ok(core),
+        Err(_) => Err(Fail::from("no core")),
+    }
+}
+
+/// Writes the replies to requests.
+fn reply(core: &mut Core, requests: &str, output: &mut MemoryOut) -> Result<(), Fail> {
+    simulate(core, &mut MemoryIn::new(requests.as_bytes()), output)?;
+    Ok(())
+}
+
 /// On an image the requests have these replies.
 fn talk(
     rt: &impl Abort,
@@ -56,15 +70,9 @@ fn talk(
     requests: &str,
     replies: &str,
 ) -> Result<(), Fail> {
-    let Ok(mut core) = Core::open(alloc, verify(alloc, image)?) else {
-        return Err(Fail::from("no core"));
-    };
+    let mut core = opened(alloc, image)?;
     let mut output = MemoryOut::new(alloc);
-    simulate(
-        &mut core,
-        &mut MemoryIn::new(requests.as_bytes()),
-        &mut output,
-    )?;
+    reply(&mut core, requests, &mut output)?;
     assert_eq!(rt; output.written(), replies.as_bytes(), "{name}");
     Ok(())
 }

@@ -37,14 +37,24 @@ pub fn serve<R: Files + Net + Processes + Clock + Log + Print + Alloc<A = Global
     let Ok(mut host) = Shell::new(rt) else {
         return out_of_memory(rt, Task::Verify);
     };
-    let listener = match UnixListener::bind(rt, socket.as_str()) {
-        Ok(listener) => listener,
-        Err(error) => return Err(socket_fault(socket, error)),
-    };
-    let ending = listen(rt, &mut core, &mut host, &listener);
-    match fs::remove_file(rt, socket.as_str()) {
-        Err(error) if error.kind() != ErrorKind::NotFound => Err(socket_fault(socket, error)),
-        _ => ending,
+    match serve_at(rt, &mut core, &mut host, socket.as_str()) {
+        Ok(ending) => ending,
+        Err(error) => Err(socket_fault(socket, error)),
+    }
+}
+
+/// Makes the socket, serves its clients, and removes its file.
+fn serve_at<R: Files + Net + Processes + Clock + Log + Print + Alloc<A = Global>>(
+    rt: &R,
+    core: &mut Core,
+    host: &mut Shell<'_, R>,
+    socket: &str,
+) -> io::Result<Result<Ending, Ending>> {
+    let listener = UnixListener::bind(rt, socket)?;
+    let ending = listen(rt, core, host, &listener);
+    match fs::remove_file(rt, socket) {
+        Err(error) if error.kind() != ErrorKind::NotFound => Err(error),
+        _ => Ok(ending),
     }
 }
 
