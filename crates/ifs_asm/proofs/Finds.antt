@@ -121,11 +121,6 @@ takes bs front front' rest run n len is others pushed =
     ∙ ap (λ (r : List ℕ). before front (before r (text_from rest Within))) is ∙ ap (λ (r : List ℕ). before front (before (take n bs) (text_from r Within))) others
     ∙ ap (before front) (sym split)
 
--- A byte that is given is taken behind the others.
-pub gives : (front front' : List ℕ) (b : ℕ) (o : Option (List ℕ)) → front' ≡ front ++ b ∷ [] → option_map (λ text. front' ++ text) o ≡ option_map (λ text. front ++ text) (onto b o)
-gives front front' b None pushed = refl
-gives front front' b (Some text) pushed = ap (λ (f : List ℕ). Some (f ++ text)) pushed ∙ ap Some (append_assoc front (b ∷ []) text)
-
 -- Behind a run inside quotes as many bytes of the word are left as before it, but for the run.
 pub skipped : (mode : Mode) (bytes rest : List ℕ) (n : ℕ) → mode ≡ Inside → n ≡ prefix_len goes_on bytes → rest ≡ take (length bytes - n) (drop n bytes)
     → length bytes + word_len mode rest ≡ length rest + word_len mode bytes
