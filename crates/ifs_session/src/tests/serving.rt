@@ -1,10 +1,7 @@
 //! Served connections, on the worked rows.
 
 use super::Endless;
-use crate::{
-    ByteIn, End, HostFault, MemoryIn, MemoryOut, ScriptHost, Served, SessionFault, run_queue,
-    serve_one,
-};
+use crate::{End, HostFault, MemoryIn, MemoryOut, ScriptHost, SessionFault, run_queue, serve_one};
 use ifs_base::{IfaceId, LinkState, TestId};
 use ifs_core::{Core, Step};
 use ifs_rows::{bytes_of, images, sessions};
@@ -28,16 +25,6 @@ fn quiet<A: Allocator + Copy>(alloc: A, script: Global) -> ScriptHost<A> {
     ScriptHost::new(alloc, Vec::new(script), Vec::new(script))
 }
 
-/// Serves a connection. The tests see what it does and need nothing that is proved of it, so it says nothing here.
-fn talk<A: Allocator + Copy, R: ByteIn>(
-    core: &mut Core,
-    host: &mut ScriptHost<A>,
-    input: &mut R,
-    output: &mut MemoryOut,
-) -> Served {
-    serve_one(core, host, input, output)
-}
-
 /// The row of macros: a test is started, fails, and its command is run before the reply to `status`.
 #[test]
 fn macros(rt: HostRuntime) -> Result<(), Fail> {
@@ -47,7 +34,7 @@ fn macros(rt: HostRuntime) -> Result<(), Fail> {
     let mut host = ScriptHost::new(rt.alloc(), endings, Vec::new(rt.alloc()));
     let mut input = MemoryIn::new(b"tick 0\nstatus\nstop\n");
     let mut output = MemoryOut::new(rt.alloc());
-    let served = talk(&mut core, &mut host, &mut input, &mut output);
+    let served = serve_one(&mut core, &mut host, &mut input, &mut output);
     let replies = "tick \"a\" cost 4 queue - starts 0:1\n\
                    status \"a\" owed no queue 0 running 0 now 0\n\
                    bye\n";
@@ -85,7 +72,7 @@ fn full(rt: HostRuntime) -> Result<(), Fail> {
     }
     let mut input = MemoryIn::new(requests.as_slice());
     let mut output = MemoryOut::new(rt.alloc());
-    let served = talk(&mut core, &mut host, &mut input, &mut output);
+    let served = serve_one(&mut core, &mut host, &mut input, &mut output);
     assert_eq!(rt; served.end, End::Full);
     assert_eq!(rt; served.steps.len(), 448);
     assert_eq!(rt; input.left(), b"tick 0\n".as_slice());
@@ -107,7 +94,7 @@ fn what_hosts_do_is_no_request(rt: HostRuntime) -> Result<(), Fail> {
         b"result 0 1 ok\ntake\nresult 99999 1 ok\ntakes\nlink carp1 up\ntick 99999999999999999999\nlink carp0 up\ntrace\ntake";
     let mut input = MemoryIn::new(requests);
     let mut output = MemoryOut::new(rt.alloc());
-    let served = talk(&mut core, &mut host, &mut input, &mut output);
+    let served = serve_one(&mut core, &mut host, &mut input, &mut output);
     let replies = "fault C1\nfault C1\nfault C1\nfault C1\nfault C4\nfault C3\n\
                    done \"a\" cost 6 queue 0\n\
                    trace 2\n\
@@ -167,7 +154,7 @@ fn each_run_fails_in_turn(rt: HostRuntime) -> Result<(), Fail> {
         let mut host = ScriptHost::new(rt.alloc(), Vec::new(rt.alloc()), statuses);
         let mut input = MemoryIn::new(REQUESTS);
         let mut output = MemoryOut::new(rt.alloc());
-        let served = talk(&mut core, &mut host, &mut input, &mut output);
+        let served = serve_one(&mut core, &mut host, &mut input, &mut output);
         assert_eq!(rt; output.written(), REPLIES.as_bytes(), "{failing}");
         assert_eq!(rt; served.end, End::Stop, "{failing}");
         assert_eq!(rt; served.steps.len(), 7, "{failing}");
@@ -185,7 +172,7 @@ fn each_read_fails_in_turn(rt: HostRuntime) -> Result<(), Fail> {
         let mut host = quiet(rt.alloc(), rt.alloc());
         let mut input = MemoryIn::failing_after(REQUESTS, calls as u64);
         let mut output = MemoryOut::new(rt.alloc());
-        let served = talk(&mut core, &mut host, &mut input, &mut output);
+        let served = serve_one(&mut core, &mut host, &mut input, &mut output);
         assert_eq!(rt; served.end, End::Fault(SessionFault::ReadFailed), "{calls}");
         let written = output
             .written()
@@ -210,7 +197,7 @@ fn each_write_fails_in_turn(rt: HostRuntime) -> Result<(), Fail> {
         let mut host = quiet(rt.alloc(), rt.alloc());
         let mut input = MemoryIn::new(REQUESTS);
         let mut output = MemoryOut::failing_after(rt.alloc(), calls);
-        let served = talk(&mut core, &mut host, &mut input, &mut output);
+        let served = serve_one(&mut core, &mut host, &mut input, &mut output);
         assert!(rt; REPLIES.as_bytes().starts_with(output.written()), "{calls}");
         assert_eq!(rt; core.queue_len(), 0, "{calls}");
         if served.end == End::Stop {
@@ -236,7 +223,7 @@ fn growth_refused(rt: HostRuntime) -> Result<(), Fail> {
         let mut host = quiet(&heap, rt.alloc());
         let mut input = MemoryIn::new(REQUESTS);
         let mut output = MemoryOut::new(rt.alloc());
-        let served = talk(&mut core, &mut host, &mut input, &mut output);
+        let served = serve_one(&mut core, &mut host, &mut input, &mut output);
         assert_eq!(rt; output.written(), REPLIES.as_bytes(), "{size}");
         assert_eq!(rt; served.end, End::Stop, "{size}");
         assert_eq!(rt; host.whole(), whole, "{size}");
@@ -254,7 +241,7 @@ fn too_much_input(rt: HostRuntime) -> Result<(), Fail> {
         read: 0,
     };
     let mut output = MemoryOut::new(rt.alloc());
-    let served = talk(&mut core, &mut host, &mut input, &mut output);
+    let served = serve_one(&mut core, &mut host, &mut input, &mut output);
     assert_eq!(rt; served.end, End::Fault(SessionFault::TooMuchInput));
     assert_eq!(rt; input.read, 16_777_217);
     assert_eq!(rt; output.written(), "done \"a\" cost 6 queue 0\n".as_bytes());
