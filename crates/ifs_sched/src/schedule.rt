@@ -19,7 +19,7 @@ pub struct Backwards;
 
 /// The test does not run under that number, or is not in the schedule.
 #[derive(Clone, Copy, Debug, PartialEq, Eq, Error)]
-#[error("the test does not run under that number")]
+#[error("nothing runs under that number")]
 pub struct Stale;
 
 /// The moments and runs of up to 64 tests.
