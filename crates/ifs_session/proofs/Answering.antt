@@ -1,14 +1,12 @@
 -- A line that was read: the host was heard, and what it asks was done and replied to.
-use Rattle.std.proofs.Common.{◌≡◌, ℕ, Bool, List, [], Option, Some, None, refl, sym, ap, ◌∙◌, subst}
+use Rattle.std.proofs.Common.{◌≡◌, ℕ, Bool, List, [], Option, ap, ◌∙◌, subst}
 use Rattle.std.specs.Io.KnownBytes.{append_known}
 use Rattle.ifs_image.specs.declared.parts.ImageParts.{ImageParts}
 use Rattle.ifs_core.specs.Event.{Behaviour}
-use Rattle.ifs_core.specs.Steps.{CoreState}
-use Rattle.ifs_core.specs.Gateway.{OpenCore}
 use Rattle.ifs_session.specs.Requests.{Asked}
 use Rattle.ifs_session.specs.Sessions.{is_stop}
-use Rattle.ifs_session.specs.Hosts.{Ending, HostLog}
-use Rattle.ifs_session.specs.Accounts.{Account, Part, client_asked, step_asked, acted, all_ended, heard_out, answered, attended, spoken, listened}
+use Rattle.ifs_session.specs.Hosts.{Ending}
+use Rattle.ifs_session.specs.Accounts.{client_asked, step_asked, acted, all_ended, heard_out, answered, listened}
 use Rattle.ifs_session.specs.inner.Reading.{ReadsText}
 use Rattle.ifs_session.specs.inner.Connections.{Standing, Stands, Carries, Point, standing, taken_in, ServesPart, AnswersPart}
 use Rattle.ifs_session.proofs.Known.{append_known-nil}

@@ -1,11 +1,11 @@
 -- A line that stands whole among the bytes at hand.
-use Rattle.std.proofs.Common.{◌≡◌, ◌≢◌, ℕ, ◌+◌, ◌<◌, Bool, true, false, cond, not, nat_lt, List, [], ◌∷◌, ◌++◌, length, take, drop, get_or, Some, None, sym, ap, ◌∙◌, arith, length-take, zero, suc}
-use Rattle.std.specs.Prelude.{◌==◌}
+use Rattle.std.proofs.Common.{◌≡◌, ◌≢◌, ℕ, ◌+◌, ◌<◌, Option, Bool, true, false, cond, not, nat_lt, List, [], ◌∷◌, ◌++◌, length, take, drop, get_or, Some, None, sym, ap, ◌∙◌, arith, length-take, zero, suc}
+use Rattle.std.specs.Prelude.{◌==◌, if◌then◌else◌, option_and_then}
 use Rattle.std.specs.List.{position, position_or_len}
 use Rattle.std.proofs.lemmas.List.{drop_more, take-append-drop}
 use Rattle.std.proofs.lemmas.List.Sums.{prefix_len_passes, prefix_len_stops}
 use Rattle.std.proofs.lemmas.Bool.Decides.{nat_tests}
-use Rattle.ifs_session.specs.inner.Reading.{HasNoNewline, StandsFirst}
+use Rattle.ifs_session.specs.inner.Reading.{HasNoNewline, StandsFirst, first_line}
 
 abbrev pub is_newline : ℕ → Bool
 is_newline byte = byte == 10
@@ -38,3 +38,13 @@ stands_first bytes end most e below =
           (drop_more bytes end 0 within ∙ ap (λ byte. byte ∷ drop (end + 1) bytes)
           (ap (λ n. get_or bytes n 0) (sym at.0) ∙ a_newline _ (prefix_len_stops other bytes 0 at.1)));
     }
+
+-- The line, where a newline stands at this place, if it is short enough.
+abbrev line_to : ℕ → List ℕ → ℕ → Option (List ℕ)
+line_to most bytes end = if nat_lt end most then Some (take end bytes) else None
+
+pub line_to_end : (bytes : List ℕ) (end most : ℕ) (short : Bool) → position is_newline bytes ≡ Some end → nat_lt end most ≡ short → (if short then Some (take end bytes) else None) ≡ first_line most bytes
+line_to_end bytes end most short e tested = sym (ap (option_and_then (line_to most bytes)) e ∙ ap (λ test. if test then Some (take end bytes) else None) tested)
+
+pub no_line : (bytes : List ℕ) (most : ℕ) → position is_newline bytes ≡ None → None ≡ first_line most bytes
+no_line bytes most e = sym (ap (option_and_then (line_to most bytes)) e)

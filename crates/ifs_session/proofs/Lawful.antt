@@ -1,12 +1,12 @@
 -- What an account keeps: its steps lead from the state at its beginning to its own, and are those of its lines and of its log.
-use Rattle.std.proofs.Common.{◌≡◌, ◌≢◌, ℕ, ◌-◌, Bool, true, false, cond, nat_lt, List, [], ◌∷◌, ◌++◌, length, map, Option, slice_get, Some, None, option_map, refl, sym, ap, ◌∙◌, subst, append_assoc, append-nil}
+use Rattle.std.proofs.Common.{◌≡◌, ℕ, Bool, true, false, cond, List, [], ◌∷◌, ◌++◌, Option, slice_get, Some, None, option_map, refl, sym, ap, subst, append_assoc, append-nil}
 use Rattle.std.specs.List.{filter_map}
 use Rattle.std.proofs.lemmas.List.Elements.{All-nil}
 use Rattle.ifs_base.specs.declared.ids.IfaceId.{IfaceId}
 use Rattle.ifs_base.specs.declared.op.LinkState.{LinkState}
 use Rattle.ifs_image.specs.declared.parts.ImageParts.{ImageParts}
 use Rattle.ifs_core.specs.declared.step.Step.{Step}
-use Rattle.ifs_core.specs.declared.step.Step.TheVariants.{Link, Finished, Tick, Take}
+use Rattle.ifs_core.specs.declared.step.Step.TheVariants.{Link, Finished, Tick}
 use Rattle.ifs_core.specs.Event.{Behaviour}
 use Rattle.ifs_core.specs.Machine.{IsBehaviour}
 use Rattle.ifs_core.specs.Gateway.{IsStateOf, interface_of}
@@ -14,10 +14,10 @@ use Rattle.ifs_core.specs.Headline.{IsKept}
 use Rattle.ifs_core.specs.Steps.{CoreState, turn}
 use Rattle.ifs_session.specs.Requests.{Asked, ALink, AResult, ATick, ATake, AStatus, ATrace, AStop, AFault}
 use Rattle.ifs_session.specs.Hosts.{Ending, HostLog, joined, nothing_given, ran, launched, polled}
-use Rattle.ifs_session.specs.Accounts.{Account, Part, client_asked, step_asked, takes_of, texts_of, launches_told, begun, made, emptied, heard, ended, all_ended, heard_out, acted, listened, attended, served, all_served, account}
+use Rattle.ifs_session.specs.Accounts.{Account, Part, client_asked, step_asked, takes_of, texts_of, launches_told, begun, emptied, heard, ended, all_ended, acted, listened, served, all_served, account}
 use Rattle.ifs_session.specs.Service.{ending_made, request_made, lines_in, Keeps}
 use Rattle.ifs_session.proofs.Logs.{joined-joined}
-use Rattle.ifs_session.proofs.Growing.{Grows, TakesNone, Empties, line_step, grows_more, takes_grow, step_grows, link_takes, finished_takes, tick_takes}
+use Rattle.ifs_session.proofs.Growing.{Grows, TakesNone, line_step, grows_more, takes_grow, step_grows, link_takes, finished_takes, tick_takes}
 
 -- What is known of a core's image throughout.
 pub record Kept (b : Behaviour) (image : ImageParts) : Type 0 where

@@ -1,5 +1,5 @@
 -- What a host tells, after one thing came to its log and then another.
-use Rattle.std.proofs.Common.{◌≡◌, ◌++◌, [], List, Option, Some, None, refl, sym, ap, ◌∙◌, append_assoc, append-nil}
+use Rattle.std.proofs.Common.{◌≡◌, Option, Some, None, refl, sym, ap, ◌∙◌, append_assoc, append-nil}
 use Rattle.ifs_session.specs.Hosts.{HostLog, joined, nothing_given, Adds}
 
 joined-nothing : (log : HostLog) → joined log nothing_given ≡ log

@@ -1,5 +1,5 @@
 -- A connection part by part: what was read so far, and what was made of it.
-use Rattle.std.proofs.Common.{◌≡◌, ◌⊎◌, ℕ, ◌+◌, ◌-◌, ◌<◌, ◌≤◌, Bool, true, false, nat_lt, cond, List, [], ◌∷◌, ◌++◌, length, map, All, Option, Some, None, Ok, Err, inl, inr, subst, refl, sym, ap, ◌∙◌, append_assoc, append-nil, arith, length-append}
+use Rattle.std.proofs.Common.{◌≡◌, ◌⊎◌, ℕ, ◌+◌, ◌-◌, ◌<◌, ◌≤◌, Bool, true, false, nat_lt, cond, List, [], ◌∷◌, ◌++◌, length, All, Option, Some, None, Ok, Err, inl, inr, subst, refl, sym, ap, ◌∙◌, append_assoc, arith, length-append}
 use Rattle.std.proofs.lemmas.Bool.Decides.{nat_tests}
 use Rattle.std.proofs.lemmas.List.{map-append}
 use Rattle.std.proofs.lemmas.List.Elements.{All-nil, All-cons, All-append}
@@ -10,19 +10,19 @@ use Rattle.ifs_core.specs.Event.{Behaviour}
 use Rattle.ifs_core.specs.Gateway.{IsStateOf}
 use Rattle.ifs_core.specs.Machine.{IsBehaviour}
 use Rattle.ifs_core.specs.Headline.{IsKept}
-use Rattle.ifs_core.specs.Steps.{CoreState, after_steps}
+use Rattle.ifs_core.specs.Steps.{after_steps}
 use Rattle.ifs_session.specs.declared.fault.SessionFault.{SessionFault}
 use Rattle.ifs_session.specs.declared.fault.SessionFault.TheVariants.{ReadFailed, WriteFailed, TooMuchInput}
 use Rattle.ifs_session.specs.declared.service.End.{End}
 use Rattle.ifs_session.specs.declared.service.End.TheVariants.{Closed, Stop, Full, Fault}
 use Rattle.ifs_session.specs.declared.service.ServedLine.{ServedLine}
 use Rattle.ifs_session.specs.Device.{counted}
-use Rattle.ifs_session.specs.Lines.{lines_of, whole_lines, ending}
-use Rattle.ifs_session.specs.Sessions.{Moment, is_stop, HasRead, EndsLine, EndsLines}
+use Rattle.ifs_session.specs.Lines.{lines_of, ending}
+use Rattle.ifs_session.specs.Sessions.{Moment, is_stop, EndsLines}
 use Rattle.ifs_session.specs.Hosts.{HostLog, Adds, ran}
-use Rattle.ifs_session.specs.Accounts.{Account, Part, takes_of, texts_of, client_asked, spoken, attended, served, all_served, emptied, begun, account}
+use Rattle.ifs_session.specs.Accounts.{Account, Part, takes_of, texts_of, client_asked, spoken, attended, served, emptied, begun, account}
 use Rattle.ifs_session.specs.Service.{lines_in, GoesOn, Keeps, HasAttended, HasAnswered, EndsAs, Completes, BreaksReading, BreaksWriting, ReadsPast, ConnectionGives}
-use Rattle.ifs_session.specs.inner.Reading.{ReadsNothing, ReadFails, ReadsTooMuch}
+use Rattle.ifs_session.specs.inner.Reading.{ReadFails, ReadsTooMuch}
 use Rattle.ifs_session.specs.inner.Serving.{OnlyReads, OnlyWrites}
 use Rattle.ifs_session.specs.inner.Connections.{Stands, Point, standing, taken_in, Idles, ServesPart, AnswersPart, PartGives, FlushGives, end_of}
 use Rattle.ifs_session.proofs.Known.{consumes_nothing, consumes_more, consumes_kept, append_known-append, append_known-nil}

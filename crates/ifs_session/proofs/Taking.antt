@@ -1,11 +1,9 @@
 -- Commands that are taken one after the other.
-use Rattle.std.proofs.Common.{◌≡◌, ℕ, List, [], ◌∷◌, ◌++◌, slice_get, unwrap_or, Option, Some, None, refl, sym, ap, ◌∙◌, append_assoc, append-nil}
+use Rattle.std.proofs.Common.{◌≡◌, ℕ, List, [], ◌∷◌, slice_get, unwrap_or, Some, refl, sym, ap, ◌∙◌, append-nil}
 use Rattle.ifs_base.specs.declared.ids.CommandId.{CommandId}
-use Rattle.ifs_core.specs.declared.step.Step.{Step}
-use Rattle.ifs_core.specs.declared.step.Step.TheVariants.{Take}
 use Rattle.ifs_core.specs.declared.step.Reply.TheVariants.{Taken, Empty}
 use Rattle.ifs_core.specs.Event.{Behaviour}
-use Rattle.ifs_core.specs.Steps.{CoreState, Makes, take_turn, turn, after_steps, taken_reply}
+use Rattle.ifs_core.specs.Steps.{CoreState, Makes, take_turn, after_steps}
 use Rattle.ifs_image.specs.declared.parts.ImageParts.{ImageParts}
 use Rattle.ifs_session.specs.Accounts.{takes_of, texts_of}
 

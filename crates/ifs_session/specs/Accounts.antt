@@ -1,6 +1,5 @@
 -- Accounts: what the requests of a connection and the ends of tests make of a core and of a host.
-use Rattle.std.specs.Prelude.{◌≡◌, ◌≢◌, ℕ, ◌+◌, ◌-◌, ◌<◌, ◌≤◌, nat_lt, Bool, true, false, ◌||◌, if◌then◌else◌, List, [], ◌∷◌, ◌++◌, length, map, slice_get, codes, All, Option, Some, None, unwrap_or, option_map}
-use Rattle.std.specs.List.{flat_map}
+use Rattle.std.specs.Prelude.{ℕ, ◌-◌, nat_lt, Bool, ◌||◌, if◌then◌else◌, List, [], ◌∷◌, ◌++◌, length, map, slice_get, codes, Option, Some, None, unwrap_or, option_map}
 use Rattle.std.specs.Str.{bytes_eq}
 use Rattle.ifs_base.specs.declared.ids.CommandId.{CommandId}
 use Rattle.ifs_image.specs.declared.parts.ImageParts.{ImageParts}
@@ -8,12 +7,12 @@ use Rattle.ifs_sched.specs.declared.start.Start.{Start}
 use Rattle.ifs_core.specs.declared.step.Step.{Step}
 use Rattle.ifs_core.specs.declared.step.Step.TheVariants.{Link, Finished, Tick, Take}
 use Rattle.ifs_core.specs.declared.step.Reply.{Reply}
-use Rattle.ifs_core.specs.declared.step.Reply.TheVariants.{Ticked, Taken, Busy}
+use Rattle.ifs_core.specs.declared.step.Reply.TheVariants.{Ticked}
 use Rattle.ifs_core.specs.Event.{Behaviour}
-use Rattle.ifs_core.specs.Steps.{CoreState, turn, replies, after_steps}
+use Rattle.ifs_core.specs.Steps.{CoreState, turn, after_steps}
 use Rattle.ifs_core.specs.Gateway.{interface_of}
 use Rattle.ifs_session.specs.declared.request.RequestFault.TheVariants.{NoRequest, TooLong, NoInterface}
-use Rattle.ifs_session.specs.Requests.{Asked, ALink, AResult, ATick, ATake, AStatus, ATrace, AStop, AFault, begins_with, short_asked}
+use Rattle.ifs_session.specs.Requests.{Asked, ALink, ATick, AStatus, ATrace, AStop, AFault, begins_with, short_asked}
 use Rattle.ifs_session.specs.Replies.{command_text, reply_line, status_line, trace_lines, fault_line, bye_line}
 use Rattle.ifs_session.specs.Hosts.{Ending, Launch, HostLog, ran, launched, polled, joined, nothing_given}
 

@@ -1,10 +1,10 @@
 -- Service: what a served connection gives, in each way that it ends.
-use Rattle.std.specs.Prelude.{◌≡◌, ◌≢◌, ℕ, ◌<◌, Bool, true, false, List, [], ◌∷◌, ◌++◌, length, map, All, Option, Some, None}
+use Rattle.std.specs.Prelude.{◌≡◌, ◌≢◌, ℕ, ◌<◌, true, false, List, [], ◌∷◌, ◌++◌, length, map, All, Option, Some, None}
 use Rattle.std.specs.List.{flat_map, filter_map}
 use Rattle.std.specs.Io.KnownBytes.{append_known, Consumes, IsAtEnd}
 use Rattle.ifs_image.specs.declared.parts.ImageParts.{ImageParts}
 use Rattle.ifs_core.specs.declared.step.Step.{Step}
-use Rattle.ifs_core.specs.declared.step.Step.TheVariants.{Link, Finished, Tick, Take}
+use Rattle.ifs_core.specs.declared.step.Step.TheVariants.{Link, Finished, Tick}
 use Rattle.ifs_core.specs.declared.step.Reply.{Reply}
 use Rattle.ifs_core.specs.declared.step.Reply.TheVariants.{Taken, Busy}
 use Rattle.ifs_core.specs.Event.{Behaviour}
@@ -13,7 +13,7 @@ use Rattle.ifs_session.specs.declared.fault.SessionFault.TheVariants.{ReadFailed
 use Rattle.ifs_session.specs.declared.service.End.{End}
 use Rattle.ifs_session.specs.declared.service.End.TheVariants.{Closed, Stop, Full, Fault}
 use Rattle.ifs_session.specs.Device.{counted}
-use Rattle.ifs_session.specs.Hosts.{Ending, Launch, HostLog, Adds}
+use Rattle.ifs_session.specs.Hosts.{Ending, HostLog, Adds}
 use Rattle.ifs_session.specs.Lines.{lines_of, whole_lines}
 use Rattle.ifs_session.specs.Replies.{command_text}
 use Rattle.ifs_session.specs.Sessions.{Moment, HasRead, EndsLine, EndsLines, is_stop}

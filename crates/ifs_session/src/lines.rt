@@ -1,9 +1,9 @@
 //! Lines of input.
 
-ghost use Rattle.std.specs.Prelude.{◌≡◌, ◌==◌, IfSome};
+ghost use Rattle.std.specs.Prelude.{◌≡◌, ◌==◌, IfSome, option_map};
 ghost use Rattle.std.specs.List.{position};
 ghost use Rattle.ifs_session.specs.Accounts.{asks_of_hosts};
-ghost use Rattle.ifs_session.specs.inner.Reading.{LineGives, StandsFirst};
+ghost use Rattle.ifs_session.specs.inner.Reading.{LineGives, StandsFirst, first_line};
 
 use crate::device::ByteIn;
 use crate::fault::SessionFault;
@@ -64,7 +64,8 @@ fn is_of_hosts(line: &[u8]) -> bool
 /// The line, without its newline, that stands whole at the front of these bytes and has at most `most`
 /// bytes with its newline.
 pub(crate) fn line_at_hand(bytes: &[u8], most: u32) -> Option<&[u8]>
-    ensures { IfSome result (λ line. StandsFirst line.now most bytes.now) }
+    ensures exact { option_map (λ line. line.now) result ≡ first_line most bytes.now }
+    ensures first { IfSome result (λ line. StandsFirst line.now most bytes.now) }
 {
     let end = newline(bytes)?;
     if end < most as usize {

@@ -1,6 +1,5 @@
 -- What the functions that serve a connection give.
-use Rattle.std.specs.Prelude.{◌≡◌, ◌⊎◌, ℕ, Bool, true, false, nat_lt, ◌-◌, ◌||◌, if◌then◌else◌, List, [], length, codes, Option, Some, None, Result, Ok, Err}
-use Rattle.std.specs.Str.{bytes_eq}
+use Rattle.std.specs.Prelude.{◌≡◌, ◌⊎◌, ℕ, Bool, nat_lt, ◌-◌, if◌then◌else◌, List, [], Option, Some, None, Result, Ok, Err}
 use Rattle.std.specs.Io.KnownBytes.{append_known}
 use Rattle.ifs_core.specs.declared.step.Step.{Step}
 use Rattle.ifs_core.specs.Event.{Behaviour}
@@ -13,7 +12,7 @@ use Rattle.ifs_session.specs.declared.service.End.{End}
 use Rattle.ifs_session.specs.declared.service.End.TheVariants.{Closed, Stop, Full, Fault}
 use Rattle.ifs_session.specs.declared.service.ServedLine.{ServedLine}
 use Rattle.ifs_session.specs.Device.{counted}
-use Rattle.ifs_session.specs.Requests.{Asked, AFault, begins_with, short_asked}
+use Rattle.ifs_session.specs.Requests.{Asked, AFault, short_asked}
 use Rattle.ifs_session.specs.Sessions.{Moment, is_stop}
 use Rattle.ifs_session.specs.Hosts.{HostLog, Adds}
 use Rattle.ifs_session.specs.Accounts.{Account, Part, asks_of_hosts, client_asked, attended, spoken}

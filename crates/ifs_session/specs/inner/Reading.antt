@@ -1,5 +1,6 @@
 -- What the functions that read a line of requests and a digit give.
-use Rattle.std.specs.Prelude.{◌≡◌, ◌≢◌, ℕ, ◌+◌, ◌<◌, ◌≤◌, Bool, false, nat_lt, List, [], ◌∷◌, ◌++◌, length, take, All, Option, Some, None, Result, Ok, Err}
+use Rattle.std.specs.Prelude.{◌≡◌, ◌≢◌, ℕ, ◌+◌, ◌<◌, ◌≤◌, ◌==◌, Bool, false, nat_lt, if◌then◌else◌, List, [], ◌∷◌, ◌++◌, length, take, All, Option, Some, None, option_and_then, Result, Ok, Err}
+use Rattle.std.specs.List.{position}
 use Rattle.std.specs.Io.KnownBytes.{Keeps, Consumes, IsAtEnd}
 use Rattle.ifs_session.specs.declared.fault.SessionFault.{SessionFault}
 use Rattle.ifs_session.specs.declared.fault.SessionFault.TheVariants.{ReadFailed, WriteFailed, TooMuchInput}
@@ -42,6 +43,10 @@ pub record StandsFirst (line : List ℕ) (most : ℕ) (bytes : List ℕ) : Type 
   pub within : length line < most
   pub rest : List ℕ
   pub front : bytes ≡ line ++ 10 ∷ rest
+
+-- The line that stands whole at the front of these bytes, of at most so many bytes with its newline.
+abbrev pub first_line : ℕ → List ℕ → Option (List ℕ)
+first_line most bytes = option_and_then (λ end. if nat_lt end most then Some (take end bytes) else None) (position (λ byte. byte == 10) bytes)
 
 -- The input was at its end.
 pub record ReadsNothing (before after : Intake) : Type 0 where
