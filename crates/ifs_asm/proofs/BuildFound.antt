@@ -11,7 +11,6 @@ use Rattle.ifs_image.specs.declared.parts.TestSpec.{TestSpec}
 use Rattle.ifs_image.specs.declared.parts.StateSpec.{StateSpec}
 use Rattle.ifs_image.specs.declared.parts.Routine.{Routine}
 use Rattle.ifs_image.specs.declared.parts.ImageParts.{ImageParts}
-use Rattle.ifs_image.specs.Limits.{Fits}
 use Rattle.ifs_asm.specs.declared.line.Line.{Line}
 use Rattle.ifs_asm.specs.declared.line.Line.TheVariants as lines
 use Rattle.ifs_asm.specs.Texts.{front_lines, routine_lines, lines_of}
@@ -244,15 +243,15 @@ some_state (x ∷ xs) e h = absurd cc
 full_front : (b : Built) → b.front ≡ 7 → lines_said b ≡ lines_of (parts_of b)
 full_front b e = ap (λ (n : ℕ). said (take n (front_lines (parts_of b))) b.interfaces b.tests b.commands b.states (b.routines ++ listed_routine b.current)) e
 
-front_is : (c : Built) → Sound c → Fits (parts_of c) → c.front ≡ 7
-front_is c s f = elim (cases_lt c.front 7) [
-  | inl lt ↦ absurd (some_state c.states (s.states lt) f.counts.some_state)
+front_is : (c : Built) → Sound c → 1 ≤ length c.states → c.front ≡ 7
+front_is c s some = elim (cases_lt c.front 7) [
+  | inl lt ↦ absurd (some_state c.states (s.states lt) some)
   | inr le ↦ omega (arith, s.front)
 ]
 
-pub image_said : (c : Built) (spoken : List (List ℕ)) → built_by nothing spoken ≡ Some c → Fits (parts_of c) → IsSpoken (parts_of c) spoken
-image_said c spoken h f =
+pub image_said : (c : Built) (spoken : List (List ℕ)) → built_by nothing spoken ≡ Some c → 1 ≤ length c.states → IsSpoken (parts_of c) spoken
+image_said c spoken h some =
     let a = built_said nothing c spoken nothing_sound h in
-    let at : c.front ≡ 7 = front_is c a.sound f in
+    let at : c.front ≡ 7 = front_is c a.sound some in
     let same : a.more ≡ lines_of (parts_of c) = sym a.lines ∙ full_front c at in
     record { says = subst (AllZip Says spoken) same a.says; fit = subst (AllByRecursion LineFits) same a.fit }

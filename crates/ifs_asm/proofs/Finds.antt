@@ -1,6 +1,6 @@
 -- What a search for a byte finds, and what stands before it.
 use Rattle.std.proofs.Common.{◌≡◌, ℕ, suc, ◌+◌, ◌-◌, ◌<◌, Bool, true, false, cond, List, [], ◌∷◌, ◌++◌, length, length-drop, take, drop, Option, Some, None, refl, sym, ap, subst, ◌∙◌, arith, append_assoc}
-use Rattle.std.specs.Prelude.{◌==◌, not, nat_lt, option_and_then}
+use Rattle.std.specs.Prelude.{◌==◌, not, nat_lt}
 use Rattle.std.specs.Option.{option_map, unwrap_or}
 use Rattle.std.specs.List.{prefix_len, position, list_all}
 use Rattle.std.proofs.lemmas.Bool.{true≢false, and_parts, not_from_true, not_from_false, false_from_ne_true}
@@ -9,7 +9,7 @@ use Rattle.std.proofs.lemmas.List.{take_rest}
 use Rattle.std.proofs.lemmas.List.Sums.{prefix_len_is, prefix_len-le-length}
 use Rattle.memchr.specs.Find.{IsFirstByte}
 use Rattle.ifs_asm.specs.Spellings.{is_plain}
-use Rattle.ifs_asm.specs.inner.Words.{Quote, Within, Mode, Inside, mode_after, word_len, goes_on, onto, text_from, turn, after_turn}
+use Rattle.ifs_asm.specs.inner.Words.{Within, Inside, mode_after, word_len, goes_on, onto, text_from}
 use Rattle.ifs_asm.proofs.Quotes.{read_plain}
 
 -- ---- searches
@@ -122,33 +122,26 @@ takes bs front front' rest run n len is others pushed =
     ∙ ap (before front) (sym split)
 
 -- Behind a run inside quotes as many bytes of the word are left as before it, but for the run.
-pub skipped : (mode : Mode) (bytes rest : List ℕ) (n : ℕ) → mode ≡ Inside → n ≡ prefix_len goes_on bytes → rest ≡ take (length bytes - n) (drop n bytes)
-    → length bytes + word_len mode rest ≡ length rest + word_len mode bytes
-skipped mode bytes rest n inside len back =
+pub skipped : (bytes rest : List ℕ) (n : ℕ) → n ≡ prefix_len goes_on bytes → rest ≡ take (length bytes - n) (drop n bytes)
+    → length bytes + word_len Inside rest ≡ length rest + word_len Inside bytes
+skipped bytes rest n len back =
     let le = prefix_len-le-length goes_on bytes in
     let is : rest ≡ drop (prefix_len goes_on bytes) bytes = back ∙ take_rest bytes n ∙ ap (λ (m : ℕ). drop m bytes) len in
     let left = length-drop (prefix_len goes_on bytes) bytes in
-    rw (inside, is) (omega (arith, le, left, skips bytes))
+    rw is (omega (arith, le, left, skips bytes))
 
--- ---- a turn of the loop over a quoted text
+-- ---- what stands behind a run
 
--- What a byte does is what it does in the text.
-abbrev pub TakesByte : List ℕ → List ℕ → Quote → ℕ → Option Quote → Type 0
-TakesByte made made' quote byte next =
-    (rest : List ℕ) → option_map (λ text. made' ++ text) (option_and_then (text_from rest) next) ≡ option_map (λ text. made ++ text) (after_turn (text_from rest) (turn quote byte))
+behind_case : (test : ℕ → Bool) (b n : ℕ) (bs : List ℕ) (t : Bool) → test b ≡ t → prefix_len test (drop n bs) ≡ 0 → prefix_len test (drop (cond t (1 + n) 0) (b ∷ bs)) ≡ 0
+behind_case test b n bs true e ih =
+    let k : 1 + n ≡ suc n = omega arith in
+    subst (λ (m : ℕ). prefix_len test (drop m (b ∷ bs)) ≡ 0) (sym k) ih
+behind_case test b n bs false e ih = rw e refl
 
-stood : (made left rest : List ℕ) (quote : Quote) (byte : ℕ) (total : Option (List ℕ)) → left ≡ byte ∷ rest
-    → option_map (λ text. made ++ text) (text_from left quote) ≡ total → option_map (λ text. made ++ text) (after_turn (text_from rest) (turn quote byte)) ≡ total
-stood made left rest quote byte total cut so_far = subst (λ (l : List ℕ). option_map (λ text. made ++ text) (text_from l quote) ≡ total) cut so_far
+behind_run : (test : ℕ → Bool) (bs : List ℕ) → prefix_len test (drop (prefix_len test bs) bs) ≡ 0
+behind_run test [] = refl
+behind_run test (b ∷ bs) = behind_case test b (prefix_len test bs) bs (test b) refl (behind_run test bs)
 
-pub goes_further : (made made' made'' left rest rest' : List ℕ) (quote next : Quote) (byte : ℕ) (o : Option Quote) (total : Option (List ℕ)) → left ≡ byte ∷ rest
-    → option_map (λ text. made ++ text) (text_from left quote) ≡ total → TakesByte made made' quote byte o → o ≡ Some next
-    → option_map (λ text. made'' ++ text) (text_from rest' next) ≡ option_map (λ text. made' ++ text) (text_from rest next)
-    → option_map (λ text. made'' ++ text) (text_from rest' next) ≡ total
-goes_further made made' made'' left rest rest' quote next byte o total cut so_far takes is run =
-    run ∙ sym (ap (λ (n : Option Quote). option_map (λ text. made' ++ text) (option_and_then (text_from rest) n)) is) ∙ takes rest ∙ stood made left rest quote byte total cut so_far
-
-pub stops_here : (made made' left rest : List ℕ) (quote : Quote) (byte : ℕ) (o : Option Quote) (total : Option (List ℕ)) → left ≡ byte ∷ rest
-    → option_map (λ text. made ++ text) (text_from left quote) ≡ total → TakesByte made made' quote byte o → o ≡ None → None ≡ total
-stops_here made made' left rest quote byte o total cut so_far takes is =
-    sym (ap (λ (n : Option Quote). option_map (λ text. made' ++ text) (option_and_then (text_from rest) n)) is) ∙ takes rest ∙ stood made left rest quote byte total cut so_far
+-- A run goes on no further behind its end.
+pub run_ends : (test : ℕ → Bool) (bytes rest : List ℕ) (n : ℕ) → n ≡ prefix_len test bytes → rest ≡ drop n bytes → prefix_len test rest ≡ 0
+run_ends test bytes rest n len back = ap (prefix_len test) (back ∙ ap (λ (m : ℕ). drop m bytes) len) ∙ behind_run test bytes

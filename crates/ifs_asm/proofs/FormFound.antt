@@ -6,7 +6,7 @@ use Rattle.std.specs.Str.{bytes_eq, is_utf8}
 use Rattle.std.proofs.lemmas.Str.{IsUtf8-from_is_utf8}
 use Rattle.std.proofs.lemmas.Bool.{and_parts, cond_both, ltb-true, ltb-false}
 use Rattle.ifs_base.specs.Numbers.{number_of}
-use Rattle.ifs_base.specs.Sizes.{PeriodFits}
+use Rattle.ifs_base.specs.Sizes.{TextFits, PeriodFits}
 use Rattle.ifs_base.specs.declared.op.LinkState.{LinkState}
 use Rattle.ifs_base.specs.declared.op.LinkState.TheVariants.{Unknown, Down, Up}
 use Rattle.ifs_base.specs.Words.{link_word}
@@ -21,7 +21,7 @@ use Rattle.ifs_asm.specs.Spellings.{IsQuoted}
 use Rattle.ifs_asm.specs.inner.Words.{Start, text_from, in_utf8, mask_in}
 use Rattle.ifs_asm.specs.inner.Forms.{plain_op, indexed_op, link_state, up_to, number_up_to, sized, sized_text, period, period_in, number_line, two_words, routine_line, link_line, test_line, three_words, handlers_of, handlers_in, always_line, state_line, line_of}
 use Rattle.ifs_asm.proofs.Bytes.{same_word}
-use Rattle.ifs_asm.proofs.Quotes.{text_found}
+use Rattle.ifs_asm.proofs.Quotes.{text_found, no_nul}
 use Rattle.ifs_asm.proofs.MaskLists.{mask_found, mask_small}
 use Rattle.ifs_asm.proofs.Cutting.{Spelled}
 use Rattle.ifs_asm.proofs.FormLaws.{TextGood, LineFits}
@@ -52,7 +52,9 @@ text_cases word H none some = cases_of (text_from word Start) (λ o. H (option_a
     (λ u. cond_both (nat_lt 0 (length text) && nat_lt (length text) 1025) (Some text) None H
     (λ t.
     let p = and_parts (nat_lt 0 (length text)) (nat_lt (length text) 1025) t in
-    some text (text_found word text e) (record { some = omega (arith, ltb-true 0 (length text) p.0); within = omega (arith, ltb-true (length text) 1025 p.1); utf8 = IsUtf8-from_is_utf8 text u }))
+    let quoted = text_found word text e in
+    let fits : TextFits text = record { not_empty = omega (arith, ltb-true 0 (length text) p.0); within = omega (arith, ltb-true (length text) 1025 p.1); no_nul = no_nul text word quoted } in
+    some text quoted (record { fits = fits; utf8 = IsUtf8-from_is_utf8 text u }))
     (λ _. none))
     (λ _. none))
 

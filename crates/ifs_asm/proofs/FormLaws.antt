@@ -5,7 +5,7 @@ use Rattle.std.specs.List.{AllZip}
 use Rattle.std.proofs.lemmas.Str.{is_utf8-from_IsUtf8}
 use Rattle.std.proofs.lemmas.Bool.{lt-ltb, le-ltb}
 use Rattle.ifs_base.specs.Numbers.{number_of}
-use Rattle.ifs_base.specs.Sizes.{PeriodFits}
+use Rattle.ifs_base.specs.Sizes.{TextFits, PeriodFits}
 use Rattle.ifs_base.specs.Spelling.{HasSpelling}
 use Rattle.ifs_base.specs.declared.op.LinkState.TheVariants.{Unknown, Down, Up}
 use Rattle.ifs_base.specs.declared.op.Op.{Op}
@@ -23,8 +23,7 @@ use Rattle.ifs_asm.proofs.Cutting.{Spelled}
 
 -- A text that fits, in UTF-8.
 pub record TextGood (text : List ℕ) : Type 0 where
-  pub some : 1 ≤ length text
-  pub within : length text ≤ 1024
+  pub fits : TextFits text
   pub utf8 : IsUtf8 text
 
 -- What a line keeps to.
@@ -54,8 +53,8 @@ text_again_in : (word text : List ℕ) → IsQuoted text word → TextGood text 
 text_again_in word text q good =
     let read = text_again text word q in
     let utf8 = is_utf8-from_IsUtf8 text good.utf8 in
-    let some : nat_lt 0 (length text) ≡ true = lt-ltb _ _ (omega (arith, good.some)) in
-    let within : nat_lt (length text) 1025 ≡ true = lt-ltb _ _ (omega (arith, good.within)) in
+    let some : nat_lt 0 (length text) ≡ true = lt-ltb _ _ (omega (arith, good.fits.not_empty)) in
+    let within : nat_lt (length text) 1025 ≡ true = lt-ltb _ _ (omega (arith, good.fits.within)) in
     rw (read, utf8, some, within) refl
 
 period_again : (n : ℕ) (word : List ℕ) → number_of word ≡ Some n → PeriodFits n → period_in word ≡ Some n

@@ -38,7 +38,7 @@ each_flat : {X Y : Type 0} (P : Y → Type 0) (f : X → List Y) (xs : List X) �
 each_flat P f [] a = tt
 each_flat P f (x ∷ xs) a = each_append P (f x) (flat_map f xs) a.0 (each_flat P f xs a.1)
 
-each_parts : {X : Type 0} (P : X → Type 0) (xs ys : List X) → AllByRecursion P (xs ++ ys) → AllByRecursion P xs × AllByRecursion P ys
+pub each_parts : {X : Type 0} (P : X → Type 0) (xs ys : List X) → AllByRecursion P (xs ++ ys) → AllByRecursion P xs × AllByRecursion P ys
 each_parts P [] ys a = (tt, a)
 each_parts P (x ∷ xs) ys a =
     let p = each_parts P xs ys a.1 in
@@ -50,7 +50,7 @@ each_unflat P f (x ∷ xs) a =
     let p = each_parts P (f x) (flat_map f xs) a in
     (p.0, each_unflat P f xs p.1)
 
-each_both : {X : Type 0} (P Q R : X → Type 0) → ((x : X) → P x → Q x → R x) → (xs : List X) → AllByRecursion P xs → AllByRecursion Q xs → AllByRecursion R xs
+pub each_both : {X : Type 0} (P Q R : X → Type 0) → ((x : X) → P x → Q x → R x) → (xs : List X) → AllByRecursion P xs → AllByRecursion Q xs → AllByRecursion R xs
 each_both P Q R f [] a b = tt
 each_both P Q R f (x ∷ xs) a b = (f x a.0 b.0, each_both P Q R f xs a.1 b.1)
 
@@ -66,7 +66,7 @@ no_nul : (text : List ℕ) → TextFits text → AllByRecursion (λ byte. 0 < by
 no_nul text f = each_weaker (λ byte. byte ≢ 0) (λ byte. 0 < byte) (λ b some. omega (arith, some)) text (recursion_from_All (λ byte. byte ≢ 0) text f.no_nul)
 
 text_good : (text : List ℕ) → TextFits text → IsUtf8 text → TextGood text
-text_good text f u = record { some = f.not_empty; within = f.within; utf8 = u }
+text_good text f u = record { fits = f; utf8 = u }
 
 handlers_fit : (h : Handlers) → HandlersInRange h → AllByRecursion WordFits (words_of (lines.Always h))
 handlers_fit h r = (tt, (tt, (omega (arith, r.init), (tt, (omega (arith, r.body), (tt, (tt, tt)))))))
@@ -167,8 +167,17 @@ lines_written p f r = each_weaker BothFit LineWritten (λ l b. b.1) (lines_of p)
 routine_range : (r : Routine) → AllByRecursion LineFits (routine_lines r) → All HasSpelling r.code
 routine_range r a = All-from_recursion HasSpelling r.code (each_unmap LineFits lines.Instruction r.code a.1)
 
-range_of : (p : ImageParts) → AllByRecursion LineFits (lines_of p) → InRange p
-range_of p a =
+-- The lines of an image that fit, by what they say.
+pub record Parted (p : ImageParts) : Type 0 where
+  pub front : AllByRecursion LineFits (front_lines p)
+  pub interfaces : AllByRecursion TextGood p.interfaces
+  pub tests : AllByRecursion (λ t. LineFits (lines.Test t)) p.tests
+  pub commands : AllByRecursion TextGood p.commands
+  pub states : AllByRecursion (λ s. LineFits (lines.State s)) p.states
+  pub routines : AllByRecursion (λ r. AllByRecursion LineFits (routine_lines r)) p.routines
+
+pub parted : (p : ImageParts) → AllByRecursion LineFits (lines_of p) → Parted p
+parted p a =
     let l1 = front_lines p ++ map lines.Interface p.interfaces in
     let l2 = l1 ++ map lines.Test p.tests in
     let l3 = l2 ++ map lines.Command p.commands in
@@ -179,13 +188,25 @@ range_of p a =
     let t = each_parts LineFits l1 (map lines.Test p.tests) c.0 in
     let i = each_parts LineFits (front_lines p) (map lines.Interface p.interfaces) t.0 in
     record {
-      initial = i.0.1.1.1.1.1.0;
-      always = i.0.1.1.1.1.1.1.0;
-      interfaces = All-from_recursion IsUtf8 p.interfaces (each_weaker TextGood IsUtf8 (λ x g. g.utf8) p.interfaces (each_unmap LineFits lines.Interface p.interfaces i.1));
-      tests = All-from_recursion (λ t. IsUtf8 t.text) p.tests (each_weaker (λ t. LineFits (lines.Test t)) (λ t. IsUtf8 t.text) (λ x g. g.1.utf8) p.tests (each_unmap LineFits lines.Test p.tests t.1));
-      commands = All-from_recursion IsUtf8 p.commands (each_weaker TextGood IsUtf8 (λ x g. g.utf8) p.commands (each_unmap LineFits lines.Command p.commands c.1));
-      states = All-from_recursion StateInRange p.states (each_weaker (λ s. LineFits (lines.State s)) StateInRange (λ x g. record { name = g.0.utf8; handlers = g.1 }) p.states (each_unmap LineFits lines.State p.states s.1));
-      routines = All-from_recursion (λ r. All HasSpelling r.code) p.routines (each_weaker (λ r. AllByRecursion LineFits (routine_lines r)) (λ r. All HasSpelling r.code) routine_range p.routines (each_unflat LineFits routine_lines p.routines r.1));
+      front = i.0;
+      interfaces = each_unmap LineFits lines.Interface p.interfaces i.1;
+      tests = each_unmap LineFits lines.Test p.tests t.1;
+      commands = each_unmap LineFits lines.Command p.commands c.1;
+      states = each_unmap LineFits lines.State p.states s.1;
+      routines = each_unflat LineFits routine_lines p.routines r.1;
+    }
+
+range_of : (p : ImageParts) → AllByRecursion LineFits (lines_of p) → InRange p
+range_of p fit =
+    let a = parted p fit in
+    record {
+      initial = a.front.1.1.1.1.1.0;
+      always = a.front.1.1.1.1.1.1.0;
+      interfaces = All-from_recursion IsUtf8 p.interfaces (each_weaker TextGood IsUtf8 (λ x g. g.utf8) p.interfaces a.interfaces);
+      tests = All-from_recursion (λ t. IsUtf8 t.text) p.tests (each_weaker (λ t. LineFits (lines.Test t)) (λ t. IsUtf8 t.text) (λ x g. g.1.utf8) p.tests a.tests);
+      commands = All-from_recursion IsUtf8 p.commands (each_weaker TextGood IsUtf8 (λ x g. g.utf8) p.commands a.commands);
+      states = All-from_recursion StateInRange p.states (each_weaker (λ s. LineFits (lines.State s)) StateInRange (λ x g. record { name = g.0.utf8; handlers = g.1 }) p.states a.states);
+      routines = All-from_recursion (λ r. All HasSpelling r.code) p.routines (each_weaker (λ r. AllByRecursion LineFits (routine_lines r)) (λ r. All HasSpelling r.code) routine_range p.routines a.routines);
     }
 
 -- ---- what is built of a text
@@ -217,7 +238,7 @@ read_again text p s =
 -- What is built of a text, and fits, is spelled by it.
 pub read_found : (text : List ℕ) (b : Built) → built_by nothing (spoken text) ≡ Some b → Fits (parts_of b) → Spells text (parts_of b)
 read_found text b h f =
-    let s = image_said b (spoken text) h f in
+    let s = image_said b (spoken text) h f.counts.some_state in
     record { fits = f; in_range = range_of (parts_of b) s.fit; says = s.says }
 
 -- Nothing is spelled where nothing is built, nor where what is built does not fit.

@@ -5,6 +5,7 @@ mod Bytes
 mod Cutting
 mod Quotes
 mod Finds
+mod Escapes
 mod MaskLists
 mod FormLaws
 mod FormFound
@@ -12,6 +13,7 @@ mod TextLaws
 mod BuildAgain
 mod BuildFound
 mod ImageLaws
+mod BuildFits
 mod Cuts
 mod Steps
 mod Utf8

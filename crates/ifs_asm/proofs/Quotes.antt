@@ -1,9 +1,10 @@
 -- Texts in quotes: what is read of one is the text that its bytes stand for.
-use Rattle.std.proofs.Common.{◌≡◌, ℕ, ◌+◌, ◌*◌, ◌/◌, ◌%◌, ◌<◌, true, false, cond, List, [], ◌∷◌, ◌++◌, Option, Some, None, refl, sym, ap, subst, ◌∙◌, arith, append_assoc}
-use Rattle.std.specs.Prelude.{◌==◌, ◌&&◌, ◌||◌, nat_lt}
+use Rattle.std.proofs.Common.{◌≡◌, ◌≢◌, ℕ, ◌+◌, ◌*◌, ◌/◌, ◌%◌, ◌<◌, true, false, cond, List, [], ◌∷◌, ◌++◌, Option, Some, None, refl, sym, ap, subst, ◌∙◌, arith, append_assoc}
+use Rattle.std.specs.Prelude.{◌==◌, ◌&&◌, ◌||◌, nat_lt, All}
 use Rattle.std.specs.List.{flat_map, AllByRecursion}
 use Rattle.std.proofs.lemmas.Bool.{and_parts, cond_both, eqb-true, ltb-true}
 use Rattle.std.proofs.lemmas.Bool.Decides.{nat_tests}
+use Rattle.std.proofs.lemmas.List.Elements.{All-from_recursion}
 use Rattle.ifs_base.specs.Words.{hex_digit, quoted_byte, quoted}
 use Rattle.ifs_asm.specs.Spellings.{is_plain, StandsFor, itself, escaped, hexadecimal, StandFor, IsQuoted}
 use Rattle.ifs_asm.specs.inner.Words.{Inside, Quote, Start, Within, Backslash, High, Low, Done, Turn, Goes, Gives, Stops, hex_value, high_turn, low_turn, turn, onto, after_turn, text_from}
@@ -211,3 +212,23 @@ writes_inside (b ∷ text) a = record { front = quoted_byte b; rest = flat_map q
 
 pub quoted_is : (text : List ℕ) → AllByRecursion (λ byte. 0 < byte) text → IsQuoted text (quoted text)
 quoted_is text a = record { inside = flat_map quoted_byte text; stand = writes_inside text a; whole = refl }
+
+-- ---- no NUL stands in a text
+
+plain_some : (b : ℕ) → is_plain b ≡ true → b ≡ 0 → ⊥
+plain_some b e z = grind (arith, nat_tests)
+
+escaped_some : (b : ℕ) → ((b == 34) || (b == 92)) ≡ true → b ≡ 0 → ⊥
+escaped_some b e z = grind (arith, nat_tests)
+
+stands_for_some : (b : ℕ) (front : List ℕ) → StandsFor b front → b ≢ 0
+stands_for_some b front (itself e whole) = λ z. plain_some b e z
+stands_for_some b front (escaped e whole) = λ z. escaped_some b e z
+stands_for_some b front (hexadecimal some below whole) = λ z. absurd (omega (arith, some, z))
+
+stand_for_some : (text inside : List ℕ) → StandFor text inside → AllByRecursion (λ byte. byte ≢ 0) text
+stand_for_some [] inside s = tt
+stand_for_some (b ∷ text) inside s = (stands_for_some b s.front s.stands, stand_for_some text s.rest s.others)
+
+pub no_nul : (text word : List ℕ) → IsQuoted text word → All (λ byte. byte ≢ 0) text
+no_nul text word q = All-from_recursion (λ byte. byte ≢ 0) text (stand_for_some text q.inside q.stand)

@@ -1,13 +1,14 @@
 //! Texts in quotes.
 
-ghost use Rattle.std.specs.Prelude.{◌≡◌, ◌++◌, ◌<◌, ◌≤◌, List, ℕ, length, option_and_then, string_bytes, MatchOption, IfSome, IfOk, OnOk, codes};
+ghost use Rattle.std.specs.Prelude.{◌≡◌, ◌++◌, ◌<◌, ◌≤◌, ◌∷◌, List, ℕ, None, length, string_bytes, MatchOption, IfSome, IfOk, OnOk};
 ghost use Rattle.std.specs.Option.{option_map};
-ghost use Rattle.ifs_asm.specs.inner.Words.{Start, Within, Backslash, text_in, text_from, in_utf8, turn, after_turn, high_turn, low_turn, hex_value};
-ghost use Rattle.std.specs.List.{flat_map};
+ghost use Rattle.std.specs.List.{flat_map, prefix_len};
+ghost use Rattle.ifs_asm.specs.Spellings.{is_plain};
+ghost use Rattle.ifs_asm.specs.inner.Words.{Start, Within, Backslash, High, text_in, text_from, in_utf8, turn, after_turn, given, hex_value, onto, ending};
 ghost use Rattle.ifs_base.specs.Words.{quoted_byte, quoted};
 
-use crate::plain::{is_plain, plain_run};
-use ifs_base::{QuotedByte, Text, digit_value, quote_byte};
+use crate::plain::{begins_plain, plain_run};
+use ifs_base::{QuotedByte, Text, digit_value, limits, quote_byte};
 use std::alloc::{AllocError, Global};
 
 /// Writes a text in quotes.
@@ -109,153 +110,123 @@ fn in_utf8(bytes: Vec<u8>) -> Option<Text>
 fn unquoted(alloc: Global, word: &[u8]) -> Result<Option<Vec<u8>>, AllocError>
     ensures { IfOk result (λ bytes. option_map (λ vec. vec.items) bytes ≡ text_from word.now Start) }
 {
-    let mut bytes = Vec::new(alloc);
-    let mut quote = Quote::Start;
-    let mut left = word;
-    while let Some((byte, rest)) = left.split_first() {
-        let Some(next) = take_byte(&mut bytes, quote, *byte)? else {
-            return Ok(None);
-        };
-        quote = next;
-        left = take_run(&mut bytes, quote, rest)?;
+    match word {
+        [b'"', inside @ ..] => unquoted_inside(alloc, inside),
+        _ => Ok(None),
     }
-    if quote.is_done() {
+}
+
+/// The bytes that what follows the first quote stands for.
+fn unquoted_inside(alloc: Global, inside: &[u8]) -> Result<Option<Vec<u8>>, AllocError>
+    ensures { IfOk result (λ bytes. option_map (λ vec. vec.items) bytes ≡ text_from inside.now Within) }
+{
+    let most = usize::from(limits::TEXT);
+    let mut bytes = Vec::with_capacity(alloc, inside.len().min(most))?;
+    let mut left = take_run(&mut bytes, inside)?;
+    while let Some(escape) = escape_at(left) {
+        bytes.push(escape.byte)?;
+        left = take_run(&mut bytes, escape.rest)?;
+    }
+    if left == b"\"".as_slice() {
         Ok(Some(bytes))
     } else {
         Ok(None)
     }
 }
 
-/// Takes a byte, and gives where the next one stands; `None` where it cannot stand here.
-fn take_byte(bytes: &mut Vec<u8>, quote: Quote, byte: u8) -> Result<Option<Quote>, AllocError>
-    ensures { IfOk result (λ next. (rest : List ℕ) → option_map (λ text. bytes.new.items ++ text) (option_and_then (text_from rest) next)
-        ≡ option_map (λ text. bytes.old.items ++ text) (after_turn (text_from rest) (turn quote byte))) }
-{
-    match turn_at(quote, byte) {
-        Turn::Goes(next) => Ok(Some(next)),
-        Turn::Gives(given) => {
-            bytes.push(given)?;
-            Ok(Some(Quote::Within))
-        }
-        Turn::Stops => Ok(None),
-    }
-}
-
-/// Takes the bytes that stand between quotes as they are, if the next one stands there, and gives what follows.
-fn take_run<'a>(bytes: &mut Vec<u8>, quote: Quote, left: &'a [u8]) -> Result<&'a [u8], AllocError>
-    ensures text { IfOk result (λ rest. option_map (λ text. bytes.new.items ++ text) (text_from rest.now quote)
-        ≡ option_map (λ text. bytes.old.items ++ text) (text_from left.now quote)) }
+/// Takes the bytes between quotes that stand there as they are, and gives what follows.
+fn take_run<'a>(bytes: &mut Vec<u8>, left: &'a [u8]) -> Result<&'a [u8], AllocError>
+    ensures text { IfOk result (λ rest. option_map (λ text. bytes.new.items ++ text) (text_from rest.now Within)
+        ≡ option_map (λ text. bytes.old.items ++ text) (text_from left.now Within)) }
     ensures shorter { IfOk result (λ rest. length rest.now ≤ length left.now) }
+    ensures whole { IfOk result (λ rest. prefix_len is_plain rest.now ≡ 0) }
 {
-    match quote {
-        Quote::Within => {
-            let (run, rest) = left.split_at(plain_run(left));
-            bytes.extend_from_slice(run)?;
-            Ok(rest)
-        }
-        _ => Ok(left),
-    }
-}
-
-/// Where the next byte of a quoted text stands.
-#[derive(Clone, Copy)]
-pub(crate) enum Quote {
-    /// At the first quote.
-    Start,
-    /// Between the quotes.
-    Within,
-    /// After a backslash.
-    Backslash,
-    /// Where the first hexadecimal digit stands.
-    High,
-    /// Where the second one stands, after the first.
-    Low(u8),
-    /// Behind the second quote.
-    Done,
-}
-
-impl Quote {
-    ghost use Rattle.ifs_asm.specs.inner.Words.{at_end};
-    ghost use Rattle.std.specs.Prelude.{Some, None, [], if◌then◌else◌};
-
-    /// Whether the text is whole.
-    fn is_done(self) -> bool
-        ensures { (if result then Some [] else None) ≡ at_end self }
-    {
-        match self {
-            Quote::Done => true,
-            Quote::Start | Quote::Within | Quote::Backslash | Quote::High | Quote::Low(_) => false,
-        }
-    }
-}
-
-/// What a byte of a quoted text does.
-#[derive(Clone, Copy)]
-pub(crate) enum Turn {
-    /// The next byte stands there.
-    Goes(Quote),
-    /// This byte of the text is given.
-    Gives(u8),
-    /// It cannot stand here.
-    Stops,
-}
-
-/// What a byte does where it stands.
-fn turn_at(quote: Quote, byte: u8) -> Turn
-    ensures { result ≡ turn quote byte }
-{
-    match quote {
-        Quote::Start if byte == b'"' => Turn::Goes(Quote::Within),
-        Quote::Start | Quote::Done => Turn::Stops,
-        Quote::Within => turn_within(byte),
-        Quote::Backslash => turn_escaped(byte),
-        Quote::High => turn_high(hex_value(byte)),
-        Quote::Low(high) => turn_low(high, hex_value(byte)),
-    }
-}
-
-fn turn_within(byte: u8) -> Turn
-    ensures { result ≡ turn Within byte }
-{
-    if byte == b'"' {
-        Turn::Goes(Quote::Done)
-    } else if byte == b'\\' {
-        Turn::Goes(Quote::Backslash)
-    } else if is_plain(byte) {
-        Turn::Gives(byte)
+    if begins_plain(left) {
+        take_some(bytes, left)
     } else {
-        Turn::Stops
+        Ok(left)
     }
 }
 
-fn turn_escaped(byte: u8) -> Turn
-    ensures { result ≡ turn Backslash byte }
+/// The same, kept apart: behind an escape another one often stands.
+#[inline(never)]
+fn take_some<'a>(bytes: &mut Vec<u8>, left: &'a [u8]) -> Result<&'a [u8], AllocError>
+    ensures text { IfOk result (λ rest. option_map (λ text. bytes.new.items ++ text) (text_from rest.now Within)
+        ≡ option_map (λ text. bytes.old.items ++ text) (text_from left.now Within)) }
+    ensures shorter { IfOk result (λ rest. length rest.now ≤ length left.now) }
+    ensures whole { IfOk result (λ rest. prefix_len is_plain rest.now ≡ 0) }
 {
-    if byte == b'"' || byte == b'\\' {
-        Turn::Gives(byte)
-    } else if byte == b'x' {
-        Turn::Goes(Quote::High)
+    let (run, rest) = left.split_at(plain_run(left));
+    bytes.extend_from_slice(run)?;
+    Ok(rest)
+}
+
+/// The byte that an escape stands for, and what follows the escape.
+#[derive(Clone, Copy)]
+struct Escape<'a> {
+    byte: u8,
+    rest: &'a [u8],
+}
+
+/// The escape at the front; `None` where none stands there.
+fn escape_at(bytes: &[u8]) -> Option<Escape<'_>>
+    ensures text { prefix_len is_plain bytes.now ≡ 0 → MatchOption
+        result
+        (text_from bytes.now Within ≡ ending bytes.now)
+        (λ escape. text_from bytes.now Within ≡ onto escape.byte (text_from escape.rest.now Within)) }
+    ensures shorter { IfSome result (λ escape. length escape.rest.now < length bytes.now) }
+{
+    let [first, kind, rest @ ..] = bytes else {
+        return None;
+    };
+    if *first == b'\\' {
+        escape_by(*kind, rest)
     } else {
-        Turn::Stops
+        None
     }
 }
 
-fn turn_high(digit: Option<u8>) -> Turn
-    ensures { result ≡ high_turn digit }
+/// The escape that a byte and what follows it make after a backslash; `None` where they make none.
+fn escape_by(kind: u8, rest: &[u8]) -> Option<Escape<'_>>
+    ensures text { MatchOption
+        result
+        (after_turn (text_from rest.now) (turn Backslash kind) ≡ None)
+        (λ escape. after_turn (text_from rest.now) (turn Backslash kind) ≡ onto escape.byte (text_from escape.rest.now Within)) }
+    ensures shorter { IfSome result (λ escape. length escape.rest.now ≤ length rest.now) }
 {
-    match digit {
-        Some(digit) => Turn::Goes(Quote::Low(digit)),
-        None => Turn::Stops,
+    if kind == b'"' || kind == b'\\' {
+        Some(Escape { byte: kind, rest })
+    } else if kind == b'x' {
+        hexadecimal(rest)
+    } else {
+        None
     }
 }
 
-fn turn_low(high: u8, digit: Option<u8>) -> Turn
-    requires { IfSome digit (λ value. value < 16) }
-    ensures { result ≡ low_turn high digit }
+/// The escape by two hexadecimal digits at the front; `None` where they say no character from 1 to 127.
+fn hexadecimal(bytes: &[u8]) -> Option<Escape<'_>>
+    ensures text { MatchOption
+        result
+        (text_from bytes.now High ≡ None)
+        (λ escape. text_from bytes.now High ≡ onto escape.byte (text_from escape.rest.now Within)) }
+    ensures shorter { IfSome result (λ escape. length escape.rest.now ≤ length bytes.now) }
 {
-    match digit {
-        Some(digit) if high < 8 && 0 < high + digit => Turn::Gives(16 * high + digit),
-        _ => Turn::Stops,
+    match bytes {
+        [high, low, rest @ ..] => {
+            let byte = character(*high, *low)?;
+            Some(Escape { byte, rest })
+        }
+        _ => None,
+    }
+}
+
+/// The character from 1 to 127 that two hexadecimal digits in lower case say.
+fn character(high: u8, low: u8) -> Option<u8>
+    ensures { (rest : List ℕ) → text_from (high ∷ low ∷ rest) High ≡ after_turn (text_from rest) (given result) }
+{
+    match (hex_value(high), hex_value(low)) {
+        (Some(high), Some(low)) if high < 8 && 0 < high + low => Some(16 * high + low),
+        _ => None,
     }
 }
 

@@ -36,10 +36,10 @@ pub fn assemble(alloc: Global, text: &str) -> Result<Image, AsmFault>
         left = rest;
     }
     let parts = building.finish()?;
-    if parts.fits() {
-        Ok(Image::new(parts))
-    } else {
+    if parts.states.is_empty() {
         Err(AsmFault::OutOfOrder { line })
+    } else {
+        Ok(Image::new(parts))
     }
 }
 

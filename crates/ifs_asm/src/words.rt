@@ -1,9 +1,9 @@
 //! The words of a line.
 
-ghost use Rattle.std.specs.Prelude.{◌≡◌, ◌≤◌, length, map};
+ghost use Rattle.std.specs.Prelude.{◌≡◌, ◌≤◌, ◌+◌, length, map};
 ghost use Rattle.std.specs.List.{prefix_len};
 ghost use Rattle.ifs_asm.specs.Spellings.{is_blank, is_silent};
-ghost use Rattle.ifs_asm.specs.inner.Words.{Bare, word_len, after_blanks, words_up_to};
+ghost use Rattle.ifs_asm.specs.inner.Words.{Bare, Inside, mode_after, goes_on, word_len, after_blanks, words_up_to};
 
 use crate::plain::run_in_quotes;
 use arrayvec::ArrayVec;
@@ -65,69 +65,53 @@ fn is_blank(byte: u8) -> bool
     byte == b' ' || byte == b'\t'
 }
 
-/// Where a byte of a word stands.
-#[derive(Clone, Copy)]
-pub(crate) enum Mode {
-    /// Outside of quotes.
-    Bare,
-    /// Inside quotes.
-    Inside,
-    /// After a backslash inside quotes.
-    Escaped,
-}
-
-impl Mode {
-    ghost use Rattle.std.specs.Prelude.{◌≡◌, ◌≤◌, ◌+◌, length};
-    ghost use Rattle.ifs_asm.specs.inner.Words.{mode_after, ends_at, word_len};
-
-    /// Where the byte after a byte stands.
-    fn after(self, byte: u8) -> Mode
-        ensures { result ≡ mode_after self byte }
-    {
-        match self {
-            Mode::Bare if byte == b'"' => Mode::Inside,
-            Mode::Bare => Mode::Bare,
-            Mode::Inside if byte == b'"' => Mode::Bare,
-            Mode::Inside if byte == b'\\' => Mode::Escaped,
-            Mode::Inside | Mode::Escaped => Mode::Inside,
-        }
-    }
-
-    /// Whether a word ends before a byte.
-    fn ends_at(self, byte: u8) -> bool
-        ensures { result ≡ ends_at self byte }
-    {
-        match self {
-            Mode::Bare => is_blank(byte),
-            Mode::Inside | Mode::Escaped => false,
-        }
-    }
-
-    /// What stands behind the bytes that leave everything as it is: inside quotes all but a quote and a backslash.
-    fn skip(self, bytes: &[u8]) -> &[u8]
-        ensures value { length bytes.now + word_len self result.now ≡ length result.now + word_len self bytes.now }
-        ensures within { length result.now ≤ length bytes.now }
-    {
-        match self {
-            Mode::Inside => &bytes[run_in_quotes(bytes)..],
-            Mode::Bare | Mode::Escaped => bytes,
-        }
-    }
-}
-
 /// How many bytes stand before the first blank outside of quotes.
 fn word_len(bytes: &[u8]) -> usize
     ensures value { result ≡ word_len Bare bytes.now }
     ensures within { result ≤ length bytes.now }
 {
-    let mut mode = Mode::Bare;
     let mut left = bytes;
     while let Some((byte, rest)) = left.split_first() {
-        if mode.ends_at(*byte) {
+        if is_blank(*byte) {
             return bytes.len() - left.len();
         }
-        mode = mode.after(*byte);
-        left = mode.skip(rest);
+        left = behind(*byte, rest);
     }
     bytes.len()
+}
+
+/// What stands behind a byte outside of quotes, and behind the text in quotes that it begins.
+fn behind(byte: u8, rest: &[u8]) -> &[u8]
+    ensures value { length rest.now + word_len Bare result.now ≡ length result.now + word_len (mode_after Bare byte) rest.now }
+    ensures within { length result.now ≤ length rest.now }
+{
+    if byte == b'"' {
+        behind_quotes(rest)
+    } else {
+        rest
+    }
+}
+
+/// What stands behind the quote that ends a text; nothing where none does.
+fn behind_quotes(bytes: &[u8]) -> &[u8]
+    ensures value { length bytes.now + word_len Bare result.now ≡ length result.now + word_len Inside bytes.now }
+    ensures within { length result.now ≤ length bytes.now }
+{
+    let mut left = behind_run(bytes);
+    while let [b'\\', _, rest @ ..] = left {
+        left = behind_run(rest);
+    }
+    match left {
+        [b'"', rest @ ..] => rest,
+        _ => &[],
+    }
+}
+
+/// What stands behind the bytes inside quotes that are neither a quote nor a backslash.
+fn behind_run(bytes: &[u8]) -> &[u8]
+    ensures value { length bytes.now + word_len Inside result.now ≡ length result.now + word_len Inside bytes.now }
+    ensures within { length result.now ≤ length bytes.now }
+    ensures whole { prefix_len goes_on result.now ≡ 0 }
+{
+    &bytes[run_in_quotes(bytes)..]
 }

@@ -3,13 +3,13 @@ use Rattle.std.specs.Prelude.{ℕ, zero, suc, ◌+◌, ◌-◌, ◌*◌, ◌^◌
 use Rattle.std.specs.List.{slice_split, prefix_len}
 use Rattle.std.specs.Str.{bytes_eq, is_utf8}
 use Rattle.ifs_base.specs.Numbers.{number_of}
-pub use Rattle.ifs_asm.specs.declared.words.Mode.{Mode}
-pub use Rattle.ifs_asm.specs.declared.words.Mode.TheVariants.{Bare, Inside, Escaped}
-pub use Rattle.ifs_asm.specs.declared.quoting.Quote.{Quote}
-pub use Rattle.ifs_asm.specs.declared.quoting.Quote.TheVariants.{Start, Within, Backslash, High, Low, Done}
-pub use Rattle.ifs_asm.specs.declared.quoting.Turn.{Turn}
-pub use Rattle.ifs_asm.specs.declared.quoting.Turn.TheVariants.{Goes, Gives, Stops}
 use Rattle.ifs_asm.specs.Spellings.{is_blank, is_plain}
+
+-- Where a byte of a word stands: outside of quotes, inside quotes, or after a backslash inside quotes.
+pub data Mode : Type 0 where
+  Bare : Mode
+  Inside : Mode
+  Escaped : Mode
 
 -- Where the byte after a byte stands.
 abbrev pub mode_after : Mode → ℕ → Mode
@@ -61,6 +61,22 @@ hex_value byte =
     if nat_lt 47 byte && nat_lt byte 58 then Some (byte - 48) else
     if nat_lt 96 byte && nat_lt byte 103 then Some (byte - 87) else None
 
+-- Where the next byte of a quoted text stands: at the first quote, between the quotes, after a backslash, where the first
+-- hexadecimal digit stands, where the second one stands after the first, or behind the second quote.
+pub data Quote : Type 0 where
+  Start : Quote
+  Within : Quote
+  Backslash : Quote
+  High : Quote
+  Low : (digit : ℕ) → Quote
+  Done : Quote
+
+-- What a byte of a quoted text does: the next byte stands there, or a byte of the text is given, or it cannot stand here.
+pub data Turn : Type 0 where
+  Goes : (quote : Quote) → Turn
+  Gives : (byte : ℕ) → Turn
+  Stops : Turn
+
 -- After the first hexadecimal digit of a character.
 abbrev pub high_turn : Option ℕ → Turn
 high_turn None = Stops
@@ -83,6 +99,11 @@ turn Backslash byte =
 turn High byte = high_turn (hex_value byte)
 turn (Low high) byte = low_turn high (hex_value byte)
 turn Done byte = Stops
+
+-- The turn of an escape that stands for a byte, or for none.
+abbrev pub given : Option ℕ → Turn
+given None = Stops
+given (Some byte) = Gives byte
 
 -- A byte before the rest of a text.
 abbrev pub onto : ℕ → Option (List ℕ) → Option (List ℕ)
@@ -108,6 +129,10 @@ at_end (Low high) = None
 abbrev pub text_from : List ℕ → Quote → Option (List ℕ)
 text_from [] quote = at_end quote
 text_from (byte ∷ bytes) quote = after_turn (text_from bytes) (turn quote byte)
+
+-- The text of what is left inside quotes where no byte of it is given: only the second quote may stand there.
+abbrev pub ending : List ℕ → Option (List ℕ)
+ending bytes = if bytes_eq bytes (codes "\"") then Some [] else None
 
 -- A text in UTF-8.
 abbrev pub in_utf8 : List ℕ → Option (List ℕ)
