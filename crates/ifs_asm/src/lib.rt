@@ -19,6 +19,3 @@ mod words;
 pub use fault::AsmFault;
 pub use printing::disassemble;
 pub use reading::assemble;
-
-#[cfg(test)]
-mod tests;

@@ -30,6 +30,3 @@ pub use span::Span;
 pub use spelling::{decode_op, encode_op};
 pub use text::Text;
 pub use words::{QuotedByte, digit_value, hex_digit, quote_byte};
-
-#[cfg(test)]
-mod tests;

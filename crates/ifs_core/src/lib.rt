@@ -20,6 +20,3 @@ mod stepping;
 
 pub use gateway::{Core, OpenFault, TRACE};
 pub use step::{Answer, Lists, Outcome, Record, Reply, Step};
-
-#[cfg(test)]
-mod tests;

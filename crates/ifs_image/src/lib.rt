@@ -22,6 +22,3 @@ pub use image::Image;
 pub use parts::{Budgets, Handlers, ImageParts, Routine, StateSpec, TestSpec};
 pub use reading::read;
 pub use writing::write;
-
-#[cfg(test)]
-mod tests;

@@ -21,6 +21,3 @@ pub use characters::{is_macro_name, is_reserved};
 pub use fault::LexFault;
 pub use reading::tokens;
 pub use token::{Token, What};
-
-#[cfg(test)]
-mod tests;

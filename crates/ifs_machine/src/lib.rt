@@ -14,6 +14,3 @@ mod value;
 
 pub use effects::{Effects, Facts};
 pub use running::run_handler;
-
-#[cfg(test)]
-mod tests;

@@ -24,6 +24,3 @@ pub use fault::ParseFault;
 pub use parsing::parse;
 pub use period::Period;
 pub use tree::{Action, Actions, Item, Name, Part, Test, Tree, Wish};
-
-#[cfg(test)]
-mod tests;

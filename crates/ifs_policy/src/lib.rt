@@ -26,6 +26,3 @@ pub use policy::{Counts, Handlers, Policy, PolicyBlock, PolicyParts, Single};
 pub use resolving::resolve;
 pub use table::Table;
 pub use tables::{ExternalTest, Tables};
-
-#[cfg(test)]
-mod tests;

@@ -13,6 +13,3 @@ mod timer;
 
 pub use schedule::{Backwards, Schedule, Stale};
 pub use start::{MAX_TESTS, Start, Started};
-
-#[cfg(test)]
-mod tests;

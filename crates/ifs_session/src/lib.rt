@@ -36,6 +36,3 @@ pub use script::{HostText, Launch, ScriptHost};
 pub use service::{End, Served, serve_one};
 pub use session::{Summary, simulate};
 pub use std_devices::{FromRead, ToWrite};
-
-#[cfg(test)]
-mod tests;

@@ -29,6 +29,3 @@ pub use bounds::ROUTINE_COST;
 pub use fault::{At, VerifyFault};
 pub use verified::Verified;
 pub use verifying::verify;
-
-#[cfg(test)]
-mod tests;

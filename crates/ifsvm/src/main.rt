@@ -1,88 +1,10 @@
-//! `ifsvm`: checks and compiles failover policies, and verifies and runs their images.
+//! `ifsvm`: checks and compiles failover policies, and verifies, shows and runs their images.
 //!
-//! Without words it reads an image as a line of hexadecimal digits and then request lines from
-//! standard input, and writes the replies to standard output. Exit statuses: 0 done, 1 refused
-//! input, 2 command line, 3 a file or stream that failed or a file that is too large.
+//! All of it is the library `ifs_cli`, so that tests can stand over it.
 #![tactic(auto)]
 
-mod answering;
-mod assembling;
-#[cfg(test)]
-mod assembly_tests;
-mod checking;
-mod children;
-mod command_line;
-mod compiling;
-#[cfg(test)]
-mod compiling_tests;
-mod definitions;
-mod disassembling;
-mod ending;
-mod files;
-mod images;
-#[cfg(test)]
-mod images_tests;
-mod sending;
-mod serving;
-mod sessions;
-mod shell;
-mod task;
-#[cfg(test)]
-mod tests;
-
-use command_line::Asked;
-use definitions::Definition;
-use ending::{Ending, out_of_memory};
-use log::Log;
-use std::alloc::{AllocError, Global};
-use std::net::Net;
-use std::process::{ExitCode, Processes};
-use std::rt::{Clock, Env, Files};
-use task::Task;
+use std::process::ExitCode;
 
 fn main(rt: HostRuntime) -> ExitCode {
-    let (Ok(ending) | Err(ending)) = run(&rt);
-    ending.told(&rt)
-}
-
-/// Does what the command line asks for. An error is what keeps it from being done.
-fn run<R>(rt: &R) -> Result<Ending, Ending>
-where
-    R: Env + Files + Input + Print + Eprint + Net + Processes + Clock + Log + Alloc<A = Global>,
-{
-    match command_line::read(rt)? {
-        Asked::Session => sessions::by_hexadecimal(rt),
-        Asked::Check { file, definitions } => {
-            on_policy(rt, Task::Check, file, None, definitions.as_slice())
-        }
-        Asked::Compile {
-            file,
-            image,
-            definitions,
-        } => on_policy(rt, Task::Compile, file, Some(image), definitions.as_slice()),
-        Asked::Verify { image } => answering::on_file(rt, Task::Verify, image, None, &[]),
-        Asked::Disasm { image } => answering::on_file(rt, Task::Disasm, image, None, &[]),
-        Asked::Asm { file, image } => { answering::on_file(rt, Task::Asm, file, Some(image), &[]) }
-        Asked::Sim { image } => sessions::on_file(rt, image),
-        Asked::Serve { image, socket } => serving::serve(rt, image, socket),
-        Asked::Send { socket, request } => sending::send(rt, socket, request.as_str()),
-    }
-}
-
-/// Does a task on the policy of a file, with the definitions of the command line.
-fn on_policy<R: Files + Print + Alloc<A = Global>>(
-    rt: &R,
-    task: Task,
-    file: String,
-    image: Option<String>,
-    definitions: &[Definition],
-) -> Result<Ending, Ending> {
-    let pairs: Result<Vec<(&str, &str)>, _> = definitions
-        .iter()
-        .map(Definition::pair)
-        .collect(rt.alloc());
-    match pairs {
-        Ok(pairs) => answering::on_file(rt, task, file, image, pairs.as_slice()),
-        Err(AllocError) => out_of_memory(rt, task),
-    }
+    ifs_cli::run(&rt)
 }

@@ -1,0 +1,46 @@
+//! What `asm` answers to the bytes of an assembly text.
+
+ghost use Rattle.std.specs.Prelude.{◌≡◌, ◌≢◌, None, option_map, IsSomeAnd, IfOk};
+ghost use Rattle.ifs_image.specs.Spelling.{Spells};
+ghost use Rattle.ifs_cli.specs.Answers.{AreAssembly, IsAssembled};
+
+use crate::checking::{NotText, text_of};
+use crate::task::Answer;
+use ifs_asm::{AsmFault, assemble};
+use ifs_image::{Image, write};
+use std::alloc::{AllocError, Global};
+
+/// The answer of `asm`: the length of the image that a text spells, which is the file. It is not verified.
+pub fn asm(alloc: Global, bytes: &[u8]) -> Result<Answer, AllocError>
+    ensures good { IfOk result (λ answer. answer.status ≡ 0 → AreAssembly bytes.now) }
+    ensures refused { IfOk result (λ answer. answer.status ≢ 0 → ¬ AreAssembly bytes.now) }
+    ensures file { IfOk result (λ answer. answer.status ≡ 0 → IsSomeAnd (option_map (λ file. file.items) answer.file) (IsAssembled bytes.now)) }
+    ensures no_file { IfOk result (λ answer. answer.status ≢ 0 → answer.file ≡ None) }
+{
+    let text = match text_of(bytes) {
+        Ok(text) => text,
+        Err(fault) => return Answer::refused(alloc, unknown(fault)),
+    };
+    match assemble(alloc, text) {
+        Ok(image) => written(alloc, &image),
+        Err(AsmFault::Memory) => Err(AllocError),
+        Err(fault) => Answer::refused(alloc, fault),
+    }
+}
+
+/// What is told of an image, and its bytes.
+fn written(alloc: Global, image: &Image) -> Result<Answer, AllocError>
+    ensures good { IfOk result (λ answer. answer.status ≡ 0) }
+    ensures file { IfOk result (λ answer. IsSomeAnd (option_map (λ file. file.items) answer.file) (λ file. Spells file image.now)) }
+{
+    let file = write(alloc, image)?;
+    let line = format!(in alloc; "ok {} bytes\n", file.len())?;
+    Ok(Answer::good(line, Some(file)))
+}
+
+/// A line with a byte that is no UTF-8 has no form that is known.
+fn unknown(fault: NotText) -> AsmFault {
+    AsmFault::Unknown {
+        line: fault.line as u64,
+    }
+}

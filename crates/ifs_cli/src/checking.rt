@@ -1,0 +1,87 @@
+//! What `check` answers to the bytes of a policy.
+
+ghost use Rattle.std.specs.Prelude.{◌≡◌, ◌≢◌, ◌+◌, ℕ, None, take, count_by, map, ◌==◌, IfOk, IfErr};
+ghost use Rattle.std.specs.Str.{IsUtf8, IsValidUpTo};
+ghost use Rattle.ifs_cli.specs.Answers.{ArePolicy};
+
+use crate::task::Answer;
+use ifs_policy::{Counts, PolicyFault, PolicyText, policy_of};
+use std::alloc::{AllocError, Global};
+use std::str::from_utf8;
+use thiserror::Error;
+
+/// P1: a byte that is no UTF-8, with its line, from 1.
+#[derive(Clone, Copy, Debug, PartialEq, Eq, Error)]
+#[error("P1 line {line}")]
+pub struct NotText {
+    pub line: usize,
+}
+
+/// The text of these bytes. They are none where a byte is no UTF-8: the line is that of the first one.
+#[tactic(auto, using(crate::proofs::Texts::not_utf8))]
+pub fn text_of(bytes: &[u8]) -> Result<&str, NotText>
+    ensures text { IfOk result (λ text. (text.now ≡ bytes.now) × IsUtf8 bytes.now) }
+    ensures none { IfErr result (λ _. ¬ IsUtf8 bytes.now) }
+    ensures line { IfErr result (λ fault. (n : ℕ) × IsValidUpTo bytes.now n
+        × (fault.line ≡ 1 + count_by (λ byte. byte == 10) (take n bytes.now))) }
+{
+    match from_utf8(bytes) {
+        Ok(text) => Ok(text),
+        Err(error) => {
+            let (good, _rest) = bytes.split_at(error.valid_up_to());
+            let newlines = good.iter().filter(|byte| **byte == b'\n').count();
+            Err(NotText { line: 1 + newlines })
+        }
+    }
+}
+
+/// The answer of `check`: the notes on a policy, and how many names it has.
+#[tactic(auto, using(crate::proofs::Texts::no_policy))]
+pub fn check(alloc: Global, bytes: &[u8], defs: &[(&str, &str)]) -> Result<Answer, AllocError>
+    ensures good { IfOk result (λ answer. answer.status ≡ 0 → ArePolicy bytes.now (map (λ d. (d.0.now, d.1.now)) defs.now)) }
+    ensures refused { IfOk result (λ answer. answer.status ≢ 0 → ¬ ArePolicy bytes.now (map (λ d. (d.0.now, d.1.now)) defs.now)) }
+    ensures file { IfOk result (λ answer. answer.file ≡ None) }
+{
+    let text = match text_of(bytes) {
+        Ok(text) => text,
+        Err(fault) => return Answer::refused(alloc, fault),
+    };
+    match policy_of(alloc, text, defs) {
+        Ok(found) => told(alloc, &found),
+        Err(PolicyFault::Memory) => Err(AllocError),
+        Err(fault) => Answer::refused(alloc, fault),
+    }
+}
+
+/// What is told of a policy.
+fn told(alloc: Global, found: &PolicyText) -> Result<Answer, AllocError>
+    ensures { IfOk result (λ answer. (answer.status ≡ 0) × (answer.file ≡ None)) }
+{
+    let mut lines = notes_of(alloc, found.tree.notes())?;
+    put_counts(&mut lines, found.policy.counts())?;
+    Ok(Answer::good(lines, None))
+}
+
+/// A line for each note, whose number it has.
+pub fn notes_of(alloc: Global, notes: &[u32]) -> Result<String, AllocError> {
+    let mut lines = String::new(alloc);
+    for line in notes {
+        writeln!(lines, "note line {line}: || and && without parentheses")?;
+    }
+    Ok(lines)
+}
+
+/// Adds the line that tells how many names a policy has.
+fn put_counts(lines: &mut String, counts: Counts) -> Result<(), AllocError> {
+    let Counts {
+        interfaces,
+        tests,
+        commands,
+        states,
+    } = counts;
+    writeln!(
+        lines,
+        "ok {interfaces} interfaces {tests} tests {commands} commands {states} states"
+    )?;
+    Ok(())
+}

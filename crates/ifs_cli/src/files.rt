@@ -1,0 +1,66 @@
+//! Files.
+
+ghost use Rattle.std.specs.Prelude.{◌≡◌, ◌≢◌, IfOk, IfErr, IfSome};
+ghost use Rattle.ifs_cli.specs.Files.{IsWithinLimit};
+ghost use Rattle.ifs_cli.specs.declared.files.FileFault.TheVariants.{TooLarge};
+
+use std::alloc::Global;
+use std::fs;
+use std::io::{self, ErrorKind, Read};
+use std::rt::Files;
+use thiserror::Error;
+
+/// How many bytes a file has at most.
+const LIMIT: u64 = 16_777_216;
+
+/// Why the bytes of a file cannot be had.
+#[derive(Debug, Drop, Error)]
+pub enum FileFault {
+    /// It could not be opened, or a read failed.
+    #[error("{0}")]
+    System(io::Error),
+    /// It has over 16,777,216 bytes.
+    #[error("too large")]
+    TooLarge,
+    /// No memory was found for its bytes.
+    #[error("no memory")]
+    Memory,
+}
+
+/// The bytes of a file.
+pub(crate) fn contents<R: Files + Alloc<A = Global>>(rt: &R, path: &str) -> Result<Vec<u8>, FileFault>
+    ensures { IfOk result (λ bytes. IsWithinLimit bytes.items) }
+{
+    match fs::open(rt, path) {
+        Ok(file) => whole(rt.alloc(), file),
+        Err(error) => Err(fault_of(error)),
+    }
+}
+
+/// Every byte that a reader has left, where they are at most 16,777,216.
+pub fn whole<R: Read + Drop>(alloc: Global, reader: R) -> Result<Vec<u8>, FileFault>
+    ensures limit { IfOk result (λ bytes. IsWithinLimit bytes.items) }
+    // Nothing is cut off.
+    ensures every_byte { IfSome (R.remaining reader)
+        (λ left. IfOk result (λ bytes. bytes.items ≡ left)) }
+    ensures too_large { IfSome (R.remaining reader)
+        (λ left. IfErr result (λ fault. fault ≡ TooLarge → ¬ IsWithinLimit left)) }
+{
+    let mut bytes = Vec::new(alloc);
+    match reader.take(LIMIT + 1).read_to_end(&mut bytes) {
+        Err(error) => Err(fault_of(error)),
+        Ok(_count) if LIMIT < bytes.len() as u64 => Err(FileFault::TooLarge),
+        Ok(_count) => Ok(bytes),
+    }
+}
+
+/// The fault of a call of the system that failed.
+pub(crate) fn fault_of(error: io::Error) -> FileFault
+    ensures { result ≢ TooLarge }
+{
+    if error.kind() == ErrorKind::OutOfMemory {
+        FileFault::Memory
+    } else {
+        FileFault::System(error)
+    }
+}

@@ -1,0 +1,68 @@
+//! Tasks on the bytes of a file, and their answers.
+
+ghost use Rattle.std.specs.Prelude.{◌≡◌, None, IfOk};
+
+use std::alloc::{AllocError, Global};
+use std::fmt::Display;
+
+/// What is asked of the bytes of a file.
+#[derive(Clone, Copy, Debug, PartialEq, Eq)]
+pub enum Task {
+    /// Tell whether a text is a policy.
+    Check,
+    /// Compile a policy to an image.
+    Compile,
+    /// Verify an image.
+    Verify,
+    /// Tell the assembly text of an image.
+    Disasm,
+    /// Make the image that an assembly text spells.
+    Asm,
+}
+
+impl Task {
+    /// The code that refuses for want of memory.
+    pub(crate) fn memory_code(self) -> &'static str {
+        match self {
+            Task::Check | Task::Compile => "P0",
+            Task::Verify => "V0",
+            Task::Disasm => "I0",
+            Task::Asm => "A0",
+        }
+    }
+}
+
+/// What is printed, the exit status, and the file that is to be written.
+#[derive(Debug, Drop)]
+pub struct Answer {
+    pub status: u8,
+    pub text: String,
+    pub file: Option<Vec<u8>>,
+}
+
+impl Answer {
+    /// The answer to bytes that are good: its lines and its file.
+    pub(crate) fn good(text: String, file: Option<Vec<u8>>) -> Answer
+        ensures status { result.status ≡ 0 }
+        ensures text { result.text ≡ text }
+        ensures file { result.file ≡ file }
+    {
+        Answer {
+            status: 0,
+            text,
+            file,
+        }
+    }
+
+    /// The answer to bytes that are refused: one line, with the fault.
+    pub(crate) fn refused<F: Display + Drop>(alloc: Global, fault: F) -> Result<Answer, AllocError>
+        ensures status { IfOk result (λ answer. answer.status ≡ 1) }
+        ensures file { IfOk result (λ answer. answer.file ≡ None) }
+    {
+        Ok(Answer {
+            status: 1,
+            text: format!(in alloc; "refused {fault}\n")?,
+            file: None,
+        })
+    }
+}

@@ -1,0 +1,173 @@
+//! What the program answers to the bytes of a file.
+
+use ifs_cli::answering::answer;
+use ifs_cli::definitions::definition_of;
+use ifs_cli::files::{FileFault, whole};
+use ifs_cli::task::Task;
+use ifs_rows::policies::{accepted as policies, refused_names, refused_texts, refused_tokens};
+use ifs_rows::{Checked, bytes_of, cost_through_calls, refusals, rows};
+use std::alloc::Global;
+use std::io::{self, ErrorKind, Read};
+use std::process::Abort;
+use std::test::Fail;
+
+/// The answer to bytes in hexadecimal is this line and this status, and no file.
+fn check(
+    rt: &impl Abort,
+    alloc: Global,
+    name: &str,
+    image: &str,
+    line: &str,
+    status: u8,
+) -> Result<(), Fail> {
+    let bytes = bytes_of(alloc, image)?;
+    let answer = answer(alloc, Task::Verify, bytes.as_slice(), &[])?;
+    assert_eq!(rt; answer.text.as_str(), line, "{name}");
+    assert_eq!(rt; answer.status, status, "{name}");
+    assert!(rt; answer.file.is_none(), "{name}");
+    Ok(())
+}
+
+#[test]
+fn accepted(rt: HostRuntime) -> Result<(), Fail> {
+    for row in rows() {
+        check(&rt, rt.alloc(), row.name, row.image, row.answer, 0)?;
+    }
+    Ok(())
+}
+
+#[test]
+fn refused(rt: HostRuntime) -> Result<(), Fail> {
+    for row in refusals() {
+        check(&rt, rt.alloc(), row.name, row.image, row.answer, 1)?;
+    }
+    let doubling = cost_through_calls(rt.alloc())?;
+    check(
+        &rt,
+        rt.alloc(),
+        "cost_through_calls",
+        doubling.as_str(),
+        "refused V12 routine 15 place 0\n",
+        1,
+    )
+}
+
+/// What `check` answers to bytes is these lines and this status, and no file.
+fn check_policy(
+    rt: &impl Abort,
+    alloc: Global,
+    name: &str,
+    policy: &[u8],
+    defs: &[(&str, &str)],
+    lines: &str,
+) -> Result<(), Fail> {
+    let answer = answer(alloc, Task::Check, policy, defs)?;
+    assert_eq!(rt; answer.text.as_str(), lines, "{name}");
+    assert_eq!(rt;
+        answer.status,
+        u8::from(lines.starts_with("refused")),
+        "{name}"
+    );
+    assert!(rt; answer.file.is_none(), "{name}");
+    Ok(())
+}
+
+fn check_policies(rt: &impl Abort, alloc: Global, rows: &[Checked]) -> Result<(), Fail> {
+    for row in rows {
+        let policy = row.policy.as_bytes();
+        check_policy(rt, alloc, row.name, policy, row.definitions, row.answer)?;
+    }
+    Ok(())
+}
+
+#[test]
+fn checked_policies(rt: HostRuntime) -> Result<(), Fail> {
+    check_policies(&rt, rt.alloc(), policies())
+}
+
+#[test]
+fn refused_policies(rt: HostRuntime) -> Result<(), Fail> {
+    check_policies(&rt, rt.alloc(), refused_texts())?;
+    check_policies(&rt, rt.alloc(), refused_tokens())?;
+    check_policies(&rt, rt.alloc(), refused_names())
+}
+
+/// Bytes that are no UTF-8 are refused before all else.
+#[test]
+fn bytes_that_are_no_text(rt: HostRuntime) -> Result<(), Fail> {
+    let rows: [(&str, &[u8], &str); 3] = [
+        (
+            "a byte that begins nothing",
+            b"&\n\n\xff\n",
+            "refused P1 line 3\n",
+        ),
+        (
+            "a character cut off",
+            b"state a { }\n\xe2\x82",
+            "refused P1 line 2\n",
+        ),
+        ("the first byte", b"\x80", "refused P1 line 1\n"),
+    ];
+    for (name, bytes, line) in rows {
+        check_policy(&rt, rt.alloc(), name, bytes, &[("x", "&")], line)?;
+    }
+    Ok(())
+}
+
+/// A word defines what stands before its first `=`, where that is a macro name.
+#[test]
+fn definitions(rt: HostRuntime) {
+    let rows = [
+        ("x=a", Some(("x", "a"))),
+        ("x=a=b", Some(("x", "a=b"))),
+        ("if=", Some(("if", ""))),
+        ("x", None),
+        ("", None),
+        ("=a", None),
+        ("1x=a", None),
+        ("a-b=c", None),
+    ];
+    for (word, expected) in rows {
+        assert_eq!(rt; definition_of(word), expected, "{word}");
+    }
+}
+
+/// A reader whose reads all fail so.
+#[derive(Drop)]
+struct Failing {
+    kind: ErrorKind,
+}
+
+impl Read for Failing {
+    fn read(&mut self, _buffer: &mut [u8]) -> io::Result<usize> {
+        Err(io::Error::from(self.kind))
+    }
+}
+
+/// Of a reader every byte is there up to the limit; one more is refused, and so are its faults.
+#[test]
+fn whole_files(rt: HostRuntime) -> Result<(), Fail> {
+    let Ok(short) = whole(rt.alloc(), b"IFSV".as_slice()) else {
+        return Err(Fail::from("a short file"));
+    };
+    assert_eq!(rt; short.as_slice(), b"IFSV".as_slice());
+    let longest = whole(rt.alloc(), io::repeat(b'x').take(16_777_216));
+    assert!(rt; longest.is_ok_and(|bytes| bytes.len() == 16_777_216));
+    let longer = whole(rt.alloc(), io::repeat(b'x').take(16_777_217));
+    assert!(rt; matches!(longer, Err(FileFault::TooLarge)));
+    let closed = whole(
+        rt.alloc(),
+        Failing {
+            kind: ErrorKind::BrokenPipe,
+        },
+    );
+    assert!(rt; matches!(closed, Err(FileFault::System(_))));
+    let starved = whole(
+        rt.alloc(),
+        Failing {
+            kind: ErrorKind::OutOfMemory,
+        },
+    );
+    assert!(rt; matches!(starved, Err(FileFault::Memory)));
+    Ok(())
+}

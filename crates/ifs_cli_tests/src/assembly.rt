@@ -1,0 +1,114 @@
+//! What `disasm` and `asm` answer.
+
+use ifs_cli::answering::answer;
+use ifs_cli::task::{Answer, Task};
+use ifs_rows::{bytes_of, cost_through_calls, images, refusals, rows};
+use std::alloc::Global;
+use std::process::Abort;
+use std::test::Fail;
+
+/// Bytes in hexadecimal that spell an image are the same through its text; others are refused by this line.
+fn check_back(
+    rt: &impl Abort,
+    alloc: Global,
+    name: &str,
+    image: &str,
+    line: &str,
+) -> Result<(), Fail> {
+    let bytes = bytes_of(alloc, image)?;
+    let Answer { status, text, file } = answer(alloc, Task::Disasm, bytes.as_slice(), &[])?;
+    assert!(rt; file.is_none(), "{name}");
+    if line.starts_with("refused I") {
+        assert_eq!(rt; text.as_str(), line, "{name}");
+        assert_eq!(rt; status, 1, "{name}");
+        return Ok(());
+    }
+    assert_eq!(rt; status, 0, "{name}");
+    check_assembled(rt, alloc, name, text.as_bytes(), bytes.as_slice())
+}
+
+/// A text is assembled to these bytes.
+fn check_assembled(
+    rt: &impl Abort,
+    alloc: Global,
+    name: &str,
+    listing: &[u8],
+    bytes: &[u8],
+) -> Result<(), Fail> {
+    let Answer { status, text, file } = answer(alloc, Task::Asm, listing, &[])?;
+    assert_eq!(rt; status, 0, "{name}");
+    let told = format!(in alloc; "ok {} bytes\n", bytes.len())?;
+    assert_eq!(rt; text.as_str(), told.as_str(), "{name}");
+    let Some(file) = file else {
+        return Err(Fail::from("no image"));
+    };
+    assert_eq!(rt; file.as_slice(), bytes, "{name}");
+    Ok(())
+}
+
+#[test]
+fn images_there_and_back(rt: HostRuntime) -> Result<(), Fail> {
+    for row in rows() {
+        check_back(&rt, rt.alloc(), row.name, row.image, row.answer)?;
+    }
+    for row in refusals() {
+        check_back(&rt, rt.alloc(), row.name, row.image, row.answer)?;
+    }
+    let doubling = cost_through_calls(rt.alloc())?;
+    let image = doubling.as_str();
+    check_back(
+        &rt,
+        rt.alloc(),
+        "cost_through_calls",
+        image,
+        "refused V12 routine 15 place 0\n",
+    )
+}
+
+#[test]
+fn smallest_image_as_text(rt: HostRuntime) -> Result<(), Fail> {
+    let bytes = bytes_of(rt.alloc(), images::SMALLEST_IMAGE)?;
+    let listing = answer(rt.alloc(), Task::Disasm, bytes.as_slice(), &[])?;
+    assert_eq!(rt; listing.text.as_str(), images::SMALLEST_TEXT);
+    Ok(())
+}
+
+/// Each with the line that refuses it; a byte that is no UTF-8 comes before all else.
+#[test]
+fn refused_assembly_texts(rt: HostRuntime) -> Result<(), Fail> {
+    let rows: [(&str, &[u8], &str); 6] = [
+        ("the empty text", b"", "refused A3 line 1\n"),
+        (
+            "a version that is not known",
+            b"ifsv 2\n",
+            "refused A1 line 1\n",
+        ),
+        (
+            "a stack over its limit",
+            b"ifsv 1\nstack 33\n",
+            "refused A2 line 2\n",
+        ),
+        (
+            "a line left out",
+            b"ifsv 1\nframes 1\n",
+            "refused A3 line 2\n",
+        ),
+        (
+            "a byte that begins nothing",
+            b"ret\n\n;\xff\n",
+            "refused A1 line 3\n",
+        ),
+        (
+            "a character cut off",
+            b"ifsv 1\n\xe2\x82",
+            "refused A1 line 2\n",
+        ),
+    ];
+    for (name, bytes, line) in rows {
+        let answer = answer(rt.alloc(), Task::Asm, bytes, &[])?;
+        assert_eq!(rt; answer.text.as_str(), line, "{name}");
+        assert_eq!(rt; answer.status, 1, "{name}");
+        assert!(rt; answer.file.is_none(), "{name}");
+    }
+    Ok(())
+}

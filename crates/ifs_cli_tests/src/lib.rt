@@ -1,0 +1,15 @@
+//! Tests of what the program does: answers to words on files, the files, images in folders, and the host of the daemon.
+//!
+//! They stand over the crate that they test, so that it is proved once and not again with its tests.
+#![tactic(auto)]
+
+#[cfg(test)]
+mod answers;
+#[cfg(test)]
+mod assembly;
+#[cfg(test)]
+mod compiling;
+#[cfg(test)]
+mod hosts;
+#[cfg(test)]
+mod images;

@@ -1,0 +1,316 @@
+//! Runs of small images, against values from outside and against the table as a slow program.
+
+ghost use Rattle.std.specs.Prelude.{◌≤◌, length};
+ghost use Rattle.ifs_image.specs.Limits.{CountsFit};
+ghost use Rattle.ifs_machine.specs.Run.{AreFactsOf};
+ghost use Rattle.ifs_machine.specs.Views.{facts_of};
+
+mod plain;
+
+use arrayvec::ArrayVec;
+use ifs_asm::assemble;
+use ifs_base::LinkState;
+use ifs_image::{ImageParts, write};
+use ifs_machine::{Effects, Facts, laws, run_handler};
+use ifs_rows::{bytes_of, images};
+use ifs_verify::{Verified, verify};
+use std::alloc::{AllocError, Global};
+use std::process::Abort;
+use std::test::Fail;
+
+const NEVER: [Option<bool>; 2] = [None, None];
+
+const DOWN: [LinkState; 2] = [LinkState::Down, LinkState::Unknown];
+
+const UP: [LinkState; 2] = [LinkState::Up, LinkState::Unknown];
+
+/// What the images of these tests say of themselves.
+const BUDGETS: &str = "ifsv 1
+stack 32
+frames 32
+cost 300000
+commands 64
+start 0
+";
+
+/// Two interfaces, two tests and two commands.
+const TABLES: &str = "iface \"a\"
+iface \"b\"
+test 1 \"t\"
+test 1 \"u\"
+command \"c\"
+command \"d\"
+";
+
+/// The text form of an image up to its routines, with two states; all handlers are one routine.
+fn front_of(alloc: Global, routine: usize) -> Result<String, AllocError> {
+    let handlers = format!(in alloc; "init {routine} body {routine} tests -\n")?;
+    let handlers = handlers.as_str();
+    let mut text = String::from_str(alloc, BUDGETS)?;
+    for words in [
+        "always ",
+        handlers,
+        TABLES,
+        "state \"a\" ",
+        handlers,
+        "state \"b\" ",
+        handlers,
+    ] {
+        text.push_str(words)?;
+    }
+    Ok(text)
+}
+
+/// The bytes of an image whose handlers are all the last of these routines. All but it have one result.
+fn spelled(alloc: Global, routines: &[&str]) -> Result<Vec<u8>, Fail> {
+    let last = routines.len().saturating_sub(1);
+    let mut text = front_of(alloc, last)?;
+    for (index, code) in routines.iter().enumerate() {
+        put_routine(alloc, &mut text, if index < last { 1 } else { 0 }, code)?;
+    }
+    let image = assemble(alloc, text.as_str())?;
+    Ok(write(alloc, &image)?)
+}
+
+/// Puts the lines of a routine, whose instructions have commas between them.
+fn put_routine(
+    alloc: Global,
+    text: &mut String,
+    results: u8,
+    code: &str,
+) -> Result<(), AllocError> {
+    text.push_str(format!(in alloc; "routine results {results}\n")?.as_str())?;
+    for instruction in code.split(',') {
+        text.push_str(instruction)?;
+        text.push_str("\n")?;
+    }
+    Ok(())
+}
+
+/// Facts for an image: the first entry of each table has the first value, and so on by turns.
+fn facts_for(parts: &ImageParts, links: [LinkState; 2], tests: [Option<bool>; 2]) -> Facts
+    requires { CountsFit parts.now }
+    ensures { AreFactsOf parts.now (facts_of result) }
+{
+    let mut known_links = ArrayVec::new();
+    for i in 0..parts.interfaces.len() {
+        known_links.push(links[i % 2]);
+    }
+    let mut known_tests = ArrayVec::new();
+    for i in 0..parts.tests.len() {
+        known_tests.push(tests[i % 2]);
+    }
+    Facts {
+        links: known_links,
+        tests: known_tests,
+    }
+}
+
+/// The run of the always body, from an empty queue.
+fn body_run(
+    verified: &Verified,
+    links: [LinkState; 2],
+    tests: [Option<bool>; 2],
+) -> (u32, Effects) {
+    laws::empty_queue_has_room();
+    let parts = verified.image().parts();
+    let facts = facts_for(parts, links, tests);
+    let mut effects = Effects {
+        queued: ArrayVec::new(),
+        want: None,
+    };
+    let cost = run_handler(verified, parts.always.body, &facts, &mut effects);
+    (cost, effects)
+}
+
+/// The run of the always body, which is the one of the slow program.
+fn compared(
+    rt: &impl Abort,
+    alloc: Global,
+    verified: &Verified,
+    links: [LinkState; 2],
+    tests: [Option<bool>; 2],
+) -> Result<plain::Ending, Fail> {
+    let (cost, effects) = body_run(verified, links, tests);
+    let parts = verified.image().parts();
+    let slow = plain::slow_run(alloc, parts, &links, &tests, parts.always.body.0)?;
+    let mut commands = Vec::new(alloc);
+    for command in effects.queued.as_slice() {
+        commands.push(command.0)?;
+    }
+    assert_eq!(rt; cost, slow.cost);
+    assert_eq!(rt; commands.as_slice(), slow.commands.as_slice());
+    assert_eq!(rt; effects.want.map(|state| state.0), slow.wish);
+    Ok(slow)
+}
+
+/// The cost of a handler, its commands and its wish.
+fn check(
+    rt: &impl Abort,
+    alloc: Global,
+    code: &str,
+    facts: ([LinkState; 2], [Option<bool>; 2]),
+    want: (u32, &[u16], Option<u16>),
+) -> Result<(), Fail> {
+    let verified = verify(alloc, &spelled(alloc, &[code])?)?;
+    let run = compared(rt, alloc, &verified, facts.0, facts.1)?;
+    assert_eq!(rt; run.cost, want.0, "{code}");
+    assert_eq!(rt; run.commands.as_slice(), want.1, "{code}");
+    assert_eq!(rt; run.wish, want.2, "{code}");
+    Ok(())
+}
+
+/// Worked images whose every handler is one routine, and what it costs.
+#[test]
+fn worked_rows(rt: HostRuntime) -> Result<(), Fail> {
+    for (name, image, cost) in [
+        ("smallest_image", images::SMALLEST_IMAGE, 1),
+        ("ways_that_meet", images::WAYS_THAT_MEET, 6),
+        ("short_jump", images::SHORT_JUMP, 3),
+    ] {
+        let bytes = bytes_of(rt.alloc(), image)?;
+        let verified = verify(rt.alloc(), bytes.as_slice())?;
+        let run = compared(&rt, rt.alloc(), &verified, DOWN, NEVER)?;
+        assert_eq!(rt; run.cost, cost, "{name}");
+        assert_eq!(rt; run.commands.len(), 0, "{name}");
+        assert_eq!(rt; run.wish, None, "{name}");
+    }
+    Ok(())
+}
+
+/// One command, whatever the link is.
+#[test]
+fn queues(rt: HostRuntime) -> Result<(), Fail> {
+    let code = "link 0 up, pop, cmd 0, queue, ret";
+    check(&rt, rt.alloc(), code, (UP, NEVER), (5, &[0], None))
+}
+
+/// Queues command 1 where the code leaves true, and command 0 too where it leaves false.
+fn check_truth(
+    rt: &impl Abort,
+    alloc: Global,
+    code: &str,
+    facts: ([LinkState; 2], [Option<bool>; 2]),
+    truth: bool,
+) -> Result<(), Fail> {
+    let end = code.split(',').count().saturating_add(3);
+    let all = format!(in alloc; "{code}, jt {end}, cmd 0, queue, cmd 1, queue, ret")?;
+    let verified = verify(alloc, &spelled(alloc, &[all.as_str()])?)?;
+    let run = compared(rt, alloc, &verified, facts.0, facts.1)?;
+    let queued: &[u16] = if truth { &[1] } else { &[0, 1] };
+    assert_eq!(rt; run.commands.as_slice(), queued, "{code}");
+    Ok(())
+}
+
+#[test]
+fn each_truth(rt: HostRuntime) -> Result<(), Fail> {
+    let failed = [None, Some(false)];
+    let held = [None, Some(true)];
+    for (code, links, tests, truth) in [
+        ("true", DOWN, NEVER, true),
+        ("false", DOWN, NEVER, false),
+        ("link 0 up", UP, NEVER, true),
+        ("link 0 up", DOWN, NEVER, false),
+        ("known 1", DOWN, NEVER, false),
+        ("known 1", DOWN, failed, true),
+        ("test 1", DOWN, NEVER, false),
+        ("test 1", DOWN, failed, false),
+        ("test 1", DOWN, held, true),
+        ("true, not", DOWN, NEVER, false),
+        ("true, false, and", DOWN, NEVER, false),
+        ("true, false, or", DOWN, NEVER, true),
+        ("false, dup, or", DOWN, NEVER, false),
+    ] {
+        check_truth(&rt, rt.alloc(), code, (links, tests), truth)?;
+    }
+    Ok(())
+}
+
+#[test]
+fn last_wish(rt: HostRuntime) -> Result<(), Fail> {
+    let code = "state 1, want, state 0, dup, want, pop, ret";
+    check(&rt, rt.alloc(), code, (DOWN, NEVER), (7, &[], Some(0)))
+}
+
+/// Routine k costs 6 * 2^k - 4, which for 14 is 98,300; its handler adds `call`, `pop` and `ret`.
+#[test]
+fn cost_through_calls(rt: HostRuntime) -> Result<(), Fail> {
+    let alloc = rt.alloc();
+    let mut codes = Vec::new(alloc);
+    for k in 0..14 {
+        codes.push(format!(in alloc; "call {k}, call {k}, and, ret")?)?;
+    }
+    let mut routines: Vec<&str> = Vec::new(alloc);
+    routines.push("true, ret")?;
+    for code in &codes {
+        routines.push(code.as_str())?;
+    }
+    routines.push("call 14, pop, ret")?;
+    let verified = verify(alloc, &spelled(alloc, routines.as_slice())?)?;
+    let run = compared(&rt, alloc, &verified, DOWN, NEVER)?;
+    assert_eq!(rt; run.cost, 98_303);
+    Ok(())
+}
+
+/// The instructions of the small routines, with how many of the routines the rules accept.
+const SMALL: [([&str; 5], u32); 2] = [
+    (["known 0", "jf 4", "pop", "cmd 1", "queue"], 206),
+    (["known 0", "not", "pop", "cmd 1", "queue"], 197),
+];
+
+/// Whether the routine of these digits in base 5, with `ret` at its end, is accepted; then it runs as
+/// the slow program says.
+fn small(
+    rt: &impl Abort,
+    alloc: Global,
+    ops: &[&str; 5],
+    length: u32,
+    digits: u32,
+) -> Result<bool, Fail> {
+    let mut code = String::new(alloc);
+    let mut rest = digits;
+    for _ in 0..length {
+        code.push_str(ops[(rest % 5) as usize])?;
+        code.push_str(",")?;
+        rest /= 5;
+    }
+    code.push_str("ret")?;
+    let Ok(verified) = verify(alloc, &spelled(alloc, &[code.as_str()])?) else {
+        return Ok(false);
+    };
+    compared(rt, alloc, &verified, DOWN, NEVER)?;
+    compared(rt, alloc, &verified, DOWN, [Some(false), None])?;
+    Ok(true)
+}
+
+/// How many of the routines of this length are accepted, of which there are so many.
+fn smalls(
+    rt: &impl Abort,
+    alloc: Global,
+    ops: &[&str; 5],
+    length: u32,
+    count: u32,
+) -> Result<u32, Fail> {
+    let mut accepted = 0u32;
+    for digits in 0..count {
+        if small(rt, alloc, ops, length, digits)? {
+            accepted = accepted.saturating_add(1);
+        }
+    }
+    Ok(accepted)
+}
+
+/// All routines of at most six of five instructions, before their `ret`.
+#[test]
+fn small_routines(rt: HostRuntime) -> Result<(), Fail> {
+    for (ops, wanted) in SMALL {
+        let mut accepted = 0u32;
+        let mut count = 1u32;
+        for length in 0..7 {
+            accepted = accepted.saturating_add(smalls(&rt, rt.alloc(), &ops, length, count)?);
+            count = count.saturating_mul(5);
+        }
+        assert_eq!(rt; accepted, wanted);
+    }
+    Ok(())
+}

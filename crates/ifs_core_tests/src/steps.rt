@@ -1,0 +1,220 @@
+//! The worked rows: each request that is a step is made on a core, and its reply told as the row has it.
+
+use ifs_base::{CommandId, IfaceId, LinkState, StateId, TestId};
+use ifs_core::{Answer, Core, Record, Reply, Step};
+use ifs_rows::{bytes_of, images, rows};
+use ifs_sched::Start;
+use ifs_verify::verify;
+use std::alloc::{AllocError, Global};
+use std::process::Abort;
+use std::test::Fail;
+
+mod lent;
+
+/// Opens an image in hexadecimal.
+fn opened(rt: &impl Abort, alloc: Global, image: &str) -> Core {
+    let bytes = bytes_of(alloc, image).expect(rt, "no bytes");
+    match verify(alloc, bytes.as_slice()) {
+        Err(fault) => panic!(rt; "not accepted: {fault}"),
+        Ok(verified) => Core::open(alloc, verified).expect(rt, "not opened"),
+    }
+}
+
+/// The link state of a word.
+fn link_of(word: &str) -> Option<LinkState> {
+    match word {
+        "unknown" => Some(LinkState::Unknown),
+        "down" => Some(LinkState::Down),
+        "up" => Some(LinkState::Up),
+        _ => None,
+    }
+}
+
+/// The step that a request line asks for, where it asks for one.
+fn step_of(core: &Core, line: &str) -> Option<Step> {
+    let mut words = line.split_whitespace();
+    match words.next()? {
+        "link" => {
+            let interface = core.iface_of(words.next()?.as_bytes())?;
+            Some(Step::Link(interface, link_of(words.next()?)?))
+        }
+        "result" => {
+            let test = TestId(words.next()?.parse().ok()?);
+            let run = words.next()?.parse().ok()?;
+            Some(Step::Finished(test, run, words.next()? == "ok"))
+        }
+        "tick" => Some(Step::Tick(words.next()?.parse().ok()?)),
+        "take" => Some(Step::Take),
+        _ => None,
+    }
+}
+
+/// Commands as a reply line has them.
+fn commands_text(alloc: Global, commands: &[CommandId]) -> Result<String, AllocError> {
+    let mut text = String::new(alloc);
+    for command in commands {
+        let comma = if text.is_empty() { "" } else { "," };
+        let more = format!(in alloc; "{comma}{}", command.0)?;
+        text.push_str(more.as_str())?;
+    }
+    if text.is_empty() {
+        text.push_str("-")?;
+    }
+    Ok(text)
+}
+
+/// Tests that start, as a reply line has them.
+fn starts_text(alloc: Global, starts: &[Start]) -> Result<String, AllocError> {
+    let mut text = String::new(alloc);
+    for start in starts {
+        let comma = if text.is_empty() { "" } else { "," };
+        let more = format!(in alloc; "{comma}{}:{}", start.test.0, start.run)?;
+        text.push_str(more.as_str())?;
+    }
+    if text.is_empty() {
+        text.push_str("-")?;
+    }
+    Ok(text)
+}
+
+/// The event of a reply line.
+fn event_text(
+    alloc: Global,
+    core: &Core,
+    state: StateId,
+    cost: u32,
+    queued: &[CommandId],
+) -> Result<String, AllocError> {
+    let name = core.state_name(state).unwrap_or("");
+    let queue = commands_text(alloc, queued)?;
+    format!(in alloc; "\"{name}\" cost {cost} queue {queue}")
+}
+
+/// A reply as a line.
+fn reply_text(alloc: Global, core: &Core, reply: &Reply) -> Result<String, AllocError> {
+    match reply {
+        Reply::Done {
+            state,
+            queued,
+            cost,
+        } => {
+            let event = event_text(alloc, core, *state, *cost, queued.as_slice())?;
+            format!(in alloc; "done {event}")
+        }
+        Reply::Ticked {
+            evaluated,
+            state,
+            queued,
+            cost,
+            starts,
+            exhausted,
+        } => {
+            let started = starts_text(alloc, starts.as_slice())?;
+            let last = if *exhausted { " exhausted" } else { "" };
+            if !*evaluated {
+                return format!(in alloc; "tick starts {started}{last}");
+            }
+            let event = event_text(alloc, core, *state, *cost, queued.as_slice())?;
+            format!(in alloc; "tick {event} starts {started}{last}")
+        }
+        Reply::Taken(command) => {
+            let text = core.command_text(*command).unwrap_or("");
+            format!(in alloc; "taken {} \"{text}\"", command.0)
+        }
+        Reply::Same => format!(in alloc; "same"),
+        Reply::Empty => format!(in alloc; "empty"),
+        Reply::Busy => format!(in alloc; "busy"),
+        Reply::Stale => format!(in alloc; "stale"),
+        Reply::Backwards => format!(in alloc; "backwards"),
+        Reply::NoSuch => format!(in alloc; "nosuch"),
+    }
+}
+
+/// What the readers say, as the line that answers `status`.
+fn status_text(alloc: Global, core: &Core) -> Result<String, AllocError> {
+    let name = core.state_name(core.state()).unwrap_or("");
+    let owed = if core.owed() { "yes" } else { "no" };
+    let queue = core.queue_len();
+    let running = core.running();
+    format!(in alloc;
+        "status \"{name}\" owed {owed} queue {queue} running {running} now {}",
+        core.now()
+    )
+}
+
+/// The answer to a request line; none where a session answers it without the core.
+fn answer(alloc: Global, core: &mut Core, line: &str) -> Result<Option<String>, AllocError> {
+    if line == "status" {
+        return Ok(Some(status_text(alloc, core)?));
+    }
+    if line == "trace" {
+        return Ok(Some(format!(in alloc; "trace {}", core.trace_len())?));
+    }
+    let Some(step) = step_of(core, line) else {
+        return Ok(None);
+    };
+    let reply = core.step(step);
+    Ok(Some(reply_text(alloc, core, &reply)?))
+}
+
+/// Whether a reply line is one that a session gives without the core.
+fn is_sessions_own(line: &str) -> bool {
+    line == "bye" || line.starts_with("fault ")
+}
+
+#[test]
+fn worked_rows(rt: HostRuntime) -> Result<(), Fail> {
+    for row in rows() {
+        let mut core = opened(&rt, rt.alloc(), row.image);
+        for (request, wanted) in row.requests.lines().zip(row.replies.lines()) {
+            match answer(rt.alloc(), &mut core, request)? {
+                Some(told) => assert_eq!(rt; told.as_str(), wanted, "{}: {request}", row.name),
+                None => assert!(rt; is_sessions_own(wanted), "{}: {request}", row.name),
+            }
+        }
+    }
+    Ok(())
+}
+
+const LINK_UP: Step = Step::Link(IfaceId(0), LinkState::Up);
+
+fn record(step: Step, answer: Answer, queued: u16, cost: u32) -> Record {
+    Record {
+        step,
+        answer,
+        state: StateId(0),
+        queued,
+        cost,
+    }
+}
+
+#[test]
+fn readers(rt: HostRuntime) {
+    let mut core = opened(&rt, rt.alloc(), images::FIRST_RUN);
+    for step in [LINK_UP, LINK_UP, Step::Take, Step::Take] {
+        core.step(step);
+    }
+    assert_eq!(rt; core.iface_of(b"carp0"), Some(IfaceId(0)));
+    assert_eq!(rt; core.iface_of(b"carp1"), None);
+    assert_eq!(rt; core.link(IfaceId(0)), Some(LinkState::Up));
+    let records = [
+        record(LINK_UP, Answer::Done, 1, 6),
+        record(LINK_UP, Answer::Same, 0, 0),
+        record(Step::Take, Answer::Taken, 0, 0),
+    ];
+    assert_eq!(rt; core.trace_len(), records.len());
+    for (index, wanted) in records.iter().enumerate() {
+        assert_eq!(rt; core.trace_at(index), Some(*wanted));
+    }
+    let held_back = opened(&rt, rt.alloc(), images::HELD_BACK);
+    assert_eq!(rt; held_back.test_text(TestId(1)), Some("t2"));
+    assert_eq!(rt; held_back.test_value(TestId(1)), Some(None));
+}
+
+/// An interface that is not in the table.
+#[test]
+fn no_such_interface(rt: HostRuntime) {
+    let mut core = opened(&rt, rt.alloc(), images::HELD_BACK);
+    let reply = core.step(Step::Link(IfaceId(1), LinkState::Up));
+    assert!(rt; matches!(reply, Reply::NoSuch));
+}

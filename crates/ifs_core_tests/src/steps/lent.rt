@@ -1,0 +1,157 @@
+//! Callers that have nothing but a core that was lent to them, or nothing but bytes.
+
+ghost use Rattle.std.specs.Prelude.{◌≡◌, All, IfOk};
+ghost use Rattle.ifs_machine.specs.Run.{IsCommand};
+ghost use Rattle.ifs_core.specs.Gateway.{IsListed};
+ghost use Rattle.ifs_core.specs.Machine.{KeepsBudgets};
+ghost use Rattle.ifs_core.specs.Steps.{cost_told, commands_told};
+ghost use Rattle.ifs_core.specs.Headline.{IsVerified, IsKept};
+
+use super::*;
+use ifs_core::laws::headline;
+use ifs_core::{Lists, OpenFault, Outcome};
+use ifs_verify::{Verified, VerifyFault};
+
+/// Makes a step. Its reply keeps to the budgets of the core's image.
+fn reply(core: &mut Core, step: Step) -> Reply
+    ensures image { core.new.image ≡ core.old.image }
+    ensures budgets { KeepsBudgets core.old.image (commands_told result) (cost_told result) }
+{
+    core.step(step)
+}
+
+/// Makes steps, one after the other. Each reply keeps to the budgets.
+fn replies(alloc: Global, core: &mut Core, steps: &[Step]) -> Result<Vec<Reply>, AllocError>
+    ensures { IfOk result (λ replies. All (λ reply. KeepsBudgets core.old.image (commands_told reply) (cost_told reply)) replies.items) }
+{
+    let mut replies = Vec::new(alloc);
+    for step in steps {
+        replies.push(reply(core, *step))?;
+    }
+    Ok(replies)
+}
+
+/// Verifies bytes. What is answered is the image that they spell, which keeps what the headline promises.
+fn verified(alloc: Global, bytes: &[u8]) -> Result<Verified, VerifyFault>
+    ensures verified { IfOk result (IsVerified bytes.now) }
+    ensures kept { IfOk result IsKept }
+{
+    headline();
+    let image = verify(alloc, bytes)?;
+    Ok(image)
+}
+
+/// The name of a state of the image's list.
+fn listed_name(core: &Core, state: StateId) -> &str
+    requires { IsListed core.now.image state }
+{
+    let Some(name) = core.state_name(state) else {
+        unreachable!()
+    };
+    name
+}
+
+/// The text of a command of the image's table.
+fn known_text(core: &Core, command: CommandId) -> &str
+    requires { IsCommand core.now.image command }
+{
+    let Some(text) = core.command_text(command) else {
+        unreachable!()
+    };
+    text
+}
+
+/// What a step names: the state that its reply tells, or the command that it hands out.
+fn named(core: &mut Core, step: Step) -> Option<&str> {
+    match core.step(step) {
+        Reply::Done { state, .. } | Reply::Ticked { state, .. } => Some(listed_name(core, state)),
+        Reply::Taken(command) => Some(known_text(core, command)),
+        _ => None,
+    }
+}
+
+/// The name of the state in which a core stands.
+fn current_name(core: &Core) -> &str {
+    listed_name(core, core.state())
+}
+
+/// The names of the states in the trace, one after the other.
+fn traced_names(alloc: Global, core: &Core) -> Result<String, AllocError> {
+    let mut names = String::new(alloc);
+    for index in 0..core.trace_len() {
+        let Some(record) = core.trace_at(index) else {
+            unreachable!()
+        };
+        names.push_str(listed_name(core, record.state))?;
+    }
+    Ok(names)
+}
+
+#[test]
+fn names_of_a_lent_core(rt: HostRuntime) -> Result<(), Fail> {
+    let mut core = opened(&rt, rt.alloc(), images::FIRST_RUN);
+    assert_eq!(rt; current_name(&core), "a");
+    assert_eq!(rt; named(&mut core, LINK_UP), Some("a"));
+    assert_eq!(rt; named(&mut core, LINK_UP), None);
+    assert_eq!(rt; named(&mut core, Step::Take), Some("echo m"));
+    assert_eq!(rt; traced_names(rt.alloc(), &core)?.as_str(), "aaa");
+    Ok(())
+}
+
+/// The first four requests of the row *First run*, with one place for the lists of all of them.
+#[test]
+fn lent_lists(rt: HostRuntime) -> Result<(), Fail> {
+    let mut core = opened(&rt, rt.alloc(), images::FIRST_RUN);
+    let mut lists = Lists::new();
+    let done = Outcome::Done {
+        state: StateId(0),
+        cost: 6,
+    };
+    assert_eq!(rt; core.step_into(LINK_UP, &mut lists), done);
+    assert_eq!(rt;
+        commands_text(rt.alloc(), lists.effects.queued.as_slice())?.as_str(),
+        "0"
+    );
+    assert_eq!(rt; core.step_into(LINK_UP, &mut lists), Outcome::Same);
+    assert_eq!(rt; core.take(), Some(CommandId(0)));
+    assert_eq!(rt; core.step_into(Step::Take, &mut lists), Outcome::Empty);
+    assert_eq!(rt; core.trace_len(), 3);
+    Ok(())
+}
+
+#[test]
+fn lent_core(rt: HostRuntime) -> Result<(), Fail> {
+    let mut core = opened(&rt, rt.alloc(), images::FIRST_RUN);
+    let steps = [LINK_UP, LINK_UP, Step::Take, Step::Take];
+    let replies = replies(rt.alloc(), &mut core, steps.as_slice())?;
+    let answers = replies.as_slice();
+    assert!(rt;
+        matches!(
+            answers,
+            [
+                Reply::Done { cost: 6, .. },
+                Reply::Same,
+                Reply::Taken(CommandId(0)),
+                Reply::Empty
+            ]
+        )
+    );
+    let image = core.image();
+    assert_eq!(rt; image.budgets.cost, 7);
+    assert_eq!(rt; image.budgets.commands, 1);
+    Ok(())
+}
+
+#[test]
+fn fault_of_the_opening(rt: HostRuntime) -> Result<(), Fail> {
+    let bytes = bytes_of(rt.alloc(), images::FIRST_RUN)?;
+    match verified(rt.alloc(), bytes.as_slice()) {
+        Err(fault) => panic!(rt; "not accepted: {fault}"),
+        Ok(verified) => {
+            let fault = OpenFault { verified };
+            let told = format!(in rt.alloc(); "{fault}")?;
+            assert_eq!(rt; told.as_str(), "V0");
+        }
+    }
+    Ok(())
+}

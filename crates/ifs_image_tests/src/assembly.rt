@@ -1,0 +1,370 @@
+//! Texts that were written by hand from the table of the format.
+
+use ifs_asm::{assemble, disassemble};
+use ifs_image::{Image, read, write};
+use ifs_rows::{bytes_of, images};
+use std::alloc::Global;
+use std::test::Fail;
+
+#[test]
+fn writes_the_smallest_image(rt: HostRuntime) -> Result<(), Fail> {
+    let alloc = rt.alloc();
+    let bytes = bytes_of(alloc, images::SMALLEST_IMAGE)?;
+    let image = read(alloc, bytes.as_slice())?;
+    assert_eq!(rt; disassemble(alloc, &image)?.as_str(), images::SMALLEST_TEXT);
+    Ok(())
+}
+
+/// What a text is answered with: how many bytes its image has, or the fault.
+fn told(alloc: Global, text: &str) -> Result<String, Fail> {
+    Ok(match assemble(alloc, text) {
+        Ok(image) => {
+            let bytes = write(alloc, &image)?;
+            format!(in alloc; "ok {} bytes", bytes.len())?
+        }
+        Err(fault) => format!(in alloc; "{fault}")?,
+    })
+}
+
+/// The smallest image's text, of which a line from 1 gives way to others.
+fn with_line(alloc: Global, number: usize, others: &str) -> Result<String, Fail> {
+    let mut text = String::new(alloc);
+    for (index, line) in images::SMALLEST_TEXT.lines().enumerate() {
+        if index.saturating_add(1) == number {
+            text.push_str(others)?;
+        } else {
+            text.push_str(line)?;
+            text.push_str("\n")?;
+        }
+    }
+    Ok(text)
+}
+
+/// In each row: a line of the smallest image's text, the lines that stand in its place (a bar begins the
+/// next, `nothing` is none), and the answer.
+const CHANGED: &str = "
+1 => ifsv 1 => ok 61 bytes
+1 => ifsv 2 => A1 line 1
+1 => ifsv 01 => A1 line 1
+1 => ifsv 3 => A1 line 1
+1 => \troutine  results 0 => A3 line 1
+1 => routine params - results - => A1 line 1
+2 => stack 33 => A2 line 2
+2 => stack 032 => ok 61 bytes
+2 => stack 18446744073709551616 => A2 line 2
+2 => stack => A1 line 2
+2 => stack x => A1 line 2
+2 => stack 0 0 => A1 line 2
+2 => stack -1 => A1 line 2
+2 => Stack 0 => A1 line 2
+2 => stack 0|stack 0 => A3 line 3
+2 => ;stack 33|  ; stack 33|||\t|stack 0 => ok 61 bytes
+2 => nothing => A3 line 2
+2 =>  => A3 line 3
+3 => frames 33 => A2 line 3
+3 => frames 32 => ok 61 bytes
+4 => cost 300000 => ok 61 bytes
+4 => cost 300001 => A2 line 4
+5 => commands 64 => ok 61 bytes
+5 => commands 65 => A2 line 5
+6 => start 65535 => ok 61 bytes
+6 => start 65536 => A2 line 6
+7 => always init 65535 body 65535 tests 0,63 => ok 61 bytes
+7 => always init 65536 body 0 tests - => A2 line 7
+7 => always init 0 body 65536 tests - => A2 line 7
+7 => always init 0 body 0 tests 64 => A2 line 7
+7 => always init 0 body 0 tests 00,001 => ok 61 bytes
+7 => always init 0 body 0 tests 1,0 => A2 line 7
+7 => always init 0 body 0 tests 1,1 => A2 line 7
+7 => always init 0 body 0 tests 1, 2 => A1 line 7
+7 => always init 0 body 0 tests 1, => A1 line 7
+7 => always init 0 body 0 tests => A1 line 7
+7 => always init 65536 body x tests - => A1 line 7
+7 => always body 0 init 0 tests - => A1 line 7
+8 => state \"a\" init 0 body 0 tests -|state \"a\" init 0 body 0 tests - => A1 line 9
+8 => state \"a\" init 0 body 0 tests -|state \"a\" init 65536 body 0 tests - => A1 line 9
+8 => state \"a\" init 65536 body 0 tests - => A2 line 8
+8 => state \"\" init 0 body 0 tests - => A2 line 8
+8 => state a init 0 body 0 tests - => A1 line 8
+8 => state \"a\"init 0 body 0 tests - => A1 line 8
+8 => state \"a b\" init 0 body 0 tests - => ok 63 bytes
+8 => state \"\\\"\\\\\\x0a\\x41\" init 0 body 0 tests - => ok 64 bytes
+8 => state \"\\x0A\" init 0 body 0 tests - => A1 line 8
+8 => state \"\\x00\" init 0 body 0 tests - => A1 line 8
+8 => state \"\\x80\" init 0 body 0 tests - => A1 line 8
+8 => state \"\\n\" init 0 body 0 tests - => A1 line 8
+8 => state \"a init 0 body 0 tests - => A1 line 8
+8 => state \"a\tb\" init 0 body 0 tests - => A1 line 8
+8 => state \"a\r\" init 0 body 0 tests - => A1 line 8
+8 => stack 0|state \"a\" init 0 body 0 tests - => A3 line 8
+8 => iface \"x\"|iface \"x\"|state \"a\" init 0 body 0 tests - => A1 line 9
+8 => command \"x\"|command \"x\"|state \"a\" init 0 body 0 tests - => ok 67 bytes
+8 => command \"x\"|iface \"x\"|state \"a\" init 0 body 0 tests - => A3 line 9
+8 => command \"x\"|test 1 \"x\"|state \"a\" init 0 body 0 tests - => A3 line 9
+8 => test 0 \"x\"|state \"a\" init 0 body 0 tests - => A2 line 8
+8 => test 604801 \"x\"|state \"a\" init 0 body 0 tests - => A2 line 8
+8 => test 604800 \"x\"|state \"a\" init 0 body 0 tests - => ok 68 bytes
+8 => test 5|state \"a\" init 0 body 0 tests - => A3 line 8
+8 => test 0 x => A1 line 8
+9 => routine results 2 => A2 line 9
+9 => state \"b\" init 0 body 0 tests -|command \"x\" => A3 line 10
+9 => routine results 1 => ok 61 bytes
+9 => routine => A1 line 9
+9 => ret => A3 line 9
+10 => Ret => A1 line 10
+10 => ret 0 => A1 line 10
+10 => jump 65536 => A2 line 10
+10 => jump => A1 line 10
+10 => link 0 on => A1 line 10
+10 => link 65536 up => A2 line 10
+10 => ret|state \"b\" init 0 body 0 tests - => A3 line 11
+10 => ret ; back => A1 line 10
+";
+
+#[test]
+fn answers_changed_lines(rt: HostRuntime) -> Result<(), Fail> {
+    let alloc = rt.alloc();
+    for row in CHANGED.lines().filter(|row| !row.is_empty()) {
+        let (number, rest) = row.split_once(" => ").ok_or("a number")?;
+        let (lines, wanted) = rest.rsplit_once(" => ").ok_or("an answer")?;
+        let mut others = String::new(alloc);
+        for line in lines.split('|').filter(|line| *line != "nothing") {
+            others.push_str(line)?;
+            others.push_str("\n")?;
+        }
+        let text = with_line(alloc, number.parse::<usize>()?, others.as_str())?;
+        assert_eq!(rt; told(alloc, text.as_str())?.as_str(), wanted, "row {row:?}");
+    }
+    Ok(())
+}
+
+#[test]
+fn answers_fronts_of_the_text(rt: HostRuntime) -> Result<(), Fail> {
+    let alloc = rt.alloc();
+    let mut front = String::new(alloc);
+    assert_eq!(rt; told(alloc, "")?.as_str(), "A3 line 1");
+    for (index, line) in images::SMALLEST_TEXT.lines().enumerate() {
+        front.push_str(line)?;
+        let whole = index >= 7;
+        let missing = format!(in alloc; "A3 line {}", index.saturating_add(2))?;
+        let answer = told(alloc, front.as_str())?;
+        assert_eq!(rt;
+            answer.as_str().starts_with("ok"),
+            whole,
+            "without newline, {line}"
+        );
+        assert!(rt; whole || answer == missing, "without newline, {line}");
+        front.push_str("\n")?;
+        let answer = told(alloc, front.as_str())?;
+        assert!(rt; whole || answer == missing, "{line}");
+    }
+    Ok(())
+}
+
+/// Each instruction, in a routine that is not verified.
+const EACH_INSTRUCTION: &str = "ifsv 1
+stack 0
+frames 1
+cost 3
+commands 0
+start 0
+always init 0 body 0 tests 0,5,63
+state \"a\" init 0 body 0 tests -
+routine results 1
+ret
+true
+false
+link 0 unknown
+link 1 down
+link 65535 up
+test 2
+known 3
+not
+and
+or
+cmd 4
+state 5
+queue
+want
+jump 6
+jf 7
+jt 8
+call 9
+pop
+dup
+routine results 0
+";
+
+/// The routines of that image.
+const EACH_INSTRUCTION_BYTES: &str = "
+    49465356 01 0000 0001 00000003 0000
+    0000 0000 0000 0001 0002 0000
+    0000 0000 8000000000000021
+    0001 61 0000 0000 0000000000000000
+    01 0015 00000000 01000000 02000000 03000000 03010001 0302ffff 04000002 05000003 06000000 07000000
+    08000000 09000004 0a000005 0b000000 0c000000 0d000006 0e000007 0f000008 10000009 11000000 12000000
+    00 0000
+";
+
+#[test]
+fn spells_each_instruction(rt: HostRuntime) -> Result<(), Fail> {
+    let alloc = rt.alloc();
+    let image = assemble(alloc, EACH_INSTRUCTION)?;
+    assert_eq!(rt;
+        write(alloc, &image)?.as_slice(),
+        bytes_of(alloc, EACH_INSTRUCTION_BYTES)?.as_slice()
+    );
+    assert_eq!(rt; disassemble(alloc, &image)?.as_str(), EACH_INSTRUCTION);
+    Ok(())
+}
+
+/// Images that are accepted, one for each worked policy.
+const IMAGES: [&str; 19] = [
+    images::SMALLEST_IMAGE,
+    images::FIRST_RUN,
+    images::FIRST_POLICY,
+    images::WAYS_THAT_MEET,
+    images::SHORT_JUMP,
+    images::LAST_WISH,
+    images::LAST_WISH_STRAIGHT,
+    images::OWN_STATE,
+    images::OWN_STATE_STRAIGHT,
+    images::WISHING_INIT,
+    images::MACROS,
+    images::BUSY,
+    images::HELD_BACK,
+    images::STALE,
+    images::BINDING,
+    images::BINDING_OTHER_WAY,
+    images::INITIAL_STATE,
+    images::BEFORE_STARTS,
+    images::SHARED_CONDITION,
+];
+
+#[test]
+fn reads_back_what_it_writes(rt: HostRuntime) -> Result<(), Fail> {
+    let alloc = rt.alloc();
+    for hex in IMAGES {
+        let bytes = bytes_of(alloc, hex)?;
+        let text = text_in(alloc, bytes.as_slice())?;
+        let back = bytes_in(alloc, text.as_str())?;
+        assert_eq!(rt; back.as_slice(), bytes.as_slice(), "{text}");
+    }
+    Ok(())
+}
+
+/// The text of the image that bytes spell.
+fn text_in(alloc: Global, bytes: &[u8]) -> Result<String, Fail> {
+    let image = read(alloc, bytes)?;
+    listing(alloc, &image)
+}
+
+fn listing(alloc: Global, image: &Image) -> Result<String, Fail> {
+    Ok(disassemble(alloc, image)?)
+}
+
+/// The bytes of the image that a text spells.
+fn bytes_in(alloc: Global, text: &str) -> Result<Vec<u8>, Fail> {
+    let image = assemble(alloc, text)?;
+    spelling(alloc, &image)
+}
+
+fn spelling(alloc: Global, image: &Image) -> Result<Vec<u8>, Fail> {
+    Ok(write(alloc, image)?)
+}
+
+/// In each row: the line of the smallest image's text before which lines are put (11 is its end), such a line, in
+/// which a sharp stands for a number of its own, and how many of them its table has room for.
+const TABLES: &str = "
+8 => iface \"#\" => 64
+8 => test 1 \"#\" => 64
+8 => command \"#\" => 1024
+9 => state \"#\" init 0 body 0 tests - => 255
+11 => routine results 0# => 1023
+11 => jump # => 1023
+";
+
+/// The smallest image's text, with so many lines of one kind before one of its lines.
+fn with_many(alloc: Global, number: usize, line: &str, count: usize) -> Result<String, Fail> {
+    let (front, back) = line.split_once('#').ok_or("a sharp")?;
+    let mut many = String::new(alloc);
+    for index in 0..count {
+        let digits = if front.ends_with('0') {
+            String::new(alloc)
+        } else {
+            format!(in alloc; "{index}")?
+        };
+        many.push_str(front)?;
+        many.push_str(digits.as_str())?;
+        many.push_str(back)?;
+        many.push_str("\n")?;
+    }
+    let mut text = String::new(alloc);
+    for (index, line) in images::SMALLEST_TEXT.lines().enumerate() {
+        if index.saturating_add(1) == number {
+            text.push_str(many.as_str())?;
+        }
+        text.push_str(line)?;
+        text.push_str("\n")?;
+    }
+    if number == 11 {
+        text.push_str(many.as_str())?;
+    }
+    Ok(text)
+}
+
+#[test]
+fn fills_each_table(rt: HostRuntime) -> Result<(), Fail> {
+    let alloc = rt.alloc();
+    for row in TABLES.lines().filter(|row| !row.is_empty()) {
+        let (number, rest) = row.split_once(" => ").ok_or("a number")?;
+        let (line, count) = rest.split_once(" => ").ok_or("a count")?;
+        let number = number.parse::<usize>()?;
+        let count = count.parse::<usize>()?;
+        let full = with_many(alloc, number, line, count)?;
+        assert!(rt;
+            told(alloc, full.as_str())?.as_str().starts_with("ok"),
+            "row {row:?}"
+        );
+        let over = with_many(alloc, number, line, count.saturating_add(1))?;
+        let wanted = format!(in alloc; "A2 line {}", number.saturating_add(count))?;
+        assert_eq!(rt; told(alloc, over.as_str())?, wanted, "row {row:?}");
+    }
+    Ok(())
+}
+
+#[test]
+fn takes_8192_instructions(rt: HostRuntime) -> Result<(), Fail> {
+    let alloc = rt.alloc();
+    let mut text = String::new(alloc);
+    for line in images::SMALLEST_TEXT.lines().take(8) {
+        text.push_str(line)?;
+        text.push_str("\n")?;
+    }
+    for _ in 0..8 {
+        text.push_str("routine results 0\n")?;
+        for _ in 0..1024 {
+            text.push_str("pop\n")?;
+        }
+    }
+    assert_eq!(rt; told(alloc, text.as_str())?.as_str(), "ok 32846 bytes");
+    text.push_str("routine results 0\npop\n")?;
+    assert_eq!(rt; told(alloc, text.as_str())?.as_str(), "A2 line 8210");
+    Ok(())
+}
+
+#[test]
+fn takes_texts_of_1024_bytes(rt: HostRuntime) -> Result<(), Fail> {
+    let alloc = rt.alloc();
+    let mut name = String::new(alloc);
+    for _ in 0..1024 {
+        name.push_str("x")?;
+    }
+    let whole = format!(in alloc; "state \"{name}\" init 0 body 0 tests -\n")?;
+    let text = with_line(alloc, 8, whole.as_str())?;
+    assert_eq!(rt; told(alloc, text.as_str())?.as_str(), "ok 1084 bytes");
+    let over = format!(in alloc; "state \"{name}\\x41\" init 0 body 0 tests -\n")?;
+    let text = with_line(alloc, 8, over.as_str())?;
+    assert_eq!(rt; told(alloc, text.as_str())?.as_str(), "A2 line 8");
+    Ok(())
+}

@@ -1,0 +1,338 @@
+//! Images whose bytes were written by hand from the table of the format, and one fault for each rule.
+
+use ifs_base::{CommandId, IfaceId, Items, LinkState, Op, RoutineId, StateId, Text};
+use ifs_image::{
+    Budgets, Handlers, Image, ImageFault, ImageParts, Routine, StateSpec, read, write,
+};
+use ifs_rows::{bytes_of, images, rows};
+use std::alloc::{AllocError, Global};
+use std::process::Abort;
+use std::test::Fail;
+
+/// In each row: at an offset of the smallest image so many bytes give way to others; the fault then.
+const FAULTS: &str = "
+3 1 58: I2 byte 0
+0 61 49465358: I2 byte 0
+0 61 58: I1 byte 0
+0 61 49465356: I1 byte 4
+4 1 02: I3 byte 4
+5 2 0021: I4 byte 5
+7 2 0021: I4 byte 7
+9 4 000493e1: I4 byte 9
+13 2 0041: I4 byte 13
+15 2 0041: I4 byte 15
+17 2 0041: I4 byte 17
+19 2 0401: I4 byte 19
+21 2 0101: I4 byte 21
+21 2 0000: I4 byte 21
+23 2 0401: I4 byte 23
+39 2 0000: I5 byte 39
+39 2 0401: I5 byte 39
+41 1 00: I5 byte 41
+41 1 ff: I5 byte 41
+54 1 02: I4 byte 54
+55 2 0401: I4 byte 55
+57 4 00000001: I8 byte 57
+57 4 13000000: I8 byte 57
+61 0 00: I7 byte 61
+15 24 00000001000000010001000000000000000000000000000000000000000178: I4 byte 39
+15 24 00000001000000010001000000000000000000000000000000093a81000178: I4 byte 39
+15 24 000200000000000100010000000000000000000000000000000161000161: I6 byte 44
+15 39 000000000000000200010000000000000000000000000000000161000000000000000000000000000161: I6 byte 56
+";
+
+/// An image of which so many bytes at an offset give way to others.
+fn changed(
+    alloc: Global,
+    image: &[u8],
+    at: usize,
+    removed: usize,
+    put: &[u8],
+) -> Result<Vec<u8>, Fail> {
+    let mut bytes = Vec::new(alloc);
+    let after = at.saturating_add(removed);
+    bytes.extend_from_slice(image.get(..at).ok_or("the bytes before")?)?;
+    bytes.extend_from_slice(put)?;
+    bytes.extend_from_slice(image.get(after..).ok_or("the bytes behind")?)?;
+    Ok(bytes)
+}
+
+/// Each front of an image is I1 at the field that is not there whole, and one byte more is I7.
+fn cut_off(rt: &impl Abort, alloc: Global, hex: &str) -> Result<(), Fail> {
+    let image = bytes_of(alloc, hex)?;
+    let mut start: usize = 0;
+    for field in hex.split_whitespace() {
+        let end = start.saturating_add(field.len() / 2);
+        for n in start..end {
+            let front = image.get(..n).ok_or("a front")?;
+            assert_eq!(rt;
+                read(alloc, front).err(),
+                Some(ImageFault::Truncated { at: start })
+            );
+        }
+        start = end;
+    }
+    assert_eq!(rt; start, image.len());
+    let more = changed(alloc, &image, start, 0, b"\x00")?;
+    assert_eq!(rt;
+        read(alloc, &more).err(),
+        Some(ImageFault::Trailing { at: start })
+    );
+    Ok(())
+}
+
+#[test]
+fn every_byte_cut_off(rt: HostRuntime) -> Result<(), Fail> {
+    cut_off(&rt, rt.alloc(), images::SMALLEST_IMAGE)?;
+    cut_off(&rt, rt.alloc(), images::FIRST_RUN)?;
+    cut_off(&rt, rt.alloc(), images::FIRST_POLICY)
+}
+
+fn check_fault(rt: &impl Abort, alloc: Global, row: &str) -> Result<(), Fail> {
+    let (change, expected) = row.split_once(": ").ok_or("a change and a fault")?;
+    let mut words = change.split(' ');
+    let at = words.next().ok_or("an offset")?.parse::<usize>()?;
+    let removed = words.next().ok_or("a number of bytes")?.parse::<usize>()?;
+    let put = bytes_of(alloc, words.next().ok_or("bytes")?)?;
+    let bytes = changed(
+        alloc,
+        &bytes_of(alloc, images::SMALLEST_IMAGE)?,
+        at,
+        removed,
+        &put,
+    )?;
+    let fault = read(alloc, &bytes).err().ok_or("a fault")?;
+    let told = format!(in alloc; "{fault}")?;
+    assert_eq!(rt; told.as_str(), expected, "{row}");
+    Ok(())
+}
+
+#[test]
+fn first_faults(rt: HostRuntime) -> Result<(), Fail> {
+    for row in FAULTS.lines() {
+        if !row.is_empty() {
+            check_fault(&rt, rt.alloc(), row)?;
+        }
+    }
+    Ok(())
+}
+
+#[test]
+fn instructions_in_all(rt: HostRuntime) -> Result<(), Fail> {
+    let mut bytes = changed(
+        rt.alloc(),
+        &bytes_of(rt.alloc(), images::SMALLEST_IMAGE)?,
+        24,
+        1,
+        b"\x09",
+    )?;
+    bytes.truncate(54);
+    for _ in 0..8 {
+        bytes.extend_from_slice(b"\x00\x04\x00")?;
+        for _ in 0..1024 {
+            bytes.extend_from_slice(&[0; 4])?;
+        }
+    }
+    bytes.extend_from_slice(b"\x00\x00\x00")?;
+    assert_eq!(rt; read(rt.alloc(), &bytes).err(), None);
+    bytes.truncate(32_847);
+    bytes.extend_from_slice(b"\x00\x01\x00\x00\x00\x00")?;
+    assert_eq!(rt;
+        read(rt.alloc(), &bytes).err(),
+        Some(ImageFault::OutOfLimit { at: 32_847 })
+    );
+    Ok(())
+}
+
+#[test]
+fn tests_and_commands_may_repeat(rt: HostRuntime) -> Result<(), Fail> {
+    let put = bytes_of(
+        rt.alloc(),
+        "0000 0002 0002 0001 0001 0000 0000 0000 0000000000000000
+         00093a80 0001 78 00093a80 0001 78 0001 79 0001 79",
+    )?;
+    let bytes = changed(
+        rt.alloc(),
+        &bytes_of(rt.alloc(), images::SMALLEST_IMAGE)?,
+        15,
+        24,
+        &put,
+    )?;
+    let image = written_again(&rt, rt.alloc(), &bytes)?;
+    check_repeated(&rt, &image);
+    Ok(())
+}
+
+/// Two tests of the longest period and two commands, of one text each.
+fn check_repeated(rt: &impl Abort, image: &Image) {
+    for test in image.parts().tests.as_slice() {
+        assert_eq!(rt; test.period, 604_800);
+        assert_eq!(rt; test.text.as_str(), "x");
+    }
+    for text in image.parts().commands.as_slice() {
+        assert_eq!(rt; text.as_str(), "y");
+    }
+    assert_eq!(rt; image.parts().tests.len(), 2);
+    assert_eq!(rt; image.parts().commands.len(), 2);
+}
+
+/// The body of the first run.
+const RUN: [Op; 5] = [
+    Op::Link(IfaceId(0), LinkState::Up),
+    Op::Pop,
+    Op::PushCommand(CommandId(0)),
+    Op::Queue,
+    Op::Ret,
+];
+
+/// The body of the first policy.
+const POLICY: [Op; 5] = [
+    Op::Link(IfaceId(0), LinkState::Up),
+    Op::JumpFalse(4),
+    Op::PushCommand(CommandId(0)),
+    Op::Queue,
+    Op::Ret,
+];
+
+/// What bytes are read to is written as those bytes again.
+fn written_again(rt: &impl Abort, alloc: Global, bytes: &[u8]) -> Result<Image, Fail> {
+    let image = read(alloc, bytes)?;
+    let written = write(alloc, &image)?;
+    assert_eq!(rt; written.as_slice(), bytes);
+    Ok(image)
+}
+
+/// The same of an image in hexadecimal.
+fn read_and_written(rt: &impl Abort, alloc: Global, hex: &str) -> Result<Image, Fail> {
+    let bytes = bytes_of(alloc, hex)?;
+    written_again(rt, alloc, bytes.as_slice())
+}
+
+#[test]
+fn every_row_again(rt: HostRuntime) -> Result<(), Fail> {
+    for row in rows() {
+        let _image = read_and_written(&rt, rt.alloc(), row.image)?;
+    }
+    Ok(())
+}
+
+#[test]
+fn first_run(rt: HostRuntime) -> Result<(), Fail> {
+    let image = read_and_written(&rt, rt.alloc(), images::FIRST_RUN)?;
+    check_first(&rt, &image, 2, 0, 1, &RUN)
+}
+
+#[test]
+fn first_policy(rt: HostRuntime) -> Result<(), Fail> {
+    let image = read_and_written(&rt, rt.alloc(), images::FIRST_POLICY)?;
+    check_first(&rt, &image, 4, 2, 3, &POLICY)
+}
+
+/// An image of one interface `carp0`, one command `echo m` and one state `a`, all of whose routines
+/// but the last are `ret`.
+fn check_first(
+    rt: &impl Abort,
+    image: &Image,
+    routines: usize,
+    init: u16,
+    body: u16,
+    last: &[Op],
+) -> Result<(), Fail> {
+    check_front(rt, image.parts());
+    check_state(rt, image.parts(), init, body);
+    check_code(rt, image.parts(), routines, usize::from(body), last);
+    Ok(())
+}
+
+fn check_front(rt: &impl Abort, parts: &ImageParts) {
+    let budgets = Budgets {
+        stack: 1,
+        frames: 1,
+        cost: 7,
+        commands: 1,
+    };
+    assert_eq!(rt; parts.budgets, budgets);
+    assert_eq!(rt; parts.interfaces.len(), 1);
+    for name in parts.interfaces.as_slice() {
+        assert_eq!(rt; name.as_str(), "carp0");
+    }
+    assert!(rt; parts.tests.is_empty());
+    assert_eq!(rt; parts.commands.len(), 1);
+    for text in parts.commands.as_slice() {
+        assert_eq!(rt; text.as_str(), "echo m");
+    }
+}
+
+fn check_state(rt: &impl Abort, parts: &ImageParts, init: u16, body: u16) {
+    assert_eq!(rt; parts.states.len(), 1);
+    for state in parts.states.as_slice() {
+        assert_eq!(rt; state.name.as_str(), "a");
+        assert_eq!(rt; state.handlers.init, RoutineId(init));
+        assert_eq!(rt; state.handlers.body, RoutineId(body));
+    }
+}
+
+/// So many routines, each of them `ret` but for one.
+fn check_code(rt: &impl Abort, parts: &ImageParts, routines: usize, body: usize, last: &[Op]) {
+    assert_eq!(rt; parts.routines.len(), routines);
+    for (i, routine) in parts.routines.as_slice().iter().enumerate() {
+        let code = routine.code.as_slice();
+        if i == body {
+            assert_eq!(rt; code, last);
+        } else {
+            assert_eq!(rt; code, [Op::Ret].as_slice());
+        }
+    }
+}
+
+/// The parts of the smallest image, with a stated stack.
+fn smallest_parts(alloc: Global, stack: u16) -> Result<ImageParts, AllocError> {
+    let handlers = Handlers {
+        init: RoutineId(0),
+        body: RoutineId(0),
+        mask: 0,
+    };
+    let mut states = Vec::new(alloc);
+    let name = Text::new(String::from_str(alloc, "a")?);
+    states.push(StateSpec { name, handlers })?;
+    let mut routines = Vec::new(alloc);
+    let code = Items::new([Op::Ret].to_vec(alloc)?);
+    routines.push(Routine { results: 0, code })?;
+    Ok(ImageParts {
+        budgets: Budgets {
+            stack,
+            frames: 1,
+            cost: 3,
+            commands: 0,
+        },
+        initial: StateId(0),
+        always: handlers,
+        interfaces: Items::new(Vec::new(alloc)),
+        tests: Items::new(Vec::new(alloc)),
+        commands: Items::new(Vec::new(alloc)),
+        states: Items::new(states),
+        routines: Items::new(routines),
+    })
+}
+
+/// The bytes of the parts of the smallest image.
+fn made(rt: &impl Abort, alloc: Global) -> Result<Vec<u8>, Fail> {
+    let parts = smallest_parts(alloc, 0)?;
+    assert!(rt; parts.fits());
+    Ok(write(alloc, &Image::new(parts))?)
+}
+
+#[test]
+fn smallest_image(rt: HostRuntime) -> Result<(), Fail> {
+    let made = made(&rt, rt.alloc())?;
+    let bytes = bytes_of(rt.alloc(), images::SMALLEST_IMAGE)?;
+    assert_eq!(rt; made.as_slice(), bytes.as_slice());
+    Ok(())
+}
+
+#[test]
+fn a_stack_over_the_limit(rt: HostRuntime) -> Result<(), Fail> {
+    let parts = smallest_parts(rt.alloc(), 33)?;
+    assert!(rt; !parts.fits());
+    Ok(())
+}

@@ -1,0 +1,191 @@
+//! The table of instructions, its bytes written by hand, and bytes that spell none.
+
+use ifs_base::{
+    CommandId, IfaceId, Items, LinkState, Number, Op, QuotedByte, RoutineId, StateId, TestId, Text,
+    decode_op, digit_value, encode_op, hex_digit, limits, parse_number, quote_byte,
+};
+
+/// Every instruction once, with its four bytes.
+const TABLE: [(Op, [u8; 4]); 21] = [
+    (Op::Ret, [0x00, 0x00, 0x00, 0x00]),
+    (Op::Yes, [0x01, 0x00, 0x00, 0x00]),
+    (Op::No, [0x02, 0x00, 0x00, 0x00]),
+    (
+        Op::Link(IfaceId(0), LinkState::Unknown),
+        [0x03, 0x00, 0x00, 0x00],
+    ),
+    (
+        Op::Link(IfaceId(1), LinkState::Down),
+        [0x03, 0x01, 0x00, 0x01],
+    ),
+    (
+        Op::Link(IfaceId(63), LinkState::Up),
+        [0x03, 0x02, 0x00, 0x3f],
+    ),
+    (Op::Test(TestId(2)), [0x04, 0x00, 0x00, 0x02]),
+    (Op::Known(TestId(63)), [0x05, 0x00, 0x00, 0x3f]),
+    (Op::Negate, [0x06, 0x00, 0x00, 0x00]),
+    (Op::Both, [0x07, 0x00, 0x00, 0x00]),
+    (Op::Either, [0x08, 0x00, 0x00, 0x00]),
+    (Op::PushCommand(CommandId(1023)), [0x09, 0x00, 0x03, 0xff]),
+    (Op::PushState(StateId(256)), [0x0a, 0x00, 0x01, 0x00]),
+    (Op::Queue, [0x0b, 0x00, 0x00, 0x00]),
+    (Op::Want, [0x0c, 0x00, 0x00, 0x00]),
+    (Op::Jump(1), [0x0d, 0x00, 0x00, 0x01]),
+    (Op::JumpFalse(0x1234), [0x0e, 0x00, 0x12, 0x34]),
+    (Op::JumpTrue(0xff00), [0x0f, 0x00, 0xff, 0x00]),
+    (Op::Call(RoutineId(65535)), [0x10, 0x00, 0xff, 0xff]),
+    (Op::Pop, [0x11, 0x00, 0x00, 0x00]),
+    (Op::Dup, [0x12, 0x00, 0x00, 0x00]),
+];
+
+/// The codes of instructions without operand and without link state.
+const PLAIN_CODES: [u8; 10] = [0x00, 0x01, 0x02, 0x06, 0x07, 0x08, 0x0b, 0x0c, 0x11, 0x12];
+
+/// The codes of instructions with an operand and without link state.
+const INDEXED_CODES: [u8; 8] = [0x04, 0x05, 0x09, 0x0a, 0x0d, 0x0e, 0x0f, 0x10];
+
+#[test]
+fn every_instruction(rt: HostRuntime) {
+    for (op, bytes) in TABLE {
+        assert_eq!(rt; encode_op(op), bytes, "{op:?}");
+        assert_eq!(rt; decode_op(bytes), Some(op), "{op:?}");
+    }
+}
+
+#[test]
+fn unknown_codes(rt: HostRuntime) {
+    for code in 0x13..=0xff {
+        assert_eq!(rt; decode_op([code, 0, 0, 0]), None, "code {code}");
+    }
+}
+
+#[test]
+fn byte_one_where_there_is_none(rt: HostRuntime) {
+    for code in PLAIN_CODES {
+        assert_eq!(rt; decode_op([code, 1, 0, 0]), None, "code {code}");
+        assert_eq!(rt; decode_op([code, 255, 0, 0]), None, "code {code}");
+    }
+    for code in INDEXED_CODES {
+        assert_eq!(rt; decode_op([code, 1, 0, 0]), None, "code {code}");
+        assert_eq!(rt; decode_op([code, 2, 1, 1]), None, "code {code}");
+    }
+}
+
+#[test]
+fn operand_where_there_is_none(rt: HostRuntime) {
+    for code in PLAIN_CODES {
+        assert_eq!(rt; decode_op([code, 0, 0, 1]), None, "code {code}");
+        assert_eq!(rt; decode_op([code, 0, 1, 0]), None, "code {code}");
+    }
+}
+
+#[test]
+fn link_states_over_two(rt: HostRuntime) {
+    for state in 3..=255 {
+        assert_eq!(rt; decode_op([0x03, state, 0, 0]), None, "state {state}");
+    }
+}
+
+#[test]
+fn items_and_text_give_back_what_they_hold(rt: HostRuntime) -> Result<(), std::test::Fail> {
+    let items = Items::new([3u8, 5].to_vec(rt.alloc())?);
+    assert_eq!(rt; items.len(), 2);
+    assert!(rt; !items.is_empty());
+    assert_eq!(rt; items.as_slice(), [3u8, 5].as_slice());
+    assert_eq!(rt; items.into_vec().as_slice(), [3u8, 5].as_slice());
+    let text = Text::new(String::from_str(rt.alloc(), "carp0")?);
+    assert_eq!(rt; text.as_str(), "carp0");
+    assert_eq!(rt; text.as_bytes(), b"carp0".as_slice());
+    Ok(())
+}
+
+#[test]
+fn texts_are_equal_where_their_bytes_are(rt: HostRuntime) -> Result<(), std::test::Fail> {
+    let text = Text::new(String::from_str(rt.alloc(), "carp0")?);
+    assert_eq!(rt; text.clone()?, text);
+    for other in ["carp1", "carp", "carp00", "Carp0", ""] {
+        let other = Text::new(String::from_str(rt.alloc(), other)?);
+        assert!(rt; other != text);
+    }
+    Ok(())
+}
+
+#[test]
+fn sizes_of_texts(rt: HostRuntime) -> Result<(), std::test::Fail> {
+    for (length, byte, wanted) in [
+        (0, b'a', false),
+        (1, b'a', true),
+        (1, 0, false),
+        (1_024, b'a', true),
+        (1_025, b'a', false),
+    ] {
+        let mut bytes: Vec<u8> = Vec::new(rt.alloc());
+        for _byte in 0..length {
+            bytes.push(byte)?;
+        }
+        let fits = limits::text_fits(bytes.as_slice());
+        assert_eq!(rt; fits, wanted, "{length} of {byte}");
+    }
+    assert!(rt; !limits::text_fits(b"a\x00".as_slice()));
+    Ok(())
+}
+
+#[test]
+fn periods(rt: HostRuntime) {
+    for (seconds, wanted) in [(0, false), (1, true), (604_800, true), (604_801, false)] {
+        assert_eq!(rt; limits::period_fits(seconds), wanted, "{seconds}");
+    }
+}
+
+#[test]
+fn bytes_of_quoted_texts(rt: HostRuntime) {
+    for (byte, wanted) in [
+        (b'"', QuotedByte::Escaped(b'"')),
+        (b'\\', QuotedByte::Escaped(b'\\')),
+        (0x00, QuotedByte::Hexadecimal(b'0', b'0')),
+        (0x0a, QuotedByte::Hexadecimal(b'0', b'a')),
+        (0x1f, QuotedByte::Hexadecimal(b'1', b'f')),
+        (0x7f, QuotedByte::Hexadecimal(b'7', b'f')),
+        (b' ', QuotedByte::Plain(b' ')),
+        (b'~', QuotedByte::Plain(b'~')),
+        (0x80, QuotedByte::Plain(0x80)),
+        (0xff, QuotedByte::Plain(0xff)),
+    ] {
+        assert_eq!(rt; quote_byte(byte), wanted, "{byte}");
+    }
+}
+
+#[test]
+fn hexadecimal_digits(rt: HostRuntime) {
+    for (value, digit) in [(0, b'0'), (9, b'9'), (10, b'a'), (15, b'f')] {
+        assert_eq!(rt; hex_digit(value), digit, "{value}");
+        assert_eq!(rt; digit_value(digit), Some(value), "{digit}");
+    }
+    for byte in [b'/', b':', b'`', b'g', b'A', b'F', 0x00, 0xff] {
+        assert_eq!(rt; digit_value(byte), None, "{byte}");
+    }
+}
+
+#[test]
+fn decimal_numbers(rt: HostRuntime) {
+    for (text, wanted) in [
+        ("", None),
+        ("0", Some(Number::Within(0))),
+        ("007", Some(Number::Within(7))),
+        ("1024", Some(Number::Within(1_024))),
+        (
+            "18446744073709551615",
+            Some(Number::Within(18_446_744_073_709_551_615)),
+        ),
+        ("18446744073709551616", Some(Number::TooGreat)),
+        ("99999999999999999999999", Some(Number::TooGreat)),
+        ("99999999999999999999999x", None),
+        ("1 2", None),
+        ("+1", None),
+        ("-1", None),
+        ("0x1", None),
+    ] {
+        assert_eq!(rt; parse_number(text.as_bytes()), wanted, "{text}");
+    }
+}

@@ -1,0 +1,35 @@
+//! Images written by hand, what the verifier says of them, and where.
+
+use ifs_verify::verify;
+use std::alloc::Global;
+use std::process::Abort;
+use std::test::Fail;
+
+mod accepted;
+mod draft;
+mod order;
+mod rows;
+mod texts;
+
+/// A name, an image as [`draft::image`] reads it, and what the verifier says of it: `ok`, or the text
+/// of the fault.
+type Row = (&'static str, &'static str, &'static str);
+
+/// What the verifier says of the bytes of an image.
+fn told(alloc: Global, bytes: &[u8]) -> Result<String, Fail> {
+    let said = match verify(alloc, bytes) {
+        Ok(_) => String::from_str(alloc, "ok")?,
+        Err(fault) => fault.to_string(alloc)?,
+    };
+    Ok(said)
+}
+
+/// Each row's image is told what the row says.
+fn agree(rt: &impl Abort, alloc: Global, rows: &[Row]) -> Result<(), Fail> {
+    for (name, image, wanted) in rows {
+        let bytes = draft::image(alloc, image)?;
+        let said = told(alloc, bytes.as_slice())?;
+        assert_eq!(rt; said.as_str(), *wanted, "{name}");
+    }
+    Ok(())
+}

@@ -1,0 +1,389 @@
+//! Policies of texts and their refusals, by the rules of names.
+
+use ifs_base::{CommandId, IfaceId, LinkState, StateId, TestId, Text};
+use ifs_lex::tokens;
+use ifs_parse::{Condition, Node, Statement, parse};
+use ifs_policy::{Counts, Policy, PolicyBlock, ResolveFault, Single, resolve};
+use ifs_rows::policies::{accepted, refused_names};
+use std::alloc::Global;
+use std::process::Abort;
+use std::test::Fail;
+
+/// The policy of a text that has a tree, or its refusal.
+fn resolved(
+    alloc: Global,
+    text: &str,
+    defs: &[(&str, &str)],
+) -> Result<Result<Policy, ResolveFault>, Fail> {
+    let tokens = tokens(alloc, text, defs)?;
+    let tree = parse(alloc, tokens.as_slice())?;
+    Ok(resolve(alloc, &tree))
+}
+
+/// The counts of a text that has a policy, or its refusal.
+fn counted(
+    alloc: Global,
+    text: &str,
+    defs: &[(&str, &str)],
+) -> Result<Result<Counts, ResolveFault>, Fail> {
+    match resolved(alloc, text, defs)? {
+        Ok(policy) => Ok(Ok(policy.counts())),
+        Err(fault) => Ok(Err(fault)),
+    }
+}
+
+/// The line that is printed last of a text: its counts, or its refusal.
+fn last_line(alloc: Global, text: &str, defs: &[(&str, &str)]) -> Result<String, Fail> {
+    Ok(match counted(alloc, text, defs)? {
+        Ok(counts) => format!(in alloc;
+            "ok {} interfaces {} tests {} commands {} states\n",
+            counts.interfaces, counts.tests, counts.commands, counts.states
+        )?,
+        Err(fault) => format!(in alloc; "refused {fault}\n")?,
+    })
+}
+
+#[test]
+fn counts_of_policies(rt: HostRuntime) -> Result<(), Fail> {
+    let alloc = rt.alloc();
+    for row in accepted() {
+        let line = last_line(alloc, row.policy, row.definitions)?;
+        assert!(rt; row.answer.ends_with(line.as_str()), "{}", row.name);
+    }
+    Ok(())
+}
+
+#[test]
+fn refusals(rt: HostRuntime) -> Result<(), Fail> {
+    let alloc = rt.alloc();
+    for row in refused_names() {
+        let line = last_line(alloc, row.policy, row.definitions)?;
+        assert_eq!(rt; line.as_str(), row.answer, "{}", row.name);
+    }
+    Ok(())
+}
+
+/// The policy that a text is expected to have.
+fn policy_in<'a>(rt: &impl Abort, found: &'a Result<Policy, ResolveFault>) -> &'a Policy {
+    match found {
+        Ok(policy) => policy,
+        Err(fault) => panic!(rt; "refused {fault}"),
+    }
+}
+
+fn shown(text: Option<&Text>) -> &str {
+    match text {
+        Some(text) => text.as_str(),
+        None => "none",
+    }
+}
+
+fn check_test(rt: &impl Abort, policy: &Policy, index: u16, command: &str, period: u32) {
+    match policy.test(TestId(index)) {
+        Some(test) => {
+            assert_eq!(rt; test.command.as_str(), command);
+            assert_eq!(rt; test.period.seconds(), period);
+        }
+        None => assert!(rt; false, "test {index}"),
+    }
+}
+
+fn check_numbers(rt: &impl Abort, policy: &Policy) {
+    for (index, name) in [(0, "em1"), (1, "em0"), (2, "em2"), (3, "none")] {
+        assert_eq!(rt;
+            shown(policy.interface(IfaceId(index))),
+            name,
+            "interface {index}"
+        );
+    }
+    for (index, text) in [(0, "y"), (1, "x"), (2, "z"), (3, "none")] {
+        assert_eq!(rt;
+            shown(policy.command(CommandId(index))),
+            text,
+            "command {index}"
+        );
+    }
+    for (index, name) in [(0, "b"), (1, "a"), (2, "c"), (3, "none")] {
+        assert_eq!(rt; shown(policy.state(StateId(index))), name, "state {index}");
+    }
+    check_test(rt, policy, 0, "t", 7);
+    check_test(rt, policy, 1, "u", 7);
+    check_test(rt, policy, 2, "t", 8);
+    assert!(rt; policy.test(TestId(3)).is_none());
+    assert_eq!(rt; policy.initial(), StateId(0));
+}
+
+#[test]
+fn numbers_by_first_use(rt: HostRuntime) -> Result<(), Fail> {
+    let text =
+        "state b { if em1.link.up && em0.link.down || em1.link.unknown run \"y\" set-state c }\n\
+         if \"t\" every 007 && \"u\" every 7 && \"t\" every 8 || \"t\" every 7 run \"x\"\n\
+         state a { run \"y\" if em2.link.up run \"z\" set-state b }\n\
+         state c { }";
+    let found = resolved(rt.alloc(), text, &[])?;
+    check_numbers(&rt, policy_in(&rt, &found));
+    Ok(())
+}
+
+/// Row *outside definitions*: a definition beside the text comes before the text's own.
+fn check_outside(rt: &impl Abort, alloc: Global, defs: &[(&str, &str)]) -> Result<(), Fail> {
+    let text = "x = \"em0\" state a { if $x.link.up run \"r\" }";
+    let found = resolved(alloc, text, defs)?;
+    let policy = policy_in(rt, &found);
+    assert_eq!(rt; shown(policy.interface(IfaceId(0))), "em1");
+    assert_eq!(rt; policy.counts().interfaces, 1);
+    Ok(())
+}
+
+#[test]
+fn outside_definitions(rt: HostRuntime) -> Result<(), Fail> {
+    check_outside(&rt, rt.alloc(), &[("x", "em1")])?;
+    check_outside(&rt, rt.alloc(), &[("x", "em1"), ("x", "em2")])?;
+    Ok(())
+}
+
+#[test]
+fn a_command_over_two_lines(rt: HostRuntime) -> Result<(), Fail> {
+    let text = "state a { # note \\\nif em0.link.up run \"x\"\ninit run \"echo a\nb\" }";
+    let found = resolved(rt.alloc(), text, &[])?;
+    let policy = policy_in(&rt, &found);
+    assert_eq!(rt; shown(policy.command(CommandId(0))), "echo ab");
+    Ok(())
+}
+
+fn runs(rt: &impl Abort, block: &PolicyBlock, wanted: &[u16], place: &str) {
+    let statements = block.statements();
+    assert_eq!(rt; statements.len(), wanted.len(), "{place}");
+    for (statement, command) in statements.iter().zip(wanted) {
+        match statement {
+            Statement::Run(found) => assert_eq!(rt; found.0, *command, "{place}"),
+            Statement::SetState(_) => assert!(rt; false, "a wish in {place}"),
+            Statement::If(..) => assert!(rt; false, "a condition in {place}"),
+        }
+    }
+}
+
+fn check_parts(rt: &impl Abort, policy: &Policy) {
+    runs(rt, &policy.always().init, &[5], "always init");
+    runs(rt, &policy.always().body, &[0, 6], "always body");
+    assert_eq!(rt; policy.initial(), StateId(1));
+    for (state, init, body) in [
+        (0, [2, 3].as_slice(), [1, 4].as_slice()),
+        (1, [].as_slice(), [].as_slice()),
+    ] {
+        match policy.handlers(StateId(state)) {
+            Some(handlers) => {
+                runs(rt, &handlers.init, init, "init of a state");
+                runs(rt, &handlers.body, body, "body of a state");
+            }
+            None => assert!(rt; false, "state {state}"),
+        }
+    }
+    assert!(rt; policy.handlers(StateId(2)).is_none());
+}
+
+#[test]
+fn parts_in_text_order(rt: HostRuntime) -> Result<(), Fail> {
+    let text = "run \"0\" state a { run \"1\" init { run \"2\" run \"3\" } run \"4\" }\n\
+         init run \"5\" state b { } run \"6\" init-state b";
+    let found = resolved(rt.alloc(), text, &[])?;
+    check_parts(&rt, policy_in(&rt, &found));
+    Ok(())
+}
+
+/// A condition as a test's row writes it.
+fn write_condition(
+    alloc: Global,
+    condition: &Condition<Single>,
+    line: &mut String,
+) -> Result<(), Fail> {
+    match condition.node() {
+        Node::Leaf(single) => {
+            let leaf = match single {
+                Single::LinkIs(interface, LinkState::Up) => format!(in alloc;
+                    "up {}",
+                    interface.0
+                )?,
+                Single::LinkIs(interface, LinkState::Down) => format!(in alloc;
+                    "down {}",
+                    interface.0
+                )?,
+                Single::LinkIs(interface, LinkState::Unknown) => {
+                    format!(in alloc; "unknown {}", interface.0)?
+                }
+                Single::TestIs(test) => format!(in alloc; "test {}", test.0)?,
+            };
+            line.push_str(leaf.as_str())?;
+        }
+        Node::Not(operand) => {
+            line.push_str("not ")?;
+            write_condition(alloc, operand, line)?;
+        }
+        Node::All(first, second, rest) => {
+            line.push_str("all(")?;
+            write_condition(alloc, first, line)?;
+            line.push_str(", ")?;
+            write_condition(alloc, second, line)?;
+            for operand in rest {
+                line.push_str(", ")?;
+                write_condition(alloc, operand, line)?;
+            }
+            line.push_str(")")?;
+        }
+        Node::Any(first, second, rest) => {
+            line.push_str("any(")?;
+            write_condition(alloc, first, line)?;
+            line.push_str(", ")?;
+            write_condition(alloc, second, line)?;
+            for operand in rest {
+                line.push_str(", ")?;
+                write_condition(alloc, operand, line)?;
+            }
+            line.push_str(")")?;
+        }
+    }
+    Ok(())
+}
+
+fn check_conditions(rt: &impl Abort, alloc: Global, policy: &Policy) -> Result<(), Fail> {
+    match policy.always().body.statements() {
+        [Statement::If(condition, block)] => {
+            let mut line = String::new(alloc);
+            write_condition(alloc, condition, &mut line)?;
+            assert_eq!(rt;
+                line.as_str(),
+                "all(up 0, not down 1, any(test 0, unknown 0))"
+            );
+            match block.statements() {
+                [Statement::SetState(state), Statement::Run(command)] => {
+                    assert_eq!(rt; *state, StateId(1));
+                    assert_eq!(rt; *command, CommandId(0));
+                }
+                _ => panic!(rt; "another block"),
+            }
+        }
+        _ => panic!(rt; "another body"),
+    }
+    Ok(())
+}
+
+#[test]
+fn conditions_by_places(rt: HostRuntime) -> Result<(), Fail> {
+    let text =
+        "if b.link.up && ! a.link.down && ( \"t\" every 5 || b.link.unknown ) { set-state y run \"r\" }\n\
+         state x { } state y { }";
+    let found = resolved(rt.alloc(), text, &[])?;
+    check_conditions(&rt, rt.alloc(), policy_in(&rt, &found))?;
+    Ok(())
+}
+
+/// A text with so many parts, each a number between two pieces, and then another piece.
+fn repeated(
+    alloc: Global,
+    count: u32,
+    before: &str,
+    after: &str,
+    last: &str,
+) -> Result<String, Fail> {
+    let mut text = String::new(alloc);
+    for number in 0..count {
+        let part = format!(in alloc; "{before}{number}{after}")?;
+        text.push_str(part.as_str())?;
+    }
+    text.push_str(last)?;
+    Ok(text)
+}
+
+/// A table's limit, a text that fills it, in pieces, and the line of its counts.
+const FULL: [(&str, &str, u16, &str, &str); 4] = [
+    (
+        "if x",
+        ".link.up { }\n",
+        64,
+        "state a { }",
+        "ok 64 interfaces 0 tests 0 commands 1 states\n",
+    ),
+    (
+        "if \"t\" every 1",
+        " { }\n",
+        64,
+        "state a { }",
+        "ok 0 interfaces 64 tests 0 commands 1 states\n",
+    ),
+    (
+        "run c",
+        "\n",
+        1_024,
+        "state a { }",
+        "ok 0 interfaces 0 tests 1024 commands 1 states\n",
+    ),
+    (
+        "state s",
+        " { }\n",
+        256,
+        "",
+        "ok 0 interfaces 0 tests 0 commands 256 states\n",
+    ),
+];
+
+#[test]
+fn tables_are_filled(rt: HostRuntime) -> Result<(), Fail> {
+    let alloc = rt.alloc();
+    for (before, after, limit, last, counts) in FULL {
+        let limit = u32::from(limit);
+        let full = repeated(alloc, limit, before, after, last)?;
+        assert_eq!(rt;
+            last_line(alloc, full.as_str(), &[])?.as_str(),
+            counts,
+            "{before}"
+        );
+        let over = repeated(alloc, limit + 1, before, after, last)?;
+        let line = last_line(alloc, over.as_str(), &[])?;
+        let wanted = format!(in alloc; "refused P15 line {}\n", limit + 1)?;
+        assert_eq!(rt; line.as_str(), wanted.as_str(), "{before}");
+    }
+    Ok(())
+}
+
+/// What stands after a full table of 256 states, and the fault: of two at one string the lower number.
+const PAST_FULL: [(&str, &str); 4] = [
+    ("state s0 { }", "refused P10 line 257\n"),
+    ("state \"\" { }", "refused P15 line 257\n"),
+    ("state s { }", "refused P15 line 257\n"),
+    ("run s", "ok 0 interfaces 0 tests 1 commands 256 states\n"),
+];
+
+#[test]
+fn faults_past_a_full_table(rt: HostRuntime) -> Result<(), Fail> {
+    let alloc = rt.alloc();
+    for (last, wanted) in PAST_FULL {
+        let text = repeated(alloc, 256, "state s", " { }\n", last)?;
+        assert_eq!(rt;
+            last_line(alloc, text.as_str(), &[])?.as_str(),
+            wanted,
+            "{last}"
+        );
+    }
+    Ok(())
+}
+
+#[test]
+fn lengths_of_texts(rt: HostRuntime) -> Result<(), Fail> {
+    let alloc = rt.alloc();
+    for (length, wanted) in [
+        (1, "ok 0 interfaces 0 tests 1 commands 1 states\n"),
+        (1_024, "ok 0 interfaces 0 tests 1 commands 1 states\n"),
+        (1_025, "refused P16 line 1\n"),
+    ] {
+        let mut text = String::from_str(alloc, "state a { } run ")?;
+        for _byte in 0..length {
+            text.push_str("x")?;
+        }
+        assert_eq!(rt;
+            last_line(alloc, text.as_str(), &[])?.as_str(),
+            wanted,
+            "{length}"
+        );
+    }
+    Ok(())
+}

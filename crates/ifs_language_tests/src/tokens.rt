@@ -1,0 +1,496 @@
+//! Texts with their tokens and faults, by the rules of the language.
+
+use ifs_lex::{LexFault, What, tokens};
+use ifs_rows::policies::{accepted, refused_names, refused_texts, refused_tokens};
+use std::alloc::Global;
+use std::process::Abort;
+use std::test::Fail;
+
+/// A token as a test's row writes it: a word as it is, a quoted text in brackets.
+fn shown(alloc: Global, what: &What) -> Result<String, Fail> {
+    Ok(match what {
+        What::Word(text) => format!(in alloc; "{}", text.as_str())?,
+        What::Quoted(text) => format!(in alloc; "[{}]", text.as_str())?,
+        What::BraceOpen => format!(in alloc; "{{")?,
+        What::BraceClose => format!(in alloc; "}}")?,
+        What::ParenOpen => format!(in alloc; "(")?,
+        What::ParenClose => format!(in alloc; ")")?,
+        What::Dot => format!(in alloc; ".")?,
+        What::Equals => format!(in alloc; "=")?,
+        What::Bang => format!(in alloc; "!")?,
+        What::And => format!(in alloc; "&&")?,
+        What::Or => format!(in alloc; "||")?,
+        What::End => format!(in alloc; "end")?,
+    })
+}
+
+/// The tokens with a blank after each, or the fault.
+fn told(alloc: Global, text: &str, defs: &[(&str, &str)]) -> Result<String, Fail> {
+    let mut line = String::new(alloc);
+    match tokens(alloc, text, defs) {
+        Ok(all) => {
+            for token in &all {
+                line.push_str(shown(alloc, &token.what)?.as_str())?;
+                line.push_str(" ")?;
+            }
+        }
+        Err(fault) => line.push_str(format!(in alloc; "{fault}")?.as_str())?,
+    }
+    Ok(line)
+}
+
+/// The same with line, first byte and end of each token.
+fn placed(alloc: Global, text: &str, defs: &[(&str, &str)]) -> Result<String, Fail> {
+    let mut line = String::new(alloc);
+    for token in &tokens(alloc, text, defs)? {
+        let what = shown(alloc, &token.what)?;
+        let span = token.span;
+        let part = format!(in alloc;
+            "{} {}:{}-{}, ",
+            what.as_str(),
+            span.line,
+            span.start,
+            span.end
+        )?;
+        line.push_str(part.as_str())?;
+    }
+    Ok(line)
+}
+
+fn check_rows(rt: &impl Abort, alloc: Global, rows: &[(&str, &str, &str)]) -> Result<(), Fail> {
+    for (name, text, expected) in rows {
+        let line = told(alloc, text, &[])?;
+        assert_eq!(rt; line.as_str(), *expected, "{name}");
+    }
+    Ok(())
+}
+
+const SIGNS_AND_BLANKS: [(&str, &str, &str); 14] = [
+    ("empty", "", "end "),
+    ("braces", "{}", "{ } end "),
+    ("parentheses", "()", "( ) end "),
+    ("dot, equals, bang", ".=!", ". = ! end "),
+    ("and, or", "&&||", "&& || end "),
+    ("one and", "a & b", "P1 line 1"),
+    ("one or", "a | b", "P1 line 1"),
+    ("dollar alone", "$", "P1 line 1"),
+    ("dollar and digit", "$1", "P1 line 1"),
+    ("minus first", "-x", "P1 line 1"),
+    ("backslash in a line", "a \\ b", "P1 line 1"),
+    ("character over ASCII", "a \u{e4}", "P1 line 1"),
+    ("each blank", " \t\r\na\\\nb", "a b end "),
+    ("form feed", "a\x0cb", "P1 line 1"),
+];
+
+const COMMENTS: [(&str, &str, &str); 9] = [
+    ("to the newline", "a # b\nc", "a c end "),
+    ("to the end", "a # b", "a end "),
+    ("without blank", "a#b\nc", "a c end "),
+    ("continued", "a # b \\\n c\nd", "a d end "),
+    ("continued twice", "a # b\\\nc\\\nd\ne", "a e end "),
+    ("two backslashes", "a # b\\\\\nc\nd", "a d end "),
+    ("backslash and carriage return", "a # b\\\r\nc", "a c end "),
+    ("backslash inside", "a # \\ b\nc", "a c end "),
+    ("quote inside", "a # \"\nc \u{e4}", "P1 line 2"),
+];
+
+const WORDS: [(&str, &str, &str); 8] = [
+    ("every character", "aZ09_/-:+@%*~ b", "aZ09_/-:+@%*~ b end "),
+    ("digit first", "0a", "0a end "),
+    ("underscore first", "_a", "_a end "),
+    ("slash first", "/bin/sh", "/bin/sh end "),
+    ("dot parts", "em0.link.up", "em0 . link . up end "),
+    ("equals parts", "1=b", "1 = b end "),
+    ("quote parts", "a\"b\"c", "a [b] c end "),
+    (
+        "reserved",
+        "state init-state init if run set-state every",
+        "state init-state init if run set-state every end ",
+    ),
+];
+
+const QUOTES: [(&str, &str, &str); 15] = [
+    ("double", "\"a b\"", "[a b] end "),
+    ("single", "'a b'", "[a b] end "),
+    ("empty", "\"\" ''", "[] [] end "),
+    (
+        "other quote",
+        "\"it's\" 'say \"x\"'",
+        "[it's] [say \"x\"] end ",
+    ),
+    ("escaped double", "\"a\\\"b\"", "[a\"b] end "),
+    ("escaped single", "'a\\'b'", "[a'b] end "),
+    ("escaped space and tab", "\"a\\ b\\\tc\"", "[a b\tc] end "),
+    ("other escape", "\"a\\nb\\'\"", "[a\\nb\\'] end "),
+    ("newline", "\"a\nb\"", "[ab] end "),
+    ("backslash and newline", "\"a\\\nb\"", "[ab] end "),
+    ("dollar and hash", "\"$x # y\"", "[$x # y] end "),
+    ("two backslashes", "\"a\\\\\"", "P2 line 1"),
+    ("two backslashes and more", "\"a\\\\b\"", "[a\\\\b] end "),
+    ("not closed", "a \"b", "P2 line 1"),
+    (
+        "over ASCII",
+        "\"\u{e4}\\ \u{20ac}\"",
+        "[\u{e4} \u{20ac}] end ",
+    ),
+];
+
+const DEFINITIONS: [(&str, &str, &str); 19] = [
+    ("taken out", "x = y", "end "),
+    ("used", "x = 'a b' $x c", "a b c end "),
+    ("word as value", "x = em0 $x.link", "em0 . link end "),
+    (
+        "quoted value of a quoted text",
+        "x = '\"a b\"' $x",
+        "[a b] end ",
+    ),
+    ("empty value", "x = '' a $x b", "a b end "),
+    ("comment in a value", "x = 'a # b' $x c", "a c end "),
+    (
+        "inside a block",
+        "state a { x = b run $x }",
+        "state a { run b } end ",
+    ),
+    ("redefined", "x = a $x x = b $x", "a b end "),
+    ("redefined with itself", "x = a x = '$x b' $x", "a b end "),
+    ("as known then", "x = a y = '$x $x' x = b $y", "a a end "),
+    ("one use as known then", "x = a y = '$x' x = b $y", "a end "),
+    ("used before", "$x x = a", "P3 line 1"),
+    ("longest name", "x = a $xy", "P3 line 1"),
+    ("name ends at a sign", "x = a $x-b", "P1 line 1"),
+    ("reserved name", "if = c", "if = c end "),
+    ("no macro name", "a-b = c", "a-b = c end "),
+    ("reserved value", "x = run", "x = run end "),
+    ("use as value", "y = b x = $y", "x = b end "),
+    ("sign as value", "x = {", "x = { end "),
+];
+
+const BAD_VALUES: [(&str, &str, &str); 8] = [
+    ("stray", "x = 'a & b'", "P4 line 1"),
+    ("not closed", "x = 'a \"b'", "P4 line 1"),
+    ("not known", "x = '$y'", "P4 line 1"),
+    ("itself", "x = '$x'", "P4 line 1"),
+    ("equals", "x = 'a = b'", "P4 line 1"),
+    ("after a newline", "\n\nx\n=\n'$y'", "P4 line 3"),
+    ("first of two", "x = '&' $y", "P4 line 1"),
+    ("unused", "x = '&'", "P4 line 1"),
+];
+
+const FAULT_LINES: [(&str, &str, &str); 9] = [
+    ("not known", "\n$n", "P3 line 2"),
+    ("after a quoted newline", "\"a\nb\" &", "P1 line 2"),
+    ("after a continued line", "a \\\n b &", "P1 line 2"),
+    ("after a continued comment", "# a \\\n b\n&", "P1 line 3"),
+    ("quote at its opening", "a\n\"b\nc\n", "P2 line 2"),
+    ("after a definition", "x = 'a'\n\n$x &", "P1 line 3"),
+    ("after a value of two lines", "x = 'a\nb' &", "P1 line 2"),
+    ("first from the left", "$n\n&", "P3 line 1"),
+    ("quote after equals", "x = \"open", "P2 line 1"),
+];
+
+#[test]
+fn signs_and_blanks(rt: HostRuntime) -> Result<(), Fail> {
+    check_rows(&rt, rt.alloc(), &SIGNS_AND_BLANKS)
+}
+
+#[test]
+fn comments(rt: HostRuntime) -> Result<(), Fail> {
+    check_rows(&rt, rt.alloc(), &COMMENTS)
+}
+
+#[test]
+fn words(rt: HostRuntime) -> Result<(), Fail> {
+    check_rows(&rt, rt.alloc(), &WORDS)
+}
+
+#[test]
+fn quotes(rt: HostRuntime) -> Result<(), Fail> {
+    check_rows(&rt, rt.alloc(), &QUOTES)
+}
+
+#[test]
+fn definitions(rt: HostRuntime) -> Result<(), Fail> {
+    check_rows(&rt, rt.alloc(), &DEFINITIONS)
+}
+
+#[test]
+fn bad_values(rt: HostRuntime) -> Result<(), Fail> {
+    check_rows(&rt, rt.alloc(), &BAD_VALUES)
+}
+
+#[test]
+fn lines_of_faults(rt: HostRuntime) -> Result<(), Fail> {
+    check_rows(&rt, rt.alloc(), &FAULT_LINES)
+}
+
+#[test]
+fn spans(rt: HostRuntime) -> Result<(), Fail> {
+    let rows = [
+        ("empty", "", "end 1:0-0, "),
+        (
+            "macro",
+            "x = \"em0\" if $x.link.up",
+            "if 1:10-12, em0 1:13-15, . 1:15-16, link 1:16-20, . 1:20-21, up 1:21-23, end 1:23-23, ",
+        ),
+        (
+            "two tokens at one use",
+            "x = 'a b'\n $x",
+            "a 2:11-13, b 2:11-13, end 2:13-13, ",
+        ),
+        ("end after a newline", "a\n", "a 1:0-1, end 2:2-2, "),
+        ("quoted", "'a\nb' c", "[ab] 1:0-5, c 2:6-7, end 2:7-7, "),
+    ];
+    for (name, text, expected) in rows {
+        let line = placed(rt.alloc(), text, &[])?;
+        assert_eq!(rt; line.as_str(), expected, "{name}");
+    }
+    Ok(())
+}
+
+fn check_given(
+    rt: &impl Abort,
+    alloc: Global,
+    name: &str,
+    text: &str,
+    defs: &[(&str, &str)],
+    expected: &str,
+) -> Result<(), Fail> {
+    let line = told(alloc, text, defs)?;
+    assert_eq!(rt; line.as_str(), expected, "{name}");
+    Ok(())
+}
+
+#[test]
+fn given_definitions(rt: HostRuntime) -> Result<(), Fail> {
+    let alloc = rt.alloc();
+    check_given(
+        &rt,
+        alloc,
+        "wins over the text",
+        "x = a $x",
+        &[("x", "b")],
+        "b end ",
+    )?;
+    check_given(
+        &rt,
+        alloc,
+        "the first holds",
+        "$x",
+        &[("x", "b"), ("x", "c")],
+        "b end ",
+    )?;
+    check_given(
+        &rt,
+        alloc,
+        "the second is unread",
+        "$x",
+        &[("x", "b"), ("x", "&")],
+        "b end ",
+    )?;
+    check_given(
+        &rt,
+        alloc,
+        "the text's is unread",
+        "x = '&' $x",
+        &[("x", "b")],
+        "b end ",
+    )?;
+    check_given(
+        &rt,
+        alloc,
+        "uses one before",
+        "$y",
+        &[("x", "b"), ("y", "$x c")],
+        "b c end ",
+    )?;
+    check_given(&rt, alloc, "reserved name", "$if", &[("if", "b")], "b end ")?;
+    check_given(
+        &rt,
+        alloc,
+        "equals in a value",
+        "a",
+        &[("x", "a = b")],
+        "P4 line 0",
+    )?;
+    check_given(
+        &rt,
+        alloc,
+        "no macro name",
+        "a",
+        &[("1x", "a")],
+        "P4 line 0",
+    )?;
+    check_given(&rt, alloc, "no name", "a", &[("", "a")], "P4 line 0")?;
+    check_given(
+        &rt,
+        alloc,
+        "before the text",
+        "&",
+        &[("x", "$y")],
+        "P4 line 0",
+    )
+}
+
+fn repeated(alloc: Global, part: &str, count: usize) -> Result<String, Fail> {
+    let mut text = String::new(alloc);
+    for _ in 0..count {
+        text.push_str(part)?;
+    }
+    Ok(text)
+}
+
+fn check_count(
+    rt: &impl Abort,
+    alloc: Global,
+    name: &str,
+    text: &str,
+    expected: Result<usize, LexFault>,
+) {
+    let count = tokens(alloc, text, &[]).map(|all| all.len());
+    assert_eq!(rt; count, expected, "{name}");
+}
+
+#[test]
+fn tokens_in_all(rt: HostRuntime) -> Result<(), Fail> {
+    let alloc = rt.alloc();
+    let full = repeated(alloc, "a ", 16_384)?;
+    check_count(&rt, alloc, "16,384 words", full.as_str(), Ok(16_385));
+    let over = format!(in alloc; "{}\nb", full.as_str())?;
+    check_count(
+        &rt,
+        alloc,
+        "16,385 words",
+        over.as_str(),
+        Err(LexFault::OverLimit { line: 2 }),
+    );
+    let quote = format!(in alloc; "{}\n\"b", full.as_str())?;
+    check_count(
+        &rt,
+        alloc,
+        "a lower number",
+        quote.as_str(),
+        Err(LexFault::Unclosed { line: 2 }),
+    );
+    let value = format!(in alloc; "x = '{}' $x", full.as_str())?;
+    check_count(&rt, alloc, "a value of 16,384", value.as_str(), Ok(16_385));
+    let long = format!(in alloc; "x = '{}b'", full.as_str())?;
+    check_count(
+        &rt,
+        alloc,
+        "a value of 16,385",
+        long.as_str(),
+        Err(LexFault::BadMacro { line: 1 }),
+    );
+    let twice = format!(in alloc; "x = '{}'\n$x\n$x", full.as_str())?;
+    check_count(
+        &rt,
+        alloc,
+        "at the use",
+        twice.as_str(),
+        Err(LexFault::OverLimit { line: 3 }),
+    );
+    let empty = format!(in alloc; "e = '' {} $e", full.as_str())?;
+    check_count(
+        &rt,
+        alloc,
+        "an empty macro more",
+        empty.as_str(),
+        Ok(16_385),
+    );
+    Ok(())
+}
+
+#[test]
+fn names_in_all(rt: HostRuntime) -> Result<(), Fail> {
+    let alloc = rt.alloc();
+    let mut text = String::new(alloc);
+    for n in 0..256 {
+        text.push_str(format!(in alloc; "n{n} = a\n")?.as_str())?;
+    }
+    check_count(&rt, alloc, "256 names", text.as_str(), Ok(1));
+    let again = format!(in alloc; "{}n7 = b $n7", text.as_str())?;
+    check_count(&rt, alloc, "a name again", again.as_str(), Ok(2));
+    let over = format!(in alloc; "{}m = a", text.as_str())?;
+    check_count(
+        &rt,
+        alloc,
+        "257 names",
+        over.as_str(),
+        Err(LexFault::OverLimit { line: 257 }),
+    );
+    let bad = format!(in alloc; "{}m = '&'", text.as_str())?;
+    check_count(
+        &rt,
+        alloc,
+        "a bad value first",
+        bad.as_str(),
+        Err(LexFault::BadMacro { line: 257 }),
+    );
+    let given = told(alloc, over.as_str(), &[("m", "b")])?;
+    assert_eq!(rt; given.as_str(), "P5 line 256");
+    Ok(())
+}
+
+#[test]
+fn bytes_in_all(rt: HostRuntime) -> Result<(), Fail> {
+    let alloc = rt.alloc();
+    let full = repeated(alloc, "\n", 1_048_576)?;
+    check_count(&rt, alloc, "1,048,576 bytes", full.as_str(), Ok(1));
+    let over = format!(in alloc; "&{}", full.as_str())?;
+    check_count(
+        &rt,
+        alloc,
+        "1,048,577 bytes",
+        over.as_str(),
+        Err(LexFault::OverLimit { line: 1 }),
+    );
+    let value = told(alloc, "a", &[("x", over.as_str())])?;
+    assert_eq!(rt; value.as_str(), "P4 line 0");
+    let before = told(alloc, over.as_str(), &[("x", "&")])?;
+    assert_eq!(rt; before.as_str(), "P4 line 0");
+    Ok(())
+}
+
+/// A value of many tokens stands in another a great many times, and is copied nowhere.
+#[test]
+fn values_are_not_copied(rt: HostRuntime) -> Result<(), Fail> {
+    let alloc = rt.alloc();
+    let value = repeated(alloc, "a ", 16_384)?;
+    let lines = repeated(alloc, "x = '$y'\n", 100_000)?;
+    let text = format!(in alloc; "y = '{}'\n{}$x", value.as_str(), lines.as_str())?;
+    check_count(&rt, alloc, "aliases", text.as_str(), Ok(16_385));
+    let longer = repeated(alloc, "x = '$x a'\n", 16_383)?;
+    let deep = format!(in alloc; "x = a\n{}$x", longer.as_str())?;
+    check_count(
+        &rt,
+        alloc,
+        "a value longer by one each time",
+        deep.as_str(),
+        Ok(16_385),
+    );
+    Ok(())
+}
+
+#[test]
+fn want_of_memory_has_no_line(rt: HostRuntime) -> Result<(), Fail> {
+    let text = format!(in rt.alloc(); "{}", LexFault::Memory)?;
+    assert_eq!(rt; text.as_str(), "P0");
+    Ok(())
+}
+
+/// Texts without tokens are refused with their line, and the others are not.
+#[test]
+fn policies(rt: HostRuntime) -> Result<(), Fail> {
+    for row in refused_texts() {
+        let line = told(rt.alloc(), row.policy, row.definitions)?;
+        let answer = format!(in rt.alloc(); "refused {}\n", line.as_str())?;
+        assert_eq!(rt; answer.as_str(), row.answer, "{}", row.name);
+    }
+    for rows in [accepted(), refused_tokens(), refused_names()] {
+        for row in rows {
+            let spelled = tokens(rt.alloc(), row.policy, row.definitions);
+            assert!(rt; spelled.is_ok(), "{}", row.name);
+        }
+    }
+    Ok(())
+}

@@ -1,0 +1,525 @@
+//! Texts with their trees, notes and faults, by the rules of the grammar.
+
+use ifs_base::LinkState;
+use ifs_lex::tokens;
+use ifs_parse::{
+    Action, Actions, Condition, Item, Name, Node, ParseFault, Part, Statement, Test, Tree, Wish,
+    parse,
+};
+use ifs_rows::Checked;
+use ifs_rows::policies::{accepted, refused_names, refused_tokens};
+use std::alloc::Global;
+use std::process::Abort;
+use std::test::Fail;
+
+/// A leaf as a test's row writes it: `a.up`, or a command and its period as `a/5`.
+fn show_test(alloc: Global, out: &mut String, test: &Test) -> Result<(), Fail> {
+    let shown = match test {
+        Test::Link(name, LinkState::Unknown) => format!(in alloc;
+            "{}.unknown",
+            name.text.as_str()
+        )?,
+        Test::Link(name, LinkState::Down) => format!(in alloc; "{}.down", name.text.as_str())?,
+        Test::Link(name, LinkState::Up) => format!(in alloc; "{}.up", name.text.as_str())?,
+        Test::External(name, period) => {
+            format!(in alloc; "{}/{}", name.text.as_str(), period.seconds())?
+        }
+    };
+    out.push_str(shown.as_str())?;
+    Ok(())
+}
+
+/// A condition with parentheses round each chain.
+fn show_condition(alloc: Global, out: &mut String, c: &Condition<Test>) -> Result<(), Fail> {
+    match c.node() {
+        Node::Leaf(test) => show_test(alloc, out, test),
+        Node::Not(inner) => {
+            out.push_str("!")?;
+            show_condition(alloc, out, inner)
+        }
+        Node::All(first, second, rest) => {
+            out.push_str("(")?;
+            show_condition(alloc, out, first)?;
+            out.push_str(" & ")?;
+            show_condition(alloc, out, second)?;
+            for next in rest {
+                out.push_str(" & ")?;
+                show_condition(alloc, out, next)?;
+            }
+            out.push_str(")")?;
+            Ok(())
+        }
+        Node::Any(first, second, rest) => {
+            out.push_str("(")?;
+            show_condition(alloc, out, first)?;
+            out.push_str(" | ")?;
+            show_condition(alloc, out, second)?;
+            for next in rest {
+                out.push_str(" | ")?;
+                show_condition(alloc, out, next)?;
+            }
+            out.push_str(")")?;
+            Ok(())
+        }
+    }
+}
+
+fn show_run(alloc: Global, out: &mut String, command: &Name) -> Result<(), Fail> {
+    let shown = format!(in alloc; "run {} ", command.text.as_str())?;
+    out.push_str(shown.as_str())?;
+    Ok(())
+}
+
+fn show_wish(alloc: Global, out: &mut String, wish: &Wish) -> Result<(), Fail> {
+    let (at, name) = (wish.span.start, wish.state.text.as_str());
+    let shown = format!(in alloc; "set {name} at {at} ")?;
+    out.push_str(shown.as_str())?;
+    Ok(())
+}
+
+fn show_block(alloc: Global, out: &mut String, block: &Actions) -> Result<(), Fail> {
+    for action in block.statements() {
+        match action {
+            Statement::Run(command) => show_run(alloc, out, command)?,
+            Statement::SetState(wish) => show_wish(alloc, out, wish)?,
+            Statement::If(condition, inner) => {
+                out.push_str("if ")?;
+                show_condition(alloc, out, condition)?;
+                out.push_str(" { ")?;
+                show_block(alloc, out, inner)?;
+                out.push_str("} ")?;
+            }
+        }
+    }
+    Ok(())
+}
+
+fn show_action(alloc: Global, out: &mut String, action: &Action) -> Result<(), Fail> {
+    match action {
+        Statement::Run(command) => show_run(alloc, out, command),
+        Statement::SetState(wish) => show_wish(alloc, out, wish),
+        Statement::If(condition, inner) => {
+            out.push_str("if ")?;
+            show_condition(alloc, out, condition)?;
+            out.push_str(" { ")?;
+            show_block(alloc, out, inner)?;
+            out.push_str("} ")?;
+            Ok(())
+        }
+    }
+}
+
+fn show_part(alloc: Global, out: &mut String, part: &Part) -> Result<(), Fail> {
+    match part {
+        Part::Init(span, block) => {
+            let shown = format!(in alloc; "init at {} {{ ", span.start)?;
+            out.push_str(shown.as_str())?;
+            show_block(alloc, out, block)?;
+            out.push_str("} ")?;
+            Ok(())
+        }
+        Part::Do(action) => show_action(alloc, out, action),
+    }
+}
+
+fn show_item(alloc: Global, out: &mut String, item: &Item) -> Result<(), Fail> {
+    match item {
+        Item::InitState(span, name) => {
+            let (at, name) = (span.start, name.text.as_str());
+            let shown = format!(in alloc; "init-state {name} at {at} ")?;
+            out.push_str(shown.as_str())?;
+            Ok(())
+        }
+        Item::State(name, parts) => {
+            let (at, name) = (name.span.start, name.text.as_str());
+            let shown = format!(in alloc; "state {name} at {at} {{ ")?;
+            out.push_str(shown.as_str())?;
+            for part in parts.as_slice() {
+                show_part(alloc, out, part)?;
+            }
+            out.push_str("} ")?;
+            Ok(())
+        }
+        Item::Always(part) => show_part(alloc, out, part),
+    }
+}
+
+/// The tree of a text that has tokens, or its refusal.
+fn parsed(
+    alloc: Global,
+    text: &str,
+    definitions: &[(&str, &str)],
+) -> Result<Result<Tree, ParseFault>, Fail> {
+    let tokens = tokens(alloc, text, definitions)?;
+    Ok(parse(alloc, tokens.as_slice()))
+}
+
+/// The items of a tree and then the lines of its notes.
+fn show_tree(alloc: Global, tree: &Tree) -> Result<String, Fail> {
+    let mut out = String::new(alloc);
+    for item in tree.items() {
+        show_item(alloc, &mut out, item)?;
+    }
+    for line in tree.notes() {
+        let shown = format!(in alloc; "note {line} ")?;
+        out.push_str(shown.as_str())?;
+    }
+    Ok(out)
+}
+
+/// What is told of a text: its tree, or the fault.
+fn told(alloc: Global, text: &str) -> Result<String, Fail> {
+    match parsed(alloc, text, &[])? {
+        Ok(tree) => show_tree(alloc, &tree),
+        Err(fault) => Ok(format!(in alloc; "{fault}")?),
+    }
+}
+
+fn check_rows(rt: &impl Abort, alloc: Global, rows: &[(&str, &str, &str)]) -> Result<(), Fail> {
+    for (name, text, expected) in rows {
+        let line = told(alloc, text)?;
+        assert_eq!(rt; line.as_str(), *expected, "{name}");
+    }
+    Ok(())
+}
+
+const BINDING: [(&str, &str, &str); 9] = [
+    (
+        "binding",
+        "state s { if a.link.up || b.link.up && c.link.up run \"echo y\" }",
+        "state s at 6 { if (a.up | (b.up & c.up)) { run echo y } } note 1 ",
+    ),
+    (
+        "binding with parentheses",
+        "state s { if ( a.link.up || b.link.up ) && c.link.up run \"echo y\" }",
+        "state s at 6 { if ((a.up | b.up) & c.up) { run echo y } } ",
+    ),
+    (
+        "chain in parentheses",
+        "if a.link.up || (b.link.up && c.link.up) run x",
+        "if (a.up | (b.up & c.up)) { run x } ",
+    ),
+    (
+        "chains of three",
+        "if a.link.up && b.link.down && c.link.unknown run x",
+        "if (a.up & b.down & c.unknown) { run x } ",
+    ),
+    (
+        "alternatives of four",
+        "if a.link.up || b.link.up || c.link.up || d.link.up run x",
+        "if (a.up | b.up | c.up | d.up) { run x } ",
+    ),
+    (
+        "bang binds one",
+        "if ! a.link.up && ! ! \"t\" every 007 run x",
+        "if (!a.up & !!t/7) { run x } ",
+    ),
+    (
+        "the first operand is a chain",
+        "if a.link.up && b.link.up || c.link.up run x",
+        "if ((a.up & b.up) | c.up) { run x } note 1 ",
+    ),
+    (
+        "notes in the order of their first sign",
+        "if a.link.up && ( b.link.up\n|| c.link.up && d.link.up )\n|| e.link.up || ( f.link.up\n|| g.link.up && h.link.up ) run x",
+        "if ((a.up & (b.up | (c.up & d.up))) | e.up | (f.up | (g.up & h.up))) { run x } note 2 note 3 note 4 ",
+    ),
+    (
+        "a note before one within",
+        "if a.link.up && b.link.up\n|| ( c.link.up\n|| d.link.up && e.link.up ) run x",
+        "if ((a.up & b.up) | (c.up | (d.up & e.up))) { run x } note 2 note 3 ",
+    ),
+];
+
+const PLACES: [(&str, &str, &str); 6] = [
+    ("empty", "", ""),
+    (
+        "every item",
+        "init-state a state a { init run x if b.link.up set-state a } init { } run y",
+        "init-state a at 0 state a at 19 { init at 23 { run x } if b.up { set a at 47 } } init at 61 { } run y ",
+    ),
+    (
+        "words read by place are names",
+        "state link { if up.link.up run down set-state unknown }",
+        "state link at 6 { if up.up { run down } set unknown at 36 } ",
+    ),
+    ("a quoted reserved word is a name", "run \"if\"", "run if "),
+    (
+        "a block of blocks",
+        "if a.link.up { if b.link.up if c.link.up { } run x }",
+        "if a.up { if b.up { if c.up { } } run x } ",
+    ),
+    (
+        "longest period",
+        "if t every 604800 run x if t every 1 run x",
+        "if t/604800 { run x } if t/1 { run x } ",
+    ),
+];
+
+/// Those that no row of a whole policy has.
+const REFUSED: [(&str, &str, &str); 8] = [
+    ("nothing to run", "run\nif", "P6 line 2"),
+    ("dangling and", "if a.link.up &&\nrun x", "P6 line 2"),
+    (
+        "dangling or",
+        "if a.link.up || b.link.up ||\nrun x",
+        "P6 line 2",
+    ),
+    ("dangling bang", "if !\nrun x", "P6 line 2"),
+    ("parenthesis too many", "if a.link.up\n) run x", "P6 line 2"),
+    (
+        "init-state in a state",
+        "state a {\ninit-state a }",
+        "P6 line 2",
+    ),
+    ("equals", "run x\n= y", "P6 line 2"),
+    ("a word alone", "run x\ny", "P6 line 2"),
+];
+
+#[test]
+fn conditions_bind_by_rule(rt: HostRuntime) -> Result<(), Fail> {
+    check_rows(&rt, rt.alloc(), &BINDING)
+}
+
+#[test]
+fn parts_stand_in_their_places(rt: HostRuntime) -> Result<(), Fail> {
+    check_rows(&rt, rt.alloc(), &PLACES)
+}
+
+#[test]
+fn refused_texts_name_the_first_fault(rt: HostRuntime) -> Result<(), Fail> {
+    check_rows(&rt, rt.alloc(), &REFUSED)
+}
+
+/// How what is printed of a tree begins: the lines of its notes.
+fn note_lines(alloc: Global, tree: &Tree) -> Result<String, Fail> {
+    let mut lines = String::new(alloc);
+    for note in tree.notes() {
+        let shown = format!(in alloc; "note line {note}: || and && without parentheses\n")?;
+        lines.push_str(shown.as_str())?;
+    }
+    lines.push_str("ok ")?;
+    Ok(lines)
+}
+
+/// How what is printed of a row's text begins.
+fn answer(alloc: Global, row: &Checked) -> Result<String, Fail> {
+    match parsed(alloc, row.policy, row.definitions)? {
+        Ok(tree) => note_lines(alloc, &tree),
+        Err(fault) => Ok(format!(in alloc; "refused {fault}\n")?),
+    }
+}
+
+fn check_answers(rt: &impl Abort, alloc: Global, rows: &[Checked]) -> Result<(), Fail> {
+    for row in rows {
+        let line = answer(alloc, row)?;
+        assert!(rt; row.answer.starts_with(line.as_str()), "{}", row.name);
+    }
+    Ok(())
+}
+
+#[test]
+fn rows_are_refused_with_their_lines(rt: HostRuntime) -> Result<(), Fail> {
+    check_answers(&rt, rt.alloc(), refused_tokens())
+}
+
+#[test]
+fn rows_have_trees_with_their_notes(rt: HostRuntime) -> Result<(), Fail> {
+    check_answers(&rt, rt.alloc(), accepted())
+}
+
+/// What names have at fault is not told of a tree.
+#[test]
+fn rows_of_names_have_trees(rt: HostRuntime) -> Result<(), Fail> {
+    for row in refused_names() {
+        let has_tree = parsed(rt.alloc(), row.policy, row.definitions)?.is_ok();
+        assert!(rt; has_tree, "{}", row.name);
+    }
+    Ok(())
+}
+
+fn repeat(out: &mut String, part: &str, times: u32) -> Result<(), Fail> {
+    for _time in 0..times {
+        out.push_str(part)?;
+    }
+    Ok(())
+}
+
+/// In which order `!` and `(` open.
+#[derive(Clone, Copy, Debug)]
+enum Order {
+    BangsFirst,
+    GroupsFirst,
+    /// One of each in turn, while there are both.
+    InTurn,
+    /// The same, a `(` before each `!`.
+    GroupsInTurn,
+}
+
+const ORDERS: [Order; 4] = [
+    Order::BangsFirst,
+    Order::GroupsFirst,
+    Order::InTurn,
+    Order::GroupsInTurn,
+];
+
+/// A `!` and a `(` in turn, and then those that one of them has more of.
+fn in_turn(out: &mut String, one: &str, other: &str, times: u32, others: u32) -> Result<(), Fail> {
+    for time in 0..times.max(others) {
+        if time < times {
+            out.push_str(one)?;
+        }
+        if time < others {
+            out.push_str(other)?;
+        }
+    }
+    Ok(())
+}
+
+/// So many `!` and `(` in an order, each on a line of its own.
+fn openings(alloc: Global, order: Order, bangs: u32, groups: u32) -> Result<String, Fail> {
+    let mut out = String::new(alloc);
+    match order {
+        Order::BangsFirst => {
+            repeat(&mut out, "\n!", bangs)?;
+            repeat(&mut out, "\n(", groups)?;
+        }
+        Order::GroupsFirst => {
+            repeat(&mut out, "\n(", groups)?;
+            repeat(&mut out, "\n!", bangs)?;
+        }
+        Order::InTurn => in_turn(&mut out, "\n!", "\n(", bangs, groups)?,
+        Order::GroupsInTurn => in_turn(&mut out, "\n(", "\n!", groups, bangs)?,
+    }
+    Ok(out)
+}
+
+/// How many are open at once: each `if` but the last, which has `!` and `(` in its condition.
+#[derive(Clone, Copy, Debug)]
+struct Mixture {
+    outer_ifs: u32,
+    bangs: u32,
+    groups: u32,
+}
+
+impl Mixture {
+    /// A text with these open, each on a line of its own.
+    fn text(&self, alloc: Global, order: Order) -> Result<String, Fail> {
+        let mut out = String::new(alloc);
+        repeat(&mut out, "if a.link.up\n", self.outer_ifs)?;
+        out.push_str("if")?;
+        out.push_str(openings(alloc, order, self.bangs, self.groups)?.as_str())?;
+        out.push_str(" a.link.up ")?;
+        repeat(&mut out, ") ", self.groups)?;
+        out.push_str("run x")?;
+        Ok(out)
+    }
+
+    /// What is told of its tree: parentheses leave nothing there.
+    fn tree(&self, alloc: Global) -> Result<String, Fail> {
+        let mut out = String::new(alloc);
+        repeat(&mut out, "if a.up { ", self.outer_ifs)?;
+        out.push_str("if ")?;
+        repeat(&mut out, "!", self.bangs)?;
+        out.push_str("a.up { run x } ")?;
+        repeat(&mut out, "} ", self.outer_ifs)?;
+        Ok(out)
+    }
+}
+
+/// Each order of a mixture is told so.
+fn check_orders(
+    rt: &impl Abort,
+    alloc: Global,
+    mixture: &Mixture,
+    expected: &str,
+) -> Result<(), Fail> {
+    for order in ORDERS {
+        let line = told(alloc, mixture.text(alloc, order)?.as_str())?;
+        assert_eq!(rt; line.as_str(), expected, "{mixture:?} {order:?}");
+    }
+    Ok(())
+}
+
+/// Every mixture of so many open at once, within so many `if`.
+fn check_conditions(
+    rt: &impl Abort,
+    alloc: Global,
+    outer_ifs: u32,
+    others: u32,
+    is_good: bool,
+) -> Result<(), Fail> {
+    for bangs in 0..=others {
+        let mixture = Mixture {
+            outer_ifs,
+            bangs,
+            groups: others - bangs,
+        };
+        let expected = if is_good {
+            mixture.tree(alloc)?
+        } else {
+            format!(in alloc; "P8 line 33")?
+        };
+        check_orders(rt, alloc, &mixture, expected.as_str())?;
+    }
+    Ok(())
+}
+
+/// Every mixture of so many open at once: each has its tree, or is refused at the line of the 33rd.
+fn check_mixtures(rt: &impl Abort, alloc: Global, open: u32, is_good: bool) -> Result<(), Fail> {
+    for outer_ifs in 0..open {
+        check_conditions(rt, alloc, outer_ifs, open - 1 - outer_ifs, is_good)?;
+    }
+    Ok(())
+}
+
+#[test]
+fn thirty_two_may_be_open_at_once(rt: HostRuntime) -> Result<(), Fail> {
+    check_mixtures(&rt, rt.alloc(), 32, true)
+}
+
+#[test]
+fn the_thirty_third_is_one_too_many(rt: HostRuntime) -> Result<(), Fail> {
+    check_mixtures(&rt, rt.alloc(), 33, false)
+}
+
+/// The first that is one too many is told, however many there are.
+#[test]
+fn more_are_told_at_the_thirty_third(rt: HostRuntime) -> Result<(), Fail> {
+    check_mixtures(&rt, rt.alloc(), 40, false)
+}
+
+/// What opens and closes again.
+const CLOSED: [&str; 4] = [
+    "! ! a.link.up && ",
+    "( ! a.link.up ) || ",
+    "a.link.up { if a.link.up run x } if ",
+    "a.link.up if a.link.up run x if ",
+];
+
+/// A condition with this before it, 40 times.
+fn repeated(alloc: Global, part: &str) -> Result<String, Fail> {
+    let mut text = String::new(alloc);
+    text.push_str("if ")?;
+    repeat(&mut text, part, 40)?;
+    text.push_str("a.link.up run x")?;
+    Ok(text)
+}
+
+/// A `!` is open to the end of its operand, a `(` to its `)` and an `if` to the end of its block.
+#[test]
+fn what_is_closed_is_open_no_more(rt: HostRuntime) -> Result<(), Fail> {
+    for part in CLOSED {
+        let text = repeated(rt.alloc(), part)?;
+        let has_tree = parsed(rt.alloc(), text.as_str(), &[])?.is_ok();
+        assert!(rt; has_tree, "{part}");
+    }
+    Ok(())
+}
+
+#[test]
+fn want_of_memory_has_no_line(rt: HostRuntime) -> Result<(), Fail> {
+    let text = format!(in rt.alloc(); "{}", ParseFault::Memory)?;
+    assert_eq!(&rt; text.as_str(), "P0");
+    Ok(())
+}

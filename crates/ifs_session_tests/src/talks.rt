@@ -1,0 +1,372 @@
+//! Sessions as bytes in and bytes out, on the worked rows.
+
+mod devices;
+mod serving;
+
+use ifs_rows::{Row, digits_of, images, refusals, sessions};
+use ifs_session::{
+    ByteIn, DeviceFault, FromRead, MemoryIn, MemoryOut, RequestFault, RunFault, SessionFault,
+    Summary, ToWrite, run_hex,
+};
+use linked_list_allocator::LocalHeap;
+use std::alloc::{AllocError, Global};
+use std::fmt::Display;
+use std::io::{self, ErrorKind, Read};
+use std::process::Abort;
+use std::test::Fail;
+
+/// One state, whose name and whose init's command have bytes that stand escaped in quotes.
+const QUOTES: &str =
+    "4946535601000100010000000500010000000000010001000400000000000100000000000000000005225c1f7f7e00036120220002000300000000000000000000010000000000000100000000000003090000000b0000000000000000000100000000";
+
+/// Requests on an image, and their replies.
+const TALKS: [(&str, &str, &str, &str); 2] = [
+    (
+        "quotes",
+        QUOTES,
+        "take\nstatus\n",
+        "taken 0 \"\\\"\\\\\\x1f\\x7f~\"\nstatus \"a \\\"\" owed yes queue 0 running 0 now 0\n",
+    ),
+    (
+        "requests with faults",
+        images::FIRST_RUN,
+        "\nreload\ntake \n take\nlink carp0\nlink  up\nlink a b up\nlink carp0  up\nlink carp0 UP\ntick\ntick -1\ntick 18446744073709551616\nresult 0 1 maybe\nresult x 18446744073709551616 ok\nresult 65536 1 ok\nresult 65535 1 ok\nresult 0 1  ok\nlink xxxxxxxxxxxxxxxxxxxxxxxxxxxxxxxxxxxxxxxxxxxxxxxxxxxxxxxxxxxxxxxxxxxxxxxxxxxxxxxxxxxxxxxxxxxxxxxxxxxxxxxxxxxxxxxxxxxxxxxxxxxxxxxxxxxxxxxxxxxxxxxxxxxxxxxxxxxxxxxxxxxxxxxxxxxxxxxxxxxxxxxxxxxxxxxxxxxxxxxxxxxxxxxxxxxxxxxxxxxxxxxxxxxxxxxxxxxxxxxxxxxxxxxx up\nlink xxxxxxxxxxxxxxxxxxxxxxxxxxxxxxxxxxxxxxxxxxxxxxxxxxxxxxxxxxxxxxxxxxxxxxxxxxxxxxxxxxxxxxxxxxxxxxxxxxxxxxxxxxxxxxxxxxxxxxxxxxxxxxxxxxxxxxxxxxxxxxxxxxxxxxxxxxxxxxxxxxxxxxxxxxxxxxxxxxxxxxxxxxxxxxxxxxxxxxxxxxxxxxxxxxxxxxxxxxxxxxxxxxxxxxxxxxxxxxxxxxxxxxxxx up\ntake",
+        "fault C1\nfault C1\nfault C1\nfault C1\nfault C1\nfault C1\nfault C4\nfault C4\nfault C1\nfault C1\nfault C1\nfault C3\nfault C1\nfault C1\nfault C3\nnosuch\nfault C1\nfault C4\nfault C2\nempty\n",
+    ),
+];
+
+/// The bytes of an image's line and of the requests after it.
+fn input_of(alloc: Global, image: &str, requests: &str) -> Result<Vec<u8>, AllocError> {
+    let mut input = digits_of(alloc, image)?;
+    input.extend_from_slice(b"\n")?;
+    input.extend_from_slice(requests.as_bytes())?;
+    Ok(input)
+}
+
+/// What a run on these bytes answers and writes, whose lines are read byte by byte.
+fn run_bytewise(alloc: Global, input: &[u8]) -> Result<(Summary, Vec<u8>), Fail> {
+    let mut output = MemoryOut::new(alloc);
+    let summary = run_hex(alloc, &mut MemoryIn::new(input), &mut output)?;
+    let mut written = Vec::new(alloc);
+    written.extend_from_slice(output.written())?;
+    Ok((summary, written))
+}
+
+/// The same over devices of std, of whose buffer whole lines are lent.
+fn run_buffered(alloc: Global, input: &[u8]) -> Result<(Summary, Vec<u8>), Fail> {
+    let mut written = Vec::new(alloc);
+    let summary = run_hex(
+        alloc,
+        &mut FromRead::new(input),
+        &mut ToWrite::new(&mut written),
+    )?;
+    Ok((summary, written))
+}
+
+/// Each row's replies are written, and its last request says whether the session was stopped.
+#[test]
+fn rows(rt: HostRuntime) -> Result<(), Fail> {
+    for row in sessions::rows() {
+        let bytes = input_of(rt.alloc(), row.image, row.requests)?;
+        let stops = row.requests.ends_with("stop\n");
+        let (summary, written) = run_bytewise(rt.alloc(), bytes.as_slice())?;
+        assert_eq!(rt; written.as_slice(), row.replies.as_bytes(), "{}", row.name);
+        assert_eq!(rt; summary.stopped, stops, "{}", row.name);
+        let (summary, written) = run_buffered(rt.alloc(), bytes.as_slice())?;
+        assert_eq!(rt; written.as_slice(), row.replies.as_bytes(), "{}", row.name);
+        assert_eq!(rt; summary.stopped, stops, "{}", row.name);
+    }
+    Ok(())
+}
+
+#[test]
+fn talks(rt: HostRuntime) -> Result<(), Fail> {
+    for (name, image, requests, replies) in TALKS {
+        let bytes = input_of(rt.alloc(), image, requests)?;
+        let (_, written) = run_bytewise(rt.alloc(), bytes.as_slice())?;
+        assert_eq!(rt; written.as_slice(), replies.as_bytes(), "{name}");
+        let (_, written) = run_buffered(rt.alloc(), bytes.as_slice())?;
+        assert_eq!(rt; written.as_slice(), replies.as_bytes(), "{name}");
+    }
+    Ok(())
+}
+
+/// Of lines that are read byte by byte and of such that are lent.
+#[test]
+fn what_follows_stop_is_left(rt: HostRuntime) -> Result<(), Fail> {
+    let bytes = input_of(
+        rt.alloc(),
+        images::FIRST_RUN,
+        "link carp0 up\nwhat\nstop\ntake\n",
+    )?;
+    let expected = Summary {
+        requests: 3,
+        steps: 1,
+        stopped: true,
+    };
+    let mut output = MemoryOut::new(rt.alloc());
+    let mut input = MemoryIn::new(bytes.as_slice());
+    let summary = run_hex(rt.alloc(), &mut input, &mut output)?;
+    assert_eq!(rt; summary, expected);
+    assert_eq!(rt; input.left(), b"take\n".as_slice());
+    let mut input = FromRead::new(bytes.as_slice());
+    let summary = run_hex(rt.alloc(), &mut input, &mut output)?;
+    assert_eq!(rt; summary, expected);
+    assert_eq!(rt; input.peek(), b"take\n".as_slice());
+    Ok(())
+}
+
+/// The bytes of a row's image and requests.
+fn row_input(alloc: Global, row: Row) -> Result<Vec<u8>, AllocError> {
+    input_of(alloc, row.image, row.requests)
+}
+
+/// The replies to the first so many requests of a row, each of which has one line.
+fn first_replies(alloc: Global, row: Row, count: usize) -> Result<String, AllocError> {
+    let mut replies = String::new(alloc);
+    for reply in row.replies.lines().take(count) {
+        replies.push_str(reply)?;
+        replies.push_str("\n")?;
+    }
+    Ok(replies)
+}
+
+/// Whether a run in which the read after so many calls fails is told so, after these replies.
+fn breaks_reading(alloc: Global, bytes: &[u8], calls: u64, replies: &str) -> bool {
+    let mut output = MemoryOut::new(alloc);
+    let answer = run_hex(
+        alloc,
+        &mut MemoryIn::failing_after(bytes, calls),
+        &mut output,
+    );
+    answer == Err(RunFault::Session(SessionFault::ReadFailed))
+        && output.written() == replies.as_bytes()
+}
+
+/// Each read fails in turn: the replies to the lines that were whole by then have been written.
+#[test]
+fn each_read_fails_in_turn(rt: HostRuntime) -> Result<(), Fail> {
+    let bytes = row_input(rt.alloc(), sessions::first_run())?;
+    let mut lines: usize = 0;
+    for (calls, byte) in bytes.iter().enumerate() {
+        let replies = first_replies(rt.alloc(), sessions::first_run(), lines.saturating_sub(1))?;
+        let is_so = breaks_reading(rt.alloc(), bytes.as_slice(), calls as u64, replies.as_str());
+        assert!(rt; is_so, "{calls}");
+        if *byte == b'\n' {
+            lines = lines.saturating_add(1);
+        }
+    }
+    Ok(())
+}
+
+/// Each write fails in turn: what was written is the beginning of the replies.
+#[test]
+fn each_write_fails_in_turn(rt: HostRuntime) -> Result<(), Fail> {
+    let bytes = row_input(rt.alloc(), sessions::first_run())?;
+    let replies = sessions::first_run().replies;
+    for calls in 0..100 {
+        let mut input = MemoryIn::new(bytes.as_slice());
+        let mut output = MemoryOut::failing_after(rt.alloc(), calls);
+        let answer = run_hex(rt.alloc(), &mut input, &mut output);
+        assert!(rt; replies.as_bytes().starts_with(output.written()), "{calls}");
+        if answer.is_ok() {
+            assert!(rt; calls > 5, "{calls}");
+            return Ok(());
+        }
+        assert_eq!(rt;
+            answer,
+            Err(RunFault::Session(SessionFault::WriteFailed)),
+            "{calls}"
+        );
+    }
+    assert!(rt; false, "some call is past the last");
+    Ok(())
+}
+
+/// A heap that has room for the first reply and not for all: the growth that is refused is a write
+/// that failed.
+#[test]
+fn growth_refused(rt: HostRuntime) -> Result<(), Fail> {
+    let heap = LocalHeap::new(rt.alloc(), 64)?;
+    let bytes = row_input(rt.alloc(), sessions::first_run())?;
+    let mut input = MemoryIn::new(bytes.as_slice());
+    let mut output = MemoryOut::new(&heap);
+    let answer = run_hex(rt.alloc(), &mut input, &mut output);
+    assert_eq!(rt; answer, Err(RunFault::Session(SessionFault::WriteFailed)));
+    let first = first_replies(rt.alloc(), sessions::first_run(), 1)?;
+    let all = sessions::first_run().replies;
+    assert!(rt; output.written().starts_with(first.as_bytes()));
+    assert!(rt; all.as_bytes().starts_with(output.written()));
+    assert!(rt; output.written().len() < all.len());
+    Ok(())
+}
+
+/// Lines that break their rule, or are ended by the input, with what is written.
+const BROKEN: [(&str, &str); 7] = [
+    ("494\n", "refused X1\n"),
+    ("", "refused I1 byte 0\n"),
+    ("\n", "refused I1 byte 0\n"),
+    ("4", "refused X1\n"),
+    ("4A\n", "refused X1\n"),
+    ("49\r\n", "refused X1\n"),
+    ("49465356", "refused I1 byte 4\n"),
+];
+
+/// Whether a line is refused, read byte by byte and lent, and this is written.
+fn is_refused(alloc: Global, line: &[u8], answer: &str) -> bool {
+    let mut input = MemoryIn::new(line);
+    let mut output = MemoryOut::new(alloc);
+    let bytewise = run_hex(alloc, &mut input, &mut output).is_err();
+    let mut buffered = FromRead::new(line);
+    let mut other = MemoryOut::new(alloc);
+    let lent = run_hex(alloc, &mut buffered, &mut other).is_err();
+    bytewise
+        && lent
+        && output.written() == answer.as_bytes()
+        && other.written() == answer.as_bytes()
+        && input.left() == buffered.peek()
+}
+
+#[test]
+fn refused(rt: HostRuntime) -> Result<(), Fail> {
+    for refusal in refusals() {
+        let line = input_of(rt.alloc(), refusal.image, "")?;
+        let is_so = is_refused(rt.alloc(), line.as_slice(), refusal.answer);
+        assert!(rt; is_so, "{}", refusal.name);
+    }
+    for (line, answer) in BROKEN {
+        assert!(rt; is_refused(rt.alloc(), line.as_bytes(), answer), "{line}");
+    }
+    Ok(())
+}
+
+#[test]
+fn a_digit_too_many(rt: HostRuntime) -> Result<(), Fail> {
+    let line = vec![in rt.alloc(); b'0'; 131_074]?;
+    let mut input = MemoryIn::new(line.as_slice());
+    let mut output = MemoryOut::new(rt.alloc());
+    assert!(rt; run_hex(rt.alloc(), &mut input, &mut output).is_err());
+    assert_eq!(rt; output.written(), b"refused X1\n".as_slice());
+    assert_eq!(rt; input.left().len(), 1);
+    Ok(())
+}
+
+/// A reader that gives a line and then never ends the next.
+#[derive(Drop)]
+struct Endless<'a> {
+    line: &'a [u8],
+    read: usize,
+}
+
+impl ByteIn for Endless<'_> {
+    fn next(&mut self) -> Result<Option<u8>, DeviceFault> {
+        self.read = self.read.saturating_add(1);
+        match self.line {
+            [] => Ok(Some(b'x')),
+            [byte, rest @ ..] => {
+                self.line = rest;
+                Ok(Some(*byte))
+            }
+        }
+    }
+}
+
+#[test]
+fn too_much_input(rt: HostRuntime) -> Result<(), Fail> {
+    let line = input_of(rt.alloc(), images::FIRST_RUN, "")?;
+    let mut input = Endless {
+        line: line.as_slice(),
+        read: 0,
+    };
+    let mut output = MemoryOut::new(rt.alloc());
+    let answer = run_hex(rt.alloc(), &mut input, &mut output);
+    assert_eq!(rt; answer, Err(RunFault::Session(SessionFault::TooMuchInput)));
+    assert_eq!(rt; input.read, line.len() + 16_777_217);
+    assert!(rt; output.written().is_empty());
+    Ok(())
+}
+
+/// A reader of std whose every 32,768th byte is a newline.
+#[derive(Drop)]
+struct LongLines {
+    at: usize,
+}
+
+impl Read for LongLines {
+    fn read(&mut self, buffer: &mut [u8]) -> io::Result<usize> {
+        for byte in buffer.iter_mut() {
+            self.at = self.at.saturating_add(1);
+            *byte = if self.at % 32_768 == 0 { b'\n' } else { b'x' };
+        }
+        Ok(buffer.len())
+    }
+}
+
+/// Of lines that are lent the last byte that may be read is read, and the next one ends the session.
+#[test]
+fn too_many_long_lines(rt: HostRuntime) -> Result<(), Fail> {
+    let line = input_of(rt.alloc(), images::FIRST_RUN, "")?;
+    let mut input = FromRead::new(line.as_slice().chain(LongLines { at: 0 }));
+    let mut output = MemoryOut::new(rt.alloc());
+    let answer = run_hex(rt.alloc(), &mut input, &mut output);
+    assert_eq!(rt; answer, Err(RunFault::Session(SessionFault::TooMuchInput)));
+    assert_eq!(rt; output.written().len(), 512 * "fault C2\n".len());
+    Ok(())
+}
+
+/// A reader that gives the byte `x` at each read after it was interrupted so many times.
+#[derive(Drop)]
+struct Interrupted {
+    times: u32,
+}
+
+impl Read for Interrupted {
+    fn read(&mut self, buffer: &mut [u8]) -> io::Result<usize> {
+        if let Some(times) = self.times.checked_sub(1) {
+            self.times = times;
+            return Err(io::Error::from(ErrorKind::Interrupted));
+        }
+        let Some(first) = buffer.first_mut() else {
+            return Ok(0);
+        };
+        *first = b'x';
+        Ok(1)
+    }
+}
+
+/// An interrupted read is tried again, 1,000 times in all, and nothing is lost by it.
+#[test]
+fn interrupted_reads(rt: HostRuntime) {
+    let mut patient = FromRead::new(Interrupted { times: 999 });
+    assert_eq!(rt; patient.next(), Ok(Some(b'x')));
+    let mut tired = FromRead::new(Interrupted { times: 1000 });
+    assert_eq!(rt; tired.next(), Err(DeviceFault));
+    assert_eq!(rt; tired.next(), Ok(Some(b'x')));
+}
+
+/// A fault's text is this code.
+fn check_code<T: Display>(
+    rt: &impl Abort,
+    alloc: Global,
+    fault: &T,
+    code: &str,
+) -> Result<(), Fail> {
+    let text = fault.to_string(alloc)?;
+    assert_eq!(rt; text.as_str(), code);
+    Ok(())
+}
+
+#[test]
+fn texts_of_faults(rt: HostRuntime) -> Result<(), Fail> {
+    check_code(&rt, rt.alloc(), &SessionFault::ReadFailed, "S1")?;
+    check_code(
+        &rt,
+        rt.alloc(),
+        &RunFault::Session(SessionFault::TooMuchInput),
+        "S3",
+    )?;
+    check_code(&rt, rt.alloc(), &RunFault::X1, "X1")?;
+    check_code(&rt, rt.alloc(), &RunFault::Memory, "V0")?;
+    check_code(&rt, rt.alloc(), &RequestFault::TooLong, "C2")?;
+    Ok(())
+}
