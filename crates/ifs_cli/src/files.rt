@@ -28,7 +28,10 @@ pub enum FileFault {
 }
 
 /// The bytes of a file.
-pub(crate) fn contents<R: Files + Alloc<A = Global>>(rt: &R, path: &str) -> Result<Vec<u8>, FileFault>
+pub(crate) fn contents<R: Files + Alloc<A = Global>>(
+    rt: &R,
+    path: &str,
+) -> Result<Vec<u8>, FileFault>
     ensures { IfOk result (λ bytes. IsWithinLimit bytes.items) }
 {
     match fs::open(rt, path) {
