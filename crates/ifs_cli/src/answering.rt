@@ -66,7 +66,7 @@ fn budgets_line(alloc: Global, budgets: Budgets) -> Result<String, AllocError> {
 }
 
 /// Does a task on the bytes of a file: writes the image that it answers, if any, and then prints the answer.
-pub(crate) fn on_file<R: Files + Print + Alloc<A = Global>>(
+pub fn on_file<R: Files + Print + Alloc<A = Global>>(
     rt: &R,
     task: Task,
     path: String,
@@ -89,7 +89,7 @@ pub(crate) fn on_file<R: Files + Print + Alloc<A = Global>>(
 }
 
 /// The bytes of a file. Want of memory for them is told as a refusal by the task.
-pub(crate) fn input_at<R: Files + Print + Alloc<A = Global>>(
+pub fn input_at<R: Files + Print + Alloc<A = Global>>(
     rt: &R,
     task: Task,
     path: String,

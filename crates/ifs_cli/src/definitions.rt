@@ -8,7 +8,7 @@ use std::alloc::{AllocError, Global};
 
 /// A macro that is defined beside a text.
 #[derive(Debug, Drop)]
-pub(crate) struct Definition {
+pub struct Definition {
     name: String,
     value: String,
 }

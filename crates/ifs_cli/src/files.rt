@@ -58,7 +58,7 @@ pub fn whole<R: Read + Drop>(alloc: Global, reader: R) -> Result<Vec<u8>, FileFa
 }
 
 /// The fault of a call of the system that failed.
-pub(crate) fn fault_of(error: io::Error) -> FileFault
+pub fn fault_of(error: io::Error) -> FileFault
     ensures { result ≢ TooLarge }
 {
     if error.kind() == ErrorKind::OutOfMemory {

@@ -1,86 +1,19 @@
-//! What the program `ifsvm` does: it checks and compiles failover policies, and verifies, shows and runs their images.
+//! What the program `ifsvm` answers, the files that it reads and writes, and the host of its daemon.
 //!
-//! Without words it reads an image as a line of hexadecimal digits and then request lines from
-//! standard input, and writes the replies to standard output. Exit statuses: 0 done, 1 refused
-//! input, 2 command line, 3 a file or stream that failed or a file that is too large.
 //! Contract: the answer to each word on the bytes of a file is exact, a file is read and an image written whole, and
-//! a test that was started waits until its end is told once.
+//! a test that was started waits until its end is told once. The program itself, which has its command line and its
+//! sessions, stands over it.
 #![tactic(auto)]
 
 pub mod answering;
 mod assembling;
 mod checking;
 mod children;
-mod command_line;
 mod compiling;
 pub mod definitions;
 mod disassembling;
-mod ending;
+pub mod ending;
 pub mod files;
 pub mod images;
-mod sending;
-mod serving;
-mod sessions;
 pub mod shell;
 pub mod task;
-
-use command_line::Asked;
-use definitions::Definition;
-use ending::{Ending, out_of_memory};
-use log::Log;
-use std::alloc::{AllocError, Global};
-use std::net::Net;
-use std::process::{ExitCode, Processes};
-use std::rt::{Clock, Env, Files};
-use task::Task;
-
-/// Does what the words of the command line ask for, and answers the exit status.
-pub fn run<R>(rt: &R) -> ExitCode
-where
-    R: Env + Files + Input + Print + Eprint + Net + Processes + Clock + Log + Alloc<A = Global>,
-{
-    let (Ok(ending) | Err(ending)) = ending_of(rt);
-    ending.told(rt)
-}
-
-/// How the program ends once it has done what the command line asks for. An error is what keeps it from that.
-fn ending_of<R>(rt: &R) -> Result<Ending, Ending>
-where
-    R: Env + Files + Input + Print + Eprint + Net + Processes + Clock + Log + Alloc<A = Global>,
-{
-    match command_line::read(rt)? {
-        Asked::Session => sessions::by_hexadecimal(rt),
-        Asked::Check { file, definitions } => {
-            on_policy(rt, Task::Check, file, None, definitions.as_slice())
-        }
-        Asked::Compile {
-            file,
-            image,
-            definitions,
-        } => on_policy(rt, Task::Compile, file, Some(image), definitions.as_slice()),
-        Asked::Verify { image } => answering::on_file(rt, Task::Verify, image, None, &[]),
-        Asked::Disasm { image } => answering::on_file(rt, Task::Disasm, image, None, &[]),
-        Asked::Asm { file, image } => { answering::on_file(rt, Task::Asm, file, Some(image), &[]) }
-        Asked::Sim { image } => sessions::on_file(rt, image),
-        Asked::Serve { image, socket } => serving::serve(rt, image, socket),
-        Asked::Send { socket, request } => sending::send(rt, socket, request.as_str()),
-    }
-}
-
-/// Does a task on the policy of a file, with the definitions of the command line.
-fn on_policy<R: Files + Print + Alloc<A = Global>>(
-    rt: &R,
-    task: Task,
-    file: String,
-    image: Option<String>,
-    definitions: &[Definition],
-) -> Result<Ending, Ending> {
-    let pairs: Result<Vec<(&str, &str)>, _> = definitions
-        .iter()
-        .map(Definition::pair)
-        .collect(rt.alloc());
-    match pairs {
-        Ok(pairs) => answering::on_file(rt, task, file, image, pairs.as_slice()),
-        Err(AllocError) => out_of_memory(rt, task),
-    }
-}

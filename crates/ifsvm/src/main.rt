@@ -1,10 +1,69 @@
 //! `ifsvm`: checks and compiles failover policies, and verifies, shows and runs their images.
 //!
-//! All of it is the library `ifs_cli`, so that tests can stand over it.
+//! Without words it reads an image as a line of hexadecimal digits and then request lines from
+//! standard input, and writes the replies to standard output. Exit statuses: 0 done, 1 refused
+//! input, 2 command line, 3 a file or stream that failed or a file that is too large.
 #![tactic(auto)]
 
-use std::process::ExitCode;
+mod command_line;
+mod sending;
+mod serving;
+mod sessions;
+
+use command_line::Asked;
+use ifs_cli::answering::on_file;
+use ifs_cli::definitions::Definition;
+use ifs_cli::ending::{Ending, out_of_memory};
+use ifs_cli::task::Task;
+use log::Log;
+use std::alloc::{AllocError, Global};
+use std::net::Net;
+use std::process::{ExitCode, Processes};
+use std::rt::{Clock, Env, Files};
 
 fn main(rt: HostRuntime) -> ExitCode {
-    ifs_cli::run(&rt)
+    let (Ok(ending) | Err(ending)) = ending_of(&rt);
+    ending.told(&rt)
+}
+
+/// How the program ends once it has done what the command line asks for. An error is what keeps it from that.
+fn ending_of<R>(rt: &R) -> Result<Ending, Ending>
+where
+    R: Env + Files + Input + Print + Eprint + Net + Processes + Clock + Log + Alloc<A = Global>,
+{
+    match command_line::read(rt)? {
+        Asked::Session => sessions::by_hexadecimal(rt),
+        Asked::Check { file, definitions } => {
+            on_policy(rt, Task::Check, file, None, definitions.as_slice())
+        }
+        Asked::Compile {
+            file,
+            image,
+            definitions,
+        } => on_policy(rt, Task::Compile, file, Some(image), definitions.as_slice()),
+        Asked::Verify { image } => on_file(rt, Task::Verify, image, None, &[]),
+        Asked::Disasm { image } => on_file(rt, Task::Disasm, image, None, &[]),
+        Asked::Asm { file, image } => on_file(rt, Task::Asm, file, Some(image), &[]),
+        Asked::Sim { image } => sessions::on_file(rt, image),
+        Asked::Serve { image, socket } => serving::serve(rt, image, socket),
+        Asked::Send { socket, request } => sending::send(rt, socket, request.as_str()),
+    }
+}
+
+/// Does a task on the policy of a file, with the definitions of the command line.
+fn on_policy<R: Files + Print + Alloc<A = Global>>(
+    rt: &R,
+    task: Task,
+    file: String,
+    image: Option<String>,
+    definitions: &[Definition],
+) -> Result<Ending, Ending> {
+    let pairs: Result<Vec<(&str, &str)>, _> = definitions
+        .iter()
+        .map(Definition::pair)
+        .collect(rt.alloc());
+    match pairs {
+        Ok(pairs) => on_file(rt, task, file, image, pairs.as_slice()),
+        Err(AllocError) => out_of_memory(rt, task),
+    }
 }

@@ -1,8 +1,8 @@
 //! One request to a daemon, and what comes back.
 
-use crate::ending::{Ending, out_of_memory};
-use crate::files::{FileFault, fault_of, whole};
-use crate::task::Task;
+use ifs_cli::ending::{Ending, out_of_memory};
+use ifs_cli::files::{FileFault, fault_of, whole};
+use ifs_cli::task::Task;
 use std::alloc::Global;
 use std::io::{self, Write};
 use std::net::{Net, Shutdown};

@@ -1,9 +1,9 @@
 //! The words of the command line.
 
-use crate::definitions::{Definition, definition_of};
-use crate::ending::Ending;
 use clap::error::ErrorKind;
 use clap::{Arg, ArgAction, ArgMatches, Command, Error};
+use ifs_cli::definitions::{Definition, definition_of};
+use ifs_cli::ending::Ending;
 use std::alloc::{AllocError, Global};
 use std::env::{self, Args};
 use std::io;

@@ -1,10 +1,10 @@
 //! The daemon: one connection after another over a Unix socket.
 
-use crate::ending::{Ending, out_of_memory};
-use crate::files::fault_of;
 use crate::sessions::core_at;
-use crate::shell::Shell;
-use crate::task::Task;
+use ifs_cli::ending::{Ending, out_of_memory};
+use ifs_cli::files::fault_of;
+use ifs_cli::shell::Shell;
+use ifs_cli::task::Task;
 use ifs_core::Core;
 use ifs_session::{End, FromRead, SessionFault, ToWrite, run_queue, serve_one};
 use log::{Log, info, warn};

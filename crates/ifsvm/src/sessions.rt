@@ -1,8 +1,8 @@
 //! Sessions on standard input and output.
 
-use crate::answering::input_at;
-use crate::ending::{Ending, out_of_memory};
-use crate::task::Task;
+use ifs_cli::answering::input_at;
+use ifs_cli::ending::{Ending, out_of_memory};
+use ifs_cli::task::Task;
 use ifs_core::Core;
 use ifs_session::{FromRead, RunFault, ToWrite, run_hex, simulate};
 use ifs_verify::{VerifyFault, verify};
