@@ -3,41 +3,62 @@
 use ifs_asm::{assemble, disassemble};
 use ifs_image::{Image, read, write};
 use ifs_rows::{bytes_of, images};
-use std::alloc::Global;
+use std::alloc::{AllocError, Global};
+use std::process::Abort;
 use std::test::Fail;
 
 #[test]
 fn writes_the_smallest_image(rt: HostRuntime) -> Result<(), Fail> {
-    let alloc = rt.alloc();
-    let bytes = bytes_of(alloc, images::SMALLEST_IMAGE)?;
-    let image = read(alloc, bytes.as_slice())?;
-    assert_eq!(rt; disassemble(alloc, &image)?.as_str(), images::SMALLEST_TEXT);
+    let bytes = bytes_of(rt.alloc(), images::SMALLEST_IMAGE)?;
+    let text = text_in(rt.alloc(), bytes.as_slice())?;
+    assert_eq!(rt; text.as_str(), images::SMALLEST_TEXT);
     Ok(())
+}
+
+/// What is told of an image: how many bytes it has.
+fn length_told(alloc: Global, image: &Image) -> Result<String, Fail> {
+    let bytes = write(alloc, image)?;
+    Ok(format!(in alloc; "ok {} bytes", bytes.len())?)
 }
 
 /// What a text is answered with: how many bytes its image has, or the fault.
 fn told(alloc: Global, text: &str) -> Result<String, Fail> {
-    Ok(match assemble(alloc, text) {
-        Ok(image) => {
-            let bytes = write(alloc, &image)?;
-            format!(in alloc; "ok {} bytes", bytes.len())?
-        }
-        Err(fault) => format!(in alloc; "{fault}")?,
-    })
+    match assemble(alloc, text) {
+        Ok(image) => length_told(alloc, &image),
+        Err(fault) => Ok(format!(in alloc; "{fault}")?),
+    }
+}
+
+/// Asserts what a text is answered with.
+fn check_told(
+    rt: &impl Abort,
+    alloc: Global,
+    text: &str,
+    wanted: &str,
+    name: &str,
+) -> Result<(), Fail> {
+    let answer = told(alloc, text)?;
+    assert_eq!(rt; answer.as_str(), wanted, "{name}");
+    Ok(())
 }
 
 /// The smallest image's text, of which a line from 1 gives way to others.
-fn with_line(alloc: Global, number: usize, others: &str) -> Result<String, Fail> {
+fn with_line(alloc: Global, number: usize, others: &str) -> Result<String, AllocError> {
     let mut text = String::new(alloc);
     for (index, line) in images::SMALLEST_TEXT.lines().enumerate() {
         if index.saturating_add(1) == number {
             text.push_str(others)?;
         } else {
-            text.push_str(line)?;
-            text.push_str("\n")?;
+            put_line(&mut text, line)?;
         }
     }
     Ok(text)
+}
+
+fn put_line(text: &mut String, line: &str) -> Result<(), AllocError> {
+    text.push_str(line)?;
+    text.push_str("\n")?;
+    Ok(())
 }
 
 /// In each row: a line of the smallest image's text, the lines that stand in its place (a bar begins the
@@ -121,42 +142,55 @@ const CHANGED: &str = "
 10 => ret ; back => A1 line 10
 ";
 
+/// The lines of a row, with a newline after each.
+fn lines_of(alloc: Global, row: &str) -> Result<String, AllocError> {
+    let mut lines = String::new(alloc);
+    for line in row.split('|').filter(|line| *line != "nothing") {
+        put_line(&mut lines, line)?;
+    }
+    Ok(lines)
+}
+
+fn check_changed(rt: &impl Abort, alloc: Global, row: &str) -> Result<(), Fail> {
+    let (number, rest) = row.split_once(" => ").ok_or("a number")?;
+    let (lines, wanted) = rest.rsplit_once(" => ").ok_or("an answer")?;
+    let number = number.parse::<usize>()?;
+    let others = lines_of(alloc, lines)?;
+    let text = with_line(alloc, number, others.as_str())?;
+    check_told(rt, alloc, text.as_str(), wanted, row)
+}
+
 #[test]
 fn answers_changed_lines(rt: HostRuntime) -> Result<(), Fail> {
-    let alloc = rt.alloc();
     for row in CHANGED.lines().filter(|row| !row.is_empty()) {
-        let (number, rest) = row.split_once(" => ").ok_or("a number")?;
-        let (lines, wanted) = rest.rsplit_once(" => ").ok_or("an answer")?;
-        let mut others = String::new(alloc);
-        for line in lines.split('|').filter(|line| *line != "nothing") {
-            others.push_str(line)?;
-            others.push_str("\n")?;
-        }
-        let text = with_line(alloc, number.parse::<usize>()?, others.as_str())?;
-        assert_eq!(rt; told(alloc, text.as_str())?.as_str(), wanted, "row {row:?}");
+        check_changed(&rt, rt.alloc(), row)?;
     }
     Ok(())
 }
 
+/// Asserts the answer to a front of so many lines: what is missing is told at the next line, up to the
+/// first state.
+fn check_front(rt: &impl Abort, alloc: Global, front: &str, lines: usize) -> Result<(), Fail> {
+    if lines < 8 {
+        let missing = format!(in alloc; "A3 line {}", lines.saturating_add(1))?;
+        return check_told(rt, alloc, front, missing.as_str(), front);
+    }
+    let answer = told(alloc, front)?;
+    assert!(rt; answer.as_str().starts_with("ok"), "{front}");
+    Ok(())
+}
+
+/// Each front of the text is answered alike with and without its last newline.
 #[test]
 fn answers_fronts_of_the_text(rt: HostRuntime) -> Result<(), Fail> {
-    let alloc = rt.alloc();
-    let mut front = String::new(alloc);
-    assert_eq!(rt; told(alloc, "")?.as_str(), "A3 line 1");
+    check_front(&rt, rt.alloc(), "", 0)?;
+    let mut front = String::new(rt.alloc());
     for (index, line) in images::SMALLEST_TEXT.lines().enumerate() {
+        let lines = index.saturating_add(1);
         front.push_str(line)?;
-        let whole = index >= 7;
-        let missing = format!(in alloc; "A3 line {}", index.saturating_add(2))?;
-        let answer = told(alloc, front.as_str())?;
-        assert_eq!(rt;
-            answer.as_str().starts_with("ok"),
-            whole,
-            "without newline, {line}"
-        );
-        assert!(rt; whole || answer == missing, "without newline, {line}");
+        check_front(&rt, rt.alloc(), front.as_str(), lines)?;
         front.push_str("\n")?;
-        let answer = told(alloc, front.as_str())?;
-        assert!(rt; whole || answer == missing, "{line}");
+        check_front(&rt, rt.alloc(), front.as_str(), lines)?;
     }
     Ok(())
 }
@@ -208,13 +242,17 @@ const EACH_INSTRUCTION_BYTES: &str = "
 
 #[test]
 fn spells_each_instruction(rt: HostRuntime) -> Result<(), Fail> {
-    let alloc = rt.alloc();
-    let image = assemble(alloc, EACH_INSTRUCTION)?;
-    assert_eq!(rt;
-        write(alloc, &image)?.as_slice(),
-        bytes_of(alloc, EACH_INSTRUCTION_BYTES)?.as_slice()
-    );
-    assert_eq!(rt; disassemble(alloc, &image)?.as_str(), EACH_INSTRUCTION);
+    let bytes = bytes_of(rt.alloc(), EACH_INSTRUCTION_BYTES)?;
+    let spelled = bytes_in(rt.alloc(), EACH_INSTRUCTION)?;
+    assert_eq!(rt; spelled.as_slice(), bytes.as_slice());
+    Ok(())
+}
+
+#[test]
+fn writes_each_instruction(rt: HostRuntime) -> Result<(), Fail> {
+    let image = assemble(rt.alloc(), EACH_INSTRUCTION)?;
+    let text = listing(rt.alloc(), &image)?;
+    assert_eq!(rt; text.as_str(), EACH_INSTRUCTION);
     Ok(())
 }
 
@@ -241,14 +279,18 @@ const IMAGES: [&str; 19] = [
     images::SHARED_CONDITION,
 ];
 
+fn check_there_and_back(rt: &impl Abort, alloc: Global, hex: &str) -> Result<(), Fail> {
+    let bytes = bytes_of(alloc, hex)?;
+    let text = text_in(alloc, bytes.as_slice())?;
+    let back = bytes_in(alloc, text.as_str())?;
+    assert_eq!(rt; back.as_slice(), bytes.as_slice(), "{text}");
+    Ok(())
+}
+
 #[test]
 fn reads_back_what_it_writes(rt: HostRuntime) -> Result<(), Fail> {
-    let alloc = rt.alloc();
     for hex in IMAGES {
-        let bytes = bytes_of(alloc, hex)?;
-        let text = text_in(alloc, bytes.as_slice())?;
-        let back = bytes_in(alloc, text.as_str())?;
-        assert_eq!(rt; back.as_slice(), bytes.as_slice(), "{text}");
+        check_there_and_back(&rt, rt.alloc(), hex)?;
     }
     Ok(())
 }
@@ -284,87 +326,118 @@ const TABLES: &str = "
 11 => jump # => 1023
 ";
 
-/// The smallest image's text, with so many lines of one kind before one of its lines.
-fn with_many(alloc: Global, number: usize, line: &str, count: usize) -> Result<String, Fail> {
+/// So many lines of one kind, in which a sharp stands for a number. Of what ends in 0 before it, there is none.
+fn many_lines(alloc: Global, line: &str, count: usize) -> Result<String, Fail> {
     let (front, back) = line.split_once('#').ok_or("a sharp")?;
     let mut many = String::new(alloc);
     for index in 0..count {
-        let digits = if front.ends_with('0') {
-            String::new(alloc)
+        if front.ends_with('0') {
+            writeln!(many, "{front}{back}")?;
         } else {
-            format!(in alloc; "{index}")?
-        };
-        many.push_str(front)?;
-        many.push_str(digits.as_str())?;
-        many.push_str(back)?;
-        many.push_str("\n")?;
+            writeln!(many, "{front}{index}{back}")?;
+        }
     }
+    Ok(many)
+}
+
+/// The smallest image's text, with these lines before one of its lines.
+fn with_lines(alloc: Global, number: usize, lines: &str) -> Result<String, AllocError> {
     let mut text = String::new(alloc);
     for (index, line) in images::SMALLEST_TEXT.lines().enumerate() {
         if index.saturating_add(1) == number {
-            text.push_str(many.as_str())?;
+            text.push_str(lines)?;
         }
-        text.push_str(line)?;
-        text.push_str("\n")?;
+        put_line(&mut text, line)?;
     }
     if number == 11 {
-        text.push_str(many.as_str())?;
+        text.push_str(lines)?;
     }
     Ok(text)
 }
 
+/// What the smallest image's text is answered with, with so many lines of one kind before one of its lines.
+fn told_with(alloc: Global, number: usize, line: &str, count: usize) -> Result<String, Fail> {
+    let lines = many_lines(alloc, line, count)?;
+    let text = with_lines(alloc, number, lines.as_str())?;
+    told(alloc, text.as_str())
+}
+
+/// Asserts that so many lines are taken, and that one more is refused at its line.
+fn check_table(
+    rt: &impl Abort,
+    alloc: Global,
+    number: usize,
+    line: &str,
+    count: usize,
+) -> Result<(), Fail> {
+    let full = told_with(alloc, number, line, count)?;
+    assert!(rt; full.as_str().starts_with("ok"), "{line}");
+    let over = told_with(alloc, number, line, count.saturating_add(1))?;
+    check_line(rt, alloc, over.as_str(), number.saturating_add(count))
+}
+
+/// Asserts that what was told is A2 at this line.
+fn check_line(rt: &impl Abort, alloc: Global, told: &str, line: usize) -> Result<(), Fail> {
+    let wanted = format!(in alloc; "A2 line {line}")?;
+    assert_eq!(rt; told, wanted.as_str());
+    Ok(())
+}
+
 #[test]
 fn fills_each_table(rt: HostRuntime) -> Result<(), Fail> {
-    let alloc = rt.alloc();
     for row in TABLES.lines().filter(|row| !row.is_empty()) {
         let (number, rest) = row.split_once(" => ").ok_or("a number")?;
         let (line, count) = rest.split_once(" => ").ok_or("a count")?;
         let number = number.parse::<usize>()?;
         let count = count.parse::<usize>()?;
-        let full = with_many(alloc, number, line, count)?;
-        assert!(rt;
-            told(alloc, full.as_str())?.as_str().starts_with("ok"),
-            "row {row:?}"
-        );
-        let over = with_many(alloc, number, line, count.saturating_add(1))?;
-        let wanted = format!(in alloc; "A2 line {}", number.saturating_add(count))?;
-        assert_eq!(rt; told(alloc, over.as_str())?, wanted, "row {row:?}");
+        check_table(&rt, rt.alloc(), number, line, count)?;
     }
     Ok(())
 }
 
-#[test]
-fn takes_8192_instructions(rt: HostRuntime) -> Result<(), Fail> {
-    let alloc = rt.alloc();
+/// The smallest image's text up to its routine.
+fn without_routines(alloc: Global) -> Result<String, AllocError> {
     let mut text = String::new(alloc);
     for line in images::SMALLEST_TEXT.lines().take(8) {
-        text.push_str(line)?;
-        text.push_str("\n")?;
+        put_line(&mut text, line)?;
     }
+    Ok(text)
+}
+
+/// Puts eight routines of 1,024 instructions each.
+fn put_full_routines(text: &mut String) -> Result<(), AllocError> {
     for _ in 0..8 {
         text.push_str("routine results 0\n")?;
         for _ in 0..1024 {
             text.push_str("pop\n")?;
         }
     }
-    assert_eq!(rt; told(alloc, text.as_str())?.as_str(), "ok 32846 bytes");
-    text.push_str("routine results 0\npop\n")?;
-    assert_eq!(rt; told(alloc, text.as_str())?.as_str(), "A2 line 8210");
     Ok(())
 }
 
 #[test]
-fn takes_texts_of_1024_bytes(rt: HostRuntime) -> Result<(), Fail> {
-    let alloc = rt.alloc();
-    let mut name = String::new(alloc);
+fn takes_8192_instructions(rt: HostRuntime) -> Result<(), Fail> {
+    let mut text = without_routines(rt.alloc())?;
+    put_full_routines(&mut text)?;
+    check_told(&rt, rt.alloc(), text.as_str(), "ok 32846 bytes", "8,192")?;
+    text.push_str("routine results 0\npop\n")?;
+    check_told(&rt, rt.alloc(), text.as_str(), "A2 line 8210", "one more")
+}
+
+/// A state's name of 1,024 bytes and then this.
+fn check_name(rt: &impl Abort, alloc: Global, end: &str, wanted: &str) -> Result<(), Fail> {
+    let mut line = String::from_str(alloc, "state \"")?;
     for _ in 0..1024 {
-        name.push_str("x")?;
+        line.push_str("x")?;
     }
-    let whole = format!(in alloc; "state \"{name}\" init 0 body 0 tests -\n")?;
-    let text = with_line(alloc, 8, whole.as_str())?;
-    assert_eq!(rt; told(alloc, text.as_str())?.as_str(), "ok 1084 bytes");
-    let over = format!(in alloc; "state \"{name}\\x41\" init 0 body 0 tests -\n")?;
-    let text = with_line(alloc, 8, over.as_str())?;
-    assert_eq!(rt; told(alloc, text.as_str())?.as_str(), "A2 line 8");
-    Ok(())
+    line.push_str(end)?;
+    line.push_str("\" init 0 body 0 tests -\n")?;
+    let text = with_line(alloc, 8, line.as_str())?;
+    check_told(rt, alloc, text.as_str(), wanted, end)
+}
+
+#[test]
+fn takes_texts_of_1024_bytes(rt: HostRuntime) -> Result<(), Fail> {
+    check_name(&rt, rt.alloc(), "", "ok 1084 bytes")?;
+    check_name(&rt, rt.alloc(), "\\x41", "A2 line 8")
 }

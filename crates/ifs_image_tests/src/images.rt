@@ -57,6 +57,11 @@ fn changed(
     Ok(bytes)
 }
 
+/// Asserts that bytes are refused with this fault.
+fn check_refused(rt: &impl Abort, alloc: Global, bytes: &[u8], fault: ImageFault) {
+    assert_eq!(rt; read(alloc, bytes).err(), Some(fault));
+}
+
 /// Each front of an image is I1 at the field that is not there whole, and one byte more is I7.
 fn cut_off(rt: &impl Abort, alloc: Global, hex: &str) -> Result<(), Fail> {
     let image = bytes_of(alloc, hex)?;
@@ -65,19 +70,19 @@ fn cut_off(rt: &impl Abort, alloc: Global, hex: &str) -> Result<(), Fail> {
         let end = start.saturating_add(field.len() / 2);
         for n in start..end {
             let front = image.get(..n).ok_or("a front")?;
-            assert_eq!(rt;
-                read(alloc, front).err(),
-                Some(ImageFault::Truncated { at: start })
-            );
+            check_refused(rt, alloc, front, ImageFault::Truncated { at: start });
         }
         start = end;
     }
     assert_eq!(rt; start, image.len());
-    let more = changed(alloc, &image, start, 0, b"\x00")?;
-    assert_eq!(rt;
-        read(alloc, &more).err(),
-        Some(ImageFault::Trailing { at: start })
-    );
+    one_more(rt, alloc, image.as_slice())
+}
+
+/// An image and one byte more is I7 at that byte.
+fn one_more(rt: &impl Abort, alloc: Global, image: &[u8]) -> Result<(), Fail> {
+    let at = image.len();
+    let more = changed(alloc, image, at, 0, b"\x00")?;
+    check_refused(rt, alloc, more.as_slice(), ImageFault::Trailing { at });
     Ok(())
 }
 
@@ -88,21 +93,27 @@ fn every_byte_cut_off(rt: HostRuntime) -> Result<(), Fail> {
     cut_off(&rt, rt.alloc(), images::FIRST_POLICY)
 }
 
+/// The smallest image, of which so many bytes at an offset give way to others.
+fn smallest_changed(alloc: Global, at: usize, removed: usize, hex: &str) -> Result<Vec<u8>, Fail> {
+    let put = bytes_of(alloc, hex)?;
+    let image = bytes_of(alloc, images::SMALLEST_IMAGE)?;
+    changed(alloc, image.as_slice(), at, removed, put.as_slice())
+}
+
+/// The text of the fault that refuses bytes.
+fn fault_text(alloc: Global, bytes: &[u8]) -> Result<String, Fail> {
+    let fault = read(alloc, bytes).err().ok_or("a fault")?;
+    Ok(format!(in alloc; "{fault}")?)
+}
+
 fn check_fault(rt: &impl Abort, alloc: Global, row: &str) -> Result<(), Fail> {
     let (change, expected) = row.split_once(": ").ok_or("a change and a fault")?;
     let mut words = change.split(' ');
     let at = words.next().ok_or("an offset")?.parse::<usize>()?;
     let removed = words.next().ok_or("a number of bytes")?.parse::<usize>()?;
-    let put = bytes_of(alloc, words.next().ok_or("bytes")?)?;
-    let bytes = changed(
-        alloc,
-        &bytes_of(alloc, images::SMALLEST_IMAGE)?,
-        at,
-        removed,
-        &put,
-    )?;
-    let fault = read(alloc, &bytes).err().ok_or("a fault")?;
-    let told = format!(in alloc; "{fault}")?;
+    let put = words.next().ok_or("bytes")?;
+    let bytes = smallest_changed(alloc, at, removed, put)?;
+    let told = fault_text(alloc, bytes.as_slice())?;
     assert_eq!(rt; told.as_str(), expected, "{row}");
     Ok(())
 }
@@ -117,48 +128,46 @@ fn first_faults(rt: HostRuntime) -> Result<(), Fail> {
     Ok(())
 }
 
-#[test]
-fn instructions_in_all(rt: HostRuntime) -> Result<(), Fail> {
-    let mut bytes = changed(
-        rt.alloc(),
-        &bytes_of(rt.alloc(), images::SMALLEST_IMAGE)?,
-        24,
-        1,
-        b"\x09",
-    )?;
+/// The smallest image with nine routines, of which eight with 1,024 instructions each are there.
+fn nine_routines(alloc: Global) -> Result<Vec<u8>, Fail> {
+    let mut bytes = smallest_changed(alloc, 24, 1, "09")?;
     bytes.truncate(54);
+    put_full_routines(&mut bytes)?;
+    Ok(bytes)
+}
+
+fn put_full_routines(bytes: &mut Vec<u8>) -> Result<(), AllocError> {
     for _ in 0..8 {
         bytes.extend_from_slice(b"\x00\x04\x00")?;
         for _ in 0..1024 {
             bytes.extend_from_slice(&[0; 4])?;
         }
     }
+    Ok(())
+}
+
+#[test]
+fn instructions_in_all(rt: HostRuntime) -> Result<(), Fail> {
+    let mut bytes = nine_routines(rt.alloc())?;
     bytes.extend_from_slice(b"\x00\x00\x00")?;
     assert_eq!(rt; read(rt.alloc(), &bytes).err(), None);
     bytes.truncate(32_847);
     bytes.extend_from_slice(b"\x00\x01\x00\x00\x00\x00")?;
-    assert_eq!(rt;
-        read(rt.alloc(), &bytes).err(),
-        Some(ImageFault::OutOfLimit { at: 32_847 })
-    );
+    let fault = ImageFault::OutOfLimit { at: 32_847 };
+    check_refused(&rt, rt.alloc(), bytes.as_slice(), fault);
     Ok(())
 }
 
 #[test]
 fn tests_and_commands_may_repeat(rt: HostRuntime) -> Result<(), Fail> {
-    let put = bytes_of(
+    let bytes = smallest_changed(
         rt.alloc(),
+        15,
+        24,
         "0000 0002 0002 0001 0001 0000 0000 0000 0000000000000000
          00093a80 0001 78 00093a80 0001 78 0001 79 0001 79",
     )?;
-    let bytes = changed(
-        rt.alloc(),
-        &bytes_of(rt.alloc(), images::SMALLEST_IMAGE)?,
-        15,
-        24,
-        &put,
-    )?;
-    let image = written_again(&rt, rt.alloc(), &bytes)?;
+    let image = written_again(&rt, rt.alloc(), bytes.as_slice())?;
     check_repeated(&rt, &image);
     Ok(())
 }

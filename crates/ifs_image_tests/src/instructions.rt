@@ -4,6 +4,9 @@ use ifs_base::{
     CommandId, IfaceId, Items, LinkState, Number, Op, QuotedByte, RoutineId, StateId, TestId, Text,
     decode_op, digit_value, encode_op, hex_digit, limits, parse_number, quote_byte,
 };
+use std::alloc::{AllocError, Global};
+use std::process::Abort;
+use std::test::Fail;
 
 /// Every instruction once, with its four bytes.
 const TABLE: [(Op, [u8; 4]); 21] = [
@@ -88,31 +91,67 @@ fn link_states_over_two(rt: HostRuntime) {
 }
 
 #[test]
-fn items_and_text_give_back_what_they_hold(rt: HostRuntime) -> Result<(), std::test::Fail> {
+fn items_give_back_what_they_hold(rt: HostRuntime) -> Result<(), Fail> {
     let items = Items::new([3u8, 5].to_vec(rt.alloc())?);
+    check_items(&rt, &items);
+    assert_eq!(rt; items.into_vec().as_slice(), [3u8, 5].as_slice());
+    Ok(())
+}
+
+fn check_items(rt: &impl Abort, items: &Items<u8>) {
     assert_eq!(rt; items.len(), 2);
     assert!(rt; !items.is_empty());
     assert_eq!(rt; items.as_slice(), [3u8, 5].as_slice());
-    assert_eq!(rt; items.into_vec().as_slice(), [3u8, 5].as_slice());
-    let text = Text::new(String::from_str(rt.alloc(), "carp0")?);
+}
+
+fn text_of(alloc: Global, text: &str) -> Result<Text, AllocError> {
+    Ok(Text::new(String::from_str(alloc, text)?))
+}
+
+fn check_text(rt: &impl Abort, text: &Text) {
     assert_eq!(rt; text.as_str(), "carp0");
     assert_eq!(rt; text.as_bytes(), b"carp0".as_slice());
+}
+
+#[test]
+fn texts_give_back_what_they_hold(rt: HostRuntime) -> Result<(), Fail> {
+    check_text(&rt, &text_of(rt.alloc(), "carp0")?);
+    Ok(())
+}
+
+fn check_other(rt: &impl Abort, alloc: Global, text: &Text, other: &str) -> Result<(), AllocError> {
+    let other = text_of(alloc, other)?;
+    assert!(rt; other != *text);
+    Ok(())
+}
+
+fn check_copy(rt: &impl Abort, text: &Text) -> Result<(), AllocError> {
+    let copy = text.clone()?;
+    assert_eq!(rt; copy, *text);
     Ok(())
 }
 
 #[test]
-fn texts_are_equal_where_their_bytes_are(rt: HostRuntime) -> Result<(), std::test::Fail> {
-    let text = Text::new(String::from_str(rt.alloc(), "carp0")?);
-    assert_eq!(rt; text.clone()?, text);
+fn texts_are_equal_where_their_bytes_are(rt: HostRuntime) -> Result<(), Fail> {
+    let text = text_of(rt.alloc(), "carp0")?;
+    check_copy(&rt, &text)?;
     for other in ["carp1", "carp", "carp00", "Carp0", ""] {
-        let other = Text::new(String::from_str(rt.alloc(), other)?);
-        assert!(rt; other != text);
+        check_other(&rt, rt.alloc(), &text, other)?;
     }
     Ok(())
 }
 
+/// So many times a byte.
+fn repeated(alloc: Global, byte: u8, length: usize) -> Result<Vec<u8>, AllocError> {
+    let mut bytes = Vec::new(alloc);
+    for _byte in 0..length {
+        bytes.push(byte)?;
+    }
+    Ok(bytes)
+}
+
 #[test]
-fn sizes_of_texts(rt: HostRuntime) -> Result<(), std::test::Fail> {
+fn sizes_of_texts(rt: HostRuntime) -> Result<(), Fail> {
     for (length, byte, wanted) in [
         (0, b'a', false),
         (1, b'a', true),
@@ -120,10 +159,7 @@ fn sizes_of_texts(rt: HostRuntime) -> Result<(), std::test::Fail> {
         (1_024, b'a', true),
         (1_025, b'a', false),
     ] {
-        let mut bytes: Vec<u8> = Vec::new(rt.alloc());
-        for _byte in 0..length {
-            bytes.push(byte)?;
-        }
+        let bytes = repeated(rt.alloc(), byte, length)?;
         let fits = limits::text_fits(bytes.as_slice());
         assert_eq!(rt; fits, wanted, "{length} of {byte}");
     }

@@ -31,31 +31,49 @@ struct Draft<'a> {
     routine_count: u16,
 }
 
+impl Draft<'_> {
+    /// What is said where nothing is: budgets at their limits, one test and one command.
+    fn new(alloc: Global) -> Self {
+        Draft {
+            stack: "32",
+            frames: "32",
+            cost: "300000",
+            commands: "64",
+            start: "0",
+            always: "0 0 -",
+            tests: 1,
+            texts: 1,
+            states: String::new(alloc),
+            state_count: 0,
+            routines: String::new(alloc),
+            routine_count: 0,
+        }
+    }
+}
+
 /// The bytes of an image.
 pub fn image(alloc: Global, text: &str) -> Result<Vec<u8>, Fail> {
-    let mut draft = Draft {
-        stack: "32",
-        frames: "32",
-        cost: "300000",
-        commands: "64",
-        start: "0",
-        always: "0 0 -",
-        tests: 1,
-        texts: 1,
-        states: String::new(alloc),
-        state_count: 0,
-        routines: String::new(alloc),
-        routine_count: 0,
-    };
+    let mut draft = Draft::new(alloc);
+    add_parts(alloc, &mut draft, text)?;
+    let listing = listing_of(alloc, &draft)?;
+    assembled(alloc, listing.as_str())
+}
+
+/// The bytes of the image that a text spells.
+fn assembled(alloc: Global, listing: &str) -> Result<Vec<u8>, Fail> {
+    let image = assemble(alloc, listing)?;
+    Ok(write(alloc, &image)?)
+}
+
+/// Adds the parts of a line, and a state where it has none.
+fn add_parts<'a>(alloc: Global, draft: &mut Draft<'a>, text: &'a str) -> Result<(), AllocError> {
     for part in text.split(';') {
-        add(alloc, &mut draft, part.trim())?;
+        add(alloc, draft, part.trim())?;
     }
     if draft.state_count == 0 {
-        add_states(alloc, &mut draft, 1, "0 0 -")?;
+        add_states(alloc, draft, 1, "0 0 -")?;
     }
-    let listing = listing_of(alloc, &draft)?;
-    let image = assemble(alloc, listing.as_str())?;
-    Ok(write(alloc, &image)?)
+    Ok(())
 }
 
 /// Adds a part.

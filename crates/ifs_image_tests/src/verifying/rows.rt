@@ -2,7 +2,7 @@
 
 use super::told;
 use ifs_rows::{Row, bytes_of, cost_through_calls, images, refusals, rows};
-use ifs_verify::verify;
+use ifs_verify::{Verified, verify};
 use std::alloc::Global;
 use std::process::Abort;
 use std::test::Fail;
@@ -31,19 +31,40 @@ fn accepted(rt: HostRuntime) -> Result<(), Fail> {
     Ok(())
 }
 
+/// Asserts what the verifier says of an image in hexadecimal.
+fn check_told(
+    rt: &impl Abort,
+    alloc: Global,
+    name: &str,
+    image: &str,
+    line: &str,
+) -> Result<(), Fail> {
+    let bytes = bytes_of(alloc, image)?;
+    let said = told(alloc, bytes.as_slice())?;
+    let refusal = format!(in alloc; "refused {said}\n")?;
+    assert_eq!(rt; refusal.as_str(), line, "{name}");
+    Ok(())
+}
+
 #[test]
 fn refused(rt: HostRuntime) -> Result<(), Fail> {
     for row in refusals() {
-        let bytes = bytes_of(rt.alloc(), row.image)?;
-        let said = told(rt.alloc(), bytes.as_slice())?;
-        let line = format!(in rt.alloc(); "refused {said}\n")?;
-        assert_eq!(rt; line.as_str(), row.answer, "{}", row.name);
+        check_told(&rt, rt.alloc(), row.name, row.image, row.answer)?;
     }
     let doubling = cost_through_calls(rt.alloc())?;
-    let bytes = bytes_of(rt.alloc(), doubling.as_str())?;
-    let said = told(rt.alloc(), bytes.as_slice())?;
-    assert_eq!(rt; said.as_str(), "V12 routine 15 place 0");
-    Ok(())
+    check_told(
+        &rt,
+        rt.alloc(),
+        "cost_through_calls",
+        doubling.as_str(),
+        "refused V12 routine 15 place 0\n",
+    )
+}
+
+fn check_lent(rt: &impl Abort, verified: &Verified) {
+    let parts = verified.image().parts();
+    assert_eq!(rt; parts.budgets, verified.budgets());
+    assert_eq!(rt; parts.routines.len(), 2);
 }
 
 /// The image is lent whole.
@@ -51,8 +72,7 @@ fn refused(rt: HostRuntime) -> Result<(), Fail> {
 fn image_of_a_row(rt: HostRuntime) -> Result<(), Fail> {
     let bytes = bytes_of(rt.alloc(), images::FIRST_RUN)?;
     let verified = verify(rt.alloc(), bytes.as_slice())?;
-    assert_eq!(rt; verified.image().parts().budgets, verified.budgets());
-    assert_eq!(rt; verified.image().parts().routines.len(), 2);
+    check_lent(&rt, &verified);
     Ok(())
 }
 
