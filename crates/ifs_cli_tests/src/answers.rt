@@ -3,13 +3,20 @@
 use ifs_cli::answering::answer;
 use ifs_cli::definitions::definition_of;
 use ifs_cli::files::{FileFault, whole};
-use ifs_cli::task::Task;
+use ifs_cli::task::{Answer, Task};
 use ifs_rows::policies::{accepted as policies, refused_names, refused_texts, refused_tokens};
 use ifs_rows::{Checked, bytes_of, cost_through_calls, refusals, rows};
 use std::alloc::Global;
 use std::io::{self, ErrorKind, Read};
 use std::process::Abort;
 use std::test::Fail;
+
+/// Asserts that an answer is these lines and this status, and no file.
+fn check_answer(rt: &impl Abort, answer: &Answer, name: &str, lines: &str, status: u8) {
+    assert_eq!(rt; answer.text.as_str(), lines, "{name}");
+    assert_eq!(rt; answer.status, status, "{name}");
+    assert!(rt; answer.file.is_none(), "{name}");
+}
 
 /// The answer to bytes in hexadecimal is this line and this status, and no file.
 fn check(
@@ -22,9 +29,7 @@ fn check(
 ) -> Result<(), Fail> {
     let bytes = bytes_of(alloc, image)?;
     let answer = answer(alloc, Task::Verify, bytes.as_slice(), &[])?;
-    assert_eq!(rt; answer.text.as_str(), line, "{name}");
-    assert_eq!(rt; answer.status, status, "{name}");
-    assert!(rt; answer.file.is_none(), "{name}");
+    check_answer(rt, &answer, name, line, status);
     Ok(())
 }
 
@@ -62,13 +67,8 @@ fn check_policy(
     lines: &str,
 ) -> Result<(), Fail> {
     let answer = answer(alloc, Task::Check, policy, defs)?;
-    assert_eq!(rt; answer.text.as_str(), lines, "{name}");
-    assert_eq!(rt;
-        answer.status,
-        u8::from(lines.starts_with("refused")),
-        "{name}"
-    );
-    assert!(rt; answer.file.is_none(), "{name}");
+    let status = u8::from(lines.starts_with("refused"));
+    check_answer(rt, &answer, name, lines, status);
     Ok(())
 }
 
@@ -144,30 +144,35 @@ impl Read for Failing {
     }
 }
 
-/// Of a reader every byte is there up to the limit; one more is refused, and so are its faults.
+/// Of a reader every byte is there.
 #[test]
 fn whole_files(rt: HostRuntime) -> Result<(), Fail> {
     let Ok(short) = whole(rt.alloc(), b"IFSV".as_slice()) else {
         return Err(Fail::from("a short file"));
     };
     assert_eq!(rt; short.as_slice(), b"IFSV".as_slice());
+    Ok(())
+}
+
+/// So many bytes are taken up to the limit, and one more is refused.
+#[test]
+fn longest_files(rt: HostRuntime) {
     let longest = whole(rt.alloc(), io::repeat(b'x').take(16_777_216));
     assert!(rt; longest.is_ok_and(|bytes| bytes.len() == 16_777_216));
     let longer = whole(rt.alloc(), io::repeat(b'x').take(16_777_217));
-    assert!(rt; matches!(longer, Err(FileFault::TooLarge)));
-    let closed = whole(
-        rt.alloc(),
-        Failing {
-            kind: ErrorKind::BrokenPipe,
-        },
-    );
-    assert!(rt; matches!(closed, Err(FileFault::System(_))));
-    let starved = whole(
-        rt.alloc(),
-        Failing {
-            kind: ErrorKind::OutOfMemory,
-        },
-    );
-    assert!(rt; matches!(starved, Err(FileFault::Memory)));
-    Ok(())
+    assert!(rt; longer.is_err_and(|fault| matches!(fault, FileFault::TooLarge)));
+}
+
+/// The fault of a reader whose reads all fail so.
+fn fault_of(alloc: Global, kind: ErrorKind) -> Option<FileFault> {
+    whole(alloc, Failing { kind }).err()
+}
+
+/// A read that fails is told by the system's words, and want of memory as such.
+#[test]
+fn failing_files(rt: HostRuntime) {
+    let closed = fault_of(rt.alloc(), ErrorKind::BrokenPipe);
+    assert!(rt; closed.is_some_and(|fault| matches!(fault, FileFault::System(_))));
+    let starved = fault_of(rt.alloc(), ErrorKind::OutOfMemory);
+    assert!(rt; starved.is_some_and(|fault| matches!(fault, FileFault::Memory)));
 }

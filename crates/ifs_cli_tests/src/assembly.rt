@@ -7,6 +7,12 @@ use std::alloc::Global;
 use std::process::Abort;
 use std::test::Fail;
 
+/// Asserts that an answer is this line and this status.
+fn check_line(rt: &impl Abort, answer: &Answer, name: &str, line: &str, status: u8) {
+    assert_eq!(rt; answer.text.as_str(), line, "{name}");
+    assert_eq!(rt; answer.status, status, "{name}");
+}
+
 /// Bytes in hexadecimal that spell an image are the same through its text; others are refused by this line.
 fn check_back(
     rt: &impl Abort,
@@ -16,34 +22,36 @@ fn check_back(
     line: &str,
 ) -> Result<(), Fail> {
     let bytes = bytes_of(alloc, image)?;
-    let Answer { status, text, file } = answer(alloc, Task::Disasm, bytes.as_slice(), &[])?;
-    assert!(rt; file.is_none(), "{name}");
+    let listing = answer(alloc, Task::Disasm, bytes.as_slice(), &[])?;
+    assert!(rt; listing.file.is_none(), "{name}");
     if line.starts_with("refused I") {
-        assert_eq!(rt; text.as_str(), line, "{name}");
-        assert_eq!(rt; status, 1, "{name}");
+        check_line(rt, &listing, name, line, 1);
         return Ok(());
     }
-    assert_eq!(rt; status, 0, "{name}");
-    check_assembled(rt, alloc, name, text.as_bytes(), bytes.as_slice())
+    assert_eq!(rt; listing.status, 0, "{name}");
+    check_text(rt, alloc, name, listing.text.as_bytes(), bytes.as_slice())
 }
 
 /// A text is assembled to these bytes.
-fn check_assembled(
+fn check_text(
     rt: &impl Abort,
     alloc: Global,
     name: &str,
-    listing: &[u8],
+    text: &[u8],
     bytes: &[u8],
 ) -> Result<(), Fail> {
-    let Answer { status, text, file } = answer(alloc, Task::Asm, listing, &[])?;
-    assert_eq!(rt; status, 0, "{name}");
+    let assembled = answer(alloc, Task::Asm, text, &[])?;
     let told = format!(in alloc; "ok {} bytes\n", bytes.len())?;
-    assert_eq!(rt; text.as_str(), told.as_str(), "{name}");
-    let Some(file) = file else {
-        return Err(Fail::from("no image"));
-    };
-    assert_eq!(rt; file.as_slice(), bytes, "{name}");
+    check_line(rt, &assembled, name, told.as_str(), 0);
+    check_file(rt, &assembled, name, bytes);
     Ok(())
+}
+
+fn check_file(rt: &impl Abort, answer: &Answer, name: &str, bytes: &[u8]) {
+    match &answer.file {
+        Some(file) => assert_eq!(rt; file.as_slice(), bytes, "{name}"),
+        None => panic!(rt; "no image: {name}"),
+    }
 }
 
 #[test]
@@ -106,8 +114,7 @@ fn refused_assembly_texts(rt: HostRuntime) -> Result<(), Fail> {
     ];
     for (name, bytes, line) in rows {
         let answer = answer(rt.alloc(), Task::Asm, bytes, &[])?;
-        assert_eq!(rt; answer.text.as_str(), line, "{name}");
-        assert_eq!(rt; answer.status, 1, "{name}");
+        check_line(&rt, &answer, name, line, 1);
         assert!(rt; answer.file.is_none(), "{name}");
     }
     Ok(())

@@ -24,7 +24,22 @@ fn notes_in(lines: &str) -> &str {
     }
 }
 
-/// The image of a text that compiles; its notes and the length of the image are what is printed.
+/// Asserts what is printed of a text that compiles: its notes and the length of the image.
+fn check_compiled(
+    rt: &impl Abort,
+    alloc: Global,
+    name: &str,
+    notes: &str,
+    compiled: &Answer,
+) -> Result<(), Fail> {
+    let length = compiled.file.as_ref().map_or(0, Vec::len);
+    let expected = format!(in alloc; "{notes}ok {length} bytes\n")?;
+    assert_eq!(rt; compiled.text.as_str(), expected.as_str(), "{name}");
+    assert_eq!(rt; compiled.status, 0, "{name}");
+    Ok(())
+}
+
+/// The image of a text that compiles; its notes are those that `check` tells.
 fn image_of(
     rt: &impl Abort,
     alloc: Global,
@@ -33,18 +48,20 @@ fn image_of(
     defs: &[(&str, &str)],
 ) -> Result<Vec<u8>, Fail> {
     let checked = answer(alloc, Task::Check, policy.as_bytes(), defs)?;
-    let Answer { status, text, file } = answer(alloc, Task::Compile, policy.as_bytes(), defs)?;
-    let Some(image) = file else {
-        return Err(Fail::from("no image"));
-    };
-    let expected = format!(in alloc;
-        "{}ok {} bytes\n",
-        notes_in(checked.text.as_str()),
-        image.len()
-    )?;
-    assert_eq!(rt; text.as_str(), expected.as_str(), "{name}");
-    assert_eq!(rt; status, 0, "{name}");
-    Ok(image)
+    let compiled = answer(alloc, Task::Compile, policy.as_bytes(), defs)?;
+    let notes = notes_in(checked.text.as_str());
+    check_compiled(rt, alloc, name, notes, &compiled)?;
+    Ok(file_of(compiled).ok_or("an image")?)
+}
+
+/// The file of an answer.
+fn file_of(answer: Answer) -> Option<Vec<u8>> {
+    let Answer {
+        status: _status,
+        text: _text,
+        file,
+    } = answer;
+    file
 }
 
 /// A core on an image.
@@ -61,6 +78,14 @@ fn reply(core: &mut Core, requests: &str, output: &mut MemoryOut) -> Result<(), 
     Ok(())
 }
 
+/// What is written on requests.
+fn replies_to(alloc: Global, image: &[u8], requests: &str) -> Result<MemoryOut, Fail> {
+    let mut core = opened(alloc, image)?;
+    let mut output = MemoryOut::new(alloc);
+    reply(&mut core, requests, &mut output)?;
+    Ok(output)
+}
+
 /// On an image the requests have these replies.
 fn talk(
     rt: &impl Abort,
@@ -70,9 +95,7 @@ fn talk(
     requests: &str,
     replies: &str,
 ) -> Result<(), Fail> {
-    let mut core = opened(alloc, image)?;
-    let mut output = MemoryOut::new(alloc);
-    reply(&mut core, requests, &mut output)?;
+    let output = replies_to(alloc, image, requests)?;
     assert_eq!(rt; output.written(), replies.as_bytes(), "{name}");
     Ok(())
 }
@@ -177,6 +200,12 @@ fn compiled_texts(rt: HostRuntime) -> Result<(), Fail> {
     Ok(())
 }
 
+fn check_refused(rt: &impl Abort, refused: &Answer, name: &str, line: &str) {
+    assert_eq!(rt; refused.text.as_str(), line, "{name}");
+    assert_eq!(rt; refused.status, 1, "{name}");
+    assert!(rt; refused.file.is_none(), "{name}");
+}
+
 /// What a text that is refused gets is one line and no file.
 fn refuse(
     rt: &impl Abort,
@@ -187,9 +216,7 @@ fn refuse(
     line: &str,
 ) -> Result<(), Fail> {
     let refused = answer(alloc, Task::Compile, policy, defs)?;
-    assert_eq!(rt; refused.text.as_str(), line, "{name}");
-    assert_eq!(rt; refused.status, 1, "{name}");
-    assert!(rt; refused.file.is_none(), "{name}");
+    check_refused(rt, &refused, name, line);
     Ok(())
 }
 

@@ -5,8 +5,9 @@ use ifs_cli::shell::Shell;
 use ifs_session::{Host, HostFault};
 use std::alloc::{Allocator, Global};
 use std::io::{self, Empty, ErrorKind, Sink};
+use std::ops::Range;
 use std::os::unix::process::ExitStatusExt;
-use std::process::{Child, Command, ExitStatus, OpenProcess, Processes, Stdio};
+use std::process::{Abort, Child, Command, ExitStatus, OpenProcess, Processes, Stdio};
 use std::test::Fail;
 
 /// How a program ends, by its text.
@@ -88,20 +89,50 @@ impl Processes for Stage {
     }
 }
 
-/// The first started that has ended is told first, each once.
+/// A test, the number of its run, and the text that is started.
+type Started = (u16, u64, &'static str);
+
+/// Starts these tests, in order.
+fn start_all(host: &mut Shell<'_, Stage>, starts: &[Started]) {
+    for (test, run, text) in starts {
+        host.start(TestId(*test), *run, text);
+    }
+}
+
+/// Asserts that these ends are told, in order, and then none.
+fn check_polls(rt: &impl Abort, host: &mut Shell<'_, Stage>, ends: &[(u16, u64, bool)]) {
+    for (test, run, value) in ends {
+        assert_eq!(rt;
+            host.poll(),
+            Some((TestId(*test), *run, *value)),
+            "run {run}"
+        );
+    }
+    assert_eq!(rt; host.poll(), None);
+}
+
+/// The first started that has ended is told first, each once; one that sleeps goes on.
 #[test]
 fn ended_tests_in_order(rt: HostRuntime) -> Result<(), Fail> {
     let stage = Stage { alloc: rt.alloc() };
     let mut host = Shell::new(&stage)?;
-    let texts = ["sleep 60", "exit 3", "exit 0", "kill -9 $$", "lost"];
-    for (index, text) in texts.iter().enumerate() {
-        host.start(TestId(index as u16), 10 + index as u64, text);
-    }
-    assert_eq!(rt; host.poll(), Some((TestId(1), 11, false)), "exit 3");
-    assert_eq!(rt; host.poll(), Some((TestId(2), 12, true)), "exit 0");
-    assert_eq!(rt; host.poll(), Some((TestId(3), 13, false)), "killed");
-    assert_eq!(rt; host.poll(), Some((TestId(4), 14, false)), "lost");
-    assert_eq!(rt; host.poll(), None, "the sleeping one runs");
+    start_all(
+        &mut host,
+        &[
+            (0, 10, "sleep 60"),
+            (1, 11, "exit 3"),
+            (2, 12, "exit 0"),
+            (3, 13, "kill -9 $$"),
+            (4, 14, "lost"),
+        ],
+    );
+    let ends = [
+        (1, 11, false),
+        (2, 12, true),
+        (3, 13, false),
+        (4, 14, false),
+    ];
+    check_polls(&rt, &mut host, ends.as_slice());
     Ok(())
 }
 
@@ -111,15 +142,26 @@ fn ended_tests_in_order(rt: HostRuntime) -> Result<(), Fail> {
 fn failed_starts(rt: HostRuntime) -> Result<(), Fail> {
     let stage = Stage { alloc: rt.alloc() };
     let mut host = Shell::new(&stage)?;
-    host.start(TestId(0), 1, "exit 0");
-    host.start(TestId(1), 2, "no program");
-    host.start(TestId(2), 3, "no program");
-    host.start(TestId(1), 4, "no program");
-    assert_eq!(rt; host.poll(), Some((TestId(2), 3, false)));
-    assert_eq!(rt; host.poll(), Some((TestId(1), 4, false)));
-    assert_eq!(rt; host.poll(), Some((TestId(0), 1, true)));
-    assert_eq!(rt; host.poll(), None);
+    start_all(
+        &mut host,
+        &[
+            (0, 1, "exit 0"),
+            (1, 2, "no program"),
+            (2, 3, "no program"),
+            (1, 4, "no program"),
+        ],
+    );
+    let ends = [(2, 3, false), (1, 4, false), (0, 1, true)];
+    check_polls(&rt, &mut host, ends.as_slice());
     Ok(())
+}
+
+/// Asserts that the ends of these runs are told, in order.
+fn check_runs(rt: &impl Abort, host: &mut Shell<'_, Stage>, runs: Range<u64>, value: bool) {
+    for run in runs {
+        let end = (TestId((run % 64) as u16), run, value);
+        assert_eq!(rt; host.poll(), Some(end));
+    }
 }
 
 /// 256 programs run at once; a test beyond them is told as false.
@@ -130,20 +172,24 @@ fn places(rt: HostRuntime) -> Result<(), Fail> {
     for run in 0..320 {
         host.start(TestId((run % 64) as u16), run, "exit 0");
     }
-    for run in 256..320 {
-        assert_eq!(rt; host.poll(), Some((TestId((run % 64) as u16), run, false)));
-    }
-    for run in 0..256 {
-        assert_eq!(rt; host.poll(), Some((TestId((run % 64) as u16), run, true)));
-    }
-    assert_eq!(rt; host.poll(), None);
-    host.start(TestId(0), 320, "exit 0");
-    assert_eq!(rt;
-        host.poll(),
-        Some((TestId(0), 320, true)),
-        "a place is free again"
-    );
+    check_runs(&rt, &mut host, 256..320, false);
+    check_runs(&rt, &mut host, 0..256, true);
+    check_polls(&rt, &mut host, &[]);
+    start_all(&mut host, &[(0, 320, "exit 0")]);
+    check_polls(&rt, &mut host, &[(0, 320, true)]);
     Ok(())
+}
+
+fn check_commands(rt: &impl Abort, host: &mut Shell<'_, Stage>) {
+    for (text, wanted) in [
+        ("exit 0", Ok(0)),
+        ("exit 3", Ok(3)),
+        ("kill -9 $$", Ok(137)),
+        ("no program", Err(HostFault)),
+        ("lost", Err(HostFault)),
+    ] {
+        assert_eq!(rt; host.run(text), wanted, "{text}");
+    }
 }
 
 /// A command is waited for, and tells the number of its end.
@@ -151,10 +197,6 @@ fn places(rt: HostRuntime) -> Result<(), Fail> {
 fn commands(rt: HostRuntime) -> Result<(), Fail> {
     let stage = Stage { alloc: rt.alloc() };
     let mut host = Shell::new(&stage)?;
-    assert_eq!(rt; host.run("exit 0"), Ok(0));
-    assert_eq!(rt; host.run("exit 3"), Ok(3));
-    assert_eq!(rt; host.run("kill -9 $$"), Ok(137));
-    assert_eq!(rt; host.run("no program"), Err(HostFault));
-    assert_eq!(rt; host.run("lost"), Err(HostFault));
+    check_commands(&rt, &mut host);
     Ok(())
 }

@@ -5,8 +5,8 @@ use std::alloc::Allocator;
 use std::cell::Cell;
 use std::fs::{Metadata, OpenFile, OpenOptions, Permissions};
 use std::io::{self, ErrorKind, Read, Seek, SeekFrom, Write};
+use std::process::Abort;
 use std::rt::Files;
-use std::test::Fail;
 
 const OLD: usize = 3;
 
@@ -167,19 +167,24 @@ impl<'a> Files for View<'a> {
     }
 }
 
+/// Asserts what stands in a folder once an image was written, or a call failed.
+fn check_folder(rt: &impl Abort, folder: &Folder, old: Option<usize>, has_failed: bool) {
+    let fails_at = folder.fails_at;
+    let is_reached = fails_at < folder.calls.get();
+    assert_eq!(rt; has_failed, is_reached, "{fails_at}");
+    let standing = if has_failed { old } else { Some(IMAGE.len()) };
+    assert_eq!(rt; folder.image.get(), standing, "{fails_at}");
+    assert_eq!(rt; folder.fresh.get(), None, "{fails_at}");
+}
+
 /// Whichever call fails, the old image stands and the new file is gone; where none does the image is new.
 #[test]
-fn whole_or_not_at_all(rt: HostRuntime) -> Result<(), Fail> {
+fn whole_or_not_at_all(rt: HostRuntime) {
     for old in [None, Some(OLD)] {
         for fails_at in 0..12 {
             let folder = Folder::new(old, fails_at);
             let written = write_image(&(View(&folder), rt.alloc()), "image", IMAGE);
-            let is_failed = fails_at < folder.calls.get();
-            assert_eq!(rt; written.is_err(), is_failed, "{fails_at}");
-            let standing = if is_failed { old } else { Some(IMAGE.len()) };
-            assert_eq!(rt; folder.image.get(), standing, "{fails_at}");
-            assert_eq!(rt; folder.fresh.get(), None, "{fails_at}");
+            check_folder(&rt, &folder, old, written.is_err());
         }
     }
-    Ok(())
 }

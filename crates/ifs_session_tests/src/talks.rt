@@ -63,18 +63,54 @@ fn run_buffered(alloc: Global, input: &[u8]) -> Result<(Summary, Vec<u8>), Fail>
     Ok((summary, written))
 }
 
-/// Each row's replies are written, and its last request says whether the session was stopped.
+/// Asserts what a run writes whose lines are read byte by byte. Whether it was stopped.
+fn check_bytewise(
+    rt: &impl Abort,
+    alloc: Global,
+    name: &str,
+    input: &[u8],
+    replies: &str,
+) -> Result<bool, Fail> {
+    let (summary, written) = run_bytewise(alloc, input)?;
+    assert_eq!(rt; written.as_slice(), replies.as_bytes(), "{name}");
+    Ok(summary.stopped)
+}
+
+/// The same of one whose lines are lent.
+fn check_buffered(
+    rt: &impl Abort,
+    alloc: Global,
+    name: &str,
+    input: &[u8],
+    replies: &str,
+) -> Result<bool, Fail> {
+    let (summary, written) = run_buffered(alloc, input)?;
+    assert_eq!(rt; written.as_slice(), replies.as_bytes(), "{name}");
+    Ok(summary.stopped)
+}
+
+/// Replies to the requests on an image are written, and the last request says whether the session was stopped.
+fn check_talk(
+    rt: &impl Abort,
+    alloc: Global,
+    name: &str,
+    (image, requests): (&str, &str),
+    replies: &str,
+) -> Result<(), Fail> {
+    let bytes = input_of(alloc, image, requests)?;
+    let stops = requests.ends_with("stop\n");
+    let stopped = check_bytewise(rt, alloc, name, bytes.as_slice(), replies)?;
+    assert_eq!(rt; stopped, stops, "{name}");
+    let stopped = check_buffered(rt, alloc, name, bytes.as_slice(), replies)?;
+    assert_eq!(rt; stopped, stops, "{name}");
+    Ok(())
+}
+
 #[test]
 fn rows(rt: HostRuntime) -> Result<(), Fail> {
     for row in sessions::rows() {
-        let bytes = input_of(rt.alloc(), row.image, row.requests)?;
-        let stops = row.requests.ends_with("stop\n");
-        let (summary, written) = run_bytewise(rt.alloc(), bytes.as_slice())?;
-        assert_eq!(rt; written.as_slice(), row.replies.as_bytes(), "{}", row.name);
-        assert_eq!(rt; summary.stopped, stops, "{}", row.name);
-        let (summary, written) = run_buffered(rt.alloc(), bytes.as_slice())?;
-        assert_eq!(rt; written.as_slice(), row.replies.as_bytes(), "{}", row.name);
-        assert_eq!(rt; summary.stopped, stops, "{}", row.name);
+        let talk = (row.image, row.requests);
+        check_talk(&rt, rt.alloc(), row.name, talk, row.replies)?;
     }
     Ok(())
 }
@@ -82,37 +118,49 @@ fn rows(rt: HostRuntime) -> Result<(), Fail> {
 #[test]
 fn talks(rt: HostRuntime) -> Result<(), Fail> {
     for (name, image, requests, replies) in TALKS {
-        let bytes = input_of(rt.alloc(), image, requests)?;
-        let (_, written) = run_bytewise(rt.alloc(), bytes.as_slice())?;
-        assert_eq!(rt; written.as_slice(), replies.as_bytes(), "{name}");
-        let (_, written) = run_buffered(rt.alloc(), bytes.as_slice())?;
-        assert_eq!(rt; written.as_slice(), replies.as_bytes(), "{name}");
+        check_talk(&rt, rt.alloc(), name, (image, requests), replies)?;
     }
     Ok(())
 }
 
-/// Of lines that are read byte by byte and of such that are lent.
-#[test]
-fn what_follows_stop_is_left(rt: HostRuntime) -> Result<(), Fail> {
-    let bytes = input_of(
-        rt.alloc(),
+/// An image and requests after `stop`.
+fn stopping(alloc: Global) -> Result<Vec<u8>, AllocError> {
+    input_of(
+        alloc,
         images::FIRST_RUN,
         "link carp0 up\nwhat\nstop\ntake\n",
-    )?;
+    )
+}
+
+fn check_stopped(rt: &impl Abort, summary: Summary, left: &[u8]) {
     let expected = Summary {
         requests: 3,
         steps: 1,
         stopped: true,
     };
+    assert_eq!(rt; summary, expected);
+    assert_eq!(rt; left, b"take\n".as_slice());
+}
+
+/// Of lines that are read byte by byte.
+#[test]
+fn what_follows_stop_is_left(rt: HostRuntime) -> Result<(), Fail> {
+    let bytes = stopping(rt.alloc())?;
     let mut output = MemoryOut::new(rt.alloc());
     let mut input = MemoryIn::new(bytes.as_slice());
     let summary = run_hex(rt.alloc(), &mut input, &mut output)?;
-    assert_eq!(rt; summary, expected);
-    assert_eq!(rt; input.left(), b"take\n".as_slice());
+    check_stopped(&rt, summary, input.left());
+    Ok(())
+}
+
+/// Of lines that are lent.
+#[test]
+fn what_follows_a_lent_stop_is_left(rt: HostRuntime) -> Result<(), Fail> {
+    let bytes = stopping(rt.alloc())?;
+    let mut output = MemoryOut::new(rt.alloc());
     let mut input = FromRead::new(bytes.as_slice());
     let summary = run_hex(rt.alloc(), &mut input, &mut output)?;
-    assert_eq!(rt; summary, expected);
-    assert_eq!(rt; input.peek(), b"take\n".as_slice());
+    check_stopped(&rt, summary, input.peek());
     Ok(())
 }
 
@@ -159,27 +207,47 @@ fn each_read_fails_in_turn(rt: HostRuntime) -> Result<(), Fail> {
     Ok(())
 }
 
+/// Asserts what a run came to whose write after so many calls fails. Whether there was such a write.
+fn check_cut(
+    rt: &impl Abort,
+    answer: Result<Summary, RunFault>,
+    written: &[u8],
+    calls: u64,
+) -> bool {
+    let replies = sessions::first_run().replies;
+    assert!(rt; replies.as_bytes().starts_with(written), "{calls}");
+    if answer.is_ok() {
+        return false;
+    }
+    let fault = RunFault::Session(SessionFault::WriteFailed);
+    assert_eq!(rt; answer, Err(fault), "{calls}");
+    true
+}
+
 /// Each write fails in turn: what was written is the beginning of the replies.
 #[test]
 fn each_write_fails_in_turn(rt: HostRuntime) -> Result<(), Fail> {
     let bytes = row_input(rt.alloc(), sessions::first_run())?;
-    let replies = sessions::first_run().replies;
     for calls in 0..100 {
         let mut input = MemoryIn::new(bytes.as_slice());
         let mut output = MemoryOut::failing_after(rt.alloc(), calls);
         let answer = run_hex(rt.alloc(), &mut input, &mut output);
-        assert!(rt; replies.as_bytes().starts_with(output.written()), "{calls}");
-        if answer.is_ok() {
+        if !check_cut(&rt, answer, output.written(), calls) {
             assert!(rt; calls > 5, "{calls}");
             return Ok(());
         }
-        assert_eq!(rt;
-            answer,
-            Err(RunFault::Session(SessionFault::WriteFailed)),
-            "{calls}"
-        );
     }
     assert!(rt; false, "some call is past the last");
+    Ok(())
+}
+
+/// Asserts that the first reply was written and not all of them.
+fn check_first_written(rt: &impl Abort, alloc: Global, written: &[u8]) -> Result<(), AllocError> {
+    let first = first_replies(alloc, sessions::first_run(), 1)?;
+    let all = sessions::first_run().replies;
+    assert!(rt; written.starts_with(first.as_bytes()));
+    assert!(rt; all.as_bytes().starts_with(written));
+    assert!(rt; written.len() < all.len());
     Ok(())
 }
 
@@ -193,11 +261,7 @@ fn growth_refused(rt: HostRuntime) -> Result<(), Fail> {
     let mut output = MemoryOut::new(&heap);
     let answer = run_hex(rt.alloc(), &mut input, &mut output);
     assert_eq!(rt; answer, Err(RunFault::Session(SessionFault::WriteFailed)));
-    let first = first_replies(rt.alloc(), sessions::first_run(), 1)?;
-    let all = sessions::first_run().replies;
-    assert!(rt; output.written().starts_with(first.as_bytes()));
-    assert!(rt; all.as_bytes().starts_with(output.written()));
-    assert!(rt; output.written().len() < all.len());
+    check_first_written(&rt, rt.alloc(), output.written())?;
     Ok(())
 }
 

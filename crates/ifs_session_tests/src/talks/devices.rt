@@ -10,6 +10,7 @@ use ifs_session::{
 use std::alloc::{AllocError, Global};
 use std::cell::Cell;
 use std::io::{self, ErrorKind, Read, Write};
+use std::process::Abort;
 use std::test::Fail;
 
 /// So many bytes, no two neighbours of which are the same, nor two at the distance of a buffer.
@@ -70,6 +71,22 @@ const READERS: [(&str, usize, u32, ErrorKind, u32); 6] = [
     ("failing between buffers", 65_536, 2, ErrorKind::Other, 1),
 ];
 
+/// How often a reader fails that gives these bytes, in their order, and then the end.
+fn failures_of(rt: &impl Abort, name: &str, input: &mut FromRead<Pieces<'_>>, bytes: &[u8]) -> u32 {
+    let mut failed: u32 = 0;
+    for byte in bytes {
+        let mut next = input.next();
+        if next == Err(DeviceFault) {
+            failed = failed.saturating_add(1);
+            next = input.next();
+        }
+        assert_eq!(rt; next, Ok(Some(*byte)), "{name}");
+    }
+    assert_eq!(rt; input.next(), Ok(None), "{name}");
+    assert_eq!(rt; input.next(), Ok(None), "{name}");
+    failed
+}
+
 /// Each byte comes, in its order, over several buffers; a read that fails is told as such, once, and
 /// is not the end of input.
 #[test]
@@ -83,18 +100,8 @@ fn bytes_over_several_buffers(rt: HostRuntime) -> Result<(), Fail> {
             fails_at,
             kind,
         });
-        let mut failed: u32 = 0;
-        for byte in &bytes {
-            let mut next = input.next();
-            if next == Err(DeviceFault) {
-                failed = failed.saturating_add(1);
-                next = input.next();
-            }
-            assert_eq!(rt; next, Ok(Some(*byte)), "{name}");
-        }
+        let failed = failures_of(&rt, name, &mut input, bytes.as_slice());
         assert_eq!(rt; failed, failures, "{name}");
-        assert_eq!(rt; input.next(), Ok(None), "{name}");
-        assert_eq!(rt; input.next(), Ok(None), "{name}");
     }
     Ok(())
 }
@@ -248,6 +255,12 @@ impl ByteOut for Holding<'_> {
     }
 }
 
+/// Asserts that these lines have gone out, and that nothing is held back.
+fn check_gone(rt: &impl Abort, output: &Holding<'_>, lines: &str, name: &str) {
+    assert_eq!(rt; output.gone.as_slice(), lines.as_bytes(), "{name}");
+    assert!(rt; output.held.is_empty(), "{name}");
+}
+
 /// A reader whose bytes come in pieces of these lengths, and then the rest, each of which is waited
 /// for. It counts the waits at which the writer holds something back.
 #[derive(Drop)]
@@ -327,9 +340,8 @@ fn replies_go_out_before_a_wait(rt: HostRuntime) -> Result<(), Fail> {
         let answer = run_hex(rt.alloc(), &mut input, &mut output);
         assert!(rt; answer.is_ok(), "{name}");
         assert_eq!(rt; input.late, 0, "{name}");
-        assert_eq!(rt; output.gone.as_slice(), row.replies.as_bytes(), "{name}");
-        assert!(rt; output.held.is_empty(), "{name}");
         assert_eq!(rt; output.flushes, flushes, "{name}");
+        check_gone(&rt, &output, row.replies, name);
     }
     Ok(())
 }
@@ -344,13 +356,7 @@ fn refusals_go_out(rt: HostRuntime) -> Result<(), Fail> {
         let mut output = Holding::new(rt.alloc(), &shown);
         let answer = run_hex(rt.alloc(), &mut input, &mut output);
         assert!(rt; answer.is_err(), "{}", refusal.name);
-        assert_eq!(rt;
-            output.gone.as_slice(),
-            refusal.answer.as_bytes(),
-            "{}",
-            refusal.name
-        );
-        assert!(rt; output.held.is_empty(), "{}", refusal.name);
+        check_gone(&rt, &output, refusal.answer, refusal.name);
     }
     Ok(())
 }

@@ -5,12 +5,12 @@ use ifs_base::{IfaceId, LinkState, TestId};
 use ifs_core::{Core, Step};
 use ifs_rows::{bytes_of, images, sessions};
 use ifs_session::{
-    End, HostFault, HostText, Launch, MemoryIn, MemoryOut, ScriptHost, SessionFault, run_queue,
-    serve_one,
+    ByteIn, End, HostFault, HostText, Launch, MemoryIn, MemoryOut, ScriptHost, Served,
+    SessionFault, run_queue, serve_one,
 };
 use ifs_verify::verify;
 use linked_list_allocator::LocalHeap;
-use std::alloc::{Allocator, Global};
+use std::alloc::{AllocError, Allocator, Global};
 use std::process::Abort;
 use std::test::Fail;
 
@@ -26,6 +26,54 @@ fn opened(rt: &impl Abort, alloc: Global, image: &str) -> Core {
 /// A host whose polls and runs answer nothing.
 fn quiet<A: Allocator + Copy>(alloc: A, script: Global) -> ScriptHost<A> {
     ScriptHost::new(alloc, Vec::new(script), Vec::new(script))
+}
+
+/// What a connection came to. One that is looked at is lent to a function that asserts, so that no
+/// assertion stands where all of it is dropped.
+#[derive(Drop)]
+struct Talk<A: Allocator + Copy> {
+    core: Core,
+    host: ScriptHost<A>,
+    output: MemoryOut<Global>,
+    served: Served,
+}
+
+impl<A: Allocator + Copy> Talk<A> {
+    /// Serves a connection of this input over this host, on the image of these digits.
+    fn new(
+        rt: &impl Abort,
+        alloc: Global,
+        image: &str,
+        mut host: ScriptHost<A>,
+        input: &mut impl ByteIn,
+        mut output: MemoryOut<Global>,
+    ) -> Self {
+        let mut core = opened(rt, alloc, image);
+        let served = serve_one(&mut core, &mut host, input, &mut output);
+        Talk {
+            core,
+            host,
+            output,
+            served,
+        }
+    }
+
+    /// What was written.
+    fn written(&self) -> &[u8] {
+        self.output.written()
+    }
+
+    /// How many lines were written.
+    fn lines(&self) -> usize {
+        let newlines = self.written().iter().filter(|byte| **byte == b'\n');
+        newlines.count()
+    }
+}
+
+/// A connection of these requests on the image of these digits, over a host that answers nothing.
+fn quiet_talk(rt: &impl Abort, alloc: Global, image: &str, input: &mut MemoryIn) -> Talk<Global> {
+    let output = MemoryOut::new(alloc);
+    Talk::new(rt, alloc, image, quiet(alloc, alloc), input, output)
 }
 
 /// One test was started, with this run number and text.
@@ -47,100 +95,124 @@ fn check_last_text(rt: &impl Abort, texts: &[HostText], count: usize, text: &str
     }
 }
 
-/// The row of macros: a test is started, fails, and its command is run before the reply to `status`.
-#[test]
-fn macros(rt: HostRuntime) -> Result<(), Fail> {
-    let mut core = opened(&rt, rt.alloc(), images::MACROS);
-    let ended = Some((TestId(0), 1, false));
-    let endings = vec![in rt.alloc(); None, ended, None]?;
-    let mut host = ScriptHost::new(rt.alloc(), endings, Vec::new(rt.alloc()));
-    let mut input = MemoryIn::new(b"tick 0\nstatus\nstop\n");
-    let mut output = MemoryOut::new(rt.alloc());
-    let served = serve_one(&mut core, &mut host, &mut input, &mut output);
-    let replies = "tick \"a\" cost 4 queue - starts 0:1\n\
-                   status \"a\" owed no queue 0 running 0 now 0\n\
-                   bye\n";
-    assert_eq!(rt; output.written(), replies.as_bytes());
+/// The end of the only run of the row of macros.
+const MACROS_ENDING: (TestId, u64, bool) = (TestId(0), 1, false);
+
+const MACROS_REPLIES: &str = "tick \"a\" cost 4 queue - starts 0:1\n\
+                              status \"a\" owed no queue 0 running 0 now 0\n\
+                              bye\n";
+
+fn check_macros(rt: &impl Abort, talk: &Talk<Global>) {
+    assert_eq!(rt; talk.written(), MACROS_REPLIES.as_bytes());
     let steps = [
         Step::Tick(0),
         Step::Finished(TestId(0), 1, false),
         Step::Take,
     ];
-    assert_eq!(rt; served.steps.as_slice(), steps.as_slice());
-    assert_eq!(rt; served.end, End::Stop);
+    assert_eq!(rt; talk.served.steps.as_slice(), steps.as_slice());
+    assert_eq!(rt; talk.served.end, End::Stop);
+    check_macros_host(rt, &talk.host);
+}
+
+fn check_macros_host(rt: &impl Abort, host: &ScriptHost<Global>) {
     assert!(rt; host.whole());
-    check_start(&rt, host.starts(), TestId(0), 1, "ping -q -c 1 host");
-    check_last_text(&rt, host.texts(), 1, "echo d");
-    assert_eq!(rt; host.polls(), [None, ended, None, None].as_slice());
+    check_start(rt, host.starts(), TestId(0), 1, "ping -q -c 1 host");
+    check_last_text(rt, host.texts(), 1, "echo d");
+    let polls = [None, Some(MACROS_ENDING), None, None];
+    assert_eq!(rt; host.polls(), polls.as_slice());
+}
+
+/// The row of macros: a test is started, fails, and its command is run before the reply to `status`.
+#[test]
+fn macros(rt: HostRuntime) -> Result<(), Fail> {
+    let endings = vec![in rt.alloc(); None, Some(MACROS_ENDING), None]?;
+    let talk = Talk::new(
+        &rt,
+        rt.alloc(),
+        images::MACROS,
+        ScriptHost::new(rt.alloc(), endings, Vec::new(rt.alloc())),
+        &mut MemoryIn::new(b"tick 0\nstatus\nstop\n"),
+        MemoryOut::new(rt.alloc()),
+    );
+    check_macros(&rt, &talk);
     Ok(())
+}
+
+/// The line `tick 0`, so many times.
+fn ticks(alloc: Global, count: u32) -> Result<Vec<u8>, AllocError> {
+    let mut requests = Vec::new(alloc);
+    for _ in 0..count {
+        requests.extend_from_slice(b"tick 0\n")?;
+    }
+    Ok(requests)
+}
+
+fn check_full(rt: &impl Abort, talk: &Talk<Global>, left: &[u8]) {
+    assert_eq!(rt; talk.served.end, End::Full);
+    assert_eq!(rt; talk.served.steps.len(), 448);
+    assert_eq!(rt; left, b"tick 0\n".as_slice());
+    assert_eq!(rt; talk.lines(), 448);
 }
 
 /// 449 ticks: 448 are answered, and the last line is unread.
 #[test]
 fn full(rt: HostRuntime) -> Result<(), Fail> {
-    let mut core = opened(&rt, rt.alloc(), images::SMALLEST_IMAGE);
-    let mut host = quiet(rt.alloc(), rt.alloc());
-    let mut requests = Vec::new(rt.alloc());
-    for _ in 0..449 {
-        requests.extend_from_slice(b"tick 0\n")?;
-    }
+    let requests = ticks(rt.alloc(), 449)?;
     let mut input = MemoryIn::new(requests.as_slice());
-    let mut output = MemoryOut::new(rt.alloc());
-    let served = serve_one(&mut core, &mut host, &mut input, &mut output);
-    assert_eq!(rt; served.end, End::Full);
-    assert_eq!(rt; served.steps.len(), 448);
-    assert_eq!(rt; input.left(), b"tick 0\n".as_slice());
-    let lines = output
-        .written()
-        .iter()
-        .filter(|byte| **byte == b'\n')
-        .count();
-    assert_eq!(rt; lines, 448);
+    let talk = quiet_talk(&rt, rt.alloc(), images::SMALLEST_IMAGE, &mut input);
+    check_full(&rt, &talk, input.left());
     Ok(())
+}
+
+const REFUSED_REPLIES: &str = "fault C1\nfault C1\nfault C1\nfault C1\nfault C4\nfault C3\n\
+     done \"a\" cost 6 queue 0\n\
+     trace 2\n\
+     link 0 up -> done \"a\" cost 6 queue 1\n\
+     take -> taken \"a\" cost 0 queue 0\n\
+     fault C1\n";
+
+fn check_refused(rt: &impl Abort, talk: &Talk<Global>) {
+    assert_eq!(rt; talk.written(), REFUSED_REPLIES.as_bytes());
+    assert_eq!(rt; talk.served.end, End::Closed);
+    let steps = [Step::Link(IfaceId(0), LinkState::Up), Step::Take];
+    assert_eq!(rt; talk.served.steps.as_slice(), steps.as_slice());
+    check_last_text(rt, talk.host.texts(), 1, "echo m");
 }
 
 /// A client's `result` and `take` are no requests, whatever their numbers; a line too long is told so first.
 #[test]
-fn what_hosts_do_is_no_request(rt: HostRuntime) -> Result<(), Fail> {
-    let mut core = opened(&rt, rt.alloc(), images::FIRST_RUN);
-    let mut host = quiet(rt.alloc(), rt.alloc());
+fn what_hosts_do_is_no_request(rt: HostRuntime) {
     let requests =
         b"result 0 1 ok\ntake\nresult 99999 1 ok\ntakes\nlink carp1 up\ntick 99999999999999999999\nlink carp0 up\ntrace\ntake";
     let mut input = MemoryIn::new(requests);
-    let mut output = MemoryOut::new(rt.alloc());
-    let served = serve_one(&mut core, &mut host, &mut input, &mut output);
-    let replies = "fault C1\nfault C1\nfault C1\nfault C1\nfault C4\nfault C3\n\
-                   done \"a\" cost 6 queue 0\n\
-                   trace 2\n\
-                   link 0 up -> done \"a\" cost 6 queue 1\n\
-                   take -> taken \"a\" cost 0 queue 0\n\
-                   fault C1\n";
-    assert_eq!(rt; output.written(), replies.as_bytes());
-    assert_eq!(rt; served.end, End::Closed);
-    let steps = [Step::Link(IfaceId(0), LinkState::Up), Step::Take];
-    assert_eq!(rt; served.steps.as_slice(), steps.as_slice());
-    check_last_text(&rt, host.texts(), 1, "echo m");
-    Ok(())
+    let talk = quiet_talk(&rt, rt.alloc(), images::FIRST_RUN, &mut input);
+    check_refused(&rt, &talk);
 }
 
-/// Commands are taken until there is none, and their texts run.
-#[test]
-fn queues_are_run(rt: HostRuntime) -> Result<(), Fail> {
-    let mut core = opened(&rt, rt.alloc(), images::FIRST_RUN);
-    let mut host = quiet(rt.alloc(), rt.alloc());
-    let _reply = core.step(Step::Link(IfaceId(0), LinkState::Up));
-    let _reply = core.step(Step::Link(IfaceId(0), LinkState::Down));
-    let _reply = core.step(Step::Link(IfaceId(0), LinkState::Up));
-    let queued = core.queue_len();
-    let steps = run_queue(&mut core, &mut host);
-    assert_eq!(rt; queued, 3);
+/// Steps after which three commands are queued.
+fn queue_three(core: &mut Core) {
+    for state in [LinkState::Up, LinkState::Down, LinkState::Up] {
+        core.step(Step::Link(IfaceId(0), state));
+    }
+}
+
+fn check_queue_is_run(rt: &impl Abort, core: &mut Core, host: &mut ScriptHost<Global>) {
+    assert_eq!(rt; core.queue_len(), 3);
+    let steps = run_queue(core, host);
     assert_eq!(rt;
         steps.as_slice(),
         [Step::Take, Step::Take, Step::Take].as_slice()
     );
     assert_eq!(rt; core.queue_len(), 0);
-    check_last_text(&rt, host.texts(), 3, "echo m");
-    Ok(())
+    check_last_text(rt, host.texts(), 3, "echo m");
+}
+
+/// Commands are taken until there is none, and their texts run.
+#[test]
+fn queues_are_run(rt: HostRuntime) {
+    let mut core = opened(&rt, rt.alloc(), images::FIRST_RUN);
+    queue_three(&mut core);
+    check_queue_is_run(&rt, &mut core, &mut quiet(rt.alloc(), rt.alloc()));
 }
 
 /// What the row of the first run says, of a client that is served: its commands are taken by the service.
@@ -149,77 +221,99 @@ const REQUESTS: &[u8] = b"link carp0 up\nlink carp0 up\nlink carp0 down\nlink ca
 const REPLIES: &str =
     "done \"a\" cost 6 queue 0\nsame\ndone \"a\" cost 6 queue 0\ndone \"a\" cost 6 queue 0\nbye\n";
 
+/// Statuses of runs, of which the one after so many fails.
+fn failing_run(alloc: Global, calls: u32) -> Result<Vec<Result<i32, HostFault>>, AllocError> {
+    let mut statuses = Vec::new(alloc);
+    for _ in 0..calls {
+        statuses.push(Ok(1))?;
+    }
+    statuses.push(Err(HostFault))?;
+    Ok(statuses)
+}
+
+fn check_stopped(rt: &impl Abort, talk: &Talk<Global>, calls: u32) {
+    assert_eq!(rt; talk.written(), REPLIES.as_bytes(), "{calls}");
+    assert_eq!(rt; talk.served.end, End::Stop, "{calls}");
+    assert_eq!(rt; talk.served.steps.len(), 7, "{calls}");
+    assert_eq!(rt; talk.host.texts().len(), 3, "{calls}");
+}
+
 /// Each run of the host fails in turn: the steps and the replies are the same as without.
 #[test]
 fn each_run_fails_in_turn(rt: HostRuntime) -> Result<(), Fail> {
-    for failing in 0..4 {
-        let mut statuses = Vec::new(rt.alloc());
-        for _ in 0..failing {
-            statuses.push(Ok(1))?;
-        }
-        statuses.push(Err(HostFault))?;
-        let mut core = opened(&rt, rt.alloc(), images::FIRST_RUN);
-        let mut host = ScriptHost::new(rt.alloc(), Vec::new(rt.alloc()), statuses);
-        let mut input = MemoryIn::new(REQUESTS);
-        let mut output = MemoryOut::new(rt.alloc());
-        let served = serve_one(&mut core, &mut host, &mut input, &mut output);
-        assert_eq!(rt; output.written(), REPLIES.as_bytes(), "{failing}");
-        assert_eq!(rt; served.end, End::Stop, "{failing}");
-        assert_eq!(rt; served.steps.len(), 7, "{failing}");
-        assert_eq!(rt; host.texts().len(), 3, "{failing}");
+    for calls in 0..4 {
+        let statuses = failing_run(rt.alloc(), calls)?;
+        let talk = Talk::new(
+            &rt,
+            rt.alloc(),
+            images::FIRST_RUN,
+            ScriptHost::new(rt.alloc(), Vec::new(rt.alloc()), statuses),
+            &mut MemoryIn::new(REQUESTS),
+            MemoryOut::new(rt.alloc()),
+        );
+        check_stopped(&rt, &talk, calls);
     }
     Ok(())
+}
+
+fn check_broken(rt: &impl Abort, talk: &Talk<Global>, lines: usize, calls: usize) {
+    let end = End::Fault(SessionFault::ReadFailed);
+    assert_eq!(rt; talk.served.end, end, "{calls}");
+    assert_eq!(rt; talk.lines(), lines, "{calls}");
+    assert!(rt; REPLIES.as_bytes().starts_with(talk.written()), "{calls}");
+    assert_eq!(rt; talk.core.queue_len(), 0, "{calls}");
 }
 
 /// Each read fails in turn: the lines that were whole by then are served, and their replies written.
 #[test]
-fn each_read_fails_in_turn(rt: HostRuntime) -> Result<(), Fail> {
+fn each_read_fails_in_turn(rt: HostRuntime) {
     let mut lines: usize = 0;
     for (calls, byte) in REQUESTS.iter().enumerate() {
-        let mut core = opened(&rt, rt.alloc(), images::FIRST_RUN);
-        let mut host = quiet(rt.alloc(), rt.alloc());
         let mut input = MemoryIn::failing_after(REQUESTS, calls as u64);
-        let mut output = MemoryOut::new(rt.alloc());
-        let served = serve_one(&mut core, &mut host, &mut input, &mut output);
-        assert_eq!(rt; served.end, End::Fault(SessionFault::ReadFailed), "{calls}");
-        let written = output
-            .written()
-            .iter()
-            .filter(|byte| **byte == b'\n')
-            .count();
-        assert_eq!(rt; written, lines, "{calls}");
-        assert!(rt; REPLIES.as_bytes().starts_with(output.written()), "{calls}");
-        assert_eq!(rt; core.queue_len(), 0, "{calls}");
+        let talk = quiet_talk(&rt, rt.alloc(), images::FIRST_RUN, &mut input);
+        check_broken(&rt, &talk, lines, calls);
         if *byte == b'\n' {
             lines = lines.saturating_add(1);
         }
     }
-    Ok(())
+}
+
+/// Asserts what a connection came to whose write after so many calls fails. Whether there was such a write.
+fn check_cut(rt: &impl Abort, talk: &Talk<Global>, calls: u64) -> bool {
+    assert!(rt; REPLIES.as_bytes().starts_with(talk.written()), "{calls}");
+    assert_eq!(rt; talk.core.queue_len(), 0, "{calls}");
+    if talk.served.end == End::Stop {
+        return false;
+    }
+    let end = End::Fault(SessionFault::WriteFailed);
+    assert_eq!(rt; talk.served.end, end, "{calls}");
+    true
 }
 
 /// Each write fails in turn: what was written is the beginning of the replies.
 #[test]
-fn each_write_fails_in_turn(rt: HostRuntime) -> Result<(), Fail> {
+fn each_write_fails_in_turn(rt: HostRuntime) {
     for calls in 0..100 {
-        let mut core = opened(&rt, rt.alloc(), images::FIRST_RUN);
-        let mut host = quiet(rt.alloc(), rt.alloc());
-        let mut input = MemoryIn::new(REQUESTS);
-        let mut output = MemoryOut::failing_after(rt.alloc(), calls);
-        let served = serve_one(&mut core, &mut host, &mut input, &mut output);
-        assert!(rt; REPLIES.as_bytes().starts_with(output.written()), "{calls}");
-        assert_eq!(rt; core.queue_len(), 0, "{calls}");
-        if served.end == End::Stop {
-            assert!(rt; calls > 5, "{calls}");
-            return Ok(());
-        }
-        assert_eq!(rt;
-            served.end,
-            End::Fault(SessionFault::WriteFailed),
-            "{calls}"
+        let talk = Talk::new(
+            &rt,
+            rt.alloc(),
+            images::FIRST_RUN,
+            quiet(rt.alloc(), rt.alloc()),
+            &mut MemoryIn::new(REQUESTS),
+            MemoryOut::failing_after(rt.alloc(), calls),
         );
+        if !check_cut(&rt, &talk, calls) {
+            assert!(rt; calls > 5, "{calls}");
+            return;
+        }
     }
     assert!(rt; false, "some call is past the last");
-    Ok(())
+}
+
+fn check_noted<A: Allocator + Copy>(rt: &impl Abort, talk: &Talk<A>, whole: bool) {
+    assert_eq!(rt; talk.written(), REPLIES.as_bytes(), "{whole}");
+    assert_eq!(rt; talk.served.end, End::Stop, "{whole}");
+    assert_eq!(rt; talk.host.whole(), whole);
 }
 
 /// A note that finds no memory is dropped, and what is served stays the same.
@@ -227,32 +321,41 @@ fn each_write_fails_in_turn(rt: HostRuntime) -> Result<(), Fail> {
 fn growth_refused(rt: HostRuntime) -> Result<(), Fail> {
     for (size, whole) in [(64, false), (4096, true)] {
         let heap = LocalHeap::new(rt.alloc(), size)?;
-        let mut core = opened(&rt, rt.alloc(), images::FIRST_RUN);
-        let mut host = quiet(&heap, rt.alloc());
-        let mut input = MemoryIn::new(REQUESTS);
-        let mut output = MemoryOut::new(rt.alloc());
-        let served = serve_one(&mut core, &mut host, &mut input, &mut output);
-        assert_eq!(rt; output.written(), REPLIES.as_bytes(), "{size}");
-        assert_eq!(rt; served.end, End::Stop, "{size}");
-        assert_eq!(rt; host.whole(), whole, "{size}");
+        let talk = Talk::new(
+            &rt,
+            rt.alloc(),
+            images::FIRST_RUN,
+            quiet(&heap, rt.alloc()),
+            &mut MemoryIn::new(REQUESTS),
+            MemoryOut::new(rt.alloc()),
+        );
+        check_noted(&rt, &talk, whole);
     }
     Ok(())
 }
 
+fn check_too_much(rt: &impl Abort, talk: &Talk<Global>) {
+    let end = End::Fault(SessionFault::TooMuchInput);
+    assert_eq!(rt; talk.served.end, end);
+    assert_eq!(rt; talk.written(), b"done \"a\" cost 6 queue 0\n".as_slice());
+    assert_eq!(rt; talk.served.steps.len(), 2);
+}
+
 /// Byte 16,777,217 of a connection ends it.
 #[test]
-fn too_much_input(rt: HostRuntime) -> Result<(), Fail> {
-    let mut core = opened(&rt, rt.alloc(), images::FIRST_RUN);
-    let mut host = quiet(rt.alloc(), rt.alloc());
+fn too_much_input(rt: HostRuntime) {
     let mut input = Endless {
         line: b"link carp0 up\n",
         read: 0,
     };
-    let mut output = MemoryOut::new(rt.alloc());
-    let served = serve_one(&mut core, &mut host, &mut input, &mut output);
-    assert_eq!(rt; served.end, End::Fault(SessionFault::TooMuchInput));
+    let talk = Talk::new(
+        &rt,
+        rt.alloc(),
+        images::FIRST_RUN,
+        quiet(rt.alloc(), rt.alloc()),
+        &mut input,
+        MemoryOut::new(rt.alloc()),
+    );
+    check_too_much(&rt, &talk);
     assert_eq!(rt; input.read, 16_777_217);
-    assert_eq!(rt; output.written(), "done \"a\" cost 6 queue 0\n".as_bytes());
-    assert_eq!(rt; served.steps.len(), 2);
-    Ok(())
 }
