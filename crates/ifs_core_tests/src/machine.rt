@@ -144,6 +144,35 @@ fn compared(
     Ok(slow)
 }
 
+/// The run of the always body of an image, which is the one of the slow program.
+fn ran(
+    rt: &impl Abort,
+    alloc: Global,
+    image: &[u8],
+    facts: ([LinkState; 2], [Option<bool>; 2]),
+) -> Result<plain::Ending, Fail> {
+    let verified = verify(alloc, image)?;
+    compared(rt, alloc, &verified, facts.0, facts.1)
+}
+
+/// The run of the last of these routines, which is every handler.
+fn ran_code(
+    rt: &impl Abort,
+    alloc: Global,
+    routines: &[&str],
+    facts: ([LinkState; 2], [Option<bool>; 2]),
+) -> Result<plain::Ending, Fail> {
+    let image = spelled(alloc, routines)?;
+    ran(rt, alloc, image.as_slice(), facts)
+}
+
+/// Asserts the cost of a run, its commands and its wish.
+fn check_run(rt: &impl Abort, run: &plain::Ending, want: (u32, &[u16], Option<u16>), name: &str) {
+    assert_eq!(rt; run.cost, want.0, "{name}");
+    assert_eq!(rt; run.commands.as_slice(), want.1, "{name}");
+    assert_eq!(rt; run.wish, want.2, "{name}");
+}
+
 /// The cost of a handler, its commands and its wish.
 fn check(
     rt: &impl Abort,
@@ -152,11 +181,22 @@ fn check(
     facts: ([LinkState; 2], [Option<bool>; 2]),
     want: (u32, &[u16], Option<u16>),
 ) -> Result<(), Fail> {
-    let verified = verify(alloc, &spelled(alloc, &[code])?)?;
-    let run = compared(rt, alloc, &verified, facts.0, facts.1)?;
-    assert_eq!(rt; run.cost, want.0, "{code}");
-    assert_eq!(rt; run.commands.as_slice(), want.1, "{code}");
-    assert_eq!(rt; run.wish, want.2, "{code}");
+    let run = ran_code(rt, alloc, &[code], facts)?;
+    check_run(rt, &run, want, code);
+    Ok(())
+}
+
+/// The same for an image in hexadecimal.
+fn check_image(
+    rt: &impl Abort,
+    alloc: Global,
+    name: &str,
+    image: &str,
+    cost: u32,
+) -> Result<(), Fail> {
+    let bytes = bytes_of(alloc, image)?;
+    let run = ran(rt, alloc, bytes.as_slice(), (DOWN, NEVER))?;
+    check_run(rt, &run, (cost, &[], None), name);
     Ok(())
 }
 
@@ -168,12 +208,7 @@ fn worked_rows(rt: HostRuntime) -> Result<(), Fail> {
         ("ways_that_meet", images::WAYS_THAT_MEET, 6),
         ("short_jump", images::SHORT_JUMP, 3),
     ] {
-        let bytes = bytes_of(rt.alloc(), image)?;
-        let verified = verify(rt.alloc(), bytes.as_slice())?;
-        let run = compared(&rt, rt.alloc(), &verified, DOWN, NEVER)?;
-        assert_eq!(rt; run.cost, cost, "{name}");
-        assert_eq!(rt; run.commands.len(), 0, "{name}");
-        assert_eq!(rt; run.wish, None, "{name}");
+        check_image(&rt, rt.alloc(), name, image, cost)?;
     }
     Ok(())
 }
@@ -185,7 +220,13 @@ fn queues(rt: HostRuntime) -> Result<(), Fail> {
     check(&rt, rt.alloc(), code, (UP, NEVER), (5, &[0], None))
 }
 
-/// Queues command 1 where the code leaves true, and command 0 too where it leaves false.
+/// Code that queues command 1 where this code leaves true, and command 0 too where it leaves false.
+fn queueing(alloc: Global, code: &str) -> Result<String, AllocError> {
+    let end = code.split(',').count().saturating_add(3);
+    format!(in alloc; "{code}, jt {end}, cmd 0, queue, cmd 1, queue, ret")
+}
+
+/// What the code leaves, told by the commands that are queued.
 fn check_truth(
     rt: &impl Abort,
     alloc: Global,
@@ -193,10 +234,8 @@ fn check_truth(
     facts: ([LinkState; 2], [Option<bool>; 2]),
     truth: bool,
 ) -> Result<(), Fail> {
-    let end = code.split(',').count().saturating_add(3);
-    let all = format!(in alloc; "{code}, jt {end}, cmd 0, queue, cmd 1, queue, ret")?;
-    let verified = verify(alloc, &spelled(alloc, &[all.as_str()])?)?;
-    let run = compared(rt, alloc, &verified, facts.0, facts.1)?;
+    let all = queueing(alloc, code)?;
+    let run = ran_code(rt, alloc, &[all.as_str()], facts)?;
     let queued: &[u16] = if truth { &[1] } else { &[0, 1] };
     assert_eq!(rt; run.commands.as_slice(), queued, "{code}");
     Ok(())
@@ -232,22 +271,32 @@ fn last_wish(rt: HostRuntime) -> Result<(), Fail> {
     check(&rt, rt.alloc(), code, (DOWN, NEVER), (7, &[], Some(0)))
 }
 
-/// Routine k costs 6 * 2^k - 4, which for 14 is 98,300; its handler adds `call`, `pop` and `ret`.
-#[test]
-fn cost_through_calls(rt: HostRuntime) -> Result<(), Fail> {
-    let alloc = rt.alloc();
+/// The code of routines 1 to 14, each of which calls the one before it twice.
+fn calls(alloc: Global) -> Result<Vec<String>, AllocError> {
     let mut codes = Vec::new(alloc);
     for k in 0..14 {
         codes.push(format!(in alloc; "call {k}, call {k}, and, ret")?)?;
     }
-    let mut routines: Vec<&str> = Vec::new(alloc);
+    Ok(codes)
+}
+
+/// Routine 0, these routines and their handler.
+fn with_handler<'a>(alloc: Global, codes: &'a [String]) -> Result<Vec<&'a str>, AllocError> {
+    let mut routines = Vec::new(alloc);
     routines.push("true, ret")?;
-    for code in &codes {
+    for code in codes {
         routines.push(code.as_str())?;
     }
     routines.push("call 14, pop, ret")?;
-    let verified = verify(alloc, &spelled(alloc, routines.as_slice())?)?;
-    let run = compared(&rt, alloc, &verified, DOWN, NEVER)?;
+    Ok(routines)
+}
+
+/// Routine k costs 6 * 2^k - 4, which for 14 is 98,300; its handler adds `call`, `pop` and `ret`.
+#[test]
+fn cost_through_calls(rt: HostRuntime) -> Result<(), Fail> {
+    let codes = calls(rt.alloc())?;
+    let routines = with_handler(rt.alloc(), codes.as_slice())?;
+    let run = ran_code(&rt, rt.alloc(), routines.as_slice(), (DOWN, NEVER))?;
     assert_eq!(rt; run.cost, 98_303);
     Ok(())
 }
@@ -258,15 +307,13 @@ const SMALL: [([&str; 5], u32); 2] = [
     (["known 0", "not", "pop", "cmd 1", "queue"], 197),
 ];
 
-/// Whether the routine of these digits in base 5, with `ret` at its end, is accepted; then it runs as
-/// the slow program says.
-fn small(
-    rt: &impl Abort,
+/// The routine of these digits in base 5, with `ret` at its end.
+fn small_code(
     alloc: Global,
     ops: &[&str; 5],
     length: u32,
     digits: u32,
-) -> Result<bool, Fail> {
+) -> Result<String, AllocError> {
     let mut code = String::new(alloc);
     let mut rest = digits;
     for _ in 0..length {
@@ -275,11 +322,23 @@ fn small(
         rest /= 5;
     }
     code.push_str("ret")?;
-    let Ok(verified) = verify(alloc, &spelled(alloc, &[code.as_str()])?) else {
+    Ok(code)
+}
+
+/// The runs of the always body before the first test ended, and after one found false.
+fn compared_twice(rt: &impl Abort, alloc: Global, verified: &Verified) -> Result<(), Fail> {
+    compared(rt, alloc, verified, DOWN, NEVER)?;
+    compared(rt, alloc, verified, DOWN, [Some(false), None])?;
+    Ok(())
+}
+
+/// Whether a routine is accepted; then it runs as the slow program says.
+fn small(rt: &impl Abort, alloc: Global, code: &str) -> Result<bool, Fail> {
+    let image = spelled(alloc, &[code])?;
+    let Ok(verified) = verify(alloc, image.as_slice()) else {
         return Ok(false);
     };
-    compared(rt, alloc, &verified, DOWN, NEVER)?;
-    compared(rt, alloc, &verified, DOWN, [Some(false), None])?;
+    compared_twice(rt, alloc, &verified)?;
     Ok(true)
 }
 
@@ -293,7 +352,8 @@ fn smalls(
 ) -> Result<u32, Fail> {
     let mut accepted = 0u32;
     for digits in 0..count {
-        if small(rt, alloc, ops, length, digits)? {
+        let code = small_code(alloc, ops, length, digits)?;
+        if small(rt, alloc, code.as_str())? {
             accepted = accepted.saturating_add(1);
         }
     }

@@ -44,32 +44,49 @@ fn play(rt: &impl Abort, periods: &[u32], first_run: u64, calls: &[Call])
 fn play_one(rt: &impl Abort, schedule: &mut Schedule, call: Call) {
     match call {
         Enter(always, tests, now) => schedule.enter(always, tests, now),
-        Tick(now, starts, exhausted) => match schedule.tick(now) {
-            Ok(started) => {
-                assert_eq!(rt; started.exhausted, exhausted, "tick {now}");
-                assert_starts(rt, started.starts.as_slice(), starts);
-                for (test, run) in starts {
-                    assert!(rt; schedule.is_running(TestId(*test), *run), "run {run}");
-                }
-            }
-            Err(fault) => panic!(rt; "tick {now}: {fault}"),
-        },
+        Tick(now, starts, exhausted) => tick(rt, schedule, now, starts, exhausted),
         Call::Backwards(now) => {
             assert!(rt; matches!(schedule.tick(now), Err(Backwards)), "tick {now}");
         }
-        Finish(test, run) => {
-            assert_eq!(rt; schedule.finish(TestId(test), run), Ok(()), "run {run}");
-            assert!(rt; !schedule.is_running(TestId(test), run), "run {run}");
-        }
-        Call::Stale(test, run) => {
-            assert_eq!(rt; schedule.finish(TestId(test), run), Err(Stale), "run {run}");
-            assert!(rt; !schedule.is_running(TestId(test), run), "run {run}");
-        }
+        Finish(test, run) => finish(rt, schedule, TestId(test), run, Ok(())),
+        Call::Stale(test, run) => finish(rt, schedule, TestId(test), run, Err(Stale)),
         Reads(now, running) => {
             assert_eq!(rt; schedule.now(), now);
             assert_eq!(rt; schedule.running(), running, "at {now}");
         }
     }
+}
+
+/// A tick that starts these tests.
+fn tick(
+    rt: &impl Abort,
+    schedule: &mut Schedule,
+    now: u64,
+    starts: &[(u16, u64)],
+    exhausted: bool,
+) {
+    match schedule.tick(now) {
+        Ok(started) => {
+            assert_eq!(rt; started.exhausted, exhausted, "tick {now}");
+            assert_starts(rt, started.starts.as_slice(), starts);
+        }
+        Err(fault) => panic!(rt; "tick {now}: {fault}"),
+    }
+    for (test, run) in starts {
+        assert!(rt; schedule.is_running(TestId(*test), *run), "run {run}");
+    }
+}
+
+/// The end of a run, which does not run afterwards.
+fn finish(
+    rt: &impl Abort,
+    schedule: &mut Schedule,
+    test: TestId,
+    run: u64,
+    wanted: Result<(), Stale>,
+) {
+    assert_eq!(rt; schedule.finish(test, run), wanted, "run {run}");
+    assert!(rt; !schedule.is_running(test, run), "run {run}");
 }
 
 fn assert_starts(rt: &impl Abort, starts: &[Start], wanted: &[(u16, u64)]) {

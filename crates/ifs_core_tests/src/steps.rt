@@ -2,7 +2,7 @@
 
 use ifs_base::{CommandId, IfaceId, LinkState, StateId, TestId};
 use ifs_core::{Answer, Core, Record, Reply, Step};
-use ifs_rows::{bytes_of, images, rows};
+use ifs_rows::{Row, bytes_of, images, rows};
 use ifs_sched::Start;
 use ifs_verify::verify;
 use std::alloc::{AllocError, Global};
@@ -162,16 +162,22 @@ fn is_sessions_own(line: &str) -> bool {
     line == "bye" || line.starts_with("fault ")
 }
 
+/// Asserts the replies to the requests of a row.
+fn check_row(rt: &impl Abort, alloc: Global, core: &mut Core, row: &Row) -> Result<(), AllocError> {
+    for (request, wanted) in row.requests.lines().zip(row.replies.lines()) {
+        match answer(alloc, core, request)? {
+            Some(told) => assert_eq!(rt; told.as_str(), wanted, "{}: {request}", row.name),
+            None => assert!(rt; is_sessions_own(wanted), "{}: {request}", row.name),
+        }
+    }
+    Ok(())
+}
+
 #[test]
 fn worked_rows(rt: HostRuntime) -> Result<(), Fail> {
     for row in rows() {
         let mut core = opened(&rt, rt.alloc(), row.image);
-        for (request, wanted) in row.requests.lines().zip(row.replies.lines()) {
-            match answer(rt.alloc(), &mut core, request)? {
-                Some(told) => assert_eq!(rt; told.as_str(), wanted, "{}: {request}", row.name),
-                None => assert!(rt; is_sessions_own(wanted), "{}: {request}", row.name),
-            }
-        }
+        check_row(&rt, rt.alloc(), &mut core, &row)?;
     }
     Ok(())
 }
@@ -188,27 +194,45 @@ fn record(step: Step, answer: Answer, queued: u16, cost: u32) -> Record {
     }
 }
 
+/// What the readers of links say after a step of the row *First run*.
+fn check_links(rt: &impl Abort, core: &Core) {
+    assert_eq!(rt; core.iface_of(b"carp0"), Some(IfaceId(0)));
+    assert_eq!(rt; core.iface_of(b"carp1"), None);
+    assert_eq!(rt; core.link(IfaceId(0)), Some(LinkState::Up));
+}
+
+/// Asserts that the trace is these records.
+fn check_trace(rt: &impl Abort, core: &Core, records: &[Record]) {
+    assert_eq!(rt; core.trace_len(), records.len());
+    for (index, wanted) in records.iter().enumerate() {
+        assert_eq!(rt; core.trace_at(index), Some(*wanted));
+    }
+}
+
 #[test]
-fn readers(rt: HostRuntime) {
+fn readers_after_steps(rt: HostRuntime) {
     let mut core = opened(&rt, rt.alloc(), images::FIRST_RUN);
     for step in [LINK_UP, LINK_UP, Step::Take, Step::Take] {
         core.step(step);
     }
-    assert_eq!(rt; core.iface_of(b"carp0"), Some(IfaceId(0)));
-    assert_eq!(rt; core.iface_of(b"carp1"), None);
-    assert_eq!(rt; core.link(IfaceId(0)), Some(LinkState::Up));
+    check_links(&rt, &core);
     let records = [
         record(LINK_UP, Answer::Done, 1, 6),
         record(LINK_UP, Answer::Same, 0, 0),
         record(Step::Take, Answer::Taken, 0, 0),
     ];
-    assert_eq!(rt; core.trace_len(), records.len());
-    for (index, wanted) in records.iter().enumerate() {
-        assert_eq!(rt; core.trace_at(index), Some(*wanted));
-    }
-    let held_back = opened(&rt, rt.alloc(), images::HELD_BACK);
-    assert_eq!(rt; held_back.test_text(TestId(1)), Some("t2"));
-    assert_eq!(rt; held_back.test_value(TestId(1)), Some(None));
+    check_trace(&rt, &core, records.as_slice());
+}
+
+/// The second test of the row *Held back* before its first run.
+fn check_test(rt: &impl Abort, core: &Core) {
+    assert_eq!(rt; core.test_text(TestId(1)), Some("t2"));
+    assert_eq!(rt; core.test_value(TestId(1)), Some(None));
+}
+
+#[test]
+fn readers_of_tests(rt: HostRuntime) {
+    check_test(&rt, &opened(&rt, rt.alloc(), images::HELD_BACK));
 }
 
 /// An interface that is not in the table.

@@ -87,47 +87,53 @@ fn traced_names(alloc: Global, core: &Core) -> Result<String, AllocError> {
     Ok(names)
 }
 
+fn check_names(rt: &impl Abort, core: &mut Core) {
+    assert_eq!(rt; current_name(core), "a");
+    assert_eq!(rt; named(core, LINK_UP), Some("a"));
+    assert_eq!(rt; named(core, LINK_UP), None);
+    assert_eq!(rt; named(core, Step::Take), Some("echo m"));
+}
+
+fn check_traced(rt: &impl Abort, alloc: Global, core: &Core) -> Result<(), AllocError> {
+    assert_eq!(rt; traced_names(alloc, core)?.as_str(), "aaa");
+    Ok(())
+}
+
 #[test]
 fn names_of_a_lent_core(rt: HostRuntime) -> Result<(), Fail> {
     let mut core = opened(&rt, rt.alloc(), images::FIRST_RUN);
-    assert_eq!(rt; current_name(&core), "a");
-    assert_eq!(rt; named(&mut core, LINK_UP), Some("a"));
-    assert_eq!(rt; named(&mut core, LINK_UP), None);
-    assert_eq!(rt; named(&mut core, Step::Take), Some("echo m"));
-    assert_eq!(rt; traced_names(rt.alloc(), &core)?.as_str(), "aaa");
+    check_names(&rt, &mut core);
+    check_traced(&rt, rt.alloc(), &core)?;
     Ok(())
 }
 
 /// The first four requests of the row *First run*, with one place for the lists of all of them.
-#[test]
-fn lent_lists(rt: HostRuntime) -> Result<(), Fail> {
-    let mut core = opened(&rt, rt.alloc(), images::FIRST_RUN);
-    let mut lists = Lists::new();
+fn check_lists(rt: &impl Abort, core: &mut Core, lists: &mut Lists) {
     let done = Outcome::Done {
         state: StateId(0),
         cost: 6,
     };
-    assert_eq!(rt; core.step_into(LINK_UP, &mut lists), done);
-    assert_eq!(rt;
-        commands_text(rt.alloc(), lists.effects.queued.as_slice())?.as_str(),
-        "0"
-    );
-    assert_eq!(rt; core.step_into(LINK_UP, &mut lists), Outcome::Same);
+    assert_eq!(rt; core.step_into(LINK_UP, lists), done);
+    assert_eq!(rt; lists.effects.queued.as_slice(), [CommandId(0)].as_slice());
+    assert_eq!(rt; core.step_into(LINK_UP, lists), Outcome::Same);
     assert_eq!(rt; core.take(), Some(CommandId(0)));
-    assert_eq!(rt; core.step_into(Step::Take, &mut lists), Outcome::Empty);
+    assert_eq!(rt; core.step_into(Step::Take, lists), Outcome::Empty);
     assert_eq!(rt; core.trace_len(), 3);
-    Ok(())
 }
 
 #[test]
-fn lent_core(rt: HostRuntime) -> Result<(), Fail> {
+fn lent_lists(rt: HostRuntime) {
     let mut core = opened(&rt, rt.alloc(), images::FIRST_RUN);
+    check_lists(&rt, &mut core, &mut Lists::new());
+}
+
+/// Asserts the replies to the first four requests of that row.
+fn check_replies(rt: &impl Abort, alloc: Global, core: &mut Core) -> Result<(), AllocError> {
     let steps = [LINK_UP, LINK_UP, Step::Take, Step::Take];
-    let replies = replies(rt.alloc(), &mut core, steps.as_slice())?;
-    let answers = replies.as_slice();
+    let replies = replies(alloc, core, steps.as_slice())?;
     assert!(rt;
         matches!(
-            answers,
+            replies.as_slice(),
             [
                 Reply::Done { cost: 6, .. },
                 Reply::Same,
@@ -136,9 +142,20 @@ fn lent_core(rt: HostRuntime) -> Result<(), Fail> {
             ]
         )
     );
-    let image = core.image();
-    assert_eq!(rt; image.budgets.cost, 7);
-    assert_eq!(rt; image.budgets.commands, 1);
+    Ok(())
+}
+
+fn check_budgets(rt: &impl Abort, core: &Core) {
+    let budgets = &core.image().budgets;
+    assert_eq!(rt; budgets.cost, 7);
+    assert_eq!(rt; budgets.commands, 1);
+}
+
+#[test]
+fn lent_core(rt: HostRuntime) -> Result<(), Fail> {
+    let mut core = opened(&rt, rt.alloc(), images::FIRST_RUN);
+    check_replies(&rt, rt.alloc(), &mut core)?;
+    check_budgets(&rt, &core);
     Ok(())
 }
 
