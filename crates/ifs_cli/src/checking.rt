@@ -47,10 +47,17 @@ pub fn check(alloc: Global, bytes: &[u8], defs: &[(&str, &str)]) -> Result<Answe
         Err(fault) => return Answer::refused(alloc, fault),
     };
     match policy_of(alloc, text, defs) {
-        Ok(found) => told(alloc, &found),
+        Ok(found) => answered(alloc, found),
         Err(PolicyFault::Memory) => Err(AllocError),
         Err(fault) => Answer::refused(alloc, fault),
     }
+}
+
+/// The answer to a policy.
+fn answered(alloc: Global, found: PolicyText) -> Result<Answer, AllocError>
+    ensures { IfOk result (λ answer. (answer.status ≡ 0) × (answer.file ≡ None)) }
+{
+    told(alloc, &found)
 }
 
 /// What is told of a policy.
