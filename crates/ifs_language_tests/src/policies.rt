@@ -5,7 +5,7 @@ use ifs_lex::tokens;
 use ifs_parse::{Condition, Node, Statement, parse};
 use ifs_policy::{Counts, Policy, PolicyBlock, ResolveFault, Single, resolve};
 use ifs_rows::policies::{accepted, refused_names};
-use std::alloc::Global;
+use std::alloc::{AllocError, Global};
 use std::process::Abort;
 use std::test::Fail;
 
@@ -45,9 +45,8 @@ fn last_line(alloc: Global, text: &str, defs: &[(&str, &str)]) -> Result<String,
 
 #[test]
 fn counts_of_policies(rt: HostRuntime) -> Result<(), Fail> {
-    let alloc = rt.alloc();
     for row in accepted() {
-        let line = last_line(alloc, row.policy, row.definitions)?;
+        let line = last_line(rt.alloc(), row.policy, row.definitions)?;
         assert!(rt; row.answer.ends_with(line.as_str()), "{}", row.name);
     }
     Ok(())
@@ -55,9 +54,8 @@ fn counts_of_policies(rt: HostRuntime) -> Result<(), Fail> {
 
 #[test]
 fn refusals(rt: HostRuntime) -> Result<(), Fail> {
-    let alloc = rt.alloc();
     for row in refused_names() {
-        let line = last_line(alloc, row.policy, row.definitions)?;
+        let line = last_line(rt.alloc(), row.policy, row.definitions)?;
         assert_eq!(rt; line.as_str(), row.answer, "{}", row.name);
     }
     Ok(())
@@ -125,13 +123,16 @@ fn numbers_by_first_use(rt: HostRuntime) -> Result<(), Fail> {
     Ok(())
 }
 
+fn check_interface(rt: &impl Abort, policy: &Policy) {
+    assert_eq!(rt; shown(policy.interface(IfaceId(0))), "em1");
+    assert_eq!(rt; policy.counts().interfaces, 1);
+}
+
 /// Row *outside definitions*: a definition beside the text comes before the text's own.
 fn check_outside(rt: &impl Abort, alloc: Global, defs: &[(&str, &str)]) -> Result<(), Fail> {
     let text = "x = \"em0\" state a { if $x.link.up run \"r\" }";
     let found = resolved(alloc, text, defs)?;
-    let policy = policy_in(rt, &found);
-    assert_eq!(rt; shown(policy.interface(IfaceId(0))), "em1");
-    assert_eq!(rt; policy.counts().interfaces, 1);
+    check_interface(rt, policy_in(rt, &found));
     Ok(())
 }
 
@@ -142,12 +143,15 @@ fn outside_definitions(rt: HostRuntime) -> Result<(), Fail> {
     Ok(())
 }
 
+fn check_command(rt: &impl Abort, policy: &Policy) {
+    assert_eq!(rt; shown(policy.command(CommandId(0))), "echo ab");
+}
+
 #[test]
 fn a_command_over_two_lines(rt: HostRuntime) -> Result<(), Fail> {
     let text = "state a { # note \\\nif em0.link.up run \"x\"\ninit run \"echo a\nb\" }";
     let found = resolved(rt.alloc(), text, &[])?;
-    let policy = policy_in(&rt, &found);
-    assert_eq!(rt; shown(policy.command(CommandId(0))), "echo ab");
+    check_command(&rt, policy_in(&rt, &found));
     Ok(())
 }
 
@@ -191,53 +195,43 @@ fn parts_in_text_order(rt: HostRuntime) -> Result<(), Fail> {
     Ok(())
 }
 
+/// What a condition asks, as a test's row writes it.
+fn write_single(line: &mut String, single: &Single) -> Result<(), AllocError> {
+    match single {
+        Single::LinkIs(interface, LinkState::Up) => write!(line, "up {}", interface.0),
+        Single::LinkIs(interface, LinkState::Down) => write!(line, "down {}", interface.0),
+        Single::LinkIs(interface, LinkState::Unknown) => write!(line, "unknown {}", interface.0),
+        Single::TestIs(test) => write!(line, "test {}", test.0),
+    }
+}
+
 /// A condition as a test's row writes it.
-fn write_condition(
-    alloc: Global,
-    condition: &Condition<Single>,
-    line: &mut String,
-) -> Result<(), Fail> {
+fn write_condition(line: &mut String, condition: &Condition<Single>) -> Result<(), AllocError> {
     match condition.node() {
-        Node::Leaf(single) => {
-            let leaf = match single {
-                Single::LinkIs(interface, LinkState::Up) => format!(in alloc;
-                    "up {}",
-                    interface.0
-                )?,
-                Single::LinkIs(interface, LinkState::Down) => format!(in alloc;
-                    "down {}",
-                    interface.0
-                )?,
-                Single::LinkIs(interface, LinkState::Unknown) => {
-                    format!(in alloc; "unknown {}", interface.0)?
-                }
-                Single::TestIs(test) => format!(in alloc; "test {}", test.0)?,
-            };
-            line.push_str(leaf.as_str())?;
-        }
+        Node::Leaf(single) => write_single(line, single)?,
         Node::Not(operand) => {
             line.push_str("not ")?;
-            write_condition(alloc, operand, line)?;
+            write_condition(line, operand)?;
         }
         Node::All(first, second, rest) => {
             line.push_str("all(")?;
-            write_condition(alloc, first, line)?;
+            write_condition(line, first)?;
             line.push_str(", ")?;
-            write_condition(alloc, second, line)?;
+            write_condition(line, second)?;
             for operand in rest {
                 line.push_str(", ")?;
-                write_condition(alloc, operand, line)?;
+                write_condition(line, operand)?;
             }
             line.push_str(")")?;
         }
         Node::Any(first, second, rest) => {
             line.push_str("any(")?;
-            write_condition(alloc, first, line)?;
+            write_condition(line, first)?;
             line.push_str(", ")?;
-            write_condition(alloc, second, line)?;
+            write_condition(line, second)?;
             for operand in rest {
                 line.push_str(", ")?;
-                write_condition(alloc, operand, line)?;
+                write_condition(line, operand)?;
             }
             line.push_str(")")?;
         }
@@ -245,26 +239,29 @@ fn write_condition(
     Ok(())
 }
 
-fn check_conditions(rt: &impl Abort, alloc: Global, policy: &Policy) -> Result<(), Fail> {
-    match policy.always().body.statements() {
-        [Statement::If(condition, block)] => {
-            let mut line = String::new(alloc);
-            write_condition(alloc, condition, &mut line)?;
-            assert_eq!(rt;
-                line.as_str(),
-                "all(up 0, not down 1, any(test 0, unknown 0))"
-            );
-            match block.statements() {
-                [Statement::SetState(state), Statement::Run(command)] => {
-                    assert_eq!(rt; *state, StateId(1));
-                    assert_eq!(rt; *command, CommandId(0));
-                }
-                _ => panic!(rt; "another block"),
-            }
+fn check_condition(rt: &impl Abort, alloc: Global, condition: &Condition<Single>, wanted: &str) {
+    let mut line = String::new(alloc);
+    write_condition(&mut line, condition).expect(rt, "no line");
+    assert_eq!(rt; line.as_str(), wanted);
+}
+
+fn check_block(rt: &impl Abort, block: &PolicyBlock) {
+    match block.statements() {
+        [Statement::SetState(state), Statement::Run(command)] => {
+            assert_eq!(rt; *state, StateId(1));
+            assert_eq!(rt; *command, CommandId(0));
         }
-        _ => panic!(rt; "another body"),
+        _ => panic!(rt; "another block"),
     }
-    Ok(())
+}
+
+fn check_conditions(rt: &impl Abort, alloc: Global, policy: &Policy) {
+    let [Statement::If(condition, block)] = policy.always().body.statements() else {
+        panic!(rt; "another body")
+    };
+    let wanted = "all(up 0, not down 1, any(test 0, unknown 0))";
+    check_condition(rt, alloc, condition, wanted);
+    check_block(rt, block);
 }
 
 #[test]
@@ -273,7 +270,7 @@ fn conditions_by_places(rt: HostRuntime) -> Result<(), Fail> {
         "if b.link.up && ! a.link.down && ( \"t\" every 5 || b.link.unknown ) { set-state y run \"r\" }\n\
          state x { } state y { }";
     let found = resolved(rt.alloc(), text, &[])?;
-    check_conditions(&rt, rt.alloc(), policy_in(&rt, &found))?;
+    check_conditions(&rt, rt.alloc(), policy_in(&rt, &found));
     Ok(())
 }
 
@@ -284,14 +281,26 @@ fn repeated(
     before: &str,
     after: &str,
     last: &str,
-) -> Result<String, Fail> {
+) -> Result<String, AllocError> {
     let mut text = String::new(alloc);
     for number in 0..count {
-        let part = format!(in alloc; "{before}{number}{after}")?;
-        text.push_str(part.as_str())?;
+        write!(text, "{before}{number}{after}")?;
     }
     text.push_str(last)?;
     Ok(text)
+}
+
+/// Asserts which line is printed last of a text.
+fn check_last(
+    rt: &impl Abort,
+    alloc: Global,
+    name: &str,
+    text: &str,
+    wanted: &str,
+) -> Result<(), Fail> {
+    let line = last_line(alloc, text, &[])?;
+    assert_eq!(rt; line.as_str(), wanted, "{name}");
+    Ok(())
 }
 
 /// A table's limit, a text that fills it, in pieces, and the line of its counts.
@@ -328,19 +337,20 @@ const FULL: [(&str, &str, u16, &str, &str); 4] = [
 
 #[test]
 fn tables_are_filled(rt: HostRuntime) -> Result<(), Fail> {
-    let alloc = rt.alloc();
     for (before, after, limit, last, counts) in FULL {
-        let limit = u32::from(limit);
-        let full = repeated(alloc, limit, before, after, last)?;
-        assert_eq!(rt;
-            last_line(alloc, full.as_str(), &[])?.as_str(),
-            counts,
-            "{before}"
-        );
-        let over = repeated(alloc, limit + 1, before, after, last)?;
-        let line = last_line(alloc, over.as_str(), &[])?;
-        let wanted = format!(in alloc; "refused P15 line {}\n", limit + 1)?;
-        assert_eq!(rt; line.as_str(), wanted.as_str(), "{before}");
+        let full = repeated(rt.alloc(), u32::from(limit), before, after, last)?;
+        check_last(&rt, rt.alloc(), before, full.as_str(), counts)?;
+    }
+    Ok(())
+}
+
+#[test]
+fn one_more_is_told_at_its_line(rt: HostRuntime) -> Result<(), Fail> {
+    for (before, after, limit, last, _) in FULL {
+        let count = u32::from(limit) + 1;
+        let over = repeated(rt.alloc(), count, before, after, last)?;
+        let wanted = format!(in rt.alloc(); "refused P15 line {count}\n")?;
+        check_last(&rt, rt.alloc(), before, over.as_str(), wanted.as_str())?;
     }
     Ok(())
 }
@@ -355,35 +365,35 @@ const PAST_FULL: [(&str, &str); 4] = [
 
 #[test]
 fn faults_past_a_full_table(rt: HostRuntime) -> Result<(), Fail> {
-    let alloc = rt.alloc();
     for (last, wanted) in PAST_FULL {
-        let text = repeated(alloc, 256, "state s", " { }\n", last)?;
-        assert_eq!(rt;
-            last_line(alloc, text.as_str(), &[])?.as_str(),
-            wanted,
-            "{last}"
-        );
+        let text = repeated(rt.alloc(), 256, "state s", " { }\n", last)?;
+        check_last(&rt, rt.alloc(), last, text.as_str(), wanted)?;
     }
     Ok(())
 }
 
+/// A policy that runs a command of so many bytes.
+fn long_command(alloc: Global, length: u32) -> Result<String, AllocError> {
+    let mut text = String::from_str(alloc, "state a { } run ")?;
+    for _byte in 0..length {
+        text.push_str("x")?;
+    }
+    Ok(text)
+}
+
 #[test]
 fn lengths_of_texts(rt: HostRuntime) -> Result<(), Fail> {
-    let alloc = rt.alloc();
-    for (length, wanted) in [
-        (1, "ok 0 interfaces 0 tests 1 commands 1 states\n"),
-        (1_024, "ok 0 interfaces 0 tests 1 commands 1 states\n"),
-        (1_025, "refused P16 line 1\n"),
+    for (name, length, wanted) in [
+        ("one", 1, "ok 0 interfaces 0 tests 1 commands 1 states\n"),
+        (
+            "1,024",
+            1_024,
+            "ok 0 interfaces 0 tests 1 commands 1 states\n",
+        ),
+        ("1,025", 1_025, "refused P16 line 1\n"),
     ] {
-        let mut text = String::from_str(alloc, "state a { } run ")?;
-        for _byte in 0..length {
-            text.push_str("x")?;
-        }
-        assert_eq!(rt;
-            last_line(alloc, text.as_str(), &[])?.as_str(),
-            wanted,
-            "{length}"
-        );
+        let text = long_command(rt.alloc(), length)?;
+        check_last(&rt, rt.alloc(), name, text.as_str(), wanted)?;
     }
     Ok(())
 }

@@ -1,60 +1,61 @@
 //! Texts with their tokens and faults, by the rules of the language.
 
-use ifs_lex::{LexFault, What, tokens};
+use ifs_lex::{LexFault, Token, What, tokens};
 use ifs_rows::policies::{accepted, refused_names, refused_texts, refused_tokens};
-use std::alloc::Global;
+use std::alloc::{AllocError, Global};
 use std::process::Abort;
 use std::test::Fail;
 
 /// A token as a test's row writes it: a word as it is, a quoted text in brackets.
-fn shown(alloc: Global, what: &What) -> Result<String, Fail> {
-    Ok(match what {
-        What::Word(text) => format!(in alloc; "{}", text.as_str())?,
-        What::Quoted(text) => format!(in alloc; "[{}]", text.as_str())?,
-        What::BraceOpen => format!(in alloc; "{{")?,
-        What::BraceClose => format!(in alloc; "}}")?,
-        What::ParenOpen => format!(in alloc; "(")?,
-        What::ParenClose => format!(in alloc; ")")?,
-        What::Dot => format!(in alloc; ".")?,
-        What::Equals => format!(in alloc; "=")?,
-        What::Bang => format!(in alloc; "!")?,
-        What::And => format!(in alloc; "&&")?,
-        What::Or => format!(in alloc; "||")?,
-        What::End => format!(in alloc; "end")?,
-    })
+fn show(line: &mut String, what: &What) -> Result<(), AllocError> {
+    match what {
+        What::Word(text) => line.push_str(text.as_str()),
+        What::Quoted(text) => write!(line, "[{}]", text.as_str()),
+        What::BraceOpen => line.push_str("{"),
+        What::BraceClose => line.push_str("}"),
+        What::ParenOpen => line.push_str("("),
+        What::ParenClose => line.push_str(")"),
+        What::Dot => line.push_str("."),
+        What::Equals => line.push_str("="),
+        What::Bang => line.push_str("!"),
+        What::And => line.push_str("&&"),
+        What::Or => line.push_str("||"),
+        What::End => line.push_str("end"),
+    }
+}
+
+/// The tokens with a blank after each.
+fn shown(alloc: Global, tokens: &[Token]) -> Result<String, AllocError> {
+    let mut line = String::new(alloc);
+    for token in tokens {
+        show(&mut line, &token.what)?;
+        line.push_str(" ")?;
+    }
+    Ok(line)
 }
 
 /// The tokens with a blank after each, or the fault.
 fn told(alloc: Global, text: &str, defs: &[(&str, &str)]) -> Result<String, Fail> {
+    Ok(match tokens(alloc, text, defs) {
+        Ok(all) => shown(alloc, all.as_slice())?,
+        Err(fault) => format!(in alloc; "{fault}")?,
+    })
+}
+
+/// The same with line, first byte and end of each token.
+fn shown_placed(alloc: Global, tokens: &[Token]) -> Result<String, AllocError> {
     let mut line = String::new(alloc);
-    match tokens(alloc, text, defs) {
-        Ok(all) => {
-            for token in &all {
-                line.push_str(shown(alloc, &token.what)?.as_str())?;
-                line.push_str(" ")?;
-            }
-        }
-        Err(fault) => line.push_str(format!(in alloc; "{fault}")?.as_str())?,
+    for token in tokens {
+        show(&mut line, &token.what)?;
+        let span = token.span;
+        write!(line, " {}:{}-{}, ", span.line, span.start, span.end)?;
     }
     Ok(line)
 }
 
-/// The same with line, first byte and end of each token.
 fn placed(alloc: Global, text: &str, defs: &[(&str, &str)]) -> Result<String, Fail> {
-    let mut line = String::new(alloc);
-    for token in &tokens(alloc, text, defs)? {
-        let what = shown(alloc, &token.what)?;
-        let span = token.span;
-        let part = format!(in alloc;
-            "{} {}:{}-{}, ",
-            what.as_str(),
-            span.line,
-            span.start,
-            span.end
-        )?;
-        line.push_str(part.as_str())?;
-    }
-    Ok(line)
+    let all = tokens(alloc, text, defs)?;
+    Ok(shown_placed(alloc, all.as_slice())?)
 }
 
 fn check_rows(rt: &impl Abort, alloc: Global, rows: &[(&str, &str, &str)]) -> Result<(), Fail> {
@@ -331,7 +332,7 @@ fn given_definitions(rt: HostRuntime) -> Result<(), Fail> {
     )
 }
 
-fn repeated(alloc: Global, part: &str, count: usize) -> Result<String, Fail> {
+fn repeated(alloc: Global, part: &str, count: usize) -> Result<String, AllocError> {
     let mut text = String::new(alloc);
     for _ in 0..count {
         text.push_str(part)?;
@@ -350,124 +351,147 @@ fn check_count(
     assert_eq!(rt; count, expected, "{name}");
 }
 
+/// How many tokens a text has with something before it and after it.
+fn check_around(
+    rt: &impl Abort,
+    alloc: Global,
+    name: &str,
+    (before, text, after): (&str, &str, &str),
+    expected: Result<usize, LexFault>,
+) -> Result<(), AllocError> {
+    let whole = format!(in alloc; "{before}{text}{after}")?;
+    check_count(rt, alloc, name, whole.as_str(), expected);
+    Ok(())
+}
+
 #[test]
 fn tokens_in_all(rt: HostRuntime) -> Result<(), Fail> {
-    let alloc = rt.alloc();
-    let full = repeated(alloc, "a ", 16_384)?;
-    check_count(&rt, alloc, "16,384 words", full.as_str(), Ok(16_385));
-    let over = format!(in alloc; "{}\nb", full.as_str())?;
-    check_count(
-        &rt,
-        alloc,
-        "16,385 words",
-        over.as_str(),
-        Err(LexFault::OverLimit { line: 2 }),
-    );
-    let quote = format!(in alloc; "{}\n\"b", full.as_str())?;
-    check_count(
-        &rt,
-        alloc,
-        "a lower number",
-        quote.as_str(),
-        Err(LexFault::Unclosed { line: 2 }),
-    );
-    let value = format!(in alloc; "x = '{}' $x", full.as_str())?;
-    check_count(&rt, alloc, "a value of 16,384", value.as_str(), Ok(16_385));
-    let long = format!(in alloc; "x = '{}b'", full.as_str())?;
-    check_count(
-        &rt,
-        alloc,
-        "a value of 16,385",
-        long.as_str(),
-        Err(LexFault::BadMacro { line: 1 }),
-    );
-    let twice = format!(in alloc; "x = '{}'\n$x\n$x", full.as_str())?;
-    check_count(
-        &rt,
-        alloc,
-        "at the use",
-        twice.as_str(),
-        Err(LexFault::OverLimit { line: 3 }),
-    );
-    let empty = format!(in alloc; "e = '' {} $e", full.as_str())?;
-    check_count(
-        &rt,
-        alloc,
-        "an empty macro more",
-        empty.as_str(),
-        Ok(16_385),
-    );
+    let full = repeated(rt.alloc(), "a ", 16_384)?;
+    for (name, before, after, expected) in [
+        ("16,384 words", "", "", Ok(16_385)),
+        (
+            "16,385 words",
+            "",
+            "\nb",
+            Err(LexFault::OverLimit { line: 2 }),
+        ),
+        (
+            "a lower number",
+            "",
+            "\n\"b",
+            Err(LexFault::Unclosed { line: 2 }),
+        ),
+        ("a value of 16,384", "x = '", "' $x", Ok(16_385)),
+        (
+            "a value of 16,385",
+            "x = '",
+            "b'",
+            Err(LexFault::BadMacro { line: 1 }),
+        ),
+        (
+            "at the use",
+            "x = '",
+            "'\n$x\n$x",
+            Err(LexFault::OverLimit { line: 3 }),
+        ),
+        ("an empty macro more", "e = '' ", " $e", Ok(16_385)),
+    ] {
+        check_around(
+            &rt,
+            rt.alloc(),
+            name,
+            (before, full.as_str(), after),
+            expected,
+        )?;
+    }
     Ok(())
+}
+
+/// So many definitions, a line each.
+fn names(alloc: Global, count: u32) -> Result<String, AllocError> {
+    let mut text = String::new(alloc);
+    for n in 0..count {
+        writeln!(text, "n{n} = a")?;
+    }
+    Ok(text)
 }
 
 #[test]
 fn names_in_all(rt: HostRuntime) -> Result<(), Fail> {
-    let alloc = rt.alloc();
-    let mut text = String::new(alloc);
-    for n in 0..256 {
-        text.push_str(format!(in alloc; "n{n} = a\n")?.as_str())?;
+    let text = names(rt.alloc(), 256)?;
+    for (name, after, expected) in [
+        ("256 names", "", Ok(1)),
+        ("a name again", "n7 = b $n7", Ok(2)),
+        ("257 names", "m = a", Err(LexFault::OverLimit { line: 257 })),
+        (
+            "a bad value first",
+            "m = '&'",
+            Err(LexFault::BadMacro { line: 257 }),
+        ),
+    ] {
+        check_around(&rt, rt.alloc(), name, ("", text.as_str(), after), expected)?;
     }
-    check_count(&rt, alloc, "256 names", text.as_str(), Ok(1));
-    let again = format!(in alloc; "{}n7 = b $n7", text.as_str())?;
-    check_count(&rt, alloc, "a name again", again.as_str(), Ok(2));
-    let over = format!(in alloc; "{}m = a", text.as_str())?;
-    check_count(
-        &rt,
-        alloc,
-        "257 names",
-        over.as_str(),
-        Err(LexFault::OverLimit { line: 257 }),
-    );
-    let bad = format!(in alloc; "{}m = '&'", text.as_str())?;
-    check_count(
-        &rt,
-        alloc,
-        "a bad value first",
-        bad.as_str(),
-        Err(LexFault::BadMacro { line: 257 }),
-    );
-    let given = told(alloc, over.as_str(), &[("m", "b")])?;
-    assert_eq!(rt; given.as_str(), "P5 line 256");
     Ok(())
+}
+
+/// A name that is given is one of them.
+#[test]
+fn a_given_name_more(rt: HostRuntime) -> Result<(), Fail> {
+    let text = names(rt.alloc(), 256)?;
+    check_given(
+        &rt,
+        rt.alloc(),
+        "257 names",
+        text.as_str(),
+        &[("m", "b")],
+        "P5 line 256",
+    )
 }
 
 #[test]
 fn bytes_in_all(rt: HostRuntime) -> Result<(), Fail> {
-    let alloc = rt.alloc();
-    let full = repeated(alloc, "\n", 1_048_576)?;
-    check_count(&rt, alloc, "1,048,576 bytes", full.as_str(), Ok(1));
-    let over = format!(in alloc; "&{}", full.as_str())?;
-    check_count(
+    let full = repeated(rt.alloc(), "\n", 1_048_576)?;
+    check_count(&rt, rt.alloc(), "1,048,576 bytes", full.as_str(), Ok(1));
+    let expected = Err(LexFault::OverLimit { line: 1 });
+    check_around(
         &rt,
-        alloc,
+        rt.alloc(),
         "1,048,577 bytes",
-        over.as_str(),
-        Err(LexFault::OverLimit { line: 1 }),
-    );
-    let value = told(alloc, "a", &[("x", over.as_str())])?;
-    assert_eq!(rt; value.as_str(), "P4 line 0");
-    let before = told(alloc, over.as_str(), &[("x", "&")])?;
-    assert_eq!(rt; before.as_str(), "P4 line 0");
+        ("&", full.as_str(), ""),
+        expected,
+    )?;
     Ok(())
+}
+
+/// What is given is looked at first, of any size.
+#[test]
+fn bytes_of_what_is_given(rt: HostRuntime) -> Result<(), Fail> {
+    let over = repeated(rt.alloc(), "\n", 1_048_577)?;
+    let (alloc, over) = (rt.alloc(), over.as_str());
+    check_given(&rt, alloc, "a value", "a", &[("x", over)], "P4 line 0")?;
+    check_given(&rt, alloc, "a text", over, &[("x", "&")], "P4 line 0")
 }
 
 /// A value of many tokens stands in another a great many times, and is copied nowhere.
 #[test]
 fn values_are_not_copied(rt: HostRuntime) -> Result<(), Fail> {
-    let alloc = rt.alloc();
-    let value = repeated(alloc, "a ", 16_384)?;
-    let lines = repeated(alloc, "x = '$y'\n", 100_000)?;
-    let text = format!(in alloc; "y = '{}'\n{}$x", value.as_str(), lines.as_str())?;
-    check_count(&rt, alloc, "aliases", text.as_str(), Ok(16_385));
-    let longer = repeated(alloc, "x = '$x a'\n", 16_383)?;
-    let deep = format!(in alloc; "x = a\n{}$x", longer.as_str())?;
-    check_count(
+    let value = repeated(rt.alloc(), "a ", 16_384)?;
+    let lines = repeated(rt.alloc(), "x = '$y'\n", 100_000)?;
+    let text = format!(in rt.alloc(); "y = '{}'\n{}$x", value.as_str(), lines.as_str())?;
+    check_count(&rt, rt.alloc(), "aliases", text.as_str(), Ok(16_385));
+    Ok(())
+}
+
+#[test]
+fn values_that_grow(rt: HostRuntime) -> Result<(), Fail> {
+    let longer = repeated(rt.alloc(), "x = '$x a'\n", 16_383)?;
+    check_around(
         &rt,
-        alloc,
+        rt.alloc(),
         "a value longer by one each time",
-        deep.as_str(),
+        ("x = a\n", longer.as_str(), "$x"),
         Ok(16_385),
-    );
+    )?;
     Ok(())
 }
 

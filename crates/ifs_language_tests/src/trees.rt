@@ -8,85 +8,74 @@ use ifs_parse::{
 };
 use ifs_rows::Checked;
 use ifs_rows::policies::{accepted, refused_names, refused_tokens};
-use std::alloc::Global;
+use std::alloc::{AllocError, Global};
 use std::process::Abort;
 use std::test::Fail;
 
 /// A leaf as a test's row writes it: `a.up`, or a command and its period as `a/5`.
-fn show_test(alloc: Global, out: &mut String, test: &Test) -> Result<(), Fail> {
-    let shown = match test {
-        Test::Link(name, LinkState::Unknown) => format!(in alloc;
-            "{}.unknown",
-            name.text.as_str()
-        )?,
-        Test::Link(name, LinkState::Down) => format!(in alloc; "{}.down", name.text.as_str())?,
-        Test::Link(name, LinkState::Up) => format!(in alloc; "{}.up", name.text.as_str())?,
+fn show_test(out: &mut String, test: &Test) -> Result<(), AllocError> {
+    match test {
+        Test::Link(name, LinkState::Unknown) => write!(out, "{}.unknown", name.text.as_str()),
+        Test::Link(name, LinkState::Down) => write!(out, "{}.down", name.text.as_str()),
+        Test::Link(name, LinkState::Up) => write!(out, "{}.up", name.text.as_str()),
         Test::External(name, period) => {
-            format!(in alloc; "{}/{}", name.text.as_str(), period.seconds())?
-        }
-    };
-    out.push_str(shown.as_str())?;
-    Ok(())
-}
-
-/// A condition with parentheses round each chain.
-fn show_condition(alloc: Global, out: &mut String, c: &Condition<Test>) -> Result<(), Fail> {
-    match c.node() {
-        Node::Leaf(test) => show_test(alloc, out, test),
-        Node::Not(inner) => {
-            out.push_str("!")?;
-            show_condition(alloc, out, inner)
-        }
-        Node::All(first, second, rest) => {
-            out.push_str("(")?;
-            show_condition(alloc, out, first)?;
-            out.push_str(" & ")?;
-            show_condition(alloc, out, second)?;
-            for next in rest {
-                out.push_str(" & ")?;
-                show_condition(alloc, out, next)?;
-            }
-            out.push_str(")")?;
-            Ok(())
-        }
-        Node::Any(first, second, rest) => {
-            out.push_str("(")?;
-            show_condition(alloc, out, first)?;
-            out.push_str(" | ")?;
-            show_condition(alloc, out, second)?;
-            for next in rest {
-                out.push_str(" | ")?;
-                show_condition(alloc, out, next)?;
-            }
-            out.push_str(")")?;
-            Ok(())
+            write!(out, "{}/{}", name.text.as_str(), period.seconds())
         }
     }
 }
 
-fn show_run(alloc: Global, out: &mut String, command: &Name) -> Result<(), Fail> {
-    let shown = format!(in alloc; "run {} ", command.text.as_str())?;
-    out.push_str(shown.as_str())?;
-    Ok(())
+/// A condition with parentheses round each chain.
+fn show_condition(out: &mut String, c: &Condition<Test>) -> Result<(), AllocError> {
+    match c.node() {
+        Node::Leaf(test) => show_test(out, test),
+        Node::Not(inner) => {
+            out.push_str("!")?;
+            show_condition(out, inner)
+        }
+        Node::All(first, second, rest) => {
+            out.push_str("(")?;
+            show_condition(out, first)?;
+            out.push_str(" & ")?;
+            show_condition(out, second)?;
+            for next in rest {
+                out.push_str(" & ")?;
+                show_condition(out, next)?;
+            }
+            out.push_str(")")
+        }
+        Node::Any(first, second, rest) => {
+            out.push_str("(")?;
+            show_condition(out, first)?;
+            out.push_str(" | ")?;
+            show_condition(out, second)?;
+            for next in rest {
+                out.push_str(" | ")?;
+                show_condition(out, next)?;
+            }
+            out.push_str(")")
+        }
+    }
 }
 
-fn show_wish(alloc: Global, out: &mut String, wish: &Wish) -> Result<(), Fail> {
+fn show_run(out: &mut String, command: &Name) -> Result<(), AllocError> {
+    write!(out, "run {} ", command.text.as_str())
+}
+
+fn show_wish(out: &mut String, wish: &Wish) -> Result<(), AllocError> {
     let (at, name) = (wish.span.start, wish.state.text.as_str());
-    let shown = format!(in alloc; "set {name} at {at} ")?;
-    out.push_str(shown.as_str())?;
-    Ok(())
+    write!(out, "set {name} at {at} ")
 }
 
-fn show_block(alloc: Global, out: &mut String, block: &Actions) -> Result<(), Fail> {
+fn show_block(out: &mut String, block: &Actions) -> Result<(), AllocError> {
     for action in block.statements() {
         match action {
-            Statement::Run(command) => show_run(alloc, out, command)?,
-            Statement::SetState(wish) => show_wish(alloc, out, wish)?,
+            Statement::Run(command) => show_run(out, command)?,
+            Statement::SetState(wish) => show_wish(out, wish)?,
             Statement::If(condition, inner) => {
                 out.push_str("if ")?;
-                show_condition(alloc, out, condition)?;
+                show_condition(out, condition)?;
                 out.push_str(" { ")?;
-                show_block(alloc, out, inner)?;
+                show_block(out, inner)?;
                 out.push_str("} ")?;
             }
         }
@@ -94,53 +83,46 @@ fn show_block(alloc: Global, out: &mut String, block: &Actions) -> Result<(), Fa
     Ok(())
 }
 
-fn show_action(alloc: Global, out: &mut String, action: &Action) -> Result<(), Fail> {
+fn show_action(out: &mut String, action: &Action) -> Result<(), AllocError> {
     match action {
-        Statement::Run(command) => show_run(alloc, out, command),
-        Statement::SetState(wish) => show_wish(alloc, out, wish),
+        Statement::Run(command) => show_run(out, command),
+        Statement::SetState(wish) => show_wish(out, wish),
         Statement::If(condition, inner) => {
             out.push_str("if ")?;
-            show_condition(alloc, out, condition)?;
+            show_condition(out, condition)?;
             out.push_str(" { ")?;
-            show_block(alloc, out, inner)?;
-            out.push_str("} ")?;
-            Ok(())
+            show_block(out, inner)?;
+            out.push_str("} ")
         }
     }
 }
 
-fn show_part(alloc: Global, out: &mut String, part: &Part) -> Result<(), Fail> {
+fn show_part(out: &mut String, part: &Part) -> Result<(), AllocError> {
     match part {
         Part::Init(span, block) => {
-            let shown = format!(in alloc; "init at {} {{ ", span.start)?;
-            out.push_str(shown.as_str())?;
-            show_block(alloc, out, block)?;
-            out.push_str("} ")?;
-            Ok(())
+            write!(out, "init at {} {{ ", span.start)?;
+            show_block(out, block)?;
+            out.push_str("} ")
         }
-        Part::Do(action) => show_action(alloc, out, action),
+        Part::Do(action) => show_action(out, action),
     }
 }
 
-fn show_item(alloc: Global, out: &mut String, item: &Item) -> Result<(), Fail> {
+fn show_item(out: &mut String, item: &Item) -> Result<(), AllocError> {
     match item {
         Item::InitState(span, name) => {
             let (at, name) = (span.start, name.text.as_str());
-            let shown = format!(in alloc; "init-state {name} at {at} ")?;
-            out.push_str(shown.as_str())?;
-            Ok(())
+            write!(out, "init-state {name} at {at} ")
         }
         Item::State(name, parts) => {
             let (at, name) = (name.span.start, name.text.as_str());
-            let shown = format!(in alloc; "state {name} at {at} {{ ")?;
-            out.push_str(shown.as_str())?;
+            write!(out, "state {name} at {at} {{ ")?;
             for part in parts.as_slice() {
-                show_part(alloc, out, part)?;
+                show_part(out, part)?;
             }
-            out.push_str("} ")?;
-            Ok(())
+            out.push_str("} ")
         }
-        Item::Always(part) => show_part(alloc, out, part),
+        Item::Always(part) => show_part(out, part),
     }
 }
 
@@ -155,14 +137,13 @@ fn parsed(
 }
 
 /// The items of a tree and then the lines of its notes.
-fn show_tree(alloc: Global, tree: &Tree) -> Result<String, Fail> {
+fn show_tree(alloc: Global, tree: &Tree) -> Result<String, AllocError> {
     let mut out = String::new(alloc);
     for item in tree.items() {
-        show_item(alloc, &mut out, item)?;
+        show_item(&mut out, item)?;
     }
     for line in tree.notes() {
-        let shown = format!(in alloc; "note {line} ")?;
-        out.push_str(shown.as_str())?;
+        write!(out, "note {line} ")?;
     }
     Ok(out)
 }
@@ -170,7 +151,7 @@ fn show_tree(alloc: Global, tree: &Tree) -> Result<String, Fail> {
 /// What is told of a text: its tree, or the fault.
 fn told(alloc: Global, text: &str) -> Result<String, Fail> {
     match parsed(alloc, text, &[])? {
-        Ok(tree) => show_tree(alloc, &tree),
+        Ok(tree) => Ok(show_tree(alloc, &tree)?),
         Err(fault) => Ok(format!(in alloc; "{fault}")?),
     }
 }
@@ -338,7 +319,7 @@ fn rows_of_names_have_trees(rt: HostRuntime) -> Result<(), Fail> {
     Ok(())
 }
 
-fn repeat(out: &mut String, part: &str, times: u32) -> Result<(), Fail> {
+fn repeat(out: &mut String, part: &str, times: u32) -> Result<(), AllocError> {
     for _time in 0..times {
         out.push_str(part)?;
     }
@@ -364,7 +345,13 @@ const ORDERS: [Order; 4] = [
 ];
 
 /// A `!` and a `(` in turn, and then those that one of them has more of.
-fn in_turn(out: &mut String, one: &str, other: &str, times: u32, others: u32) -> Result<(), Fail> {
+fn in_turn(
+    out: &mut String,
+    one: &str,
+    other: &str,
+    times: u32,
+    others: u32,
+) -> Result<(), AllocError> {
     for time in 0..times.max(others) {
         if time < times {
             out.push_str(one)?;
