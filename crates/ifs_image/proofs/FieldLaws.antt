@@ -8,7 +8,7 @@ use Rattle.std.proofs.lemmas.List.{take_at, drop_at, take-append-drop, length-ap
 use Rattle.std.proofs.lemmas.Nat.{be_bytes_2, be_bytes_4, be_bytes_8, from_be_bytes-to_be_bytes_2, from_be_bytes-to_be_bytes_4, from_be_bytes-to_be_bytes_8}
 use Rattle.ifs_image.specs.declared.fault.ImageFault.{ImageFault}
 use Rattle.ifs_image.specs.declared.fault.ImageFault.TheVariants.{Truncated, OutOfLimit}
-use Rattle.ifs_image.specs.Reading.{Place, place, Read, ◌>>=◌, bytes_at, byte_at, number_at, number_within, items_at}
+use Rattle.ifs_image.specs.Reading.{Cursor, cursor, Read, ◌>>=◌, bytes_at, byte_at, number_at, number_within, items_at}
 
 -- numbers that are bytes
 abbrev pub IsBytes : List ℕ → Type 0
@@ -63,24 +63,24 @@ pub Took-then : {a x b y c : List ℕ} → Took a x b → Took b y c → Took a 
 Took-then {a} {x} {b} {y} {c} p q = record { parts = p.parts ∙ ap (λ (t : List ℕ). x ++ t) q.parts ∙ sym (append_assoc x y c); rest_fits = q.rest_fits }
 
 -- A reader of a field: what fits is read again wherever it is spelled; what is read fits, and was spelled.
-pub record IsField {X : Type 0} (read : Place → Read X) (text : X → List ℕ) (Good : X → Type 0) : Type 0 where
-  pub again : (x : X) (at : ℕ) (rest : List ℕ) → Good x → read (place at (text x ++ rest)) ≡ Ok (x, place (at + length (text x)) rest)
-  pub taken : (p : Place) (y : X × Place) → IsBytes p.left → read p ≡ Ok y → Took p.left (text y.0) y.1.left × Good y.0
+pub record IsField {X : Type 0} (read : Cursor → Read X) (text : X → List ℕ) (Good : X → Type 0) : Type 0 where
+  pub again : (x : X) (at : ℕ) (rest : List ℕ) → Good x → read (cursor at (text x ++ rest)) ≡ Ok (x, cursor (at + length (text x)) rest)
+  pub taken : (p : Cursor) (y : X × Cursor) → IsBytes p.left → read p ≡ Ok y → Took p.left (text y.0) y.1.left × Good y.0
 
 -- ---- bytes
 
-pub bytes_again : (text rest : List ℕ) (at n : ℕ) → length text ≡ n → bytes_at n (place at (text ++ rest)) ≡ Ok (text, place (at + n) rest)
+pub bytes_again : (text rest : List ℕ) (at n : ℕ) → length text ≡ n → bytes_at n (cursor at (text ++ rest)) ≡ Ok (text, cursor (at + n) rest)
 unfolding bytes_at
 bytes_again text rest at n len =
     let long : ltb (length (text ++ rest)) n ≡ false = le-ltb _ _ (omega (arith, length-append text rest)) in
     rw (long, take_at text rest n len, drop_at text rest n len) refl
 
-pub bytes_taken : (n : ℕ) (p : Place) (y : List ℕ × Place) → IsBytes p.left → bytes_at n p ≡ Ok y → Took p.left y.0 y.1.left × (length y.0 ≡ n) × IsBytes y.0
+pub bytes_taken : (n : ℕ) (p : Cursor) (y : List ℕ × Cursor) → IsBytes p.left → bytes_at n p ≡ Ok y → Took p.left y.0 y.1.left × (length y.0 ≡ n) × IsBytes y.0
 unfolding bytes_at
 bytes_taken n p y fits e =
-    let g = guard_ok (ltb (length p.left) n) (Truncated p.at) (take n p.left, place (p.at + n) (drop n p.left)) y e in
+    let g = guard_ok (ltb (length p.left) n) (Truncated p.at) (take n p.left, cursor (p.at + n) (drop n p.left)) y e in
     let long : n ≤ length p.left = ltb-false _ _ g.0 in
-    subst (λ (z : List ℕ × Place). Took p.left z.0 z.1.left × (length z.0 ≡ n) × IsBytes z.0) g.1
+    subst (λ (z : List ℕ × Cursor). Took p.left z.0 z.1.left × (length z.0 ≡ n) × IsBytes z.0) g.1
     (record { parts = sym (take-append-drop n p.left); rest_fits = IsBytes-drop n p.left fits }, omega (arith, length-take n p.left), IsBytes-take n p.left fits)
 
 -- ---- numbers
@@ -115,17 +115,17 @@ wide64 = record {
   below = λ bytes fits. omega (arith, fits 0, fits 1, fits 2, fits 3, fits 4, fits 5, fits 6, fits 7);
 }
 
-number_again : (w : Width) (limit : ℕ) (wide : IsWide w limit) (n at : ℕ) (rest : List ℕ) → n < limit → number_at w (place at (to_be_bytes w n ++ rest)) ≡ Ok (n, place (at + length (to_be_bytes w n)) rest)
+number_again : (w : Width) (limit : ℕ) (wide : IsWide w limit) (n at : ℕ) (rest : List ℕ) → n < limit → number_at w (cursor at (to_be_bytes w n ++ rest)) ≡ Ok (n, cursor (at + length (to_be_bytes w n)) rest)
 unfolding number_at
 number_again w limit wide n at rest lt =
     rw (bytes_again (to_be_bytes w n) rest at (byte_len w) (wide.len n), wide.again n lt, wide.len n) refl
 
-number_taken : (w : Width) (limit : ℕ) (wide : IsWide w limit) (p : Place) (y : ℕ × Place) → IsBytes p.left → number_at w p ≡ Ok y → Took p.left (to_be_bytes w y.0) y.1.left × (y.0 < limit)
+number_taken : (w : Width) (limit : ℕ) (wide : IsWide w limit) (p : Cursor) (y : ℕ × Cursor) → IsBytes p.left → number_at w p ≡ Ok y → Took p.left (to_be_bytes w y.0) y.1.left × (y.0 < limit)
 unfolding number_at
 number_taken w limit wide p y fits e =
     let b = bind_ok (bytes_at (byte_len w) p) (λ bytes. Ok (from_be_bytes w bytes.0, bytes.1)) y e in
     let t = bytes_taken (byte_len w) p b.0 fits b.1 in
-    subst (λ (z : ℕ × Place). Took p.left (to_be_bytes w z.0) z.1.left × (z.0 < limit)) (ok_is (from_be_bytes w b.0.0, b.0.1) y b.2)
+    subst (λ (z : ℕ × Cursor). Took p.left (to_be_bytes w z.0) z.1.left × (z.0 < limit)) (ok_is (from_be_bytes w b.0.0, b.0.1) y b.2)
     (rw (wide.back b.0.0 t.1 t.2) t.0, wide.below b.0.0 t.2)
 
 pub number_field : (w : Width) (limit : ℕ) → IsWide w limit → IsField (number_at w) (to_be_bytes w) (λ n. n < limit)
@@ -145,7 +145,7 @@ within_field w limit least most wide small = record {
       let t = number_taken w limit wide p b.0 fits b.1 in
       let g = guard_ok (ltb b.0.0 least || ltb most b.0.0) (OutOfLimit p.at) b.0 y b.2 in
       let o = or_false (ltb b.0.0 least) (ltb most b.0.0) g.0 in
-      subst (λ (z : ℕ × Place). Took p.left (to_be_bytes w z.0) z.1.left × ((least ≤ z.0) × (z.0 ≤ most))) g.1
+      subst (λ (z : ℕ × Cursor). Took p.left (to_be_bytes w z.0) z.1.left × ((least ≤ z.0) × (z.0 ≤ most))) g.1
       (t.0, (ltb-false _ _ o.0, ltb-false _ _ o.1));
 }
 
@@ -155,7 +155,7 @@ within16 least most small = within_field w16 (2 ^ 16) least most wide16 small
 pub within32 : (least most : ℕ) → most < 2 ^ 32 → IsField (number_within w32 least most) (to_be_bytes w32) (λ n. (least ≤ n) × (n ≤ most))
 within32 least most small = within_field w32 (2 ^ 32) least most wide32 small
 
-pub byte_again : (n at : ℕ) (rest : List ℕ) → byte_at (place at (n ∷ rest)) ≡ Ok (n, place (at + 1) rest)
+pub byte_again : (n at : ℕ) (rest : List ℕ) → byte_at (cursor at (n ∷ rest)) ≡ Ok (n, cursor (at + 1) rest)
 unfolding byte_at
 byte_again n at rest = rw (bytes_again (n ∷ []) rest at 1 refl) refl
 
@@ -163,12 +163,12 @@ one_byte : (bytes : List ℕ) → length bytes ≡ 1 → bytes ≡ get_or bytes 
 one_byte [] len = absurd cc
 one_byte (b ∷ bytes) len = ap (λ (t : List ℕ). b ∷ t) (nil_from_length bytes (omega arith))
 
-pub byte_taken : (p : Place) (y : ℕ × Place) → IsBytes p.left → byte_at p ≡ Ok y → Took p.left (y.0 ∷ []) y.1.left
+pub byte_taken : (p : Cursor) (y : ℕ × Cursor) → IsBytes p.left → byte_at p ≡ Ok y → Took p.left (y.0 ∷ []) y.1.left
 unfolding byte_at
 byte_taken p y fits e =
     let b = bind_ok (bytes_at 1 p) (λ bytes. Ok (get_or bytes.0 0 0, bytes.1)) y e in
     let t = bytes_taken 1 p b.0 fits b.1 in
-    subst (λ (z : ℕ × Place). Took p.left (z.0 ∷ []) z.1.left) (ok_is (get_or b.0.0 0 0, b.0.1) y b.2)
+    subst (λ (z : ℕ × Cursor). Took p.left (z.0 ∷ []) z.1.left) (ok_is (get_or b.0.0 0 0, b.0.1) y b.2)
     (subst (λ (text : List ℕ). Took p.left text b.0.1.left) (one_byte b.0.0 t.1) t.0)
 
 -- ---- the entries of a table
@@ -178,20 +178,20 @@ abbrev pub AllAfter : {X : Type 0} → (List X → X → Type 0) → List X → 
 AllAfter Good before [] = Unit {0}
 AllAfter Good before (x ∷ xs) = Good before x × AllAfter Good (before ++ x ∷ []) xs
 
-pub items_again : {X : Type 0} (entry : List X → Place → Read X) (text : X → List ℕ) (Good : List X → X → Type 0) → ((before : List X) → IsField (entry before) text (Good before)) → (xs before : List X) (at : ℕ) (rest : List ℕ) → AllAfter Good before xs
-    → items_at entry (length xs) before (place at (flat_map text xs ++ rest)) ≡ Ok (before ++ xs, place (at + length (flat_map text xs)) rest)
+pub items_again : {X : Type 0} (entry : List X → Cursor → Read X) (text : X → List ℕ) (Good : List X → X → Type 0) → ((before : List X) → IsField (entry before) text (Good before)) → (xs before : List X) (at : ℕ) (rest : List ℕ) → AllAfter Good before xs
+    → items_at entry (length xs) before (cursor at (flat_map text xs ++ rest)) ≡ Ok (before ++ xs, cursor (at + length (flat_map text xs)) rest)
 unfolding items_at
 items_again {X} entry text Good field [] before at rest fits =
-    ap (λ (all : List X). Ok (all, place at rest)) (sym (append-nil before)) ∙ ap (λ (k : ℕ). Ok (before ++ [], place k rest)) (sym (add-zero at))
+    ap (λ (all : List X). Ok (all, cursor at rest)) (sym (append-nil before)) ∙ ap (λ (k : ℕ). Ok (before ++ [], cursor k rest)) (sym (add-zero at))
 items_again {X} entry text Good field (x ∷ xs) before at rest fits =
     let regrouped : flat_map text (x ∷ xs) ++ rest ≡ text x ++ (flat_map text xs ++ rest) = append_assoc (text x) (flat_map text xs) rest in
     let first = (field before).again x at (flat_map text xs ++ rest) fits.0 in
     let others = items_again entry text Good field xs (before ++ x ∷ []) (at + length (text x)) rest fits.1 in
     let sums : at + length (text x) + length (flat_map text xs) ≡ at + length (text x ++ flat_map text xs) = omega (arith, length-append (text x) (flat_map text xs)) in
-    ap (λ (bytes : List ℕ). items_at entry (suc (length xs)) before (place at bytes)) regrouped
-    ∙ again_bind (entry before (place at (text x ++ (flat_map text xs ++ rest)))) (λ y. items_at entry (length xs) (before ++ y.0 ∷ []) y.1) (x, place (at + length (text x)) (flat_map text xs ++ rest)) (Ok ((before ++ x ∷ []) ++ xs, place (at + length (text x) + length (flat_map text xs)) rest)) first others
-    ∙ ap (λ (all : List X). Ok (all, place (at + length (text x) + length (flat_map text xs)) rest)) (append_assoc before (x ∷ []) xs)
-    ∙ ap (λ (k : ℕ). Ok (before ++ x ∷ xs, place k rest)) sums
+    ap (λ (bytes : List ℕ). items_at entry (suc (length xs)) before (cursor at bytes)) regrouped
+    ∙ again_bind (entry before (cursor at (text x ++ (flat_map text xs ++ rest)))) (λ y. items_at entry (length xs) (before ++ y.0 ∷ []) y.1) (x, cursor (at + length (text x)) (flat_map text xs ++ rest)) (Ok ((before ++ x ∷ []) ++ xs, cursor (at + length (text x) + length (flat_map text xs)) rest)) first others
+    ∙ ap (λ (all : List X). Ok (all, cursor (at + length (text x) + length (flat_map text xs)) rest)) (append_assoc before (x ∷ []) xs)
+    ∙ ap (λ (k : ℕ). Ok (before ++ x ∷ xs, cursor k rest)) sums
 
 -- what was read of a table
 pub record TookItems {X : Type 0} (text : X → List ℕ) (Good : List X → X → Type 0) (n : ℕ) (before : List X) (bytes : List ℕ) (all : List X) (rest : List ℕ) : Type 0 where
@@ -201,11 +201,11 @@ pub record TookItems {X : Type 0} (text : X → List ℕ) (Good : List X → X �
   pub took : Took bytes (flat_map text xs) rest
   pub good : AllAfter Good before xs
 
-pub items_taken : {X : Type 0} (entry : List X → Place → Read X) (text : X → List ℕ) (Good : List X → X → Type 0) → ((before : List X) → IsField (entry before) text (Good before)) → (n : ℕ) (before : List X) (p : Place) (y : List X × Place) → IsBytes p.left → items_at entry n before p ≡ Ok y
+pub items_taken : {X : Type 0} (entry : List X → Cursor → Read X) (text : X → List ℕ) (Good : List X → X → Type 0) → ((before : List X) → IsField (entry before) text (Good before)) → (n : ℕ) (before : List X) (p : Cursor) (y : List X × Cursor) → IsBytes p.left → items_at entry n before p ≡ Ok y
     → TookItems text Good n before p.left y.0 y.1.left
 unfolding items_at
 items_taken {X} entry text Good field zero before p y fits e =
-    subst (λ (z : List X × Place). TookItems text Good 0 before p.left z.0 z.1.left) (ok_is (before, p) y e)
+    subst (λ (z : List X × Cursor). TookItems text Good 0 before p.left z.0 z.1.left) (ok_is (before, p) y e)
     (record { xs = []; all_are = sym (append-nil before); count = refl; took = record { parts = refl; rest_fits = fits }; good = tt })
 items_taken {X} entry text Good field (suc n) before p y fits e =
     let b = bind_ok (entry before p) (λ x. items_at entry n (before ++ x.0 ∷ []) x.1) y e in
@@ -220,10 +220,10 @@ items_taken {X} entry text Good field (suc n) before p y fits e =
     }
 
 -- a whole table
-pub table_field : {X : Type 0} (entry : List X → Place → Read X) (text : X → List ℕ) (Good : List X → X → Type 0) → ((before : List X) → IsField (entry before) text (Good before)) → (n : ℕ)
+pub table_field : {X : Type 0} (entry : List X → Cursor → Read X) (text : X → List ℕ) (Good : List X → X → Type 0) → ((before : List X) → IsField (entry before) text (Good before)) → (n : ℕ)
     → IsField (items_at entry n []) (flat_map text) (λ xs. (length xs ≡ n) × AllAfter Good [] xs)
 table_field {X} entry text Good field n = record {
-  again = λ xs at rest fits. ap (λ (k : ℕ). items_at entry k [] (place at (flat_map text xs ++ rest))) (sym fits.0) ∙ items_again entry text Good field xs [] at rest fits.1;
+  again = λ xs at rest fits. ap (λ (k : ℕ). items_at entry k [] (cursor at (flat_map text xs ++ rest))) (sym fits.0) ∙ items_again entry text Good field xs [] at rest fits.1;
   taken = λ p y fits e.
       let t = items_taken entry text Good field n [] p y fits e in
       let same : t.xs ≡ y.0 = sym t.all_are in

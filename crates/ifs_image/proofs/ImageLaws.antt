@@ -23,7 +23,7 @@ use Rattle.ifs_image.specs.declared.parts.ImageParts.{ImageParts}
 use Rattle.ifs_base.specs.Sizes.{TextFits}
 use Rattle.ifs_image.specs.Limits.{BudgetsFit, CountsFit, TestFits, RoutineFits, AreDistinct, HandlersInRange, StateInRange, names_of, instructions, Fits, InRange}
 use Rattle.ifs_image.specs.Spelling.{front_bytes, budgets_bytes, counts_bytes, handlers_bytes, text_bytes, test_bytes, state_bytes, routine_bytes, counts, image_bytes, Spells}
-use Rattle.ifs_image.specs.Reading.{Place, place, ◌>>=◌, bytes_at, byte_at, number_at, number_within, magic_at, version_at, budgets_at, counts_at, handlers_at, text_at, stands_in, name_at, test_at, state_at, items_at, routine_at, room_after, parts_at, image_of}
+use Rattle.ifs_image.specs.Reading.{Cursor, cursor, ◌>>=◌, bytes_at, byte_at, number_at, number_within, magic_at, version_at, budgets_at, counts_at, handlers_at, text_at, stands_in, name_at, test_at, state_at, items_at, routine_at, room_after, parts_at, image_of}
 use Rattle.ifs_image.specs.Answers.{Answers}
 use Rattle.ifs_image.proofs.Names.{AreDistinct-push, distinct_broken}
 use Rattle.ifs_image.proofs.FieldLaws.{IsBytes, bind_ok, again_bind, passed_ok, ok_is, Took, Took-then, IsField, bytes_again, bytes_taken, wide16, number_field, within16, within32, byte_again, byte_taken, AllAfter, table_field}
@@ -31,30 +31,30 @@ use Rattle.ifs_image.proofs.PartLaws.{TextGood, text_field, name_field, handlers
 
 -- ---- magic, version, budgets, counts
 
-magic_again : (at : ℕ) (rest : List ℕ) → magic_at (place at (codes "IFSV" ++ rest)) ≡ Ok (tt, place (at + 4) rest)
+magic_again : (at : ℕ) (rest : List ℕ) → magic_at (cursor at (codes "IFSV" ++ rest)) ≡ Ok (tt, cursor (at + 4) rest)
 unfolding magic_at
 magic_again at rest = again_bind _ _ _ _ (bytes_again (codes "IFSV") rest at 4 refl) refl
 
-magic_taken : (p : Place) (y : Unit {0} × Place) → IsBytes p.left → magic_at p ≡ Ok y → Took p.left (codes "IFSV") y.1.left
+magic_taken : (p : Cursor) (y : Unit {0} × Cursor) → IsBytes p.left → magic_at p ≡ Ok y → Took p.left (codes "IFSV") y.1.left
 unfolding magic_at
 magic_taken p y fits e =
     let b = bind_ok (bytes_at 4 p) (λ bytes. cond (bytes_eq bytes.0 (codes "IFSV")) (Ok (tt, bytes.1)) (Err (WrongMagic p.at))) y e in
     let t = bytes_taken 4 p b.0 fits b.1 in
     let g = passed_ok (bytes_eq b.0.0 (codes "IFSV")) (WrongMagic p.at) (tt, b.0.1) y b.2 in
     let same : b.0.0 ≡ codes "IFSV" = (bytes_eq-Decides b.0.0 (codes "IFSV")).0 g.0 in
-    subst (λ (z : Unit {0} × Place). Took p.left (codes "IFSV") z.1.left) g.1 (subst (λ (text : List ℕ). Took p.left text b.0.1.left) same t.0)
+    subst (λ (z : Unit {0} × Cursor). Took p.left (codes "IFSV") z.1.left) g.1 (subst (λ (text : List ℕ). Took p.left text b.0.1.left) same t.0)
 
-version_again : (at : ℕ) (rest : List ℕ) → version_at (place at (1 ∷ rest)) ≡ Ok (tt, place (at + 1) rest)
+version_again : (at : ℕ) (rest : List ℕ) → version_at (cursor at (1 ∷ rest)) ≡ Ok (tt, cursor (at + 1) rest)
 unfolding version_at
 version_again at rest = again_bind _ _ _ _ (byte_again 1 at rest) refl
 
-version_taken : (p : Place) (y : Unit {0} × Place) → IsBytes p.left → version_at p ≡ Ok y → Took p.left (1 ∷ []) y.1.left
+version_taken : (p : Cursor) (y : Unit {0} × Cursor) → IsBytes p.left → version_at p ≡ Ok y → Took p.left (1 ∷ []) y.1.left
 unfolding version_at
 version_taken p y fits e =
     let b = bind_ok (byte_at p) (λ version. cond (version.0 == 1) (Ok (tt, version.1)) (Err (WrongVersion p.at))) y e in
     let g = passed_ok (b.0.0 == 1) (WrongVersion p.at) (tt, b.0.1) y b.2 in
     let one : b.0.0 ≡ 1 = eqb-true _ _ g.0 in
-    subst (λ (z : Unit {0} × Place). Took p.left (1 ∷ []) z.1.left) g.1 (subst (λ (n : ℕ). Took p.left (n ∷ []) b.0.1.left) one (byte_taken p b.0 fits b.1))
+    subst (λ (z : Unit {0} × Cursor). Took p.left (1 ∷ []) z.1.left) g.1 (subst (λ (n : ℕ). Took p.left (n ∷ []) b.0.1.left) one (byte_taken p b.0 fits b.1))
 
 budgets_field : IsField budgets_at budgets_bytes BudgetsFit
 unfolding budgets_at budgets_bytes
@@ -64,7 +64,7 @@ budgets_field = record {
       let b2 = (within16 0 32 (omega arith)).again b.frames (at + 2) (to_be_bytes w32 b.cost ++ (to_be_bytes w16 b.commands ++ rest)) (omega arith, fits.frames) in
       let b3 = (within32 0 300000 (omega arith)).again b.cost (at + 2 + 2) (to_be_bytes w16 b.commands ++ rest) (omega arith, fits.cost) in
       let b4 = (within16 0 64 (omega arith)).again b.commands (at + 2 + 2 + 4) rest (omega arith, fits.commands) in
-      again_bind _ _ _ _ b1 (again_bind _ _ _ _ b2 (again_bind _ _ _ _ b3 (again_bind _ _ _ _ b4 (ap (λ (k : ℕ). Ok (b, place k rest)) (omega arith)))));
+      again_bind _ _ _ _ b1 (again_bind _ _ _ _ b2 (again_bind _ _ _ _ b3 (again_bind _ _ _ _ b4 (ap (λ (k : ℕ). Ok (b, cursor k rest)) (omega arith)))));
   taken = λ p y fits e.
       let b_stack = bind_ok (number_within w16 0 32 p) (λ stack. number_within w16 0 32 stack.1 >>= λ frames. number_within w32 0 300000 frames.1 >>= λ cost. number_within w16 0 64 cost.1 >>= λ commands. Ok (record { stack = stack.0; frames = frames.0; cost = cost.0; commands = commands.0 }, commands.1)) y e in
       let b_frames = bind_ok (number_within w16 0 32 b_stack.0.1) (λ frames. number_within w32 0 300000 frames.1 >>= λ cost. number_within w16 0 64 cost.1 >>= λ commands. Ok (record { stack = b_stack.0.0; frames = frames.0; cost = cost.0; commands = commands.0 }, commands.1)) y b_stack.2 in
@@ -74,8 +74,8 @@ budgets_field = record {
       let t2 = (within16 0 32 (omega arith)).taken b_stack.0.1 b_frames.0 t1.0.rest_fits b_frames.1 in
       let t3 = (within32 0 300000 (omega arith)).taken b_frames.0.1 b_cost.0 t2.0.rest_fits b_cost.1 in
       let t4 = (within16 0 64 (omega arith)).taken b_cost.0.1 b_commands.0 t3.0.rest_fits b_commands.1 in
-      let made : Budgets × Place = (record { stack = b_stack.0.0; frames = b_frames.0.0; cost = b_cost.0.0; commands = b_commands.0.0 }, b_commands.0.1) in
-      subst (λ (z : Budgets × Place). Took p.left (budgets_bytes z.0) z.1.left × BudgetsFit z.0) (ok_is made y b_commands.2)
+      let made : Budgets × Cursor = (record { stack = b_stack.0.0; frames = b_frames.0.0; cost = b_cost.0.0; commands = b_commands.0.0 }, b_commands.0.1) in
+      subst (λ (z : Budgets × Cursor). Took p.left (budgets_bytes z.0) z.1.left × BudgetsFit z.0) (ok_is made y b_commands.2)
       (Took-then (Took-then (Took-then t1.0 t2.0) t3.0) t4.0, record { stack = t1.1.1; frames = t2.1.1; cost = t3.1.1; commands = t4.1.1 });
 }
 
@@ -97,7 +97,7 @@ counts_field = record {
       let b3 = (within16 0 1024 (omega arith)).again c.commands (at + 2 + 2) (to_be_bytes w16 c.states ++ (to_be_bytes w16 c.routines ++ rest)) (omega arith, fits.commands) in
       let b4 = (within16 1 256 (omega arith)).again c.states (at + 2 + 2 + 2) (to_be_bytes w16 c.routines ++ rest) (fits.some_state, fits.states) in
       let b5 = (within16 0 1024 (omega arith)).again c.routines (at + 2 + 2 + 2 + 2) rest (omega arith, fits.routines) in
-      again_bind _ _ _ _ b1 (again_bind _ _ _ _ b2 (again_bind _ _ _ _ b3 (again_bind _ _ _ _ b4 (again_bind _ _ _ _ b5 (ap (λ (k : ℕ). Ok (c, place k rest)) (omega arith))))));
+      again_bind _ _ _ _ b1 (again_bind _ _ _ _ b2 (again_bind _ _ _ _ b3 (again_bind _ _ _ _ b4 (again_bind _ _ _ _ b5 (ap (λ (k : ℕ). Ok (c, cursor k rest)) (omega arith))))));
   taken = λ p y fits e.
       let b_interfaces = bind_ok (number_within w16 0 64 p) (λ interfaces. number_within w16 0 64 interfaces.1 >>= λ tests. number_within w16 0 1024 tests.1 >>= λ commands. number_within w16 1 256 commands.1 >>= λ states. number_within w16 0 1024 states.1 >>= λ routines. Ok (record { interfaces = interfaces.0; tests = tests.0; commands = commands.0; states = states.0; routines = routines.0 }, routines.1)) y e in
       let b_tests = bind_ok (number_within w16 0 64 b_interfaces.0.1) (λ tests. number_within w16 0 1024 tests.1 >>= λ commands. number_within w16 1 256 commands.1 >>= λ states. number_within w16 0 1024 states.1 >>= λ routines. Ok (record { interfaces = b_interfaces.0.0; tests = tests.0; commands = commands.0; states = states.0; routines = routines.0 }, routines.1)) y b_interfaces.2 in
@@ -109,8 +109,8 @@ counts_field = record {
       let t3 = (within16 0 1024 (omega arith)).taken b_tests.0.1 b_commands.0 t2.0.rest_fits b_commands.1 in
       let t4 = (within16 1 256 (omega arith)).taken b_commands.0.1 b_states.0 t3.0.rest_fits b_states.1 in
       let t5 = (within16 0 1024 (omega arith)).taken b_states.0.1 b_routines.0 t4.0.rest_fits b_routines.1 in
-      let made : Counts × Place = (record { interfaces = b_interfaces.0.0; tests = b_tests.0.0; commands = b_commands.0.0; states = b_states.0.0; routines = b_routines.0.0 }, b_routines.0.1) in
-      subst (λ (z : Counts × Place). Took p.left (counts_bytes z.0) z.1.left × CountsGood z.0) (ok_is made y b_routines.2)
+      let made : Counts × Cursor = (record { interfaces = b_interfaces.0.0; tests = b_tests.0.0; commands = b_commands.0.0; states = b_states.0.0; routines = b_routines.0.0 }, b_routines.0.1) in
+      subst (λ (z : Counts × Cursor). Took p.left (counts_bytes z.0) z.1.left × CountsGood z.0) (ok_is made y b_routines.2)
       (Took-then (Took-then (Took-then (Took-then t1.0 t2.0) t3.0) t4.0) t5.0, record { interfaces = t1.1.1; tests = t2.1.1; commands = t3.1.1; some_state = t4.1.0; states = t4.1.1; routines = t5.1.1 });
 }
 
@@ -280,32 +280,32 @@ pub record TookImage (bytes : List ℕ) (parts : ImageParts) (rest : List ℕ) :
   pub in_range : InRange parts
 
 -- what the fields of an image were read as, one after the other
-pub record Steps (p : Place) (y : ImageParts × Place) : Type 0 where
-  pub magic : Unit {0} × Place
+pub record Steps (p : Cursor) (y : ImageParts × Cursor) : Type 0 where
+  pub magic : Unit {0} × Cursor
   pub is_magic : magic_at p ≡ Ok magic
-  pub version : Unit {0} × Place
+  pub version : Unit {0} × Cursor
   pub is_version : version_at magic.1 ≡ Ok version
-  pub budgets : Budgets × Place
+  pub budgets : Budgets × Cursor
   pub is_budgets : budgets_at version.1 ≡ Ok budgets
-  pub counts : Counts × Place
+  pub counts : Counts × Cursor
   pub is_counts : counts_at budgets.1 ≡ Ok counts
-  pub initial : ℕ × Place
+  pub initial : ℕ × Cursor
   pub is_initial : number_at w16 counts.1 ≡ Ok initial
-  pub always : Handlers × Place
+  pub always : Handlers × Cursor
   pub is_always : handlers_at initial.1 ≡ Ok always
-  pub interfaces : List (List ℕ) × Place
+  pub interfaces : List (List ℕ) × Cursor
   pub is_interfaces : items_at name_at counts.0.interfaces [] always.1 ≡ Ok interfaces
-  pub tests : List TestSpec × Place
+  pub tests : List TestSpec × Cursor
   pub is_tests : items_at (λ _. test_at) counts.0.tests [] interfaces.1 ≡ Ok tests
-  pub commands : List (List ℕ) × Place
+  pub commands : List (List ℕ) × Cursor
   pub is_commands : items_at (λ _. text_at) counts.0.commands [] tests.1 ≡ Ok commands
-  pub states : List StateSpec × Place
+  pub states : List StateSpec × Cursor
   pub is_states : items_at state_at counts.0.states [] commands.1 ≡ Ok states
-  pub routines : List Routine × Place
+  pub routines : List Routine × Cursor
   pub is_routines : items_at (λ before. routine_at (room_after before)) counts.0.routines [] states.1 ≡ Ok routines
   pub made_is : done (record { budgets = budgets.0; initial = record { 0 = initial.0 }; always = always.0; interfaces = interfaces.0; tests = tests.0; commands = commands.0; states = states.0; routines = routines.0 }, routines.1) ≡ Ok y
 
-steps_of : (p : Place) (y : ImageParts × Place) → parts_at p ≡ Ok y → Steps p y
+steps_of : (p : Cursor) (y : ImageParts × Cursor) → parts_at p ≡ Ok y → Steps p y
 unfolding parts_at
 steps_of p y e =
     bind_elim (magic_at p) (λ magic. version_at magic.1 >>= λ version. budgets_at version.1 >>= λ budgets. counts_at budgets.1 >>= λ counts. number_at w16 counts.1 >>= λ initial. handlers_at initial.1 >>= λ always. items_at name_at counts.0.interfaces [] always.1 >>= λ interfaces. items_at (λ _. test_at) counts.0.tests [] interfaces.1 >>= λ tests. items_at (λ _. text_at) counts.0.commands [] tests.1 >>= λ commands. items_at state_at counts.0.states [] commands.1 >>= λ states. items_at (λ before. routine_at (room_after before)) counts.0.routines [] states.1 >>= λ routines. Ok (record { budgets = budgets.0; initial = record { 0 = initial.0 }; always = always.0; interfaces = interfaces.0; tests = tests.0; commands = commands.0; states = states.0; routines = routines.0 }, routines.1)) y (Steps p y) e (λ magic e_magic g_magic.
@@ -321,7 +321,7 @@ steps_of p y e =
     bind_elim (items_at (λ before. routine_at (room_after before)) counts.0.routines [] states.1) (λ routines. Ok (record { budgets = budgets.0; initial = record { 0 = initial.0 }; always = always.0; interfaces = interfaces.0; tests = tests.0; commands = commands.0; states = states.0; routines = routines.0 }, routines.1)) y (Steps p y) g_states (λ routines e_routines g_routines.
     record { magic = magic; is_magic = e_magic; version = version; is_version = e_version; budgets = budgets; is_budgets = e_budgets; counts = counts; is_counts = e_counts; initial = initial; is_initial = e_initial; always = always; is_always = e_always; interfaces = interfaces; is_interfaces = e_interfaces; tests = tests; is_tests = e_tests; commands = commands; is_commands = e_commands; states = states; is_states = e_states; routines = routines; is_routines = e_routines; made_is = g_routines })))))))))))
 
-steps_taken : (p : Place) (y : ImageParts × Place) → IsBytes p.left → Steps p y → TookImage p.left y.0 y.1.left
+steps_taken : (p : Cursor) (y : ImageParts × Cursor) → IsBytes p.left → Steps p y → TookImage p.left y.0 y.1.left
 unfolding image_bytes front_bytes
 steps_taken p y fits s =
     let t1 = magic_taken p s.magic fits s.is_magic in
@@ -342,15 +342,15 @@ steps_taken p y fits s =
     let limits : CountsGood (counts parts) = subst CountsGood same t4.1 in
     let whole = Took-then (Took-then (Took-then (Took-then (Took-then (Took-then (Took-then (Took-then front with_counts) t5.0) t6.0) t7.0) t8.0) t9.0) t10.0) t11.0 in
     let tables : TablesGood parts = record { interfaces = t7.1.1; tests = t8.1.1; commands = t9.1.1; states = t10.1.1; routines = t11.1.1 } in
-    let made : ImageParts × Place = (parts, s.routines.1) in
-    subst (λ (z : ImageParts × Place). TookImage p.left z.0 z.1.left) (ok_is made y s.made_is)
+    let made : ImageParts × Cursor = (parts, s.routines.1) in
+    subst (λ (z : ImageParts × Cursor). TookImage p.left z.0 z.1.left) (ok_is made y s.made_is)
     (record { took = whole; fits = fits_from_tables parts t3.1 (record { interfaces = limits.interfaces; tests = limits.tests; commands = limits.commands; some_state = limits.some_state; states = limits.states; routines = limits.routines }) tables; in_range = in_range_from_tables parts t5.1 t6.1 tables })
 
-pub parts_taken : (p : Place) (y : ImageParts × Place) → IsBytes p.left → parts_at p ≡ Ok y → TookImage p.left y.0 y.1.left
+pub parts_taken : (p : Cursor) (y : ImageParts × Cursor) → IsBytes p.left → parts_at p ≡ Ok y → TookImage p.left y.0 y.1.left
 parts_taken p y fits e = steps_taken p y fits (steps_of p y e)
 
 -- what spells an image is read at any place, whatever follows
-pub parts_again : (p : ImageParts) (at : ℕ) (rest : List ℕ) → Fits p → InRange p → (after : ℕ) × (parts_at (place at (image_bytes p ++ rest)) ≡ Ok (p, place after rest))
+pub parts_again : (p : ImageParts) (at : ℕ) (rest : List ℕ) → Fits p → InRange p → (after : ℕ) × (parts_at (cursor at (image_bytes p ++ rest)) ≡ Ok (p, cursor after rest))
 unfolding parts_at image_bytes front_bytes
 parts_again p at rest f r =
     let t = tables_from_fits p f r in
@@ -386,7 +386,7 @@ parts_again p at rest f r =
     let a10 = (states_table (length p.states)).again p.states k10 r11 (refl, t.states) in
     let a11 = (routines_table (length p.routines)).again p.routines k11 rest (refl, t.routines) in (
       k11 + length (flat_map routine_bytes p.routines),
-      ap (λ (bytes : List ℕ). parts_at (place at bytes)) regrouped
+      ap (λ (bytes : List ℕ). parts_at (cursor at bytes)) regrouped
           ∙ again_bind _ _ _ _ a1 (again_bind _ _ _ _ a2 (again_bind _ _ _ _ a3 (again_bind _ _ _ _ a4 (again_bind _ _ _ _ a5 (again_bind _ _ _ _ a6
           (again_bind _ _ _ _ a7 (again_bind _ _ _ _ a8 (again_bind _ _ _ _ a9 (again_bind _ _ _ _ a10 (again_bind _ _ _ _ a11 refl)))))))))),
     )
@@ -396,9 +396,9 @@ parts_again p at rest f r =
 pub image_found : (bytes : List ℕ) (p : ImageParts) → IsBytes bytes → image_of bytes ≡ Ok p → Spells bytes p
 unfolding image_of
 image_found bytes p fits e =
-    let b = bind_ok (parts_at (place 0 bytes)) (λ parts. cond (length parts.1.left == 0) (Ok parts.0) (Err (Trailing parts.1.at))) p e in
+    let b = bind_ok (parts_at (cursor 0 bytes)) (λ parts. cond (length parts.1.left == 0) (Ok parts.0) (Err (Trailing parts.1.at))) p e in
     let g = passed_ok (length b.0.1.left == 0) (Trailing b.0.1.at) b.0.0 p b.2 in
-    let t = parts_taken (place 0 bytes) b.0 fits b.1 in
+    let t = parts_taken (cursor 0 bytes) b.0 fits b.1 in
     let nothing : b.0.1.left ≡ [] = nil_from_length b.0.1.left (eqb-true _ _ g.0) in
     let whole : bytes ≡ image_bytes b.0.0 = t.took.parts ∙ ap (λ (rest : List ℕ). image_bytes b.0.0 ++ rest) nothing ∙ append-nil (image_bytes b.0.0) in
     subst (λ (q : ImageParts). Spells bytes q) g.1 (record { fits = t.fits; in_range = t.in_range; bytes_are = whole })
@@ -408,7 +408,7 @@ unfolding image_of
 image_again bytes p s =
     let a = parts_again p 0 [] s.fits s.in_range in
     let e : bytes ≡ image_bytes p ++ [] = s.bytes_are ∙ sym (append-nil (image_bytes p)) in
-    again_bind _ _ _ _ (ap (λ (b : List ℕ). parts_at (place 0 b)) e ∙ a.1) refl
+    again_bind _ _ _ _ (ap (λ (b : List ℕ). parts_at (cursor 0 b)) e ∙ a.1) refl
 
 -- ---- what a call answers, when it answers what reading gives
 
@@ -436,5 +436,5 @@ Spells-prefix bytes more p q a b =
     let second = parts_again q 0 [] b.fits b.in_range in
     let one : bytes ++ more ≡ image_bytes p ++ more = ap (λ (x : List ℕ). x ++ more) a.bytes_are in
     let two : bytes ++ more ≡ image_bytes q ++ [] = b.bytes_are ∙ sym (append-nil (image_bytes q)) in
-    let same : done (p, place first.0 more) ≡ done (q, place second.0 []) = sym first.1 ∙ ap (λ (x : List ℕ). parts_at (place 0 x)) (sym one ∙ two) ∙ second.1 in
-    ap (λ (y : ImageParts × Place). y.1.left) (ok_is (p, place first.0 more) (q, place second.0 []) same)
+    let same : done (p, cursor first.0 more) ≡ done (q, cursor second.0 []) = sym first.1 ∙ ap (λ (x : List ℕ). parts_at (cursor 0 x)) (sym one ∙ two) ∙ second.1 in
+    ap (λ (y : ImageParts × Cursor). y.1.left) (ok_is (p, cursor first.0 more) (q, cursor second.0 []) same)

@@ -5,9 +5,9 @@ use Rattle.ifs_image.specs.declared.parts.Routine.{Routine}
 use Rattle.ifs_image.specs.Limits.{instructions}
 use Rattle.ifs_image.specs.declared.fault.ImageFault.{ImageFault}
 use Rattle.ifs_image.specs.declared.fault.ImageFault.TheVariants.{Memory}
-use Rattle.ifs_image.specs.Reading.{Place, Read, items_at, room_after}
+use Rattle.ifs_image.specs.Reading.{Cursor, Read, items_at, room_after}
 
-pub goes_on : {X : Type 0} (entry : List X → Place → Read X) (count i : ℕ) (before after_push : List X) (p after : Place) (x : X) (total : Read (List X)) → i < count → entry before p ≡ Ok (x, after) → after_push ≡ before ++ x ∷ []
+pub goes_on : {X : Type 0} (entry : List X → Cursor → Read X) (count i : ℕ) (before after_push : List X) (p after : Cursor) (x : X) (total : Read (List X)) → i < count → entry before p ≡ Ok (x, after) → after_push ≡ before ++ x ∷ []
     → items_at entry (count - i) before p ≡ total → items_at entry (count - (i + 1)) after_push after ≡ total
 unfolding items_at
 goes_on entry count i before after_push p after x total lt read pushed so_far =
@@ -15,7 +15,7 @@ goes_on entry count i before after_push p after x total lt read pushed so_far =
     let one : items_at entry (count - i) before p ≡ items_at entry (count - (i + 1)) (before ++ x ∷ []) after = rw (k, read) refl in
     rw pushed (sym one ∙ so_far)
 
-pub stops : {X : Type 0} (entry : List X → Place → Read X) (count i : ℕ) (before : List X) (p : Place) (total : Read (List X)) (fault : ImageFault) → i < count → (fault ≢ Memory → entry before p ≡ Err fault)
+pub stops : {X : Type 0} (entry : List X → Cursor → Read X) (count i : ℕ) (before : List X) (p : Cursor) (total : Read (List X)) (fault : ImageFault) → i < count → (fault ≢ Memory → entry before p ≡ Err fault)
     → items_at entry (count - i) before p ≡ total → fault ≢ Memory → total ≡ Err fault
 unfolding items_at
 stops entry count i before p total fault lt read so_far other =
@@ -24,7 +24,7 @@ stops entry count i before p total fault lt read so_far other =
     let one : items_at entry (count - i) before p ≡ Err fault = rw (k, e) refl in
     sym so_far ∙ one
 
-pub is_done : {X : Type 0} (entry : List X → Place → Read X) (count i : ℕ) (before all : List X) (p : Place) (total : Read (List X)) → count ≤ i → all ≡ before
+pub is_done : {X : Type 0} (entry : List X → Cursor → Read X) (count i : ℕ) (before all : List X) (p : Cursor) (total : Read (List X)) → count ≤ i → all ≡ before
     → items_at entry (count - i) before p ≡ total → total ≡ Ok (all, p)
 unfolding items_at
 is_done entry count i before all p total le same so_far =

@@ -22,7 +22,7 @@ use Rattle.ifs_image.specs.declared.parts.Routine.{Routine}
 use Rattle.ifs_base.specs.Sizes.{TextFits}
 use Rattle.ifs_image.specs.Limits.{TestFits, HandlersInRange, StateInRange, RoutineFits, names_of}
 use Rattle.ifs_image.specs.Spelling.{handlers_bytes, text_bytes, test_bytes, state_bytes, routine_bytes}
-use Rattle.ifs_image.specs.Reading.{Place, place, ◌>>=◌, bytes_at, byte_at, number_at, number_within, handlers_at, length_at, is_text, text_sized, text_at, stands_in, name_at, test_at, state_at, instruction_at, items_at, results_at, routine_at}
+use Rattle.ifs_image.specs.Reading.{Cursor, cursor, ◌>>=◌, bytes_at, byte_at, number_at, number_within, handlers_at, length_at, is_text, text_sized, text_at, stands_in, name_at, test_at, state_at, instruction_at, items_at, results_at, routine_at}
 use Rattle.ifs_image.proofs.FieldLaws.{IsBytes, bind_ok, again_bind, guard_ok, passed_ok, ok_is, or_false, Took, Took-then, IsField, bytes_again, bytes_taken, wide16, wide64, number_field, within16, within32, byte_again, byte_taken, AllAfter, table_field}
 use Rattle.ifs_image.proofs.Ops.{op_of-spelling, op_of-spelled}
 
@@ -73,24 +73,24 @@ length_field = record {
       let o = or_false (b.0.0 == 0) (ltb 1024 b.0.0) g.0 in
       let few : b.0.0 ≤ 1024 = ltb-false _ _ o.1 in
       let some : b.0.0 ≢ 0 = not_from_Decides (b.0.0 == 0) (Decides-eqb b.0.0 0) o.0 in
-      subst (λ (z : ℕ × Place). Took p.left (to_be_bytes w16 z.0) z.1.left × ((1 ≤ z.0) × (z.0 ≤ 1024))) g.1
+      subst (λ (z : ℕ × Cursor). Took p.left (to_be_bytes w16 z.0) z.1.left × ((1 ≤ z.0) × (z.0 ≤ 1024))) g.1
       (t.0, (omega (arith, some), few));
 }
 
-text_of_again : (t rest : List ℕ) (at n : ℕ) → length t ≡ n → is_text t ≡ true → text_sized n (place at (t ++ rest)) ≡ Ok (t, place (at + n) rest)
+text_of_again : (t rest : List ℕ) (at n : ℕ) → length t ≡ n → is_text t ≡ true → text_sized n (cursor at (t ++ rest)) ≡ Ok (t, cursor (at + n) rest)
 unfolding text_sized
 text_of_again t rest at n len good = rw (bytes_again t rest at n len, good) refl
 
-text_of_taken : (n : ℕ) (p : Place) (y : List ℕ × Place) → IsBytes p.left → text_sized n p ≡ Ok y → Took p.left y.0 y.1.left × (length y.0 ≡ n) × (is_text y.0 ≡ true)
+text_of_taken : (n : ℕ) (p : Cursor) (y : List ℕ × Cursor) → IsBytes p.left → text_sized n p ≡ Ok y → Took p.left y.0 y.1.left × (length y.0 ≡ n) × (is_text y.0 ≡ true)
 unfolding text_sized
 text_of_taken n p y fits e =
     let b = bind_ok (bytes_at n p) (λ bytes. cond (is_text bytes.0) (Ok bytes) (Err (BadText p.at))) y e in
     let t = bytes_taken n p b.0 fits b.1 in
     let g = passed_ok (is_text b.0.0) (BadText p.at) b.0 y b.2 in
-    subst (λ (z : List ℕ × Place). Took p.left z.0 z.1.left × (length z.0 ≡ n) × (is_text z.0 ≡ true)) g.1 (t.0, t.1, g.0)
+    subst (λ (z : List ℕ × Cursor). Took p.left z.0 z.1.left × (length z.0 ≡ n) × (is_text z.0 ≡ true)) g.1 (t.0, t.1, g.0)
 
 -- a length and the text behind it
-length_then_text : (p : Place) (n : ℕ × Place) (t : List ℕ × Place) → IsBytes p.left → length_at p ≡ Ok n → text_sized n.0 n.1 ≡ Ok t → Took p.left (text_bytes t.0) t.1.left × TextGood t.0
+length_then_text : (p : Cursor) (n : ℕ × Cursor) (t : List ℕ × Cursor) → IsBytes p.left → length_at p ≡ Ok n → text_sized n.0 n.1 ≡ Ok t → Took p.left (text_bytes t.0) t.1.left × TextGood t.0
 unfolding text_bytes
 length_then_text p n t fits first second =
     let a = length_field.taken p n fits first in
@@ -101,7 +101,7 @@ length_then_text p n t fits first second =
       record { fits = record { not_empty = omega (arith, b.1, a.1.0); within = omega (arith, b.1, a.1.1); no_nul = parts.1 }; utf8 = parts.0 },
     )
 
-length_of_again : (t rest : List ℕ) (at : ℕ) → TextGood t → length_at (place at (text_bytes t ++ rest)) ≡ Ok (length t, place (at + 2) (t ++ rest))
+length_of_again : (t rest : List ℕ) (at : ℕ) → TextGood t → length_at (cursor at (text_bytes t ++ rest)) ≡ Ok (length t, cursor (at + 2) (t ++ rest))
 unfolding text_bytes
 length_of_again t rest at good = length_field.again (length t) at (t ++ rest) (good.fits.not_empty, good.fits.within)
 
@@ -114,7 +114,7 @@ unfolding text_at
 text_field = record {
   again = λ t at rest good.
       again_bind _ _ _ _ (length_of_again t rest at good)
-      (text_of_again t rest (at + 2) (length t) refl (text_true t good) ∙ ap (λ (k : ℕ). Ok (t, place k rest)) (length-text_bytes t at));
+      (text_of_again t rest (at + 2) (length t) refl (text_true t good) ∙ ap (λ (k : ℕ). Ok (t, cursor k rest)) (length-text_bytes t at));
   taken = λ p y fits e.
       let b = bind_ok (length_at p) (λ n. text_sized n.0 n.1) y e in
       length_then_text p b.0 y fits b.1 b.2;
@@ -126,13 +126,13 @@ name_field before = record {
   again = λ t at rest good.
       again_bind _ _ _ _ (length_of_again t rest at good.0)
       (again_bind _ _ _ _ (text_of_again t rest (at + 2) (length t) refl (text_true t good.0))
-      (rw good.1 (ap (λ (k : ℕ). Ok (t, place k rest)) (length-text_bytes t at))));
+      (rw good.1 (ap (λ (k : ℕ). Ok (t, cursor k rest)) (length-text_bytes t at))));
   taken = λ p y fits e.
       let b = bind_ok (length_at p) (λ n. text_sized n.0 n.1 >>= λ name. cond (stands_in name.0 before) (Err (RepeatedName n.1.at)) (Ok name)) y e in
       let t = bind_ok (text_sized b.0.0 b.0.1) (λ name. cond (stands_in name.0 before) (Err (RepeatedName b.0.1.at)) (Ok name)) y b.2 in
       let g = guard_ok (stands_in t.0.0 before) (RepeatedName b.0.1.at) t.0 y t.2 in
       let w = length_then_text p b.0 t.0 fits b.1 t.1 in
-      subst (λ (z : List ℕ × Place). Took p.left (text_bytes z.0) z.1.left × (TextGood z.0 × (stands_in z.0 before ≡ false))) g.1 (w.0, (w.1, g.0));
+      subst (λ (z : List ℕ × Cursor). Took p.left (text_bytes z.0) z.1.left × (TextGood z.0 × (stands_in z.0 before ≡ false))) g.1 (w.0, (w.1, g.0));
 }
 
 -- ---- handlers, tests, states
@@ -144,7 +144,7 @@ handlers_field = record {
       let a = (number_field w16 (2 ^ 16) wide16).again h.init.0 at (to_be_bytes w16 h.body.0 ++ (to_be_bytes w64 h.mask ++ rest)) good.init in
       let b = (number_field w16 (2 ^ 16) wide16).again h.body.0 (at + 2) (to_be_bytes w64 h.mask ++ rest) good.body in
       let m = (number_field w64 (2 ^ 64) wide64).again h.mask (at + 2 + 2) rest good.mask in
-      again_bind _ _ _ _ a (again_bind _ _ _ _ b (again_bind _ _ _ _ m (ap (λ (k : ℕ). Ok (h, place k rest)) (omega arith))));
+      again_bind _ _ _ _ a (again_bind _ _ _ _ b (again_bind _ _ _ _ m (ap (λ (k : ℕ). Ok (h, cursor k rest)) (omega arith))));
   taken = λ p y fits e.
       let a = bind_ok (number_at w16 p) (λ init. number_at w16 init.1 >>= λ body. number_at w64 body.1 >>= λ mask. Ok (record { init = record { 0 = init.0 }; body = record { 0 = body.0 }; mask = mask.0 }, mask.1)) y e in
       let b = bind_ok (number_at w16 a.0.1) (λ body. number_at w64 body.1 >>= λ mask. Ok (record { init = record { 0 = a.0.0 }; body = record { 0 = body.0 }; mask = mask.0 }, mask.1)) y a.2 in
@@ -152,8 +152,8 @@ handlers_field = record {
       let ta = (number_field w16 (2 ^ 16) wide16).taken p a.0 fits a.1 in
       let tb = (number_field w16 (2 ^ 16) wide16).taken a.0.1 b.0 ta.0.rest_fits b.1 in
       let tm = (number_field w64 (2 ^ 64) wide64).taken b.0.1 m.0 tb.0.rest_fits m.1 in
-      let made : Handlers × Place = (record { init = record { 0 = a.0.0 }; body = record { 0 = b.0.0 }; mask = m.0.0 }, m.0.1) in
-      subst (λ (z : Handlers × Place). Took p.left (handlers_bytes z.0) z.1.left × HandlersInRange z.0) (ok_is made y m.2)
+      let made : Handlers × Cursor = (record { init = record { 0 = a.0.0 }; body = record { 0 = b.0.0 }; mask = m.0.0 }, m.0.1) in
+      subst (λ (z : Handlers × Cursor). Took p.left (handlers_bytes z.0) z.1.left × HandlersInRange z.0) (ok_is made y m.2)
       (Took-then (Took-then ta.0 tb.0) tm.0, record { init = ta.1; body = tb.1; mask = tm.1 });
 }
 
@@ -169,15 +169,15 @@ test_field = record {
       let regrouped : test_bytes t ++ rest ≡ to_be_bytes w32 t.period ++ (text_bytes t.text ++ rest) = append_assoc (to_be_bytes w32 t.period) (text_bytes t.text) rest in
       let a = (within32 1 604800 (omega arith)).again t.period at (text_bytes t.text ++ rest) (good.fits.period.not_zero, good.fits.period.within) in
       let b = text_field.again t.text (at + 4) rest (record { fits = good.fits.text; utf8 = good.utf8 }) in
-      ap (λ (bytes : List ℕ). test_at (place at bytes)) regrouped
-      ∙ again_bind _ _ _ _ a (again_bind _ _ _ _ b (ap (λ (k : ℕ). Ok (t, place k rest)) (omega (arith, length-append (to_be_bytes w32 t.period) (text_bytes t.text)))));
+      ap (λ (bytes : List ℕ). test_at (cursor at bytes)) regrouped
+      ∙ again_bind _ _ _ _ a (again_bind _ _ _ _ b (ap (λ (k : ℕ). Ok (t, cursor k rest)) (omega (arith, length-append (to_be_bytes w32 t.period) (text_bytes t.text)))));
   taken = λ p y fits e.
       let a = bind_ok (number_within w32 1 604800 p) (λ period. text_at period.1 >>= λ text. Ok (record { period = period.0; text = text.0 }, text.1)) y e in
       let b = bind_ok (text_at a.0.1) (λ text. Ok (record { period = a.0.0; text = text.0 }, text.1)) y a.2 in
       let ta = (within32 1 604800 (omega arith)).taken p a.0 fits a.1 in
       let tb = text_field.taken a.0.1 b.0 ta.0.rest_fits b.1 in
-      let made : TestSpec × Place = (record { period = a.0.0; text = b.0.0 }, b.0.1) in
-      subst (λ (z : TestSpec × Place). Took p.left (test_bytes z.0) z.1.left × TestGood z.0) (ok_is made y b.2)
+      let made : TestSpec × Cursor = (record { period = a.0.0; text = b.0.0 }, b.0.1) in
+      subst (λ (z : TestSpec × Cursor). Took p.left (test_bytes z.0) z.1.left × TestGood z.0) (ok_is made y b.2)
       (Took-then ta.0 tb.0, record { fits = record { period = record { not_zero = ta.1.0; within = ta.1.1 }; text = tb.1.fits }; utf8 = tb.1.utf8 });
 }
 
@@ -194,15 +194,15 @@ state_field before = record {
       let regrouped : state_bytes s ++ rest ≡ text_bytes s.name ++ (handlers_bytes s.handlers ++ rest) = append_assoc (text_bytes s.name) (handlers_bytes s.handlers) rest in
       let a = (name_field (names_of before)).again s.name at (handlers_bytes s.handlers ++ rest) (record { fits = good.fits; utf8 = good.in_range.name }, good.first) in
       let b = handlers_field.again s.handlers (at + length (text_bytes s.name)) rest good.in_range.handlers in
-      ap (λ (bytes : List ℕ). state_at before (place at bytes)) regrouped
-      ∙ again_bind _ _ _ _ a (again_bind _ _ _ _ b (ap (λ (k : ℕ). Ok (s, place k rest)) (omega (arith, length-append (text_bytes s.name) (handlers_bytes s.handlers)))));
+      ap (λ (bytes : List ℕ). state_at before (cursor at bytes)) regrouped
+      ∙ again_bind _ _ _ _ a (again_bind _ _ _ _ b (ap (λ (k : ℕ). Ok (s, cursor k rest)) (omega (arith, length-append (text_bytes s.name) (handlers_bytes s.handlers)))));
   taken = λ p y fits e.
       let a = bind_ok (name_at (names_of before) p) (λ name. handlers_at name.1 >>= λ handlers. Ok (record { name = name.0; handlers = handlers.0 }, handlers.1)) y e in
       let b = bind_ok (handlers_at a.0.1) (λ handlers. Ok (record { name = a.0.0; handlers = handlers.0 }, handlers.1)) y a.2 in
       let ta = (name_field (names_of before)).taken p a.0 fits a.1 in
       let tb = handlers_field.taken a.0.1 b.0 ta.0.rest_fits b.1 in
-      let made : StateSpec × Place = (record { name = a.0.0; handlers = b.0.0 }, b.0.1) in
-      subst (λ (z : StateSpec × Place). Took p.left (state_bytes z.0) z.1.left × StateGood before z.0) (ok_is made y b.2)
+      let made : StateSpec × Cursor = (record { name = a.0.0; handlers = b.0.0 }, b.0.1) in
+      subst (λ (z : StateSpec × Cursor). Took p.left (state_bytes z.0) z.1.left × StateGood before z.0) (ok_is made y b.2)
       (Took-then ta.0 tb.0, record { fits = ta.1.0.fits; in_range = record { name = ta.1.0.utf8; handlers = tb.1 }; first = ta.1.1 });
 }
 
@@ -238,13 +238,13 @@ unfolding instruction_at
 op_field = record {
   again = λ op at rest good.
       let len = length-spelling op in
-      again_bind _ _ _ _ (bytes_again (spelling op) rest at 4 len) (rw (op_of-spelling op good) (ap (λ (k : ℕ). Ok (op, place (at + k) rest)) (sym len)));
+      again_bind _ _ _ _ (bytes_again (spelling op) rest at 4 len) (rw (op_of-spelling op good) (ap (λ (k : ℕ). Ok (op, cursor (at + k) rest)) (sym len)));
   taken = λ p y fits e.
       let b = bind_ok (bytes_at 4 p) (λ bytes. ok_or (op_of bytes.0) (NoInstruction p.at) >>= λ op. Ok (op, bytes.1)) y e in
       let o = bind_ok (ok_or (op_of b.0.0) (NoInstruction p.at)) (λ op. Ok (op, b.0.1)) y b.2 in
       let t = bytes_taken 4 p b.0 fits b.1 in
       let s = op_of-spelled b.0.0 o.0 t.1 t.2 (ok_or_ok (op_of b.0.0) (NoInstruction p.at) o.0 o.1) in
-      subst (λ (z : Op × Place). Took p.left (spelling z.0) z.1.left × HasSpelling z.0) (ok_is (o.0, b.0.1) y o.2)
+      subst (λ (z : Op × Cursor). Took p.left (spelling z.0) z.1.left × HasSpelling z.0) (ok_is (o.0, b.0.1) y o.2)
       (subst (λ (text : List ℕ). Took p.left text b.0.1.left) s.0 t.0, s.1);
 }
 
@@ -255,7 +255,7 @@ results_field = record {
   taken = λ p y fits e.
       let b = bind_ok (byte_at p) (λ n. cond (ltb 1 n.0) (Err (OutOfLimit p.at)) (Ok n)) y e in
       let g = guard_ok (ltb 1 b.0.0) (OutOfLimit p.at) b.0 y b.2 in
-      subst (λ (z : ℕ × Place). Took p.left (z.0 ∷ []) z.1.left × (z.0 ≤ 1)) g.1 (byte_taken p b.0 fits b.1, ltb-false _ _ g.0);
+      subst (λ (z : ℕ × Cursor). Took p.left (z.0 ∷ []) z.1.left × (z.0 ≤ 1)) g.1 (byte_taken p b.0 fits b.1, ltb-false _ _ g.0);
 }
 
 -- a routine that fits into the room that is left
@@ -275,8 +275,8 @@ routine_field room = record {
       let a = results_field.again r.results at (to_be_bytes w16 (length r.code) ++ (flat_map spelling r.code ++ rest)) good.fits.results in
       let b = (within16 0 (min room 1024) (omega arith)).again (length r.code) (at + 1) (flat_map spelling r.code ++ rest) (omega arith, omega (arith, good.fits.code, good.within)) in
       let c = (code_field (length r.code)).again r.code (at + 1 + 2) rest (refl, good.code) in
-      ap (λ (bytes : List ℕ). routine_at room (place at bytes)) regrouped
-      ∙ again_bind _ _ _ _ a (again_bind _ _ _ _ b (again_bind _ _ _ _ c (ap (λ (k : ℕ). Ok (r, place k rest)) (omega (arith, length-append ((r.results ∷ []) ++ to_be_bytes w16 (length r.code)) (flat_map spelling r.code))))));
+      ap (λ (bytes : List ℕ). routine_at room (cursor at bytes)) regrouped
+      ∙ again_bind _ _ _ _ a (again_bind _ _ _ _ b (again_bind _ _ _ _ c (ap (λ (k : ℕ). Ok (r, cursor k rest)) (omega (arith, length-append ((r.results ∷ []) ++ to_be_bytes w16 (length r.code)) (flat_map spelling r.code))))));
   taken = λ p y fits e.
       let a = bind_ok (results_at p) (λ results. number_within w16 0 (min room 1024) results.1 >>= λ n. items_at (λ _. instruction_at) n.0 [] n.1 >>= λ code. Ok (record { results = results.0; code = code.0 }, code.1)) y e in
       let b = bind_ok (number_within w16 0 (min room 1024) a.0.1) (λ n. items_at (λ _. instruction_at) n.0 [] n.1 >>= λ code. Ok (record { results = a.0.0; code = code.0 }, code.1)) y a.2 in
@@ -284,9 +284,9 @@ routine_field room = record {
       let ta = results_field.taken p a.0 fits a.1 in
       let tb = (within16 0 (min room 1024) (omega arith)).taken a.0.1 b.0 ta.0.rest_fits b.1 in
       let tc = (code_field b.0.0).taken b.0.1 c.0 tb.0.rest_fits c.1 in
-      let made : Routine × Place = (record { results = a.0.0; code = c.0.0 }, c.0.1) in
+      let made : Routine × Cursor = (record { results = a.0.0; code = c.0.0 }, c.0.1) in
       let whole : Took p.left (((a.0.0 ∷ []) ++ to_be_bytes w16 b.0.0) ++ flat_map spelling c.0.0) c.0.1.left = Took-then (Took-then ta.0 tb.0) tc.0 in
-      subst (λ (z : Routine × Place). Took p.left (routine_bytes z.0) z.1.left × RoutineGood room z.0) (ok_is made y c.2) (
+      subst (λ (z : Routine × Cursor). Took p.left (routine_bytes z.0) z.1.left × RoutineGood room z.0) (ok_is made y c.2) (
         subst (λ (k : ℕ). Took p.left (((a.0.0 ∷ []) ++ to_be_bytes w16 k) ++ flat_map spelling c.0.0) c.0.1.left) (sym tc.1.0) whole,
         record { fits = record { results = ta.1; code = omega (arith, tc.1.0, tb.1.1) }; within = omega (arith, tc.1.0, tb.1.1); code = tc.1.1 },
       );

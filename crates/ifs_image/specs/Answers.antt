@@ -2,18 +2,18 @@
 use Rattle.std.specs.Prelude.{◌≡◌, ◌≢◌, Result, Ok, Err, MatchResult}
 use Rattle.ifs_image.specs.declared.fault.ImageFault.{ImageFault}
 use Rattle.ifs_image.specs.declared.fault.ImageFault.TheVariants.{Memory}
-use Rattle.ifs_image.specs.Reading.{Place, Read}
+use Rattle.ifs_image.specs.Reading.{Cursor, Read}
 
 -- A fault is the one of reading, or want of memory.
 abbrev pub IsFaultOf : {Y : Type 0} → Result Y ImageFault → ImageFault → Type 0
 IsFaultOf read fault = fault ≢ Memory → read ≡ Err fault
 
 -- A result, seen by view, and the place after it are what reading gives, unless memory ran out.
-abbrev pub GivesBy : {X Y : Type 0} → (X → Y) → Result X ImageFault → Place → Read Y → Type 0
+abbrev pub GivesBy : {X Y : Type 0} → (X → Y) → Result X ImageFault → Cursor → Read Y → Type 0
 GivesBy view result after read = MatchResult result (λ x. read ≡ Ok (view x, after)) (IsFaultOf read)
 
 -- The same of a result as it is.
-abbrev pub Gives : {X : Type 0} → Result X ImageFault → Place → Read X → Type 0
+abbrev pub Gives : {X : Type 0} → Result X ImageFault → Cursor → Read X → Type 0
 Gives result after read = GivesBy (λ x. x) result after read
 
 -- A result is what reading all bytes gives, unless memory ran out.

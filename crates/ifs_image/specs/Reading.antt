@@ -18,16 +18,16 @@ use Rattle.ifs_image.specs.declared.parts.ImageParts.{ImageParts}
 use Rattle.ifs_image.specs.Limits.{names_of, instructions}
 
 -- A place in the bytes: how many stand before it, and those that are left.
-pub record Place : Type 0 where
+pub record Cursor : Type 0 where
   pub at : ℕ
   pub left : List ℕ
 
-abbrev pub place : ℕ → List ℕ → Place
-place at left = record { at = at; left = left }
+abbrev pub cursor : ℕ → List ℕ → Cursor
+cursor at left = record { at = at; left = left }
 
 -- Reading at a place gives a value and the place after it, or the first fault.
 abbrev pub Read : Type 0 → Type 0
-Read X = Result (X × Place) ImageFault
+Read X = Result (X × Cursor) ImageFault
 
 -- Goes on where nothing was wrong.
 infixl 10 ◌>>=◌
@@ -36,41 +36,41 @@ abbrev pub ◌>>=◌ : {A B : Type 0} → Result A ImageFault → (A → Result 
 (Err fault) >>= f = Err fault
 
 -- The next bytes, so many.
-unfoldable pub bytes_at : ℕ → Place → Read (List ℕ)
-bytes_at n p = if nat_lt (length p.left) n then Err (Truncated p.at) else Ok (take n p.left, place (p.at + n) (drop n p.left))
+unfoldable pub bytes_at : ℕ → Cursor → Read (List ℕ)
+bytes_at n p = if nat_lt (length p.left) n then Err (Truncated p.at) else Ok (take n p.left, cursor (p.at + n) (drop n p.left))
 
 -- A number of one byte.
-unfoldable pub byte_at : Place → Read ℕ
+unfoldable pub byte_at : Cursor → Read ℕ
 byte_at p = do
   bytes ← bytes_at 1 p
   Ok (slice_index bytes.0 0, bytes.1)
 
 -- A number of several bytes, the high one first.
-unfoldable pub number_at : Width → Place → Read ℕ
+unfoldable pub number_at : Width → Cursor → Read ℕ
 number_at w p = do
   bytes ← bytes_at (byte_len w) p
   Ok (from_be_bytes w bytes.0, bytes.1)
 
 -- A number between two limits.
-unfoldable pub number_within : Width → ℕ → ℕ → Place → Read ℕ
+unfoldable pub number_within : Width → ℕ → ℕ → Cursor → Read ℕ
 number_within w least most p = do
   n ← number_at w p
   if nat_lt n.0 least || nat_lt most n.0 then Err (OutOfLimit p.at) else Ok n
 
 -- The four bytes with which every image begins.
-unfoldable pub magic_at : Place → Read (Unit {0})
+unfoldable pub magic_at : Cursor → Read (Unit {0})
 magic_at p = do
   bytes ← bytes_at 4 p
   if bytes_eq bytes.0 (codes "IFSV") then Ok (tt, bytes.1) else Err (WrongMagic p.at)
 
 -- The version, 1.
-unfoldable pub version_at : Place → Read (Unit {0})
+unfoldable pub version_at : Cursor → Read (Unit {0})
 version_at p = do
   version ← byte_at p
   if version.0 == 1 then Ok (tt, version.1) else Err (WrongVersion p.at)
 
 -- What one event may use at most.
-unfoldable pub budgets_at : Place → Read Budgets
+unfoldable pub budgets_at : Cursor → Read Budgets
 budgets_at p = do
   stack ← number_within w16 0 32 p
   frames ← number_within w16 0 32 stack.1
@@ -79,7 +79,7 @@ budgets_at p = do
   Ok (record { stack = stack.0; frames = frames.0; cost = cost.0; commands = commands.0 }, commands.1)
 
 -- How many entries each table has.
-unfoldable pub counts_at : Place → Read Counts
+unfoldable pub counts_at : Cursor → Read Counts
 counts_at p = do
   interfaces ← number_within w16 0 64 p
   tests ← number_within w16 0 64 interfaces.1
@@ -89,7 +89,7 @@ counts_at p = do
   Ok (record { interfaces = interfaces.0; tests = tests.0; commands = commands.0; states = states.0; routines = routines.0 }, routines.1)
 
 -- Two routines and a mask.
-unfoldable pub handlers_at : Place → Read Handlers
+unfoldable pub handlers_at : Cursor → Read Handlers
 handlers_at p = do
   init ← number_at w16 p
   body ← number_at w16 init.1
@@ -97,7 +97,7 @@ handlers_at p = do
   Ok (record { init = record { 0 = init.0 }; body = record { 0 = body.0 }; mask = mask.0 }, mask.1)
 
 -- The length of a text, from 1 to 1,024.
-unfoldable pub length_at : Place → Read ℕ
+unfoldable pub length_at : Cursor → Read ℕ
 length_at p = do
   n ← number_at w16 p
   if (n.0 == 0) || nat_lt 1024 n.0 then Err (BadText p.at) else Ok n
@@ -107,13 +107,13 @@ unfoldable pub is_text : List ℕ → Bool
 is_text bytes = is_utf8 bytes && not (list_any (λ byte. byte == 0) bytes)
 
 -- A text of so many bytes.
-unfoldable pub text_sized : ℕ → Place → Read (List ℕ)
+unfoldable pub text_sized : ℕ → Cursor → Read (List ℕ)
 text_sized n p = do
   bytes ← bytes_at n p
   if is_text bytes.0 then Ok bytes else Err (BadText p.at)
 
 -- A length and a text of that many bytes.
-unfoldable pub text_at : Place → Read (List ℕ)
+unfoldable pub text_at : Cursor → Read (List ℕ)
 text_at p = do
   n ← length_at p
   text_sized n.0 n.1
@@ -123,48 +123,48 @@ abbrev pub stands_in : List ℕ → List (List ℕ) → Bool
 stands_in name names = list_any (λ other. bytes_eq other name) names
 
 -- A length and a name that does not stand before. Its fault is at the name.
-unfoldable pub name_at : List (List ℕ) → Place → Read (List ℕ)
+unfoldable pub name_at : List (List ℕ) → Cursor → Read (List ℕ)
 name_at before p = do
   n ← length_at p
   name ← text_sized n.0 n.1
   if stands_in name.0 before then Err (RepeatedName n.1.at) else Ok name
 
 -- A period and a command.
-unfoldable pub test_at : Place → Read TestSpec
+unfoldable pub test_at : Cursor → Read TestSpec
 test_at p = do
   period ← number_within w32 1 604800 p
   text ← text_at period.1
   Ok (record { period = period.0; text = text.0 }, text.1)
 
 -- A name and handlers.
-unfoldable pub state_at : List StateSpec → Place → Read StateSpec
+unfoldable pub state_at : List StateSpec → Cursor → Read StateSpec
 state_at before p = do
   name ← name_at (names_of before) p
   handlers ← handlers_at name.1
   Ok (record { name = name.0; handlers = handlers.0 }, handlers.1)
 
 -- Four bytes that spell an instruction.
-unfoldable pub instruction_at : Place → Read Op
+unfoldable pub instruction_at : Cursor → Read Op
 instruction_at p = do
   bytes ← bytes_at 4 p
   op ← ok_or (op_of bytes.0) (NoInstruction p.at)
   Ok (op, bytes.1)
 
 -- So many entries of a table, each read in view of those before it.
-unfoldable pub items_at : {X : Type 0} → (List X → Place → Read X) → ℕ → List X → Place → Read (List X)
+unfoldable pub items_at : {X : Type 0} → (List X → Cursor → Read X) → ℕ → List X → Cursor → Read (List X)
 items_at entry zero before p = Ok (before, p)
 items_at entry (suc n) before p = do
   x ← entry before p
   items_at entry n (before ++ x.0 ∷ []) x.1
 
 -- How many results a routine has, at most one.
-unfoldable pub results_at : Place → Read ℕ
+unfoldable pub results_at : Cursor → Read ℕ
 results_at p = do
   n ← byte_at p
   if nat_lt 1 n.0 then Err (OutOfLimit p.at) else Ok n
 
 -- A routine, where there is room for so many instructions.
-unfoldable pub routine_at : ℕ → Place → Read Routine
+unfoldable pub routine_at : ℕ → Cursor → Read Routine
 routine_at room p = do
   results ← results_at p
   n ← number_within w16 0 (min room 1024) results.1
@@ -176,7 +176,7 @@ abbrev pub room_after : List Routine → ℕ
 room_after before = 8192 - instructions before
 
 -- All fields of an image.
-unfoldable pub parts_at : Place → Read ImageParts
+unfoldable pub parts_at : Cursor → Read ImageParts
 parts_at p = do
   magic ← magic_at p
   version ← version_at magic.1
@@ -194,5 +194,5 @@ parts_at p = do
 -- The image that all of the bytes spell, or the first fault.
 unfoldable pub image_of : List ℕ → Result ImageParts ImageFault
 image_of bytes = do
-  parts ← parts_at (place 0 bytes)
+  parts ← parts_at (cursor 0 bytes)
   if length parts.1.left == 0 then Ok parts.0 else Err (Trailing parts.1.at)

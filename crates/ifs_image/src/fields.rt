@@ -20,21 +20,21 @@ pub struct Reader<'a> {
 
 impl<'a> Model for Reader<'a> {
     ghost use Rattle.std.specs.Prelude.{◌+◌, ◌^◌, ◌<◌, length};
-    ghost use Rattle.ifs_image.specs.Reading.{Place, place};
+    ghost use Rattle.ifs_image.specs.Reading.{Cursor, cursor};
 
-    ghost Value = { Place };
+    ghost Value = { Cursor };
 
-    ghost view = { λ r. place r.at r.rest.now };
+    ghost view = { λ r. cursor r.at r.rest.now };
 
     ghost invariant = { λ r. r.at + length r.rest.now < 2 ^ 64 };
 }
 
 impl<'a> Reader<'a> {
-    ghost use Rattle.ifs_image.specs.Reading.{place};
+    ghost use Rattle.ifs_image.specs.Reading.{cursor};
 
     /// A reader at the first byte.
     pub fn new(bytes: &'a [u8]) -> Self
-        ensures { result ≡ place 0 bytes.now }
+        ensures { result ≡ cursor 0 bytes.now }
     {
         Reader { rest: bytes, at: 0 }
     }

@@ -1,2 +1,2 @@
 -- Shapes of private functions, for proofs alone.
-pub mod State
+pub mod MachineState

@@ -9,7 +9,7 @@ use Rattle.ifs_base.specs.declared.op.Op.TheVariants.{Call}
 use Rattle.ifs_image.specs.declared.parts.ImageParts.{ImageParts}
 use Rattle.ifs_image.specs.declared.parts.StateSpec.{StateSpec}
 use Rattle.ifs_image.specs.Code.{op_at}
-use Rattle.ifs_verify.specs.declared.budgets.Part.TheVariants.{Init, Body}
+use Rattle.ifs_verify.specs.declared.budgets.Role.TheVariants.{Init, Body}
 use Rattle.ifs_verify.specs.Rules.{IsRoutine, IndexesFit}
 use Rattle.ifs_verify.specs.Typing.{IsTyped}
 use Rattle.ifs_verify.specs.Bounds.{AreDepths, AreAmounts, callee_amount, FitsEvents, FitsHandlers}

@@ -7,7 +7,7 @@ ghost use Rattle.std.specs.Bool.{OnTrue, OnFalse};
 ghost use Rattle.ifs_verify.specs.declared.fault.At.TheVariants.{Head};
 ghost use Rattle.ifs_verify.specs.Rules.{IsRoutine, AreRoutines, IndexesFit};
 ghost use Rattle.ifs_verify.specs.Refused.{StackIsOver, FramesAreOver};
-ghost use Rattle.ifs_verify.specs.inner.Passes.{PlainRulesHold, IsRefused, LeastHeights, LeastDepths, LeastAmounts, AmountIsOver, Reaches, part_of, weight_of, limit_of, stated_of};
+ghost use Rattle.ifs_verify.specs.inner.Passes.{PlainRulesHold, IsRefused, LeastHeights, LeastDepths, LeastAmounts, AmountIsOver, Reaches, handler_in, weight_of, limit_of, stated_of};
 ghost use Rattle.ifs_verify.specs.inner.Found.{AreFound};
 
 use crate::amounts::Weight;
@@ -18,9 +18,9 @@ use crate::tables::{entry, greater};
 use ifs_base::RoutineId;
 use ifs_image::{Handlers, ImageParts};
 
-/// A handler of a part.
+/// What a handler of a part is for.
 #[derive(Clone, Copy)]
-pub enum Part {
+pub enum Role {
     /// What runs when the part is entered.
     Init,
     /// What runs at each evaluation.
@@ -139,8 +139,8 @@ fn fit_events(image: &ImageParts, amounts: &Vec<u32>, stated: u32) -> bool
     ensures { IsTrue result ↔ FitsEvents image.now (slice_index amounts.now.items) stated }
 {
     let opening = opening(image, amounts);
-    let bodies = greatest(image, amounts, Part::Body);
-    let inits = greatest(image, amounts, Part::Init);
+    let bodies = greatest(image, amounts, Role::Body);
+    let inits = greatest(image, amounts, Role::Init);
     let always = bound_of(amounts, image.always.body);
     opening <= stated && always + bodies + inits <= stated
 }
@@ -157,31 +157,31 @@ fn opening(image: &ImageParts, amounts: &Vec<u32>) -> u32
     bound_of(amounts, image.always.init) + bound_of(amounts, first.init)
 }
 
-/// The greatest amount of a handler over all states.
-fn greatest(image: &ImageParts, amounts: &Vec<u32>, part: Part) -> u32
+/// The greatest amount of the handlers of one role, over all states.
+fn greatest(image: &ImageParts, amounts: &Vec<u32>, role: Role) -> u32
     requires indexes { IndexesFit image.now }
     requires long { length amounts.now.items ≡ length image.now.routines }
     requires low { (k : ℕ) → slice_index amounts.now.items k ≤ 100000 }
-    ensures bound { Reaches part image.now (slice_index amounts.now.items) result }
-    ensures least { (bound : ℕ) → Reaches part image.now (slice_index amounts.now.items) bound → result ≤ bound }
+    ensures bound { Reaches role image.now (slice_index amounts.now.items) result }
+    ensures least { (bound : ℕ) → Reaches role image.now (slice_index amounts.now.items) bound → result ≤ bound }
     ensures low { result ≤ 100000 }
 {
     let mut most = 0;
     for state in 0..image.states.len() {
-        let routine = handler(handlers_of(image, state), part);
+        let routine = handler(handlers_of(image, state), role);
         let here = bound_of(amounts, routine);
         most = greater(most, here);
     }
     most
 }
 
-/// A handler of a part.
-fn handler(handlers: Handlers, part: Part) -> RoutineId
-    ensures { result ≡ part_of part handlers }
+/// The handler of a part that has this role.
+fn handler(handlers: Handlers, role: Role) -> RoutineId
+    ensures { result ≡ handler_in role handlers }
 {
-    match part {
-        Part::Init => handlers.init,
-        Part::Body => handlers.body,
+    match role {
+        Role::Init => handlers.init,
+        Role::Body => handlers.body,
     }
 }
 

@@ -15,8 +15,8 @@ use Rattle.ifs_verify.specs.declared.fault.At.{At}
 use Rattle.ifs_verify.specs.declared.fault.VerifyFault.TheVariants.{NoEntry, JumpTarget, CallNotLower, OutOfMemory}
 use Rattle.ifs_verify.specs.declared.rules.OpRule.{OpRule}
 use Rattle.ifs_verify.specs.declared.rules.OpRule.TheVariants.{Operand, Target, Callee}
-use Rattle.ifs_verify.specs.declared.budgets.Part.{Part}
-use Rattle.ifs_verify.specs.declared.budgets.Part.TheVariants.{Init, Body}
+use Rattle.ifs_verify.specs.declared.budgets.Role.{Role}
+use Rattle.ifs_verify.specs.declared.budgets.Role.TheVariants.{Init, Body}
 use Rattle.ifs_verify.specs.Rules.{HasOperand, IndexesFit, JumpsLeadOn, RoutinesEnd, CallsGoDown, PlacesAreReached}
 use Rattle.ifs_verify.specs.declared.amounts.Weight.{Weight}
 use Rattle.ifs_verify.specs.declared.amounts.Weight.TheVariants.{Cost, Commands}
@@ -265,10 +265,10 @@ pub record LeastAmounts (weight : Op → ℕ) (image : ImageParts) (limit : ℕ)
   pub least : (all : ℕ → ℕ → ℕ) → AreAmounts weight image all → (routine : ℕ) → routine < done → slice_index amounts routine ≤ all routine 0
 
 -- The routine of a part's handler.
-abbrev pub part_of : Part → Handlers → RoutineId
-part_of Init handlers = handlers.init
-part_of Body handlers = handlers.body
+abbrev pub handler_in : Role → Handlers → RoutineId
+handler_in Init handlers = handlers.init
+handler_in Body handlers = handlers.body
 
 -- A number is large enough for the handler of each state.
-abbrev pub Reaches : Part → ImageParts → (ℕ → ℕ) → ℕ → Type 0
-Reaches part image amount bound = (k : ℕ) (state : StateSpec) → slice_get image.states k ≡ Some state → amount (part_of part state.handlers).0 ≤ bound
+abbrev pub Reaches : Role → ImageParts → (ℕ → ℕ) → ℕ → Type 0
+Reaches role image amount bound = (k : ℕ) (state : StateSpec) → slice_get image.states k ≡ Some state → amount (handler_in role state.handlers).0 ≤ bound
