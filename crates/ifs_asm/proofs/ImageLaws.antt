@@ -1,6 +1,6 @@
 -- Images and the texts that spell them.
 use Rattle.std.proofs.Common.{◌≡◌, ◌≢◌, ℕ, ◌<◌, List, [], ◌∷◌, ◌++◌, map, Option, Some, None, refl, sym, ap, subst, ◌∙◌, arith}
-use Rattle.std.specs.Prelude.{option_and_then, All, IsUtf8}
+use Rattle.std.specs.Prelude.{option_and_then, All, IsUtf8, Result, Ok, Err, IfOk, IfErr}
 use Rattle.std.specs.List.{flat_map, AllByRecursion, AllZip}
 use Rattle.std.proofs.lemmas.Option.{same_Some, none-some}
 use Rattle.std.proofs.lemmas.List.Elements.{All-from_recursion, recursion_from_All}
@@ -13,6 +13,8 @@ use Rattle.ifs_image.specs.declared.parts.StateSpec.{StateSpec}
 use Rattle.ifs_image.specs.declared.parts.Routine.{Routine}
 use Rattle.ifs_image.specs.declared.parts.ImageParts.{ImageParts}
 use Rattle.ifs_image.specs.Limits.{Fits, InRange, HandlersInRange, StateInRange, TestFits, RoutineFits}
+use Rattle.ifs_asm.specs.declared.fault.AsmFault.{AsmFault}
+use Rattle.ifs_asm.specs.declared.fault.AsmFault.TheVariants.{Unknown, OutOfRange, OutOfOrder, Memory}
 use Rattle.ifs_asm.specs.declared.line.Line.{Line}
 use Rattle.ifs_asm.specs.declared.line.Line.TheVariants as lines
 use Rattle.ifs_asm.specs.Texts.{words_of, op_words, front_lines, routine_lines, lines_of, canonical}
@@ -196,7 +198,7 @@ parted p a =
       routines = each_unflat LineFits routine_lines p.routines r.1;
     }
 
-range_of : (p : ImageParts) → AllByRecursion LineFits (lines_of p) → InRange p
+pub range_of : (p : ImageParts) → AllByRecursion LineFits (lines_of p) → InRange p
 range_of p fit =
     let a = parted p fit in
     record {
@@ -218,7 +220,7 @@ same_case (Some next) others ls ih = ih next
 same_step : (b : Built) (bytes : List ℕ) (l : Line) (others : List (List ℕ)) (ls : List Line) → line_in bytes ≡ Some l → ((next : Built) → built_by next others ≡ built_of next ls) → built_by b (bytes ∷ others) ≡ built_of b (l ∷ ls)
 same_step b bytes l others ls is ih = rw is (same_case (step b l) others ls ih)
 
-built_same : (spoken : List (List ℕ)) (ls : List Line) (b : Built) → AllZip Says spoken ls → AllByRecursion LineFits ls → built_by b spoken ≡ built_of b ls
+pub built_same : (spoken : List (List ℕ)) (ls : List Line) (b : Built) → AllZip Says spoken ls → AllByRecursion LineFits ls → built_by b spoken ≡ built_of b ls
 built_same [] [] b z fit = refl
 built_same [] (l ∷ ls) b z fit = absurd z
 built_same (x ∷ xs) [] b z fit = absurd z
@@ -266,3 +268,18 @@ unfolding canonical
 canonical_spells p f r =
     let w = lines_written p f r in
     record { fits = f; in_range = r; says = subst (λ (t : List (List ℕ)). AllZip Says t (lines_of p)) (sym (spoken_lines (lines_of p) w)) (lines_say (lines_of p) w) }
+
+-- What is read of a text that spells an image is that image, or there is no memory.
+pub same_again : (r : Result ImageParts AsmFault) (text : List ℕ) (p : ImageParts) → Spells text p → IfOk r (λ image. Spells text image) → IfOk r (λ again. again ≡ p)
+same_again (Ok q) text p s h = one_image text q p h s
+same_again (Err fault) text p s h = tt
+
+only_memory : (fault : AsmFault) → (fault ≢ Memory → ⊥) → fault ≡ Memory
+only_memory (Unknown n) h = absurd (h (λ e. absurd cc))
+only_memory (OutOfRange n) h = absurd (h (λ e. absurd cc))
+only_memory (OutOfOrder n) h = absurd (h (λ e. absurd cc))
+only_memory Memory h = refl
+
+pub only_want : (r : Result ImageParts AsmFault) (text : List ℕ) (p : ImageParts) → Spells text p → IfErr r (λ fault. fault ≢ Memory → (image : ImageParts) → Spells text image → ⊥) → IfErr r (λ fault. fault ≡ Memory)
+only_want (Ok q) text p s h = tt
+only_want (Err fault) text p s h = only_memory fault (λ other. h other p s)

@@ -1,20 +1,13 @@
 -- Writing the lines of a table one after the other.
-use Rattle.std.proofs.Common.{◌≡◌, ℕ, codes, decimal, ◌+◌, ◌<◌, List, [], ◌∷◌, ◌++◌, length, get_or, take, map, refl, sym, ap, ◌∙◌, append_assoc}
+use Rattle.std.proofs.Common.{◌≡◌, ℕ, codes, decimal, List, [], ◌∷◌, ◌++◌, map, refl, sym, ap, ◌∙◌, append_assoc}
 use Rattle.std.specs.List.{flat_map}
-use Rattle.std.proofs.lemmas.List.{append-nil, take_more}
+use Rattle.std.proofs.lemmas.List.{append-nil}
 use Rattle.std.proofs.lemmas.List.Concat.{flat_map-append}
 use Rattle.ifs_image.specs.declared.parts.Routine.{Routine}
 use Rattle.ifs_image.specs.declared.parts.ImageParts.{ImageParts}
 use Rattle.ifs_asm.specs.declared.line.Line.{Line}
 use Rattle.ifs_asm.specs.declared.line.Line.TheVariants as lines
 use Rattle.ifs_asm.specs.Texts.{line_text, spaced, routine_lines, front_lines, canonical}
-
-pub bytes_more : {X : Type 0} (text : X → List ℕ) (xs : List X) (i : ℕ) (x : X) (old now new : List ℕ) → i < length xs → x ≡ get_or xs i x → now ≡ old ++ flat_map text (take i xs) → new ≡ now ++ text x → new ≡ old ++ flat_map text (take (i + 1) xs)
-bytes_more {X} text xs i x old now new lt at before put =
-    let front = flat_map text (take i xs) in
-    let next : take (i + 1) xs ≡ take i xs ++ x ∷ [] = take_more xs i x lt ∙ ap (λ (y : X). take i xs ++ y ∷ []) (sym at) in
-    let all : flat_map text (take (i + 1) xs) ≡ front ++ text x = ap (flat_map text) next ∙ flat_map-append text (take i xs) (x ∷ []) ∙ ap (λ (t : List ℕ). front ++ t) (append-nil (text x)) in
-    put ∙ ap (λ (t : List ℕ). t ++ text x) before ∙ append_assoc old front (text x) ∙ ap (λ (t : List ℕ). old ++ t) (sym all)
 
 -- The texts of what a function gives.
 pub flat_map-map : {X Y A : Type 0} (f : Y → List A) (g : X → Y) (xs : List X) → flat_map f (map g xs) ≡ flat_map (λ x. f (g x)) xs

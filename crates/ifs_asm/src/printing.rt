@@ -1,22 +1,26 @@
 //! Image to text, line by line.
 
-ghost use Rattle.std.specs.Prelude.{◌≡◌, ◌+◌, ◌++◌, ◌<◌, ◌^◌, ◌==◌, string_bytes, OnOk, IfOk, [], ◌∷◌, decimal, map, codes};
+ghost use Rattle.std.specs.Prelude.{◌≡◌, ◌+◌, ◌++◌, ◌<◌, ◌^◌, ◌==◌, string_bytes, OnOk, IfOk, [], ◌∷◌, decimal, map, codes, All, IsUtf8};
 ghost use Rattle.std.specs.Int.{bit_at};
 ghost use Rattle.std.specs.List.{flat_map};
+ghost use Rattle.ifs_base.specs.Spelling.{HasSpelling};
 ghost use Rattle.ifs_base.specs.Words.{link_word, listed, quoted};
+ghost use Rattle.ifs_image.specs.Limits.{HandlersInRange, StateInRange};
 ghost use Rattle.ifs_asm.specs.declared.line.Line.TheVariants as lines;
 ghost use Rattle.ifs_asm.specs.inner.Lists.{before_item, left_at};
+ghost use Rattle.ifs_asm.specs.Spellings.{Spells};
 ghost use Rattle.ifs_asm.specs.Texts.{canonical, line_text, tests_of, written, handlers_words, op_words, spaced, routine_lines, front_lines};
 
 use crate::quoting::put_quoted;
-use ifs_base::{LinkState, Op, Text};
+use ifs_base::{LinkState, Op, StateId, Text};
 use ifs_image::{Handlers, Image, ImageParts, Routine, StateSpec, TestSpec};
 use itoa::Buffer;
 use std::alloc::{AllocError, Global};
 
-/// The canonical text of an image: a line for each part, one space between words, decimal numbers.
+/// The canonical text of an image: a line for each part, one space between words, decimal numbers. It spells the image.
 pub fn disassemble(alloc: Global, image: &Image) -> Result<String, AllocError>
-    ensures { IfOk result (λ text. string_bytes text ≡ canonical image.now) }
+    ensures canonical { IfOk result (λ text. string_bytes text ≡ canonical image.now) }
+    ensures spelled { IfOk result (λ text. Spells (string_bytes text) image.now) }
 {
     let parts = image.parts();
     let mut out = String::new(alloc);
@@ -40,7 +44,9 @@ fn put_number(out: &mut String, words: &str, number: u64) -> Result<(), AllocErr
 
 /// Writes the lines before the tables.
 fn put_front(out: &mut String, parts: &ImageParts) -> Result<(), AllocError>
-    ensures { OnOk result (string_bytes out.new ≡ string_bytes out.old ++ flat_map line_text (front_lines parts.now)) }
+    ensures bytes { OnOk result (string_bytes out.new ≡ string_bytes out.old ++ flat_map line_text (front_lines parts.now)) }
+    ensures initial { OnOk result (parts.now.initial.0 < 2 ^ 16) }
+    ensures always { OnOk result (HandlersInRange parts.now.always) }
 {
     let budgets = parts.budgets;
     out.push_str("ifsv 1\n")?;
@@ -48,7 +54,7 @@ fn put_front(out: &mut String, parts: &ImageParts) -> Result<(), AllocError>
     put_number_line(out, "frames", u64::from(budgets.frames))?;
     put_number_line(out, "cost", u64::from(budgets.cost))?;
     put_number_line(out, "commands", u64::from(budgets.commands))?;
-    put_number_line(out, "start", u64::from(parts.initial.0))?;
+    put_start(out, parts.initial)?;
     put_always(out, parts.always)?;
     Ok(())
 }
@@ -63,9 +69,19 @@ fn put_number_line(out: &mut String, word: &str, number: u64) -> Result<(), Allo
     Ok(())
 }
 
+/// Writes the line of the initial state.
+fn put_start(out: &mut String, initial: StateId) -> Result<(), AllocError>
+    ensures bytes { OnOk result (string_bytes out.new ≡ string_bytes out.old ++ line_text (lines.Start initial)) }
+    ensures in_range { initial.0 < 2 ^ 16 }
+{
+    put_number_line(out, "start", u64::from(initial.0))?;
+    Ok(())
+}
+
 /// Writes the line of the always part.
 fn put_always(out: &mut String, handlers: Handlers) -> Result<(), AllocError>
-    ensures { OnOk result (string_bytes out.new ≡ string_bytes out.old ++ line_text (lines.Always handlers)) }
+    ensures bytes { OnOk result (string_bytes out.new ≡ string_bytes out.old ++ line_text (lines.Always handlers)) }
+    ensures in_range { HandlersInRange handlers }
 {
     out.push_str("always")?;
     put_handlers(out, handlers)?;
@@ -74,7 +90,8 @@ fn put_always(out: &mut String, handlers: Handlers) -> Result<(), AllocError>
 
 /// Writes the words of handlers, each after a space, and ends the line.
 fn put_handlers(out: &mut String, handlers: Handlers) -> Result<(), AllocError>
-    ensures { OnOk result (string_bytes out.new ≡ string_bytes out.old ++ flat_map (λ word. codes " " ++ word) (map written (handlers_words handlers)) ++ codes "\n") }
+    ensures bytes { OnOk result (string_bytes out.new ≡ string_bytes out.old ++ flat_map (λ word. codes " " ++ word) (map written (handlers_words handlers)) ++ codes "\n") }
+    ensures in_range { HandlersInRange handlers }
 {
     put_number(out, " init ", u64::from(handlers.init.0))?;
     put_number(out, " body ", u64::from(handlers.body.0))?;
@@ -129,7 +146,8 @@ fn put_item(out: &mut String, is_first: bool, number: u8) -> Result<(), AllocErr
 }
 
 fn put_interfaces(out: &mut String, names: &[Text]) -> Result<(), AllocError>
-    ensures { OnOk result (string_bytes out.new ≡ string_bytes out.old ++ flat_map (λ name. line_text (lines.Interface name)) names.now) }
+    ensures bytes { OnOk result (string_bytes out.new ≡ string_bytes out.old ++ flat_map (λ name. line_text (lines.Interface name)) names.now) }
+    ensures in_range { OnOk result (All IsUtf8 names.now) }
 {
     for name in names {
         put_interface(out, name)?;
@@ -138,7 +156,8 @@ fn put_interfaces(out: &mut String, names: &[Text]) -> Result<(), AllocError>
 }
 
 fn put_interface(out: &mut String, name: &Text) -> Result<(), AllocError>
-    ensures { OnOk result (string_bytes out.new ≡ string_bytes out.old ++ line_text (lines.Interface name.now)) }
+    ensures bytes { OnOk result (string_bytes out.new ≡ string_bytes out.old ++ line_text (lines.Interface name.now)) }
+    ensures in_range { OnOk result (IsUtf8 name.now) }
 {
     put_named(out, "iface ", name)?;
     Ok(())
@@ -146,7 +165,8 @@ fn put_interface(out: &mut String, name: &Text) -> Result<(), AllocError>
 
 /// Writes words, a text in quotes, and ends the line.
 fn put_named(out: &mut String, words: &str, text: &Text) -> Result<(), AllocError>
-    ensures { OnOk result (string_bytes out.new ≡ string_bytes out.old ++ words.now ++ quoted text.now ++ codes "\n") }
+    ensures bytes { OnOk result (string_bytes out.new ≡ string_bytes out.old ++ words.now ++ quoted text.now ++ codes "\n") }
+    ensures in_range { OnOk result (IsUtf8 text.now) }
 {
     out.push_str(words)?;
     put_quoted(out, text)?;
@@ -155,7 +175,8 @@ fn put_named(out: &mut String, words: &str, text: &Text) -> Result<(), AllocErro
 }
 
 fn put_commands(out: &mut String, commands: &[Text]) -> Result<(), AllocError>
-    ensures { OnOk result (string_bytes out.new ≡ string_bytes out.old ++ flat_map (λ text. line_text (lines.Command text)) commands.now) }
+    ensures bytes { OnOk result (string_bytes out.new ≡ string_bytes out.old ++ flat_map (λ text. line_text (lines.Command text)) commands.now) }
+    ensures in_range { OnOk result (All IsUtf8 commands.now) }
 {
     for command in commands {
         put_command(out, command)?;
@@ -164,14 +185,16 @@ fn put_commands(out: &mut String, commands: &[Text]) -> Result<(), AllocError>
 }
 
 fn put_command(out: &mut String, command: &Text) -> Result<(), AllocError>
-    ensures { OnOk result (string_bytes out.new ≡ string_bytes out.old ++ line_text (lines.Command command.now)) }
+    ensures bytes { OnOk result (string_bytes out.new ≡ string_bytes out.old ++ line_text (lines.Command command.now)) }
+    ensures in_range { OnOk result (IsUtf8 command.now) }
 {
     put_named(out, "command ", command)?;
     Ok(())
 }
 
 fn put_tests(out: &mut String, tests: &[TestSpec]) -> Result<(), AllocError>
-    ensures { OnOk result (string_bytes out.new ≡ string_bytes out.old ++ flat_map (λ test. line_text (lines.Test test)) tests.now) }
+    ensures bytes { OnOk result (string_bytes out.new ≡ string_bytes out.old ++ flat_map (λ test. line_text (lines.Test test)) tests.now) }
+    ensures in_range { OnOk result (All (λ t. IsUtf8 t.text) tests.now) }
 {
     for test in tests {
         put_test(out, test)?;
@@ -180,7 +203,8 @@ fn put_tests(out: &mut String, tests: &[TestSpec]) -> Result<(), AllocError>
 }
 
 fn put_test(out: &mut String, test: &TestSpec) -> Result<(), AllocError>
-    ensures { OnOk result (string_bytes out.new ≡ string_bytes out.old ++ line_text (lines.Test test.now)) }
+    ensures bytes { OnOk result (string_bytes out.new ≡ string_bytes out.old ++ line_text (lines.Test test.now)) }
+    ensures in_range { OnOk result (IsUtf8 test.now.text) }
 {
     put_number(out, "test ", u64::from(test.period))?;
     put_named(out, " ", &test.text)?;
@@ -188,7 +212,8 @@ fn put_test(out: &mut String, test: &TestSpec) -> Result<(), AllocError>
 }
 
 fn put_states(out: &mut String, states: &[StateSpec]) -> Result<(), AllocError>
-    ensures { OnOk result (string_bytes out.new ≡ string_bytes out.old ++ flat_map (λ state. line_text (lines.State state)) states.now) }
+    ensures bytes { OnOk result (string_bytes out.new ≡ string_bytes out.old ++ flat_map (λ state. line_text (lines.State state)) states.now) }
+    ensures in_range { OnOk result (All StateInRange states.now) }
 {
     for state in states {
         put_state(out, state)?;
@@ -197,7 +222,8 @@ fn put_states(out: &mut String, states: &[StateSpec]) -> Result<(), AllocError>
 }
 
 fn put_state(out: &mut String, state: &StateSpec) -> Result<(), AllocError>
-    ensures { OnOk result (string_bytes out.new ≡ string_bytes out.old ++ line_text (lines.State state.now)) }
+    ensures bytes { OnOk result (string_bytes out.new ≡ string_bytes out.old ++ line_text (lines.State state.now)) }
+    ensures in_range { OnOk result (StateInRange state.now) }
 {
     out.push_str("state ")?;
     put_quoted(out, &state.name)?;
@@ -206,7 +232,8 @@ fn put_state(out: &mut String, state: &StateSpec) -> Result<(), AllocError>
 }
 
 fn put_routines(out: &mut String, routines: &[Routine]) -> Result<(), AllocError>
-    ensures { OnOk result (string_bytes out.new ≡ string_bytes out.old ++ flat_map (λ routine. flat_map line_text (routine_lines routine)) routines.now) }
+    ensures bytes { OnOk result (string_bytes out.new ≡ string_bytes out.old ++ flat_map (λ routine. flat_map line_text (routine_lines routine)) routines.now) }
+    ensures in_range { OnOk result (All (λ r. All HasSpelling r.code) routines.now) }
 {
     for routine in routines {
         put_routine(out, routine)?;
@@ -215,7 +242,8 @@ fn put_routines(out: &mut String, routines: &[Routine]) -> Result<(), AllocError
 }
 
 fn put_routine(out: &mut String, routine: &Routine) -> Result<(), AllocError>
-    ensures { OnOk result (string_bytes out.new ≡ string_bytes out.old ++ flat_map line_text (routine_lines routine.now)) }
+    ensures bytes { OnOk result (string_bytes out.new ≡ string_bytes out.old ++ flat_map line_text (routine_lines routine.now)) }
+    ensures in_range { OnOk result (All HasSpelling routine.now.code) }
 {
     put_results(out, routine.results)?;
     put_code(out, routine.code.as_slice())?;
@@ -232,7 +260,8 @@ fn put_results(out: &mut String, results: u8) -> Result<(), AllocError>
 }
 
 fn put_code(out: &mut String, code: &[Op]) -> Result<(), AllocError>
-    ensures { OnOk result (string_bytes out.new ≡ string_bytes out.old ++ flat_map (λ op. line_text (lines.Instruction op)) code.now) }
+    ensures bytes { OnOk result (string_bytes out.new ≡ string_bytes out.old ++ flat_map (λ op. line_text (lines.Instruction op)) code.now) }
+    ensures in_range { OnOk result (All HasSpelling code.now) }
 {
     for op in code {
         put_op(out, *op)?;
@@ -242,7 +271,8 @@ fn put_code(out: &mut String, code: &[Op]) -> Result<(), AllocError>
 
 /// Writes the line of an instruction.
 fn put_op(out: &mut String, op: Op) -> Result<(), AllocError>
-    ensures { OnOk result (string_bytes out.new ≡ string_bytes out.old ++ line_text (lines.Instruction op)) }
+    ensures bytes { OnOk result (string_bytes out.new ≡ string_bytes out.old ++ line_text (lines.Instruction op)) }
+    ensures in_range { HasSpelling op }
 {
     match op {
         Op::Ret => out.push_str("ret")?,

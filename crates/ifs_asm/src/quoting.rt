@@ -1,6 +1,6 @@
 //! Texts in quotes.
 
-ghost use Rattle.std.specs.Prelude.{◌≡◌, ◌++◌, ◌<◌, ◌≤◌, ◌∷◌, List, ℕ, None, length, string_bytes, MatchOption, IfSome, IfOk, OnOk};
+ghost use Rattle.std.specs.Prelude.{◌≡◌, ◌++◌, ◌<◌, ◌≤◌, ◌∷◌, List, ℕ, None, length, string_bytes, MatchOption, IfSome, IfOk, IsUtf8, OnOk};
 ghost use Rattle.std.specs.Option.{option_map};
 ghost use Rattle.std.specs.List.{flat_map, prefix_len};
 ghost use Rattle.ifs_asm.specs.Spellings.{is_plain};
@@ -13,7 +13,8 @@ use std::alloc::{AllocError, Global};
 
 /// Writes a text in quotes.
 pub(crate) fn put_quoted(out: &mut String, text: &Text) -> Result<(), AllocError>
-    ensures { OnOk result (string_bytes out.new ≡ string_bytes out.old ++ quoted text.now) }
+    ensures bytes { OnOk result (string_bytes out.new ≡ string_bytes out.old ++ quoted text.now) }
+    ensures in_range { OnOk result (IsUtf8 text.now) }
 {
     out.push_str("\"")?;
     put_inside(out, text.as_str())?;

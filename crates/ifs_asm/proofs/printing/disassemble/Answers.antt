@@ -1,13 +1,29 @@
+use Rattle.std.proofs.Common.{sym, subst}
+use Rattle.ifs_asm.specs.Spellings.{Spells}
 use Rattle.ifs_asm.proofs.Puts.{whole_text}
+use Rattle.ifs_asm.proofs.ImageLaws.{canonical_spells}
 use Rattle.ifs_asm.proofs.printing.disassemble.Goals as goal
 
 pub returns : goal.returns
 returns c =
     let same = c.parts-parts.ensures.value in
+    let is_canonical =
     whole_text c.args.image.now _ _ _ _ _ _ _ c.new-out.ensures.bytes
-    (rw same at c.in_ok-put_front.ensures)
-    (rw (c.as_slice.ensures, same) at c.in_ok-put_interfaces.ensures)
-    (rw (c.as_slice-2.ensures, same) at c.in_ok-put_tests.ensures)
-    (rw (c.as_slice-3.ensures, same) at c.in_ok-put_commands.ensures)
-    (rw (c.as_slice-4.ensures, same) at c.in_ok-put_states.ensures)
-    (rw (c.as_slice-5.ensures, same) at c.in_ok-put_routines.ensures)
+    (rw same at c.in_ok-put_front.ensures.bytes)
+    (rw (c.as_slice.ensures, same) at c.in_ok-put_interfaces.ensures.bytes)
+    (rw (c.as_slice-2.ensures, same) at c.in_ok-put_tests.ensures.bytes)
+    (rw (c.as_slice-3.ensures, same) at c.in_ok-put_commands.ensures.bytes)
+    (rw (c.as_slice-4.ensures, same) at c.in_ok-put_states.ensures.bytes)
+    (rw (c.as_slice-5.ensures, same) at c.in_ok-put_routines.ensures.bytes) in
+    record {
+      canonical = is_canonical;
+      spelled = subst (λ text. Spells text c.args.image.now) (sym is_canonical) (canonical_spells c.args.image.now c.parts-parts.ensures.fits (record {
+        initial = rw same at c.in_ok-put_front.ensures.initial;
+        always = rw same at c.in_ok-put_front.ensures.always;
+        interfaces = rw (c.as_slice.ensures, same) at c.in_ok-put_interfaces.ensures.in_range;
+        tests = rw (c.as_slice-2.ensures, same) at c.in_ok-put_tests.ensures.in_range;
+        commands = rw (c.as_slice-3.ensures, same) at c.in_ok-put_commands.ensures.in_range;
+        states = rw (c.as_slice-4.ensures, same) at c.in_ok-put_states.ensures.in_range;
+        routines = rw (c.as_slice-5.ensures, same) at c.in_ok-put_routines.ensures.in_range;
+      }));
+    }
