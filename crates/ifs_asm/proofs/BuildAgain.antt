@@ -39,7 +39,7 @@ absent before name after apart = false_from_ne_true (stands_in name before) (λ 
 step_by : (x y z : Bool) (b : Built) → x ≡ false → y ≡ false → z ≡ true → cond (x || (y || not z)) None (Some b) ≡ Some b
 step_by x y z b ex ey ez = rw (ex, ey, ez) refl
 
-step_taken : (b : Built) (l : Line) → has_name b l ≡ false → is_full b l ≡ false → is_in_order b l ≡ true → step b l ≡ Some (with_line b l)
+pub step_taken : (b : Built) (l : Line) → has_name b l ≡ false → is_full b l ≡ false → is_in_order b l ≡ true → step b l ≡ Some (with_line b l)
 step_taken b l new room order = step_by (has_name b l) (is_full b l) (is_in_order b l) (with_line b l) new room order
 
 has_room : (n most : ℕ) → n < most → not (nat_lt n most) ≡ false
@@ -125,7 +125,7 @@ append_case : (o : Option Built) (xs ys : List Line) → ((next : Built) → bui
 append_case None xs ys ih = refl
 append_case (Some next) xs ys ih = ih next
 
-built_append : (b : Built) (xs ys : List Line) → built_of b (xs ++ ys) ≡ option_and_then (λ next. built_of next ys) (built_of b xs)
+pub built_append : (b : Built) (xs ys : List Line) → built_of b (xs ++ ys) ≡ option_and_then (λ next. built_of next ys) (built_of b xs)
 built_append b [] ys = refl
 built_append b (x ∷ xs) ys = append_case (step b x) xs ys (λ next. built_append next xs ys)
 

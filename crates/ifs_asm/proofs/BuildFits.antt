@@ -186,7 +186,7 @@ routines_fit : (rs : List Routine) → AllByRecursion IsShort rs → AllByRecurs
 routines_fit rs code results = each_both IsShort (λ (r : Routine). r.results ≤ 1) RoutineFits (λ r short one. record { results = one; code = short }) rs code results
 
 -- What was built fits where it has a state.
-built_fits : (c : Built) (spoken : List (List ℕ)) → built_by nothing spoken ≡ Some c → 1 ≤ length c.states → Fits (parts_of c)
+pub built_fits : (c : Built) (spoken : List (List ℕ)) → built_by nothing spoken ≡ Some c → 1 ≤ length c.states → Fits (parts_of c)
 built_fits c spoken h some =
     let p = parts_of c in
     let w = built_within nothing c spoken nothing_within h in

@@ -56,13 +56,13 @@ pub record Sound (b : Built) : Type 0 where
   pub current : b.states ≡ [] → b.current ≡ None
   pub routines : b.current ≡ None → b.routines ≡ []
 
-nothing_sound : Sound nothing
+pub nothing_sound : Sound nothing
 nothing_sound = record { front = omega arith; interfaces = λ _. refl; tests = λ _. refl; commands = λ _. refl; states = λ _. refl; current = λ _. refl; routines = λ _. refl }
 
 -- A line was said.
-record IsSaid (b c : Built) (l : Line) : Type 0 where
-  sound : Sound c
-  lines : lines_said c ≡ lines_said b ++ l ∷ []
+pub record IsSaid (b c : Built) (l : Line) : Type 0 where
+  pub sound : Sound c
+  pub lines : lines_said c ≡ lines_said b ++ l ∷ []
 
 none_listed : (o : Option Routine) → o ≡ None → listed_routine o ≡ []
 none_listed None e = refl
@@ -202,7 +202,7 @@ taken_case false false false b c h = absurd cc
 taken_case false true z b c h = absurd cc
 taken_case true y z b c h = absurd cc
 
-step_said : (b c : Built) (l : Line) → Sound b → step b l ≡ Some c → IsSaid b c l
+pub step_said : (b c : Built) (l : Line) → Sound b → step b l ≡ Some c → IsSaid b c l
 step_said b c l s h =
     let t = taken_case (has_name b l) (is_full b l) (is_in_order b l) (with_line b l) c h in
     subst (λ (d : Built). IsSaid b d l) t.1 (line_said b l s t.0)
@@ -215,7 +215,7 @@ pub record AreSaid (b c : Built) (spoken : List (List ℕ)) : Type 0 where
   pub sound : Sound c
   pub lines : lines_said c ≡ lines_said b ++ more
 
-built_said : (b c : Built) (spoken : List (List ℕ)) → Sound b → built_by b spoken ≡ Some c → AreSaid b c spoken
+pub built_said : (b c : Built) (spoken : List (List ℕ)) → Sound b → built_by b spoken ≡ Some c → AreSaid b c spoken
 built_said b c [] s h = record { more = []; says = tt; fit = tt; sound = subst Sound (same_Some b c h) s; lines = ap lines_said (sym (same_Some b c h)) ∙ sym (append-nil (lines_said b)) }
 built_said b c (bytes ∷ others) s h =
     option_and_then_some (λ line. option_and_then (λ next. built_by next others) (step b line)) (line_in bytes) c h (λ line is_line rest.
@@ -240,10 +240,10 @@ some_state : (s : List StateSpec) → s ≡ [] → 1 ≤ length s → ⊥
 some_state [] e h = absurd (omega (arith, h))
 some_state (x ∷ xs) e h = absurd cc
 
-full_front : (b : Built) → b.front ≡ 7 → lines_said b ≡ lines_of (parts_of b)
+pub full_front : (b : Built) → b.front ≡ 7 → lines_said b ≡ lines_of (parts_of b)
 full_front b e = ap (λ (n : ℕ). said (take n (front_lines (parts_of b))) b.interfaces b.tests b.commands b.states (b.routines ++ listed_routine b.current)) e
 
-front_is : (c : Built) → Sound c → 1 ≤ length c.states → c.front ≡ 7
+pub front_is : (c : Built) → Sound c → 1 ≤ length c.states → c.front ≡ 7
 front_is c s some = elim (cases_lt c.front 7) [
   | inl lt ↦ absurd (some_state c.states (s.states lt) some)
   | inr le ↦ omega (arith, s.front)

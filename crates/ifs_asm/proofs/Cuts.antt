@@ -44,7 +44,7 @@ cut_none p xs e =
 
 -- ---- lines
 
-line_case : (line : List ℕ) (others : List (List ℕ)) (b : Bool) → cond (not b) (line ∷ others) others ≡ cond b [] (line ∷ []) ++ others
+pub line_case : (line : List ℕ) (others : List (List ℕ)) (b : Bool) → cond (not b) (line ∷ others) others ≡ cond b [] (line ∷ []) ++ others
 line_case line others true = refl
 line_case line others false = refl
 

@@ -18,3 +18,5 @@ mod Cuts
 mod Steps
 mod Utf8
 mod Shapes
+mod Completed
+mod Told

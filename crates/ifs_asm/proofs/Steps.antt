@@ -18,7 +18,7 @@ line_case : (o : Option Line) (b : Built) (xs ys : List (List ℕ)) → ((next :
 line_case None b xs ys ih = refl
 line_case (Some line) b xs ys ih = append_case (step b line) xs ys ih
 
-by_append : (xs ys : List (List ℕ)) (b : Built) → built_by b (xs ++ ys) ≡ option_and_then (λ next. built_by next ys) (built_by b xs)
+pub by_append : (xs ys : List (List ℕ)) (b : Built) → built_by b (xs ++ ys) ≡ option_and_then (λ next. built_by next ys) (built_by b xs)
 by_append [] ys b = refl
 by_append (x ∷ xs) ys b = line_case (line_in x) b xs ys (λ next. by_append xs ys next)
 

@@ -1,3 +1,4 @@
 pub mod Texts
 pub mod Spellings
+pub mod Refused
 pub mod inner

@@ -3,3 +3,4 @@ pub mod Lists
 pub mod Words
 pub mod Forms
 pub mod Building
+pub mod Reading

@@ -3,6 +3,7 @@
 ghost use Rattle.std.specs.Prelude.{◌≡◌};
 ghost use Rattle.ifs_asm.specs.declared.fault.AsmFault.TheVariants.{Memory};
 ghost use Rattle.ifs_asm.specs.declared.fault.LineFault.TheVariants as faults;
+ghost use Rattle.ifs_asm.specs.inner.Reading.{fault_at};
 
 use std::alloc::{AllocError, AllocFailed};
 use thiserror::Error;
@@ -44,7 +45,7 @@ pub(crate) enum LineFault {
 impl LineFault {
     /// The fault at a line.
     pub(crate) fn at(self, line: u64) -> AsmFault
-        ensures { self ≡ faults.Memory → result ≡ Memory }
+        ensures { result ≡ fault_at self line }
     {
         match self {
             LineFault::Unknown => AsmFault::Unknown { line },

@@ -1,12 +1,13 @@
 //! Text to image, line by line.
 
-ghost use Rattle.std.specs.Prelude.{◌≡◌, ◌≢◌, ◌<◌, ◌==◌, Some, None, ◌++◌, MatchResult, IfOk, IfErr, length};
+ghost use Rattle.std.specs.Prelude.{◌≡◌, ◌≢◌, ◌<◌, ◌==◌, ◌∷◌, Some, None, MatchResult, IfOk, IfErr, length};
 ghost use Rattle.std.specs.List.{position};
 ghost use Rattle.ifs_image.specs.declared.parts.ImageParts.{ImageParts};
 ghost use Rattle.ifs_asm.specs.declared.fault.AsmFault.TheVariants.{Memory};
 ghost use Rattle.ifs_asm.specs.declared.fault.LineFault.TheVariants as faults;
-ghost use Rattle.ifs_asm.specs.Spellings.{Spells, spoken};
-ghost use Rattle.ifs_asm.specs.inner.Building.{built_by, nothing, spoken_line};
+ghost use Rattle.ifs_asm.specs.Refused.{IsRefused, text_lines};
+ghost use Rattle.ifs_asm.specs.Spellings.{Spells};
+ghost use Rattle.ifs_asm.specs.inner.Building.{built_by, spoken_line};
 
 use crate::building::Building;
 use crate::fault::{AsmFault, LineFault};
@@ -23,6 +24,7 @@ use std::alloc::Global;
 pub fn assemble(alloc: Global, text: &str) -> Result<Image, AsmFault>
     ensures spelled { IfOk result (λ image. Spells text.now image) }
     ensures refused { IfErr result (λ fault. fault ≢ Memory → (image : ImageParts) → Spells text.now image → ⊥) }
+    ensures told { IfErr result (λ fault. fault ≢ Memory → IsRefused text.now fault) }
 {
     let mut building = Building::new(alloc);
     let mut left = text.as_bytes();
@@ -32,7 +34,7 @@ pub fn assemble(alloc: Global, text: &str) -> Result<Image, AsmFault>
         if let Err(fault) = take_line(alloc, &mut building, bytes) {
             return Err(fault.at(line));
         }
-        line = line.saturating_add(1);
+        line += 1;
         left = rest;
     }
     let parts = building.finish()?;
@@ -46,7 +48,7 @@ pub fn assemble(alloc: Global, text: &str) -> Result<Image, AsmFault>
 /// A line without its newline, and what follows it.
 fn split_line(text: &[u8]) -> (&[u8], &[u8])
     requires { 0 < length text.now }
-    ensures spoken { spoken text.now ≡ spoken_line result.0.now ++ spoken result.1.now }
+    ensures cut { text_lines text.now ≡ result.0.now ∷ text_lines result.1.now }
     ensures shorter { length result.1.now < length text.now }
 {
     match newline(text) {

@@ -1,0 +1,163 @@
+-- The line that is told, while a text is read.
+use Rattle.std.proofs.Common.{◌≡◌, ◌≢◌, ℕ, ◌+◌, ◌-◌, ◌<◌, Bool, true, false, cond, List, [], ◌∷◌, ◌++◌, length, take, drop, Option, Some, None, refl, sym, ap, subst, ◌∙◌, arith, append_assoc, length-append, inl}
+use Rattle.std.specs.Prelude.{◌==◌, not, option_and_then}
+use Rattle.std.specs.List.{slice_split, onto_first, position, AllZip}
+use Rattle.std.proofs.lemmas.List.{append-nil}
+use Rattle.ifs_image.specs.declared.parts.ImageParts.{ImageParts}
+use Rattle.ifs_asm.specs.declared.fault.AsmFault.TheVariants.{Memory}
+use Rattle.ifs_asm.specs.declared.fault.LineFault.{LineFault}
+use Rattle.ifs_asm.specs.declared.fault.LineFault.TheVariants as faults
+use Rattle.ifs_asm.specs.declared.line.Line.{Line}
+use Rattle.ifs_asm.specs.Texts.{lines_of}
+use Rattle.ifs_asm.specs.Spellings.{Says, Spells, spoken, is_silent}
+use Rattle.ifs_asm.specs.Refused.{without_empty_last, text_lines, speaking, GoOn, StopsAt, EndsEarly, IsRefused}
+use Rattle.ifs_asm.specs.inner.Building.{Built, built_by, nothing, spoken_line}
+use Rattle.ifs_asm.specs.inner.Reading.{AreRead, fault_at}
+use Rattle.ifs_asm.proofs.Cuts.{cut_some, cut_none, line_case}
+use Rattle.ifs_asm.proofs.Completed.{goes_on, never_goes_on}
+use Rattle.ifs_asm.proofs.Steps.{by_append}
+
+-- ---- the lines of a text
+
+-- A list that is not empty.
+record IsSome (xs : List (List ℕ)) : Type 0 where
+  first : List ℕ
+  others : List (List ℕ)
+  whole : xs ≡ first ∷ others
+
+onto_some : (byte : ℕ) (xs : List (List ℕ)) → IsSome xs → IsSome (onto_first byte xs)
+onto_some byte [] s = absurd cc
+onto_some byte (x ∷ xs) s = record { first = byte ∷ x; others = xs; whole = refl }
+
+split_case : (byte : ℕ) (b : Bool) (xs : List (List ℕ)) → IsSome xs → IsSome (cond b ([] ∷ xs) (onto_first byte xs))
+split_case byte true xs s = record { first = []; others = xs; whole = refl }
+split_case byte false xs s = onto_some byte xs s
+
+split_some : (text : List ℕ) → IsSome (slice_split (λ byte. byte == 10) text)
+split_some [] = record { first = []; others = []; whole = refl }
+split_some (byte ∷ text) = split_case byte (byte == 10) (slice_split (λ byte. byte == 10) text) (split_some text)
+
+without_cons : (line first : List ℕ) (others : List (List ℕ)) → without_empty_last (line ∷ (first ∷ others)) ≡ line ∷ without_empty_last (first ∷ others)
+without_cons [] first others = refl
+without_cons (byte ∷ line) first others = refl
+
+without_more : (line : List ℕ) (xs : List (List ℕ)) → IsSome xs → without_empty_last (line ∷ xs) ≡ line ∷ without_empty_last xs
+without_more line xs s = rw s.whole (without_cons line s.first s.others)
+
+pub lines_some : (text : List ℕ) (i : ℕ) → position (λ byte. byte == 10) text ≡ Some i → text_lines text ≡ take i text ∷ text_lines (take (length text - (i + 1)) (drop (i + 1) text))
+unfolding text_lines
+lines_some text i e =
+    let rest = take (length text - (i + 1)) (drop (i + 1) text) in
+    ap without_empty_last (cut_some (λ byte. byte == 10) text i e) ∙ without_more (take i text) (slice_split (λ byte. byte == 10) rest) (split_some rest)
+
+last_line : (text : List ℕ) → 0 < length text → without_empty_last (text ∷ []) ≡ text ∷ []
+last_line [] lt = absurd (omega (arith, lt))
+last_line (byte ∷ text) lt = refl
+
+pub lines_last : (text : List ℕ) → 0 < length text → position (λ byte. byte == 10) text ≡ None → text_lines text ≡ text ∷ text_lines []
+unfolding text_lines
+lines_last text lt e = ap without_empty_last (cut_none (λ byte. byte == 10) text e) ∙ last_line text lt
+
+no_lines : text_lines [] ≡ []
+unfolding text_lines
+no_lines = refl
+
+-- ---- those that say something
+
+speaking_without : (xs : List (List ℕ)) → speaking xs ≡ speaking (without_empty_last xs)
+speaking_without [] = refl
+speaking_without ([] ∷ []) = refl
+speaking_without ([] ∷ (other ∷ others)) = speaking_without (other ∷ others)
+speaking_without ((byte ∷ bytes) ∷ others) = ap (λ (ls : List (List ℕ)). cond (not (is_silent (byte ∷ bytes))) ((byte ∷ bytes) ∷ ls) ls) (speaking_without others)
+
+speaking_is : (text : List ℕ) → spoken text ≡ speaking (text_lines text)
+unfolding spoken text_lines
+speaking_is text = speaking_without (slice_split (λ byte. byte == 10) text)
+
+speaking_cons : (line : List ℕ) (others : List (List ℕ)) → speaking (line ∷ others) ≡ spoken_line line ++ speaking others
+speaking_cons line others = line_case line (speaking others) (is_silent line)
+
+speaking_append : (xs ys : List (List ℕ)) → speaking (xs ++ ys) ≡ speaking xs ++ speaking ys
+speaking_append [] ys = refl
+speaking_append (x ∷ xs) ys =
+    speaking_cons x (xs ++ ys) ∙ ap (λ (ls : List (List ℕ)). spoken_line x ++ ls) (speaking_append xs ys)
+    ∙ sym (append_assoc (spoken_line x) (speaking xs) (speaking ys)) ∙ ap (λ (ls : List (List ℕ)). ls ++ speaking ys) (sym (speaking_cons x xs))
+
+speaking_last : (before : List (List ℕ)) (line : List ℕ) → speaking (before ++ line ∷ []) ≡ speaking before ++ spoken_line line
+speaking_last before line =
+    speaking_append before (line ∷ []) ∙ ap (λ (ls : List (List ℕ)). speaking before ++ ls) (speaking_cons line [] ∙ append-nil (spoken_line line))
+
+-- ---- reading on
+
+with_last : (done : List (List ℕ)) (line : List ℕ) (b : Built) (o : Option Built) → built_by nothing (speaking done) ≡ Some b → built_by b (spoken_line line) ≡ o → built_by nothing (speaking (done ++ line ∷ [])) ≡ o
+with_last done line b o so_far one =
+    ap (built_by nothing) (speaking_last done line) ∙ by_append (speaking done) (spoken_line line) nothing
+    ∙ ap (option_and_then (λ next. built_by next (spoken_line line))) so_far ∙ one
+
+pub reads_on : (text left line rest : List ℕ) (b c : Built) (n m : ℕ) → AreRead text left b n → text_lines left ≡ line ∷ text_lines rest → length rest < length left → built_by b (spoken_line line) ≡ Some c → m ≡ n + 1 → AreRead text rest c m
+reads_on text left line rest b c n m r cut shorter one next = record {
+  done = r.done ++ line ∷ [];
+  cut = r.cut ∙ ap (λ (ls : List (List ℕ)). r.done ++ ls) cut ∙ sym (append_assoc r.done (line ∷ []) (text_lines rest));
+  number_is = omega (arith, next, r.number_is, length-append r.done (line ∷ []));
+  within = omega (arith, next, r.within, shorter);
+  built = with_last r.done line b (Some c) r.built one;
+}
+
+pub stops_at : (text left line rest : List ℕ) (b : Built) (n : ℕ) → AreRead text left b n → text_lines left ≡ line ∷ text_lines rest → built_by b (spoken_line line) ≡ None → StopsAt text n
+stops_at text left line rest b n r cut none = record {
+  before = r.done;
+  line = line;
+  after = text_lines rest;
+  whole = r.cut ∙ ap (λ (ls : List (List ℕ)). r.done ++ ls) cut;
+  number_is = r.number_is;
+  go_on = goes_on r.done b r.built;
+  stop = never_goes_on (r.done ++ line ∷ []) (with_last r.done line b None r.built none);
+}
+
+-- ---- the end of a text
+
+all_done : (text left : List ℕ) (b : Built) (n : ℕ) → AreRead text left b n → (done : List (List ℕ)) → text_lines text ≡ done ++ text_lines left → left ≡ [] → text_lines text ≡ done
+all_done text left b n r done cut empty = cut ∙ ap (λ (t : List ℕ). done ++ text_lines t) empty ∙ ap (λ (ls : List (List ℕ)). done ++ ls) no_lines ∙ append-nil done
+
+pub all_read : (text left : List ℕ) (b : Built) (n : ℕ) → AreRead text left b n → left ≡ [] → built_by nothing (spoken text) ≡ Some b
+all_read text left b n r empty = ap (built_by nothing) (speaking_is text ∙ ap speaking (all_done text left b n r r.done r.cut empty)) ∙ r.built
+
+pub ends_early : (text left : List ℕ) (b : Built) (n : ℕ) → AreRead text left b n → left ≡ [] → ((image : ImageParts) → Spells text image → ⊥) → EndsEarly text n
+ends_early text left b n r empty missing =
+    let all = all_done text left b n r r.done r.cut empty in
+    record {
+      go_on = subst GoOn (sym all) (goes_on r.done b r.built);
+      missing = missing;
+      number_is = r.number_is ∙ ap (λ (ls : List (List ℕ)). length ls + 1) (sym all);
+    }
+
+-- ---- a text that spells an image does not stop
+
+-- The lines that the first lines of a text say.
+record FrontSaid (xs : List (List ℕ)) (ls : List Line) : Type 0 where
+  said : List Line
+  others : List Line
+  says : AllZip Says xs said
+  whole : ls ≡ said ++ others
+
+front_said : (xs ys : List (List ℕ)) (ls : List Line) → AllZip Says (xs ++ ys) ls → FrontSaid xs ls
+front_said [] ys ls z = record { said = []; others = ls; says = tt; whole = refl }
+front_said (x ∷ xs) ys [] z = absurd z
+front_said (x ∷ xs) ys (l ∷ ls) z =
+    let f = front_said xs ys ls z.1 in
+    record { said = l ∷ f.said; others = f.others; says = (z.0, f.says); whole = ap (λ (ks : List Line). l ∷ ks) f.whole }
+
+pub stops_spell_none : (text : List ℕ) (n : ℕ) (image : ImageParts) → StopsAt text n → Spells text image → ⊥
+stops_spell_none text n image s spells =
+    let cut : spoken text ≡ speaking (s.before ++ s.line ∷ []) ++ speaking s.after =
+    speaking_is text ∙ ap speaking (s.whole ∙ sym (append_assoc s.before (s.line ∷ []) s.after)) ∙ speaking_append (s.before ++ s.line ∷ []) s.after in
+    let f = front_said (speaking (s.before ++ s.line ∷ [])) (speaking s.after) (lines_of image) (subst (λ (ls : List (List ℕ)). AllZip Says ls (lines_of image)) cut spells.says) in
+    s.stop (record { said = f.said; says = f.says; begin = record { image = image; fits = spells.fits; in_range = spells.in_range; others = f.others; whole = f.whole } })
+
+-- ---- the fault of a line
+
+pub told_at : (text : List ℕ) (fault : LineFault) (n : ℕ) → (fault ≢ faults.Memory → StopsAt text n) → fault_at fault n ≢ Memory → IsRefused text (fault_at fault n)
+told_at text faults.Unknown n s other = s (λ e. absurd cc)
+told_at text faults.OutOfRange n s other = s (λ e. absurd cc)
+told_at text faults.OutOfOrder n s other = inl (s (λ e. absurd cc))
+told_at text faults.Memory n s other = absurd (other refl)

@@ -1,0 +1,23 @@
+-- What is known while the lines of a text are read.
+use Rattle.std.specs.Prelude.{ℕ, ◌≡◌, ◌+◌, ◌≤◌, List, ◌++◌, length, Some}
+use Rattle.ifs_asm.specs.declared.fault.AsmFault.{AsmFault}
+use Rattle.ifs_asm.specs.declared.fault.AsmFault.TheVariants as told
+use Rattle.ifs_asm.specs.declared.fault.LineFault.{LineFault}
+use Rattle.ifs_asm.specs.declared.fault.LineFault.TheVariants.{Unknown, OutOfRange, OutOfOrder, Memory}
+use Rattle.ifs_asm.specs.Refused.{text_lines, speaking}
+use Rattle.ifs_asm.specs.inner.Building.{Built, built_by, nothing}
+
+-- The lines before the rest of a text said what was built; the next line has the number after theirs. Each took a byte.
+pub record AreRead (text left : List ℕ) (b : Built) (number : ℕ) : Type 0 where
+  pub done : List (List ℕ)
+  pub cut : text_lines text ≡ done ++ text_lines left
+  pub number_is : number ≡ length done + 1
+  pub within : number + length left ≤ length text + 1
+  pub built : built_by nothing (speaking done) ≡ Some b
+
+-- The fault of a line, at its number.
+abbrev pub fault_at : LineFault → ℕ → AsmFault
+fault_at Unknown number = told.Unknown number
+fault_at OutOfRange number = told.OutOfRange number
+fault_at OutOfOrder number = told.OutOfOrder number
+fault_at Memory number = told.Memory
