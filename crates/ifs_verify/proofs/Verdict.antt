@@ -1,5 +1,5 @@
 -- From an image's limits to what the checks rest on, and from their answers to what a refusal says.
-use Rattle.std.proofs.Common.{ℕ, ◌≡◌, ◌≢◌, ◌≤◌, List, length, Option, Some, None, Result, Ok, Err, arith, refl, ap, sym, subst}
+use Rattle.std.proofs.Common.{ℕ, ◌≡◌, ◌≢◌, ◌≤◌, List, length, Option, Some, None, Result, Ok, Err, arith, refl, ap, sym, ◌∙◌, subst}
 use Rattle.std.proofs.lemmas.Option.{get_or_from_slice_get, slice_get_within}
 use Rattle.std.specs.List.{slice_get, All}
 use Rattle.ifs_image.specs.declared.fault.ImageFault.{ImageFault}
@@ -13,8 +13,10 @@ use Rattle.ifs_image.specs.Reading.{image_of}
 use Rattle.ifs_verify.specs.declared.fault.VerifyFault.{VerifyFault}
 use Rattle.ifs_verify.specs.declared.fault.VerifyFault.TheVariants.{NoImage, NoEntry, JumpTarget, LeftAtEnd, Unreached, WrongOperand, WaysDisagree, CallNotLower, WrongResults, StackOver, FramesOver, CostOver, CommandsOver, HandlerLeaves, OutOfMemory}
 use Rattle.ifs_verify.specs.Accepted.{IsAccepted}
-use Rattle.ifs_verify.specs.Refused.{refusal_of, IsRefusal}
+use Rattle.ifs_verify.specs.Refused.{refusal_of, Fails, IsRefusal}
+use Rattle.ifs_verify.specs.Laws.{RefusedAreNotAccepted}
 use Rattle.ifs_verify.specs.inner.Passes.{IsSized, IsRefused}
+use Rattle.ifs_image.proofs.ImageLaws.{image_again}
 use Rattle.ifs_verify.proofs.Faults.{fails_of_accepted}
 
 entry_fits : (routines : List Routine) (k : ℕ) (routine : Routine) → All RoutineFits routines → slice_get routines k ≡ Some routine → RoutineFits routine
@@ -82,3 +84,36 @@ pub refused_once : (bytes : List ℕ) (image : ImageParts) (fault : VerifyFault)
 refused_once bytes image fault refused only other_fault other spelled accepted =
     let same : image ≡ other = ok_same image other (only other spelled (λ e. cc)) in
     fails_of_accepted fault image (subst IsAccepted (sym same) accepted) (refused other_fault)
+
+-- Bytes that reading refuses spell no image.
+unread : (bytes : List ℕ) (fault : ImageFault) (image : ImageParts) → image_of bytes ≡ Err fault → ¬ Spells bytes image
+unread bytes fault image refused spelled =
+    let read : image_of bytes ≡ read_as image = image_again bytes image spelled in
+    let e : Err fault ≡ read_as image = sym refused ∙ read in
+    absurd (cc)
+
+-- What bytes spell at most one of.
+abbrev pub OneImage : Type 0
+OneImage = (bytes : List ℕ) (image other : ImageParts) → Spells bytes image → Spells bytes other → image ≡ other
+
+-- A check that fails in an image that bytes spell fails in each that they spell.
+failed : OneImage → (bytes : List ℕ) (fault : VerifyFault) → ((found : ImageParts) × Spells bytes found × Fails fault found) → (image : ImageParts) → Spells bytes image → ¬ IsAccepted image
+failed one bytes fault refused image spelled accepted =
+    fails_of_accepted fault refused.0 (subst IsAccepted (one bytes image refused.0 spelled refused.1) accepted) refused.2
+
+pub refused_are_not_accepted : OneImage → RefusedAreNotAccepted
+refused_are_not_accepted one bytes OutOfMemory refused other image spelled = absurd (other refl)
+refused_are_not_accepted one bytes (NoImage fault) refused other image spelled = absurd (unread bytes fault image refused spelled)
+refused_are_not_accepted one bytes (NoEntry at) refused other image spelled = failed one bytes (NoEntry at) refused image spelled
+refused_are_not_accepted one bytes (JumpTarget at) refused other image spelled = failed one bytes (JumpTarget at) refused image spelled
+refused_are_not_accepted one bytes (LeftAtEnd at) refused other image spelled = failed one bytes (LeftAtEnd at) refused image spelled
+refused_are_not_accepted one bytes (Unreached at) refused other image spelled = failed one bytes (Unreached at) refused image spelled
+refused_are_not_accepted one bytes (WrongOperand at) refused other image spelled = failed one bytes (WrongOperand at) refused image spelled
+refused_are_not_accepted one bytes (WaysDisagree at) refused other image spelled = failed one bytes (WaysDisagree at) refused image spelled
+refused_are_not_accepted one bytes (CallNotLower at) refused other image spelled = failed one bytes (CallNotLower at) refused image spelled
+refused_are_not_accepted one bytes (WrongResults at) refused other image spelled = failed one bytes (WrongResults at) refused image spelled
+refused_are_not_accepted one bytes (StackOver at) refused other image spelled = failed one bytes (StackOver at) refused image spelled
+refused_are_not_accepted one bytes (FramesOver at) refused other image spelled = failed one bytes (FramesOver at) refused image spelled
+refused_are_not_accepted one bytes (CostOver at) refused other image spelled = failed one bytes (CostOver at) refused image spelled
+refused_are_not_accepted one bytes (CommandsOver at) refused other image spelled = failed one bytes (CommandsOver at) refused image spelled
+refused_are_not_accepted one bytes (HandlerLeaves at) refused other image spelled = failed one bytes (HandlerLeaves at) refused image spelled

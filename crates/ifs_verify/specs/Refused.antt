@@ -19,7 +19,7 @@ use Rattle.ifs_verify.specs.Rules.{IsRoutine, AreIndexes, HasOperand, LeaveNothi
 use Rattle.ifs_verify.specs.Typing.{AreTypings}
 use Rattle.ifs_verify.specs.Ways.{Leads}
 use Rattle.ifs_verify.specs.Bounds.{AreHeights, AreDepths, AreAmounts, cost_of, commands_of, FitsEvents, FitsHandlers}
-use Rattle.ifs_verify.specs.Accepted.{EachWithin}
+use Rattle.ifs_verify.specs.Accepted.{EachWithin, IsAccepted}
 
 -- An index is not in its table, or a mask has a bit for no test: of the initial state or the always part, of a state, of an instruction.
 abbrev pub LacksEntry : ImageParts → At → Type 0
@@ -140,3 +140,7 @@ abbrev pub IsRefusal : List ℕ → VerifyFault → Type 0
 IsRefusal bytes OutOfMemory = Unit {0}
 IsRefusal bytes (NoImage fault) = image_of bytes ≡ Err fault
 IsRefusal bytes fault = (image : ImageParts) × Spells bytes image × Fails fault image
+
+-- Unless the fault is want of memory, the bytes spell no image that is accepted.
+abbrev pub AreNotAccepted : List ℕ → VerifyFault → Type 0
+AreNotAccepted bytes fault = fault ≢ OutOfMemory → (image : ImageParts) → Spells bytes image → ¬ IsAccepted image
