@@ -30,7 +30,7 @@ insert_cases {T} eq Q xs x there absent = by (list_any (eq x) xs) there absent
     by true there absent = there refl
     by false there absent = absent refl
 
-text_same : (text : List ℕ) → text_eq text text ≡ true
+pub text_same : (text : List ℕ) → text_eq text text ≡ true
 text_same text = nat_list_eq_equiv.refl text
 
 test_same : (test : ExternalTest) → test_eq test test ≡ true
@@ -62,7 +62,7 @@ inserted eq same xs x = insert_cases eq (λ ys. list_any (eq x) ys ≡ true) xs 
 pub at_most : (m n : ℕ) → ¬ (¬ (m ≤ n)) → m ≤ n
 at_most m n h = elim (cases_lt n m) [ inl above ↦ absurd (h (λ within. omega arith)) | inr within ↦ within ]
 
-fit : (text : List ℕ) → ¬ (¬ TextFits text) → TextFits text
+pub fit : (text : List ℕ) → ¬ (¬ TextFits text) → TextFits text
 fit text h = record {
   not_empty = at_most 1 (length text) (λ no. h (λ fits. no fits.not_empty));
   within = at_most (length text) 1024 (λ no. h (λ fits. no fits.within));

@@ -6,5 +6,9 @@ mod Timed
 mod Fitting
 mod Refusals
 mod OneRefusal
+mod Gathered
+mod FirstUses
+mod Running
 mod Ordered
+mod Whole
 mod Unresolved

@@ -1,5 +1,6 @@
 -- The tables of a text's mentions are in order.
 use Rattle.std.proofs.Common.{◌≡◌, List, [], ◌∷◌, ◌++◌, fold, refl, sym, ap, subst, ◌∙◌, append_assoc}
+use Rattle.std.specs.List.{flat_map}
 use Rattle.indexmap.specs.IndexSet.{insert_key}
 use Rattle.ifs_parse.specs.declared.tree.Item.{Item}
 use Rattle.ifs_policy.specs.declared.fault.ResolveFault.TheVariants.{StateTwice}
@@ -11,10 +12,14 @@ use Rattle.ifs_policy.specs.Mentions.{Mentioned, mentions_of}
 use Rattle.ifs_policy.specs.Tables.{text_eq, test_eq, after, names_after, no_names, tables_of}
 use Rattle.ifs_policy.specs.Faults.{AreSound}
 use Rattle.ifs_policy.specs.Placed.{Resolves}
-use Rattle.ifs_policy.specs.Order.{interfaces_in, tests_in, commands_in, states_in, InOrder}
+use Rattle.ifs_policy.specs.Order.{InOrder}
+use Rattle.ifs_policy.specs.Whole as whole
+use Rattle.ifs_policy.specs.Whole.{first_uses}
 use Rattle.ifs_policy.proofs.Filled.{insert_cases}
+use Rattle.ifs_policy.proofs.FirstUses.{inserted_are_first, text_laws, test_laws}
+use Rattle.ifs_policy.proofs.Gathered.{interface_of, tested_by, command_of, state_of, picked_interfaces, picked_tests, picked_commands, picked_states}
 
-interfaces_after : (names : Names) (mentions : List Mentioned) → (names_after names mentions).tables.interfaces ≡ fold (insert_key text_eq) names.tables.interfaces (interfaces_in mentions)
+interfaces_after : (names : Names) (mentions : List Mentioned) → (names_after names mentions).tables.interfaces ≡ fold (insert_key text_eq) names.tables.interfaces (flat_map interface_of mentions)
 interfaces_after names [] = refl
 interfaces_after names (Interface name ∷ rest) = interfaces_after (after names (Interface name)) rest
 interfaces_after names (External place command period ∷ rest) = interfaces_after (after names (External place command period)) rest
@@ -26,7 +31,7 @@ interfaces_after names (Init whose.State span ∷ rest) = interfaces_after (afte
 interfaces_after names (InitState span ∷ rest) = interfaces_after (after names (InitState span)) rest
 interfaces_after names (SetState place span ∷ rest) = interfaces_after names rest
 
-tests_after : (names : Names) (mentions : List Mentioned) → (names_after names mentions).tables.tests ≡ fold (insert_key test_eq) names.tables.tests (tests_in mentions)
+tests_after : (names : Names) (mentions : List Mentioned) → (names_after names mentions).tables.tests ≡ fold (insert_key test_eq) names.tables.tests (flat_map tested_by mentions)
 tests_after names [] = refl
 tests_after names (Interface name ∷ rest) = tests_after (after names (Interface name)) rest
 tests_after names (External place command period ∷ rest) = tests_after (after names (External place command period)) rest
@@ -38,7 +43,7 @@ tests_after names (Init whose.State span ∷ rest) = tests_after (after names (I
 tests_after names (InitState span ∷ rest) = tests_after (after names (InitState span)) rest
 tests_after names (SetState place span ∷ rest) = tests_after names rest
 
-commands_after : (names : Names) (mentions : List Mentioned) → (names_after names mentions).tables.commands ≡ fold (insert_key text_eq) names.tables.commands (commands_in mentions)
+commands_after : (names : Names) (mentions : List Mentioned) → (names_after names mentions).tables.commands ≡ fold (insert_key text_eq) names.tables.commands (flat_map command_of mentions)
 commands_after names [] = refl
 commands_after names (Interface name ∷ rest) = commands_after (after names (Interface name)) rest
 commands_after names (External place command period ∷ rest) = commands_after (after names (External place command period)) rest
@@ -51,7 +56,7 @@ commands_after names (InitState span ∷ rest) = commands_after (after names (In
 commands_after names (SetState place span ∷ rest) = commands_after names rest
 
 -- A state that is defined is new, so it goes last.
-state_goes_last : (names : Names) (mentions : List Mentioned) → AreSound names mentions → (names_after names mentions).tables.states ≡ names.tables.states ++ states_in mentions
+state_goes_last : (names : Names) (mentions : List Mentioned) → AreSound names mentions → (names_after names mentions).tables.states ≡ names.tables.states ++ flat_map state_of mentions
 state_goes_last names [] sound = sym (append_nil names.tables.states)
   where
     append_nil : {T : Type 0} (xs : List T) → xs ++ [] ≡ xs
@@ -64,20 +69,31 @@ state_goes_last names (Defined name ∷ rest) sound =
     let new : insert_key text_eq names.tables.states name.text ≡ names.tables.states ++ name.text ∷ [] =
     insert_cases text_eq (λ ys. ys ≡ names.tables.states ++ name.text ∷ []) names.tables.states name.text
     (λ there. absurd (sound.0 (StateTwice name.span.line) (refl, there))) (λ absent. refl) in
-    state_goes_last (after names (Defined name)) rest sound.1 ∙ ap (λ xs. xs ++ states_in rest) new ∙ append_assoc names.tables.states (name.text ∷ []) (states_in rest)
+    state_goes_last (after names (Defined name)) rest sound.1 ∙ ap (λ xs. xs ++ flat_map state_of rest) new ∙ append_assoc names.tables.states (name.text ∷ []) (flat_map state_of rest)
 state_goes_last names (Wanted name ∷ rest) sound = state_goes_last names rest sound.1
 state_goes_last names (Init whose.Always span ∷ rest) sound = state_goes_last (after names (Init whose.Always span)) rest sound.1
 state_goes_last names (Init whose.State span ∷ rest) sound = state_goes_last (after names (Init whose.State span)) rest sound.1
 state_goes_last names (InitState span ∷ rest) sound = state_goes_last (after names (InitState span)) rest sound.1
 state_goes_last names (SetState place span ∷ rest) sound = state_goes_last names rest sound.1
 
-pub in_order : (items : List Item) (policy : PolicyParts) → Resolves items policy → InOrder (mentions_of items) policy.tables
+pub interfaces_first : (items : List Item) → (tables_of (mentions_of items)).interfaces ≡ first_uses text_eq (whole.interfaces items)
+interfaces_first items = interfaces_after no_names (mentions_of items) ∙ ap (fold (insert_key text_eq) []) (picked_interfaces items) ∙ inserted_are_first text_eq text_laws (whole.interfaces items)
+
+pub tests_first : (items : List Item) → (tables_of (mentions_of items)).tests ≡ first_uses test_eq (whole.tests items)
+tests_first items = tests_after no_names (mentions_of items) ∙ ap (fold (insert_key test_eq) []) (picked_tests items) ∙ inserted_are_first test_eq test_laws (whole.tests items)
+
+pub commands_first : (items : List Item) → (tables_of (mentions_of items)).commands ≡ first_uses text_eq (whole.commands items)
+commands_first items = commands_after no_names (mentions_of items) ∙ ap (fold (insert_key text_eq) []) (picked_commands items) ∙ inserted_are_first text_eq text_laws (whole.commands items)
+
+pub states_defined : (items : List Item) → AreSound no_names (mentions_of items) → (tables_of (mentions_of items)).states ≡ whole.states items
+states_defined items sound = state_goes_last no_names (mentions_of items) sound ∙ picked_states items
+
+pub in_order : (items : List Item) (policy : PolicyParts) → Resolves items policy → InOrder items policy.tables
 in_order items policy r =
-    let mentions = mentions_of items in
-    let made : InOrder mentions (tables_of mentions) = record {
-      interfaces = interfaces_after no_names mentions;
-      tests = tests_after no_names mentions;
-      commands = commands_after no_names mentions;
-      states = state_goes_last no_names mentions r.sound;
+    let made : InOrder items (tables_of (mentions_of items)) = record {
+      interfaces = interfaces_first items;
+      tests = tests_first items;
+      commands = commands_first items;
+      states = states_defined items r.sound;
     } in
-    subst (λ (p : PolicyParts). InOrder mentions p.tables) (sym r.placed) made
+    subst (λ (p : PolicyParts). InOrder items p.tables) (sym r.placed) made

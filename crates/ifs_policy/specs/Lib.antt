@@ -5,5 +5,6 @@ pub mod Placed
 pub mod Fits
 pub mod Texts
 pub mod Meaning
+pub mod Whole
 pub mod Order
 pub mod inner

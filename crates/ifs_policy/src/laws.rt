@@ -1,16 +1,16 @@
 //! Laws of policies, over their definitions alone: each is the contract of a function that does nothing.
 
-ghost use Rattle.std.specs.Prelude.{◌≡◌, List};
+ghost use Rattle.std.specs.Prelude.{◌≡◌, ◌↔◌, List};
 ghost use Rattle.ifs_parse.specs.Files.{File};
 ghost use Rattle.ifs_parse.specs.Grammar.{IsSaid};
 ghost use Rattle.ifs_parse.specs.declared.tree.Item.{Item};
 ghost use Rattle.ifs_policy.specs.declared.fault.ResolveFault.{ResolveFault};
 ghost use Rattle.ifs_policy.specs.declared.policy.PolicyParts.{PolicyParts};
-ghost use Rattle.ifs_policy.specs.Mentions.{mentions_of};
 ghost use Rattle.ifs_policy.specs.Faults.{IsRefused};
 ghost use Rattle.ifs_policy.specs.Placed.{Resolves};
 ghost use Rattle.ifs_policy.specs.Fits.{PolicyFits};
 ghost use Rattle.ifs_policy.specs.Order.{InOrder};
+ghost use Rattle.ifs_policy.specs.Whole.{KeepsRules};
 
 /// A tree has at most one policy.
 pub fn one_policy()
@@ -23,10 +23,15 @@ pub fn one_refusal()
     ensures one { (items : List Item) (fault other : ResolveFault) → IsRefused items fault → IsRefused items other → fault ≡ other }
 {}
 
+/// A tree has a policy exactly where its names keep the rules, which are said of the tree as a whole.
+pub fn tree_has_a_policy()
+    ensures { (items : List Item) → ((policy : PolicyParts) × Resolves items policy) ↔ KeepsRules items }
+{}
+
 /// The tables of a policy have each entry once, in the order of first uses; its states stand in the
 /// order of their definitions.
 pub fn numbered_by_first_use()
-    ensures { (items : List Item) (policy : PolicyParts) → Resolves items policy → InOrder (mentions_of items) policy.tables }
+    ensures { (items : List Item) (policy : PolicyParts) → Resolves items policy → InOrder items policy.tables }
 {}
 
 /// A policy whose tree some tokens say is within its limits, and its numbers are of entries of its tables.
