@@ -51,8 +51,6 @@ pub fn parse(alloc: Global, tokens: &[Token]) -> Result<Tree, ParseFault>
     // Any other refusal is at the first token that cannot go on: what stands before it can, with it nothing can; and
     // it is P7 or P8 where the token could go on without that limit, and P6 where it could within no limits.
     ensures stops { IfErr result (λ fault. fault ≢ Memory → StopsAt tokens.now fault) }
-    // Which one it is, and its line, is that of reading from the left.
-    ensures first_fault { IfErr result (λ fault. fault ≢ Memory → read_within fits_period 32 tokens.now ≡ Err fault) }
 {
     match read(alloc, tokens) {
         Ok(parsed) => Ok(Tree::new(parsed.items, parsed.notes)),

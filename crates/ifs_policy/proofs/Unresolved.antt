@@ -5,8 +5,7 @@ use Rattle.ifs_lex.specs.Expansion as lex
 use Rattle.ifs_lex.specs.declared.fault.LexFault.{LexFault}
 use Rattle.ifs_lex.specs.declared.fault.LexFault.TheVariants as lexing
 use Rattle.ifs_parse.specs.Files.{File}
-use Rattle.ifs_parse.specs.Grammar.{Says}
-use Rattle.ifs_parse.specs.Reading.{fits_period, read_within}
+use Rattle.ifs_parse.specs.Grammar.{Says, StopsAt}
 use Rattle.ifs_parse.specs.declared.fault.ParseFault.{ParseFault}
 use Rattle.ifs_parse.specs.declared.fault.ParseFault.TheVariants as parsing
 use Rattle.ifs_policy.specs.Placed.{Resolves}
@@ -43,13 +42,10 @@ module _ (text : List ℕ) (defs : List (List ℕ × List ℕ)) where
 
   -- Tokens that the text spells.
   module _ (one_list : OneList) (tokens : List Token) (spelled : lex.Spells text defs tokens) where
-    abbrev Unread : ParseFault → Type 0
-    Unread fault = read_within fits_period 32 tokens ≡ Err fault
-
     said_by : (policy : PolicyParts) (h : HasPolicy text defs policy) → Says tokens h.file
     said_by policy h = subst (λ (ts : List Token). Says ts h.file) (one_list text defs h.tokens tokens h.spelled spelled) h.said
 
-    pub refused_tokens : (fault : ParseFault) → (fault ≢ parsing.Memory → Unread fault) → (fault ≢ parsing.Memory → (file : File) → ¬ Says tokens file) → Refuses text defs (of_tokens fault)
+    pub refused_tokens : (fault : ParseFault) → (fault ≢ parsing.Memory → StopsAt tokens fault) → (fault ≢ parsing.Memory → (file : File) → ¬ Says tokens file) → Refuses text defs (of_tokens fault)
     refused_tokens parsing.Memory e none other = absurd (other refl)
     refused_tokens (parsing.Unexpected line) e none other = ((λ policy h. none (λ k. absurd (cc)) h.file (said_by policy h)), (tokens, spelled, e (λ k. absurd (cc))))
     refused_tokens (parsing.Period line) e none other = ((λ policy h. none (λ k. absurd (cc)) h.file (said_by policy h)), (tokens, spelled, e (λ k. absurd (cc))))

@@ -5,8 +5,7 @@ use Rattle.ifs_lex.specs.Expansion as lex
 use Rattle.ifs_lex.specs.declared.fault.LexFault.{LexFault}
 use Rattle.ifs_lex.specs.declared.fault.LexFault.TheVariants as lexing
 use Rattle.ifs_parse.specs.Files.{File}
-use Rattle.ifs_parse.specs.Grammar.{Says}
-use Rattle.ifs_parse.specs.Reading.{fits_period, read_within}
+use Rattle.ifs_parse.specs.Grammar.{Says, StopsAt}
 use Rattle.ifs_parse.specs.declared.fault.ParseFault.{ParseFault}
 use Rattle.ifs_parse.specs.declared.fault.ParseFault.TheVariants as parsing
 use Rattle.ifs_policy.specs.declared.fault.ResolveFault.{ResolveFault}
@@ -51,6 +50,6 @@ of_names fault = Names fault
 -- A text has no policy, and this is the fault that the first step which refuses it finds first. Want of memory is no such fault.
 abbrev pub IsTextRefused : List ℕ → List (List ℕ × List ℕ) → PolicyFault → Type 0
 IsTextRefused text defs (Text fault) = HasNoPolicy text defs × (lex.tokens_of text defs ≡ Err fault)
-IsTextRefused text defs (Tokens fault) = HasNoPolicy text defs × ((tokens : List Token) × lex.Spells text defs tokens × (read_within fits_period 32 tokens ≡ Err fault))
+IsTextRefused text defs (Tokens fault) = HasNoPolicy text defs × ((tokens : List Token) × lex.Spells text defs tokens × StopsAt tokens fault)
 IsTextRefused text defs (Names fault) = HasNoPolicy text defs × ((tokens : List Token) × (file : File) × lex.Spells text defs tokens × Says tokens file × names.IsRefused file.items fault)
 IsTextRefused text defs Memory = ⊥

@@ -1,8 +1,7 @@
 -- What each step refuses, said of the text.
-use Rattle.std.proofs.Common.{◌≡◌, List, map, sym, subst, Err}
+use Rattle.std.proofs.Common.{List, map, sym, subst}
 use Rattle.ifs_lex.specs.declared.token.Token.{Token}
-use Rattle.ifs_parse.specs.Grammar.{Says}
-use Rattle.ifs_parse.specs.Reading.{fits_period, read_within}
+use Rattle.ifs_parse.specs.Grammar.{Says, StopsAt}
 use Rattle.ifs_policy.proofs.Unresolved as texts
 use Rattle.ifs_policy.proofs.front.policy_of.Goals as goal
 
@@ -16,7 +15,7 @@ returns-in-Err-parse-clause-refused c =
     let defs = map (λ d. (d.0.now, d.1.now)) c.args.defs.now in
     subst (texts.Refuses c.args.text.now defs) (sym c.from-in-Err-parse.ensures)
     (texts.refused_tokens c.args.text.now defs c.one_list.ensures c.in-Ok.tokens.items c.in-Ok.ensures.found c.in-Err-parse.fault
-    (λ other. subst (λ (ts : List Token). read_within fits_period 32 ts ≡ Err c.in-Err-parse.fault) c.as_slice.ensures.value (c.in-Err-parse.ensures.first_fault other))
+    (λ other. subst (λ (ts : List Token). StopsAt ts c.in-Err-parse.fault) c.as_slice.ensures.value (c.in-Err-parse.ensures.stops other))
     (λ other file said. c.in-Err-parse.ensures.only file (subst (λ (ts : List Token). Says ts file) (sym c.as_slice.ensures.value) said) (λ e. other (cc))))
 
 pub returns-clause-refused : goal.returns-clause-refused
