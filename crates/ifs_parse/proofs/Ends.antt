@@ -11,13 +11,16 @@ use Rattle.ifs_parse.specs.declared.tree.Name.{Name}
 use Rattle.ifs_parse.specs.declared.tree.Test.{Test}
 use Rattle.ifs_parse.specs.declared.tree.Wish.{Wish}
 use Rattle.ifs_parse.specs.declared.block.Statement.{Statement}
-use Rattle.ifs_parse.specs.declared.parser.Operand.{Operand}
 use Rattle.ifs_parse.specs.Trees as tree
 use Rattle.ifs_parse.specs.Files.{File}
 use Rattle.ifs_parse.specs.Rules.{Rule, Gives, OneToken, TheMark, ◌⨟◌, ◌or◌, Never, Many, Enough, More}
-use Rattle.ifs_parse.specs.Combined.{marked}
+use Rattle.ifs_parse.specs.Combined.{}
+use Rattle.ifs_parse.specs.Words.{marked}
 use Rattle.ifs_parse.specs.Reading as reading
+use Rattle.ifs_parse.specs.Words as words
+use Rattle.ifs_parse.specs.Rules as rules
 use Rattle.ifs_parse.specs.Grammar as grammar
+use Rattle.ifs_parse.specs.Grammar.{Operands}
 use Rattle.ifs_parse.proofs.Read.{taken}
 use Rattle.ifs_parse.proofs.Whole.{end_is_last}
 
@@ -75,10 +78,10 @@ free_mark : (m : Mark) → is mark.End m ≡ false → Free (TheMark m)
 free_mark m differ = free_token (marked m) (λ t span h. by_what t.what (λ e. let k = sym differ ∙ ap (λ w. is (mark_of w) m) (sym e) ∙ taken (is (mark_of t.what) m) t.span span h in absurd (cc)))
 
 free_string : Free grammar.IsString
-free_string = free_token reading.name_of (λ t x h. by_what t.what (λ e. let k = sym h ∙ ap (λ w. reading.name_of (record { what = w; span = t.span })) e in absurd (cc)))
+free_string = free_token words.name_of (λ t x h. by_what t.what (λ e. let k = sym h ∙ ap (λ w. words.name_of (record { what = w; span = t.span })) e in absurd (cc)))
 
 free_link_state : Free grammar.IsLinkState
-free_link_state = free_token (λ t. reading.link_state_of (mark_of t.what)) (λ t. by_end (λ w. reading.link_state_of (mark_of w)) refl t.what)
+free_link_state = free_token (λ t. words.link_state_of (mark_of t.what)) (λ t. by_end (λ w. words.link_state_of (mark_of w)) refl t.what)
 
 free_bang : Free (TheMark mark.Bang)
 unfolding is
@@ -146,7 +149,7 @@ free_state = free_mark mark.State refl
 
 module _ (fits : ℕ → Bool) where
   free_period : Free (grammar.IsPeriod fits)
-  free_period = free_token (λ t. grammar.fitting fits (reading.number_of_what t.what)) (λ t. by_end (λ w. grammar.fitting fits (reading.number_of_what w)) refl t.what)
+  free_period = free_token (λ t. grammar.fitting fits (words.number_of_what t.what)) (λ t. by_end (λ w. grammar.fitting fits (words.number_of_what w)) refl t.what)
 
   free_test : Free (grammar.IsTest fits)
   free_test =
@@ -155,26 +158,23 @@ module _ (fits : ℕ → Bool) where
       (free_then (TheMark mark.Dot) _ free_dot (λ _. free_then (TheMark mark.Link) _ free_link (λ _. free_then (TheMark mark.Dot) _ free_dot (λ _. free_then grammar.IsLinkState _ free_link_state (λ l. free_gives _)))))
       (free_then (TheMark mark.Every) _ free_every (λ _. free_then (grammar.IsPeriod fits) _ free_period (λ n. free_gives _))))
 
-  module _ (one : Rule (tree.Condition Test)) (free_one : Free one) where
-    free_all : Free (grammar.IsAll one)
-    free_all =
+  module _ {X : Type 0} (sign : Mark) (one : Rule X) (free_sign : Free (TheMark sign)) (free_one : Free one) where
+    free_joined : Free (grammar.Joined sign one)
+    free_joined =
         free_then one _ free_one
-        (λ first. free_or _ _
-        (free_then (TheMark mark.And) _ free_and (λ _. free_then one _ free_one (λ second. free_then (Many (TheMark mark.And ⨟ λ _. one) reading.with_last []) _
-        (λ p x ns h. free_many (TheMark mark.And ⨟ λ _. one) reading.with_last (free_then (TheMark mark.And) (λ _. one) free_and (λ _. free_one)) [] x p ns h) (λ rest. free_gives _))))
-        (free_gives _))
+        (λ first. free_then (Many (TheMark sign ⨟ λ _. one) rules.with_last []) _
+        (λ p x ns h. free_many (TheMark sign ⨟ λ _. one) rules.with_last (free_then (TheMark sign) (λ _. one) free_sign (λ _. free_one)) [] x p ns h) (λ others. free_gives _))
 
-  module _ (all : Rule Operand) (free_a : Free all) where
-    free_alternatives : (first : Operand) → Free (grammar.AreAlternatives all first)
-    free_alternatives first =
-        free_then all _ free_a
-        (λ second. free_then (Many (TheMark mark.Or ⨟ λ _. all) reading.with_operand _) _
-        (λ p x ns h. free_many (TheMark mark.Or ⨟ λ _. all) reading.with_operand (free_then (TheMark mark.Or) (λ _. all) free_or_mark (λ _. free_a)) _ x p ns h) (λ more. free_gives _))
+  free_all : (one : Rule (tree.Condition Test)) → Free one → Free (grammar.IsAll one)
+  free_all one free_one = free_joined mark.And one free_and free_one
 
-    free_any : Free (grammar.IsAny all)
-    free_any =
-        free_then all _ free_a
-        (λ first. free_or _ _ (free_then (TheMark mark.Or) _ free_or_mark (λ span p x ns h. free_alternatives first p (x, h.is_noted) h.within h.said)) (free_gives _))
+  free_any : (all : Rule (Operands (tree.Condition Test))) → Free all → Free (grammar.IsAny all)
+  free_any all free_a =
+      free_then all _ free_a
+      (λ first. free_or _ _
+      (free_then (TheMark mark.Or) _ free_or_mark
+      (λ span p x ns h. free_then (grammar.Joined mark.Or all) _ (free_joined mark.Or all free_or_mark free_a) (λ more. free_gives _) p (x, h.is_noted) h.within h.said))
+      (free_gives _))
 
   free_over : (p q : Rule (tree.Condition Test)) → Free p → Free q → Free (grammar.IsOneOver p q (grammar.IsTest fits))
   free_over p q free_p free_q =
@@ -191,7 +191,7 @@ module _ (fits : ℕ → Bool) where
 
   free_braced : {X : Type 0} (part : Rule X) → Free part → Free (grammar.AreBraced part)
   free_braced part free_p =
-      free_then (Many part reading.with_last []) _ (λ p x ns h. free_many part reading.with_last free_p [] x p ns h) (λ xs. free_then (TheMark mark.BraceClose) _ free_brace_close (λ _. free_gives _))
+      free_then (Many part rules.with_last []) _ (λ p x ns h. free_many part rules.with_last free_p [] x p ns h) (λ xs. free_then (TheMark mark.BraceClose) _ free_brace_close (λ _. free_gives _))
 
   free_block : (statement : Rule (Statement Test Name Wish)) → Free statement → Free (grammar.IsBlock statement)
   free_block statement free_s =
@@ -227,7 +227,7 @@ module _ (fits : ℕ → Bool) where
   pub ends_there : (room : ℕ) (tokens tail : List Token) (file : File) → EndsOnce tokens → grammar.SaysWithin fits room (tokens ++ tail) file → tail ≡ []
   unfolding grammar.SaysWithin
   ends_there room tokens tail file ends h =
-      let free = free_many (grammar.IsItem (grammar.IsPart (grammar.IsStatement fits room))) reading.with_last (free_item (grammar.IsStatement fits room) (free_statement room)) [] h.x h.front h.before h.first in
+      let free = free_many (grammar.IsItem (grammar.IsPart (grammar.IsStatement fits room))) rules.with_last (free_item (grammar.IsStatement fits room) (free_statement room)) [] h.x h.front h.before h.first in
       let last : tokens ++ tail ≡ h.front ++ h.second.first.token ∷ [] =
       h.tokens_are ∙ ap (λ (l : List Token). h.front ++ l) (h.second.tokens_are ∙ rw (h.second.first.only, h.second.second.none)) in
       end_is_last ends.front ends.last tail h.front h.second.first.token

@@ -7,7 +7,8 @@ use Rattle.ifs_lex.specs.declared.token.Token.{Token}
 use Rattle.ifs_parse.specs.declared.fault.ParseFault.{ParseFault}
 use Rattle.ifs_parse.specs.declared.mark.Mark.{Mark}
 use Rattle.ifs_parse.specs.Reading.{with_note, noted}
-use Rattle.ifs_parse.specs.Combined.{State, state, Parse, past, ◌>>=◌, ◌▸◌, pure, found, accepted, one_token, either, expected, unexpected, marked, begins, no_more, required, many, many_from}
+use Rattle.ifs_parse.specs.Combined.{State, state, Parse, past, ◌>>=◌, ◌▸◌, pure, found, accepted, one_token, either, expected, unexpected, begins, no_more, required, many, many_from}
+use Rattle.ifs_parse.specs.Words.{marked}
 use Rattle.ifs_parse.specs.Rules.{Rule, Gives, OneToken, TheMark, ◌⨟◌, ◌or◌, Never, Optional, Noted, Many, Enough, More}
 
 -- What must or must not be next, by the value that was read.

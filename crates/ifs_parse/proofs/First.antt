@@ -22,9 +22,12 @@ use Rattle.ifs_parse.specs.declared.block.Statement.TheVariants.{Run, SetState, 
 use Rattle.ifs_parse.specs.Trees as tree
 use Rattle.ifs_parse.specs.Views.{all_of, any_of, block_of}
 use Rattle.ifs_parse.specs.declared.fault.ParseFault.TheVariants.{Period}
-use Rattle.ifs_parse.specs.Combined.{State, state, Parse, line_of, past, found, marked, unexpected, ◌▸◌, pure, begins, expected, no_more, required, many}
+use Rattle.ifs_parse.specs.Combined.{State, state, Parse, line_of, past, found, unexpected, ◌▸◌, pure, begins, expected, no_more, required, many}
+use Rattle.ifs_parse.specs.Words.{marked}
 use Rattle.ifs_parse.specs.Rules.{Rule, Gives, TheMark, ◌⨟◌, ◌or◌, Never, Optional, Noted, Many}
 use Rattle.ifs_parse.specs.Reading as reading
+use Rattle.ifs_parse.specs.Words as words
+use Rattle.ifs_parse.specs.Rules as rules
 use Rattle.ifs_parse.specs.Grammar as grammar
 use Rattle.ifs_parse.proofs.Exact.{Always, Any, Until, Reads, Exact, exact_token, exact_mark, exact_required, exact_many}
 use Rattle.ifs_base.specs.declared.op.LinkState.TheVariants as link
@@ -32,6 +35,8 @@ use Rattle.std.specs.Prelude.{codes}
 use Rattle.ifs_parse.specs.Rules.{Enough, OneToken}
 use Rattle.ifs_parse.specs.declared.fault.ParseFault.TheVariants.{Unexpected, Nesting, Memory}
 use Rattle.ifs_parse.proofs.Read.{exact_string, exact_period, exact_test, exact_next, exact_all, exact_one, exact_condition, reads_more, begins_longer, exact_braced, exact_part, exact_item, part_longer, item_longer, closes_part, not_statement, close_if, close_run, close_set, No, Over, NoStatement, NoPart, NoItem, known, Known}
+use Rattle.ifs_parse.proofs.Operands as operands
+use Rattle.ifs_parse.proofs.Operands.{condition_kept, kept_condition}
 use Rattle.ifs_parse.proofs.Stuck.{next_token, found_by_next, line_by_next, ByNext, Limit, Periods, Depth, OfPeriods, OfDepth, IsOf, Fails, fails_as, fails_here, Goes, Sample, Within, Stuck, begins_first, begins_left, begins_right, same_within, then_within, marked_within, optional_within, stuck_pure, stuck_token, stuck_then_at, stuck_then, stuck_either, stuck_deep, stuck_begins, stuck_no_more, stuck_as, stuck_required, stuck_option, stuck_noted, stuck_many, optional_or, Broke, Before, After, broke}
 use Rattle.ifs_parse.proofs.Whole.{says_no_fault}
 use Rattle.ifs_parse.proofs.Limits.{no_help_at}
@@ -66,7 +71,7 @@ sample_many : {A X : Type 0} (P : Rule X) (add : A → X → A) (a : A) → Samp
 sample_many P add a = record { tail = []; x = a; notes = []; said = Enough }
 
 sample_string : Sample grammar.IsString
-sample_string = sample_token reading.name_of (token_of (what.Quoted [])) (record { text = []; span = nowhere }) refl
+sample_string = sample_token words.name_of (token_of (what.Quoted [])) (record { text = []; span = nowhere }) refl
 
 sample_dot : Sample (TheMark mark.Dot)
 unfolding is
@@ -101,7 +106,7 @@ unfolding is
 sample_run = sample_token (marked mark.Run) (token_of (what.Word (codes "run"))) nowhere refl
 
 sample_link_state : Sample grammar.IsLinkState
-sample_link_state = sample_token (λ t. reading.link_state_of (mark_of t.what)) (token_of (what.Word (codes "up"))) link.Up refl
+sample_link_state = sample_token (λ t. words.link_state_of (mark_of t.what)) (token_of (what.Word (codes "up"))) link.Up refl
 
 stuck_mark : {limit : Limit} (m : Mark) → Sample (TheMark m) → Stuck limit Any (expected m) (TheMark m) (TheMark m)
 stuck_mark m s = stuck_token (marked m) s
@@ -125,7 +130,7 @@ over_by_next : ByNext Over
 over_by_next a b h s = (no_by_next mark.Or a b h s.0, no_by_next mark.And a b h s.1)
 
 abbrev fits : ℕ → Bool
-fits = reading.fits_period
+fits = words.fits_period
 
 -- The periods that fit without a limit, and how many may be open with one more.
 abbrev wide : Limit → ℕ → Bool
@@ -146,10 +151,10 @@ all_fit Periods k n = refl
 all_fit Depth k n = absurd k
 
 abbrev number_at : List Token → Option ℕ
-number_at = found (λ t. reading.number_of_what t.what)
+number_at = found (λ t. words.number_of_what t.what)
 
 sample_period : Sample (grammar.IsPeriod fits)
-sample_period = sample_token (λ t. grammar.fitting fits (reading.number_of_what t.what)) (token_of (what.Word (codes "1"))) 1 refl
+sample_period = sample_token (λ t. grammar.fitting fits (words.number_of_what t.what)) (token_of (what.Word (codes "1"))) 1 refl
 
 module _ (limit : Limit) where
   period_goes : (ts : List Token) (n : ℕ) → number_at ts ≡ Some n → OfPeriods limit → Goes (grammar.IsPeriod (wide limit)) [] ts
@@ -168,7 +173,7 @@ module _ (limit : Limit) where
   period_kind ts m n h false k fault e =
       fails_as (reading.period fits) (grammar.IsPeriod fits) (grammar.IsPeriod (wide limit)) (state ts m) (Period (line_of ts)) fault e
       (fails_here (reading.period fits) (grammar.IsPeriod fits) (grammar.IsPeriod (wide limit)) ts m (Period (line_of ts)) sample_period
-      (λ w q g. rw (found_by_next (λ t. reading.number_of_what t.what) w ts g ∙ h, k, line_by_next w ts g)) (period_goes ts n h) (inr (inl refl)))
+      (λ w q g. rw (found_by_next (λ t. words.number_of_what t.what) w ts g ∙ h, k, line_by_next w ts g)) (period_goes ts n h) (inr (inl refl)))
 
   period_stuck : (ts : List Token) (m : List ℕ) (o : Option ℕ) → number_at ts ≡ o → (fault : ParseFault)
       → option_map_or (λ n. if fits n then Ok (n, past (state ts m)) else Err (Period (line_of ts))) o (unexpected (state ts m)) ≡ Err fault
@@ -177,7 +182,7 @@ module _ (limit : Limit) where
   period_stuck ts m None h fault e =
       fails_as (reading.period fits) (grammar.IsPeriod fits) (grammar.IsPeriod (wide limit)) (state ts m) (Unexpected (line_of ts)) fault e
       (fails_here (reading.period fits) (grammar.IsPeriod fits) (grammar.IsPeriod (wide limit)) ts m (Unexpected (line_of ts)) sample_period
-      (λ w q g. rw (found_by_next (λ t. reading.number_of_what t.what) w ts g ∙ h, line_by_next w ts g)) (λ k. absurd k) (inl refl))
+      (λ w q g. rw (found_by_next (λ t. words.number_of_what t.what) w ts g ∙ h, line_by_next w ts g)) (λ k. absurd k) (inl refl))
 
   fitting_wide : (n x : ℕ) (b : Bool) → fits n ≡ b → (if b then Some n else None) ≡ Some x → (if wide limit n then Some n else None) ≡ Some x
   fitting_wide n x true h e = rw (wider limit n h) e
@@ -190,11 +195,11 @@ module _ (limit : Limit) where
   stuck_period : Stuck limit Any (reading.period fits) (grammar.IsPeriod fits) (grammar.IsPeriod (wide limit))
   stuck_period = record {
     fails = λ s fault a e. period_stuck s.left s.notes (number_at s.left) refl fault e;
-    within = λ p x ns h. record { token = h.token; only = h.only; stands = fitted_wide (reading.number_of_what h.token.what) x h.stands; unnoted = h.unnoted };
+    within = λ p x ns h. record { token = h.token; only = h.only; stands = fitted_wide (words.number_of_what h.token.what) x h.stands; unnoted = h.unnoted };
   }
 
 stuck_string : {limit : Limit} → Stuck limit Any reading.string grammar.IsString grammar.IsString
-stuck_string = stuck_token reading.name_of sample_string
+stuck_string = stuck_token words.name_of sample_string
 
 abbrev LinkRule : Name → Rule Test
 LinkRule name = TheMark mark.Dot ⨟ λ _. grammar.IsLinkTest name
@@ -209,7 +214,7 @@ stuck_link_test : {limit : Limit} (name : Name) → Stuck limit Any (reading.lin
 stuck_link_test name =
     stuck_then (expected mark.Link) _ (TheMark mark.Link) _ (exact_mark mark.Link) (stuck_mark mark.Link sample_link)
     (λ _. stuck_then (expected mark.Dot) _ (TheMark mark.Dot) _ (exact_mark mark.Dot) (stuck_mark mark.Dot sample_dot)
-    (λ _. stuck_map reading.link_state _ grammar.IsLinkState (exact_token (λ t. reading.link_state_of (mark_of t.what))) (stuck_token (λ t. reading.link_state_of (mark_of t.what)) sample_link_state))
+    (λ _. stuck_map reading.link_state _ grammar.IsLinkState (exact_token (λ t. words.link_state_of (mark_of t.what))) (stuck_token (λ t. words.link_state_of (mark_of t.what)) sample_link_state))
     (λ _. sample_then _ _ sample_link_state (λ l. sample_gives _)))
     (λ _. sample_then _ _ sample_dot (λ _. sample_then _ _ sample_link_state (λ l. sample_gives _)))
 
@@ -237,30 +242,30 @@ stuck_next m operand O W stuck_o =
     (stuck_begins m (λ _. operand) no_more (λ _. O) Never (λ _. stuck_o) stuck_no_more)
 
 module _ {limit : Limit} (one : Parse (tree.Condition Test)) (One W : Rule (tree.Condition Test)) (exact_o : Exact one One Always) (stuck_o : Stuck limit Any one One W) (sample_o : Sample One) where
-  sample_chain : (first : tree.Condition Test) → Sample (grammar.IsChain One first)
+  sample_chain : (first : tree.Condition Test) → Sample (operands.IsChain One first)
   sample_chain first = sample_then _ _ sample_o (λ second. sample_then _ _ (sample_many _ _ _) (λ rest. sample_gives _))
 
-  stuck_chain : (first : tree.Condition Test) → Stuck limit Any (reading.chain one first) (grammar.IsChain One first) (grammar.IsChain W first)
+  stuck_chain : (first : tree.Condition Test) → Stuck limit Any (reading.chain one first) (operands.IsChain One first) (operands.IsChain W first)
   stuck_chain first =
       stuck_then one _ One _ exact_o stuck_o
-      (λ second. stuck_map_at Any (No mark.And) (many (reading.next_operand mark.And one) reading.with_last []) (λ rest. reading.operand (all_of (tree.And first second) rest) true)
-      (Many (TheMark mark.And ⨟ λ _. One) reading.with_last [])
-      (exact_many (reading.next_operand mark.And one) reading.with_last (TheMark mark.And ⨟ λ _. One) (No mark.And)
+      (λ second. stuck_map_at Any (No mark.And) (many (reading.next_operand mark.And one) rules.with_last []) (λ rest. reading.operand (all_of (tree.And first second) rest) true)
+      (Many (TheMark mark.And ⨟ λ _. One) rules.with_last [])
+      (exact_many (reading.next_operand mark.And one) rules.with_last (TheMark mark.And ⨟ λ _. One) (No mark.And)
       (exact_next mark.And one One Any exact_o) (λ x p ns h. begins_longer mark.And (λ _. One) p x ns h) (refl, tt) [])
-      (stuck_many {W = TheMark mark.And ⨟ λ _. W} (reading.next_operand mark.And one) reading.with_last (TheMark mark.And ⨟ λ _. One) (No mark.And) Any (exact_next mark.And one One Any exact_o)
+      (stuck_many {W = TheMark mark.And ⨟ λ _. W} (reading.next_operand mark.And one) rules.with_last (TheMark mark.And ⨟ λ _. One) (No mark.And) Any (exact_next mark.And one One Any exact_o)
       (stuck_next mark.And one One W stuck_o) any_by_next (λ x p ns h. begins_longer mark.And (λ _. One) p x ns h) (refl, tt) [])
       (no_by_next mark.And))
       (λ second. sample_then _ _ (sample_many _ _ _) (λ rest. sample_gives _))
 
-  stuck_all : Stuck limit Any (reading.all one) (grammar.IsAll One) (grammar.IsAll W)
+  stuck_all : Stuck limit Any (reading.all one) (operands.IsAll One) (operands.IsAll W)
   stuck_all =
       stuck_then one _ One _ exact_o stuck_o
-      (λ first. stuck_either Any mark.And (λ _. reading.chain one first) (pure (reading.operand first false)) (λ _. grammar.IsChain One first) (Gives (reading.operand first false))
+      (λ first. stuck_either Any mark.And (λ _. reading.chain one first) (pure (reading.operand first false)) (λ _. operands.IsChain One first) (Gives (reading.operand first false))
       (λ _. stuck_chain first) (stuck_pure (reading.operand first false)))
       (λ first. sample_right _ _ (sample_gives _))
 
 module _ {limit : Limit} (all : Parse Operand) (All W : Rule Operand) (exact_a : Exact all All (λ o. No mark.And)) (stuck_a : Stuck limit Any all All W) where
-  stuck_alternatives : (first : Operand) → Sample All → Stuck limit Any (reading.alternatives all first) (grammar.AreAlternatives All first) (grammar.AreAlternatives W first)
+  stuck_alternatives : (first : Operand) → Sample All → Stuck limit Any (reading.alternatives all first) (operands.AreAlternatives All first) (operands.AreAlternatives W first)
   stuck_alternatives first sample_a =
       stuck_then_at Any all _ All _ (λ o. No mark.And) (λ second. No mark.And) exact_a stuck_a
       (λ second. stuck_map_at (No mark.And) Over (many (reading.next_operand mark.Or all) reading.with_operand (reading.others [] (first.is_chain || second.is_chain)))
@@ -273,18 +278,18 @@ module _ {limit : Limit} (all : Parse Operand) (All W : Rule Operand) (exact_a :
       over_by_next)
       (λ second next s. s) (λ second. no_by_next mark.And) (λ second. sample_then _ _ (sample_many _ _ _) (λ more. sample_gives _))
 
-  pub stuck_any : Sample All → Stuck limit Any (reading.any all) (grammar.IsAny All) (grammar.IsAny W)
+  pub stuck_any : Sample All → Stuck limit Any (reading.any all) (operands.IsAny All) (operands.IsAny W)
   stuck_any sample_a =
       stuck_then_at Any all _ All _ (λ o. No mark.And) (λ first. No mark.And) exact_a stuck_a
-      (λ first. stuck_either (No mark.And) mark.Or (reading.noted_alternatives all first) (pure first.condition) (λ span. Noted span.line (grammar.AreAlternatives All first)) (Gives first.condition)
-      (λ span. stuck_noted span.line (reading.alternatives all first) (grammar.AreAlternatives All first) (stuck_alternatives first sample_a))
+      (λ first. stuck_either (No mark.And) mark.Or (reading.noted_alternatives all first) (pure first.condition) (λ span. Noted span.line (operands.AreAlternatives All first)) (Gives first.condition)
+      (λ span. stuck_noted span.line (reading.alternatives all first) (operands.AreAlternatives All first) (stuck_alternatives first sample_a))
       (stuck_pure first.condition))
       (λ first next s. s) (λ first. no_by_next mark.And) (λ first. sample_right _ _ (sample_gives _))
 
-sample_all : (One : Rule (tree.Condition Test)) → Sample One → Sample (grammar.IsAll One)
+sample_all : (One : Rule (tree.Condition Test)) → Sample One → Sample (operands.IsAll One)
 sample_all One sample_o = sample_then _ _ sample_o (λ first. sample_right _ _ (sample_gives _))
 
-sample_any : (All : Rule Operand) → Sample All → Sample (grammar.IsAny All)
+sample_any : (All : Rule Operand) → Sample All → Sample (operands.IsAny All)
 sample_any All sample_a = sample_then _ _ sample_a (λ first. sample_right _ _ (sample_gives _))
 
 sample_leaf : Sample (grammar.IsTest fits ⨟ λ t. Gives (tree.Leaf t))
@@ -295,9 +300,11 @@ sample_one zero = sample_right _ _ (sample_right _ _ sample_leaf)
 sample_one (suc room) = sample_right _ _ (sample_right _ _ sample_leaf)
 
 sample_condition : (room : ℕ) → Sample (grammar.IsCondition fits room)
-sample_condition room = sample_any (grammar.IsAll (grammar.IsOne fits room)) (sample_all (grammar.IsOne fits room) (sample_one room))
+sample_condition room =
+    let s = sample_any (operands.IsAll (grammar.IsOne fits room)) (sample_all (grammar.IsOne fits room) (sample_one room)) in
+    record { tail = s.tail; x = s.x; notes = s.notes; said = kept_condition (grammar.IsOne fits room) s.tail s.x s.notes s.said }
 
-abbrev exact_all_at : (room : ℕ) → Exact (reading.all (reading.one fits room)) (grammar.IsAll (grammar.IsOne fits room)) (λ o. No mark.And)
+abbrev exact_all_at : (room : ℕ) → Exact (reading.all (reading.one fits room)) (operands.IsAll (grammar.IsOne fits room)) (λ o. No mark.And)
 exact_all_at room = exact_all (reading.one fits room) (grammar.IsOne fits room) (exact_one fits room)
 
 stuck_leaf : (limit : Limit) → Stuck limit Any (reading.test fits ▸ λ t. pure (tree.Leaf t)) (grammar.IsTest fits ⨟ λ t. Gives (tree.Leaf t)) (grammar.IsTest (wide limit) ⨟ λ t. Gives (tree.Leaf t))
@@ -307,9 +314,12 @@ stuck_leaf limit = stuck_map (reading.test fits) tree.Leaf (grammar.IsTest fits)
 module _ (limit : Limit) (room wide_room : ℕ) (stuck_o : Stuck limit Any (reading.one fits room) (grammar.IsOne fits room) (grammar.IsOne (wide limit) wide_room)) where
   stuck_any_over : Stuck limit Any (reading.condition fits room) (grammar.IsCondition fits room) (grammar.IsCondition (wide limit) wide_room)
   stuck_any_over =
-      stuck_any (reading.all (reading.one fits room)) (grammar.IsAll (grammar.IsOne fits room)) (grammar.IsAll (grammar.IsOne (wide limit) wide_room)) (exact_all_at room)
+      let kept = stuck_any (reading.all (reading.one fits room)) (operands.IsAll (grammar.IsOne fits room)) (operands.IsAll (grammar.IsOne (wide limit) wide_room)) (exact_all_at room)
       (stuck_all (reading.one fits room) (grammar.IsOne fits room) (grammar.IsOne (wide limit) wide_room) (exact_one fits room) stuck_o (sample_one room))
-      (sample_all (grammar.IsOne fits room) (sample_one room))
+      (sample_all (grammar.IsOne fits room) (sample_one room)) in
+      stuck_as Any (reading.condition fits room) (operands.IsAny (operands.IsAll (grammar.IsOne fits room))) (operands.IsAny (operands.IsAll (grammar.IsOne (wide limit) wide_room)))
+      (grammar.IsCondition fits room) (grammar.IsCondition (wide limit) wide_room) (kept_condition (grammar.IsOne fits room)) (kept_condition (grammar.IsOne (wide limit) wide_room))
+      (λ p c ns h. kept_condition (grammar.IsOne (wide limit) wide_room) p c ns (kept.within p c ns (condition_kept (grammar.IsOne fits room) p c ns h))) kept
 
   stuck_group : Stuck limit Any (reading.condition fits room ▸ λ c. expected mark.ParenClose ▸ λ _. pure c) (grammar.IsCondition fits room ⨟ λ c. TheMark mark.ParenClose ⨟ λ _. Gives c)
       (grammar.IsCondition (wide limit) wide_room ⨟ λ c. TheMark mark.ParenClose ⨟ λ _. Gives c)
@@ -415,8 +425,8 @@ statement_by_next a b h s =
 stuck_braced : {limit : Limit} {X : Type 0} (part : Parse (Option X)) (P W : Rule X) (none : List Token → Type 0) → Exact part (Optional P) (Until none Any) → Stuck limit Any part (Optional P) (Optional W) → ByNext none
     → ((x : X) (p : List Token) (ns : List ℕ) → P p x ns → 1 ≤ length p) → none [] → Stuck limit Any (reading.braced part) (grammar.AreBraced P) (grammar.AreBraced W)
 stuck_braced part P W none exact_p stuck_p by_next longer ended =
-    stuck_then_at Any (many part reading.with_last []) _ (Many P reading.with_last []) _ (λ xs. none) (λ xs. Any)
-    (exact_many part reading.with_last P none exact_p longer ended []) (stuck_many {W = W} part reading.with_last P none Any exact_p stuck_p any_by_next longer ended [])
+    stuck_then_at Any (many part rules.with_last []) _ (Many P rules.with_last []) _ (λ xs. none) (λ xs. Any)
+    (exact_many part rules.with_last P none exact_p longer ended []) (stuck_many {W = W} part rules.with_last P none Any exact_p stuck_p any_by_next longer ended [])
     (λ xs. stuck_map (expected mark.BraceClose) (λ _. xs) (TheMark mark.BraceClose) (exact_mark mark.BraceClose) (stuck_mark mark.BraceClose sample_close_brace))
     (λ xs next s. tt) (λ xs. by_next) (λ xs. sample_then _ _ sample_close_brace (λ _. sample_gives _))
 
@@ -505,9 +515,9 @@ module _ (limit : Limit) (statement : Parse (Option (Statement Test Name Wish)))
 
   stuck_items : Stuck limit Any (reading.items (reading.item (reading.part statement))) (grammar.AreItems (grammar.IsItem (grammar.IsPart S))) (grammar.AreItems (grammar.IsItem (grammar.IsPart W)))
   stuck_items =
-      stuck_then_at Any (many (reading.item (reading.part statement)) reading.with_last []) _ (Many (grammar.IsItem (grammar.IsPart S)) reading.with_last []) _ (λ all. NoItem) (λ all. Any)
-      (exact_many (reading.item (reading.part statement)) reading.with_last (grammar.IsItem (grammar.IsPart S)) NoItem (exact_item statement S k) (item_longer statement S k) (refl, (refl, (refl, (refl, (refl, (refl, tt)))))) [])
-      (stuck_many {W = grammar.IsItem (grammar.IsPart W)} (reading.item (reading.part statement)) reading.with_last (grammar.IsItem (grammar.IsPart S)) NoItem Any (exact_item statement S k) stuck_item any_by_next (item_longer statement S k)
+      stuck_then_at Any (many (reading.item (reading.part statement)) rules.with_last []) _ (Many (grammar.IsItem (grammar.IsPart S)) rules.with_last []) _ (λ all. NoItem) (λ all. Any)
+      (exact_many (reading.item (reading.part statement)) rules.with_last (grammar.IsItem (grammar.IsPart S)) NoItem (exact_item statement S k) (item_longer statement S k) (refl, (refl, (refl, (refl, (refl, (refl, tt)))))) [])
+      (stuck_many {W = grammar.IsItem (grammar.IsPart W)} (reading.item (reading.part statement)) rules.with_last (grammar.IsItem (grammar.IsPart S)) NoItem Any (exact_item statement S k) stuck_item any_by_next (item_longer statement S k)
       (refl, (refl, (refl, (refl, (refl, (refl, tt)))))) [])
       (λ all. stuck_map (expected mark.End) (λ _. all) (TheMark mark.End) (exact_mark mark.End) (stuck_mark mark.End sample_end))
       (λ all next s. tt) (λ all. item_by_next) (λ all. sample_then _ _ sample_end (λ _. sample_gives _))

@@ -1,5 +1,6 @@
 pub mod Turns
 pub mod Alternatives
+pub mod Operands
 pub mod Exact
 pub mod Read
 pub mod Wider

@@ -4,7 +4,7 @@ use Rattle.ifs_lex.specs.declared.token.Token.{Token}
 use Rattle.ifs_parse.specs.declared.fault.ParseFault.{ParseFault}
 use Rattle.ifs_parse.specs.declared.fault.ParseFault.TheVariants.{Unexpected, Period, Nesting}
 use Rattle.ifs_parse.specs.Files.{File}
-use Rattle.ifs_parse.specs.Reading.{fits_period}
+use Rattle.ifs_parse.specs.Words.{fits_period}
 use Rattle.ifs_parse.specs.Grammar.{Says, IsAt, GoesOn, NoneGoesOn, NoHelp, Helps, StopsAt, any_period}
 
 -- Two fronts of one list, each with the next token: they are the same, or one goes on from the other.

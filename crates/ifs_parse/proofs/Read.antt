@@ -25,11 +25,16 @@ use Rattle.ifs_parse.specs.declared.block.Statement.TheVariants.{Run, SetState, 
 use Rattle.ifs_parse.specs.Trees as tree
 use Rattle.ifs_parse.specs.Views.{all_of, any_of, block_of}
 use Rattle.ifs_parse.specs.declared.fault.ParseFault.TheVariants.{Period}
-use Rattle.ifs_parse.specs.Combined.{State, state, Parse, line_of, past, found, accepted, marked, unexpected, ◌▸◌, pure, begins, either, expected, no_more, required, many}
+use Rattle.ifs_parse.specs.Combined.{State, state, Parse, line_of, past, found, accepted, unexpected, ◌▸◌, pure, begins, either, expected, no_more, required, many}
+use Rattle.ifs_parse.specs.Words.{marked}
 use Rattle.ifs_parse.specs.Rules.{Rule, Gives, TheMark, ◌⨟◌, ◌or◌, Never, Optional, Noted, Many}
 use Rattle.ifs_parse.specs.Reading as reading
+use Rattle.ifs_parse.specs.Words as words
+use Rattle.ifs_parse.specs.Rules as rules
 use Rattle.ifs_parse.specs.Grammar as grammar
-use Rattle.ifs_parse.proofs.Exact.{Stop, Always, Any, Until, Found, Reads, Exact, exact_pure, exact_token, exact_mark, reads_then, exact_then, exact_map, exact_either, reads_either, many_next, exact_no_more, exact_optional_as, exact_begins, exact_required, reads_many, exact_many, exact_noted, went, told}
+use Rattle.ifs_parse.proofs.Operands as operands
+use Rattle.ifs_parse.proofs.Operands.{condition_kept, kept_condition}
+use Rattle.ifs_parse.proofs.Exact.{exact_as, Stop, Always, Any, Until, Found, Reads, Exact, exact_pure, exact_token, exact_mark, reads_then, exact_then, exact_map, exact_either, reads_either, many_next, exact_no_more, exact_optional_as, exact_begins, exact_required, reads_many, exact_many, exact_noted, went, told}
 
 -- A token that is one mark is not another.
 is_at : (k m n : Mark) → is k m ≡ true → is m n ≡ false → is k n ≡ false
@@ -65,7 +70,7 @@ of_words P a b c d e f g h i j k l word =
     (by_test P _ mark.Every _ g (by_test P _ mark.Link _ h (by_test P _ mark.Up _ i (by_test P _ mark.Down _ j (by_test P _ mark.Unknown mark.Other k l))))))))))
 
 -- A string is neither `!` nor `(`.
-string_is_no_bang : (w : What) (text : List ℕ) → reading.text_of w ≡ Some text → is (mark_of w) mark.Bang ≡ false
+string_is_no_bang : (w : What) (text : List ℕ) → words.text_of w ≡ Some text → is (mark_of w) mark.Bang ≡ false
 unfolding is
 string_is_no_bang (what.Word word) text h = of_words (λ k. is k mark.Bang ≡ false) refl refl refl refl refl refl refl refl refl refl refl refl word
 string_is_no_bang (what.Quoted t) text h = refl
@@ -80,7 +85,7 @@ string_is_no_bang what.And text h = absurd (cc)
 string_is_no_bang what.Or text h = absurd (cc)
 string_is_no_bang what.End text h = absurd (cc)
 
-string_is_no_paren : (w : What) (text : List ℕ) → reading.text_of w ≡ Some text → is (mark_of w) mark.ParenOpen ≡ false
+string_is_no_paren : (w : What) (text : List ℕ) → words.text_of w ≡ Some text → is (mark_of w) mark.ParenOpen ≡ false
 unfolding is
 string_is_no_paren (what.Word word) text h = of_words (λ k. is k mark.ParenOpen ≡ false) refl refl refl refl refl refl refl refl refl refl refl refl word
 string_is_no_paren (what.Quoted t) text h = refl
@@ -99,15 +104,15 @@ mapped : {A B : Type 0} (f : A → B) (o : Option A) (b : B) → option_map f o 
 mapped f None b h = absurd (cc)
 mapped f (Some a) b h = (a, refl)
 
-string_apart : (m : Mark) → ((w : What) (text : List ℕ) → reading.text_of w ≡ Some text → is (mark_of w) m ≡ false) → {X : Type 0} (Q : Name → Rule X)
+string_apart : (m : Mark) → ((w : What) (text : List ℕ) → words.text_of w ≡ Some text → is (mark_of w) m ≡ false) → {X : Type 0} (Q : Name → Rule X)
     → (x : X) (p : List Token) (ns : List ℕ) (next : List Token) → (grammar.IsString ⨟ Q) p x ns → accepted m (p ++ next) ≡ None
 string_apart m differ Q x p ns next h =
-    let text = mapped (λ text. record { text = text; span = h.first.token.span }) (reading.text_of h.first.token.what) h.x h.first.stands in
+    let text = mapped (λ text. record { text = text; span = h.first.token.span }) (words.text_of h.first.token.what) h.x h.first.stands in
     ap (λ (l : List Token). accepted m (l ++ next)) (h.tokens_are ∙ ap (λ (l : List Token). l ++ h.back) h.first.only)
     ∙ ap (λ b. cond b (Some h.first.token.span) None) (differ h.first.token.what text.0 text.1)
 
 pub exact_string : Exact reading.string grammar.IsString Always
-exact_string = exact_token reading.name_of
+exact_string = exact_token words.name_of
 
 module _ (fits : ℕ → Bool) where
   fits_by : (n : ℕ) (b : Bool) (x : ℕ) → fits n ≡ b → (if b then Some n else None) ≡ Some x → (Some n ≡ Some x) × (fits x ≡ true)
@@ -118,11 +123,11 @@ module _ (fits : ℕ → Bool) where
   fitted None x e = absurd (cc)
   fitted (Some n) x e = fits_by n (fits n) x refl e
 
-  period_again : (u : Token) (x : ℕ) (q : List Token) (m : List ℕ) → grammar.fitting fits (reading.number_of_what u.what) ≡ Some x
+  period_again : (u : Token) (x : ℕ) (q : List Token) (m : List ℕ) → grammar.fitting fits (words.number_of_what u.what) ≡ Some x
       → reading.period fits (state (u ∷ q) m) ≡ Ok (x, state q (m ++ []))
-  period_again u x q m h = let f = fitted (reading.number_of_what u.what) x h in rw (f.0, f.1, append-nil m)
+  period_again u x q m h = let f = fitted (words.number_of_what u.what) x h in rw (f.0, f.1, append-nil m)
 
-  period_fits : (u : Token) (ts : List Token) (m : List ℕ) (n : ℕ) → reading.number_of_what u.what ≡ Some n → (b : Bool) → fits n ≡ b → (x : ℕ) (t : State)
+  period_fits : (u : Token) (ts : List Token) (m : List ℕ) (n : ℕ) → words.number_of_what u.what ≡ Some n → (b : Bool) → fits n ≡ b → (x : ℕ) (t : State)
       → if◌then◌else◌ {A = Result (ℕ × State) ParseFault} b (Ok (n, state ts m)) (Err (Period u.span.line)) ≡ Ok (x, t) → Found (grammar.IsPeriod fits) Always (state (u ∷ ts) m) x t
   period_fits u ts m n h false k x t e = absurd (cc)
   period_fits u ts m n h true k x t e =
@@ -137,7 +142,7 @@ module _ (fits : ℕ → Bool) where
         stops = tt;
       })
 
-  period_found : (ts : List Token) (m : List ℕ) (o : Option ℕ) → found (λ t. reading.number_of_what t.what) ts ≡ o → (x : ℕ) (t : State)
+  period_found : (ts : List Token) (m : List ℕ) (o : Option ℕ) → found (λ t. words.number_of_what t.what) ts ≡ o → (x : ℕ) (t : State)
       → option_map_or (λ n. if fits n then Ok (n, past (state ts m)) else Err (Period (line_of ts))) o (unexpected (state ts m)) ≡ Ok (x, t)
       → Found (grammar.IsPeriod fits) Always (state ts m) x t
   period_found ts m None h x t e = absurd (cc)
@@ -147,13 +152,13 @@ module _ (fits : ℕ → Bool) where
   pub exact_period : Exact (reading.period fits) (grammar.IsPeriod fits) Always
   exact_period = record {
     again = λ p x ns q m h stop. rw (h.only, h.unnoted) (period_again h.token x q m h.stands);
-    reads = λ s x t a e. period_found s.left s.notes (found (λ t. reading.number_of_what t.what) s.left) refl x t e;
+    reads = λ s x t a e. period_found s.left s.notes (found (λ t. words.number_of_what t.what) s.left) refl x t e;
   }
 
   link_test_exact : (name : Name) → Exact (reading.link_test name) (grammar.IsLinkTest name) Always
   link_test_exact name =
       exact_then _ _ _ _ _ (exact_mark mark.Link) (λ _. exact_then _ _ _ _ _ (exact_mark mark.Dot) (λ _.
-      exact_map _ _ _ (exact_token (λ t. reading.link_state_of (mark_of t.what)))))
+      exact_map _ _ _ (exact_token (λ t. words.link_state_of (mark_of t.what)))))
 
   dot_every : is mark.Every mark.Dot ≡ false
   unfolding is
@@ -190,18 +195,18 @@ exact_next m operand O some exact_o =
     (exact_begins m (λ _. operand) no_more (λ _. O) Never Any some (λ _. exact_o) (exact_no_more some) (λ x p ns next h. absurd h))
 
 module _ (one : Parse (tree.Condition Test)) (One : Rule (tree.Condition Test)) (exact_o : Exact one One Always) where
-  exact_chain : (first : tree.Condition Test) → Exact (reading.chain one first) (grammar.IsChain One first) (λ o. No mark.And)
+  exact_chain : (first : tree.Condition Test) → Exact (reading.chain one first) (operands.IsChain One first) (λ o. No mark.And)
   exact_chain first =
       exact_then one _ One _ (λ o. No mark.And) exact_o (λ second.
-      reads_map Any (No mark.And) (many (reading.next_operand mark.And one) reading.with_last [])
-      (λ rest. reading.operand (all_of (tree.And first second) rest) true) (Many (TheMark mark.And ⨟ λ _. One) reading.with_last [])
-      (exact_many (reading.next_operand mark.And one) reading.with_last (TheMark mark.And ⨟ λ _. One) (No mark.And)
+      reads_map Any (No mark.And) (many (reading.next_operand mark.And one) rules.with_last [])
+      (λ rest. reading.operand (all_of (tree.And first second) rest) true) (Many (TheMark mark.And ⨟ λ _. One) rules.with_last [])
+      (exact_many (reading.next_operand mark.And one) rules.with_last (TheMark mark.And ⨟ λ _. One) (No mark.And)
       (exact_next mark.And one One Any exact_o) (λ x p ns h. begins_longer mark.And (λ _. One) p x ns h) (refl, tt) []))
 
-  pub exact_all : Exact (reading.all one) (grammar.IsAll One) (λ o. No mark.And)
+  pub exact_all : Exact (reading.all one) (operands.IsAll One) (λ o. No mark.And)
   exact_all =
       exact_then one _ One _ (λ o. No mark.And) exact_o (λ first.
-      reads_either Any mark.And (λ _. reading.chain one first) (pure (reading.operand first false)) (λ _. grammar.IsChain One first) (Gives (reading.operand first false))
+      reads_either Any mark.And (λ _. reading.chain one first) (pure (reading.operand first false)) (λ _. operands.IsChain One first) (Gives (reading.operand first false))
       (λ o. No mark.And) Always (λ o. No mark.And) (λ _. exact_chain first) (exact_pure (reading.operand first false))
       (λ x next s. s) (λ x next s. s)
       (λ x p ns next h s. (ap (λ (l : List Token). accepted mark.And (l ++ next)) h.none ∙ s.0, tt))
@@ -225,7 +230,7 @@ module _ (all : Parse Operand) (All : Rule Operand) (exact_a : Exact all All (λ
       reads_many (reading.next_operand mark.Or all) reading.with_operand (TheMark mark.Or ⨟ λ _. All) (No mark.Or) (No mark.And)
       (exact_next mark.Or all All (No mark.And) exact_a) (no_and (λ _. All)) (λ x p ns h. begins_longer mark.Or (λ _. All) p x ns h) (refl, tt) begun
 
-  exact_alternatives : (first : Operand) → Exact (reading.alternatives all first) (grammar.AreAlternatives All first) (λ r. Over)
+  exact_alternatives : (first : Operand) → Exact (reading.alternatives all first) (operands.AreAlternatives All first) (λ r. Over)
   exact_alternatives first =
       reads_then Any all _ All _ (λ o. No mark.And) (λ second. No mark.And) (λ second r. Over) (λ r. Over) exact_a
       (λ second. reads_map (No mark.And) Over (many (reading.next_operand mark.Or all) reading.with_operand (reading.others [] (first.is_chain || second.is_chain)))
@@ -238,18 +243,18 @@ module _ (all : Parse Operand) (All : Rule Operand) (exact_a : Exact all All (λ
       (λ second r back ns next h a b. b)
 
   any_next : (first : Operand) (c : tree.Condition Test) (back : List Token) (ns : List ℕ) (next : List Token)
-      → ((TheMark mark.Or ⨟ λ span. Noted span.line (grammar.AreAlternatives All first)) or Gives first.condition) back c ns → Over next → No mark.And (back ++ next)
-  any_next first c back ns next (inl h) s = no_and (λ span. Noted span.line (grammar.AreAlternatives All first)) c back ns next h
+      → ((TheMark mark.Or ⨟ λ span. Noted span.line (operands.AreAlternatives All first)) or Gives first.condition) back c ns → Over next → No mark.And (back ++ next)
+  any_next first c back ns next (inl h) s = no_and (λ span. Noted span.line (operands.AreAlternatives All first)) c back ns next h
   any_next first c back ns next (inr h) s = subst (λ (l : List Token). No mark.And (l ++ next)) (sym h.none) s.1
 
-  pub exact_any : Exact (reading.any all) (grammar.IsAny All) (λ c. Over)
+  pub exact_any : Exact (reading.any all) (operands.IsAny All) (λ c. Over)
   exact_any =
       reads_then Any all _ All _ (λ o. No mark.And) (λ first. No mark.And) (λ first c. Over) (λ c. Over) exact_a
       (λ first.
       reads_either (No mark.And) mark.Or (reading.noted_alternatives all first) (pure first.condition)
-      (λ span. Noted span.line (grammar.AreAlternatives All first)) (Gives first.condition)
+      (λ span. Noted span.line (operands.AreAlternatives All first)) (Gives first.condition)
       (λ c. Over) Always (λ c. Over)
-      (λ span. exact_noted span.line (reading.alternatives all first) (grammar.AreAlternatives All first) Over (exact_alternatives first)) (exact_pure first.condition)
+      (λ span. exact_noted span.line (reading.alternatives all first) (operands.AreAlternatives All first) Over (exact_alternatives first)) (exact_pure first.condition)
       (λ x next s. s) (λ x next s. s)
       (λ x p ns next h s. (ap (λ (l : List Token). accepted mark.Or (l ++ next)) h.none ∙ s.0.0, tt))
       (λ x p ns next h begun a b. (
@@ -259,6 +264,13 @@ module _ (all : Parse Operand) (All : Rule Operand) (exact_a : Exact all All (λ
       (λ first next s. s)
       (λ first c back ns next h s. (any_next first c back ns next h s, s))
       (λ first c back ns next h a b. b)
+
+-- The same by the whole lists of operands.
+exact_operands : (one : Parse (tree.Condition Test)) (One : Rule (tree.Condition Test)) → Exact one One Always
+    → Exact (reading.any (reading.all one)) (grammar.IsAny (grammar.IsAll One)) (λ c. Over)
+exact_operands one One exact_o =
+    exact_as (reading.any (reading.all one)) (operands.IsAny (operands.IsAll One)) (grammar.IsAny (grammar.IsAll One)) (λ c. Over)
+    (kept_condition One) (condition_kept One) (exact_any (reading.all one) (operands.IsAll One) (exact_all one One exact_o))
 
 -- Nothing more can be open.
 exact_deep : {X : Type 0} (span : Span) (stop : Stop X) → Exact (reading.deep span) Never stop
@@ -302,7 +314,7 @@ module _ (fits : ℕ → Bool) (negated grouped : Span → Parse (tree.Condition
       (λ c. exact_map (expected mark.ParenClose) (λ _. c) (TheMark mark.ParenClose) (exact_mark mark.ParenClose)) (λ c next s. tt)
       (λ c x back ns next h s. (close_ends (λ _. Gives c) x back ns next h, tt)) (λ c x back ns next h a b. tt)
 
-  test_apart : (m : Mark) → ((w : What) (text : List ℕ) → reading.text_of w ≡ Some text → is (mark_of w) m ≡ false)
+  test_apart : (m : Mark) → ((w : What) (text : List ℕ) → words.text_of w ≡ Some text → is (mark_of w) m ≡ false)
       → (c : tree.Condition Test) (p : List Token) (ns : List ℕ) (next : List Token) → (grammar.IsTest fits ⨟ λ t. Gives (tree.Leaf t)) p c ns → accepted m (p ++ next) ≡ None
   test_apart m differ = then_apart m (grammar.IsTest fits) (λ t. Gives (tree.Leaf t)) (string_apart m differ _)
 
@@ -323,11 +335,11 @@ exact_one fits zero = exact_one_over fits reading.deep reading.deep Never Never 
 exact_one fits (suc room) =
     exact_one_over fits (λ _. reading.one fits room) (λ _. reading.any (reading.all (reading.one fits room)))
     (grammar.IsOne fits room) (grammar.IsAny (grammar.IsAll (grammar.IsOne fits room))) (λ span. exact_one fits room)
-    (λ span. exact_any (reading.all (reading.one fits room)) (grammar.IsAll (grammar.IsOne fits room)) (exact_all (reading.one fits room) (grammar.IsOne fits room) (exact_one fits room)))
+    (λ span. exact_operands (reading.one fits room) (grammar.IsOne fits room) (exact_one fits room))
 
 pub exact_condition : (fits : ℕ → Bool) (room : ℕ) → Exact (reading.condition fits room) (grammar.IsCondition fits room) (λ c. Over)
 exact_condition fits room =
-    exact_any (reading.all (reading.one fits room)) (grammar.IsAll (grammar.IsOne fits room)) (exact_all (reading.one fits room) (grammar.IsOne fits room) (exact_one fits room))
+    exact_operands (reading.one fits room) (grammar.IsOne fits room) (exact_one fits room)
 
 -- The notes before stay, and more come after them.
 pub notes_stay : (fits : ℕ → Bool) (room : ℕ) (begun more : reading.Others) (second : Operand) (s t u : State) → reading.all (reading.one fits room) s ≡ Ok (second, t)
@@ -335,7 +347,7 @@ pub notes_stay : (fits : ℕ → Bool) (room : ℕ) (begun more : reading.Others
 notes_stay fits room begun more second s t u reads goes =
     let exact_a = exact_all (reading.one fits room) (grammar.IsOne fits room) (exact_one fits room) in
     let f = exact_a.reads s second t tt reads in
-    let g = (reads_more (reading.all (reading.one fits room)) (grammar.IsAll (grammar.IsOne fits room)) exact_a begun).reads t more u f.stops goes in
+    let g = (reads_more (reading.all (reading.one fits room)) (operands.IsAll (grammar.IsOne fits room)) exact_a begun).reads t more u f.stops goes in
     omega (arith, length-append s.notes f.notes, length-append t.notes g.notes, ap length f.noted, ap length g.noted)
 
 -- No statement is next.
@@ -411,8 +423,8 @@ pub exact_braced : {X : Type 0} (part : Parse (Option X)) (P : Rule X) (none : L
     → ((Q : Span → Rule (List X)) (x : List X) (p : List Token) (ns : List ℕ) (next : List Token) → (TheMark mark.BraceClose ⨟ Q) p x ns → none (p ++ next))
     → Exact (reading.braced part) (grammar.AreBraced P) Always
 exact_braced part P none exact_p longer ended closes =
-    reads_then Any (many part reading.with_last []) _ (Many P reading.with_last []) _ (λ xs. none) (λ xs. Any) (λ xs. Always) Always
-    (exact_many part reading.with_last P none exact_p longer ended [])
+    reads_then Any (many part rules.with_last []) _ (Many P rules.with_last []) _ (λ xs. none) (λ xs. Any) (λ xs. Always) Always
+    (exact_many part rules.with_last P none exact_p longer ended [])
     (λ xs. exact_map (expected mark.BraceClose) (λ _. xs) (TheMark mark.BraceClose) (exact_mark mark.BraceClose)) (λ xs next s. tt)
     (λ xs x back ns next h s. (closes (λ _. Gives xs) x back ns next h, tt)) (λ xs x back ns next h a b. tt)
 
@@ -670,7 +682,7 @@ module _ (statement : Parse (Option (Statement Test Name Wish))) (S : Rule (Stat
 
   pub exact_items : Exact (reading.items (reading.item (reading.part statement))) (grammar.AreItems (grammar.IsItem (grammar.IsPart S))) Always
   exact_items =
-      reads_then Any (many (reading.item (reading.part statement)) reading.with_last []) _ (Many (grammar.IsItem (grammar.IsPart S)) reading.with_last []) _ (λ all. NoItem) (λ all. Any) (λ all. Always) Always
-      (exact_many (reading.item (reading.part statement)) reading.with_last (grammar.IsItem (grammar.IsPart S)) NoItem exact_item item_longer (refl, (refl, (refl, (refl, (refl, (refl, tt)))))) [])
+      reads_then Any (many (reading.item (reading.part statement)) rules.with_last []) _ (Many (grammar.IsItem (grammar.IsPart S)) rules.with_last []) _ (λ all. NoItem) (λ all. Any) (λ all. Always) Always
+      (exact_many (reading.item (reading.part statement)) rules.with_last (grammar.IsItem (grammar.IsPart S)) NoItem exact_item item_longer (refl, (refl, (refl, (refl, (refl, (refl, tt)))))) [])
       (λ all. exact_map (expected mark.End) (λ _. all) (TheMark mark.End) (exact_mark mark.End)) (λ all next s. tt)
       (λ all x back ns next h s. (ends_items (λ _. Gives all) x back ns next h, tt)) (λ all x back ns next h a b. tt)

@@ -10,7 +10,8 @@ use Rattle.ifs_parse.specs.declared.fault.ParseFault.TheVariants.{Unexpected, Pe
 use Rattle.ifs_parse.specs.declared.mark.Mark.{Mark}
 use Rattle.ifs_parse.specs.Reading as reading
 use Rattle.ifs_parse.specs.Grammar.{IsAt}
-use Rattle.ifs_parse.specs.Combined.{State, state, Parse, past, line_of, ◌>>=◌, ◌▸◌, pure, found, accepted, one_token, either, unexpected, marked, begins, no_more, required, many, many_from}
+use Rattle.ifs_parse.specs.Combined.{State, state, Parse, past, line_of, ◌>>=◌, ◌▸◌, pure, found, accepted, one_token, either, unexpected, begins, no_more, required, many, many_from}
+use Rattle.ifs_parse.specs.Words.{marked}
 use Rattle.ifs_parse.specs.Rules.{Rule, Gives, OneToken, TheMark, ◌⨟◌, ◌or◌, Never, Optional, Noted, Many, Enough, More}
 use Rattle.ifs_parse.proofs.Exact.{Always, Any, Until, Found, Reads, Exact}
 

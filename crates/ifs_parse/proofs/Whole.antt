@@ -12,7 +12,8 @@ use Rattle.ifs_parse.specs.Files.{File, file}
 use Rattle.ifs_parse.specs.Marks.{mark_of, is}
 use Rattle.ifs_parse.specs.Combined.{State, state, Parse, ◌>>=◌}
 use Rattle.ifs_parse.specs.Reading as reading
-use Rattle.ifs_parse.specs.Reading.{read_within, fits_period}
+use Rattle.ifs_parse.specs.Words.{fits_period}
+use Rattle.ifs_parse.specs.Reading.{read_within}
 use Rattle.ifs_parse.specs.Grammar as grammar
 use Rattle.ifs_parse.specs.Grammar.{SaysWithin, Says}
 use Rattle.ifs_parse.proofs.Exact.{went, inside}

@@ -18,6 +18,8 @@ use Rattle.ifs_parse.specs.Trees as tree
 use Rattle.ifs_parse.specs.Files.{file}
 use Rattle.ifs_parse.specs.Combined.{State, state, Parse, past, line_of, ◌>>=◌, ◌▸◌, pure, found, accepted, either, begins, expected, unexpected, no_more, required, many, many_from}
 use Rattle.ifs_parse.specs.Reading as reading
+use Rattle.ifs_parse.specs.Words as words
+use Rattle.ifs_parse.specs.Rules as rules
 use Rattle.ifs_parse.specs.Reading.{read_within}
 
 module _ (kept : ParseFault → Type 0) where
@@ -76,8 +78,8 @@ module _ (kept : ParseFault → Type 0) where
     follows_chain : (first : tree.Condition Test) → Follows (reading.chain one first) (reading.chain two first)
     follows_chain first =
         follows_then one two _ _ h
-        (λ second. follows_map (many (reading.next_operand mark.And one) reading.with_last []) (many (reading.next_operand mark.And two) reading.with_last []) _
-        (follows_many (reading.next_operand mark.And one) (reading.next_operand mark.And two) reading.with_last (follows_next mark.And one two h) []))
+        (λ second. follows_map (many (reading.next_operand mark.And one) rules.with_last []) (many (reading.next_operand mark.And two) rules.with_last []) _
+        (follows_many (reading.next_operand mark.And one) (reading.next_operand mark.And two) rules.with_last (follows_next mark.And one two h) []))
 
     follows_all : Follows (reading.all one) (reading.all two)
     follows_all =
@@ -101,7 +103,7 @@ module _ (kept : ParseFault → Type 0) where
 
   follows_braced : {X : Type 0} (part other : Parse (Option X)) → Follows part other → Follows (reading.braced part) (reading.braced other)
   follows_braced part other h =
-      follows_map (many part reading.with_last []) (many other reading.with_last []) _ (follows_many part other reading.with_last h [])
+      follows_map (many part rules.with_last []) (many other rules.with_last []) _ (follows_many part other rules.with_last h [])
 
   module _ (p u : Parse (Option (Statement Test Name Wish))) (h : Follows p u) where
     follows_block : Follows (reading.block p) (reading.block u)
@@ -127,8 +129,8 @@ module _ (kept : ParseFault → Type 0) where
 
     follows_items : Follows (reading.items (reading.item (reading.part p))) (reading.items (reading.item (reading.part u)))
     follows_items =
-        follows_map (many (reading.item (reading.part p)) reading.with_last []) (many (reading.item (reading.part u)) reading.with_last []) _
-        (follows_many (reading.item (reading.part p)) (reading.item (reading.part u)) reading.with_last follows_item [])
+        follows_map (many (reading.item (reading.part p)) rules.with_last []) (many (reading.item (reading.part u)) rules.with_last []) _
+        (follows_many (reading.item (reading.part p)) (reading.item (reading.part u)) rules.with_last follows_item [])
 
   module _ (fits wide : ℕ → Bool) (wider : (n : ℕ) → fits n ≡ true → wide n ≡ true) (kept_period : (line n : ℕ) → kept (Period line) → wide n ≡ fits n) where
     alike_if : {A : Type 0} (b c : Bool) (r : Result A ParseFault) (line : ℕ) → (b ≡ true → c ≡ true) → (kept (Period line) → c ≡ b) → (a : A)
@@ -138,7 +140,7 @@ module _ (kept : ParseFault → Type 0) where
 
     follows_period : Follows (reading.period fits) (reading.period wide)
     follows_period s =
-        alike_option (found (λ t. reading.number_of_what t.what) s.left) _ _ _ _
+        alike_option (found (λ t. words.number_of_what t.what) s.left) _ _ _ _
         (λ n. alike_if (fits n) (wide n) (Ok (n, past s)) (line_of s.left) (wider n) (kept_period (line_of s.left) n) (n, past s)) (alike_same (unexpected s))
 
     follows_test : Follows (reading.test fits) (reading.test wide)

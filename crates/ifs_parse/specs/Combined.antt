@@ -1,12 +1,12 @@
 -- What parsers are made of: each takes tokens from the left, and looks one token ahead.
-use Rattle.std.specs.Prelude.{◌≡◌, ◌≢◌, ℕ, zero, suc, cond, List, [], ◌∷◌, drop, length, Option, Some, None, Result, Ok, Err, MatchResult}
+use Rattle.std.specs.Prelude.{◌≡◌, ◌≢◌, ℕ, zero, suc, List, [], ◌∷◌, drop, length, Option, Some, None, Result, Ok, Err, MatchResult}
 use Rattle.std.specs.Option.{option_map_or}
 use Rattle.ifs_base.specs.declared.span.Span.{Span}
 use Rattle.ifs_lex.specs.declared.token.Token.{Token}
 use Rattle.ifs_parse.specs.declared.fault.ParseFault.{ParseFault}
 use Rattle.ifs_parse.specs.declared.fault.ParseFault.TheVariants.{Unexpected, Memory}
 use Rattle.ifs_parse.specs.declared.mark.Mark.{Mark}
-use Rattle.ifs_parse.specs.Marks.{mark_of, is}
+use Rattle.ifs_parse.specs.Words.{marked}
 
 -- The tokens that are left, and the lines of the notes so far.
 pub record State : Type 0 where
@@ -43,10 +43,6 @@ unexpected s = Err (Unexpected (line_of s.left))
 abbrev pub found : {X : Type 0} → (Token → Option X) → List Token → Option X
 found what [] = None
 found what (t ∷ ts) = what t
-
--- The span of a token that is this mark.
-abbrev pub marked : Mark → Token → Option Span
-marked mark t = cond (is (mark_of t.what) mark) (Some t.span) None
 
 -- The first token, where it is this mark, by its span.
 abbrev pub accepted : Mark → List Token → Option Span

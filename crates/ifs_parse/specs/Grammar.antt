@@ -1,7 +1,9 @@
 -- The grammar of policies: which tokens say which file, with which notes; one rule a line of the grammar.
-use Rattle.std.specs.Prelude.{◌≡◌, ℕ, zero, suc, Bool, true, false, ◌||◌, if◌then◌else◌, List, [], ◌∷◌, Option, Some, None, ◌⊎◌, ◌++◌}
+use Rattle.std.specs.Prelude.{◌≡◌, ℕ, zero, suc, Bool, true, false, ◌&&◌, if◌then◌else◌, List, [], ◌∷◌, Option, Some, None, ◌⊎◌, ◌++◌, map}
+use Rattle.std.specs.List.{list_any}
 use Rattle.ifs_base.specs.declared.op.LinkState.{LinkState}
 use Rattle.ifs_lex.specs.declared.token.Token.{Token}
+use Rattle.ifs_parse.specs.declared.mark.Mark.{Mark}
 use Rattle.ifs_parse.specs.declared.mark.Mark.TheVariants as mark
 use Rattle.ifs_parse.specs.declared.tree.Name.{Name}
 use Rattle.ifs_parse.specs.declared.tree.Test.{Test}
@@ -13,15 +15,14 @@ use Rattle.ifs_parse.specs.declared.tree.Item.{Item}
 use Rattle.ifs_parse.specs.declared.tree.Item.TheVariants.{InitState, State, Always}
 use Rattle.ifs_parse.specs.declared.block.Statement.{Statement}
 use Rattle.ifs_parse.specs.declared.block.Statement.TheVariants.{Run, SetState, If}
-use Rattle.ifs_parse.specs.declared.parser.Operand.{Operand}
 use Rattle.ifs_parse.specs.Trees as tree
 use Rattle.ifs_parse.specs.Views.{all_of, any_of, block_of}
 use Rattle.ifs_parse.specs.Files.{File}
 use Rattle.ifs_parse.specs.Marks.{mark_of}
-use Rattle.ifs_parse.specs.Reading.{fits_period, name_of, link_state_of, number_of_what, operand, others, with_last, with_operand}
+use Rattle.ifs_parse.specs.Words.{fits_period, name_of, link_state_of, number_of_what}
 use Rattle.ifs_parse.specs.declared.fault.ParseFault.{ParseFault}
 use Rattle.ifs_parse.specs.declared.fault.ParseFault.TheVariants.{Unexpected, Period, Nesting, Memory}
-use Rattle.ifs_parse.specs.Rules.{Rule, Gives, OneToken, TheMark, ◌⨟◌, ◌or◌, Never, Noted, Many}
+use Rattle.ifs_parse.specs.Rules.{Rule, Gives, OneToken, TheMark, ◌⨟◌, ◌or◌, Never, Noted, Many, with_last}
 
 -- string : a word that is not reserved | a quoted text
 abbrev pub IsString : Rule Name
@@ -48,23 +49,56 @@ IsLinkTest name = TheMark mark.Link ⨟ λ _. TheMark mark.Dot ⨟ λ _. IsLinkS
 abbrev pub IsTest : (ℕ → Bool) → Rule Test
 IsTest fits = IsString ⨟ λ name. (TheMark mark.Dot ⨟ λ _. IsLinkTest name) or (TheMark mark.Every ⨟ λ _. IsPeriod fits ⨟ λ n. Gives (External name n))
 
--- What follows `one "&&"` : one { "&&" one }
-abbrev pub IsChain : Rule (tree.Condition Test) → tree.Condition Test → Rule Operand
-IsChain one first = one ⨟ λ second. Many (TheMark mark.And ⨟ λ _. one) with_last [] ⨟ λ rest. Gives (operand (all_of (tree.And first second) rest) true)
+-- Operands that a sign joins: the first, and the others in order.
+pub record Operands (X : Type 0) : Type 0 where
+  pub first : X
+  pub others : List X
+
+abbrev pub operands : {X : Type 0} → X → List X → Operands X
+operands first others = record { first = first; others = others }
+
+-- All of them, in order.
+abbrev pub whole : {X : Type 0} → Operands X → List X
+whole o = o.first ∷ o.others
+
+-- There are two or more.
+abbrev pub two_or_more : {X : Type 0} → List X → Bool
+two_or_more [] = false
+two_or_more (only ∷ []) = false
+two_or_more (first ∷ second ∷ rest) = true
+
+-- A chain: two or more operands.
+abbrev pub is_chain : {X : Type 0} → Operands X → Bool
+is_chain o = two_or_more (whole o)
+
+-- Operands of `||` that get a note: there are two or more, and one of them, whichever it is, is a chain.
+abbrev pub is_noted : {X : Type 0} → Operands (Operands X) → Bool
+is_noted o = is_chain o && list_any is_chain (whole o)
+
+-- What operands of `&&` say.
+abbrev pub conjunction : Operands (tree.Condition Test) → tree.Condition Test
+conjunction o = all_of o.first o.others
+
+-- What operands of `||` say.
+abbrev pub disjunction : Operands (Operands (tree.Condition Test)) → tree.Condition Test
+disjunction o = any_of (conjunction o.first) (map conjunction o.others)
+
+-- one { sign one }
+abbrev pub Joined : {X : Type 0} → Mark → Rule X → Rule (Operands X)
+Joined sign one = one ⨟ λ first. Many (TheMark sign ⨟ λ _. one) with_last [] ⨟ λ others. Gives (operands first others)
 
 -- all : one { "&&" one }
-abbrev pub IsAll : Rule (tree.Condition Test) → Rule Operand
-IsAll one = one ⨟ λ first. (TheMark mark.And ⨟ λ _. IsChain one first) or Gives (operand first false)
+abbrev pub IsAll : Rule (tree.Condition Test) → Rule (Operands (tree.Condition Test))
+IsAll one = Joined mark.And one
 
--- What follows `all "||"` : all { "||" all }, and whether an operand is a chain.
-abbrev pub AreAlternatives : Rule Operand → Operand → Rule (tree.Condition Test × Bool)
-AreAlternatives all first =
-    all ⨟ λ second. Many (TheMark mark.Or ⨟ λ _. all) with_operand (others [] (first.is_chain || second.is_chain)) ⨟ λ more.
-    Gives (any_of (tree.Or first.condition second.condition) more.rest, more.is_mixed)
+-- What operands of `||` say, and whether they get a note.
+abbrev pub said_by : Operands (Operands (tree.Condition Test)) → tree.Condition Test × Bool
+said_by o = (disjunction o, is_noted o)
 
--- any : all { "||" all }, with a note on the line of its first `||` where an operand is a chain
-abbrev pub IsAny : Rule Operand → Rule (tree.Condition Test)
-IsAny all = all ⨟ λ first. (TheMark mark.Or ⨟ λ span. Noted span.line (AreAlternatives all first)) or Gives first.condition
+-- any : all { "||" all }, with a note on the line of its first `||` where its operands get one
+abbrev pub IsAny : Rule (Operands (tree.Condition Test)) → Rule (tree.Condition Test)
+IsAny all =
+    all ⨟ λ first. (TheMark mark.Or ⨟ λ span. Noted span.line (Joined mark.Or all ⨟ λ more. Gives (said_by (operands first (whole more))))) or Gives (conjunction first)
 
 -- one, by what stands after "!" and within "(" and ")"
 abbrev pub IsOneOver : Rule (tree.Condition Test) → Rule (tree.Condition Test) → Rule Test → Rule (tree.Condition Test)

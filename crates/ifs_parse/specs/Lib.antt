@@ -2,8 +2,9 @@ pub mod Trees
 pub mod Views
 pub mod Files
 pub mod Marks
-pub mod Combined
+pub mod Words
 pub mod Rules
+pub mod Combined
 pub mod Reading
 pub mod Grammar
 pub mod Parsers

@@ -1,14 +1,9 @@
 -- What tokens say, read from the left: one parser a line of the grammar.
-use Rattle.std.specs.Prelude.{ℕ, zero, suc, Bool, true, false, ◌&&◌, ◌||◌, nat_le, if◌then◌else◌, List, [], ◌∷◌, ◌++◌, length, insert, Option, Some, None, option_map, Result, Ok, Err}
+use Rattle.std.specs.Prelude.{ℕ, zero, suc, Bool, true, false, ◌||◌, if◌then◌else◌, List, [], ◌∷◌, ◌++◌, length, insert, Option, Some, None, option_map, Result, Ok, Err}
 use Rattle.std.specs.Option.{option_map_or}
 use Rattle.ifs_base.specs.declared.op.LinkState.{LinkState}
-use Rattle.ifs_base.specs.declared.op.LinkState.TheVariants as link
 use Rattle.ifs_base.specs.declared.span.Span.{Span}
-use Rattle.ifs_base.specs.Numbers.{number_of}
-use Rattle.ifs_lex.specs.Characters.{is_reserved}
 use Rattle.ifs_lex.specs.declared.token.Token.{Token}
-use Rattle.ifs_lex.specs.declared.token.What.{What}
-use Rattle.ifs_lex.specs.declared.token.What.TheVariants.{Word, Quoted}
 use Rattle.ifs_parse.specs.declared.fault.ParseFault.{ParseFault}
 use Rattle.ifs_parse.specs.declared.fault.ParseFault.TheVariants.{Period, Nesting}
 use Rattle.ifs_parse.specs.declared.mark.Mark.{Mark}
@@ -28,46 +23,22 @@ use Rattle.ifs_parse.specs.Trees as tree
 use Rattle.ifs_parse.specs.Views.{all_of, any_of, block_of}
 use Rattle.ifs_parse.specs.Files.{File, file}
 use Rattle.ifs_parse.specs.Marks.{mark_of}
+use Rattle.ifs_parse.specs.Words.{name_of, link_state_of, number_of_what}
+use Rattle.ifs_parse.specs.Rules.{with_last}
 use Rattle.ifs_parse.specs.Combined as combined
 use Rattle.ifs_parse.specs.Combined.{Parse, state, ◌>>=◌, ◌▸◌, pure, past, one_token, either, begins, no_more, required, expected, unexpected, accepted, found, many, line_of}
-
--- The text of a string: a word that is not reserved, or a quoted text.
-abbrev pub text_of : What → Option (List ℕ)
-text_of (Word word) = if is_reserved word then None else Some word
-text_of (Quoted text) = Some text
-text_of _ = None
-
--- The name that a token is.
-abbrev pub name_of : Token → Option Name
-name_of t = option_map (λ text. record { text = text; span = t.span }) (text_of t.what)
 
 -- string : a word that is not reserved | a quoted text
 abbrev pub string : Parse Name
 string = one_token name_of
 
--- The link state that a word names.
-abbrev pub link_state_of : Mark → Option LinkState
-link_state_of mark.Up = Some link.Up
-link_state_of mark.Down = Some link.Down
-link_state_of mark.Unknown = Some link.Unknown
-link_state_of _ = None
-
 -- up | down | unknown
 abbrev pub link_state : Parse LinkState
 link_state = one_token (λ t. link_state_of (mark_of t.what))
 
--- The number that an unquoted word of digits spells.
-abbrev pub number_of_what : What → Option ℕ
-number_of_what (Word word) = number_of word
-number_of_what _ = None
-
 -- number : a period that fits
 abbrev pub period : (ℕ → Bool) → Parse ℕ
 period fits s = option_map_or (λ n. if fits n then Ok (n, past s) else Err (Period (line_of s.left))) (found (λ t. number_of_what t.what) s.left) (unexpected s)
-
--- The periods of tests: 1 to 604,800 seconds.
-abbrev pub fits_period : ℕ → Bool
-fits_period n = nat_le 1 n && nat_le n 604800
 
 -- What follows `string .` : link "." ( up | down | unknown )
 abbrev pub link_test : Name → Parse Test
@@ -85,10 +56,7 @@ test fits = string ▸ λ name. either mark.Dot (λ _. link_test name) (expected
 abbrev pub next_operand : {X : Type 0} → Mark → Parse X → Parse (Option X)
 next_operand sign operand = begins sign (λ _. operand) no_more
 
--- With one more at the end.
-abbrev pub with_last : {X : Type 0} → List X → X → List X
-with_last xs x = xs ++ x ∷ []
-
+-- An operand of `||`, and whether it is a chain.
 abbrev pub operand : tree.Condition Test → Bool → Operand
 operand condition is_chain = record { condition = condition; is_chain = is_chain }
 

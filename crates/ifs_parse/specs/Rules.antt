@@ -3,7 +3,7 @@ use Rattle.std.specs.Prelude.{◌≡◌, ℕ, Bool, if◌then◌else◌, List, [
 use Rattle.ifs_base.specs.declared.span.Span.{Span}
 use Rattle.ifs_lex.specs.declared.token.Token.{Token}
 use Rattle.ifs_parse.specs.declared.mark.Mark.{Mark}
-use Rattle.ifs_parse.specs.Combined.{marked}
+use Rattle.ifs_parse.specs.Words.{marked}
 
 -- Tokens, the value that they stand for, and the lines of the notes on them.
 abbrev pub Rule : Type 0 → Type 1
@@ -59,6 +59,10 @@ pub record Noted {X : Type 0} (line : ℕ) (P : Rule (X × Bool)) (tokens : List
   pub within : List ℕ
   pub notes_are : notes ≡ (if is_noted then line ∷ within else within)
   pub said : P tokens (x, is_noted) within
+
+-- With one more at the end.
+abbrev pub with_last : {X : Type 0} → List X → X → List X
+with_last xs x = xs ++ x ∷ []
 
 -- A rule as often as it comes; the values are put together from the left.
 pub data Many {A X : Type 0} (P : Rule X) (add : A → X → A) : A → List Token → A → List ℕ → Type 0 where

@@ -4,6 +4,8 @@ ghost use Rattle.std.specs.Prelude.{◌≡◌, ◌≤◌, ◌||◌, [], suc, zer
 ghost use Rattle.ifs_parse.specs.Combined.{Answers, many};
 ghost use Rattle.ifs_parse.specs.Parsers.{state_of, others_of};
 ghost use Rattle.ifs_parse.specs.Reading as reading;
+ghost use Rattle.ifs_parse.specs.Words as words;
+ghost use Rattle.ifs_parse.specs.Rules as rules;
 ghost use Rattle.ifs_parse.specs.declared.mark.Mark.TheVariants as mark;
 ghost use Rattle.ifs_parse.specs.declared.fault.ParseFault.TheVariants.{Memory, Nesting};
 
@@ -75,7 +77,7 @@ impl<'a> Parser<'a> {
     /// one : "!" one | "(" any ")" | test
     #[cycle(conditions)]
     fn one(&mut self, room: u32) -> Result<Condition<Test>, ParseFault>
-        ensures { Answers (λ c. (c, state_of self.new)) result (reading.one reading.fits_period room (state_of self.old)) }
+        ensures { Answers (λ c. (c, state_of self.new)) result (reading.one words.fits_period room (state_of self.old)) }
     {
         if let Some(span) = self.accept(Mark::Bang) {
             let inner = self.one(within(room, span)?)?;
@@ -93,7 +95,7 @@ impl<'a> Parser<'a> {
     /// `"&&" one`, where it comes.
     #[cycle(conditions)]
     fn next_one(&mut self, room: u32) -> Result<Option<Condition<Test>>, ParseFault>
-        ensures { Answers (λ c. (c, state_of self.new)) result (reading.next_operand mark.And (reading.one reading.fits_period room) (state_of self.old)) }
+        ensures { Answers (λ c. (c, state_of self.new)) result (reading.next_operand mark.And (reading.one words.fits_period room) (state_of self.old)) }
     {
         match self.accept(Mark::And) {
             Some(_) => Ok(Some(self.one(room)?)),
@@ -107,7 +109,7 @@ impl<'a> Parser<'a> {
         ensures { Answers
             (λ rest. (rest.items, state_of self.new))
             result
-            (many (reading.next_operand mark.And (reading.one reading.fits_period room)) reading.with_last [] (state_of self.old)) }
+            (many (reading.next_operand mark.And (reading.one words.fits_period room)) rules.with_last [] (state_of self.old)) }
     {
         let mut rest = Vec::new(self.alloc);
         for _turn in 0..self.left.len() {
@@ -123,7 +125,7 @@ impl<'a> Parser<'a> {
     /// all : one { "&&" one }
     #[cycle(conditions)]
     fn all(&mut self, room: u32) -> Result<Operand, ParseFault>
-        ensures { Answers (λ o. (o, state_of self.new)) result (reading.all (reading.one reading.fits_period room) (state_of self.old)) }
+        ensures { Answers (λ o. (o, state_of self.new)) result (reading.all (reading.one words.fits_period room) (state_of self.old)) }
     {
         let first = self.one(room)?;
         if self.accept(Mark::And).is_none() {
@@ -144,7 +146,7 @@ impl<'a> Parser<'a> {
     /// `"||" all`, where it comes.
     #[cycle(conditions)]
     fn next_all(&mut self, room: u32) -> Result<Option<Operand>, ParseFault>
-        ensures { Answers (λ o. (o, state_of self.new)) result (reading.next_operand mark.Or (reading.all (reading.one reading.fits_period room)) (state_of self.old)) }
+        ensures { Answers (λ o. (o, state_of self.new)) result (reading.next_operand mark.Or (reading.all (reading.one words.fits_period room)) (state_of self.old)) }
     {
         match self.accept(Mark::Or) {
             Some(_) => Ok(Some(self.all(room)?)),
@@ -158,7 +160,7 @@ impl<'a> Parser<'a> {
         ensures { Answers
             (λ o. (others_of o, state_of self.new))
             result
-            (many (reading.next_operand mark.Or (reading.all (reading.one reading.fits_period room))) reading.with_operand (others_of before) (state_of self.old)) }
+            (many (reading.next_operand mark.Or (reading.all (reading.one words.fits_period room))) reading.with_operand (others_of before) (state_of self.old)) }
     {
         let mut others = before;
         for _turn in 0..self.left.len() {
@@ -196,7 +198,7 @@ impl<'a> Parser<'a> {
         ensures { Answers
             (λ c. (c, state_of self.new))
             result
-            (reading.noted_alternatives (reading.all (reading.one reading.fits_period room)) first span (state_of self.old)) }
+            (reading.noted_alternatives (reading.all (reading.one words.fits_period room)) first span (state_of self.old)) }
     {
         let place = self.notes.len();
         let second = self.all(room)?;
@@ -209,7 +211,7 @@ impl<'a> Parser<'a> {
     /// any : all { "||" all }
     #[cycle(conditions)]
     pub fn condition(&mut self, room: u32) -> Result<Condition<Test>, ParseFault>
-        ensures { Answers (λ c. (c, state_of self.new)) result (reading.condition reading.fits_period room (state_of self.old)) }
+        ensures { Answers (λ c. (c, state_of self.new)) result (reading.condition words.fits_period room (state_of self.old)) }
     {
         let first = self.all(room)?;
         match self.accept(Mark::Or) {

@@ -5,6 +5,7 @@ ghost use Rattle.std.specs.Option.{option_map_or};
 ghost use Rattle.ifs_parse.specs.Combined as combined;
 ghost use Rattle.ifs_parse.specs.Combined.{Answers, accepted, expected, line_of, past, found};
 ghost use Rattle.ifs_parse.specs.Reading as reading;
+ghost use Rattle.ifs_parse.specs.Words as words;
 ghost use Rattle.ifs_parse.specs.Parsers.{state_of};
 ghost use Rattle.ifs_parse.specs.declared.fault.ParseFault.TheVariants as fault;
 ghost use Rattle.ifs_base.specs.Numbers.{sized};
@@ -36,7 +37,7 @@ pub struct Operand {
 
 /// The text of a string: a word that is not reserved, or a quoted text.
 fn text_of(what: &What) -> Option<&Text>
-    ensures { option_map (λ text. text.now) result ≡ reading.text_of what.now }
+    ensures { option_map (λ text. text.now) result ≡ words.text_of what.now }
 {
     match what {
         What::Word(word) => {
@@ -52,7 +53,7 @@ fn text_of(what: &What) -> Option<&Text>
 
 /// The link state that a word names.
 fn link_state_of(mark: Mark) -> Option<LinkState>
-    ensures { result ≡ reading.link_state_of mark }
+    ensures { result ≡ words.link_state_of mark }
 {
     match mark {
         Mark::Up => Some(LinkState::Up),
@@ -64,7 +65,7 @@ fn link_state_of(mark: Mark) -> Option<LinkState>
 
 /// The number that an unquoted word of digits spells.
 fn number_of(what: &What) -> Option<Number>
-    ensures { result ≡ option_map sized (reading.number_of_what what.now) }
+    ensures { result ≡ option_map sized (words.number_of_what what.now) }
 {
     match what {
         What::Word(word) => parse_number(word.as_bytes()),
@@ -74,7 +75,7 @@ fn number_of(what: &What) -> Option<Number>
 
 /// A number as a period, which stands at a span.
 fn period_of(number: Number, span: Span) -> Result<Period, ParseFault>
-    ensures { (n : ℕ) → sized n ≡ number → result ≡ (if reading.fits_period n then Ok n else Err (fault.Period span.line)) }
+    ensures { (n : ℕ) → sized n ≡ number → result ≡ (if words.fits_period n then Ok n else Err (fault.Period span.line)) }
 {
     match number {
         Number::Within(seconds) => {
@@ -164,7 +165,7 @@ impl<'a> Parser<'a> {
 
     /// number : an unquoted word of digits, from 1 to 604,800
     pub fn period(&mut self) -> Result<Period, ParseFault>
-        ensures { Answers (λ n. (n, state_of self.new)) result (reading.period reading.fits_period (state_of self.old)) }
+        ensures { Answers (λ n. (n, state_of self.new)) result (reading.period words.fits_period (state_of self.old)) }
     {
         if let [token, rest @ ..] = self.left {
             if let Some(number) = number_of(&token.what) {
@@ -178,7 +179,7 @@ impl<'a> Parser<'a> {
 
     /// test : string "." link "." ( up | down | unknown ) | string every number
     pub fn test(&mut self) -> Result<Test, ParseFault>
-        ensures { Answers (λ t. (t, state_of self.new)) result (reading.test reading.fits_period (state_of self.old)) }
+        ensures { Answers (λ t. (t, state_of self.new)) result (reading.test words.fits_period (state_of self.old)) }
     {
         let name = self.string()?;
         if self.accept(Mark::Dot).is_some() {

@@ -5,7 +5,8 @@ ghost use Rattle.ifs_lex.specs.Expansion.{EndsOnce};
 ghost use Rattle.ifs_parse.specs.Combined.{Answers};
 ghost use Rattle.ifs_parse.specs.Files.{File, file};
 ghost use Rattle.ifs_parse.specs.Grammar.{Says, StopsAt};
-ghost use Rattle.ifs_parse.specs.Reading.{fits_period, read_within};
+ghost use Rattle.ifs_parse.specs.Words.{fits_period};
+ghost use Rattle.ifs_parse.specs.Reading.{read_within};
 ghost use Rattle.ifs_parse.specs.declared.fault.ParseFault.TheVariants.{Memory};
 
 use crate::fault::ParseFault;

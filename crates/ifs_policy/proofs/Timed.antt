@@ -1,5 +1,5 @@
 -- The periods of a policy's tests are those that the grammar lets through.
-use Rattle.std.proofs.Common.{◌≡◌, ℕ, zero, suc, Bool, true, false, ◌&&◌, inl, inr, Some, None, if◌then◌else◌, List, [], ◌∷◌, ◌++◌, All, refl, sym, subst}
+use Rattle.std.proofs.Common.{◌≡◌, ℕ, zero, suc, Bool, true, false, ◌&&◌, inl, inr, Some, None, if◌then◌else◌, List, [], ◌∷◌, ◌++◌, map, All, refl, sym, subst}
 use Rattle.std.specs.Prelude.{Option, nat_le}
 use Rattle.std.specs.List.{flat_map}
 use Rattle.std.proofs.lemmas.Bool.{leb-true}
@@ -11,10 +11,12 @@ use Rattle.ifs_lex.specs.declared.token.Token.{Token}
 use Rattle.ifs_parse.specs.Trees as tree
 use Rattle.ifs_parse.specs.Views.{all_of, any_of, block_of, statement_then}
 use Rattle.ifs_parse.specs.Files.{File}
-use Rattle.ifs_parse.specs.Rules.{Rule, Gives, ◌⨟◌, ◌or◌, Never, Noted, Many, Enough, More}
-use Rattle.ifs_parse.specs.Reading.{fits_period, number_of_what, Others, with_last, with_operand}
+use Rattle.ifs_parse.specs.Rules.{Rule, Gives, ◌⨟◌, ◌or◌, Never, Noted, Many, Enough, More, with_last}
+use Rattle.ifs_parse.specs.Words.{fits_period, number_of_what}
 use Rattle.ifs_parse.specs.Grammar as grammar
-use Rattle.ifs_parse.specs.Grammar.{SaysWithin, Says, IsSaid}
+use Rattle.ifs_parse.specs.Grammar.{SaysWithin, Says, IsSaid, Operands, whole, conjunction, disjunction}
+use Rattle.ifs_parse.specs.declared.mark.Mark.{Mark}
+use Rattle.ifs_parse.specs.declared.mark.Mark.TheVariants as mark
 use Rattle.ifs_parse.specs.declared.tree.Name.{Name}
 use Rattle.ifs_parse.specs.declared.tree.Test.{Test}
 use Rattle.ifs_parse.specs.declared.tree.Test.TheVariants.{Link, External}
@@ -25,7 +27,6 @@ use Rattle.ifs_parse.specs.declared.tree.Item.{Item}
 use Rattle.ifs_parse.specs.declared.tree.Item.TheVariants.{InitState, State, Always}
 use Rattle.ifs_parse.specs.declared.block.Statement.{Statement}
 use Rattle.ifs_parse.specs.declared.block.Statement.TheVariants.{Run, SetState, If}
-use Rattle.ifs_parse.specs.declared.parser.Operand.{Operand}
 use Rattle.ifs_policy.specs.declared.policy.PolicyParts.{PolicyParts}
 use Rattle.ifs_policy.specs.declared.mention.Place.{Place}
 use Rattle.ifs_policy.specs.declared.mention.Place.TheVariants as at
@@ -144,32 +145,33 @@ keeps_test =
     (keeps_after _ _ TestTimed (λ _. keeps_after _ _ TestTimed (λ _. keeps_after _ _ TestTimed (λ _. keeps_after _ _ TestTimed (λ l. keeps_gives TestTimed (Link name l) tt)))))
     (keeps_after _ _ TestTimed (λ _. keeps_then _ _ PeriodFits TestTimed keeps_period (λ n fits. keeps_gives TestTimed (External name n) fits))))
 
--- An operand and the operands after the first two.
-abbrev OperandTimed : Operand → Type 0
-OperandTimed o = ConditionTimed o.condition
+-- Operands, each of which has a property.
+abbrev Each : {X : Type 0} → (X → Type 0) → Operands X → Type 0
+Each G o = All G (whole o)
 
-abbrev OthersTimed : Others → Type 0
-OthersTimed o = All ConditionTimed o.rest
+keeps_joined : {X : Type 0} (sign : Mark) (one : Rule X) (G : X → Type 0) → Keeps one G → Keeps (grammar.Joined sign one) (Each G)
+keeps_joined sign one G timed =
+    keeps_then _ _ G (Each G) timed (λ first h.
+    keeps_then _ _ (All G) (Each G) (keeps_list _ G (keeps_after _ _ G (λ _. timed))) (λ others each.
+    keeps_gives (Each G) _ (All-cons G first others h each)))
 
-module _ (one : Rule (tree.Condition Test)) (timed : Keeps one ConditionTimed) where
-  keeps_all : Keeps (grammar.IsAll one) OperandTimed
-  keeps_all =
-      keeps_then _ _ ConditionTimed OperandTimed timed (λ first h. keeps_or _ _ OperandTimed
-      (keeps_after _ _ OperandTimed (λ _. keeps_then _ _ ConditionTimed OperandTimed timed (λ second k.
-      keeps_then _ _ (All ConditionTimed) OperandTimed (keeps_list _ ConditionTimed (keeps_after _ _ ConditionTimed (λ _. timed)))
-      (λ rest each. keeps_gives OperandTimed _ (all_timed (tree.And first second) rest (h, k) each)))))
-      (keeps_gives OperandTimed _ h))
+conjunction_timed : (o : Operands (tree.Condition Test)) → Each ConditionTimed o → ConditionTimed (conjunction o)
+conjunction_timed o h = all_timed o.first o.others (All-head ConditionTimed o.first o.others h) (All-tail ConditionTimed o.first o.others h)
 
-module _ (all : Rule Operand) (timed : Keeps all OperandTimed) where
+each_timed : (operands : List (Operands (tree.Condition Test))) → All (Each ConditionTimed) operands → All ConditionTimed (map conjunction operands)
+each_timed [] h = All-nil ConditionTimed
+each_timed (o ∷ rest) h =
+    All-cons ConditionTimed (conjunction o) (map conjunction rest) (conjunction_timed o (All-head (Each ConditionTimed) o rest h))
+    (each_timed rest (All-tail (Each ConditionTimed) o rest h))
+
+module _ (all : Rule (Operands (tree.Condition Test))) (timed : Keeps all (Each ConditionTimed)) where
   keeps_any : Keeps (grammar.IsAny all) ConditionTimed
   keeps_any =
-      keeps_then _ _ OperandTimed ConditionTimed timed (λ first h. keeps_or _ _ ConditionTimed
+      keeps_then _ _ (Each ConditionTimed) ConditionTimed timed (λ first h. keeps_or _ _ ConditionTimed
       (keeps_after _ _ ConditionTimed (λ span. keeps_noted span.line _ ConditionTimed
-      (keeps_then _ _ OperandTimed (λ r. ConditionTimed r.0) timed (λ second k.
-      keeps_then _ _ OthersTimed (λ r. ConditionTimed r.0)
-      (keeps_many _ with_operand OthersTimed OperandTimed (keeps_after _ _ OperandTimed (λ _. timed)) (λ o x f g. All-push ConditionTimed o.rest x.condition f g) _ (All-nil ConditionTimed))
-      (λ more each. keeps_gives (λ r. ConditionTimed r.0) _ (any_timed (tree.Or first.condition second.condition) more.rest (h, k) each))))))
-      (keeps_gives ConditionTimed _ h))
+      (keeps_then _ _ (Each (Each ConditionTimed)) (λ r. ConditionTimed r.0) (keeps_joined mark.Or all (Each ConditionTimed) timed) (λ more each.
+      keeps_gives (λ r. ConditionTimed r.0) _ (any_timed (conjunction first) (map conjunction (whole more)) (conjunction_timed first h) (each_timed (whole more) each))))))
+      (keeps_gives ConditionTimed _ (conjunction_timed first h)))
 
 module _ (negated grouped : Rule (tree.Condition Test)) (first : Keeps negated ConditionTimed) (second : Keeps grouped ConditionTimed) where
   keeps_one_over : Keeps (grammar.IsOneOver negated grouped (grammar.IsTest fits_period)) ConditionTimed
@@ -184,10 +186,10 @@ keeps_one zero = keeps_one_over Never Never (keeps_never ConditionTimed) (keeps_
 keeps_one (suc room) =
     let inner = keeps_one room in
     keeps_one_over (grammar.IsOne fits_period room) (grammar.IsAny (grammar.IsAll (grammar.IsOne fits_period room))) inner
-    (keeps_any (grammar.IsAll (grammar.IsOne fits_period room)) (keeps_all (grammar.IsOne fits_period room) inner))
+    (keeps_any (grammar.IsAll (grammar.IsOne fits_period room)) (keeps_joined mark.And (grammar.IsOne fits_period room) ConditionTimed inner))
 
 keeps_condition : (room : ℕ) → Keeps (grammar.IsCondition fits_period room) ConditionTimed
-keeps_condition room = keeps_any (grammar.IsAll (grammar.IsOne fits_period room)) (keeps_all (grammar.IsOne fits_period room) (keeps_one room))
+keeps_condition room = keeps_any (grammar.IsAll (grammar.IsOne fits_period room)) (keeps_joined mark.And (grammar.IsOne fits_period room) ConditionTimed (keeps_one room))
 
 keeps_braced : {X : Type 0} (P : Rule X) (G : X → Type 0) → Keeps P G → Keeps (grammar.AreBraced P) (All G)
 keeps_braced P G p = keeps_then _ _ (All G) (All G) (keeps_list P G p) (λ xs each. keeps_after _ _ (All G) (λ _. keeps_gives (All G) xs each))

@@ -1,4 +1,4 @@
-use Rattle.ifs_parse.specs.Reading.{fits_period}
+use Rattle.ifs_parse.specs.Words.{fits_period}
 use Rattle.ifs_parse.proofs.Whole.{one_file}
 use Rattle.ifs_parse.proofs.laws.one_tree.Goals as goal
 

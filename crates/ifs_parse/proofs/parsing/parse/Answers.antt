@@ -1,6 +1,6 @@
 use Rattle.std.proofs.Common.{◌∙◌, sym, ap, subst, Err}
 use Rattle.ifs_parse.specs.Grammar.{Says}
-use Rattle.ifs_parse.specs.Reading.{fits_period}
+use Rattle.ifs_parse.specs.Words.{fits_period}
 use Rattle.ifs_parse.proofs.Exact.{inside}
 use Rattle.ifs_parse.proofs.First.{stops_at}
 use Rattle.ifs_parse.proofs.Whole.{says_read, read_says, says_no_fault}
