@@ -1,10 +1,11 @@
 //! What `compile` answers to texts, and the sessions on their images.
 
+use ifs_base::{IfaceId, LinkState};
 use ifs_cli::answering::answer;
 use ifs_cli::task::{Answer, Task};
-use ifs_core::Core;
-use ifs_gen::laws::compiled_is_verified;
-use ifs_gen::{compile, generate};
+use ifs_core::{Core, Reply, Step};
+use ifs_gen::laws::replies_of_text;
+use ifs_gen::{compile, compiled_core, generate};
 use ifs_image::{Image, write};
 use ifs_policy::{Policy, policy_of};
 use ifs_rows::compiling::{LIMITS_OF_ACTIONS, LIMITS_OF_PAIRS, actions, compiled_policies, pairs};
@@ -175,10 +176,29 @@ fn first_policy_is_generated(rt: HostRuntime) -> Result<(), Fail> {
     check_bytes(&rt, rt.alloc(), row.name, image.as_slice(), row.image)
 }
 
+/// Its core stands in state `a`, and one event costs 7 instructions at most.
 #[test]
-fn first_policy_is_verified(rt: HostRuntime) -> Result<(), Fail> {
-    let verified = compiled_is_verified(rt.alloc(), first_text(), &[])?;
-    assert_eq!(rt; verified.budgets().cost, 7);
+fn first_policy_is_opened(rt: HostRuntime) -> Result<(), Fail> {
+    let core = compiled_core(rt.alloc(), first_text(), &[])?;
+    assert_eq!(rt; core.image().budgets.cost, 7);
+    assert_eq!(rt; core.state_name(core.state()), Some("a"));
+    Ok(())
+}
+
+/// The first time that its link is told as up its one command is queued, the second time nothing is new.
+fn check_replies(rt: &impl Abort, replies: &[Reply]) {
+    let [Reply::Done { queued, cost, .. }, Reply::Same] = replies else {
+        panic!(rt; "other replies")
+    };
+    assert_eq!(rt; queued.len(), 1);
+    assert_eq!(rt; *cost, 6);
+}
+
+#[test]
+fn first_policy_replies(rt: HostRuntime) -> Result<(), Fail> {
+    let up = Step::Link(IfaceId(0), LinkState::Up);
+    let replies = replies_of_text(rt.alloc(), first_text(), &[], &[up, up])?;
+    check_replies(&rt, replies.as_slice());
     Ok(())
 }
 

@@ -20,3 +20,5 @@ pub mod Lifting
 pub mod Texts
 pub mod Totals
 pub mod Copying
+pub mod Sized
+pub mod CoreOfText

@@ -44,7 +44,7 @@ routines_fit count (x ∷ parts) h =
     (All-cons RoutineFits body (routines_of count parts) (record { results = omega arith; code = omega (arith, body_is, body_within) })
     (routines_fit count parts (All-tail (PartLengths count) x parts h)))
 
-together_same : (count : ℕ) (parts : List Part) → instructions (routines_of count parts) ≡ sum_by (λ part. init_length part + body_length count part) parts
+pub together_same : (count : ℕ) (parts : List Part) → instructions (routines_of count parts) ≡ sum_by (λ part. init_length part + body_length count part) parts
 together_same count [] = refl
 together_same count (x ∷ parts) =
     let init = routine_of_code (init_code plain_coder x.init) in

@@ -1,16 +1,17 @@
 -- The code of each policy keeps the limits, or it passes one first.
-use Rattle.std.proofs.Common.{◌≡◌, ℕ, zero, suc, ◌+◌, ◌<◌, ◌≤◌, ◌⊎◌, inl, inr, ⊎_elim, List, [], ◌∷◌, Some, refl, arith}
+use Rattle.std.proofs.Common.{◌≡◌, ℕ, zero, suc, ◌+◌, ◌<◌, ◌≤◌, ◌⊎◌, inl, inr, ⊎_elim, List, [], ◌∷◌, Some, refl, ap, arith}
 use Rattle.std.specs.Prelude.{slice_get, All, sum, sum_by}
 use Rattle.std.proofs.lemmas.Bool.{cases_lt}
 use Rattle.std.proofs.lemmas.List.Elements.{All-head, All-tail, All-cons, All-nil}
 use Rattle.std.proofs.lemmas.List.Sums.{sum_by-cons}
 use Rattle.std.proofs.lemmas.Option.{none-some, same_Some}
+use Rattle.ifs_base.specs.declared.ids.RoutineId.{RoutineId}
 use Rattle.ifs_gen.specs.declared.fault.GenFault.{GenFault}
 use Rattle.ifs_gen.specs.declared.fault.GenFault.TheVariants.{RoutineTooLong, CodeTooLong, StackTooHigh, TooManyCommands, Memory}
 use Rattle.ifs_gen.specs.Trees.{Part, Policy}
 use Rattle.ifs_gen.specs.PlainCode.{plain_coder, block_height}
 use Rattle.ifs_gen.specs.PlainImage.{tests_in, parts_of, init_length, body_length, part_height, room_of, RoutinesFit, CodeFits}
-use Rattle.ifs_gen.specs.Refused.{lengths_of, heights_of, lengths, heights, AreWithin, IsFirstOver, IsRefused, FitsOrIsRefused}
+use Rattle.ifs_gen.specs.Refused.{lengths_of, heights_of, lengths, heights, AreWithin, IsFirstOver, IsRefused, FitsOrIsRefused, OneLimitIsFirst}
 
 -- The index of the first number over a limit, where there is one.
 record Over (limit : ℕ) (numbers : List ℕ) : Type 0 where
@@ -130,3 +131,47 @@ does_not_fit policy TooManyCommands h code =
     let few = code.room in
     absurd (omega (arith, many, few))
 does_not_fit policy Memory h code = h
+
+-- A number over a limit stands first at one index.
+one_first : (limit : ℕ) (numbers : List ℕ) (i j : ℕ) → IsFirstOver limit numbers i → IsFirstOver limit numbers j → i ≡ j
+one_first limit numbers i j a b =
+    ⊎_elim
+    (λ less. let low = b.before i a.number less a.at in let over = a.over in absurd (omega (arith, low, over)))
+    (λ no_less. ⊎_elim
+    (λ more. let low = a.before j b.number more b.at in let over = b.over in absurd (omega (arith, low, over)))
+    (λ no_more. omega (arith, no_less, no_more))
+    (cases_lt j i))
+    (cases_lt i j)
+
+-- What keeps a limit is not over it.
+short_and_long : (policy : Policy) (index : ℕ) → AreWithin 1024 (lengths policy) → IsFirstOver 1024 (lengths policy) index → ⊥
+short_and_long policy index short long = none_over 1024 (lengths policy) index short long
+
+low_and_high : (policy : Policy) (index : ℕ) → AreWithin 32 (heights policy) → IsFirstOver 32 (heights policy) index → ⊥
+low_and_high policy index low high = none_over 32 (heights policy) index low high
+
+few_and_many : (limit n : ℕ) → n ≤ limit → limit < n → ⊥
+few_and_many limit n few many = omega (arith, few, many)
+
+pub one_limit : OneLimitIsFirst
+one_limit policy (RoutineTooLong a) (RoutineTooLong b) h k = ap (λ (n : ℕ). let r : RoutineId = record { 0 = n } in RoutineTooLong r) (one_first 1024 (lengths policy) a.0 b.0 h k)
+one_limit policy (RoutineTooLong a) CodeTooLong h k = absurd (short_and_long policy a.0 k.0 h)
+one_limit policy (RoutineTooLong a) (StackTooHigh b) h k = absurd (short_and_long policy a.0 k.0 h)
+one_limit policy (RoutineTooLong a) TooManyCommands h k = absurd (short_and_long policy a.0 k.0 h)
+one_limit policy CodeTooLong (RoutineTooLong b) h k = absurd (short_and_long policy b.0 h.0 k)
+one_limit policy CodeTooLong CodeTooLong h k = refl
+one_limit policy CodeTooLong (StackTooHigh b) h k = absurd (few_and_many 8192 (sum (lengths policy)) k.1 h.1)
+one_limit policy CodeTooLong TooManyCommands h k = absurd (few_and_many 8192 (sum (lengths policy)) k.1 h.1)
+one_limit policy (StackTooHigh a) (RoutineTooLong b) h k = absurd (short_and_long policy b.0 h.0 k)
+one_limit policy (StackTooHigh a) CodeTooLong h k = absurd (few_and_many 8192 (sum (lengths policy)) h.1 k.1)
+one_limit policy (StackTooHigh a) (StackTooHigh b) h k = ap (λ (n : ℕ). let r : RoutineId = record { 0 = n } in StackTooHigh r) (one_first 32 (heights policy) a.0 b.0 h.2 k.2)
+one_limit policy (StackTooHigh a) TooManyCommands h k = absurd (low_and_high policy a.0 k.2 h.2)
+one_limit policy TooManyCommands (RoutineTooLong b) h k = absurd (short_and_long policy b.0 h.0 k)
+one_limit policy TooManyCommands CodeTooLong h k = absurd (few_and_many 8192 (sum (lengths policy)) h.1 k.1)
+one_limit policy TooManyCommands (StackTooHigh b) h k = absurd (low_and_high policy b.0 h.2 k.2)
+one_limit policy TooManyCommands TooManyCommands h k = refl
+one_limit policy Memory other h k = absurd h
+one_limit policy (RoutineTooLong a) Memory h k = absurd k
+one_limit policy CodeTooLong Memory h k = absurd k
+one_limit policy (StackTooHigh a) Memory h k = absurd k
+one_limit policy TooManyCommands Memory h k = absurd k

@@ -16,12 +16,13 @@ use Rattle.ifs_image.specs.declared.parts.ImageParts.{ImageParts}
 use Rattle.ifs_image.specs.Limits.{names_of}
 use Rattle.ifs_image.specs.Spelling as image
 use Rattle.ifs_verify.specs.Accepted.{IsAccepted}
+use Rattle.ifs_verify.specs.Refused.{AreNotAccepted}
 use Rattle.ifs_verify.specs.declared.fault.VerifyFault.{VerifyFault}
 use Rattle.ifs_verify.specs.declared.fault.VerifyFault.TheVariants as verifying
 use Rattle.ifs_core.specs.Headline.{AcceptedIsKept}
 use Rattle.ifs_gen.specs.Trees.{Part, Policy, External}
 use Rattle.ifs_gen.specs.PlainImage.{tests_in, states_from, plain_image, CodeFits}
-use Rattle.ifs_gen.specs.Compiled.{RefusesAsVerify, MeansPolicy, TextsMeanTheirPolicy, IsCompiled, Compiles, IsRefusal, IsWritten, IsCodeRefusal, of_policy, of_code}
+use Rattle.ifs_gen.specs.Compiled.{MeansPolicy, TextsMeanTheirPolicy, IsCompiled, Compiles, IsRefusal, IsWritten, IsCodeRefusal, of_policy, of_code}
 use Rattle.ifs_gen.specs.Refused.{IsRefused}
 use Rattle.ifs_gen.specs.declared.compile_fault.CompileFault.{CompileFault}
 use Rattle.ifs_gen.specs.declared.compile_fault.CompileFault.TheVariants as compiling
@@ -66,7 +67,7 @@ pub is_policy : PoliciesFit → (text : List ℕ) (defs : List (List ℕ × List
 is_policy fit text defs policy h = fit h.file policy ∣ (h.tokens, h.said) ∣₁ h.resolved
 
 -- What is accepted is refused for nothing but memory.
-only_memory : (bytes : List ℕ) (parts : ImageParts) → image.Spells bytes parts → IsAccepted parts → (fault : VerifyFault) → RefusesAsVerify bytes fault → fault ≡ verifying.OutOfMemory
+only_memory : (bytes : List ℕ) (parts : ImageParts) → image.Spells bytes parts → IsAccepted parts → (fault : VerifyFault) → AreNotAccepted bytes fault → fault ≡ verifying.OutOfMemory
 only_memory bytes parts spelled accepted verifying.OutOfMemory refuses = refl
 only_memory bytes parts spelled accepted (verifying.NoImage at) refuses = absurd (refuses (λ k. absurd (cc)) parts spelled accepted)
 only_memory bytes parts spelled accepted (verifying.NoEntry at) refuses = absurd (refuses (λ k. absurd (cc)) parts spelled accepted)

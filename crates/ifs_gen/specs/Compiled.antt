@@ -1,4 +1,5 @@
--- From a text to replies: the policy that a text has, and what the bytes of its image mean.
+-- From a text to replies: the policy that a text has, what the bytes of its image mean, and what a refusal says.
+-- A definition sees only what stands above it. The next files, in order: Events (the policy's own events, and costs aside), Refused (the limit that code passes first), Sizes (sizes and lengths), Acceptance, PlainImage and PlainCode (the image of a policy, and its code). What a text has for a policy stands in Texts of `ifs_policy`, what its blocks yield in Meaning there.
 use Rattle.std.specs.Prelude.{ℕ, ◌≡◌, ◌≢◌, List, map}
 use Rattle.ifs_policy.specs.Texts.{HasPolicy, IsTextRefused}
 use Rattle.ifs_policy.specs.declared.front.PolicyFault.{PolicyFault}
@@ -6,7 +7,7 @@ use Rattle.ifs_policy.specs.declared.front.PolicyFault.TheVariants as fronting
 use Rattle.ifs_image.specs.declared.parts.ImageParts.{ImageParts}
 use Rattle.ifs_image.specs.Limits.{names_of}
 use Rattle.ifs_image.specs.Spelling as image
-use Rattle.ifs_verify.specs.Accepted.{IsAccepted}
+use Rattle.ifs_verify.specs.Refused.{AreNotAccepted}
 use Rattle.ifs_verify.specs.declared.fault.VerifyFault.{VerifyFault}
 use Rattle.ifs_verify.specs.declared.fault.VerifyFault.TheVariants.{OutOfMemory}
 use Rattle.ifs_core.specs.Event.{Behaviour}
@@ -31,17 +32,13 @@ pub record HasNamesOf (policy : Policy) (image : ImageParts) : Type 0 where
   pub states : names_of image.states ≡ policy.tables.states
   pub initial : image.initial ≡ policy.initial
 
--- What a refusal by `verify` says of bytes: but for memory, they spell no image that is accepted.
-abbrev pub RefusesAsVerify : List ℕ → VerifyFault → Type 0
-RefusesAsVerify bytes fault = fault ≢ OutOfMemory → (other : ImageParts) → image.Spells bytes other → ¬ IsAccepted other
-
 -- What the bytes of a policy's image mean.
 pub record MeansPolicy (bytes : List ℕ) (policy : Policy) : Type 0 where
   -- the verifier accepts them, as the policy's image and no other
   pub verified : IsVerified bytes (plain_image policy)
   pub only : (other : ImageParts) → image.Spells bytes other → other ≡ plain_image policy
-  -- so it refuses them for nothing but memory
-  pub refused : (fault : VerifyFault) → RefusesAsVerify bytes fault → fault ≡ OutOfMemory
+  -- so it refuses them, as it refuses only what is not accepted, for nothing but memory
+  pub refused : (fault : VerifyFault) → AreNotAccepted bytes fault → fault ≡ OutOfMemory
   -- its readers answer the policy's names and texts
   pub names : HasNamesOf policy (plain_image policy)
   -- a core that is opened on it is busy where its queue lacks the policy's room

@@ -4,8 +4,10 @@ pub mod Runs
 pub mod PlainImage
 pub mod Acceptance
 pub mod Refused
+pub mod Sizes
 pub mod Events
 pub mod Compiled
+pub mod CompiledCore
 pub mod inner
 pub use Rattle.ifs_base.specs.Facts
 pub use Rattle.ifs_policy.specs.Meaning

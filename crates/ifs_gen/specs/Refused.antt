@@ -49,3 +49,11 @@ IsRefused policy fault = IsPassed (lengths policy) (heights policy) (room_of pol
 -- The code of each policy keeps the limits, or it passes one first.
 abbrev pub FitsOrIsRefused : Type 0
 FitsOrIsRefused = (policy : Policy) → CodeFits policy ⊎ ((fault : GenFault) × IsRefused policy fault)
+
+-- A code that passes a limit first does not keep the limits.
+abbrev pub RefusedDoNotFit : Type 0
+RefusedDoNotFit = (policy : Policy) (fault : GenFault) → IsRefused policy fault → ¬ CodeFits policy
+
+-- Of all limits, and of all routines, one at most is passed first.
+abbrev pub OneLimitIsFirst : Type 0
+OneLimitIsFirst = (policy : Policy) (fault other : GenFault) → IsRefused policy fault → IsRefused policy other → fault ≡ other

@@ -1,26 +1,24 @@
 //! What holds of every policy and its plain code.
 
-ghost use Rattle.std.specs.Prelude.{◌≡◌, ◌≢◌, IfOk, IfErr, map};
+ghost use Rattle.std.specs.Prelude.{IfOk, map};
 ghost use Rattle.ifs_gen.specs.Acceptance.{BudgetsAreLeast, PlainIsAccepted};
-ghost use Rattle.ifs_gen.specs.Compiled.{Compiles, TextsMeanTheirPolicy};
-ghost use Rattle.ifs_gen.specs.PlainImage.{plain_image};
-ghost use Rattle.ifs_gen.specs.Trees.{Policy};
-ghost use Rattle.ifs_gen.specs.declared.compile_fault.CompileFault.TheVariants.{Memory};
-ghost use Rattle.ifs_policy.specs.Texts.{HasPolicy};
+ghost use Rattle.ifs_gen.specs.Compiled.{TextsMeanTheirPolicy};
+ghost use Rattle.ifs_gen.specs.CompiledCore.{LeadsTo, RepliesAsText};
 ghost use Rattle.ifs_gen.specs.Events.{ActiveAreMentioned, ImageMeansPolicy};
-ghost use Rattle.ifs_gen.specs.Refused.{FitsOrIsRefused};
+ghost use Rattle.ifs_gen.specs.Refused.{FitsOrIsRefused, OneLimitIsFirst, RefusedDoNotFit};
 ghost use Rattle.ifs_gen.specs.Runs.{TruthRuns, BlockRuns, HandlersDo};
+ghost use Rattle.ifs_gen.specs.Sizes.{RunsAreQueued, SizesAreLengths};
 
 use crate::compile_fault::CompileFault;
-use crate::compiling::compile;
+use crate::opening::compiled_core;
 use ifs_core::laws::accepted_is_kept;
+use ifs_core::{Core, Reply, Step};
 use ifs_image::laws::one_image;
 use ifs_lex::laws::one_list;
 use ifs_parse::laws::one_tree;
 use ifs_policy::laws::{one_policy, policies_fit};
 use ifs_verify::laws::one_typing;
-use ifs_verify::{Verified, VerifyFault, verify};
-use std::alloc::Global;
+use std::alloc::{AllocError, Global};
 
 /// Wherever the plain code of a condition stands in a routine, it leads past itself and leaves the
 /// condition's truth on the stack, each instruction executed once.
@@ -65,6 +63,28 @@ pub fn fits_or_is_refused()
     ensures { FitsOrIsRefused }
 {}
 
+/// A policy whose code passes a limit first has no code that keeps the limits.
+pub fn refused_do_not_fit()
+    ensures { RefusedDoNotFit }
+{}
+
+/// The plain code of a policy passes one limit at most before all others: which it is, and of which
+/// routine, is settled by the policy.
+pub fn one_limit()
+    ensures { OneLimitIsFirst }
+{}
+
+/// The sizes of conditions, blocks, inits and bodies, by which the limits are looked for, are the lengths
+/// of their plain code, and those of a policy the lengths of its image's routines.
+pub fn sizes_are_lengths()
+    ensures { SizesAreLengths }
+{}
+
+/// What blocks have to run, by which the room of a policy is counted, is what their code queues.
+pub fn runs_are_queued()
+    ensures { RunsAreQueued }
+{}
+
 /// The tests that are active with a part, by its mask, are exactly those that its body mentions.
 pub fn active_are_mentioned()
     ensures { ActiveAreMentioned }
@@ -86,23 +106,33 @@ pub fn means_the_policy()
     accepted_is_kept();
 }
 
-/// A text that compiles is verified: the one call after the other has nothing to answer but the image of
-/// the text's policy, or want of memory.
-pub fn compiled_is_verified<'a>(
+/// What the policy of a text replies to steps, whatever they are: its core is opened, and the steps are
+/// made one after the other. An example of a caller of `compiled_core`.
+pub fn replies_of_text<'a>(
     alloc: Global,
     text: &'a str,
     defs: &'a [(&'a str, &'a str)],
-) -> Result<Verified, CompileFault>
-    ensures image { IfOk result (λ verified. (policy : Policy) × HasPolicy text.now (map (λ d. (d.0.now, d.1.now)) defs.now) policy × (verified ≡ plain_image policy)) }
-    ensures none { IfErr result (λ fault. fault ≢ Memory → ¬ Compiles text.now (map (λ d. (d.0.now, d.1.now)) defs.now)) }
+    steps: &[Step],
+) -> Result<Vec<Reply>, CompileFault>
+    ensures { IfOk result (λ replies. RepliesAsText text.now (map (λ d. (d.0.now, d.1.now)) defs.now) steps.now replies.items) }
 {
-    let bytes = match compile(alloc, text, defs) {
-        Ok(bytes) => bytes,
+    let mut core = match compiled_core(alloc, text, defs) {
+        Ok(core) => core,
         Err(fault) => return Err(fault),
     };
-    match verify(alloc, bytes.as_slice()) {
-        Ok(verified) => Ok(verified),
-        Err(VerifyFault::OutOfMemory) => Err(CompileFault::Memory),
-        Err(_) => unreachable!(),
+    match make_steps(alloc, &mut core, steps) {
+        Ok(replies) => Ok(replies),
+        Err(_) => Err(CompileFault::Memory),
     }
+}
+
+/// Makes steps of a core, one after the other, and answers the reply to each.
+fn make_steps(alloc: Global, core: &mut Core, steps: &[Step]) -> Result<Vec<Reply>, AllocError>
+    ensures { IfOk result (λ replies. LeadsTo core.old.image steps.now replies.items core.old.state core.new.state) }
+{
+    let mut replies = Vec::new(alloc);
+    for step in steps {
+        replies.push(core.step(*step))?;
+    }
+    Ok(replies)
 }

@@ -15,9 +15,11 @@ mod generating;
 pub mod laws;
 mod measure;
 mod mention;
+mod opening;
 mod routines;
 
 pub use compile_fault::CompileFault;
 pub use compiling::{CompiledText, compile, compile_with_notes};
 pub use fault::GenFault;
 pub use generating::generate;
+pub use opening::compiled_core;

@@ -1,0 +1,9 @@
+use Rattle.std.proofs.Common.{map}
+use Rattle.ifs_gen.proofs.CoreOfText as core_of_text
+use Rattle.ifs_gen.proofs.opening.compiled_core.Goals as goal
+
+pub returns-in-Ok-open-clause-runs : goal.returns-in-Ok-open-clause-runs
+returns-in-Ok-open-clause-runs c =
+    let defs = map (λ d. (d.0.now, d.1.now)) c.args.defs.now in
+    core_of_text.runs_text c.args.text.now defs c.in-Ok.bytes.items c.in-Ok.ensures.compiled c.in-Ok-verify.verified (rw c.as_slice.ensures.value at c.in-Ok-verify.ensures.spelled)
+    c.in-Ok-open.core c.in-Ok-open.ensures.image c.image.ensures.kept c.in-Ok-open.ensures.state

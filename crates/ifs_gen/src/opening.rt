@@ -1,0 +1,48 @@
+//! From a text to a core at work.
+
+ghost use Rattle.std.specs.Prelude.{◌≢◌, IfOk, IfErr, map};
+ghost use Rattle.ifs_gen.specs.declared.compile_fault.CompileFault.TheVariants.{Memory};
+ghost use Rattle.ifs_gen.specs.Compiled.{Compiles, IsRefusal};
+ghost use Rattle.ifs_gen.specs.CompiledCore.{RunsText};
+
+use crate::compile_fault::CompileFault;
+use crate::compiling::compile;
+use ifs_core::Core;
+use ifs_verify::{VerifyFault, verify};
+use std::alloc::Global;
+
+/// Compiles a text, verifies its image and opens it: a core that runs what the text says. `defs` are
+/// definitions that win over the text's.
+///
+/// The text is refused as `compile` refuses it; P0 comes where a growth was refused, wherever that is.
+/// Nothing that compiles is refused by the verifier.
+pub fn compiled_core<'a>(
+    alloc: Global,
+    text: &'a str,
+    defs: &'a [(&'a str, &'a str)],
+) -> Result<Core, CompileFault>
+    // The core runs the one policy of the text: names, texts, and for every list of steps the replies.
+    ensures runs { IfOk result (λ core. RunsText text.now (map (λ d. (d.0.now, d.1.now)) defs.now) core) }
+    // A refusal but for memory says that the text has no policy, or that the code of the policy passes a limit,
+    ensures refused { IfErr result (λ fault. IsRefusal text.now (map (λ d. (d.0.now, d.1.now)) defs.now) fault) }
+    // so that nothing is refused that compiles.
+    ensures none { IfErr result (λ fault. fault ≢ Memory → ¬ Compiles text.now (map (λ d. (d.0.now, d.1.now)) defs.now)) }
+{
+    let bytes = match compile(alloc, text, defs) {
+        Ok(bytes) => bytes,
+        Err(fault) => return Err(fault),
+    };
+    let verified = match verify(alloc, bytes.as_slice()) {
+        Ok(verified) => verified,
+        Err(VerifyFault::OutOfMemory) => return Err(CompileFault::Memory),
+        Err(_) => unreachable!(),
+    };
+    match Core::open(alloc, verified) {
+        Ok(core) => {
+            // The image, which is accepted, keeps what is promised of it.
+            core.image();
+            Ok(core)
+        }
+        Err(_) => Err(CompileFault::Memory),
+    }
+}
