@@ -9,7 +9,7 @@ use Rattle.ifs_verify.specs.declared.fault.At.TheVariants as places
 use Rattle.ifs_verify.specs.declared.fault.VerifyFault.{VerifyFault}
 use Rattle.ifs_verify.specs.declared.fault.VerifyFault.TheVariants as faults
 use Rattle.ifs_verify.specs.Accepted.{IsAccepted}
-use Rattle.ifs_verify.specs.Refused.{IsRefusal}
+use Rattle.ifs_verify.specs.Refused.{IsRefusal, AreNotAccepted}
 use Rattle.ifs_core.specs.Event.{Behaviour}
 use Rattle.ifs_core.specs.Machine.{IsBehaviour}
 use Rattle.ifs_core.specs.Gateway.{OpenCore, opened}
@@ -83,10 +83,10 @@ pub record OpensImage (bytes : List ℕ) (core : OpenCore) : Type 0 where
   pub accepted : IsAccepted core.image
   pub state_is : (b : Behaviour) → IsBehaviour core.image b → core.state ≡ opened b core.image
 
--- Why the first line is refused: it breaks its rule; or the bytes that it spells are not accepted; or no memory was found, in the line or after it.
+-- Why the first line is refused: it breaks its rule; or the bytes that it spells are not accepted, unless the fault is want of memory, and the check that is named fails in them; or no memory was found, in the line or after it.
 abbrev pub LineRefused : Refusal → Feed → Feed → Type 0
 LineRefused refusals.Broken before after = HexGives (Err hex_faults.Broken) before after
-LineRefused (refusals.NotAccepted fault) before after = (bytes : List ℕ) × HexGives (Ok bytes) before after × IsRefusal bytes fault
+LineRefused (refusals.NotAccepted fault) before after = (bytes : List ℕ) × HexGives (Ok bytes) before after × AreNotAccepted bytes fault × IsRefusal bytes fault
 LineRefused refusals.Memory before after = HexGives (Err hex_faults.Memory) before after ⊎ ((bytes : List ℕ) × HexGives (Ok bytes) before after)
 
 -- A reader and a writer, by what they tell.

@@ -1,7 +1,7 @@
 -- What the functions that open the image of the first line, or refuse it, give.
 use Rattle.std.specs.Prelude.{◌≡◌, ◌⊎◌, ℕ, List, Result, Ok, Err}
 use Rattle.std.specs.Io.KnownBytes.{append_known}
-use Rattle.ifs_verify.specs.Refused.{IsRefusal}
+use Rattle.ifs_verify.specs.Refused.{IsRefusal, AreNotAccepted}
 use Rattle.ifs_core.specs.Gateway.{OpenCore}
 use Rattle.ifs_session.specs.declared.fault.SessionFault.TheVariants.{WriteFailed}
 use Rattle.ifs_session.specs.declared.fault.RunFault.{RunFault}
@@ -24,7 +24,7 @@ RefuseGives refusal result before after =
 -- What the opening of the image that bytes spell gives: a core, or why there is none.
 abbrev pub ImageGives : List ℕ → Result OpenCore Refusal → Type 0
 ImageGives bytes (Ok core) = OpensImage bytes core
-ImageGives bytes (Err (NotAccepted fault)) = IsRefusal bytes fault
+ImageGives bytes (Err (NotAccepted fault)) = AreNotAccepted bytes fault × IsRefusal bytes fault
 ImageGives bytes (Err Memory) = Unit {0}
 ImageGives bytes (Err Broken) = ⊥
 
