@@ -21,7 +21,7 @@ use Rattle.ifs_asm.specs.declared.line.Line.TheVariants as lines
 use Rattle.ifs_asm.specs.Texts.{routine_lines}
 use Rattle.ifs_asm.specs.inner.Building.{Built, listed_routine, current_len, parts_of, has_name, is_full, is_in_order, with_line, with_op, step, line_in, built_by, nothing}
 use Rattle.ifs_asm.proofs.Bytes.{each_append, each_weaker}
-use Rattle.ifs_asm.proofs.FormLaws.{LineFits, TextGood}
+use Rattle.ifs_asm.specs.Refused.{LineFits, TextGood}
 use Rattle.ifs_asm.proofs.BuildFound.{image_said}
 use Rattle.ifs_asm.proofs.ImageLaws.{parted, each_parts, each_both}
 
@@ -49,7 +49,7 @@ IsWithin b = Within b.interfaces b.tests b.commands b.states b.routines b.curren
 no_names : AreDistinct []
 no_names i j d lt within = absurd (omega arith)
 
-nothing_within : IsWithin nothing
+pub nothing_within : IsWithin nothing
 nothing_within = record { interfaces = omega arith; distinct = no_names; tests = omega arith; commands = omega arith; states = omega arith; state_names = no_names; routines = omega arith; code = tt; count = omega arith; together = refl }
 
 room : (n most : ℕ) → not (nat_lt n most) ≡ false → n < most
@@ -174,7 +174,7 @@ step_within b c l w h =
     let t = taken (has_name b l) (is_full b l) (is_in_order b l) (with_line b l) c h in
     subst IsWithin t.same (line_within b l w t.new t.room t.order)
 
-built_within : (b c : Built) (spoken : List (List ℕ)) → IsWithin b → built_by b spoken ≡ Some c → IsWithin c
+pub built_within : (b c : Built) (spoken : List (List ℕ)) → IsWithin b → built_by b spoken ≡ Some c → IsWithin c
 built_within b c [] w h = subst IsWithin (same_Some b c h) w
 built_within b c (bytes ∷ others) w h =
     option_and_then_some (λ line. option_and_then (λ next. built_by next others) (step b line)) (line_in bytes) c h (λ line _ rest.

@@ -16,7 +16,7 @@ use Rattle.ifs_asm.specs.declared.line.Line.TheVariants as lines
 use Rattle.ifs_asm.specs.Texts.{front_lines, routine_lines, lines_of}
 use Rattle.ifs_asm.specs.Spellings.{Says}
 use Rattle.ifs_asm.specs.inner.Building.{Built, listed_routine, parts_of, lines_said, has_name, is_full, is_in_order, with_line, with_op, step, line_in, built_by, nothing, is_none}
-use Rattle.ifs_asm.proofs.FormLaws.{LineFits}
+use Rattle.ifs_asm.specs.Refused.{LineFits}
 use Rattle.ifs_asm.proofs.TextLaws.{line_in_found}
 
 -- ---- lines with one more

@@ -13,7 +13,7 @@ use Rattle.ifs_asm.specs.declared.line.Line.{Line}
 use Rattle.ifs_asm.specs.declared.line.Line.TheVariants as lines
 use Rattle.ifs_asm.specs.Refused.{GoOn, speaking}
 use Rattle.ifs_asm.specs.inner.Building.{Built, parts_of, lines_said, with_line, step, built_by, built_of, nothing}
-use Rattle.ifs_asm.proofs.FormLaws.{TextGood, LineFits}
+use Rattle.ifs_asm.specs.Refused.{TextGood, LineFits}
 use Rattle.ifs_asm.proofs.TextLaws.{LineWritten, bare, lines_say}
 use Rattle.ifs_asm.proofs.BuildAgain.{image_built, step_taken, built_append}
 use Rattle.ifs_asm.proofs.BuildFound.{Sound, step_said, built_said, nothing_sound, front_is, full_front, image_said}
@@ -120,7 +120,12 @@ more_said b c (l ∷ ls) s h =
     let all = more_said next c ls one.sound rest in
     record { sound = all.sound; lines = all.lines ∙ ap (λ (k : List Line). k ++ ls) one.lines ∙ append_assoc (lines_said b) (l ∷ []) ls })
 
-pub goes_on : (done : List (List ℕ)) (b : Built) → built_by nothing (speaking done) ≡ Some b → GoOn done
+-- Lines go on from what they built.
+pub record GoesOn (done : List (List ℕ)) (b : Built) : Type 0 where
+  pub go_on : GoOn done
+  pub said_is : lines_said b ≡ go_on.said
+
+pub goes_on : (done : List (List ℕ)) (b : Built) → built_by nothing (speaking done) ≡ Some b → GoesOn done b
 goes_on done b h =
     let a = built_said nothing b (speaking done) nothing_sound h in
     let c = from_states b.states b refl a.sound in
@@ -130,15 +135,18 @@ goes_on done b h =
     let all : built_by nothing bytes ≡ Some c.after = by_append (speaking done) (map bare c.others) nothing ∙ ap (option_and_then (λ next. built_by next (map bare c.others))) h ∙ again ∙ c.built in
     let p = parts_of c.after in
     record {
-      said = a.more;
-      says = a.says;
-      begin = record {
-        image = p;
-        fits = built_fits c.after bytes all c.some;
-        in_range = range_of p (image_said c.after bytes all c.some).fit;
-        others = c.others;
-        whole = sym (full_front c.after (front_is c.after m.sound c.some)) ∙ m.lines ∙ ap (λ (ls : List Line). ls ++ c.others) a.lines;
+      go_on = record {
+        said = a.more;
+        says = a.says;
+        begin = record {
+          image = p;
+          fits = built_fits c.after bytes all c.some;
+          in_range = range_of p (image_said c.after bytes all c.some).fit;
+          others = c.others;
+          whole = sym (full_front c.after (front_is c.after m.sound c.some)) ∙ m.lines ∙ ap (λ (ls : List Line). ls ++ c.others) a.lines;
+        };
       };
+      said_is = a.lines;
     }
 
 -- ---- lines that do not

@@ -24,7 +24,7 @@ use Rattle.ifs_asm.proofs.Bytes.{same_word}
 use Rattle.ifs_asm.proofs.Quotes.{text_found, no_nul}
 use Rattle.ifs_asm.proofs.MaskLists.{mask_found, mask_small}
 use Rattle.ifs_asm.proofs.Cutting.{Spelled}
-use Rattle.ifs_asm.proofs.FormLaws.{TextGood, LineFits}
+use Rattle.ifs_asm.specs.Refused.{TextGood, LineFits}
 
 -- ---- what an option has, by cases
 

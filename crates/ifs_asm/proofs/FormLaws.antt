@@ -1,11 +1,11 @@
 -- What words say: the line that is read of them is the one whose words they spell.
-use Rattle.std.proofs.Common.{◌≡◌, ℕ, ◌^◌, ◌<◌, ◌≤◌, true, false, List, [], ◌∷◌, length, Some, refl, ap, ◌∙◌, arith, codes}
-use Rattle.std.specs.Prelude.{nat_lt, IsUtf8}
+use Rattle.std.proofs.Common.{◌≡◌, ℕ, ◌≤◌, true, false, List, [], ◌∷◌, length, Some, refl, ap, ◌∙◌, arith, codes}
+use Rattle.std.specs.Prelude.{nat_lt}
 use Rattle.std.specs.List.{AllZip}
 use Rattle.std.proofs.lemmas.Str.{is_utf8-from_IsUtf8}
 use Rattle.std.proofs.lemmas.Bool.{lt-ltb, le-ltb}
 use Rattle.ifs_base.specs.Numbers.{number_of}
-use Rattle.ifs_base.specs.Sizes.{TextFits, PeriodFits}
+use Rattle.ifs_base.specs.Sizes.{PeriodFits}
 use Rattle.ifs_base.specs.Spelling.{HasSpelling}
 use Rattle.ifs_base.specs.declared.op.LinkState.TheVariants.{Unknown, Down, Up}
 use Rattle.ifs_base.specs.declared.op.Op.{Op}
@@ -16,31 +16,11 @@ use Rattle.ifs_asm.specs.declared.line.Line.{Line}
 use Rattle.ifs_asm.specs.declared.line.Line.TheVariants as lines
 use Rattle.ifs_asm.specs.Texts.{Word, Key, Number, Quoted, Tests, words_of, op_words, handlers_words, tests_of}
 use Rattle.ifs_asm.specs.Spellings.{IsSpelling, IsQuoted, IsList}
+use Rattle.ifs_asm.specs.Refused.{TextGood, LineFits}
 use Rattle.ifs_asm.specs.inner.Forms.{number_up_to, sized_text, period_in, handlers_of, line_of}
 use Rattle.ifs_asm.proofs.Quotes.{text_again}
 use Rattle.ifs_asm.proofs.MaskLists.{mask_again}
 use Rattle.ifs_asm.proofs.Cutting.{Spelled}
-
--- A text that fits, in UTF-8.
-pub record TextGood (text : List ℕ) : Type 0 where
-  pub fits : TextFits text
-  pub utf8 : IsUtf8 text
-
--- What a line keeps to.
-abbrev pub LineFits : Line → Type 0
-LineFits lines.Version = Unit {0}
-LineFits (lines.Stack n) = n ≤ 32
-LineFits (lines.Frames n) = n ≤ 32
-LineFits (lines.Cost n) = n ≤ 300000
-LineFits (lines.Commands n) = n ≤ 64
-LineFits (lines.Start n) = n.0 < 2 ^ 16
-LineFits (lines.Always h) = HandlersInRange h
-LineFits (lines.Interface name) = TextGood name
-LineFits (lines.Test t) = PeriodFits t.period × TextGood t.text
-LineFits (lines.Command text) = TextGood text
-LineFits (lines.State s) = TextGood s.name × HandlersInRange s.handlers
-LineFits (lines.Routine results) = results ≤ 1
-LineFits (lines.Instruction op) = HasSpelling op
 
 -- ---- numbers, texts and words
 

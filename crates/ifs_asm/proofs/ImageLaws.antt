@@ -21,7 +21,7 @@ use Rattle.ifs_asm.specs.Texts.{words_of, op_words, front_lines, routine_lines, 
 use Rattle.ifs_asm.specs.Spellings.{Says, spoken, Spells}
 use Rattle.ifs_asm.specs.inner.Building.{Built, parts_of, step, line_in, built_by, built_of, nothing}
 use Rattle.ifs_asm.proofs.Bytes.{each_append, each_weaker}
-use Rattle.ifs_asm.proofs.FormLaws.{LineFits, TextGood}
+use Rattle.ifs_asm.specs.Refused.{LineFits, TextGood}
 use Rattle.ifs_asm.proofs.TextLaws.{WordFits, LineWritten, line_in_again, spoken_lines, lines_say}
 use Rattle.ifs_asm.proofs.BuildAgain.{image_built}
 use Rattle.ifs_asm.proofs.BuildFound.{image_said}

@@ -19,4 +19,5 @@ mod Steps
 mod Utf8
 mod Shapes
 mod Completed
+mod Blamed
 mod Told

@@ -47,6 +47,10 @@ formed_case : (b : Built) (o : Option Line) → option_and_then (λ line. option
 formed_case b None = refl
 formed_case b (Some line) = same_option (step b line)
 
+pub read_form : (line : List ℕ) (words : List (List ℕ)) (form : Option Formed) → words ≡ words_up_to 9 line → formed form ≡ line_of words → line_in line ≡ formed form
+unfolding line_in
+read_form line words form cut says = sym (says ∙ ap line_of cut)
+
 pub one_line : (b : Built) (line : List ℕ) (words : List (List ℕ)) (form : Option Formed) → is_silent line ≡ false → words ≡ words_up_to 9 line → formed form ≡ line_of words → built_by b (spoken_line line) ≡ option_and_then (step b) (formed form)
 unfolding line_in
 one_line b line words form e cut says =

@@ -20,7 +20,8 @@ use Rattle.ifs_asm.proofs.Bytes.{IsDigit, number_digits, number_decimal, digit_i
 use Rattle.ifs_asm.proofs.Cutting.{runs, IsOneWord, IsSingle, cut_found, cut_again}
 use Rattle.ifs_asm.proofs.Quotes.{quoted_single, quoted_is}
 use Rattle.ifs_asm.proofs.MaskLists.{IsNumber, number_single, list_single, list_written}
-use Rattle.ifs_asm.proofs.FormLaws.{LineFits, line_again}
+use Rattle.ifs_asm.specs.Refused.{LineFits}
+use Rattle.ifs_asm.proofs.FormLaws.{line_again}
 use Rattle.ifs_asm.proofs.FormFound.{line_found}
 
 -- ---- the words of lines, as the table has them

@@ -10,11 +10,13 @@ use Rattle.ifs_asm.specs.declared.fault.LineFault.TheVariants as faults
 use Rattle.ifs_asm.specs.declared.line.Line.{Line}
 use Rattle.ifs_asm.specs.Texts.{lines_of}
 use Rattle.ifs_asm.specs.Spellings.{Says, Spells, spoken, is_silent}
-use Rattle.ifs_asm.specs.Refused.{without_empty_last, text_lines, speaking, GoOn, StopsAt, EndsEarly, IsRefused}
-use Rattle.ifs_asm.specs.inner.Building.{Built, built_by, nothing, spoken_line}
-use Rattle.ifs_asm.specs.inner.Reading.{AreRead, fault_at}
+use Rattle.ifs_asm.specs.Refused.{without_empty_last, text_lines, speaking, GoOn, EachBreaks, Repeats, IsOver, SaysLine, StopsAt, EndsEarly, IsRefused}
+use Rattle.ifs_asm.specs.inner.Building.{Built, line_in, built_by, nothing, spoken_line}
+use Rattle.ifs_asm.specs.inner.Reading.{AreRead, Blames, fault_at}
 use Rattle.ifs_asm.proofs.Cuts.{cut_some, cut_none, line_case}
-use Rattle.ifs_asm.proofs.Completed.{goes_on, never_goes_on}
+use Rattle.ifs_asm.proofs.Completed.{GoesOn, goes_on, never_goes_on}
+use Rattle.ifs_asm.proofs.BuildFits.{IsWithin, nothing_within, built_within}
+use Rattle.ifs_asm.proofs.Blamed.{blames_name, blames_count, blames_order}
 use Rattle.ifs_asm.proofs.Steps.{by_append}
 
 -- ---- the lines of a text
@@ -103,16 +105,29 @@ reads_on text left line rest b c n m r cut shorter one next = record {
   built = with_last r.done line b (Some c) r.built one;
 }
 
-pub stops_at : (text left line rest : List ℕ) (b : Built) (n : ℕ) → AreRead text left b n → text_lines left ≡ line ∷ text_lines rest → built_by b (spoken_line line) ≡ None → StopsAt text n
+-- A line at which reading stops, after what was built.
+pub record Stopped (text : List ℕ) (n : ℕ) (b : Built) (line : List ℕ) : Type 0 where
+  pub before : List (List ℕ)
+  pub after : List (List ℕ)
+  pub whole : text_lines text ≡ before ++ line ∷ after
+  pub number_is : n ≡ length before + 1
+  pub goes_on : GoesOn before b
+  pub within : IsWithin b
+  pub stop : GoOn (before ++ line ∷ []) → ⊥
+
+pub stops_at : (text left line rest : List ℕ) (b : Built) (n : ℕ) → AreRead text left b n → text_lines left ≡ line ∷ text_lines rest → built_by b (spoken_line line) ≡ None → Stopped text n b line
 stops_at text left line rest b n r cut none = record {
   before = r.done;
-  line = line;
   after = text_lines rest;
   whole = r.cut ∙ ap (λ (ls : List (List ℕ)). r.done ++ ls) cut;
   number_is = r.number_is;
-  go_on = goes_on r.done b r.built;
+  goes_on = goes_on r.done b r.built;
+  within = built_within nothing b (speaking r.done) nothing_within r.built;
   stop = never_goes_on (r.done ++ line ∷ []) (with_last r.done line b None r.built none);
 }
+
+with_fault : (text : List ℕ) (n : ℕ) (b : Built) (line : List ℕ) (Fault : List Line → List ℕ → Type 0) (s : Stopped text n b line) → Fault s.goes_on.go_on.said line → StopsAt text n Fault
+with_fault text n b line Fault s fault = record { before = s.before; line = line; after = s.after; whole = s.whole; number_is = s.number_is; go_on = s.goes_on.go_on; stop = s.stop; fault = fault }
 
 -- ---- the end of a text
 
@@ -126,7 +141,7 @@ pub ends_early : (text left : List ℕ) (b : Built) (n : ℕ) → AreRead text l
 ends_early text left b n r empty missing =
     let all = all_done text left b n r r.done r.cut empty in
     record {
-      go_on = subst GoOn (sym all) (goes_on r.done b r.built);
+      go_on = subst GoOn (sym all) (goes_on r.done b r.built).go_on;
       missing = missing;
       number_is = r.number_is ∙ ap (λ (ls : List (List ℕ)). length ls + 1) (sym all);
     }
@@ -147,17 +162,22 @@ front_said (x ∷ xs) ys (l ∷ ls) z =
     let f = front_said xs ys ls z.1 in
     record { said = l ∷ f.said; others = f.others; says = (z.0, f.says); whole = ap (λ (ks : List Line). l ∷ ks) f.whole }
 
-pub stops_spell_none : (text : List ℕ) (n : ℕ) (image : ImageParts) → StopsAt text n → Spells text image → ⊥
-stops_spell_none text n image s spells =
-    let cut : spoken text ≡ speaking (s.before ++ s.line ∷ []) ++ speaking s.after =
-    speaking_is text ∙ ap speaking (s.whole ∙ sym (append_assoc s.before (s.line ∷ []) s.after)) ∙ speaking_append (s.before ++ s.line ∷ []) s.after in
-    let f = front_said (speaking (s.before ++ s.line ∷ [])) (speaking s.after) (lines_of image) (subst (λ (ls : List (List ℕ)). AllZip Says ls (lines_of image)) cut spells.says) in
+pub stops_spell_none : (text : List ℕ) (n : ℕ) (b : Built) (line : List ℕ) (image : ImageParts) → Stopped text n b line → Spells text image → ⊥
+stops_spell_none text n b line image s spells =
+    let cut : spoken text ≡ speaking (s.before ++ line ∷ []) ++ speaking s.after =
+    speaking_is text ∙ ap speaking (s.whole ∙ sym (append_assoc s.before (line ∷ []) s.after)) ∙ speaking_append (s.before ++ line ∷ []) s.after in
+    let f = front_said (speaking (s.before ++ line ∷ [])) (speaking s.after) (lines_of image) (subst (λ (ls : List (List ℕ)). AllZip Says ls (lines_of image)) cut spells.says) in
     s.stop (record { said = f.said; says = f.says; begin = record { image = image; fits = spells.fits; in_range = spells.in_range; others = f.others; whole = f.whole } })
 
 -- ---- the fault of a line
 
-pub told_at : (text : List ℕ) (fault : LineFault) (n : ℕ) → (fault ≢ faults.Memory → StopsAt text n) → fault_at fault n ≢ Memory → IsRefused text (fault_at fault n)
-told_at text faults.Unknown n s other = s (λ e. absurd cc)
-told_at text faults.OutOfRange n s other = s (λ e. absurd cc)
-told_at text faults.OutOfOrder n s other = inl (s (λ e. absurd cc))
-told_at text faults.Memory n s other = absurd (other refl)
+pub told_at : (text : List ℕ) (fault : LineFault) (n : ℕ) (b : Built) (line : List ℕ) → (fault ≢ faults.Memory → Stopped text n b line) → Blames b (line_in line) fault → fault_at fault n ≢ Memory → IsRefused text (fault_at fault n)
+told_at text faults.Unknown n b line stopped blames other =
+    let s = stopped (λ e. absurd cc) in
+    with_fault text n b line (λ said bytes. EachBreaks (Repeats said) bytes) s (blames_name b s.goes_on.go_on.said line s.goes_on.said_is blames)
+told_at text faults.OutOfRange n b line stopped blames other =
+    let s = stopped (λ e. absurd cc) in
+    with_fault text n b line (λ said bytes. EachBreaks (IsOver said) bytes) s (blames_count b s.goes_on.go_on.said line s.within s.goes_on.said_is blames)
+told_at text faults.OutOfOrder n b line stopped blames other =
+    inl (with_fault text n b line (λ said bytes. SaysLine bytes) (stopped (λ e. absurd cc)) (blames_order b line blames))
+told_at text faults.Memory n b line stopped blames other = absurd (other refl)

@@ -1,12 +1,18 @@
--- Refusals: which line of a text is told.
-use Rattle.std.specs.Prelude.{ℕ, ◌≡◌, ◌+◌, ◌==◌, ◌⊎◌, not, List, [], ◌∷◌, ◌++◌, length, filter}
-use Rattle.std.specs.List.{slice_split, AllZip}
+-- Refusals: which line of a text is told, and what each fault says of it.
+use Rattle.std.specs.Prelude.{ℕ, ◌≡◌, ◌+◌, ◌<◌, ◌≤◌, ◌^◌, ◌==◌, ◌⊎◌, not, List, [], ◌∷◌, ◌++◌, length, map, filter, IsUtf8}
+use Rattle.std.specs.List.{flat_map, slice_split, AllZip}
+use Rattle.ifs_base.specs.Sizes.{TextFits, PeriodFits}
+use Rattle.ifs_base.specs.Spelling.{HasSpelling}
+use Rattle.ifs_base.specs.declared.op.Op.{Op}
+use Rattle.ifs_image.specs.declared.parts.Handlers.{Handlers}
+use Rattle.ifs_image.specs.declared.parts.Routine.{Routine}
 use Rattle.ifs_image.specs.declared.parts.ImageParts.{ImageParts}
-use Rattle.ifs_image.specs.Limits.{Fits, InRange}
+use Rattle.ifs_image.specs.Limits.{Fits, InRange, HandlersInRange, instructions}
 use Rattle.ifs_asm.specs.declared.fault.AsmFault.{AsmFault}
 use Rattle.ifs_asm.specs.declared.fault.AsmFault.TheVariants.{Unknown, OutOfRange, OutOfOrder, Memory}
 use Rattle.ifs_asm.specs.declared.line.Line.{Line}
-use Rattle.ifs_asm.specs.Texts.{lines_of}
+use Rattle.ifs_asm.specs.declared.line.Line.TheVariants as lines
+use Rattle.ifs_asm.specs.Texts.{routine_lines, lines_of}
 use Rattle.ifs_asm.specs.Spellings.{Says, Spells, is_silent}
 
 -- Lines without the last one, where that is empty.
@@ -38,8 +44,83 @@ pub record GoOn (lines : List (List ℕ)) : Type 0 where
   pub says : AllZip Says (speaking lines) said
   pub begin : Begin said
 
--- A line of a text, counted from 1, is the first with which its lines do not go on.
-pub record StopsAt (text : List ℕ) (number : ℕ) : Type 0 where
+-- A text of 1 to 1,024 bytes without a NUL, in UTF-8.
+pub record TextGood (text : List ℕ) : Type 0 where
+  pub fits : TextFits text
+  pub utf8 : IsUtf8 text
+
+-- What a line keeps to: its numbers, its list and its texts are in their ranges.
+abbrev pub LineFits : Line → Type 0
+LineFits lines.Version = Unit {0}
+LineFits (lines.Stack n) = n ≤ 32
+LineFits (lines.Frames n) = n ≤ 32
+LineFits (lines.Cost n) = n ≤ 300000
+LineFits (lines.Commands n) = n ≤ 64
+LineFits (lines.Start n) = n.0 < 2 ^ 16
+LineFits (lines.Always h) = HandlersInRange h
+LineFits (lines.Interface name) = TextGood name
+LineFits (lines.Test t) = PeriodFits t.period × TextGood t.text
+LineFits (lines.Command text) = TextGood text
+LineFits (lines.State s) = TextGood s.name × HandlersInRange s.handlers
+LineFits (lines.Routine results) = results ≤ 1
+LineFits (lines.Instruction op) = HasSpelling op
+
+-- Whatever line in its ranges bytes say, it breaks a rule.
+abbrev pub EachBreaks : (Line → Type 0) → List ℕ → Type 0
+EachBreaks Breaks bytes = (line : Line) → Says bytes line → LineFits line → Breaks line
+
+-- A line stands among others.
+pub record StandsIn (said : List Line) (line : Line) : Type 0 where
+  pub before : List Line
+  pub after : List Line
+  pub whole : said ≡ before ++ line ∷ after
+
+-- The name of an interface or of a state was said before.
+abbrev pub Repeats : List Line → Line → Type 0
+Repeats said (lines.Interface name) = StandsIn said (lines.Interface name)
+Repeats said (lines.State s) = (handlers : Handlers) × StandsIn said (lines.State (record { name = s.name; handlers = handlers }))
+Repeats said _ = ⊥
+
+-- So many lines of one kind stand in a row.
+pub record HasMany {X : Type 0} (line : X → Line) (many : ℕ) (said : List Line) : Type 0 where
+  pub before : List Line
+  pub entries : List X
+  pub after : List Line
+  pub whole : said ≡ before ++ (map line entries ++ after)
+  pub enough : many ≤ length entries
+
+-- Routines with something that is said of them stand at the end.
+pub record EndsWith (Enough : List Routine → Type 0) (said : List Line) : Type 0 where
+  pub before : List Line
+  pub routines : List Routine
+  pub whole : said ≡ before ++ flat_map routine_lines routines
+  pub enough : Enough routines
+
+-- The last routine has its 1,024 instructions.
+pub record IsLong (said : List Line) : Type 0 where
+  pub before : List Line
+  pub code : List Op
+  pub whole : said ≡ before ++ map lines.Instruction code
+  pub enough : 1024 ≤ length code
+
+-- A count leaves no room for a line: of its table, of its routine, or of all instructions.
+abbrev pub IsOver : List Line → Line → Type 0
+IsOver said (lines.Interface name) = HasMany lines.Interface 64 said
+IsOver said (lines.Test test) = HasMany lines.Test 64 said
+IsOver said (lines.Command text) = HasMany lines.Command 1024 said
+IsOver said (lines.State s) = HasMany lines.State 256 said
+IsOver said (lines.Routine results) = EndsWith (λ routines. 1024 ≤ length routines) said
+IsOver said (lines.Instruction op) = IsLong said ⊎ EndsWith (λ routines. 8192 ≤ instructions routines) said
+IsOver said _ = ⊥
+
+-- Bytes say a line in its ranges.
+pub record SaysLine (bytes : List ℕ) : Type 0 where
+  pub line : Line
+  pub says : Says bytes line
+  pub fits : LineFits line
+
+-- A line of a text, counted from 1, is the first with which its lines do not go on; something holds of it, after what was said before.
+pub record StopsAt (text : List ℕ) (number : ℕ) (Fault : List Line → List ℕ → Type 0) : Type 0 where
   pub before : List (List ℕ)
   pub line : List ℕ
   pub after : List (List ℕ)
@@ -47,6 +128,7 @@ pub record StopsAt (text : List ℕ) (number : ℕ) : Type 0 where
   pub number_is : number ≡ length before + 1
   pub go_on : GoOn before
   pub stop : GoOn (before ++ line ∷ []) → ⊥
+  pub fault : Fault go_on.said line
 
 -- All lines of a text go on, and something is missing behind them; the number is one over theirs.
 pub record EndsEarly (text : List ℕ) (number : ℕ) : Type 0 where
@@ -54,9 +136,11 @@ pub record EndsEarly (text : List ℕ) (number : ℕ) : Type 0 where
   pub missing : (image : ImageParts) → Spells text image → ⊥
   pub number_is : number ≡ length (text_lines text) + 1
 
--- What a refusal says of a text, by the line that it tells. Want of memory says nothing of one.
+-- What a refusal says of a text, at the line that it tells. Unknown: what is said there in its ranges, if anything is, repeats a
+-- name. Out of range: it passes a count. Out of order: something is said there in its ranges, which cannot follow; or something
+-- is missing at the end. Want of memory says nothing of a line.
 abbrev pub IsRefused : List ℕ → AsmFault → Type 0
-IsRefused text (Unknown line) = StopsAt text line
-IsRefused text (OutOfRange line) = StopsAt text line
-IsRefused text (OutOfOrder line) = StopsAt text line ⊎ EndsEarly text line
+IsRefused text (Unknown line) = StopsAt text line (λ said bytes. EachBreaks (Repeats said) bytes)
+IsRefused text (OutOfRange line) = StopsAt text line (λ said bytes. EachBreaks (IsOver said) bytes)
+IsRefused text (OutOfOrder line) = StopsAt text line (λ said bytes. SaysLine bytes) ⊎ EndsEarly text line
 IsRefused text Memory = ⊥

@@ -9,6 +9,7 @@ ghost use Rattle.ifs_image.specs.Reading.{stands_in};
 ghost use Rattle.ifs_base.specs.declared.op.Op.TheVariants.{Ret};
 ghost use Rattle.ifs_asm.specs.declared.line.Line.TheVariants as lines;
 ghost use Rattle.ifs_asm.specs.inner.Forms.{formed};
+ghost use Rattle.ifs_asm.specs.inner.Reading.{Blames};
 ghost use Rattle.ifs_asm.specs.inner.Building.{Built, has_name, is_full, is_in_order, with_line, step, nothing, parts_of};
 
 use crate::fault::LineFault;
@@ -45,6 +46,7 @@ pub(crate) struct Building {
 }
 
 impl Model for Building {
+    ghost use Rattle.ifs_asm.specs.inner.Reading.{Blames};
     ghost use Rattle.ifs_asm.specs.inner.Building.{Built, opened};
 
     ghost Value = { Built };
@@ -97,9 +99,10 @@ impl Building {
 
     /// Takes a line that fits a form.
     pub(crate) fn take(&mut self, form: Formed) -> Result<(), LineFault>
-        ensures { MatchResult result
+        ensures taken { MatchResult result
             (λ _. option_and_then (step self.old) (formed (Some form)) ≡ Some self.new)
             (λ fault. fault ≢ faults.Memory → option_and_then (step self.old) (formed (Some form)) ≡ None) }
+        ensures blamed { IfErr result (λ fault. Blames self.old (formed (Some form)) fault) }
     {
         self.check(&form)?;
         self.add(form.line)?;
@@ -108,9 +111,10 @@ impl Building {
 
     /// Whether a line may be said now: its name is new, it is in its range, its table has room, and it is in order.
     fn check(&self, form: &Formed) -> Result<(), LineFault>
-        ensures { MatchResult result
+        ensures taken { MatchResult result
             (λ _. option_and_then (step self.now) (formed (Some form.now)) ≡ Some (with_line self.now form.now.line))
             (λ _. option_and_then (step self.now) (formed (Some form.now)) ≡ None) }
+        ensures blamed { IfErr result (λ fault. Blames self.now (formed (Some form.now)) fault) }
     {
         if self.has_name(&form.line) {
             return Err(LineFault::Unknown);

@@ -7,7 +7,8 @@ ghost use Rattle.ifs_asm.specs.declared.fault.AsmFault.TheVariants.{Memory};
 ghost use Rattle.ifs_asm.specs.declared.fault.LineFault.TheVariants as faults;
 ghost use Rattle.ifs_asm.specs.Refused.{IsRefused, text_lines};
 ghost use Rattle.ifs_asm.specs.Spellings.{Spells};
-ghost use Rattle.ifs_asm.specs.inner.Building.{built_by, spoken_line};
+ghost use Rattle.ifs_asm.specs.inner.Building.{built_by, line_in, spoken_line};
+ghost use Rattle.ifs_asm.specs.inner.Reading.{Blames};
 
 use crate::building::Building;
 use crate::fault::{AsmFault, LineFault};
@@ -66,9 +67,10 @@ fn newline(text: &[u8]) -> Option<usize>
 
 /// Takes a line, unless it is empty or a comment.
 fn take_line(alloc: Global, building: &mut Building, line: &[u8]) -> Result<(), LineFault>
-    ensures { MatchResult result
+    ensures taken { MatchResult result
         (λ _. built_by building.old (spoken_line line.now) ≡ Some building.new)
         (λ fault. fault ≢ faults.Memory → built_by building.old (spoken_line line.now) ≡ None) }
+    ensures blamed { IfErr result (λ fault. Blames building.old (line_in line.now) fault) }
 {
     if is_silent(line) {
         return Ok(());

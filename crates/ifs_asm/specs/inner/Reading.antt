@@ -1,11 +1,12 @@
 -- What is known while the lines of a text are read.
-use Rattle.std.specs.Prelude.{ℕ, ◌≡◌, ◌+◌, ◌≤◌, List, ◌++◌, length, Some}
+use Rattle.std.specs.Prelude.{ℕ, ◌≡◌, ◌+◌, ◌≤◌, List, ◌++◌, length, true, Option, Some}
 use Rattle.ifs_asm.specs.declared.fault.AsmFault.{AsmFault}
 use Rattle.ifs_asm.specs.declared.fault.AsmFault.TheVariants as told
 use Rattle.ifs_asm.specs.declared.fault.LineFault.{LineFault}
 use Rattle.ifs_asm.specs.declared.fault.LineFault.TheVariants.{Unknown, OutOfRange, OutOfOrder, Memory}
+use Rattle.ifs_asm.specs.declared.line.Line.{Line}
 use Rattle.ifs_asm.specs.Refused.{text_lines, speaking}
-use Rattle.ifs_asm.specs.inner.Building.{Built, built_by, nothing}
+use Rattle.ifs_asm.specs.inner.Building.{Built, has_name, is_full, built_by, nothing}
 
 -- The lines before the rest of a text said what was built; the next line has the number after theirs. Each took a byte.
 pub record AreRead (text left : List ℕ) (b : Built) (number : ℕ) : Type 0 where
@@ -21,3 +22,10 @@ fault_at Unknown number = told.Unknown number
 fault_at OutOfRange number = told.OutOfRange number
 fault_at OutOfOrder number = told.OutOfOrder number
 fault_at Memory number = told.Memory
+
+-- What a fault says of the line that is read, if one is, after what was built.
+abbrev pub Blames : Built → Option Line → LineFault → Type 0
+Blames b read Unknown = (line : Line) → read ≡ Some line → has_name b line ≡ true
+Blames b read OutOfRange = (line : Line) → read ≡ Some line → is_full b line ≡ true
+Blames b read OutOfOrder = (line : Line) × (read ≡ Some line)
+Blames b read Memory = Unit {0}

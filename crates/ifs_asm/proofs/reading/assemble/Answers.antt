@@ -10,20 +10,21 @@ use Rattle.ifs_asm.proofs.Told.{reads_on, stops_at, stops_spell_none, all_read, 
 use Rattle.ifs_asm.proofs.reading.assemble.Goals as goal
 
 pub loop-left-preserved : goal.loop-left-preserved
-loop-left-preserved c = reads_on c.args.text.now c.loop-left.left.now c.split_line.result.0.now c.split_line.result.1.now c.loop-left.building _ c.loop-left.line _ c.loop-left.invariant c.split_line.ensures.cut c.split_line.ensures.shorter c.in_default.ensures refl
+loop-left-preserved c = reads_on c.args.text.now c.loop-left.left.now c.split_line.result.0.now c.split_line.result.1.now c.loop-left.building _ c.loop-left.line _ c.loop-left.invariant c.split_line.ensures.cut c.split_line.ensures.shorter c.in_default.ensures.taken refl
 
 pub returns-in-Err-clause-refused : goal.returns-in-Err-clause-refused
 returns-in-Err-clause-refused c = λ other image spells.
-    stops_spell_none c.args.text.now c.loop-left.line image
+    stops_spell_none c.args.text.now c.loop-left.line c.loop-left.building c.split_line.result.0.now image
     (stops_at c.args.text.now c.loop-left.left.now c.split_line.result.0.now c.split_line.result.1.now c.loop-left.building c.loop-left.line c.loop-left.invariant c.split_line.ensures.cut
-    (c.in-Err.ensures (λ e. other (c.at.ensures ∙ ap (λ fault. fault_at fault c.loop-left.line) e))))
+    (c.in-Err.ensures.taken (λ e. other (c.at.ensures ∙ ap (λ fault. fault_at fault c.loop-left.line) e))))
     spells
 
 pub returns-in-Err-clause-told : goal.returns-in-Err-clause-told
 returns-in-Err-clause-told c = λ other.
     subst (IsRefused c.args.text.now) (sym c.at.ensures)
-    (told_at c.args.text.now c.in-Err.fault c.loop-left.line
-    (λ known. stops_at c.args.text.now c.loop-left.left.now c.split_line.result.0.now c.split_line.result.1.now c.loop-left.building c.loop-left.line c.loop-left.invariant c.split_line.ensures.cut (c.in-Err.ensures known))
+    (told_at c.args.text.now c.in-Err.fault c.loop-left.line c.loop-left.building c.split_line.result.0.now
+    (λ known. stops_at c.args.text.now c.loop-left.left.now c.split_line.result.0.now c.split_line.result.1.now c.loop-left.building c.loop-left.line c.loop-left.invariant c.split_line.ensures.cut (c.in-Err.ensures.taken known))
+    c.in-Err.ensures.blamed
     (λ e. other (c.at.ensures ∙ e)))
 
 pub new-requires : goal.new-requires

@@ -1,0 +1,205 @@
+-- What a refused line did: it repeats a name, passes a count, or cannot follow.
+use Rattle.std.proofs.Common.{◌≡◌, ℕ, ◌≤◌, Bool, true, false, List, [], ◌∷◌, ◌++◌, length, map, take, Option, Some, None, refl, sym, ap, subst, ◌∙◌, arith, append_assoc, inl, inr}
+use Rattle.std.specs.Prelude.{◌||◌, ◌⊎◌, not, nat_lt}
+use Rattle.std.specs.List.{flat_map}
+use Rattle.std.specs.Str.{bytes_eq}
+use Rattle.std.proofs.lemmas.Bool.Decides.{nat_tests}
+use Rattle.std.proofs.lemmas.List.{append-nil}
+use Rattle.std.proofs.lemmas.List.Concat.{flat_map-append}
+use Rattle.ifs_image.specs.declared.parts.Handlers.{Handlers}
+use Rattle.ifs_image.specs.declared.parts.StateSpec.{StateSpec}
+use Rattle.ifs_image.specs.declared.parts.Routine.{Routine}
+use Rattle.ifs_image.specs.Limits.{names_of}
+use Rattle.ifs_image.specs.Reading.{stands_in}
+use Rattle.ifs_asm.specs.declared.fault.LineFault.TheVariants as faults
+use Rattle.ifs_asm.specs.declared.forms.Formed.{Formed}
+use Rattle.ifs_asm.specs.declared.line.Line.{Line}
+use Rattle.ifs_asm.specs.declared.line.Line.TheVariants as lines
+use Rattle.ifs_asm.specs.Texts.{front_lines, routine_lines}
+use Rattle.ifs_asm.specs.Refused.{EachBreaks, StandsIn, Repeats, IsLong, IsOver, SaysLine}
+use Rattle.ifs_asm.specs.inner.Forms.{formed}
+use Rattle.ifs_asm.specs.inner.Building.{Built, listed_routine, current_len, parts_of, lines_said, has_name, is_full, line_in}
+use Rattle.ifs_asm.specs.inner.Reading.{Blames}
+use Rattle.ifs_asm.proofs.Bytes.{same_word}
+use Rattle.ifs_asm.proofs.BuildFits.{IsWithin}
+use Rattle.ifs_asm.proofs.TextLaws.{line_in_found, line_in_again}
+
+-- ---- a line among others
+
+in_left : (xs ys : List Line) (l : Line) → StandsIn xs l → StandsIn (xs ++ ys) l
+in_left xs ys l s = record { before = s.before; after = s.after ++ ys; whole = ap (λ (ls : List Line). ls ++ ys) s.whole ∙ append_assoc s.before (l ∷ s.after) ys }
+
+in_right : (xs ys : List Line) (l : Line) → StandsIn ys l → StandsIn (xs ++ ys) l
+in_right xs ys l s = record { before = xs ++ s.before; after = s.after; whole = ap (λ (ls : List Line). xs ++ ls) s.whole ∙ sym (append_assoc xs s.before (l ∷ s.after)) }
+
+in_more : (x : Line) (xs : List Line) (l : Line) → StandsIn xs l → StandsIn (x ∷ xs) l
+in_more x xs l s = record { before = x ∷ s.before; after = s.after; whole = ap (λ (ls : List Line). x ∷ ls) s.whole }
+
+name_case : (name x : List ℕ) (xs : List (List ℕ)) (b : Bool) → bytes_eq x name ≡ b → (b || stands_in name xs) ≡ true → (stands_in name xs ≡ true → StandsIn (map lines.Interface xs) (lines.Interface name))
+    → StandsIn (map lines.Interface (x ∷ xs)) (lines.Interface name)
+name_case name x xs true same h ih = record { before = []; after = map lines.Interface xs; whole = ap (λ (n : List ℕ). lines.Interface n ∷ map lines.Interface xs) (same_word x name same) }
+name_case name x xs false same h ih = in_more (lines.Interface x) (map lines.Interface xs) (lines.Interface name) (ih h)
+
+interface_in : (name : List ℕ) (xs : List (List ℕ)) → stands_in name xs ≡ true → StandsIn (map lines.Interface xs) (lines.Interface name)
+interface_in name [] h = absurd cc
+interface_in name (x ∷ xs) h = name_case name x xs (bytes_eq x name) refl h (interface_in name xs)
+
+-- A state of a name.
+record Named (xs : List StateSpec) (name : List ℕ) : Type 0 where
+  handlers : Handlers
+  stands : StandsIn (map lines.State xs) (lines.State (record { name = name; handlers = handlers }))
+
+state_case : (name : List ℕ) (x : StateSpec) (xs : List StateSpec) (b : Bool) → bytes_eq x.name name ≡ b → (b || stands_in name (names_of xs)) ≡ true → (stands_in name (names_of xs) ≡ true → Named xs name) → Named (x ∷ xs) name
+state_case name x xs true same h ih = record {
+  handlers = x.handlers;
+  stands = record { before = []; after = map lines.State xs; whole = ap (λ (n : List ℕ). lines.State (record { name = n; handlers = x.handlers }) ∷ map lines.State xs) (same_word x.name name same) };
+}
+state_case name x xs false same h ih =
+    let n = ih h in
+    record { handlers = n.handlers; stands = in_more (lines.State x) (map lines.State xs) (lines.State (record { name = name; handlers = n.handlers })) n.stands }
+
+state_in : (name : List ℕ) (xs : List StateSpec) → stands_in name (names_of xs) ≡ true → Named xs name
+state_in name [] h = absurd cc
+state_in name (x ∷ xs) h = state_case name x xs (bytes_eq x.name name) refl h (state_in name xs)
+
+repeats : (b : Built) (l : Line) → has_name b l ≡ true → Repeats (lines_said b) l
+repeats b (lines.Interface name) h =
+    let f = take b.front (front_lines (parts_of b)) in
+    let i = f ++ map lines.Interface b.interfaces in
+    let t = i ++ map lines.Test b.tests in
+    let c = t ++ map lines.Command b.commands in
+    let s = c ++ map lines.State b.states in
+    let l = lines.Interface name in
+    in_left s (flat_map routine_lines (b.routines ++ listed_routine b.current)) l (in_left c (map lines.State b.states) l (in_left t (map lines.Command b.commands) l
+    (in_left i (map lines.Test b.tests) l (in_right f (map lines.Interface b.interfaces) l (interface_in name b.interfaces h)))))
+repeats b (lines.State x) h =
+    let f = take b.front (front_lines (parts_of b)) in
+    let c = f ++ map lines.Interface b.interfaces ++ map lines.Test b.tests ++ map lines.Command b.commands in
+    let n = state_in x.name b.states h in
+    let l = lines.State (record { name = x.name; handlers = n.handlers }) in
+    (n.handlers, in_left (c ++ map lines.State b.states) (flat_map routine_lines (b.routines ++ listed_routine b.current)) l (in_right c (map lines.State b.states) l n.stands))
+repeats b lines.Version h = absurd cc
+repeats b (lines.Stack n) h = absurd cc
+repeats b (lines.Frames n) h = absurd cc
+repeats b (lines.Cost n) h = absurd cc
+repeats b (lines.Commands n) h = absurd cc
+repeats b (lines.Start n) h = absurd cc
+repeats b (lines.Always handlers) h = absurd cc
+repeats b (lines.Test t) h = absurd cc
+repeats b (lines.Command text) h = absurd cc
+repeats b (lines.Routine results) h = absurd cc
+repeats b (lines.Instruction op) h = absurd cc
+
+-- ---- counts
+
+no_room : (n most : ℕ) → not (nat_lt n most) ≡ true → most ≤ n
+no_room n most e = grind (arith, nat_tests)
+
+parted_two : (f i t c s r : List Line) → f ++ i ++ t ++ c ++ s ++ r ≡ f ++ (i ++ (t ++ (c ++ (s ++ r))))
+parted_two f i t c s r = simp append_assoc
+
+parted_three : (f i t c s r : List Line) → f ++ i ++ t ++ c ++ s ++ r ≡ (f ++ i) ++ (t ++ (c ++ (s ++ r)))
+parted_three f i t c s r = simp append_assoc
+
+parted_four : (f i t c s r : List Line) → f ++ i ++ t ++ c ++ s ++ r ≡ (f ++ i ++ t) ++ (c ++ (s ++ r))
+parted_four f i t c s r = simp append_assoc
+
+parted_five : (f i t c s r : List Line) → f ++ i ++ t ++ c ++ s ++ r ≡ (f ++ i ++ t ++ c) ++ (s ++ r)
+parted_five f i t c s r = simp append_assoc
+
+either_true : (x y : Bool) → (x || y) ≡ true → (x ≡ true) ⊎ (y ≡ true)
+either_true true y h = inl refl
+either_true false y h = inr h
+
+short_none : not (nat_lt 0 1024) ≡ true → ⊥
+short_none h = absurd cc
+
+routines_more : (rs : List Routine) (r : Routine) → flat_map routine_lines (rs ++ r ∷ []) ≡ flat_map routine_lines rs ++ routine_lines r
+routines_more rs r = flat_map-append routine_lines rs (r ∷ []) ∙ ap (λ (ls : List Line). flat_map routine_lines rs ++ ls) (append-nil (routine_lines r))
+
+is_long : (before : List Line) (rs : List Routine) (o : Option Routine) → not (nat_lt (current_len o) 1024) ≡ true → IsLong (before ++ flat_map routine_lines (rs ++ listed_routine o))
+is_long before rs None h = absurd (short_none h)
+is_long before rs (Some r) h =
+    let last = lines.Routine r.results in
+    let code = map lines.Instruction r.code in
+    let routines = flat_map routine_lines rs in
+    record {
+      before = (before ++ routines) ++ last ∷ [];
+      code = r.code;
+      whole = ap (λ (ls : List Line). before ++ ls) (routines_more rs r) ∙ sym (append_assoc before routines (last ∷ code)) ∙ sym (append_assoc (before ++ routines) (last ∷ []) code);
+      enough = no_room (length r.code) 1024 h;
+    }
+
+over : (b : Built) (l : Line) → IsWithin b → is_full b l ≡ true → IsOver (lines_said b) l
+over b (lines.Interface name) w h = record {
+  before = take b.front (front_lines (parts_of b));
+  entries = b.interfaces;
+  after = map lines.Test b.tests ++ (map lines.Command b.commands ++ (map lines.State b.states ++ flat_map routine_lines (b.routines ++ listed_routine b.current)));
+  whole = parted_two (take b.front (front_lines (parts_of b))) (map lines.Interface b.interfaces) (map lines.Test b.tests) (map lines.Command b.commands) (map lines.State b.states) (flat_map routine_lines (b.routines ++ listed_routine b.current));
+  enough = no_room (length b.interfaces) 64 h;
+}
+over b (lines.Test t) w h = record {
+  before = take b.front (front_lines (parts_of b)) ++ map lines.Interface b.interfaces;
+  entries = b.tests;
+  after = map lines.Command b.commands ++ (map lines.State b.states ++ flat_map routine_lines (b.routines ++ listed_routine b.current));
+  whole = parted_three (take b.front (front_lines (parts_of b))) (map lines.Interface b.interfaces) (map lines.Test b.tests) (map lines.Command b.commands) (map lines.State b.states) (flat_map routine_lines (b.routines ++ listed_routine b.current));
+  enough = no_room (length b.tests) 64 h;
+}
+over b (lines.Command text) w h = record {
+  before = take b.front (front_lines (parts_of b)) ++ map lines.Interface b.interfaces ++ map lines.Test b.tests;
+  entries = b.commands;
+  after = map lines.State b.states ++ flat_map routine_lines (b.routines ++ listed_routine b.current);
+  whole = parted_four (take b.front (front_lines (parts_of b))) (map lines.Interface b.interfaces) (map lines.Test b.tests) (map lines.Command b.commands) (map lines.State b.states) (flat_map routine_lines (b.routines ++ listed_routine b.current));
+  enough = no_room (length b.commands) 1024 h;
+}
+over b (lines.State x) w h = record {
+  before = take b.front (front_lines (parts_of b)) ++ map lines.Interface b.interfaces ++ map lines.Test b.tests ++ map lines.Command b.commands;
+  entries = b.states;
+  after = flat_map routine_lines (b.routines ++ listed_routine b.current);
+  whole = parted_five (take b.front (front_lines (parts_of b))) (map lines.Interface b.interfaces) (map lines.Test b.tests) (map lines.Command b.commands) (map lines.State b.states) (flat_map routine_lines (b.routines ++ listed_routine b.current));
+  enough = no_room (length b.states) 256 h;
+}
+over b (lines.Routine results) w h = record {
+  before = take b.front (front_lines (parts_of b)) ++ map lines.Interface b.interfaces ++ map lines.Test b.tests ++ map lines.Command b.commands ++ map lines.State b.states;
+  routines = b.routines ++ listed_routine b.current;
+  whole = refl;
+  enough = no_room (length (b.routines ++ listed_routine b.current)) 1024 h;
+}
+over b (lines.Instruction op) w h =
+    let front = take b.front (front_lines (parts_of b)) ++ map lines.Interface b.interfaces ++ map lines.Test b.tests ++ map lines.Command b.commands ++ map lines.State b.states in
+    elim (either_true (not (nat_lt (current_len b.current) 1024)) (not (nat_lt b.count 8192)) h) [
+      | inl p ↦ inl (is_long front b.routines b.current p)
+      | inr p ↦ inr (record {
+        before = front;
+        routines = b.routines ++ listed_routine b.current;
+        whole = refl;
+        enough = omega (arith, no_room b.count 8192 p, w.together);
+      })
+    ]
+over b lines.Version w h = absurd cc
+over b (lines.Stack n) w h = absurd cc
+over b (lines.Frames n) w h = absurd cc
+over b (lines.Cost n) w h = absurd cc
+over b (lines.Commands n) w h = absurd cc
+over b (lines.Start n) w h = absurd cc
+over b (lines.Always handlers) w h = absurd cc
+
+-- ---- what a fault says of the lines said before
+
+pub blames_name : (b : Built) (said : List Line) (bytes : List ℕ) → lines_said b ≡ said → Blames b (line_in bytes) faults.Unknown → EachBreaks (Repeats said) bytes
+blames_name b said bytes same blames = λ line says fits.
+    subst (λ (ls : List Line). Repeats ls line) same (repeats b line (blames line (line_in_again bytes line says fits)))
+
+pub blames_count : (b : Built) (said : List Line) (bytes : List ℕ) → IsWithin b → lines_said b ≡ said → Blames b (line_in bytes) faults.OutOfRange → EachBreaks (IsOver said) bytes
+blames_count b said bytes within same blames = λ line says fits.
+    subst (λ (ls : List Line). IsOver ls line) same (over b line within (blames line (line_in_again bytes line says fits)))
+
+pub blames_order : (b : Built) (bytes : List ℕ) → Blames b (line_in bytes) faults.OutOfOrder → SaysLine bytes
+blames_order b bytes blames =
+    let f = line_in_found bytes blames.0 blames.1 in
+    record { line = blames.0; says = f.0; fits = f.1 }
+
+-- ---- a form whose numbers and texts are in their ranges says a line
+
+pub form_late : (b : Built) (form : Formed) → form.fits ≡ true → Blames b (formed (Some form)) faults.OutOfOrder
+form_late b form h = (form.line, rw h refl)

@@ -1,0 +1,5 @@
+use Rattle.ifs_asm.proofs.Blamed.{form_late}
+use Rattle.ifs_asm.proofs.building.Building.check.Goals as goal
+
+pub returns-then-not-is_in_order-clause-blamed : goal.returns-then-not-is_in_order-clause-blamed
+returns-then-not-is_in_order-clause-blamed c = form_late c.args.self.now c.args.form.now c.if-not-form.false
