@@ -2,7 +2,7 @@
 
 use ifs_asm::{assemble, disassemble};
 use ifs_image::{Image, read, write};
-use ifs_rows::{bytes_of, images};
+use ifs_rows::{LARGEST_BYTES, bytes_of, images, largest_listing};
 use std::alloc::{AllocError, Global};
 use std::process::Abort;
 use std::test::Fail;
@@ -69,6 +69,7 @@ const CHANGED: &str = "
 1 => ifsv 01 => A1 line 1
 1 => ifsv 3 => A1 line 1
 1 => \troutine  results 0 => A3 line 1
+1 => routine results 2 => A2 line 1
 1 => routine params - results - => A1 line 1
 2 => stack 33 => A2 line 2
 2 => stack 032 => ok 61 bytes
@@ -118,6 +119,7 @@ const CHANGED: &str = "
 8 => state \"a\tb\" init 0 body 0 tests - => A1 line 8
 8 => state \"a\r\" init 0 body 0 tests - => A1 line 8
 8 => stack 0|state \"a\" init 0 body 0 tests - => A3 line 8
+8 => stack 33|state \"a\" init 0 body 0 tests - => A2 line 8
 8 => iface \"x\"|iface \"x\"|state \"a\" init 0 body 0 tests - => A1 line 9
 8 => command \"x\"|command \"x\"|state \"a\" init 0 body 0 tests - => ok 67 bytes
 8 => command \"x\"|iface \"x\"|state \"a\" init 0 body 0 tests - => A3 line 9
@@ -440,4 +442,42 @@ fn check_name(rt: &impl Abort, alloc: Global, end: &str, wanted: &str) -> Result
 fn takes_texts_of_1024_bytes(rt: HostRuntime) -> Result<(), Fail> {
     check_name(&rt, rt.alloc(), "", "ok 1084 bytes")?;
     check_name(&rt, rt.alloc(), "\\x41", "A2 line 8")
+}
+
+/// Asserts that a text spells an image of so many bytes, and that these are listed and assembled again as they are.
+fn check_length(rt: &impl Abort, alloc: Global, text: &str, length: usize) -> Result<(), Fail> {
+    let bytes = bytes_in(alloc, text)?;
+    assert_eq!(rt; bytes.len(), length);
+    check_listing(rt, alloc, bytes.as_slice(), text)
+}
+
+fn check_listing(rt: &impl Abort, alloc: Global, bytes: &[u8], wanted: &str) -> Result<(), Fail> {
+    let text = text_in(alloc, bytes)?;
+    let is_wanted = text.as_str() == wanted;
+    assert!(rt; is_wanted);
+    Ok(())
+}
+
+/// Nothing but memory is in the way of the largest image: it is assembled, written, read and listed.
+#[test]
+fn takes_the_largest_image(rt: HostRuntime) -> Result<(), Fail> {
+    let text = largest_listing(rt.alloc())?;
+    check_length(&rt, rt.alloc(), text.as_str(), LARGEST_BYTES)
+}
+
+/// The smallest image's text behind so many empty lines, and a line too many at its end.
+#[test]
+fn counts_lines_beyond_65_535(rt: HostRuntime) -> Result<(), Fail> {
+    let mut text = String::new(rt.alloc());
+    for _ in 0..70_000 {
+        text.push_str("\n")?;
+    }
+    text.push_str("ret\n")?;
+    check_told(
+        &rt,
+        rt.alloc(),
+        text.as_str(),
+        "A3 line 70001",
+        "70,000 lines",
+    )
 }

@@ -1,5 +1,8 @@
 //! Images written by hand, what the verifier says of them, and where.
 
+use ifs_asm::assemble;
+use ifs_image::write;
+use ifs_rows::largest_listing;
 use ifs_verify::verify;
 use std::alloc::Global;
 use std::process::Abort;
@@ -32,4 +35,24 @@ fn agree(rt: &impl Abort, alloc: Global, rows: &[Row]) -> Result<(), Fail> {
         assert_eq!(rt; said.as_str(), *wanted, "{name}");
     }
     Ok(())
+}
+
+/// The bytes of the image that a text spells.
+fn bytes_in(alloc: Global, text: &str) -> Result<Vec<u8>, Fail> {
+    let image = assemble(alloc, text)?;
+    Ok(write(alloc, &image)?)
+}
+
+fn check_accepted(rt: &impl Abort, alloc: Global, text: &str) -> Result<(), Fail> {
+    let bytes = bytes_in(alloc, text)?;
+    let said = told(alloc, bytes.as_slice())?;
+    assert_eq!(rt; said.as_str(), "ok");
+    Ok(())
+}
+
+/// Nothing but memory is in the way of the largest image.
+#[test]
+fn accepts_the_largest_image(rt: HostRuntime) -> Result<(), Fail> {
+    let text = largest_listing(rt.alloc())?;
+    check_accepted(&rt, rt.alloc(), text.as_str())
 }

@@ -5,12 +5,14 @@
 pub mod compiling;
 mod hexadecimal;
 pub mod images;
+mod largest;
 pub mod policies;
 mod refused;
 pub mod sessions;
 mod texts;
 
 pub use hexadecimal::{bytes_of, digits_of};
+pub use largest::{LARGEST_BYTES, largest_listing};
 pub use refused::{cost_through_calls, refusals};
 pub use sessions::rows;
 
