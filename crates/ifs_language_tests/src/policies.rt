@@ -344,6 +344,23 @@ fn tables_are_filled(rt: HostRuntime) -> Result<(), Fail> {
     Ok(())
 }
 
+/// A text that fills each table.
+fn all_filled(alloc: Global) -> Result<String, AllocError> {
+    let mut text = String::new(alloc);
+    for (before, after, limit, _, _) in FULL {
+        let part = repeated(alloc, u32::from(limit), before, after, "")?;
+        text.push_str(part.as_str())?;
+    }
+    Ok(text)
+}
+
+#[test]
+fn all_tables_are_filled_at_once(rt: HostRuntime) -> Result<(), Fail> {
+    let text = all_filled(rt.alloc())?;
+    let counts = "ok 64 interfaces 64 tests 1024 commands 256 states\n";
+    check_last(&rt, rt.alloc(), "each table", text.as_str(), counts)
+}
+
 #[test]
 fn one_more_is_told_at_its_line(rt: HostRuntime) -> Result<(), Fail> {
     for (before, after, limit, last, _) in FULL {

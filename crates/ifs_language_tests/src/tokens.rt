@@ -448,6 +448,33 @@ fn a_given_name_more(rt: HostRuntime) -> Result<(), Fail> {
     )
 }
 
+/// A definition for each line of a text, which is its name.
+fn each_given(alloc: Global, names: &str) -> Result<Vec<(&str, &str)>, AllocError> {
+    let mut given = Vec::new(alloc);
+    for name in names.lines() {
+        given.push((name, "a"))?;
+    }
+    Ok(given)
+}
+
+/// As many definitions as there may be names are given beside the text.
+#[test]
+fn as_many_names_are_given(rt: HostRuntime) -> Result<(), Fail> {
+    let mut names = String::new(rt.alloc());
+    for n in 0..256 {
+        writeln!(names, "n{n}")?;
+    }
+    let given = each_given(rt.alloc(), names.as_str())?;
+    check_given(
+        &rt,
+        rt.alloc(),
+        "256 given",
+        "$n255",
+        given.as_slice(),
+        "a end ",
+    )
+}
+
 #[test]
 fn bytes_in_all(rt: HostRuntime) -> Result<(), Fail> {
     let full = repeated(rt.alloc(), "\n", 1_048_576)?;

@@ -164,7 +164,7 @@ fn check_rows(rt: &impl Abort, alloc: Global, rows: &[(&str, &str, &str)]) -> Re
     Ok(())
 }
 
-const BINDING: [(&str, &str, &str); 9] = [
+const BINDING: [(&str, &str, &str); 12] = [
     (
         "binding",
         "state s { if a.link.up || b.link.up && c.link.up run \"echo y\" }",
@@ -196,6 +196,21 @@ const BINDING: [(&str, &str, &str); 9] = [
         "if (!a.up & !!t/7) { run x } ",
     ),
     (
+        "two that have to hold",
+        "if em0.link.up && em1.link.up run x",
+        "if (em0.up & em1.up) { run x } ",
+    ),
+    (
+        "two of which one has to hold",
+        "if em0.link.up || em1.link.up run x",
+        "if (em0.up | em1.up) { run x } ",
+    ),
+    (
+        "a link that is neither up nor down",
+        "if em0.link.unknown run x",
+        "if em0.unknown { run x } ",
+    ),
+    (
         "the first operand is a chain",
         "if a.link.up && b.link.up || c.link.up run x",
         "if ((a.up & b.up) | c.up) { run x } note 1 ",
@@ -212,12 +227,37 @@ const BINDING: [(&str, &str, &str); 9] = [
     ),
 ];
 
-const PLACES: [(&str, &str, &str); 6] = [
+const PLACES: [(&str, &str, &str); 11] = [
     ("empty", "", ""),
     (
         "every item",
         "init-state a state a { init run x if b.link.up set-state a } init { } run y",
         "init-state a at 0 state a at 19 { init at 23 { run x } if b.up { set a at 47 } } init at 61 { } run y ",
+    ),
+    (
+        "one action in an init",
+        "state a { init run \"x\" }",
+        "state a at 6 { init at 10 { run x } } ",
+    ),
+    (
+        "two actions in an init",
+        "state a { init { run \"x\" run \"y\" } }",
+        "state a at 6 { init at 10 { run x run y } } ",
+    ),
+    (
+        "an initial state",
+        "init-state b state a { } state b { }",
+        "init-state b at 0 state a at 19 { } state b at 31 { } ",
+    ),
+    (
+        "a command of three words",
+        "run \"ifconfig carp0 advskew 10\"",
+        "run ifconfig carp0 advskew 10 ",
+    ),
+    (
+        "two actions of an if",
+        "if em0.link.up { run \"x\" set-state b }",
+        "if em0.up { run x set b at 25 } ",
     ),
     (
         "words read by place are names",
@@ -501,6 +541,16 @@ fn what_is_closed_is_open_no_more(rt: HostRuntime) -> Result<(), Fail> {
         let has_tree = parsed(rt.alloc(), text.as_str(), &[])?.is_ok();
         assert!(rt; has_tree, "{part}");
     }
+    Ok(())
+}
+
+/// As many tokens as a text may have are one tree.
+#[test]
+fn a_tree_of_16384_tokens(rt: HostRuntime) -> Result<(), Fail> {
+    let mut text = String::new(rt.alloc());
+    repeat(&mut text, "run x ", 8_192)?;
+    let has_tree = parsed(rt.alloc(), text.as_str(), &[])?.is_ok();
+    assert!(rt; has_tree);
     Ok(())
 }
 
