@@ -13,6 +13,7 @@ use Rattle.ifs_core.specs.Headline.{IsKept}
 use Rattle.ifs_core.specs.Steps.{after_steps}
 use Rattle.ifs_session.specs.declared.fault.SessionFault.{SessionFault}
 use Rattle.ifs_session.specs.declared.fault.SessionFault.TheVariants.{ReadFailed, WriteFailed, TooMuchInput}
+use Rattle.ifs_session.specs.declared.service.Break.{Break}
 use Rattle.ifs_session.specs.declared.service.End.{End}
 use Rattle.ifs_session.specs.declared.service.End.TheVariants.{Closed, Stop, Full, Fault}
 use Rattle.ifs_session.specs.declared.service.ServedLine.{ServedLine}
@@ -21,10 +22,10 @@ use Rattle.ifs_session.specs.Lines.{lines_of, ending}
 use Rattle.ifs_session.specs.Sessions.{Moment, is_stop, EndsLines}
 use Rattle.ifs_session.specs.Hosts.{HostLog, Adds, ran}
 use Rattle.ifs_session.specs.Accounts.{Account, Part, takes_of, texts_of, client_asked, spoken, attended, served, emptied, begun, account}
-use Rattle.ifs_session.specs.Service.{lines_in, GoesOn, Keeps, HasAttended, HasAnswered, EndsAs, Completes, BreaksReading, BreaksWriting, ReadsPast, ConnectionGives}
+use Rattle.ifs_session.specs.Service.{lines_in, GoesOn, Stops, Keeps, HasAttended, HasAnswered, EndsAs, Completes, BreaksReading, BreaksWriting, ReadsPast, ConnectionGives}
 use Rattle.ifs_session.specs.inner.Reading.{ReadFails, ReadsTooMuch}
 use Rattle.ifs_session.specs.inner.Serving.{OnlyReads, OnlyWrites}
-use Rattle.ifs_session.specs.inner.Connections.{Stands, Point, standing, taken_in, Idles, ServesPart, AnswersPart, PartGives, FlushGives, end_of}
+use Rattle.ifs_session.specs.inner.Connections.{Stands, Point, standing, taken_in, Idles, ServesPart, AnswersPart, PartFails, PartGives, FlushGives, end_of}
 use Rattle.ifs_session.proofs.Known.{consumes_nothing, consumes_more, consumes_kept, append_known-append, append_known-nil}
 use Rattle.ifs_session.proofs.Serving.{unlines, ArePlain, unlines-push, ArePlain-push, unlines-ends_lines, last_line, line_ends, all_lines, lines_of-unlines, whole_lines-unlines}
 use Rattle.ifs_session.proofs.Accounting.{empties, all_served-push, attended_said}
@@ -109,7 +110,7 @@ served_before {b} {parts} {origin} {before} {now} after sound u o idle = (
 
 reading_fails : {b : Behaviour} {parts : List Part} {origin : Option HostLog} {before : Moment} {now : Point} (text : List ℕ) (after : Point) → Sound b before → Ongoing b parts origin before now
     → ReadFails text (taken_in now) (taken_in after) → OnlyReads now.moment after.moment → Idles now after
-    → BreaksReading b (unlines (lines_in parts) ++ text) parts after.steps origin after.told before after.moment
+    → BreaksReading b false (unlines (lines_in parts) ++ text) parts after.steps origin after.told before after.moment
 reading_fails {b} {parts} {origin} {before} {now} text after sound u r o idle =
     let whole = whole_lines-unlines (lines_in parts) text u.plain r.plain in
     let done = served_before after sound u o idle in
@@ -122,12 +123,13 @@ reading_fails {b} {parts} {origin} {before} {now} text after sound u r o idle =
       attended = done.0;
       answered = done.1;
       one_fault = r.one_fault ∙ ap counted u.read_faults;
-      go_on = subst (All GoesOn) (sym whole) u.on;
+      stops = subst (All GoesOn) (sym whole) u.on;
+      not_stopped = refl;
     }
 
 reading_past : {b : Behaviour} {parts : List Part} {origin : Option HostLog} {before : Moment} {now : Point} (text : List ℕ) (byte : ℕ) (after : Point) → Sound b before → Ongoing b parts origin before now
     → ReadsTooMuch text byte (taken_in now) (taken_in after) → OnlyReads now.moment after.moment → Idles now after
-    → ReadsPast b (unlines (lines_in parts) ++ text) byte parts after.steps origin after.told before after.moment
+    → ReadsPast b false (unlines (lines_in parts) ++ text) byte parts after.steps origin after.told before after.moment
 reading_past {b} {parts} {origin} {before} {now} text byte after sound u r o idle =
     let whole = whole_lines-unlines (lines_in parts) text u.plain r.plain in
     let done = served_before after sound u o idle in
@@ -139,25 +141,27 @@ reading_past {b} {parts} {origin} {before} {now} text byte after sound u r o idl
       attended = done.0;
       answered = done.1;
       same_faults = r.same_faults ∙ u.read_faults;
-      go_on = subst (All GoesOn) (sym whole) u.on;
+      stops = subst (All GoesOn) (sym whole) u.on;
+      not_stopped = refl;
     }
 
 -- What was written could not go out.
 flushing_fails : {b : Behaviour} {parts : List Part} {origin : Option HostLog} {before : Moment} {now : Point} (after : Point) → Sound b before → Ongoing b parts origin before now
     → OnlyWrites now.moment after.moment → Idles now after → after.moment.write_faults ≡ counted now.moment.write_faults
-    → BreaksWriting b (unlines (lines_in parts)) parts after.steps origin after.told before after.moment
+    → BreaksWriting b false (unlines (lines_in parts)) parts after.steps origin after.told before after.moment
 flushing_fails {b} {parts} {origin} {before} {now} after sound u o idle one = record {
   read = record { given = subst (λ left. Consumes before.left left (unlines (lines_in parts))) (sym o.left) u.given; within = omega (arith, u.spent) };
   whole = unlines-ends_lines (lines_in parts) after.moment.left;
   lines = all_lines (lines_in parts) u.plain;
   attended = attends_so_far b parts origin before after sound (ap (λ c. c.image) o.core ∙ u.image) (idle_stands origin _ now after o.core idle u.stands);
   same_faults = o.same_faults ∙ u.read_faults;
+  stops = subst (All GoesOn) (sym (all_lines (lines_in parts) u.plain)) u.on;
   one_fault = one ∙ ap counted u.write_faults;
 }
 
 -- The input was at its end.
 pub nothing_left : {b : Behaviour} {parts : List Part} {origin : Option HostLog} {before : Moment} {now : Point} (after : Point) → Sound b before → Ongoing b parts origin before now
-    → PartGives b (Ok None) now after → Completes b Closed (unlines (lines_in parts)) parts after.steps origin after.told before after.moment
+    → PartGives b (Ok None) now after → Completes b Closed false (unlines (lines_in parts)) parts after.steps origin after.told before after.moment
 nothing_left {b} {parts} {origin} {before} {now} after sound u (r, o, idle) =
     let all = all_lines (lines_in parts) u.plain in
     let done = served_before after sound u o idle in
@@ -167,7 +171,8 @@ nothing_left {b} {parts} {origin} {before} {now} after sound u (r, o, idle) =
       attended = done.0;
       answered = done.1;
       same_faults = r.same_faults ∙ u.read_faults;
-      ends = (subst (All GoesOn) (sym all) u.on, r.at_end);
+      stops = subst (All GoesOn) (sym all) u.on;
+      ends = (refl, r.at_end);
     }
 
 -- ---- a line was read and attended to
@@ -191,7 +196,7 @@ served_stands : (b : Behaviour) (image : ImageParts) (part : Part) (origin : Opt
     → Stands origin (attended b image part a) (standing now) → Stands origin (served b image part a) (standing now)
 served_stands b image part origin a now h = record { state_is = h.state_is; steps_are = h.steps_are; told_is = h.told_is }
 
-advances : {b : Behaviour} {parts : List Part} {origin : Option HostLog} {before : Moment} {now after : Point} {part : Part} {ended : Bool} → Ongoing b parts origin before now → ServesPart b part ended now after
+advances : {b : Behaviour} {parts : List Part} {origin : Option HostLog} {before : Moment} {now after : Point} {part : Part} {ended stop : Bool} → Ongoing b parts origin before now → ServesPart b part ended stop now after
     → Advances b (parts ++ part ∷ []) origin (unlines (lines_in parts) ++ (part.line ++ ending ended)) before after
 advances {b} {parts} {origin} {before} {now} {after} {part} {ended} u m = record {
   given = consumes_more before.left now.moment.left after.moment.left (unlines (lines_in parts)) (part.line ++ ending ended) u.given m.read.given;
@@ -205,11 +210,19 @@ advances {b} {parts} {origin} {before} {now} {after} {part} {ended} u m = record
       (subst (λ image. Stands origin (attended b image part (so_far b parts before)) (standing after)) u.image (m.attends origin (so_far b parts before) u.stands)));
 }
 
+GoesOn-push : (parts : List Part) (part : Part) → All GoesOn (lines_in parts) → is_stop (client_asked part.line) ≡ false → All GoesOn (lines_in (parts ++ part ∷ []))
+GoesOn-push parts part on last = subst (All GoesOn) (sym (lines_in-push parts part)) (All-append GoesOn (lines_in parts) (part.line ∷ []) on (All-cons GoesOn part.line [] last (All-nil GoesOn)))
+
+-- Whether the service was stopped, by the last line.
+Stops-push : (stop : Bool) (parts : List Part) (part : Part) → All GoesOn (lines_in parts) → stop ≡ is_stop (client_asked part.line) → Stops stop (lines_in (parts ++ part ∷ []))
+Stops-push true parts part on is = (lines_in parts, part.line, lines_in-push parts part, on, sym is)
+Stops-push false parts part on is = GoesOn-push parts part on (sym is)
+
 -- The reply could not be written.
-replying_fails : {b : Behaviour} {parts : List Part} {origin : Option HostLog} {before : Moment} {now after : Point} {part : Part} {ended : Bool} → Sound b before → Ongoing b parts origin before now
-    → ServesPart b part ended now after → after.moment.write_faults ≡ counted now.moment.write_faults
-    → BreaksWriting b (unlines (lines_in parts) ++ (part.line ++ ending ended)) (parts ++ part ∷ []) after.steps origin after.told before after.moment
-replying_fails {b} {parts} {origin} {before} {now} {after} {part} {ended} sound u m one =
+replying_fails : {b : Behaviour} {parts : List Part} {origin : Option HostLog} {before : Moment} {now after : Point} {part : Part} {ended stop : Bool} → Sound b before → Ongoing b parts origin before now
+    → ServesPart b part ended stop now after → after.moment.write_faults ≡ counted now.moment.write_faults
+    → BreaksWriting b stop (unlines (lines_in parts) ++ (part.line ++ ending ended)) (parts ++ part ∷ []) after.steps origin after.told before after.moment
+replying_fails {b} {parts} {origin} {before} {now} {after} {part} {ended} {stop} sound u m one =
     let a = advances u m in
     record {
       read = record { given = a.given; within = omega (arith, a.spent) };
@@ -217,19 +230,27 @@ replying_fails {b} {parts} {origin} {before} {now} {after} {part} {ended} sound 
       lines = a.lines_are;
       attended = attends_so_far b (parts ++ part ∷ []) origin before after sound a.image a.stands;
       same_faults = a.read_faults;
+      stops = subst (Stops stop) (sym a.lines_are) (Stops-push stop parts part u.on m.stops);
       one_fault = one ∙ ap counted u.write_faults;
     }
 
 -- No reply was written.
-pub not_served : {b : Behaviour} {parts : List Part} {origin : Option HostLog} {before : Moment} {now : Point} (fault : SessionFault) (after : Point) → Sound b before → Ongoing b parts origin before now
-    → PartGives b (Err fault) now after → ConnectionGives b (Fault fault) after.steps origin after.told before after.moment
-not_served ReadFailed after sound u (text, r, o, idle) = (_, _, reading_fails text after sound u r o idle)
-not_served TooMuchInput after sound u (text, byte, r, o, idle) = (_, byte, _, reading_past text byte after sound u r o idle)
-not_served WriteFailed after sound u (one, inl (o, idle)) = (_, _, flushing_fails after sound u o idle one)
-not_served WriteFailed after sound u (one, inr (part, ended, m)) = (_, _, replying_fails sound u m one)
+not_done : {b : Behaviour} {parts : List Part} {origin : Option HostLog} {before : Moment} {now : Point} (fault : SessionFault) (stopped : Bool) (after : Point) → Sound b before → Ongoing b parts origin before now
+    → PartFails b fault stopped now after → ConnectionGives b (Fault fault) stopped after.steps origin after.told before after.moment
+not_done {b} {parts} {origin} {before} {now} ReadFailed stopped after sound u (text, r, o, idle, on) =
+    subst (λ s. ConnectionGives b (Fault ReadFailed) s after.steps origin after.told before after.moment) (sym on) (_, _, reading_fails text after sound u r o idle)
+not_done {b} {parts} {origin} {before} {now} TooMuchInput stopped after sound u (text, byte, r, o, idle, on) =
+    subst (λ s. ConnectionGives b (Fault TooMuchInput) s after.steps origin after.told before after.moment) (sym on) (_, byte, _, reading_past text byte after sound u r o idle)
+not_done {b} {parts} {origin} {before} {now} WriteFailed stopped after sound u (one, inl (o, idle, on)) =
+    subst (λ s. ConnectionGives b (Fault WriteFailed) s after.steps origin after.told before after.moment) (sym on) (_, _, flushing_fails after sound u o idle one)
+not_done WriteFailed stopped after sound u (one, inr (part, ended, m)) = (_, _, replying_fails sound u m one)
+
+pub not_served : {b : Behaviour} {parts : List Part} {origin : Option HostLog} {before : Moment} {now : Point} (broken : Break) (after : Point) → Sound b before → Ongoing b parts origin before now
+    → PartGives b (Err broken) now after → ConnectionGives b (Fault broken.fault) broken.stopped after.steps origin after.told before after.moment
+not_served broken after sound u fails = not_done broken.fault broken.stopped after sound u fails
 
 -- And it was replied to.
-answers : {b : Behaviour} {parts : List Part} {origin : Option HostLog} {before : Moment} {now after : Point} {part : Part} {stop : Bool} → Ongoing b parts origin before now → AnswersPart b part stop now after
+answers : {b : Behaviour} {parts : List Part} {origin : Option HostLog} {before : Moment} {now after : Point} {part : Part} → Ongoing b parts origin before now → AnswersPart b part now after
     → HasAnswered b (parts ++ part ∷ []) before after.moment
 answers {b} {parts} {origin} {before} {now} {after} {part} u r =
     let a = so_far b parts before in
@@ -242,12 +263,9 @@ answers {b} {parts} {origin} {before} {now} {after} {part} u r =
       same_faults = r.same_faults ∙ u.write_faults;
     }
 
-GoesOn-push : (parts : List Part) (part : Part) → All GoesOn (lines_in parts) → is_stop (client_asked part.line) ≡ false → All GoesOn (lines_in (parts ++ part ∷ []))
-GoesOn-push parts part on last = subst (All GoesOn) (sym (lines_in-push parts part)) (All-append GoesOn (lines_in parts) (part.line ∷ []) on (All-cons GoesOn part.line [] last (All-nil GoesOn)))
-
 -- The connection goes on after the line.
 goes_on : {b : Behaviour} {parts : List Part} {origin : Option HostLog} {before : Moment} {now after : Point} {part : Part} → Ongoing b parts origin before now
-    → ServesPart b part true now after → AnswersPart b part false now after → Ongoing b (parts ++ part ∷ []) origin before after
+    → ServesPart b part true false now after → AnswersPart b part now after → Ongoing b (parts ++ part ∷ []) origin before after
 goes_on {b} {parts} {origin} {before} {now} {after} {part} u m r =
     let a = advances u m in
     let said = answers u r in
@@ -255,7 +273,7 @@ goes_on {b} {parts} {origin} {before} {now} {after} {part} u m r =
     let all : unlines (lines_in parts) ++ (part.line ++ 10 ∷ []) ≡ unlines (lines_in (parts ++ part ∷ [])) = sym (unlines-push (lines_in parts) part.line) ∙ ap unlines (sym push) in
     record {
       plain = subst ArePlain (sym push) (ArePlain-push (lines_in parts) part.line u.plain m.read.plain);
-      on = GoesOn-push parts part u.on (sym r.stops);
+      on = GoesOn-push parts part u.on (sym m.stops);
       given = subst (λ t. Consumes before.left after.moment.left t) all a.given;
       spent = a.spent ∙ ap (λ t. length t + after.budget) all;
       read_faults = a.read_faults;
@@ -268,10 +286,10 @@ goes_on {b} {parts} {origin} {before} {now} {after} {part} u m r =
 -- ---- its end
 
 completes : {b : Behaviour} {parts : List Part} {origin : Option HostLog} {before : Moment} {now after : Point} {part : Part} {ended stop : Bool} (end : End) → Sound b before → Ongoing b parts origin before now
-    → ServesPart b part ended now after → AnswersPart b part stop now after
-    → EndsAs end (unlines (lines_in parts) ++ (part.line ++ ending ended)) after.steps after.moment
-    → Completes b end (unlines (lines_in parts) ++ (part.line ++ ending ended)) (parts ++ part ∷ []) after.steps origin after.told before after.moment
-completes {b} {parts} {origin} {before} {now} {after} {part} end sound u m r ends =
+    → ServesPart b part ended stop now after → AnswersPart b part now after
+    → EndsAs end stop (unlines (lines_in parts) ++ (part.line ++ ending ended)) after.steps after.moment
+    → Completes b end stop (unlines (lines_in parts) ++ (part.line ++ ending ended)) (parts ++ part ∷ []) after.steps origin after.told before after.moment
+completes {b} {parts} {origin} {before} {now} {after} {part} {stop = stop} end sound u m r ends =
     let a = advances u m in
     record {
       read = record { given = a.given; within = omega (arith, a.spent) };
@@ -279,6 +297,7 @@ completes {b} {parts} {origin} {before} {now} {after} {part} end sound u m r end
       attended = attends_so_far b (parts ++ part ∷ []) origin before after sound a.image a.stands;
       answered = answers u r;
       same_faults = a.read_faults;
+      stops = subst (Stops stop) (sym a.lines_are) (Stops-push stop parts part u.on m.stops);
       ends = ends;
     }
 
@@ -314,21 +333,17 @@ on_by false true ended e = cc
 on_by false false false e = cc
 on_by false false true e = record { not_stop = refl; not_full = refl; is_ended = refl }
 
-ends_as : {b : Behaviour} {parts : List Part} {origin : Option HostLog} {before : Moment} {now after : Point} {part : Part} {ended stop : Bool} (end : End) → Ongoing b parts origin before now
-    → ServesPart b part ended now after → AnswersPart b part stop now after → EndsBy stop (nat_lt (512 - length after.steps) 65) ended end
-    → EndsAs end (unlines (lines_in parts) ++ (part.line ++ ending ended)) after.steps after.moment
-ends_as {b} {parts} {origin} {before} {now} {after} {part} {ended} {stop} end u m r (inl (is, stops)) =
-    subst (λ e. EndsAs e (unlines (lines_in parts) ++ (part.line ++ ending ended)) after.steps after.moment) (sym is)
-    (lines_in parts, part.line, (advances u m).lines_are ∙ lines_in-push parts part, u.on, sym r.stops ∙ stops, line_ends (unlines (lines_in parts)) part.line ended after.moment.left m.read.last)
-ends_as {b} {parts} {origin} {before} {now} {after} {part} {ended} {stop} end u m r (inr (inl (is, going, full))) =
-    subst (λ e. EndsAs e (unlines (lines_in parts) ++ (part.line ++ ending ended)) after.steps after.moment) (sym is) (
-      subst (All GoesOn) (sym (advances u m).lines_are) (GoesOn-push parts part u.on (sym r.stops ∙ going)),
-      no_room (length after.steps) full,
-      inr (line_ends (unlines (lines_in parts)) part.line ended after.moment.left m.read.last),
-    )
-ends_as {b} {parts} {origin} {before} {now} {after} {part} {ended} {stop} end u m r (inr (inr (is, going, over))) =
-    subst (λ e. EndsAs e (unlines (lines_in parts) ++ (part.line ++ ending ended)) after.steps after.moment) (sym is)
-    (subst (All GoesOn) (sym (advances u m).lines_are) (GoesOn-push parts part u.on (sym r.stops ∙ going)), (m.read.last over).1)
+ends_as : {b : Behaviour} {now after : Point} {part : Part} {ended stop : Bool} (end : End) (front : List ℕ)
+    → ServesPart b part ended stop now after → EndsBy stop (nat_lt (512 - length after.steps) 65) ended end
+    → EndsAs end stop (front ++ (part.line ++ ending ended)) after.steps after.moment
+ends_as {b} {now} {after} {part} {ended} {stop} end front m (inl (is, stops)) =
+    subst (λ e. EndsAs e stop (front ++ (part.line ++ ending ended)) after.steps after.moment) (sym is)
+    (stops, line_ends front part.line ended after.moment.left m.read.last)
+ends_as {b} {now} {after} {part} {ended} {stop} end front m (inr (inl (is, going, full))) =
+    subst (λ e. EndsAs e stop (front ++ (part.line ++ ending ended)) after.steps after.moment) (sym is)
+    (going, no_room (length after.steps) full, inr (line_ends front part.line ended after.moment.left m.read.last))
+ends_as {b} {now} {after} {part} {ended} {stop} end front m (inr (inr (is, going, over))) =
+    subst (λ e. EndsAs e stop (front ++ (part.line ++ ending ended)) after.steps after.moment) (sym is) (going, (m.read.last over).1)
 
 -- ---- what was written last goes out, or does not
 
@@ -336,64 +351,66 @@ ends_as {b} {parts} {origin} {before} {now} {after} {part} {ended} {stop} end u 
 abbrev pub at_end : Moment → Option (List ℕ) → Option ℕ → Moment
 at_end now written faults = record { core = now.core; left = now.left; written = written; read_faults = now.read_faults; write_faults = faults }
 
-ends_alike : (end : End) (input : List ℕ) (steps : List Step) (now : Moment) (written : Option (List ℕ)) (faults : Option ℕ) → EndsAs end input steps now → EndsAs end input steps (at_end now written faults)
-ends_alike Closed input steps now written faults e = e
-ends_alike Stop input steps now written faults e = e
-ends_alike Full input steps now written faults e = e
-ends_alike (Fault fault) input steps now written faults e = e
+ends_alike : (end : End) (stopped : Bool) (input : List ℕ) (steps : List Step) (now : Moment) (written : Option (List ℕ)) (faults : Option ℕ) → EndsAs end stopped input steps now → EndsAs end stopped input steps (at_end now written faults)
+ends_alike Closed stopped input steps now written faults e = e
+ends_alike Stop stopped input steps now written faults e = e
+ends_alike Full stopped input steps now written faults e = e
+ends_alike (Fault fault) stopped input steps now written faults e = e
 
 attended_alike : {b : Behaviour} {parts : List Part} {steps : List Step} {told told' : Option HostLog} {before now : Moment} (written : Option (List ℕ)) (faults : Option ℕ)
     → HasAttended b parts steps told told' before now → HasAttended b parts steps told told' before (at_end now written faults)
 attended_alike written faults a = record { image = a.image; state = a.state; steps_are = a.steps_are; told_is = a.told_is; keeps = a.keeps; each_empties = a.each_empties }
 
-goes_out : {b : Behaviour} {end : End} {input : List ℕ} {parts : List Part} {steps : List Step} {told told' : Option HostLog} {before now : Moment} (written : Option (List ℕ)) (faults : Option ℕ)
-    → Completes b end input parts steps told told' before now → written ≡ append_known now.written [] → faults ≡ now.write_faults
-    → Completes b end input parts steps told told' before (at_end now written faults)
-goes_out {end = end} {input} {steps = steps} {now = now} written faults c put same = record {
+goes_out : {b : Behaviour} {end : End} {stopped : Bool} {input : List ℕ} {parts : List Part} {steps : List Step} {told told' : Option HostLog} {before now : Moment} (written : Option (List ℕ)) (faults : Option ℕ)
+    → Completes b end stopped input parts steps told told' before now → written ≡ append_known now.written [] → faults ≡ now.write_faults
+    → Completes b end stopped input parts steps told told' before (at_end now written faults)
+goes_out {end = end} {stopped} {input} {steps = steps} {now = now} written faults c put same = record {
   read = record { given = c.read.given; within = c.read.within };
   lines = c.lines;
   attended = attended_alike written faults c.attended;
   answered = record { written = put ∙ append_known-nil now.written ∙ c.answered.written; same_faults = same ∙ c.answered.same_faults };
   same_faults = c.same_faults;
-  ends = ends_alike end input steps now written faults c.ends;
+  stops = c.stops;
+  ends = ends_alike end stopped input steps now written faults c.ends;
 }
 
-whole_at_end : (end : End) (input : List ℕ) (steps : List Step) (now : Moment) → EndsAs end input steps now → EndsLines input now.left
-whole_at_end Closed input steps now e = inr (inr e.1)
-whole_at_end Stop input steps now e = inr e.5
-whole_at_end Full input steps now e = e.2
-whole_at_end (Fault fault) input steps now e = absurd e
+whole_at_end : (end : End) (stopped : Bool) (input : List ℕ) (steps : List Step) (now : Moment) → EndsAs end stopped input steps now → EndsLines input now.left
+whole_at_end Closed stopped input steps now e = inr (inr e.1)
+whole_at_end Stop stopped input steps now e = inr e.1
+whole_at_end Full stopped input steps now e = e.2
+whole_at_end (Fault fault) stopped input steps now e = absurd e
 
-stays_in : {b : Behaviour} {end : End} {input : List ℕ} {parts : List Part} {steps : List Step} {told told' : Option HostLog} {before now : Moment} (written : Option (List ℕ)) (faults : Option ℕ)
-    → Completes b end input parts steps told told' before now → faults ≡ counted now.write_faults
-    → BreaksWriting b input parts steps told told' before (at_end now written faults)
-stays_in {end = end} {input} {steps = steps} {now = now} written faults c one = record {
+stays_in : {b : Behaviour} {end : End} {stopped : Bool} {input : List ℕ} {parts : List Part} {steps : List Step} {told told' : Option HostLog} {before now : Moment} (written : Option (List ℕ)) (faults : Option ℕ)
+    → Completes b end stopped input parts steps told told' before now → faults ≡ counted now.write_faults
+    → BreaksWriting b stopped input parts steps told told' before (at_end now written faults)
+stays_in {end = end} {stopped} {input} {steps = steps} {now = now} written faults c one = record {
   read = record { given = c.read.given; within = c.read.within };
-  whole = whole_at_end end input steps now c.ends;
+  whole = whole_at_end end stopped input steps now c.ends;
   lines = c.lines;
   attended = attended_alike written faults c.attended;
   same_faults = c.same_faults;
+  stops = c.stops;
   one_fault = one ∙ ap counted c.answered.same_faults;
 }
 
-completed : (b : Behaviour) (end : End) (input : List ℕ) (parts : List Part) (steps : List Step) (told told' : Option HostLog) (before now : Moment)
-    → Completes b end input parts steps told told' before now → ConnectionGives b end steps told told' before now
-completed b Closed input parts steps told told' before now c = (input, parts, c)
-completed b Stop input parts steps told told' before now c = (input, parts, c)
-completed b Full input parts steps told told' before now c = (input, parts, c)
-completed b (Fault fault) input parts steps told told' before now c = absurd c.ends
+completed : (b : Behaviour) (end : End) (stopped : Bool) (input : List ℕ) (parts : List Part) (steps : List Step) (told told' : Option HostLog) (before now : Moment)
+    → Completes b end stopped input parts steps told told' before now → ConnectionGives b end stopped steps told told' before now
+completed b Closed stopped input parts steps told told' before now c = (input, parts, c)
+completed b Stop stopped input parts steps told told' before now c = (input, parts, c)
+completed b Full stopped input parts steps told told' before now c = (input, parts, c)
+completed b (Fault fault) stopped input parts steps told told' before now c = absurd c.ends
 
 -- The connection ended after a line.
 pub ends_after : {b : Behaviour} {parts : List Part} {origin : Option HostLog} {before : Moment} {now : Point} (line : ServedLine) (end result : End) (after : Point) (written : Option (List ℕ)) (faults : Option ℕ)
     → Sound b before → Ongoing b parts origin before now → PartGives b (Ok (Some line)) now after → Some end ≡ end_of line (length after.steps)
     → FlushGives end result after.moment.written written after.moment.write_faults faults
-    → ConnectionGives b result after.steps origin after.told before (at_end after.moment written faults)
+    → ConnectionGives b result line.is_stop after.steps origin after.told before (at_end after.moment written faults)
 ends_after {b} {origin = origin} {before} line end result after written faults sound u (part, m, r) is (inl (same, put, kept)) =
-    subst (λ e. ConnectionGives b e after.steps origin after.told before (at_end after.moment written faults)) (sym same)
-    (completed b end _ _ after.steps origin after.told before _ (goes_out written faults (completes end sound u m r (ends_as end u m r (ends_by line.is_stop _ line.is_ended end (sym is)))) put kept))
+    subst (λ e. ConnectionGives b e line.is_stop after.steps origin after.told before (at_end after.moment written faults)) (sym same)
+    (completed b end line.is_stop _ _ after.steps origin after.told before _ (goes_out written faults (completes end sound u m r (ends_as end _ m (ends_by line.is_stop _ line.is_ended end (sym is)))) put kept))
 ends_after {b} {origin = origin} {before} line end result after written faults sound u (part, m, r) is (inr (broken, one)) =
-    subst (λ e. ConnectionGives b e after.steps origin after.told before (at_end after.moment written faults)) (sym broken)
-    (_, _, stays_in written faults (completes end sound u m r (ends_as end u m r (ends_by line.is_stop _ line.is_ended end (sym is)))) one)
+    subst (λ e. ConnectionGives b e line.is_stop after.steps origin after.told before (at_end after.moment written faults)) (sym broken)
+    (_, _, stays_in written faults (completes end sound u m r (ends_as end _ m (ends_by line.is_stop _ line.is_ended end (sym is)))) one)
 
 -- The connection goes on after a line.
 pub record GoesFurther (b : Behaviour) (origin : Option HostLog) (before : Moment) (after : Point) : Type 0 where
@@ -406,7 +423,7 @@ goes_further {b} {parts} {origin} {before} {now} line after u (part, m, r) is =
     let on = on_by line.is_stop _ line.is_ended (sym is) in
     record {
       parts = parts ++ part ∷ [];
-      ongoing = goes_on u (subst (λ ended. ServesPart b part ended now after) on.is_ended m) (subst (λ stop. AnswersPart b part stop now after) on.not_stop r);
+      ongoing = goes_on u (subst (λ stop. ServesPart b part true stop now after) on.not_stop (subst (λ ended. ServesPart b part ended line.is_stop now after) on.is_ended m)) r;
     }
 
 pub room_left : (line : ServedLine) (steps : ℕ) → None ≡ end_of line steps → steps ≤ 512 → steps + 65 ≤ 512
@@ -436,10 +453,11 @@ pub record Attended (b : Behaviour) (steps : List Step) (told told' : Option Hos
 these : {b : Behaviour} {parts : List Part} {steps : List Step} {told told' : Option HostLog} {before after : Moment} → HasAttended b parts steps told told' before after → Attended b steps told told' before after
 these {parts = parts} a = record { parts = parts; attended = a; keeps = a.keeps }
 
-pub was_attended : {b : Behaviour} {steps : List Step} {told told' : Option HostLog} {before after : Moment} (end : End) → ConnectionGives b end steps told told' before after → Attended b steps told told' before after
-was_attended (Fault ReadFailed) (input, parts, r) = these r.attended
-was_attended (Fault WriteFailed) (input, parts, r) = these r.attended
-was_attended (Fault TooMuchInput) (input, byte, parts, r) = these r.attended
-was_attended Closed (input, parts, r) = these r.attended
-was_attended Stop (input, parts, r) = these r.attended
-was_attended Full (input, parts, r) = these r.attended
+pub was_attended : {b : Behaviour} {steps : List Step} {told told' : Option HostLog} {before after : Moment} (end : End) (stopped : Bool)
+    → ConnectionGives b end stopped steps told told' before after → Attended b steps told told' before after
+was_attended (Fault ReadFailed) stopped (input, parts, r) = these r.attended
+was_attended (Fault WriteFailed) stopped (input, parts, r) = these r.attended
+was_attended (Fault TooMuchInput) stopped (input, byte, parts, r) = these r.attended
+was_attended Closed stopped (input, parts, r) = these r.attended
+was_attended Stop stopped (input, parts, r) = these r.attended
+was_attended Full stopped (input, parts, r) = these r.attended

@@ -1,5 +1,5 @@
 -- Service: what a served connection gives, in each way that it ends.
-use Rattle.std.specs.Prelude.{◌≡◌, ◌≢◌, ℕ, ◌<◌, true, false, List, [], ◌∷◌, ◌++◌, length, map, All, Option, Some, None}
+use Rattle.std.specs.Prelude.{◌≡◌, ◌≢◌, ℕ, ◌<◌, Bool, true, false, List, [], ◌∷◌, ◌++◌, length, map, All, Option, Some, None}
 use Rattle.std.specs.List.{flat_map, filter_map}
 use Rattle.std.specs.Io.KnownBytes.{append_known, Consumes, IsAtEnd}
 use Rattle.ifs_image.specs.declared.parts.ImageParts.{ImageParts}
@@ -57,6 +57,11 @@ lines_in parts = map (λ part. part.line) parts
 abbrev pub GoesOn : List ℕ → Type 0
 GoesOn line = is_stop (client_asked line) ≡ false
 
+-- None of these lines before the last asks for the end of the service, and the last does exactly where the service was stopped.
+abbrev pub Stops : Bool → List (List ℕ) → Type 0
+Stops false lines = All GoesOn lines
+Stops true lines = (earlier : List (List ℕ)) × (stop : List ℕ) × (lines ≡ earlier ++ stop ∷ []) × All GoesOn earlier × (is_stop (client_asked stop) ≡ true)
+
 -- From one moment to another these parts were attended to, of a host that told this before and tells that now. Each of them left the queue empty.
 pub record HasAttended (b : Behaviour) (parts : List Part) (steps : List Step) (told told' : Option HostLog) (before after : Moment) : Type 0 where
   pub image : after.core.image ≡ before.core.image
@@ -71,55 +76,61 @@ pub record HasAnswered (b : Behaviour) (parts : List Part) (before after : Momen
   pub written : after.written ≡ append_known before.written (account b before.core.image parts before.core.state).said
   pub same_faults : after.write_faults ≡ before.write_faults
 
--- How a connection ends without a fault: at the end of input; with a line that asks for it, the only one; or where fewer than 65 places for steps are left. After the last line nothing more was read.
-abbrev pub EndsAs : End → List ℕ → List Step → Moment → Type 0
-EndsAs Closed input steps after = All GoesOn (lines_of input) × IsAtEnd after.left
-EndsAs Stop input steps after =
-    (earlier : List (List ℕ)) × (stop : List ℕ) × (lines_of input ≡ earlier ++ stop ∷ []) × All GoesOn earlier × (is_stop (client_asked stop) ≡ true) × EndsLine input after.left
-EndsAs Full input steps after = All GoesOn (lines_of input) × (447 < length steps) × EndsLines input after.left
-EndsAs (Fault fault) input steps after = ⊥
+-- How a connection ends without a fault: at the end of input; with a line that asks for it; or where fewer than 65 places for steps are left. After the last line nothing more was read.
+abbrev pub EndsAs : End → Bool → List ℕ → List Step → Moment → Type 0
+EndsAs Closed stopped input steps after = (stopped ≡ false) × IsAtEnd after.left
+EndsAs Stop stopped input steps after = (stopped ≡ true) × EndsLine input after.left
+EndsAs Full stopped input steps after = (stopped ≡ false) × (447 < length steps) × EndsLines input after.left
+EndsAs (Fault fault) stopped input steps after = ⊥
 
 -- A connection has ended without a fault: each line is that of a part, in order.
-pub record Completes (b : Behaviour) (end : End) (input : List ℕ) (parts : List Part) (steps : List Step) (told told' : Option HostLog) (before after : Moment) : Type 0 where
+pub record Completes (b : Behaviour) (end : End) (stopped : Bool) (input : List ℕ) (parts : List Part) (steps : List Step) (told told' : Option HostLog) (before after : Moment) : Type 0 where
   pub read : HasRead input before after
   pub lines : lines_of input ≡ lines_in parts
   pub attended : HasAttended b parts steps told told' before after
   pub answered : HasAnswered b parts before after
   pub same_faults : after.read_faults ≡ before.read_faults
-  pub ends : EndsAs end input steps after
+  pub stops : Stops stopped (lines_of input)
+  pub ends : EndsAs end stopped input steps after
 
 -- A read failed: the lines that were whole by then were served.
-pub record BreaksReading (b : Behaviour) (input : List ℕ) (parts : List Part) (steps : List Step) (told told' : Option HostLog) (before after : Moment) : Type 0 where
+pub record BreaksReading (b : Behaviour) (stopped : Bool) (input : List ℕ) (parts : List Part) (steps : List Step) (told told' : Option HostLog) (before after : Moment) : Type 0 where
   pub read : HasRead input before after
   pub lines : whole_lines input ≡ lines_in parts
   pub attended : HasAttended b parts steps told told' before after
   pub answered : HasAnswered b parts before after
   pub one_fault : after.read_faults ≡ counted before.read_faults
-  pub go_on : All GoesOn (whole_lines input)
+  pub stops : Stops stopped (whole_lines input)
+  pub not_stopped : stopped ≡ false
 
--- A write failed: the lines that were read by then, each to its end, were attended to.
-pub record BreaksWriting (b : Behaviour) (input : List ℕ) (parts : List Part) (steps : List Step) (told told' : Option HostLog) (before after : Moment) : Type 0 where
+-- A write failed: the lines that were read by then, each to its end, were attended to. Only the last may have asked for the end of the service.
+pub record BreaksWriting (b : Behaviour) (stopped : Bool) (input : List ℕ) (parts : List Part) (steps : List Step) (told told' : Option HostLog) (before after : Moment) : Type 0 where
   pub read : HasRead input before after
   pub whole : EndsLines input after.left
   pub lines : lines_of input ≡ lines_in parts
   pub attended : HasAttended b parts steps told told' before after
   pub same_faults : after.read_faults ≡ before.read_faults
+  pub stops : Stops stopped (lines_of input)
   pub one_fault : after.write_faults ≡ counted before.write_faults
 
 -- A byte was read after the 16,777,216 of a connection: the lines that were whole before it were served.
-pub record ReadsPast (b : Behaviour) (input : List ℕ) (byte : ℕ) (parts : List Part) (steps : List Step) (told told' : Option HostLog) (before after : Moment) : Type 0 where
+pub record ReadsPast (b : Behaviour) (stopped : Bool) (input : List ℕ) (byte : ℕ) (parts : List Part) (steps : List Step) (told told' : Option HostLog) (before after : Moment) : Type 0 where
   pub given : Consumes before.left after.left (input ++ byte ∷ [])
   pub full : length input ≡ 16777216
   pub lines : whole_lines input ≡ lines_in parts
   pub attended : HasAttended b parts steps told told' before after
   pub answered : HasAnswered b parts before after
   pub same_faults : after.read_faults ≡ before.read_faults
-  pub go_on : All GoesOn (whole_lines input)
+  pub stops : Stops stopped (whole_lines input)
+  pub not_stopped : stopped ≡ false
 
 -- What a connection gives: there is an input that was read, and parts, one for each of its lines.
-abbrev pub ConnectionGives : Behaviour → End → List Step → Option HostLog → Option HostLog → Moment → Moment → Type 0
-ConnectionGives b (Fault ReadFailed) steps told told' before after = (input : List ℕ) × (parts : List Part) × BreaksReading b input parts steps told told' before after
-ConnectionGives b (Fault WriteFailed) steps told told' before after = (input : List ℕ) × (parts : List Part) × BreaksWriting b input parts steps told told' before after
-ConnectionGives b (Fault TooMuchInput) steps told told' before after =
-    (input : List ℕ) × (byte : ℕ) × (parts : List Part) × ReadsPast b input byte parts steps told told' before after
-ConnectionGives b end steps told told' before after = (input : List ℕ) × (parts : List Part) × Completes b end input parts steps told told' before after
+abbrev pub ConnectionGives : Behaviour → End → Bool → List Step → Option HostLog → Option HostLog → Moment → Moment → Type 0
+ConnectionGives b (Fault ReadFailed) stopped steps told told' before after =
+    (input : List ℕ) × (parts : List Part) × BreaksReading b stopped input parts steps told told' before after
+ConnectionGives b (Fault WriteFailed) stopped steps told told' before after =
+    (input : List ℕ) × (parts : List Part) × BreaksWriting b stopped input parts steps told told' before after
+ConnectionGives b (Fault TooMuchInput) stopped steps told told' before after =
+    (input : List ℕ) × (byte : ℕ) × (parts : List Part) × ReadsPast b stopped input byte parts steps told told' before after
+ConnectionGives b end stopped steps told told' before after =
+    (input : List ℕ) × (parts : List Part) × Completes b end stopped input parts steps told told' before after

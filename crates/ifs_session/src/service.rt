@@ -53,6 +53,9 @@ pub struct Served {
     pub steps: ArrayVec<Step, STEPS>,
     /// Why it ended.
     pub end: End,
+    /// Whether the last line that was read asked for the end of the service, also where its reply could
+    /// not be written.
+    pub stopped: bool,
 }
 
 /// Serves one connection. The queue is emptied: each command is taken and its text run by the host.
@@ -73,14 +76,36 @@ pub fn serve_one<H: Host, R: ByteIn, W: ByteOut>(
     ensures made { (b : Behaviour) → IsBehaviour core.old.image b → core.new.state ≡ after_steps b core.old.image.budgets.commands result.steps.items core.old.state }
     ensures never_busy { (b : Behaviour) → IsBehaviour core.old.image b → All (λ reply. reply ≢ Reply.Busy) (replies b core.old.image.budgets.commands result.steps.items core.old.state) }
     ensures full { result.end ≡ End.Full → 447 < length result.steps.items }
-    ensures connection { (b : Behaviour) → IsBehaviour core.old.image b → ConnectionGives b result.end result.steps.items (H.told host.old) (H.told host.new)
+    ensures connection { (b : Behaviour) → IsBehaviour core.old.image b → ConnectionGives b result.end result.stopped result.steps.items (H.told host.old) (H.told host.new)
         (record { core = core.old; left = R.left reader.old; written = W.written writer.old; read_faults = R.faults reader.old; write_faults = W.faults writer.old })
         (record { core = core.new; left = R.left reader.new; written = W.written writer.new; read_faults = R.faults reader.new; write_faults = W.faults writer.new }) }
     ensures out { result.end ≢ End.Fault SessionFault.WriteFailed → HoldsNothing (W.held writer.new) }
 {
     let mut steps = ArrayVec::new();
-    let end = serve_lines(core, host, reader, writer, &mut steps);
-    Served { steps, end }
+    let close = serve_lines(core, host, reader, writer, &mut steps);
+    Served {
+        steps,
+        end: close.end,
+        stopped: close.stopped,
+    }
+}
+
+/// How the lines of a connection came to their end.
+#[derive(Clone, Copy, Debug, PartialEq, Eq)]
+pub(crate) struct Close {
+    /// Why they did.
+    pub end: End,
+    /// Whether the last of them asked for the end of the service.
+    pub stopped: bool,
+}
+
+/// Why the next line was not served to its end.
+#[derive(Clone, Copy, Debug, PartialEq, Eq)]
+pub(crate) struct Break {
+    /// What failed.
+    pub fault: SessionFault,
+    /// Whether the line was read and asked for the end of the service.
+    pub stopped: bool,
 }
 
 /// A line that was served.
@@ -99,14 +124,14 @@ fn serve_lines<H: Host, R: ByteIn, W: ByteOut>(
     reader: &mut R,
     writer: &mut W,
     steps: &mut ArrayVec<Step, STEPS>,
-) -> End
+) -> Close
     requires { steps.old.items ≡ [] }
     ensures image { core.new.image ≡ core.old.image }
-    ensures full { result ≡ End.Full → 447 < length steps.new.items }
-    ensures connection { (b : Behaviour) → IsBehaviour core.old.image b → ConnectionGives b result steps.new.items (H.told host.old) (H.told host.new)
+    ensures full { result.end ≡ End.Full → 447 < length steps.new.items }
+    ensures connection { (b : Behaviour) → IsBehaviour core.old.image b → ConnectionGives b result.end result.stopped steps.new.items (H.told host.old) (H.told host.new)
         (record { core = core.old; left = R.left reader.old; written = W.written writer.old; read_faults = R.faults reader.old; write_faults = W.faults writer.old })
         (record { core = core.new; left = R.left reader.new; written = W.written writer.new; read_faults = R.faults reader.new; write_faults = W.faults writer.new }) }
-    ensures out { result ≢ End.Fault SessionFault.WriteFailed → HoldsNothing (W.held writer.new) }
+    ensures out { result.end ≢ End.Fault SessionFault.WriteFailed → HoldsNothing (W.held writer.new) }
 {
     core.image();
     empty_queue(core, host, steps);
@@ -114,12 +139,25 @@ fn serve_lines<H: Host, R: ByteIn, W: ByteOut>(
     let mut budget = INPUT;
     'parts: loop {
         let line = match serve_part(core, host, &mut lists, steps, reader, writer, &mut budget) {
-            Err(fault) => return End::Fault(fault),
-            Ok(None) => return End::Closed,
+            Err(broken) => {
+                return Close {
+                    end: End::Fault(broken.fault),
+                    stopped: broken.stopped,
+                };
+            }
+            Ok(None) => {
+                return Close {
+                    end: End::Closed,
+                    stopped: false,
+                };
+            }
             Ok(Some(line)) => line,
         };
         if let Some(end) = end_after(line, steps.len()) {
-            return flushed(writer, end);
+            return Close {
+                end: flushed(writer, end),
+                stopped: line.is_stop,
+            };
         }
     }
 }
@@ -160,21 +198,31 @@ fn serve_part<H: Host, R: ByteIn, W: ByteOut>(
     reader: &mut R,
     writer: &mut W,
     budget: &mut u32,
-) -> Result<Option<ServedLine>, SessionFault>
+) -> Result<Option<ServedLine>, Break>
     requires { length steps.old.items + 65 ≤ 512 }
     ensures image { core.new.image ≡ core.old.image }
     ensures part { (b : Behaviour) → IsBehaviour core.old.image b → PartGives b result
         (record { moment = record { core = core.old; left = R.left reader.old; written = W.written writer.old; read_faults = R.faults reader.old; write_faults = W.faults writer.old }; budget = budget.old; steps = steps.old.items; told = H.told host.old })
         (record { moment = record { core = core.new; left = R.left reader.new; written = W.written writer.new; read_faults = R.faults reader.new; write_faults = W.faults writer.new }; budget = budget.new; steps = steps.new.items; told = H.told host.new }) }
     ensures counts { IfOk result (λ next. IfSome next (λ _. budget.new < budget.old)) }
-    ensures out { MatchResult result (λ next. next ≡ None → HoldsNothing (W.held writer.new)) (λ fault. fault ≢ SessionFault.WriteFailed → HoldsNothing (W.held writer.new)) }
+    ensures out { MatchResult result (λ next. next ≡ None → HoldsNothing (W.held writer.new)) (λ broken. broken.fault ≢ SessionFault.WriteFailed → HoldsNothing (W.held writer.new)) }
     ensures few { length steps.new.items ≤ 512 }
 {
     let Ok(()) = writer.flush() else {
-        return Err(SessionFault::WriteFailed);
+        return Err(Break {
+            fault: SessionFault::WriteFailed,
+            stopped: false,
+        });
     };
-    let Some(line) = next_line(reader, budget)? else {
-        return Ok(None);
+    let line = match next_line(reader, budget) {
+        Err(fault) => {
+            return Err(Break {
+                fault,
+                stopped: false,
+            });
+        }
+        Ok(None) => return Ok(None),
+        Ok(Some(line)) => line,
     };
     hear_endings(core, host, lists, steps);
     let asked = line.client_request();
@@ -183,7 +231,17 @@ fn serve_part<H: Host, R: ByteIn, W: ByteOut>(
             is_stop: asks_stop(asked),
             is_ended: line.is_ended,
         })),
-        Err(_) => Err(SessionFault::WriteFailed),
+        Err(_) => Err(unanswered(asked)),
+    }
+}
+
+/// What breaks where the reply to this could not be written.
+fn unanswered(asked: Result<Request<'_>, RequestFault>) -> Break
+    ensures { result ≡ record { fault = SessionFault.WriteFailed; stopped = is_stop (told_by asked.entry) } }
+{
+    Break {
+        fault: SessionFault::WriteFailed,
+        stopped: asks_stop(asked),
     }
 }
 

@@ -79,9 +79,9 @@ fn listen<R: Processes + Clock + Log + Print + Alloc<A = Global>>(
         let Some(stream) = accepted(rt, listener) else {
             break;
         };
-        let end = connection(rt, core, host, &stream);
-        note(rt, end);
-        if end == End::Stop {
+        let left = connection(rt, core, host, &stream);
+        note(rt, left.end);
+        if left.stopped {
             break;
         }
     }
@@ -102,6 +102,24 @@ fn accepted<R: Clock + Log>(rt: &R, listener: &UnixListener) -> Option<UnixStrea
     None
 }
 
+/// How a connection was left.
+struct Left {
+    /// Why it ended.
+    end: End,
+    /// Whether its client asked for the end of the service.
+    stopped: bool,
+}
+
+impl From<SessionFault> for Left {
+    /// No line was read.
+    fn from(fault: SessionFault) -> Self {
+        Left {
+            end: End::Fault(fault),
+            stopped: false,
+        }
+    }
+}
+
 /// Serves one connection. It is a fault of its reads or writes too where it cannot be told how long to
 /// wait, or no memory is found for what is held back.
 fn connection<R: Processes + Alloc<A = Global>>(
@@ -109,23 +127,26 @@ fn connection<R: Processes + Alloc<A = Global>>(
     core: &mut Core,
     host: &mut Shell<'_, R>,
     stream: &UnixStream,
-) -> End {
+) -> Left {
     let patience = Some(Duration::from_secs(PATIENCE));
     if stream.set_read_timeout(patience).is_err() {
-        return End::Fault(SessionFault::ReadFailed);
+        return SessionFault::ReadFailed.into();
     }
     if stream.set_write_timeout(patience).is_err() {
-        return End::Fault(SessionFault::WriteFailed);
+        return SessionFault::WriteFailed.into();
     }
     let Ok(writer) = BufWriter::with_capacity(rt.alloc(), HELD, stream) else {
-        return End::Fault(SessionFault::WriteFailed);
+        return SessionFault::WriteFailed.into();
     };
     let mut input = FromRead::new(stream);
     let mut output = ToWrite::new(writer);
     let served = serve_one(core, host, &mut input, &mut output);
     // what a failed write left is not tried again when the writer is dropped
     let _closed = stream.shutdown(Shutdown::Write);
-    served.end
+    Left {
+        end: served.end,
+        stopped: served.stopped,
+    }
 }
 
 /// Notes how a connection ended.

@@ -1,5 +1,5 @@
 -- What the functions that serve a connection give.
-use Rattle.std.specs.Prelude.{◌≡◌, ◌⊎◌, ℕ, Bool, nat_lt, ◌-◌, if◌then◌else◌, List, [], Option, Some, None, Result, Ok, Err}
+use Rattle.std.specs.Prelude.{◌≡◌, ◌⊎◌, ℕ, Bool, false, nat_lt, ◌-◌, if◌then◌else◌, List, [], Option, Some, None, Result, Ok, Err}
 use Rattle.std.specs.Io.KnownBytes.{append_known}
 use Rattle.ifs_core.specs.declared.step.Step.{Step}
 use Rattle.ifs_core.specs.Event.{Behaviour}
@@ -8,6 +8,7 @@ use Rattle.ifs_session.specs.declared.fault.SessionFault.{SessionFault}
 use Rattle.ifs_session.specs.declared.fault.SessionFault.TheVariants.{ReadFailed, WriteFailed, TooMuchInput}
 use Rattle.ifs_session.specs.declared.lines.Line.{Line}
 use Rattle.ifs_session.specs.declared.request.RequestFault.TheVariants.{NoRequest, TooLong}
+use Rattle.ifs_session.specs.declared.service.Break.{Break}
 use Rattle.ifs_session.specs.declared.service.End.{End}
 use Rattle.ifs_session.specs.declared.service.End.TheVariants.{Closed, Stop, Full, Fault}
 use Rattle.ifs_session.specs.declared.service.ServedLine.{ServedLine}
@@ -60,29 +61,34 @@ pub record Idles (before after : Point) : Type 0 where
   pub steps : after.steps ≡ before.steps
   pub told : after.told ≡ before.told
 
--- A line was read and attended to.
-pub record ServesPart (b : Behaviour) (part : Part) (ended : Bool) (before after : Point) : Type 0 where
+-- A line was read, which asks for the end of the service or does not, and attended to.
+pub record ServesPart (b : Behaviour) (part : Part) (ended stop : Bool) (before after : Point) : Type 0 where
   pub read : ReadsText part.line ended (taken_in before) (taken_in after)
   pub image : after.moment.core.image ≡ before.moment.core.image
   pub attends : Carries (attended b before.moment.core.image part) (standing before) (standing after)
+  pub stops : stop ≡ is_stop (client_asked part.line)
 
 -- And it was replied to.
-pub record AnswersPart (b : Behaviour) (part : Part) (stop : Bool) (before after : Point) : Type 0 where
+pub record AnswersPart (b : Behaviour) (part : Part) (before after : Point) : Type 0 where
   pub written : (origin : Option HostLog) (a : Account) → Stands origin a (standing before)
       → after.moment.written ≡ append_known before.moment.written (spoken b before.moment.core.image part a)
   pub same_faults : after.moment.write_faults ≡ before.moment.write_faults
-  pub stops : stop ≡ is_stop (client_asked part.line)
+
+-- What it gives that the next line was not served, or not replied to, for this fault.
+abbrev pub PartFails : Behaviour → SessionFault → Bool → Point → Point → Type 0
+PartFails b ReadFailed stopped before after =
+    (text : List ℕ) × ReadFails text (taken_in before) (taken_in after) × OnlyReads before.moment after.moment × Idles before after × (stopped ≡ false)
+PartFails b TooMuchInput stopped before after =
+    (text : List ℕ) × (byte : ℕ) × ReadsTooMuch text byte (taken_in before) (taken_in after) × OnlyReads before.moment after.moment × Idles before after × (stopped ≡ false)
+PartFails b WriteFailed stopped before after =
+    (after.moment.write_faults ≡ counted before.moment.write_faults)
+    × ((OnlyWrites before.moment after.moment × Idles before after × (stopped ≡ false)) ⊎ ((part : Part) × (ended : Bool) × ServesPart b part ended stopped before after))
 
 -- What the serving of the next line gives, from one point to another.
-abbrev pub PartGives : Behaviour → Result (Option ServedLine) SessionFault → Point → Point → Type 0
-PartGives b (Ok (Some line)) before after = (part : Part) × ServesPart b part line.is_ended before after × AnswersPart b part line.is_stop before after
+abbrev pub PartGives : Behaviour → Result (Option ServedLine) Break → Point → Point → Type 0
+PartGives b (Ok (Some line)) before after = (part : Part) × ServesPart b part line.is_ended line.is_stop before after × AnswersPart b part before after
 PartGives b (Ok None) before after = ReadsNothing (taken_in before) (taken_in after) × OnlyReads before.moment after.moment × Idles before after
-PartGives b (Err ReadFailed) before after = (text : List ℕ) × ReadFails text (taken_in before) (taken_in after) × OnlyReads before.moment after.moment × Idles before after
-PartGives b (Err TooMuchInput) before after =
-    (text : List ℕ) × (byte : ℕ) × ReadsTooMuch text byte (taken_in before) (taken_in after) × OnlyReads before.moment after.moment × Idles before after
-PartGives b (Err WriteFailed) before after =
-    (after.moment.write_faults ≡ counted before.moment.write_faults)
-    × ((OnlyWrites before.moment after.moment × Idles before after) ⊎ ((part : Part) × (ended : Bool) × ServesPart b part ended before after))
+PartGives b (Err broken) before after = PartFails b broken.fault broken.stopped before after
 
 -- The end after a line that was served, where so many steps were made, if it is one.
 abbrev pub end_of : ServedLine → ℕ → Option End

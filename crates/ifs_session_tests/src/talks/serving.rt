@@ -15,7 +15,7 @@ use std::process::Abort;
 use std::test::Fail;
 
 /// A core on the image of these digits.
-fn opened(rt: &impl Abort, alloc: Global, image: &str) -> Core {
+pub(super) fn opened(rt: &impl Abort, alloc: Global, image: &str) -> Core {
     let bytes = bytes_of(alloc, image).expect(rt, "no bytes");
     match verify(alloc, bytes.as_slice()) {
         Err(fault) => panic!(rt; "not accepted: {fault}"),
@@ -111,6 +111,7 @@ fn check_macros(rt: &impl Abort, talk: &Talk<Global>) {
     ];
     assert_eq!(rt; talk.served.steps.as_slice(), steps.as_slice());
     assert_eq!(rt; talk.served.end, End::Stop);
+    assert!(rt; talk.served.stopped);
     check_macros_host(rt, &talk.host);
 }
 
@@ -149,6 +150,7 @@ fn ticks(alloc: Global, count: u32) -> Result<Vec<u8>, AllocError> {
 
 fn check_full(rt: &impl Abort, talk: &Talk<Global>, left: &[u8]) {
     assert_eq!(rt; talk.served.end, End::Full);
+    assert!(rt; !talk.served.stopped);
     assert_eq!(rt; talk.served.steps.len(), 448);
     assert_eq!(rt; left, b"tick 0\n".as_slice());
     assert_eq!(rt; talk.lines(), 448);
@@ -278,7 +280,8 @@ fn each_read_fails_in_turn(rt: HostRuntime) {
     }
 }
 
-/// Asserts what a connection came to whose write after so many calls fails. Whether there was such a write.
+/// Asserts what a connection came to whose write after so many calls fails; where it is that of `bye`, the
+/// connection was stopped all the same. Whether there was such a write.
 fn check_cut(rt: &impl Abort, talk: &Talk<Global>, calls: u64) -> bool {
     assert!(rt; REPLIES.as_bytes().starts_with(talk.written()), "{calls}");
     assert_eq!(rt; talk.core.queue_len(), 0, "{calls}");
@@ -287,6 +290,7 @@ fn check_cut(rt: &impl Abort, talk: &Talk<Global>, calls: u64) -> bool {
     }
     let end = End::Fault(SessionFault::WriteFailed);
     assert_eq!(rt; talk.served.end, end, "{calls}");
+    assert_eq!(rt; talk.served.stopped, talk.lines() == 4, "{calls}");
     true
 }
 

@@ -14,7 +14,7 @@ parts-init g c = record {
 pub returns-in-Err-clause-connection : goal.returns-in-Err-clause-connection
 returns-in-Err-clause-connection g c = λ b h.
     let u = c.parts.invariant.ongoing b h in
-    not_served c.in-Err.fault _ (sound b _ c.image.ensures.kept h c.image.ensures.stands) u.1 (c.in-Err.ensures.part b (subst (λ i. IsBehaviour i b) (sym c.parts.invariant.image) h))
+    not_served c.in-Err.broken _ (sound b _ c.image.ensures.kept h c.image.ensures.stands) u.1 (c.in-Err.ensures.part b (subst (λ i. IsBehaviour i b) (sym c.parts.invariant.image) h))
 
 pub returns-in-Ok-None-clause-connection : goal.returns-in-Ok-None-clause-connection
 returns-in-Ok-None-clause-connection g c = λ b h.
