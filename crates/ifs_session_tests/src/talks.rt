@@ -1,6 +1,7 @@
 //! Sessions as bytes in and bytes out, on the worked rows.
 
 mod devices;
+mod order;
 mod serving;
 
 use ifs_rows::{Row, digits_of, images, refusals, sessions};

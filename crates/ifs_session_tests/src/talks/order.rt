@@ -1,0 +1,107 @@
+//! The order in which a served connection starts tests, runs commands and replies, over a host and a
+//! writer with one log.
+
+use super::serving::opened;
+use ifs_base::TestId;
+use ifs_rows::images;
+use ifs_session::{ByteOut, DeviceFault, Host, HostFault, MemoryIn, serve_one};
+use std::alloc::Global;
+use std::cell::Cell;
+use std::process::Abort;
+
+/// A test is started.
+const START: u64 = 1;
+/// A command is run.
+const RUN: u64 = 2;
+/// Bytes are written; several writes without anything between them are one.
+const WRITE: u64 = 3;
+/// What was written goes out.
+const FLUSH: u64 = 4;
+
+/// What happened, one decimal digit each.
+#[derive(Drop)]
+struct Order {
+    digits: Cell<u64>,
+}
+
+impl Order {
+    fn note(&self, digit: u64) {
+        let digits = self.digits.get();
+        if digit != WRITE || digits % 10 != WRITE {
+            self.digits.set(digits.wrapping_mul(10).wrapping_add(digit));
+        }
+    }
+}
+
+/// A host whose tests find false, each as soon as it is started.
+#[derive(Drop)]
+struct OrderedHost<'a> {
+    order: &'a Order,
+    ended: Option<(TestId, u64, bool)>,
+}
+
+impl Host for OrderedHost<'_> {
+    fn start(&mut self, test: TestId, run: u64, _text: &str) {
+        self.order.note(START);
+        self.ended = Some((test, run, false));
+    }
+
+    fn poll(&mut self) -> Option<(TestId, u64, bool)> {
+        let ended = self.ended;
+        self.ended = None;
+        ended
+    }
+
+    fn run(&mut self, _text: &str) -> Result<i32, HostFault> {
+        self.order.note(RUN);
+        Ok(0)
+    }
+}
+
+/// A writer that drops what it is given.
+#[derive(Drop)]
+struct OrderedOut<'a> {
+    order: &'a Order,
+}
+
+impl ByteOut for OrderedOut<'_> {
+    fn put(&mut self, _bytes: &[u8]) -> Result<(), DeviceFault> {
+        self.order.note(WRITE);
+        Ok(())
+    }
+
+    fn flush(&mut self) -> Result<(), DeviceFault> {
+        self.order.note(FLUSH);
+        Ok(())
+    }
+}
+
+/// What happens in a connection of these requests.
+fn order_of(rt: &impl Abort, alloc: Global, image: &str, requests: &[u8]) -> u64 {
+    let order = Order {
+        digits: Cell::new(0),
+    };
+    let mut host = OrderedHost {
+        order: &order,
+        ended: None,
+    };
+    let mut output = OrderedOut { order: &order };
+    let mut core = opened(rt, alloc, image);
+    serve_one(
+        &mut core,
+        &mut host,
+        &mut MemoryIn::new(requests),
+        &mut output,
+    );
+    order.digits.get()
+}
+
+/// The reply to a tick is written, and goes out, after the test that it starts; and the replies to a
+/// link and to a question after the commands of that link, and of the test that ended before it.
+#[test]
+fn replies_come_after_what_they_tell_of(rt: HostRuntime) {
+    let starts = order_of(&rt, rt.alloc(), images::MACROS, b"tick 0\nstatus\nstop\n");
+    assert_eq!(rt; starts, 413_423_434);
+    let runs = order_of(&rt, rt.alloc(), images::FIRST_RUN, b"link carp0 up\nstop\n");
+    assert_eq!(rt; runs, 423_434);
+}
