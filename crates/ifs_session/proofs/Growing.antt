@@ -17,9 +17,10 @@ use Rattle.ifs_base.specs.Facts.{is_link}
 use Rattle.ifs_sched.specs.Schedule.{is_running}
 use Rattle.ifs_core.specs.Event.{Position, evaluation}
 use Rattle.ifs_core.specs.Steps.{CoreState, Turn, LinkSeen, RunEnded, turn, take_turn, link_turn, finished_turn, tick_turn, changing, unchanged, same, done, ticked_after, no_event, at_position, with_link, with_value, with_run_over, lacks_room, has_value, replies, after_steps}
-use Rattle.ifs_session.specs.Hosts.{Ending, HostLog, joined, ran}
+use Rattle.ifs_session.specs.Hosts.{HostLog, ran, launched}
 use Rattle.ifs_session.specs.Accounts.{client_asked, step_asked, takes_of, texts_of, launches_told}
-use Rattle.ifs_session.specs.Service.{ending_made, request_made, text_taken}
+use Rattle.ifs_session.specs.Service.{ending_made, ending_heard, request_made, text_taken, given, gives}
+use Rattle.ifs_session.proofs.Logs.{launched_heard, launched_given}
 
 -- ---- replies to steps, one after the other
 
@@ -44,10 +45,9 @@ pub record Grows (b : Behaviour) (image : ImageParts) (lines : List (List ℕ)) 
   pub stands : IsStateOf image s'
   pub made : s' ≡ after_steps b image.budgets.commands steps s
   pub never_busy : All (λ reply. reply ≢ Busy) (replies b image.budgets.commands steps s)
-  pub endings : filter_map ending_made steps ≡ filter_map (λ answer. answer) log.polls
+  pub endings : filter_map ending_made steps ≡ filter_map ending_heard log
   pub requests : filter_map request_made steps ≡ filter_map (line_step image) lines
-  pub starts : log.starts ≡ flat_map (launches_told image) (replies b image.budgets.commands steps s)
-  pub texts : log.texts ≡ flat_map (text_taken image) (replies b image.budgets.commands steps s)
+  pub given_in : filter_map given log ≡ flat_map (gives image) (replies b image.budgets.commands steps s)
 
 append_both : {X : Type 0} {a b c d : List X} → a ≡ b → c ≡ d → a ++ c ≡ b ++ d
 append_both {a = a} {d = d} e f = ap (λ x. a ++ x) f ∙ ap (λ x. x ++ d) e
@@ -58,7 +58,7 @@ filter_both f g xs xs' ys ys' e e' = filter_map-append f xs xs' ∙ append_both 
 
 -- What grew twice has grown.
 pub grows_more : (b : Behaviour) (image : ImageParts) (lines lines' : List (List ℕ)) (steps steps' : List Step) (log log' : HostLog) (s mid s' : CoreState)
-    → Grows b image lines steps log s mid → Grows b image lines' steps' log' mid s' → Grows b image (lines ++ lines') (steps ++ steps') (joined log log') s s'
+    → Grows b image lines steps log s mid → Grows b image lines' steps' log' mid s' → Grows b image (lines ++ lines') (steps ++ steps') (log ++ log') s s'
 grows_more b image lines lines' steps steps' log log' s mid s' g h =
     let room = image.budgets.commands in
     let all : replies b room (steps ++ steps') s ≡ replies b room steps s ++ replies b room steps' mid =
@@ -67,10 +67,9 @@ grows_more b image lines lines' steps steps' log log' s mid s' g h =
       stands = h.stands;
       made = h.made ∙ ap (after_steps b room steps') g.made ∙ sym (after_steps-append b room steps steps' s);
       never_busy = subst (All (λ reply. reply ≢ Busy)) (sym all) (All-append (λ reply. reply ≢ Busy) _ _ g.never_busy h.never_busy);
-      endings = filter_both ending_made (λ answer. answer) steps steps' log.polls log'.polls g.endings h.endings;
+      endings = filter_both ending_made ending_heard steps steps' log log' g.endings h.endings;
       requests = filter_both request_made (line_step image) steps steps' lines lines' g.requests h.requests;
-      starts = append_both g.starts h.starts ∙ sym (flat_map-append (launches_told image) (replies b room steps s) (replies b room steps' mid)) ∙ ap (flat_map (launches_told image)) (sym all);
-      texts = append_both g.texts h.texts ∙ sym (flat_map-append (text_taken image) (replies b room steps s) (replies b room steps' mid)) ∙ ap (flat_map (text_taken image)) (sym all);
+      given_in = filter_map-append given log log' ∙ append_both g.given_in h.given_in ∙ sym (flat_map-append (gives image) (replies b room steps s) (replies b room steps' mid)) ∙ ap (flat_map (gives image)) (sym all);
     }
 
 -- ---- takes
@@ -87,7 +86,7 @@ one_taken b image command queue s s' e = ap (λ q. take_turn q s) e
 pub takes_grow : (b : Behaviour) (image : ImageParts) (queue : List CommandId) (s : CoreState) → IsKept image → IsBehaviour image b → IsStateOf image s → s.queue ≡ queue
     → Empties b image queue s (after_steps b image.budgets.commands (takes_of queue) s)
 takes_grow b image [] s kept is stands e = record {
-  grows = record { stands = stands; made = refl; never_busy = All-nil _; endings = refl; requests = refl; starts = refl; texts = refl };
+  grows = record { stands = stands; made = refl; never_busy = All-nil _; endings = refl; requests = refl; given_in = refl };
   empty = e;
 }
 takes_grow b image (command ∷ queue) s kept is stands e =
@@ -103,8 +102,7 @@ takes_grow b image (command ∷ queue) s kept is stands e =
         never_busy = All-cons (λ reply. reply ≢ Busy) _ _ (λ busy. cc) rest.grows.never_busy;
         endings = rest.grows.endings;
         requests = rest.grows.requests;
-        starts = rest.grows.starts ∙ ap (λ r. launches_told image r ++ flat_map (launches_told image) (replies b room (takes_of queue) (turn b room Take s).next)) (sym reply);
-        texts = append_both (ap (text_taken image) (sym reply)) rest.grows.texts;
+        given_in = append_both (ap (gives image) (sym reply)) rest.grows.given_in;
       };
       empty = rest.empty;
     }
@@ -150,20 +148,23 @@ tick_takes b image room now s =
     (either image p.owed (if lacks_room room s then unchanged Busy s else full) plain
     (either image (lacks_room room s) (unchanged Busy s) full (record { none = refl }) (record { none = refl })) (record { none = refl }))
 
--- A step that is no take grows, where the queue is empty, by its own.
-pub step_grows : (b : Behaviour) (image : ImageParts) (step : Step) (lines : List (List ℕ)) (polls : List (Option Ending)) (s : CoreState)
+-- A step that is no take grows, where the queue is empty, by its own, after what was heard.
+pub step_grows : (b : Behaviour) (image : ImageParts) (step : Step) (lines : List (List ℕ)) (heard : HostLog) (s : CoreState)
     → IsKept image → IsBehaviour image b → IsStateOf image s → s.queue ≡ []
     → TakesNone image (turn b image.budgets.commands step s)
-    → filter_map ending_made (step ∷ []) ≡ filter_map (λ answer. answer) polls → filter_map request_made (step ∷ []) ≡ filter_map (line_step image) lines
-    → Grows b image lines (step ∷ []) (record { texts = []; starts = launches_told image (turn b image.budgets.commands step s).reply; polls = polls }) s (turn b image.budgets.commands step s).next
-step_grows b image step lines polls s kept is stands empty none endings requests =
+    → filter_map ending_made (step ∷ []) ≡ filter_map ending_heard heard → filter_map given heard ≡ [] → filter_map request_made (step ∷ []) ≡ filter_map (line_step image) lines
+    → Grows b image lines (step ∷ []) (heard ++ launched (launches_told image (turn b image.budgets.commands step s).reply)) s (turn b image.budgets.commands step s).next
+step_grows b image step lines heard s kept is stands empty none endings quiet requests =
     let keeps = kept.anywhere b is s stands step in
+    let reply = (turn b image.budgets.commands step s).reply in
+    let starts = launched (launches_told image reply) in
     record {
       stands = keeps.next;
       made = refl;
-      never_busy = All-cons (λ reply. reply ≢ Busy) (turn b image.budgets.commands step s).reply [] (keeps.not_busy empty) (All-nil (λ reply. reply ≢ Busy));
-      endings = endings;
+      never_busy = All-cons (λ reply. reply ≢ Busy) reply [] (keeps.not_busy empty) (All-nil (λ reply. reply ≢ Busy));
+      endings = endings ∙ sym (append-nil (filter_map ending_heard heard)) ∙ ap (λ x. filter_map ending_heard heard ++ x) (sym (launched_heard (launches_told image reply)))
+          ∙ sym (filter_map-append ending_heard heard starts);
       requests = requests;
-      starts = sym (append-nil _);
-      texts = sym (ap (λ x. x ++ []) none.none);
+      given_in = filter_map-append given heard starts ∙ append_both quiet (launched_given (launches_told image reply))
+          ∙ sym (append-nil (gives image reply) ∙ ap (λ texts. starts ++ ran texts) none.none ∙ append-nil starts);
     }

@@ -13,10 +13,9 @@ use Rattle.ifs_core.specs.Gateway.{IsStateOf, interface_of}
 use Rattle.ifs_core.specs.Headline.{IsKept}
 use Rattle.ifs_core.specs.Steps.{CoreState, turn}
 use Rattle.ifs_session.specs.Requests.{Asked, ALink, AResult, ATick, ATake, AStatus, ATrace, AStop, AFault}
-use Rattle.ifs_session.specs.Hosts.{Ending, HostLog, joined, nothing_given, ran, launched, polled}
+use Rattle.ifs_session.specs.Hosts.{Ending, HostLog, ran, launched, polled}
 use Rattle.ifs_session.specs.Accounts.{Account, Part, client_asked, step_asked, takes_of, texts_of, launches_told, begun, emptied, heard, ended, all_ended, acted, listened, served, all_served, account}
-use Rattle.ifs_session.specs.Service.{ending_made, request_made, lines_in, Keeps}
-use Rattle.ifs_session.proofs.Logs.{joined-joined}
+use Rattle.ifs_session.specs.Service.{ending_made, ending_heard, request_made, given, lines_in, Keeps}
 use Rattle.ifs_session.proofs.Growing.{Grows, TakesNone, line_step, grows_more, takes_grow, step_grows, link_takes, finished_takes, tick_takes}
 
 -- What is known of a core's image throughout.
@@ -42,18 +41,18 @@ same_log : {b : Behaviour} {image : ImageParts} {lines : List (List ℕ)} {steps
 same_log {b} {image} {lines} {steps} {s = s} {s'} e g = subst (λ l. Grows b image lines steps l s s') e g
 
 -- A step that was made, and the taking of the commands after it.
-acts_lawful : (b : Behaviour) (image : ImageParts) (step : Step) (lines more : List (List ℕ)) (polls : List (Option Ending)) (s : CoreState) (a : Account)
+acts_lawful : (b : Behaviour) (image : ImageParts) (step : Step) (lines more : List (List ℕ)) (heard_before : HostLog) (s : CoreState) (a : Account)
     → Kept b image → Lawful b image lines s a → TakesNone image (turn b image.budgets.commands step a.state)
-    → filter_map ending_made (step ∷ []) ≡ filter_map (λ answer. answer) polls → filter_map request_made (step ∷ []) ≡ filter_map (line_step image) more
+    → filter_map ending_made (step ∷ []) ≡ filter_map ending_heard heard_before → filter_map given heard_before ≡ [] → filter_map request_made (step ∷ []) ≡ filter_map (line_step image) more
     → Lawful b image (lines ++ more) s (emptied b image (record {
       state = (turn b image.budgets.commands step a.state).next;
       steps = a.steps ++ step ∷ [];
-      log = joined a.log (record { texts = []; starts = launches_told image (turn b image.budgets.commands step a.state).reply; polls = polls });
+      log = a.log ++ (heard_before ++ launched (launches_told image (turn b image.budgets.commands step a.state).reply));
       said = a.said;
     }))
-acts_lawful b image step lines more polls s a k l none endings requests =
+acts_lawful b image step lines more heard_before s a k l none endings quiet requests =
     let next = (turn b image.budgets.commands step a.state).next in
-    let one = step_grows b image step more polls a.state k.kept k.behaves l.grows.stands l.empty none endings requests in
+    let one = step_grows b image step more heard_before a.state k.kept k.behaves l.grows.stands l.empty none endings quiet requests in
     let made = grows_more b image lines more a.steps (step ∷ []) a.log _ s a.state next l.grows one in
     let takes = takes_grow b image next.queue next k.kept k.behaves one.stands refl in
     let all = grows_more b image (lines ++ more) [] _ (takes_of next.queue) _ _ s next _ made takes.grows in
@@ -67,10 +66,10 @@ acts_lawful b image step lines more polls s a k l none endings requests =
 ended_lawful : (b : Behaviour) (image : ImageParts) (e : Ending) (lines : List (List ℕ)) (s : CoreState) (a : Account) → Kept b image → Lawful b image lines s a
     → Lawful b image lines s (ended b image e a)
 ended_lawful b image e lines s a k l =
-    let acts = acts_lawful b image (Finished e.0 e.1 e.2) lines [] (Some e ∷ []) s a k l (finished_takes b image image.budgets.commands (record { test = e.0; run = e.1; value = e.2 }) (slice_get a.state.position.facts.tests e.0.0) a.state) refl refl in
-    let same = joined-joined a.log (polled (Some e)) (launched (launches_told image (turn b image.budgets.commands (Finished e.0 e.1 e.2) a.state).reply)) in
+    let acts = acts_lawful b image (Finished e.0 e.1 e.2) lines [] (polled (Some e)) s a k l (finished_takes b image image.budgets.commands (record { test = e.0; run = e.1; value = e.2 }) (slice_get a.state.position.facts.tests e.0.0) a.state) refl refl refl in
+    let same = append_assoc a.log (polled (Some e)) (launched (launches_told image (turn b image.budgets.commands (Finished e.0 e.1 e.2) a.state).reply)) in
     record {
-      grows = same_log (ap (λ x. joined x (ran (texts_of image (turn b image.budgets.commands (Finished e.0 e.1 e.2) a.state).next.queue))) (sym same)) (no_more_lines acts.grows);
+      grows = same_log (ap (λ x. x ++ (ran (texts_of image (turn b image.budgets.commands (Finished e.0 e.1 e.2) a.state).next.queue))) (sym same)) (no_more_lines acts.grows);
       empty = acts.empty;
     }
 
@@ -81,11 +80,11 @@ all_ended_lawful b image (e ∷ endings) lines s a k l = all_ended_lawful b imag
 
 heard_lawful : (b : Behaviour) (image : ImageParts) (lines : List (List ℕ)) (s : CoreState) (a : Account) → Lawful b image lines s a → Lawful b image lines s (heard None a)
 heard_lawful b image lines s a l =
-    let quiet : Grows b image [] [] (polled None) a.state a.state = record { stands = l.grows.stands; made = refl; never_busy = All-nil _; endings = refl; requests = refl; starts = refl; texts = refl } in
+    let quiet : Grows b image [] [] (polled None) a.state a.state = record { stands = l.grows.stands; made = refl; never_busy = All-nil _; endings = refl; requests = refl; given_in = refl } in
     let more = grows_more b image lines [] a.steps [] a.log (polled None) s a.state a.state l.grows quiet in
     record {
-      grows = subst (λ steps. Grows b image lines steps (joined a.log (polled None)) s a.state) (append-nil a.steps)
-          (subst (λ ls. Grows b image ls (a.steps ++ []) (joined a.log (polled None)) s a.state) (append-nil lines) more);
+      grows = subst (λ steps. Grows b image lines steps (a.log ++ polled None) s a.state) (append-nil a.steps)
+          (subst (λ ls. Grows b image ls (a.steps ++ []) (a.log ++ polled None) s a.state) (append-nil lines) more);
       empty = l.empty;
     }
 
@@ -128,16 +127,16 @@ requested image (AFault fault) step e = cc
 acted_lawful : (b : Behaviour) (image : ImageParts) (line : List ℕ) (wanted : Option Step) (lines : List (List ℕ)) (s : CoreState) (a : Account) → line_step image line ≡ wanted → Kept b image
     → Lawful b image lines s a → Lawful b image (lines ++ line ∷ []) s (acted b image wanted a)
 acted_lawful b image line None lines s a e k l =
-    let quiet : Grows b image (line ∷ []) [] nothing_given a.state a.state =
-    record { stands = l.grows.stands; made = refl; never_busy = All-nil _; endings = refl; requests = rw e refl; starts = refl; texts = refl } in
-    let more = grows_more b image lines (line ∷ []) a.steps [] a.log nothing_given s a.state a.state l.grows quiet in
+    let quiet : Grows b image (line ∷ []) [] [] a.state a.state =
+    record { stands = l.grows.stands; made = refl; never_busy = All-nil _; endings = refl; requests = rw e refl; given_in = refl } in
+    let more = grows_more b image lines (line ∷ []) a.steps [] a.log [] s a.state a.state l.grows quiet in
     record {
-      grows = rw (append-nil a.steps, append-nil a.log.texts, append-nil a.log.starts, append-nil a.log.polls) at more;
+      grows = rw (append-nil a.steps, append-nil a.log) at more;
       empty = l.empty;
     }
 acted_lawful b image line (Some step) lines s a e k l =
     let r = requested image (client_asked line) step e in
-    acts_lawful b image step lines (line ∷ []) [] s a k l (r.no_take b a.state) (rw r.no_ending refl) (rw (r.request, e) refl)
+    acts_lawful b image step lines (line ∷ []) [] s a k l (r.no_take b a.state) (rw r.no_ending refl) refl (rw (r.request, e) refl)
 
 served_lawful : (b : Behaviour) (image : ImageParts) (part : Part) (lines : List (List ℕ)) (s : CoreState) (a : Account) → Kept b image → Lawful b image lines s a
     → Lawful b image (lines ++ part.line ∷ []) s (served b image part a)
@@ -162,7 +161,6 @@ account_keeps b image parts s k stands =
       never_busy = l.grows.never_busy;
       endings = l.grows.endings;
       requests = l.grows.requests;
-      starts = l.grows.starts;
-      texts = l.grows.texts;
+      given_in = l.grows.given_in;
       empty = l.empty;
     }

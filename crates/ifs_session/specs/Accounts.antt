@@ -14,7 +14,7 @@ use Rattle.ifs_core.specs.Gateway.{interface_of}
 use Rattle.ifs_session.specs.declared.request.RequestFault.TheVariants.{NoRequest, TooLong, NoInterface}
 use Rattle.ifs_session.specs.Requests.{Asked, ALink, ATick, AStatus, ATrace, AStop, AFault, begins_with, short_asked}
 use Rattle.ifs_session.specs.Replies.{command_text, reply_line, status_line, trace_lines, fault_line, bye_line}
-use Rattle.ifs_session.specs.Hosts.{Ending, Launch, HostLog, ran, launched, polled, joined, nothing_given}
+use Rattle.ifs_session.specs.Hosts.{Ending, Launch, HostLog, ran, launched, polled}
 
 -- Whether a line asks for what the service does by itself: a result, or the taking of a command.
 abbrev pub asks_of_hosts : List ℕ → Bool
@@ -64,13 +64,13 @@ pub record Account : Type 0 where
 
 -- The account at the beginning.
 abbrev pub begun : CoreState → Account
-begun s = record { state = s; steps = []; log = nothing_given; said = [] }
+begun s = record { state = s; steps = []; log = []; said = [] }
 
 -- A step is made, and the tests that it starts are told to the host.
 abbrev pub made : Behaviour → ImageParts → Step → Account → Account
 made b image step a =
     let t = turn b image.budgets.commands step a.state in
-    record { state = t.next; steps = a.steps ++ step ∷ []; log = joined a.log (launched (launches_told image t.reply)); said = a.said }
+    record { state = t.next; steps = a.steps ++ step ∷ []; log = a.log ++ launched (launches_told image t.reply); said = a.said }
 
 -- The steps that take the commands of a queue, and their texts.
 abbrev pub takes_of : List CommandId → List Step
@@ -84,13 +84,13 @@ abbrev pub emptied : Behaviour → ImageParts → Account → Account
 emptied b image a = record {
   state = after_steps b image.budgets.commands (takes_of a.state.queue) a.state;
   steps = a.steps ++ takes_of a.state.queue;
-  log = joined a.log (ran (texts_of image a.state.queue));
+  log = a.log ++ ran (texts_of image a.state.queue);
   said = a.said;
 }
 
 -- The host answered this when it was polled.
 abbrev pub heard : Option Ending → Account → Account
-heard answer a = record { state = a.state; steps = a.steps; log = joined a.log (polled answer); said = a.said }
+heard answer a = record { state = a.state; steps = a.steps; log = a.log ++ polled answer; said = a.said }
 
 -- The end of a test's run was answered, its step is made, and the queue is emptied.
 abbrev pub ended : Behaviour → ImageParts → Ending → Account → Account

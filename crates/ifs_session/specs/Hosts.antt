@@ -1,47 +1,42 @@
 -- Hosts: what runs commands and tests, and what it tells of what it was given and what it answered.
-use Rattle.std.specs.Prelude.{◌≡◌, ℕ, Bool, List, [], ◌∷◌, ◌++◌, Option, Some, None, Result, MatchResult}
+use Rattle.std.specs.Prelude.{◌≡◌, ℕ, Bool, List, [], ◌∷◌, ◌++◌, map, Option, Some, None, Result, MatchResult}
 use Rattle.ifs_base.specs.declared.ids.TestId.{TestId}
+use Rattle.ifs_session.specs.declared.host.Launch.{Launch as LaunchWith}
+use Rattle.ifs_session.specs.declared.host.HostEvent.{HostEvent}
+use Rattle.ifs_session.specs.declared.host.HostEvent.TheVariants.{Polled, Started, Ran}
 use Rattle.ifs_session.specs.Device.{counted}
 
 -- The end of a test's run, as a host answers it: the test, the number of the run, and the value that it found.
 abbrev pub Ending : Type 0
 Ending = TestId × ℕ × Bool
 
--- A test that a host was told to start: the number of its run, and the text of its command.
-pub record Launch : Type 0 where
-  pub test : TestId
-  pub run : ℕ
-  pub text : List ℕ
+-- A test that a host was told to start, with the text of its command.
+abbrev pub Launch : Type 0
+Launch = LaunchWith (List ℕ)
 
--- What a host was given and what it answered: the texts that it ran, the tests that it started, and its answers when it was polled, each in order.
-pub record HostLog : Type 0 where
-  pub texts : List (List ℕ)
-  pub starts : List Launch
-  pub polls : List (Option Ending)
+-- One thing that happened at a host: it answered a poll, was told to start a test, or ran a text.
+abbrev pub Event : Type 0
+Event = HostEvent (List ℕ)
 
--- Nothing was given yet.
-abbrev pub nothing_given : HostLog
-nothing_given = record { texts = []; starts = []; polls = [] }
+-- What happened at a host, in order.
+abbrev pub HostLog : Type 0
+HostLog = List Event
 
 -- Texts were run, tests were started, and one answer was given.
 abbrev pub ran : List (List ℕ) → HostLog
-ran texts = record { texts = texts; starts = []; polls = [] }
+ran texts = map (λ text. Ran text) texts
 
 abbrev pub launched : List Launch → HostLog
-launched starts = record { texts = []; starts = starts; polls = [] }
+launched starts = map (λ start. Started start) starts
 
 abbrev pub polled : Option Ending → HostLog
-polled answer = record { texts = []; starts = []; polls = answer ∷ [] }
-
--- A log, and what came after it.
-abbrev pub joined : HostLog → HostLog → HostLog
-joined log more = record { texts = log.texts ++ more.texts; starts = log.starts ++ more.starts; polls = log.polls ++ more.polls }
+polled answer = Polled answer ∷ []
 
 -- What a host tells after this came to its log. It may cease to tell, and then says no more.
 abbrev pub Adds : HostLog → Option HostLog → Option HostLog → Type 0
 Adds more told None = Unit {0}
 Adds more None (Some after) = ⊥
-Adds more (Some before) (Some after) = after ≡ joined before more
+Adds more (Some before) (Some after) = after ≡ before ++ more
 
 -- What the answer of a run says of a host's count of failures: it rises where the text could not be run.
 abbrev pub RunCounts : {X E : Type 0} → Result X E → Option ℕ → Option ℕ → Type 0

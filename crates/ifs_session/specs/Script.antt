@@ -3,11 +3,12 @@ use Rattle.std.specs.Prelude.{ℕ, ℤ, pos, Bool, true, false, List, [], ◌∷
 use Rattle.ifs_session.specs.declared.host.HostFault.{HostFault}
 use Rattle.ifs_session.specs.Hosts.{Ending, HostLog}
 
--- A scripted host: the answers that are left to polls and to runs, what it noted, whether it noted all, and how often a run failed.
+-- A scripted host: the answers that are left to polls and to runs, what it noted, for how many notes there is room without asking for memory, whether it noted all, and how often a run failed.
 pub record Script : Type 0 where
   pub endings : List (Option Ending)
   pub statuses : List (Result ℤ HostFault)
   pub log : HostLog
+  pub room : ℕ
   pub whole : Bool
   pub faults : ℕ
 

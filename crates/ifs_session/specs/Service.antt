@@ -13,7 +13,8 @@ use Rattle.ifs_session.specs.declared.fault.SessionFault.TheVariants.{ReadFailed
 use Rattle.ifs_session.specs.declared.service.End.{End}
 use Rattle.ifs_session.specs.declared.service.End.TheVariants.{Closed, Stop, Full, Fault}
 use Rattle.ifs_session.specs.Device.{counted}
-use Rattle.ifs_session.specs.Hosts.{Ending, HostLog, Adds}
+use Rattle.ifs_session.specs.declared.host.HostEvent.TheVariants.{Polled, Started, Ran}
+use Rattle.ifs_session.specs.Hosts.{Ending, Event, HostLog, Adds, ran, launched}
 use Rattle.ifs_session.specs.Lines.{lines_of, whole_lines}
 use Rattle.ifs_session.specs.Replies.{command_text}
 use Rattle.ifs_session.specs.Sessions.{Moment, HasRead, EndsLine, EndsLines, is_stop}
@@ -37,14 +38,28 @@ abbrev pub text_taken : ImageParts → Reply → List (List ℕ)
 text_taken image (Taken command) = command_text image command.0 ∷ []
 text_taken image _ = []
 
--- These steps lead from one state of a core to another, and none of them was answered `Busy`. The ends of tests among them are those that the host answered, each once, in order; the requests are those of the lines, in order; and the host was given the tests that they start, and the texts of the commands that they take, in order. They leave the queue empty.
+-- The end of a test that a host told of, when it was polled.
+abbrev pub ending_heard : Event → Option Ending
+ending_heard (Polled answer) = answer
+ending_heard _ = None
+
+-- What a host was given: all that happened at it but its answers.
+abbrev pub given : Event → Option Event
+given (Polled answer) = None
+given (Started launch) = Some (Started launch)
+given (Ran text) = Some (Ran text)
+
+-- What a host is to be given for a reply: the tests that it says are started, and the text of the command that it hands out.
+abbrev pub gives : ImageParts → Reply → HostLog
+gives image reply = launched (launches_told image reply) ++ ran (text_taken image reply)
+
+-- These steps lead from one state of a core to another, and none of them was answered `Busy`. The ends of tests among them are those that the host answered, each once, in order; the requests are those of the lines, in order; and the host was given the tests that they start and the texts of the commands that they take, and nothing else, in the order of the steps. They leave the queue empty.
 pub record Keeps (b : Behaviour) (image : ImageParts) (lines : List (List ℕ)) (steps : List Step) (log : HostLog) (s s' : CoreState) : Type 0 where
   pub made : s' ≡ after_steps b image.budgets.commands steps s
   pub never_busy : All (λ reply. reply ≢ Busy) (replies b image.budgets.commands steps s)
-  pub endings : filter_map ending_made steps ≡ filter_map (λ answer. answer) log.polls
+  pub endings : filter_map ending_made steps ≡ filter_map ending_heard log
   pub requests : filter_map request_made steps ≡ filter_map (λ line. step_asked image (client_asked line)) lines
-  pub starts : log.starts ≡ flat_map (launches_told image) (replies b image.budgets.commands steps s)
-  pub texts : log.texts ≡ flat_map (text_taken image) (replies b image.budgets.commands steps s)
+  pub given_in : filter_map given log ≡ flat_map (gives image) (replies b image.budgets.commands steps s)
   pub empty : s'.queue ≡ []
 
 -- ---- its parts and its end

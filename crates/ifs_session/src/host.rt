@@ -11,12 +11,34 @@ use thiserror::Error;
 #[error("the host failed")]
 pub struct HostFault;
 
+/// A test that a host is told to start.
+#[derive(Clone, Copy, Debug, PartialEq, Eq)]
+pub struct Launch<T> {
+    /// The test.
+    pub test: TestId,
+    /// The number of its run.
+    pub run: u64,
+    /// The text of its command.
+    pub text: T,
+}
+
+/// One thing that happens at a host.
+#[derive(Debug, Drop)]
+pub enum HostEvent<T> {
+    /// It is polled, and answers this.
+    Polled(Option<(TestId, u64, bool)>),
+    /// It is told to start a test.
+    Started(Launch<T>),
+    /// It runs a text.
+    Ran(T),
+}
+
 /// What runs commands, starts tests and tells how they ended.
 ///
 /// It may tell what it was given and what it answered, and may cease to; and how often it failed:
 /// one that tells failures counts each, up to 2^64 - 1.
 pub trait Host {
-    // What it was given and what it answered, where that is known.
+    // What it was given and what it answered, in order, where that is known.
     ghost told: { Self → Option HostLog } = { λ _. None };
 
     // How often a command could not be run, where that is known.

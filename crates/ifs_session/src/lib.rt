@@ -27,12 +27,12 @@ mod words;
 
 pub use device::{ByteIn, ByteOut, DeviceFault};
 pub use fault::{RunFault, SessionFault};
-pub use host::{Host, HostFault};
+pub use host::{Host, HostEvent, HostFault, Launch};
 pub use memory::{MemoryIn, MemoryOut};
 pub use queue::run_queue;
 pub use request::RequestFault;
 pub use running::run_hex;
-pub use script::{HostText, Launch, ScriptHost};
+pub use script::{HostText, ScriptHost};
 pub use service::{End, Served, serve_one};
 pub use session::{Summary, simulate};
 pub use std_devices::{FromRead, ToWrite};

@@ -1,21 +1,25 @@
-//! A host in memory, for tests: it answers by a script and notes what it was given.
+//! A host in memory, for tests: it answers by a script and notes what happened at it.
 
-ghost use Rattle.std.specs.Prelude.{◌≡◌, ◌+◌, ◌∷◌, ◌++◌, [], map, drop, true, Some, IfOk, IfErr, OnOk, MatchResult};
-ghost use Rattle.ifs_session.specs.Hosts.{HostLog, Adds, ran, launched, polled, nothing_given, RunCounts};
+ghost use Rattle.std.specs.Prelude.{◌≡◌, ◌+◌, ◌<◌, ◌≤◌, ◌∷◌, [], length, drop, true, None, Some, IfSome, IsSome, OnOk};
+ghost use Rattle.ifs_session.specs.Hosts.{Event, Adds, ran, launched, polled, RunCounts};
 ghost use Rattle.ifs_session.specs.Script.{told_whole, next_ending, next_status};
 
-use crate::host::{Host, HostFault};
+use crate::host::{Host, HostEvent, HostFault, Launch};
+use arrayvec::ArrayVec;
 use ifs_base::TestId;
 use std::alloc::{AllocError, Allocator, Global};
 use std::marker::Model;
 
+/// The most bytes of a text that is noted.
+const TEXT: usize = 1024;
+
 /// A text that a host was given.
 #[derive(Debug, Drop)]
-pub struct HostText<A: Allocator = Global> {
-    bytes: Vec<u8, A>,
+pub struct HostText {
+    bytes: ArrayVec<u8, TEXT>,
 }
 
-impl<A: Allocator> Model for HostText<A> {
+impl Model for HostText {
     ghost use Rattle.std.specs.Prelude.{List, ℕ};
 
     ghost Value = { List ℕ };
@@ -23,13 +27,17 @@ impl<A: Allocator> Model for HostText<A> {
     ghost view = { λ t. t.bytes.items };
 }
 
-impl<A: Allocator> HostText<A> {
-    /// A copy of this text.
-    fn of(alloc: A, text: &str) -> Result<Self, AllocError>
-        ensures { IfOk result (λ copy. copy ≡ text.now) }
+impl HostText {
+    /// A copy of this text; `None` where it has over 1,024 bytes.
+    fn of(text: &str) -> Option<Self>
+        ensures copies { IfSome result (λ copy. copy ≡ text.now) }
+        ensures fits { length text.now ≤ 1024 → IsSome result }
     {
-        let bytes = Vec::from_slice(alloc, text.as_bytes())?;
-        Ok(HostText { bytes })
+        let mut bytes = ArrayVec::new();
+        match bytes.try_extend_from_slice(text.as_bytes()) {
+            Ok(()) => Some(HostText { bytes }),
+            Err(_) => None,
+        }
     }
 
     /// The bytes of the text.
@@ -40,63 +48,21 @@ impl<A: Allocator> HostText<A> {
     }
 }
 
-/// A test that a host was told to start.
-#[derive(Debug, Drop)]
-pub struct Launch<A: Allocator = Global> {
-    test: TestId,
-    run: u64,
-    text: HostText<A>,
-}
-
-impl<A: Allocator> Model for Launch<A> {
-    ghost use Rattle.ifs_session.specs.Hosts.{Launch as Told};
-
-    ghost Value = { Told };
-
-    ghost view = { λ l. record { test = l.test; run = l.run; text = l.text } };
-}
-
-impl<A: Allocator> Launch<A> {
-    /// The test.
-    pub fn test(&self) -> TestId
-        ensures { result ≡ self.now.test }
-    {
-        self.test
-    }
-
-    /// The number of its run.
-    pub fn run(&self) -> u64
-        ensures { result ≡ self.now.run }
-    {
-        self.run
-    }
-
-    /// The text of its command.
-    pub fn text(&self) -> &[u8]
-        ensures { result.now ≡ self.now.text }
-    {
-        self.text.as_bytes()
-    }
-}
-
-/// A host that starts and runs nothing: it answers polls and runs by a script, and notes what it was
-/// given and what it answered, as long as it finds memory for that.
+/// A host that starts and runs nothing: it answers polls and runs by a script, and notes what happened
+/// at it, as long as it finds memory for that and no text has over 1,024 bytes.
 #[derive(Drop)]
 pub struct ScriptHost<A: Allocator = Global> {
-    alloc: A,
     endings: Vec<Option<(TestId, u64, bool)>>,
     next_ending: usize,
     statuses: Vec<Result<i32, HostFault>>,
     next_status: usize,
-    texts: Vec<HostText<A>, A>,
-    starts: Vec<Launch<A>, A>,
-    polls: Vec<Option<(TestId, u64, bool)>, A>,
+    events: Vec<HostEvent<HostText>, A>,
     whole: bool,
     faults: u64,
 }
 
 impl<A: Allocator> Model for ScriptHost<A> {
-    ghost use Rattle.std.specs.Prelude.{drop};
+    ghost use Rattle.std.specs.Prelude.{drop, vec_capacity};
     ghost use Rattle.ifs_session.specs.Script.{Script};
 
     ghost Value = { Script };
@@ -104,13 +70,14 @@ impl<A: Allocator> Model for ScriptHost<A> {
     ghost view = { λ h. record {
       endings = drop h.next_ending h.endings.items;
       statuses = drop h.next_status h.statuses.items;
-      log = record { texts = h.texts.items; starts = h.starts.items; polls = h.polls.items };
+      log = h.events.items;
+      room = vec_capacity h.events;
       whole = h.whole;
       faults = h.faults;
     } };
 }
 
-impl<A: Allocator + Copy> ScriptHost<A> {
+impl<A: Allocator> ScriptHost<A> {
     /// A host with these answers to polls and to runs. It takes no memory here; its notes take some
     /// from `alloc`.
     pub fn new(
@@ -118,75 +85,54 @@ impl<A: Allocator + Copy> ScriptHost<A> {
         endings: Vec<Option<(TestId, u64, bool)>>,
         statuses: Vec<Result<i32, HostFault>>,
     ) -> Self
-        ensures { result ≡ record { endings = endings.items; statuses = statuses.items; log = nothing_given; whole = true; faults = 0 } }
+        ensures { result ≡ record { endings = endings.items; statuses = statuses.items; log = []; room = 0; whole = true; faults = 0 } }
     {
         ScriptHost {
-            alloc,
             endings,
             next_ending: 0,
             statuses,
             next_status: 0,
-            texts: Vec::new(alloc),
-            starts: Vec::new(alloc),
-            polls: Vec::new(alloc),
+            events: Vec::new(alloc),
             whole: true,
             faults: 0,
         }
     }
 
-    /// Whether all was noted: it becomes false with the first note for which no memory was found, and
-    /// stays so.
+    /// Finds memory for so many more notes, which are then sure to be told.
+    pub fn reserve(&mut self, notes: usize) -> Result<(), AllocError>
+        ensures room { OnOk result (length self.new.log + notes ≤ self.new.room) }
+        ensures same { self.new ≡ record { endings = self.old.endings; statuses = self.old.statuses; log = self.old.log; room = self.new.room; whole = self.old.whole; faults = self.old.faults } }
+    {
+        self.events.reserve(notes)
+    }
+
+    /// Whether all was noted: it becomes false with the first note for which no memory was found, or
+    /// whose text is too long, and stays so.
     pub fn whole(&self) -> bool
         ensures { result ≡ self.now.whole }
     {
         self.whole
     }
 
-    /// The texts that were run, in order, those that found no memory left out.
-    pub fn texts(&self) -> &[HostText<A>]
-        ensures { result.now ≡ self.now.log.texts }
+    /// What happened, in order, what was not noted left out.
+    pub fn events(&self) -> &[HostEvent<HostText>]
+        ensures { result.now ≡ self.now.log }
     {
-        self.texts.as_slice()
+        self.events.as_slice()
     }
 
-    /// The tests that were started, in order, those that found no memory left out.
-    pub fn starts(&self) -> &[Launch<A>]
-        ensures { result.now ≡ self.now.log.starts }
-    {
-        self.starts.as_slice()
-    }
-
-    /// The answers to polls, in order, those that found no memory left out.
-    pub fn polls(&self) -> &[Option<(TestId, u64, bool)>]
-        ensures { result.now ≡ self.now.log.polls }
-    {
-        self.polls.as_slice()
-    }
-
-    /// Notes a start.
-    fn note_start(&mut self, test: TestId, run: u64, text: &str) -> Result<(), AllocError>
-        ensures log { OnOk result (self.new.log ≡ record { texts = self.old.log.texts; starts = self.old.log.starts ++ (record { test = test; run = run; text = text.now } ∷ []); polls = self.old.log.polls }) }
+    /// Notes what happened. Where there is room for one more note, it goes on telling.
+    fn note(&mut self, event: HostEvent<HostText>)
+        ensures log { Adds (event ∷ []) (told_whole self.old.whole self.old.log) (told_whole self.new.whole self.new.log) }
+        ensures tells { length self.old.log < self.old.room → self.new.whole ≡ self.old.whole }
+        ensures room { self.old.room ≤ self.new.room }
+        ensures grows { length self.new.log ≤ length self.old.log + 1 }
         ensures endings { self.new.endings ≡ self.old.endings }
         ensures statuses { self.new.statuses ≡ self.old.statuses }
-        ensures whole { self.new.whole ≡ self.old.whole }
         ensures faults { self.new.faults ≡ self.old.faults }
     {
-        let text = HostText::of(self.alloc, text)?;
-        self.starts.push(Launch { test, run, text })?;
-        Ok(())
-    }
-
-    /// Notes a text that is run.
-    fn note_text(&mut self, text: &str) -> Result<(), AllocError>
-        ensures log { OnOk result (self.new.log ≡ record { texts = self.old.log.texts ++ (text.now ∷ []); starts = self.old.log.starts; polls = self.old.log.polls }) }
-        ensures endings { self.new.endings ≡ self.old.endings }
-        ensures statuses { self.new.statuses ≡ self.old.statuses }
-        ensures whole { self.new.whole ≡ self.old.whole }
-        ensures faults { self.new.faults ≡ self.old.faults }
-    {
-        let text = HostText::of(self.alloc, text)?;
-        self.texts.push(text)?;
-        Ok(())
+        let noted = self.events.push(event).is_ok();
+        self.whole = self.whole && noted;
     }
 
     /// The next status of the script, and 0 after its last.
@@ -195,6 +141,7 @@ impl<A: Allocator + Copy> ScriptHost<A> {
         ensures statuses { self.new.statuses ≡ drop 1 self.old.statuses }
         ensures counts { RunCounts result (Some self.old.faults) (Some self.new.faults) }
         ensures log { self.new.log ≡ self.old.log }
+        ensures room { self.new.room ≡ self.old.room }
         ensures endings { self.new.endings ≡ self.old.endings }
         ensures whole { self.new.whole ≡ self.old.whole }
     {
@@ -210,7 +157,7 @@ impl<A: Allocator + Copy> ScriptHost<A> {
     }
 }
 
-impl<A: Allocator + Copy> Host for ScriptHost<A> {
+impl<A: Allocator> Host for ScriptHost<A> {
     ghost told = { λ h. told_whole h.whole h.log };
 
     ghost faults = { λ h. Some h.faults };
@@ -220,9 +167,15 @@ impl<A: Allocator + Copy> Host for ScriptHost<A> {
         ensures counts { Some self.new.faults ≡ Some self.old.faults }
         ensures endings { self.new.endings ≡ self.old.endings }
         ensures statuses { self.new.statuses ≡ self.old.statuses }
+        // Where there is room for one more note, it goes on telling.
+        ensures tells { length text.now ≤ 1024 → length self.old.log < self.old.room → self.new.whole ≡ self.old.whole }
+        ensures room { self.old.room ≤ self.new.room }
+        ensures grows { length self.new.log ≤ length self.old.log + 1 }
     {
-        let noted = self.note_start(test, run, text).is_ok();
-        self.whole = self.whole && noted;
+        match HostText::of(text) {
+            Some(text) => self.note(HostEvent::Started(Launch { test, run, text })),
+            None => self.whole = false,
+        }
     }
 
     /// The next answer of the script, and `None` after its last.
@@ -232,6 +185,10 @@ impl<A: Allocator + Copy> Host for ScriptHost<A> {
         ensures next { result ≡ next_ending self.old.endings }
         ensures endings { self.new.endings ≡ drop 1 self.old.endings }
         ensures statuses { self.new.statuses ≡ self.old.statuses }
+        // Where there is room for one more note, it goes on telling.
+        ensures tells { length self.old.log < self.old.room → self.new.whole ≡ self.old.whole }
+        ensures room { self.old.room ≤ self.new.room }
+        ensures grows { length self.new.log ≤ length self.old.log + 1 }
     {
         let answer = match self.endings.as_slice().get(self.next_ending) {
             None => None,
@@ -240,8 +197,7 @@ impl<A: Allocator + Copy> Host for ScriptHost<A> {
                 *answer
             }
         };
-        let noted = self.polls.push(answer).is_ok();
-        self.whole = self.whole && noted;
+        self.note(HostEvent::Polled(answer));
         answer
     }
 
@@ -252,9 +208,15 @@ impl<A: Allocator + Copy> Host for ScriptHost<A> {
         ensures next { result ≡ next_status self.old.statuses }
         ensures statuses { self.new.statuses ≡ drop 1 self.old.statuses }
         ensures endings { self.new.endings ≡ self.old.endings }
+        // Where there is room for one more note, it goes on telling.
+        ensures tells { length text.now ≤ 1024 → length self.old.log < self.old.room → self.new.whole ≡ self.old.whole }
+        ensures room { self.old.room ≤ self.new.room }
+        ensures grows { length self.new.log ≤ length self.old.log + 1 }
     {
-        let noted = self.note_text(text).is_ok();
-        self.whole = self.whole && noted;
+        match HostText::of(text) {
+            Some(text) => self.note(HostEvent::Ran(text)),
+            None => self.whole = false,
+        }
         self.next_run()
     }
 }

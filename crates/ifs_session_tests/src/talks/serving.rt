@@ -5,8 +5,8 @@ use ifs_base::{IfaceId, LinkState, TestId};
 use ifs_core::{Core, Step};
 use ifs_rows::{bytes_of, images, sessions};
 use ifs_session::{
-    ByteIn, End, HostFault, HostText, Launch, MemoryIn, MemoryOut, ScriptHost, Served,
-    SessionFault, run_queue, serve_one,
+    ByteIn, End, HostEvent, HostFault, MemoryIn, MemoryOut, ScriptHost, Served, SessionFault,
+    run_queue, serve_one,
 };
 use ifs_verify::verify;
 use linked_list_allocator::LocalHeap;
@@ -76,23 +76,18 @@ fn quiet_talk(rt: &impl Abort, alloc: Global, image: &str, input: &mut MemoryIn)
     Talk::new(rt, alloc, image, quiet(alloc, alloc), input, output)
 }
 
-/// One test was started, with this run number and text.
-fn check_start(rt: &impl Abort, starts: &[Launch], test: TestId, run: u64, text: &str) {
-    let [start] = starts else {
-        panic!(rt; "one test is started")
-    };
-    assert_eq!(rt; start.test(), test);
-    assert_eq!(rt; start.run(), run);
-    assert_eq!(rt; start.text(), text.as_bytes());
-}
-
 /// So many commands were run, the last of which has this text.
-fn check_last_text(rt: &impl Abort, texts: &[HostText], count: usize, text: &str) {
-    assert_eq!(rt; texts.len(), count);
-    match texts.last() {
-        Some(last) => assert_eq!(rt; last.as_bytes(), text.as_bytes()),
-        None => panic!(rt; "a command is run"),
+fn check_last_text(rt: &impl Abort, host: &ScriptHost<Global>, count: u32, text: &str) {
+    let mut runs: u32 = 0;
+    let mut last: &[u8] = &[];
+    for event in host.events() {
+        if let HostEvent::Ran(command) = event {
+            runs = runs.saturating_add(1);
+            last = command.as_bytes();
+        }
     }
+    assert_eq!(rt; runs, count);
+    assert_eq!(rt; last, text.as_bytes());
 }
 
 /// The end of the only run of the row of macros.
@@ -117,10 +112,22 @@ fn check_macros(rt: &impl Abort, talk: &Talk<Global>) {
 
 fn check_macros_host(rt: &impl Abort, host: &ScriptHost<Global>) {
     assert!(rt; host.whole());
-    check_start(rt, host.starts(), TestId(0), 1, "ping -q -c 1 host");
-    check_last_text(rt, host.texts(), 1, "echo d");
-    let polls = [None, Some(MACROS_ENDING), None, None];
-    assert_eq!(rt; host.polls(), polls.as_slice());
+    let [
+        HostEvent::Polled(None),
+        HostEvent::Started(start),
+        HostEvent::Polled(Some(ending)),
+        HostEvent::Ran(command),
+        HostEvent::Polled(None),
+        HostEvent::Polled(None),
+    ] = host.events()
+    else {
+        panic!(rt; "what happens at the host is something else")
+    };
+    assert_eq!(rt; start.test, TestId(0));
+    assert_eq!(rt; start.run, 1);
+    assert_eq!(rt; start.text.as_bytes(), b"ping -q -c 1 host".as_slice());
+    assert_eq!(rt; *ending, MACROS_ENDING);
+    assert_eq!(rt; command.as_bytes(), b"echo d".as_slice());
 }
 
 /// The row of macros: a test is started, fails, and its command is run before the reply to `status`.
@@ -178,7 +185,7 @@ fn check_refused(rt: &impl Abort, talk: &Talk<Global>) {
     assert_eq!(rt; talk.served.end, End::Closed);
     let steps = [Step::Link(IfaceId(0), LinkState::Up), Step::Take];
     assert_eq!(rt; talk.served.steps.as_slice(), steps.as_slice());
-    check_last_text(rt, talk.host.texts(), 1, "echo m");
+    check_last_text(rt, &talk.host, 1, "echo m");
 }
 
 /// A client's `result` and `take` are no requests, whatever their numbers; a line too long is told so first.
@@ -206,7 +213,7 @@ fn check_queue_is_run(rt: &impl Abort, core: &mut Core, host: &mut ScriptHost<Gl
         [Step::Take, Step::Take, Step::Take].as_slice()
     );
     assert_eq!(rt; core.queue_len(), 0);
-    check_last_text(rt, host.texts(), 3, "echo m");
+    check_last_text(rt, host, 3, "echo m");
 }
 
 /// Commands are taken until there is none, and their texts run.
@@ -237,7 +244,7 @@ fn check_stopped(rt: &impl Abort, talk: &Talk<Global>, calls: u32) {
     assert_eq!(rt; talk.written(), REPLIES.as_bytes(), "{calls}");
     assert_eq!(rt; talk.served.end, End::Stop, "{calls}");
     assert_eq!(rt; talk.served.steps.len(), 7, "{calls}");
-    assert_eq!(rt; talk.host.texts().len(), 3, "{calls}");
+    check_last_text(rt, &talk.host, 3, "echo m");
 }
 
 /// Each run of the host fails in turn: the steps and the replies are the same as without.
@@ -323,7 +330,7 @@ fn check_noted<A: Allocator + Copy>(rt: &impl Abort, talk: &Talk<A>, whole: bool
 /// A note that finds no memory is dropped, and what is served stays the same.
 #[test]
 fn growth_refused(rt: HostRuntime) -> Result<(), Fail> {
-    for (size, whole) in [(64, false), (4096, true)] {
+    for (size, whole) in [(4096, false), (65_536, true)] {
         let heap = LocalHeap::new(rt.alloc(), size)?;
         let talk = Talk::new(
             &rt,
