@@ -9,7 +9,7 @@ use Rattle.ifs_core.specs.Event.{Behaviour}
 use Rattle.ifs_core.specs.Steps.{CoreState, turn, after_steps}
 use Rattle.ifs_session.specs.Hosts.{Ending, HostLog, Adds, ran, launched, polled}
 use Rattle.ifs_session.specs.Accounts.{Account, Part, attended, listened, takes_of, texts_of, launches_told, made, emptied, acted, heard, heard_out, ended, all_ended, served, all_served}
-use Rattle.ifs_session.specs.inner.Connections.{Standing, Stands, Carries}
+use Rattle.ifs_session.specs.inner.Connections.{Standing, Stands, Carries, HasFollowed}
 use Rattle.ifs_session.proofs.Logs.{adds_both}
 
 -- A step was made, and its starts were told.
@@ -22,6 +22,16 @@ makes b image step origin a before state reply told h next is starts = record {
   steps_are = ap (λ steps. steps ++ step ∷ []) h.steps_are;
   told_is = adds_both a.log _ origin before.told told h.told_is
       (subst (λ r. Adds (launched (launches_told image r)) before.told told) (is ∙ ap (λ s. (turn b image.budgets.commands step s).reply) h.state_is) starts);
+}
+
+-- The tests that a step starts were told, and then the texts of commands were run.
+pub followed : (image image' : ImageParts) (reply : Reply) (texts : List (List ℕ)) (earlier between told : Option HostLog) → image' ≡ image
+    → Adds (launched (launches_told image reply)) earlier between → Adds (ran texts) between told → HasFollowed image' reply told
+followed image image' reply texts earlier between told same starts runs = record {
+  earlier = earlier;
+  texts = texts;
+  given = subst (λ i. Adds (launched (launches_told i reply) ++ ran texts) earlier told) (sym same)
+      (adds_both (launched (launches_told image reply)) (ran texts) earlier between told starts runs);
 }
 
 -- The queue was emptied.

@@ -12,7 +12,7 @@ ghost use Rattle.ifs_session.specs.Service.{ConnectionGives};
 ghost use Rattle.ifs_session.specs.Replies.{reply_line};
 ghost use Rattle.ifs_session.specs.Sessions.{is_stop};
 ghost use Rattle.ifs_session.specs.inner.Parsing.{told_by};
-ghost use Rattle.ifs_session.specs.inner.Connections.{Carries, PartGives, FlushGives, end_of};
+ghost use Rattle.ifs_session.specs.inner.Connections.{Carries, HasFollowed, PartGives, FlushGives, end_of};
 
 use crate::device::{ByteIn, ByteOut, DeviceFault};
 use crate::fault::SessionFault;
@@ -292,6 +292,8 @@ fn make<H: Host>(
         (record { state = core.old.state; steps = steps.old.items; told = H.told host.old })
         (record { state = core.new.state; steps = steps.new.items; told = H.told host.new }) }
     ensures named { IsReplyOf core.old.image (reply_of result lists.new) }
+    ensures follows { HasFollowed core.new.image (reply_of result lists.new) (H.told host.new) }
+    ensures empty { core.new.state.queue ≡ [] }
     ensures more { length steps.old.items < length steps.new.items }
     ensures few { length steps.new.items ≤ length steps.old.items + 65 }
 {
@@ -364,6 +366,23 @@ fn answer_step<H: Host, W: ByteOut>(
     ensures few { length steps.new.items ≤ 512 }
 {
     let outcome = make(core, host, lists, steps, step);
+    reply(core, host, lists, writer, outcome)
+}
+
+/// Writes the reply to a step, once the host was told the tests that it starts and ran the commands
+/// after that.
+fn reply<H: Host, W: ByteOut>(
+    core: &Core,
+    _host: &H,
+    lists: &Lists,
+    writer: &mut W,
+    outcome: Outcome,
+) -> Result<(), DeviceFault>
+    requires follows { HasFollowed core.now.image (reply_of outcome lists.now) (H.told _host.now) }
+    requires empty { core.now.state.queue ≡ [] }
+    requires named { IsReplyOf core.now.image (reply_of outcome lists.now) }
+    ensures { PutGives result (reply_line core.now.image (reply_of outcome lists.now)) (W.written writer.old) (W.written writer.new) (W.faults writer.old) (W.faults writer.new) }
+{
     put_reply(writer, core, outcome, lists)
 }
 

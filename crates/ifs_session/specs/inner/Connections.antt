@@ -1,6 +1,8 @@
 -- What the functions that serve a connection give.
-use Rattle.std.specs.Prelude.{◌≡◌, ◌⊎◌, ℕ, Bool, false, nat_lt, ◌-◌, if◌then◌else◌, List, [], Option, Some, None, Result, Ok, Err}
+use Rattle.std.specs.Prelude.{◌≡◌, ◌⊎◌, ℕ, Bool, false, nat_lt, ◌-◌, if◌then◌else◌, List, [], ◌++◌, Option, Some, None, Result, Ok, Err}
 use Rattle.std.specs.Io.KnownBytes.{append_known}
+use Rattle.ifs_image.specs.declared.parts.ImageParts.{ImageParts}
+use Rattle.ifs_core.specs.declared.step.Reply.{Reply}
 use Rattle.ifs_core.specs.declared.step.Step.{Step}
 use Rattle.ifs_core.specs.Event.{Behaviour}
 use Rattle.ifs_core.specs.Steps.{CoreState}
@@ -15,8 +17,8 @@ use Rattle.ifs_session.specs.declared.service.ServedLine.{ServedLine}
 use Rattle.ifs_session.specs.Device.{counted}
 use Rattle.ifs_session.specs.Requests.{Asked, AFault, short_asked}
 use Rattle.ifs_session.specs.Sessions.{Moment, is_stop}
-use Rattle.ifs_session.specs.Hosts.{HostLog, Adds}
-use Rattle.ifs_session.specs.Accounts.{Account, Part, asks_of_hosts, client_asked, attended, spoken}
+use Rattle.ifs_session.specs.Hosts.{HostLog, Adds, ran, launched}
+use Rattle.ifs_session.specs.Accounts.{Account, Part, asks_of_hosts, client_asked, launches_told, attended, spoken}
 use Rattle.ifs_session.specs.inner.Reading.{Intake, ReadsText, ReadsNothing, ReadFails, ReadsTooMuch}
 use Rattle.ifs_session.specs.inner.Serving.{intake, OnlyReads, OnlyWrites}
 
@@ -42,6 +44,12 @@ pub record Stands (origin : Option HostLog) (a : Account) (s : Standing) : Type 
 -- What was done makes this of each account.
 abbrev pub Carries : (Account → Account) → Standing → Standing → Type 0
 Carries f before after = (origin : Option HostLog) (a : Account) → Stands origin a before → Stands origin (f a) after
+
+-- A host was told to start the tests that a reply tells of, and after that ran texts; nothing has happened at it since.
+pub record HasFollowed (image : ImageParts) (reply : Reply) (told : Option HostLog) : Type 0 where
+  pub earlier : Option HostLog
+  pub texts : List (List ℕ)
+  pub given : Adds (launched (launches_told image reply) ++ ran texts) earlier told
 
 -- A point of a connection: its moment, how many more bytes may be read, the steps made, and what the host tells.
 pub record Point : Type 0 where
