@@ -481,3 +481,16 @@ fn counts_lines_beyond_65_535(rt: HostRuntime) -> Result<(), Fail> {
         "70,000 lines",
     )
 }
+
+/// The smallest image's text with a full table of interfaces, of which the first is named again.
+fn with_a_name_again(alloc: Global) -> Result<String, Fail> {
+    let mut lines = many_lines(alloc, "iface \"#\"", 64)?;
+    lines.push_str("iface \"0\"\n")?;
+    Ok(with_lines(alloc, 8, lines.as_str())?)
+}
+
+#[test]
+fn a_name_again_comes_before_a_full_table(rt: HostRuntime) -> Result<(), Fail> {
+    let text = with_a_name_again(rt.alloc())?;
+    check_told(&rt, rt.alloc(), text.as_str(), "A1 line 72", "again")
+}
