@@ -52,19 +52,19 @@ abbrev by_first : ℕ → List ℕ → Bool → Bool → Bool → ℕ
 by_first b rest hash blanks line =
     option_map_or (λ next. 1 + gap_len next rest) (cond hash (Some (Comment false)) (cond (blanks || line) (Some Blanks) None)) 0
 
-blank_step : (b : ℕ) (rest : List ℕ) → is_blank b ≡ true → gap_len Blanks (b ∷ rest) ≡ suc (gap_len Blanks rest)
+pub blank_step : (b : ℕ) (rest : List ℕ) → is_blank b ≡ true → gap_len Blanks (b ∷ rest) ≡ suc (gap_len Blanks rest)
 blank_step b rest e =
     let line = eqb b 92 && begins_with 10 rest in
     let one : 1 + gap_len Blanks rest ≡ suc (gap_len Blanks rest) = omega arith in
     ap (λ t. by_first b rest t (is_blank b) line) (blank_not_hash b e) ∙ ap (λ t. by_first b rest false t line) e ∙ one
 
-joined_step : (rest : List ℕ) → gap_len Blanks (92 ∷ 10 ∷ rest) ≡ suc (suc (gap_len Blanks rest))
+pub joined_step : (rest : List ℕ) → gap_len Blanks (92 ∷ 10 ∷ rest) ≡ suc (suc (gap_len Blanks rest))
 joined_step rest =
     let here : gap_len Blanks (92 ∷ 10 ∷ rest) ≡ 1 + (1 + gap_len Blanks rest) = refl in
     let two : 1 + (1 + gap_len Blanks rest) ≡ suc (suc (gap_len Blanks rest)) = omega arith in
     here ∙ two
 
-comment_step : (rest : List ℕ) (n : ℕ) → gap_len (Comment false) rest ≡ n → gap_len Blanks (35 ∷ rest) ≡ suc n
+pub comment_step : (rest : List ℕ) (n : ℕ) → gap_len (Comment false) rest ≡ n → gap_len Blanks (35 ∷ rest) ≡ suc n
 comment_step rest n e =
     let here : gap_len Blanks (35 ∷ rest) ≡ 1 + gap_len (Comment false) rest = refl in
     let more : 1 + gap_len (Comment false) rest ≡ suc n = omega arith in

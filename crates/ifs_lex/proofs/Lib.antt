@@ -10,4 +10,6 @@ pub mod Spelt
 pub mod Gaps
 pub mod Scanned
 pub mod Spellings
+pub mod Stopped
+pub mod Telling
 pub mod Whole

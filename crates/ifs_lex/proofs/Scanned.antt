@@ -84,7 +84,7 @@ unfolding item_here
 here_word b rest e =
     ap (λ t. cond t (word_here (b ∷ rest)) (cond (is_quote b) (quoted_here b rest) (cond (eqb b 36) (use_here rest) (sign_here b rest)))) e
 
-here_quoted : (b : ℕ) (rest : List ℕ) → is_quote b ≡ true → item_here (b ∷ rest) ≡ quoted_here b rest
+pub here_quoted : (b : ℕ) (rest : List ℕ) → is_quote b ≡ true → item_here (b ∷ rest) ≡ quoted_here b rest
 unfolding item_here
 here_quoted b rest e =
     ap (λ t. cond t (word_here (b ∷ rest)) (cond (is_quote b) (quoted_here b rest) (cond (eqb b 36) (use_here rest) (sign_here b rest)))) (quote_not_word b e) ∙

@@ -15,7 +15,7 @@ abbrev newlines : List ℕ → ℕ
 newlines bs = count_by (λ b. eqb b 10) bs
 
 -- The place before a byte of a text.
-abbrev place : List ℕ → ℕ → Place
+abbrev pub place : List ℕ → ℕ → Place
 place text at = record { at = at; line = 1 + newlines (take at text); left = drop at text }
 
 past_is : (text : List ℕ) (at n : ℕ) → past n (place text at) ≡ place text (at + n)
@@ -26,7 +26,7 @@ past_is text at n =
     ap (λ l. made l (drop n (drop at text))) lines ∙ ap (λ xs. made (1 + newlines (take (at + n) text)) xs) (drop-drop n at text)
 
 -- An item from a byte on, and the items after it.
-abbrev turn : List ℕ → (Place → List Placed) → ℕ → Scan → List Placed
+abbrev pub turn : List ℕ → (Place → List Placed) → ℕ → Scan → List Placed
 turn text after m s = stands text s.item m (m + s.len) ∷ cond (is_last s.item) [] (after (place text (m + s.len)))
 
 abbrev turn_at : (Place → List Placed) → Place → List Placed
@@ -35,7 +35,7 @@ turn_at after q =
     let found : Placed = record { item = here.item; span = record { line = q.line; start = q.at; end = q.at + here.len } } in
     found ∷ cond (is_last here.item) [] (after (past here.len q))
 
-turned : (text : List ℕ) (after : Place → List Placed) (at : ℕ) → item_at (place text at) ∷ cond (is_last (item_at (place text at)).item) [] (after (after_item (place text at))) ≡ turn text after (at + gap_len Blanks (drop at text)) (item_here (drop (at + gap_len Blanks (drop at text)) text))
+pub turned : (text : List ℕ) (after : Place → List Placed) (at : ℕ) → item_at (place text at) ∷ cond (is_last (item_at (place text at)).item) [] (after (after_item (place text at))) ≡ turn text after (at + gap_len Blanks (drop at text)) (item_here (drop (at + gap_len Blanks (drop at text)) text))
 turned text after at =
     let m = at + gap_len Blanks (drop at text) in
     let s = item_here (drop m text) in
@@ -74,7 +74,7 @@ found_turn text more at gap s false g l (an_item i) e ih h = found_item text mor
 found_turn text more at gap s true g l (no_item none last) e ih h = absurd (none h)
 found_turn text more at gap s false g l (no_item none last) e ih h = absurd (true_false _ _ last e refl)
 
-found_from : (text : List ℕ) (most at : ℕ) → at ≤ length text → Ended (items_from most (place text at)) → Spelling text at (items_from most (place text at))
+pub found_from : (text : List ℕ) (most at : ℕ) → at ≤ length text → Ended (items_from most (place text at)) → Spelling text at (items_from most (place text at))
 found_from text zero at l h = absurd h
 found_from text (suc most) at l h =
     let gap = gap_len Blanks (drop at text) in
@@ -97,7 +97,7 @@ spelling_found text items e h =
     let Q : List Placed → Type 0 = λ xs. Ended xs in
     subst P e (found_from text (1 + length text) 0 (omega arith) (subst Q (sym e) h))
 
-unrolled : (text : List ℕ) (at gap : ℕ) (s : Scan) → gap_len Blanks (drop at text) ≡ gap → item_here (drop (at + gap) text) ≡ s → items_at (place text at) ≡ turn text items_at (at + gap) s
+pub unrolled : (text : List ℕ) (at gap : ℕ) (s : Scan) → gap_len Blanks (drop at text) ≡ gap → item_here (drop (at + gap) text) ≡ s → items_at (place text at) ≡ turn text items_at (at + gap) s
 unrolled text at gap s e f =
     items_unroll (place text at) ∙ turned text items_at at ∙
     ap (λ k. turn text items_at (at + k) (item_here (drop (at + k) text))) e ∙ ap (turn text items_at (at + gap)) f

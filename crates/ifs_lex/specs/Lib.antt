@@ -7,3 +7,4 @@ pub mod Kept
 pub mod Known
 pub mod Turns
 pub mod Spelling
+pub mod Stuck

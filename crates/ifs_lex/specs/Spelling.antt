@@ -80,9 +80,13 @@ pub data IsItem : List ℕ → Item → ℕ → Type 0 where
   -- a sign
   sign : (own rest : List ℕ) (what : What) → IsSign own what → IsItem (own ++ rest) (One what) (length own)
 
--- An item that stands from one byte of a text to another: on line 1, or as many lines on as newlines come before it.
+-- The line of a byte of a text: 1, or as many lines on as newlines come before it.
+abbrev pub line_at : List ℕ → ℕ → ℕ
+line_at text at = 1 + count_by (λ b. b == 10) (take at text)
+
+-- An item that stands from one byte of a text to another.
 abbrev pub stands : List ℕ → Item → ℕ → ℕ → Placed
-stands text item first next = record { item = item; span = record { line = 1 + count_by (λ b. b == 10) (take first text); start = first; end = next } }
+stands text item first next = record { item = item; span = record { line = line_at text first; start = first; end = next } }
 
 -- The items of a text from a place on.
 pub data Spelling (text : List ℕ) : ℕ → List Placed → Type 0 where

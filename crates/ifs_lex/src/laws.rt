@@ -1,11 +1,13 @@
 //! Laws of the tokens, over their definitions alone: each is the contract of a function that does nothing.
 
-ghost use Rattle.std.specs.Prelude.{◌≡◌, ℕ, Bool, true, false, Some, List};
+ghost use Rattle.std.specs.Prelude.{◌≡◌, ◌⊎◌, ℕ, Bool, true, false, Some, List};
 ghost use Rattle.ifs_lex.specs.declared.token.Token.{Token};
 ghost use Rattle.ifs_lex.specs.declared.token.What.{What};
 ghost use Rattle.ifs_lex.specs.Expansion.{EndsOnce, Macros, Spells, value_of};
 ghost use Rattle.ifs_lex.specs.Characters.{is_quote};
 ghost use Rattle.ifs_lex.specs.Items.{Placed, inside_len, items_of, quoted_value};
+ghost use Rattle.ifs_lex.specs.Stuck.{IsStuck, StuckWith};
+ghost use Rattle.ifs_lex.specs.declared.fault.LexFault.{LexFault};
 ghost use Rattle.ifs_lex.specs.Spelling.{Closes, Ended, Longest, Says, Spelling};
 ghost use Rattle.std.specs.List.{prefix_len};
 
@@ -50,4 +52,11 @@ pub fn spelled_items()
     ensures text { (text : List ℕ) (defs : List (List ℕ × List ℕ)) (tokens : List Token)
         → Spells text defs tokens → Spelling text 0 (items_of text) }
     ensures value { (known : Macros) (text : List ℕ) (whats : List What) → value_of known text ≡ Some whats → Spelling text 0 (items_of text) }
+{}
+
+/// A text has a list of items, or is stuck; not both, and in one place with one fault.
+pub fn one_stuck()
+    ensures one { (text : List ℕ) (at other : ℕ) (fault second : LexFault) → IsStuck text at fault → IsStuck text other second → (at ≡ other) × (fault ≡ second) }
+    ensures none { (text : List ℕ) (items : List Placed) (at : ℕ) (fault : LexFault) → Spelling text 0 items → ¬ IsStuck text at fault }
+    ensures some { (text : List ℕ) → Spelling text 0 (items_of text) ⊎ ((fault : LexFault) × StuckWith text fault) }
 {}

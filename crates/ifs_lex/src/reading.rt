@@ -8,6 +8,7 @@ ghost use Rattle.ifs_lex.specs.Expansion.{state, tokens_after, parts_from, given
 ghost use Rattle.ifs_lex.specs.Kept.{Answers};
 ghost use Rattle.ifs_lex.specs.Known.{macros_of};
 ghost use Rattle.ifs_lex.specs.Pieces.{item_of};
+ghost use Rattle.ifs_lex.specs.Stuck.{SaysStuck};
 ghost use Rattle.ifs_lex.specs.Turns.{definition_here, after_definition};
 
 use crate::characters::is_macro_name;
@@ -242,6 +243,8 @@ pub fn tokens<'a>(
         → result ≢ Err Memory → IsOkAnd result (λ tokens. tokens.items ≡ spelled) }
     // Any other refusal is the first fault.
     ensures first_fault { IfErr result (λ fault. fault ≢ Memory → tokens_of text.now (map (λ d. (d.0.now, d.1.now)) defs.now) ≡ Err fault) }
+    // P1 and P2 are told only of a text that is stuck, and with that fault: never of a macro's value.
+    ensures stuck { IfErr result (λ fault. SaysStuck text.now fault) }
 {
     match answer(alloc, text, defs) {
         Ok(tokens) => Ok(tokens),

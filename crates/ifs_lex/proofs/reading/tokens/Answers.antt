@@ -1,5 +1,6 @@
 use Rattle.std.proofs.Common.{ap, Err}
 use Rattle.ifs_lex.proofs.Endings.{spelled_ends_once, spelled_once, spelled_none}
+use Rattle.ifs_lex.proofs.Telling.{told_stuck}
 use Rattle.ifs_lex.proofs.reading.tokens.Goals as goal
 
 pub returns-in-Ok-clause-ended : goal.returns-in-Ok-clause-ended
@@ -10,3 +11,6 @@ returns-in-Ok-clause-only c = λ spelled h other. spelled_once _ _ _ spelled c.i
 
 pub returns-in-Err-clause-only : goal.returns-in-Err-clause-only
 returns-in-Err-clause-only c = λ spelled h other. absurd (spelled_none _ _ spelled _ h (c.in-Err.ensures (λ e. other (ap (λ f. Err f) e))))
+
+pub returns-in-Err-clause-stuck : goal.returns-in-Err-clause-stuck
+returns-in-Err-clause-stuck c = told_stuck _ _ c.in-Err.fault c.in-Err.ensures
