@@ -79,9 +79,9 @@ fn listen<R: Processes + Clock + Log + Print + Alloc<A = Global>>(
         let Some(stream) = accepted(rt, listener) else {
             break;
         };
-        let left = connection(rt, core, host, &stream);
-        note(rt, left.end);
-        if left.stopped {
+        let Left { end, stopped } = connection(rt, core, host, &stream);
+        note(rt, end);
+        if stopped {
             break;
         }
     }
