@@ -228,7 +228,7 @@ fn answer<'a>(
 /// of two with one name the first holds.
 ///
 /// A refusal is the first fault from the left, with its line; faults of `defs` come before the text
-/// and have line 0. P0 comes where a growth was refused, wherever that is.
+/// and have line 0. P0, for want of memory, may come in place of another answer.
 pub fn tokens<'a>(
     alloc: Global,
     text: &'a str,
