@@ -3,7 +3,8 @@
 //! A policy has items: `init-state`, states with their parts, and parts outside any state; a part is an
 //! `init` block or a statement. Tokens are read from the left by one method a line of the grammar, with
 //! one token of look-ahead. Where `||` stands beside `&&` without parentheses there is a note.
-//! Contract: `parse` answers the one tree that the grammar gives the tokens, with its notes, or refuses.
+//! Contract: `parse` answers the one tree that the grammar gives the tokens, with its notes, or names the
+//! first token that cannot go on.
 #![tactic(auto)]
 
 mod block;

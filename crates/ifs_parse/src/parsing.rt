@@ -41,8 +41,8 @@ fn read(alloc: Global, tokens: &[Token]) -> Result<Parsed, ParseFault>
 
 /// The tree of a policy's tokens, with its notes. The caller owes one `End`, as the last token.
 ///
-/// A refusal is that of the first token that cannot go on, with its line. P0 comes where a growth was
-/// refused, wherever that is.
+/// A refusal is that of the first token that cannot go on, with its line. P0, for want of memory, may come
+/// in place of another answer.
 pub fn parse(alloc: Global, tokens: &[Token]) -> Result<Tree, ParseFault>
     requires { EndsOnce tokens.now }
     // What is answered is what the tokens say by the grammar, with its notes.
