@@ -75,7 +75,7 @@ pub struct PolicyText {
 /// name the first holds.
 ///
 /// A refusal is the fault of the first step that refuses: of the tokens, of the grammar and of the names,
-/// each with its line. P0 comes where a growth was refused, wherever that is.
+/// each with its line. P0, for want of memory, may come in place of another answer.
 pub fn policy_of<'a>(
     alloc: Global,
     text: &'a str,
