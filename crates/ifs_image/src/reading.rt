@@ -19,8 +19,8 @@ use std::alloc::Global;
 
 /// The image that the bytes spell, all of them. After a refusal nothing is kept.
 ///
-/// I1 to I8 name the first fault from the left, with the offset of the first byte of its field. I0
-/// comes where a growth was refused, wherever that is.
+/// I1 to I8 name the first fault from the left, with the offset of the first byte of its field. I0, for
+/// want of memory, may come in place of another answer.
 #[tactic(auto, unfolding(crate::specs::Reading::image_of))]
 pub fn read(alloc: Global, bytes: &[u8]) -> Result<Image, ImageFault>
     // What is read is spelled by the bytes, all of them.
