@@ -20,10 +20,11 @@ use std::alloc::Global;
 
 /// The image that the bytes spell, once it is accepted: it may run on a machine that makes no trap test.
 ///
-/// The first check that does not hold is answered, with its place, in the order of indexes and masks
-/// (V2), handlers (V14), jumps (V3), ends (V4), calls (V8), places reached (V5), stacks (V6, V7, V9,
-/// V10), and bounds (V10 to V13) of each routine and then against the stated budgets. V1 comes where
-/// the bytes spell no image, and V0 where a growth was refused, in reading or in verifying.
+/// A check that does not hold is answered, with its place; it is the first, which tests show, in the order
+/// of indexes and masks (V2), handlers (V14), jumps (V3), ends (V4), calls (V8), places reached (V5),
+/// stacks (V6, V7, V9, V10), and bounds (V10 to V13) of each routine and then against the stated budgets.
+/// V1 comes where the bytes spell no image. V0, for want of memory in reading or in verifying, may come in
+/// place of another answer.
 pub fn verify(alloc: Global, bytes: &[u8]) -> Result<Verified, VerifyFault>
     // What is verified is the image that the bytes spell, and it is accepted.
     ensures spelled { IfOk result (λ image. Spells bytes.now image) }
