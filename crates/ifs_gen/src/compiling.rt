@@ -39,8 +39,8 @@ fn bytes_of(alloc: Global, policy: &Policy) -> Result<Vec<u8>, CompileFault>
 /// name the first holds.
 ///
 /// A refusal is the fault of the first step that refuses: of the tokens, of the grammar and of the names,
-/// each with its line, and then of the limits of code. P0 comes where a growth was refused, wherever
-/// that is.
+/// each with its line, and then of the limits of code. P0, for want of memory, may come in place of
+/// another answer.
 pub fn compile<'a>(
     alloc: Global,
     text: &'a str,

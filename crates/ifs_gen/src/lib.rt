@@ -3,7 +3,8 @@
 //! The code is plain: every operand of a condition is computed, and a body begins with a look at each
 //! test that it mentions. Each part is measured before it is written.
 //! Contract: `generate` answers the plain image of a policy, which the verifier's rules accept, or the first
-//! limit that its code passes. Laws: the image's budgets are the least, and it means what the policy says.
+//! limit that its code passes; `compile` the bytes of that of a text's one policy, and `compiled_core` a core
+//! that runs it. Laws: the image's budgets are the least, and it means what the policy says.
 #![tactic(auto)]
 
 mod amounts;

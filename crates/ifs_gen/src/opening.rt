@@ -14,8 +14,8 @@ use std::alloc::Global;
 /// Compiles a text, verifies its image and opens it: a core that runs what the text says. `defs` are
 /// definitions that win over the text's.
 ///
-/// The text is refused as `compile` refuses it; P0 comes where a growth was refused, wherever that is.
-/// Nothing that compiles is refused by the verifier.
+/// The text is refused as `compile` refuses it, and nothing that compiles is refused by the verifier. P0,
+/// for want of memory, may come in place of another answer.
 pub fn compiled_core<'a>(
     alloc: Global,
     text: &'a str,
