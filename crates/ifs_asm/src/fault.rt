@@ -8,7 +8,8 @@ ghost use Rattle.ifs_asm.specs.inner.Reading.{fault_at};
 use std::alloc::{AllocError, AllocFailed};
 use thiserror::Error;
 
-/// The first line with a fault, by its number from 1. On one line A1 comes before A2, and A2 before A3.
+/// The first line with a fault, by its number from 1. On one line A1 is to come before A2, and A2 before
+/// A3; `assemble` says which of this is proved.
 #[derive(Clone, Copy, Debug, PartialEq, Eq, Error)]
 pub enum AsmFault {
     /// A1: the line has no form that is known, or has a name that stood before in its table.

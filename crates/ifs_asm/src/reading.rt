@@ -21,7 +21,7 @@ use std::alloc::Global;
 /// The image that a text spells. After a refusal nothing is kept.
 ///
 /// A1 to A3 name the first line with a fault, counted from 1; a part that is missing at the end is told at
-/// the number of lines plus 1. A0 comes where a growth was refused, wherever that is.
+/// the number of lines plus 1. A0, for want of memory, may come in place of another answer.
 pub fn assemble(alloc: Global, text: &str) -> Result<Image, AsmFault>
     ensures spelled { IfOk result (λ image. Spells text.now image) }
     ensures refused { IfErr result (λ fault. fault ≢ Memory → (image : ImageParts) → Spells text.now image → ⊥) }
