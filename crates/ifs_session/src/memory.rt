@@ -117,7 +117,7 @@ impl<A: Allocator> Model for MemoryOut<A> {
 }
 
 impl<A: Allocator> MemoryOut<A> {
-    /// A writer that has written nothing, and fails only where memory is refused.
+    /// A writer that has written nothing, and fails only where it has to ask for memory.
     pub fn new(alloc: A) -> Self
         ensures { result ≡ record { written = []; capacity = 0; faults = 0; fails_after = None } }
     {
