@@ -1,8 +1,9 @@
 //! What the program `ifsvm` answers, the files that it reads and writes, and the host of its daemon.
 //!
-//! Contract: the answer to each word on the bytes of a file is exact, a file is read and an image written whole, and
-//! a test that was started waits until its end is told once. The program itself, which has its command line and its
-//! sessions, stands over it.
+//! Contract: the answer to each word on the bytes of a file is what `Answers` in `specs/` says of these bytes; a file
+//! is read and an image written whole, as far as reader and writer tell their bytes; and a test that the host was told
+//! to start waits until its end is told, or a later start of it fails. The program itself, which has its command line
+//! and its sessions, stands over it.
 #![tactic(auto)]
 
 pub mod answering;
