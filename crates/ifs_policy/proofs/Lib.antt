@@ -12,3 +12,4 @@ mod Running
 mod Ordered
 mod Whole
 mod Unresolved
+mod Stands

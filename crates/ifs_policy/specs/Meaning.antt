@@ -1,5 +1,5 @@
 -- What a policy's trees mean under facts: truth of conditions, and yield of blocks.
-use Rattle.std.specs.Prelude.{Bool, true, false, not, ◌&&◌, ◌||◌, if◌then◌else◌, List, [], ◌∷◌, ◌++◌, Option, Some, None, slice_get}
+use Rattle.std.specs.Prelude.{Bool, true, false, not, ◌&&◌, ◌||◌, if◌then◌else◌, List, [], ◌∷◌, ◌++◌, Option, Some, None, slice_get, IsTrue}
 use Rattle.std.specs.List.{list_any}
 use Rattle.ifs_base.specs.Facts.{Facts, is_link}
 use Rattle.ifs_base.specs.Effects.{Effects, nothing_yet, followed}
@@ -47,24 +47,22 @@ truth facts (NotSo operand) = not (truth facts operand)
 truth facts (And left right) = truth facts left && truth facts right
 truth facts (Or left right) = truth facts left || truth facts right
 
--- The external test that a single test mentions.
-abbrev pub mentioned_here : Single → List TestId
-mentioned_here (LinkIs interface state) = []
-mentioned_here (TestIs test) = test ∷ []
+-- An external test stands in a condition: by itself, or in an operand.
+pub data StandsIn (test : TestId) : Condition → Type 0 where
+  itself : StandsIn test (Leaf (TestIs test))
+  negated : (operand : Condition) → StandsIn test operand → StandsIn test (NotSo operand)
+  left_of_and : (left right : Condition) → StandsIn test left → StandsIn test (And left right)
+  right_of_and : (left right : Condition) → StandsIn test right → StandsIn test (And left right)
+  left_of_or : (left right : Condition) → StandsIn test left → StandsIn test (Or left right)
+  right_of_or : (left right : Condition) → StandsIn test right → StandsIn test (Or left right)
 
--- The external tests that a condition mentions.
-abbrev pub mentioned_in : Condition → List TestId
-mentioned_in (Leaf single) = mentioned_here single
-mentioned_in (NotSo operand) = mentioned_in operand
-mentioned_in (And left right) = mentioned_in left ++ mentioned_in right
-mentioned_in (Or left right) = mentioned_in left ++ mentioned_in right
-
--- The external tests that a block mentions, at any depth.
-abbrev pub mentioned : Block → List TestId
-mentioned Done = []
-mentioned (RunThen command rest) = mentioned rest
-mentioned (WantThen state rest) = mentioned rest
-mentioned (IfThen condition inner rest) = mentioned_in condition ++ (mentioned inner ++ mentioned rest)
+-- A block mentions an external test: it stands in a condition of the block, or of a block inside it.
+pub data Mentions (test : TestId) : Block → Type 0 where
+  asked : (condition : Condition) (inner rest : Block) → StandsIn test condition → Mentions test (IfThen condition inner rest)
+  inside : (condition : Condition) (inner rest : Block) → Mentions test inner → Mentions test (IfThen condition inner rest)
+  behind_if : (condition : Condition) (inner rest : Block) → Mentions test rest → Mentions test (IfThen condition inner rest)
+  behind_run : (command : CommandId) (rest : Block) → Mentions test rest → Mentions test (RunThen command rest)
+  behind_wish : (state : StateId) (rest : Block) → Mentions test rest → Mentions test (WantThen state rest)
 
 -- What a block reaches: its commands in order, and the last state that it wishes for.
 abbrev pub reached : Facts → Block → Effects
@@ -77,7 +75,32 @@ reached facts (IfThen condition inner rest) = followed (if truth facts condition
 abbrev pub is_open : Facts → TestId → Bool
 is_open facts test = not (has_a_value (slice_get facts.tests test.0))
 
--- A body is held back while a test that it mentions, at any depth, has no value.
+-- A body is held back: a test that it mentions has no value.
+pub record IsHeld (facts : Facts) (body : Block) : Type 0 where
+  pub test : TestId
+  pub stands : Mentions test body
+  pub no_value : IsTrue (is_open facts test)
+
+-- The list of the external tests that a single test mentions: of one or none.
+abbrev pub mentioned_here : Single → List TestId
+mentioned_here (LinkIs interface state) = []
+mentioned_here (TestIs test) = test ∷ []
+
+-- The tests that stand in a condition, from the left.
+abbrev pub mentioned_in : Condition → List TestId
+mentioned_in (Leaf single) = mentioned_here single
+mentioned_in (NotSo operand) = mentioned_in operand
+mentioned_in (And left right) = mentioned_in left ++ mentioned_in right
+mentioned_in (Or left right) = mentioned_in left ++ mentioned_in right
+
+-- The tests that a block mentions, from the top.
+abbrev pub mentioned : Block → List TestId
+mentioned Done = []
+mentioned (RunThen command rest) = mentioned rest
+mentioned (WantThen state rest) = mentioned rest
+mentioned (IfThen condition inner rest) = mentioned_in condition ++ (mentioned inner ++ mentioned rest)
+
+-- Whether a body is held back: one of the tests on its list has no value.
 abbrev pub is_held : Facts → Block → Bool
 is_held facts body = list_any (is_open facts) (mentioned body)
 

@@ -1,6 +1,9 @@
 //! Laws of policies, over their definitions alone: each is the contract of a function that does nothing.
 
-ghost use Rattle.std.specs.Prelude.{◌≡◌, ◌↔◌, List};
+ghost use Rattle.std.specs.Prelude.{◌≡◌, ◌↔◌, List, Contains, IsTrue};
+ghost use Rattle.ifs_base.specs.Effects.{nothing_yet};
+ghost use Rattle.ifs_base.specs.Facts.{Facts};
+ghost use Rattle.ifs_base.specs.declared.ids.TestId.{TestId};
 ghost use Rattle.ifs_parse.specs.Files.{File};
 ghost use Rattle.ifs_parse.specs.Grammar.{IsSaid};
 ghost use Rattle.ifs_parse.specs.declared.tree.Item.{Item};
@@ -9,6 +12,7 @@ ghost use Rattle.ifs_policy.specs.declared.policy.PolicyParts.{PolicyParts};
 ghost use Rattle.ifs_policy.specs.Faults.{IsRefused};
 ghost use Rattle.ifs_policy.specs.Placed.{Resolves};
 ghost use Rattle.ifs_policy.specs.Fits.{PolicyFits};
+ghost use Rattle.ifs_policy.specs.Meaning.{body_yield, is_held, mentioned, reached, Block, IsHeld, Mentions};
 ghost use Rattle.ifs_policy.specs.Order.{InOrder};
 ghost use Rattle.ifs_policy.specs.Whole.{KeepsRules};
 
@@ -37,4 +41,17 @@ pub fn numbered_by_first_use()
 /// A policy whose tree some tokens say is within its limits, and its numbers are of entries of its tables.
 pub fn policies_fit()
     ensures { (file : File) (policy : PolicyParts) → IsSaid file → Resolves file.items policy → PolicyFits policy }
+{}
+
+/// The tests that are listed of a block are exactly those that it mentions.
+pub fn mentioned_are_mentions()
+    ensures { (block : Block) (test : TestId) → Contains (mentioned block) test ↔ Mentions test block }
+{}
+
+/// A body is held back exactly where it mentions a test without a value: then it yields nothing, and else
+/// what it reaches.
+pub fn held_by_an_open_test()
+    ensures exactly { (facts : Facts) (body : Block) → IsTrue (is_held facts body) ↔ IsHeld facts body }
+    ensures held { (facts : Facts) (body : Block) → IsHeld facts body → body_yield facts body ≡ nothing_yet }
+    ensures free { (facts : Facts) (body : Block) → ¬ IsHeld facts body → body_yield facts body ≡ reached facts body }
 {}
