@@ -1,13 +1,15 @@
--- A mask has the bits of the tests that it was made of.
-use Rattle.std.proofs.Common.{◌≡◌, ℕ, zero, suc, ◌+◌, ◌-◌, ◌*◌, ◌^◌, ◌<◌, ⊎_elim, Bool, true, false, List, [], ◌∷◌, sym, ap, ◌∙◌, arith}
+-- A mask has the bits of the tests that it was made of, which are those that a body mentions.
+use Rattle.std.proofs.Common.{◌≡◌, ◌↔◌, ℕ, zero, suc, ◌+◌, ◌-◌, ◌*◌, ◌^◌, ◌<◌, ⊎_elim, Bool, true, false, List, [], ◌∷◌, Contains, refl}
+use Rattle.std.proofs.Common.{sym, ap, subst, ◌∙◌, arith}
 use Rattle.std.specs.Prelude.{◌==◌, if◌then◌else◌}
 use Rattle.std.specs.List.{list_any}
 use Rattle.std.specs.Int.{bit_at}
-use Rattle.std.proofs.lemmas.Bool.{cases_order}
+use Rattle.std.proofs.lemmas.Bool.{cases_order, eqb-true, eq-eqb}
+use Rattle.std.proofs.lemmas.List.Folds.{Any-from_list_any, list_any_at}
 use Rattle.std.proofs.lemmas.Nat.Bits.{bit_at_lowest, bit_at_above, bit_at_cat_low, bit_at_cat_high}
 use Rattle.ifs_base.specs.declared.ids.TestId.{TestId}
 use Rattle.ifs_sched.specs.Schedule.{has_test}
-use Rattle.ifs_policy.specs.Meaning.{mentioned}
+use Rattle.ifs_policy.specs.Meaning.{Block, Mentions, mentioned}
 use Rattle.ifs_gen.specs.PlainCode.{tests_below}
 use Rattle.ifs_gen.specs.PlainImage.{mask_of}
 use Rattle.ifs_gen.specs.Events.{ActiveAreMentioned}
@@ -42,5 +44,23 @@ has_mentioned (suc n) xs t lt =
     (λ other. ap (λ k. k == 1) (low_bit b m n t (⊎_elim (λ less. less) (λ more. absurd (omega arith)) other)) ∙ has_mentioned n xs t (⊎_elim (λ less. less) (λ more. absurd (omega arith)) other))
     (cases_order t n)
 
-pub active_are_mentioned : ActiveAreMentioned
-active_are_mentioned count part test lt = has_mentioned count (mentioned part.body) test lt
+abbrev test : ℕ → TestId
+test k = record { 0 = k }
+
+-- One of a list has a number where the list has the test of that number.
+of_number : (xs : List TestId) (t : ℕ) → list_any (λ test. test.0 == t) xs ≡ true → Contains xs (test t)
+of_number xs t h =
+    let a = Any-from_list_any (λ (test : TestId). test.0 == t) xs h in
+    subst (Contains xs) (ap test (eqb-true a.1.0 t a.4)) (a.0, a.2, a.3)
+
+number_of : (xs : List TestId) (t : ℕ) → Contains xs (test t) → list_any (λ test. test.0 == t) xs ≡ true
+number_of xs t c = list_any_at (λ (test : TestId). test.0 == t) xs c.0 (test t) c.1 (ap (λ (test : TestId). test.0 == t) c.2 ∙ eq-eqb t t refl)
+
+module _ (is_mentioned : (block : Block) (test : TestId) → Contains (mentioned block) test ↔ Mentions test block) where
+  pub active_are_mentioned : ActiveAreMentioned
+  active_are_mentioned count part t lt =
+      let same = has_mentioned count (mentioned part.body) t lt in
+      let listed = is_mentioned part.body (test t) in (
+        (λ h. listed.0 (of_number (mentioned part.body) t (sym same ∙ h))),
+        (λ h. same ∙ number_of (mentioned part.body) t (listed.1 h)),
+      )

@@ -1,6 +1,5 @@
 -- The events of a policy: four answers that are its yields, and a run of a core by them, which knows no costs.
-use Rattle.std.specs.Prelude.{ℕ, ◌≡◌, ◌<◌, ◌==◌, List, [], map, Option, Some, None, slice_get}
-use Rattle.std.specs.List.{list_any}
+use Rattle.std.specs.Prelude.{ℕ, ◌≡◌, ◌↔◌, ◌<◌, List, [], map, Option, Some, None, slice_get, IsTrue}
 use Rattle.ifs_base.specs.Facts.{Facts}
 use Rattle.ifs_base.specs.Effects.{Effects, nothing_yet}
 use Rattle.ifs_base.specs.declared.op.LinkState.TheVariants.{Unknown}
@@ -13,7 +12,7 @@ use Rattle.ifs_core.specs.Machine.{IsBehaviour}
 use Rattle.ifs_core.specs.Gateway.{opened}
 use Rattle.ifs_core.specs.Steps.{CoreState, replies, after_steps}
 use Rattle.ifs_gen.specs.Trees.{Part, Policy}
-use Rattle.ifs_policy.specs.Meaning.{mentioned, body_yield, init_yield}
+use Rattle.ifs_policy.specs.Meaning.{Mentions, body_yield, init_yield}
 use Rattle.ifs_sched.specs.Schedule.{has_test}
 use Rattle.ifs_gen.specs.PlainImage.{tests_in, mask_in, room_of, plain_image, CodeFits}
 use Rattle.ifs_policy.specs.Fits.{PolicyFits}
@@ -77,4 +76,4 @@ ImageMeansPolicy = (policy : Policy) → PolicyFits policy → CodeFits policy �
 
 -- A part's set of active tests has exactly those that its body mentions.
 abbrev pub ActiveAreMentioned : Type 0
-ActiveAreMentioned = (count : ℕ) (part : Part) (test : ℕ) → test < count → has_test (mask_in count part) test ≡ list_any (λ other. other.0 == test) (mentioned part.body)
+ActiveAreMentioned = (count : ℕ) (part : Part) (test : ℕ) → test < count → IsTrue (has_test (mask_in count part) test) ↔ Mentions (record { 0 = test }) part.body

@@ -16,7 +16,7 @@ use ifs_core::{Core, Reply, Step};
 use ifs_image::laws::one_image;
 use ifs_lex::laws::one_list;
 use ifs_parse::laws::one_tree;
-use ifs_policy::laws::{one_policy, policies_fit};
+use ifs_policy::laws::{mentioned_are_mentions, one_policy, policies_fit};
 use ifs_verify::laws::one_typing;
 use std::alloc::{AllocError, Global};
 
@@ -88,7 +88,9 @@ pub fn runs_are_queued()
 /// The tests that are active with a part, by its mask, are exactly those that its body mentions.
 pub fn active_are_mentioned()
     ensures { ActiveAreMentioned }
-{}
+{
+    mentioned_are_mentions();
+}
 
 /// From text to replies, for every text and whatever is given beside it. It has at most one policy; and
 /// where the code of that policy keeps the limits, the bytes that spell its image are accepted, and so
