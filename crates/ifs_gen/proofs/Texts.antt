@@ -6,7 +6,7 @@ use Rattle.ifs_lex.specs.Expansion as lex
 use Rattle.ifs_parse.specs.Files.{File}
 use Rattle.ifs_parse.specs.Grammar.{Says, IsSaid}
 use Rattle.ifs_parse.specs.declared.tree.Item.{Item}
-use Rattle.ifs_policy.specs.Placed.{Resolves}
+use Rattle.ifs_policy.specs.Resolution.{Resolves}
 use Rattle.ifs_policy.specs.Fits.{PolicyFits}
 use Rattle.ifs_policy.specs.Texts.{HasPolicy, IsTextRefused}
 use Rattle.ifs_policy.specs.declared.front.PolicyFault.{PolicyFault}

@@ -90,7 +90,7 @@ fits_after names (Interface name) sound t = record {
   commands = t.commands;
   states = t.states;
 }
-fits_after names (External place command period) sound t = record {
+fits_after names (External half command period) sound t = record {
   interfaces = t.interfaces;
   tests = tests_fit names.tables.tests (test_of command period) (λ full. sound (TableFull command.span.line) (refl, full)) (λ bad. sound (BadText command.span.line) (refl, bad)) t.tests;
   commands = t.commands;
@@ -112,7 +112,7 @@ fits_after names (Wanted name) sound t = t
 fits_after names (Init whose.Always span) sound t = t
 fits_after names (Init whose.State span) sound t = t
 fits_after names (InitState span) sound t = t
-fits_after names (SetState place span) sound t = t
+fits_after names (SetState half span) sound t = t
 
 pub tables_fit : (names : Names) (mentions : List Mentioned) → AreSound names mentions → TablesFit names.tables → TablesFit (names_after names mentions).tables
 tables_fit names [] sound t = t
@@ -152,14 +152,14 @@ grow_then a b c g h = record {
 
 grow_after : (names : Names) (mention : Mentioned) → Grow names.tables (after names mention).tables
 grow_after names (Interface name) = record { interfaces = λ p h. any_insert text_eq p names.tables.interfaces name.text h; tests = λ p h. h; commands = λ p h. h; states = λ p h. h }
-grow_after names (External place command period) = record { interfaces = λ p h. h; tests = λ p h. any_insert test_eq p names.tables.tests (test_of command period) h; commands = λ p h. h; states = λ p h. h }
+grow_after names (External half command period) = record { interfaces = λ p h. h; tests = λ p h. any_insert test_eq p names.tables.tests (test_of command period) h; commands = λ p h. h; states = λ p h. h }
 grow_after names (Command text) = record { interfaces = λ p h. h; tests = λ p h. h; commands = λ p h. any_insert text_eq p names.tables.commands text.text h; states = λ p h. h }
 grow_after names (Defined name) = record { interfaces = λ p h. h; tests = λ p h. h; commands = λ p h. h; states = λ p h. any_insert text_eq p names.tables.states name.text h }
 grow_after names (Wanted name) = same_tables names.tables
 grow_after names (Init whose.Always span) = same_tables names.tables
 grow_after names (Init whose.State span) = same_tables names.tables
 grow_after names (InitState span) = same_tables names.tables
-grow_after names (SetState place span) = same_tables names.tables
+grow_after names (SetState half span) = same_tables names.tables
 
 grow_all : (names : Names) (mentions : List Mentioned) → Grow names.tables (names_after names mentions).tables
 grow_all names [] = same_tables names.tables
@@ -169,20 +169,20 @@ grow_all names (mention ∷ rest) =
 -- What is mentioned stands in its table.
 abbrev pub Stands : Tables → Mentioned → Type 0
 Stands tables (Interface name) = list_any (text_eq name.text) tables.interfaces ≡ true
-Stands tables (External place command period) = list_any (test_eq (test_of command period)) tables.tests ≡ true
+Stands tables (External half command period) = list_any (test_eq (test_of command period)) tables.tests ≡ true
 Stands tables (Command text) = list_any (text_eq text.text) tables.commands ≡ true
 Stands tables (Wanted name) = list_any (text_eq name.text) tables.states ≡ true
 Stands tables _ = Unit {0}
 
 stands_after : (names : Names) (mention : Mentioned) (final : Tables) → Grow (after names mention).tables final → IsKnown final.states mention → Stands final mention
 stands_after names (Interface name) final g known = g.interfaces (text_eq name.text) (inserted text_eq text_same names.tables.interfaces name.text)
-stands_after names (External place command period) final g known = g.tests (test_eq (test_of command period)) (inserted test_eq test_same names.tables.tests (test_of command period))
+stands_after names (External half command period) final g known = g.tests (test_eq (test_of command period)) (inserted test_eq test_same names.tables.tests (test_of command period))
 stands_after names (Command text) final g known = g.commands (text_eq text.text) (inserted text_eq text_same names.tables.commands text.text)
 stands_after names (Wanted name) final g known = known
 stands_after names (Defined name) final g known = tt
 stands_after names (Init owner span) final g known = tt
 stands_after names (InitState span) final g known = tt
-stands_after names (SetState place span) final g known = tt
+stands_after names (SetState half span) final g known = tt
 
 abbrev pub AreStanding : Tables → List Mentioned → Type 0
 AreStanding tables [] = Unit {0}
@@ -210,7 +210,7 @@ defined (mention ∷ rest) = defined rest
 
 states_after : (names : Names) (mention : Mentioned) → IsSound names mention → length (after names mention).tables.states ≡ length names.tables.states + defined (mention ∷ [])
 states_after names (Interface name) sound = omega arith
-states_after names (External place command period) sound = omega arith
+states_after names (External half command period) sound = omega arith
 states_after names (Command text) sound = omega arith
 states_after names (Defined name) sound = insert_cases text_eq (λ ys. length ys ≡ length names.tables.states + 1) names.tables.states name.text
     (λ there. absurd (sound (StateTwice name.span.line) (refl, there)))
@@ -219,17 +219,17 @@ states_after names (Wanted name) sound = omega arith
 states_after names (Init whose.Always span) sound = omega arith
 states_after names (Init whose.State span) sound = omega arith
 states_after names (InitState span) sound = omega arith
-states_after names (SetState place span) sound = omega arith
+states_after names (SetState half span) sound = omega arith
 
 defined_more : (mention : Mentioned) (rest : List Mentioned) → defined (mention ∷ rest) ≡ defined (mention ∷ []) + defined rest
 defined_more (Interface name) rest = omega arith
-defined_more (External place command period) rest = omega arith
+defined_more (External half command period) rest = omega arith
 defined_more (Command text) rest = omega arith
 defined_more (Defined name) rest = omega arith
 defined_more (Wanted name) rest = omega arith
 defined_more (Init owner span) rest = omega arith
 defined_more (InitState span) rest = omega arith
-defined_more (SetState place span) rest = omega arith
+defined_more (SetState half span) rest = omega arith
 
 pub count_states : (names : Names) (mentions : List Mentioned) → AreSound names mentions
     → length (names_after names mentions).tables.states ≡ length names.tables.states + defined mentions

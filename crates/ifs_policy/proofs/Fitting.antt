@@ -18,8 +18,8 @@ use Rattle.ifs_parse.specs.Files.{File}
 use Rattle.ifs_parse.specs.Grammar.{IsSaid}
 use Rattle.ifs_base.specs.Sizes.{PeriodFits}
 use Rattle.ifs_policy.proofs.Timed.{said_periods_fit}
-use Rattle.ifs_policy.specs.declared.mention.Place.{Place}
-use Rattle.ifs_policy.specs.declared.mention.Place.TheVariants as at
+use Rattle.ifs_policy.specs.declared.mention.Half.{Half}
+use Rattle.ifs_policy.specs.declared.mention.Half.TheVariants as at
 use Rattle.ifs_policy.specs.declared.mention.Owner.{Owner}
 use Rattle.ifs_policy.specs.declared.mention.Owner.TheVariants as whose
 use Rattle.ifs_policy.specs.declared.names.Names.{Names}
@@ -28,7 +28,7 @@ use Rattle.ifs_policy.specs.declared.tables.Tables.{Tables}
 use Rattle.ifs_policy.specs.Mentions.{Mentioned, condition_mentions, block_mentions, statement_mentions, part_mentions, mentions_of}
 use Rattle.ifs_policy.specs.Tables.{text_eq, test_eq, test_of, no_names, names_after, tables_of}
 use Rattle.ifs_policy.specs.Faults.{AreSound, is_state}
-use Rattle.ifs_policy.specs.Placed.{place_condition, place_block, place_part, init_in, body_in, always_of, place_states, initial_of, place_items, Resolves}
+use Rattle.ifs_policy.specs.Resolution.{place_condition, place_block, place_part, init_in, body_in, always_of, place_states, initial_of, place_items, Resolves}
 use Rattle.ifs_policy.specs.Fits.{TablesFit, Sizes, sizes_of, ConditionFits, BlockFits, HandlersFit, PolicyFits}
 use Rattle.ifs_policy.specs.inner.Sized.{IsSized}
 use Rattle.ifs_policy.proofs.Filled.{AreStanding, stand_left, stand_right, all_stand, tables_fit, no_tables_fit, defined, count_states}
@@ -43,31 +43,31 @@ place_below {X} p (x ∷ xs) h = by (p x) h (place_below p xs)
     by true h rest = omega arith
     by false h rest = let below = rest h in omega arith
 
-condition_fits : (tables : Tables) (place : Place) (c : tree.Condition Test) → AreStanding tables (condition_mentions place c)
+condition_fits : (tables : Tables) (half : Half) (c : tree.Condition Test) → AreStanding tables (condition_mentions half c)
     → ConditionFits (sizes_of tables) (place_condition tables c)
-condition_fits tables place (tree.Leaf (Link name state)) h = place_below (text_eq name.text) tables.interfaces h.0
-condition_fits tables place (tree.Leaf (External command period)) h = place_below (test_eq (test_of command period)) tables.tests h.0
-condition_fits tables place (tree.NotSo operand) h = condition_fits tables place operand h
-condition_fits tables place (tree.And left right) h =
-    let told = condition_mentions place in
-    (condition_fits tables place left (stand_left tables (told left) (told right) h), condition_fits tables place right (stand_right tables (told left) (told right) h))
-condition_fits tables place (tree.Or left right) h =
-    let told = condition_mentions place in
-    (condition_fits tables place left (stand_left tables (told left) (told right) h), condition_fits tables place right (stand_right tables (told left) (told right) h))
+condition_fits tables half (tree.Leaf (Link name state)) h = place_below (text_eq name.text) tables.interfaces h.0
+condition_fits tables half (tree.Leaf (External command period)) h = place_below (test_eq (test_of command period)) tables.tests h.0
+condition_fits tables half (tree.NotSo operand) h = condition_fits tables half operand h
+condition_fits tables half (tree.And left right) h =
+    let told = condition_mentions half in
+    (condition_fits tables half left (stand_left tables (told left) (told right) h), condition_fits tables half right (stand_right tables (told left) (told right) h))
+condition_fits tables half (tree.Or left right) h =
+    let told = condition_mentions half in
+    (condition_fits tables half left (stand_left tables (told left) (told right) h), condition_fits tables half right (stand_right tables (told left) (told right) h))
 
-block_fits : (tables : Tables) (place : Place) (b : tree.Block Test Name Wish) → AreStanding tables (block_mentions place b)
+block_fits : (tables : Tables) (half : Half) (b : tree.Block Test Name Wish) → AreStanding tables (block_mentions half b)
     → BlockFits (sizes_of tables) (place_block tables b)
-block_fits tables place tree.Done h = tt
-block_fits tables place (tree.RunThen command rest) h = (place_below (text_eq command.text) tables.commands h.0, block_fits tables place rest h.1)
-block_fits tables place (tree.WantThen wish rest) h = (place_below (text_eq wish.state.text) tables.states h.1.0, block_fits tables place rest h.1.1)
-block_fits tables place (tree.IfThen condition inner rest) h =
-    let first = condition_mentions place condition in
-    let second = block_mentions place inner in
-    let third = block_mentions place rest in
+block_fits tables half tree.Done h = tt
+block_fits tables half (tree.RunThen command rest) h = (place_below (text_eq command.text) tables.commands h.0, block_fits tables half rest h.1)
+block_fits tables half (tree.WantThen wish rest) h = (place_below (text_eq wish.state.text) tables.states h.1.0, block_fits tables half rest h.1.1)
+block_fits tables half (tree.IfThen condition inner rest) h =
+    let first = condition_mentions half condition in
+    let second = block_mentions half inner in
+    let third = block_mentions half rest in
     let after = stand_right tables first (second ++ third) h in (
-      condition_fits tables place condition (stand_left tables first (second ++ third) h),
-      block_fits tables place inner (stand_left tables second third after),
-      block_fits tables place rest (stand_right tables second third after),
+      condition_fits tables half condition (stand_left tables first (second ++ third) h),
+      block_fits tables half inner (stand_left tables second third after),
+      block_fits tables half rest (stand_right tables second third after),
     )
 
 then_fits : (tables : Tables) (sizes : Sizes) (statement : Statement Test Name Wish) (rest : tree.Block Test Name Wish)
@@ -130,27 +130,27 @@ initial_fits tables (State name parts ∷ rest) some h = initial_fits tables res
 initial_fits tables (Always part ∷ rest) some h = initial_fits tables rest some (stand_right tables (part_mentions whose.Always part) (mentions_of rest) h)
 
 -- Conditions, blocks and parts define no state.
-condition_defines : (place : Place) (c : tree.Condition Test) (rest : List Mentioned) → defined (condition_mentions place c ++ rest) ≡ defined rest
-condition_defines place (tree.Leaf (Link name state)) rest = refl
-condition_defines place (tree.Leaf (External command period)) rest = refl
-condition_defines place (tree.NotSo operand) rest = condition_defines place operand rest
-condition_defines place (tree.And left right) rest =
-    let told = condition_mentions place in
-    ap defined (append_assoc (told left) (told right) rest) ∙ condition_defines place left (told right ++ rest) ∙ condition_defines place right rest
-condition_defines place (tree.Or left right) rest =
-    let told = condition_mentions place in
-    ap defined (append_assoc (told left) (told right) rest) ∙ condition_defines place left (told right ++ rest) ∙ condition_defines place right rest
+condition_defines : (half : Half) (c : tree.Condition Test) (rest : List Mentioned) → defined (condition_mentions half c ++ rest) ≡ defined rest
+condition_defines half (tree.Leaf (Link name state)) rest = refl
+condition_defines half (tree.Leaf (External command period)) rest = refl
+condition_defines half (tree.NotSo operand) rest = condition_defines half operand rest
+condition_defines half (tree.And left right) rest =
+    let told = condition_mentions half in
+    ap defined (append_assoc (told left) (told right) rest) ∙ condition_defines half left (told right ++ rest) ∙ condition_defines half right rest
+condition_defines half (tree.Or left right) rest =
+    let told = condition_mentions half in
+    ap defined (append_assoc (told left) (told right) rest) ∙ condition_defines half left (told right ++ rest) ∙ condition_defines half right rest
 
-block_defines : (place : Place) (b : tree.Block Test Name Wish) (rest : List Mentioned) → defined (block_mentions place b ++ rest) ≡ defined rest
-block_defines place tree.Done rest = refl
-block_defines place (tree.RunThen command more) rest = block_defines place more rest
-block_defines place (tree.WantThen wish more) rest = block_defines place more rest
-block_defines place (tree.IfThen condition inner more) rest =
-    let first = condition_mentions place condition in
-    let second = block_mentions place inner in
-    let third = block_mentions place more in
-    ap defined (append_assoc first (second ++ third) rest) ∙ condition_defines place condition ((second ++ third) ++ rest)
-    ∙ ap defined (append_assoc second third rest) ∙ block_defines place inner (third ++ rest) ∙ block_defines place more rest
+block_defines : (half : Half) (b : tree.Block Test Name Wish) (rest : List Mentioned) → defined (block_mentions half b ++ rest) ≡ defined rest
+block_defines half tree.Done rest = refl
+block_defines half (tree.RunThen command more) rest = block_defines half more rest
+block_defines half (tree.WantThen wish more) rest = block_defines half more rest
+block_defines half (tree.IfThen condition inner more) rest =
+    let first = condition_mentions half condition in
+    let second = block_mentions half inner in
+    let third = block_mentions half more in
+    ap defined (append_assoc first (second ++ third) rest) ∙ condition_defines half condition ((second ++ third) ++ rest)
+    ∙ ap defined (append_assoc second third rest) ∙ block_defines half inner (third ++ rest) ∙ block_defines half more rest
 
 part_defines : (owner : Owner) (part : Part) (rest : List Mentioned) → defined (part_mentions owner part ++ rest) ≡ defined rest
 part_defines owner (Init span block) rest = block_defines at.Init block rest

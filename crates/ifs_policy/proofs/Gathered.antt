@@ -15,8 +15,8 @@ use Rattle.ifs_parse.specs.declared.tree.Item.{Item}
 use Rattle.ifs_parse.specs.declared.tree.Item.TheVariants.{InitState, State, Always}
 use Rattle.ifs_base.specs.declared.span.Span.{Span}
 use Rattle.ifs_policy.specs.declared.mention.Mention.TheVariants as says
-use Rattle.ifs_policy.specs.declared.mention.Place.{Place}
-use Rattle.ifs_policy.specs.declared.mention.Place.TheVariants as at
+use Rattle.ifs_policy.specs.declared.mention.Half.{Half}
+use Rattle.ifs_policy.specs.declared.mention.Half.TheVariants as at
 use Rattle.ifs_policy.specs.declared.mention.Owner.{Owner}
 use Rattle.ifs_policy.specs.declared.mention.Owner.TheVariants as whose
 use Rattle.ifs_policy.specs.declared.tables.ExternalTest.{ExternalTest}
@@ -31,7 +31,7 @@ interface_of (says.Interface name) = name.text ∷ []
 interface_of _ = []
 
 abbrev pub tested_by : Mentioned → List ExternalTest
-tested_by (says.External place command period) = test_of command period ∷ []
+tested_by (says.External half command period) = test_of command period ∷ []
 tested_by _ = []
 
 abbrev pub command_of : Mentioned → List (List ℕ)
@@ -76,49 +76,49 @@ module _ {X : Type 0} (pick : Mentioned → List X) where
   of_both : (xs ys : List Mentioned) (us vs : List X) → flat_map pick xs ≡ us → flat_map pick ys ≡ vs → flat_map pick (xs ++ ys) ≡ us ++ vs
   of_both xs ys us vs e f = flat_map-append pick xs ys ∙ (λ i. e i ++ f i)
 
-  module _ (place : Place) where
-    of_condition : (leaf : Test → List X) → ((t : Test) → pick (test_mention place t) ≡ leaf t) → (c : tree.Condition Test)
-        → flat_map pick (condition_mentions place c) ≡ flat_map leaf (singles c)
+  module _ (half : Half) where
+    of_condition : (leaf : Test → List X) → ((t : Test) → pick (test_mention half t) ≡ leaf t) → (c : tree.Condition Test)
+        → flat_map pick (condition_mentions half c) ≡ flat_map leaf (singles c)
     of_condition leaf one (tree.Leaf t) = ap (λ xs. xs ++ []) (one t)
     of_condition leaf one (tree.NotSo c) = of_condition leaf one c
     of_condition leaf one (tree.And a b) =
-        of_both (condition_mentions place a) (condition_mentions place b) _ _ (of_condition leaf one a) (of_condition leaf one b)
+        of_both (condition_mentions half a) (condition_mentions half b) _ _ (of_condition leaf one a) (of_condition leaf one b)
         ∙ sym (flat_map-append leaf (singles a) (singles b))
     of_condition leaf one (tree.Or a b) =
-        of_both (condition_mentions place a) (condition_mentions place b) _ _ (of_condition leaf one a) (of_condition leaf one b)
+        of_both (condition_mentions half a) (condition_mentions half b) _ _ (of_condition leaf one a) (of_condition leaf one b)
         ∙ sym (flat_map-append leaf (singles a) (singles b))
 
     -- A list that goes with each constructor as the picked one does.
     module _ (inside : tree.Condition Test → List X) (all : TextBlock → List X)
-        (on_condition : (c : tree.Condition Test) → flat_map pick (condition_mentions place c) ≡ inside c)
+        (on_condition : (c : tree.Condition Test) → flat_map pick (condition_mentions half c) ≡ inside c)
         (on_done : [] ≡ all tree.Done)
         (on_run : (command : Name) (rest : TextBlock) → pick (says.Command command) ++ all rest ≡ all (tree.RunThen command rest))
-        (on_want : (wish : Wish) (rest : TextBlock) → pick (says.SetState place wish.span) ++ (pick (says.Wanted wish.state) ++ all rest) ≡ all (tree.WantThen wish rest))
+        (on_want : (wish : Wish) (rest : TextBlock) → pick (says.SetState half wish.span) ++ (pick (says.Wanted wish.state) ++ all rest) ≡ all (tree.WantThen wish rest))
         (on_if : (c : tree.Condition Test) (inner rest : TextBlock) → inside c ++ (all inner ++ all rest) ≡ all (tree.IfThen c inner rest)) where
-      of_block : (b : TextBlock) → flat_map pick (block_mentions place b) ≡ all b
+      of_block : (b : TextBlock) → flat_map pick (block_mentions half b) ≡ all b
       of_block tree.Done = on_done
       of_block (tree.RunThen command rest) = ap (λ xs. pick (says.Command command) ++ xs) (of_block rest) ∙ on_run command rest
       of_block (tree.WantThen wish rest) =
-          ap (λ xs. pick (says.SetState place wish.span) ++ (pick (says.Wanted wish.state) ++ xs)) (of_block rest) ∙ on_want wish rest
+          ap (λ xs. pick (says.SetState half wish.span) ++ (pick (says.Wanted wish.state) ++ xs)) (of_block rest) ∙ on_want wish rest
       of_block (tree.IfThen c inner rest) =
-          of_both (condition_mentions place c) (block_mentions place inner ++ block_mentions place rest) (inside c) (all inner ++ all rest) (on_condition c)
-          (of_both (block_mentions place inner) (block_mentions place rest) (all inner) (all rest) (of_block inner) (of_block rest))
+          of_both (condition_mentions half c) (block_mentions half inner ++ block_mentions half rest) (inside c) (all inner ++ all rest) (on_condition c)
+          (of_both (block_mentions half inner) (block_mentions half rest) (all inner) (all rest) (of_block inner) (of_block rest))
           ∙ on_if c inner rest
 
   -- Of single tests alone.
-  of_singles : (place : Place) (leaf : Test → List X) → ((t : Test) → pick (test_mention place t) ≡ leaf t) → ((command : Name) → pick (says.Command command) ≡ [])
-      → ((span : Span) → pick (says.SetState place span) ≡ []) → ((name : Name) → pick (says.Wanted name) ≡ [])
-      → (b : TextBlock) → flat_map pick (block_mentions place b) ≡ flat_map leaf (block_singles b)
-  of_singles place leaf one run set want =
-      of_block place (λ c. flat_map leaf (singles c)) (λ b. flat_map leaf (block_singles b)) (of_condition place leaf one) refl
+  of_singles : (half : Half) (leaf : Test → List X) → ((t : Test) → pick (test_mention half t) ≡ leaf t) → ((command : Name) → pick (says.Command command) ≡ [])
+      → ((span : Span) → pick (says.SetState half span) ≡ []) → ((name : Name) → pick (says.Wanted name) ≡ [])
+      → (b : TextBlock) → flat_map pick (block_mentions half b) ≡ flat_map leaf (block_singles b)
+  of_singles half leaf one run set want =
+      of_block half (λ c. flat_map leaf (singles c)) (λ b. flat_map leaf (block_singles b)) (of_condition half leaf one) refl
       (λ command rest. ap (λ xs. xs ++ flat_map leaf (block_singles rest)) (run command))
       (λ wish rest i. set wish.span i ++ (want wish.state i ++ flat_map leaf (block_singles rest)))
       (λ c inner rest. sym (flat_map-append leaf (singles c) (block_singles inner ++ block_singles rest)
       ∙ ap (λ xs. flat_map leaf (singles c) ++ xs) (flat_map-append leaf (block_singles inner) (block_singles rest))))
 
   -- Of no single test.
-  no_single : (place : Place) → ((t : Test) → pick (test_mention place t) ≡ []) → (c : tree.Condition Test) → flat_map pick (condition_mentions place c) ≡ []
-  no_single place none c = of_condition place (λ _. []) none c ∙ none_of (singles c)
+  no_single : (half : Half) → ((t : Test) → pick (test_mention half t) ≡ []) → (c : tree.Condition Test) → flat_map pick (condition_mentions half c) ≡ []
+  no_single half none c = of_condition half (λ _. []) none c ∙ none_of (singles c)
 
   of_parts : (owner : Owner) (f : Part → List X) → ((part : Part) → flat_map pick (part_mentions owner part) ≡ f part)
       → (ps : List Part) → flat_map pick (flat_map (part_mentions owner) ps) ≡ flat_map f ps
@@ -151,31 +151,31 @@ module _ {X : Type 0} (pick : Mentioned → List X) where
       ∙ sym (flat_map-append f ps (whole.parts rest)))
       (λ part rest. ap (λ xs. xs ++ flat_map f (whole.parts rest)) (one whose.Always part))
 
-interfaces_in : (place : Place) (b : TextBlock) → flat_map interface_of (block_mentions place b) ≡ flat_map link_of (block_singles b)
-interfaces_in place = of_singles interface_of place link_of one (λ _. refl) (λ _. refl) (λ _. refl)
+interfaces_in : (half : Half) (b : TextBlock) → flat_map interface_of (block_mentions half b) ≡ flat_map link_of (block_singles b)
+interfaces_in half = of_singles interface_of half link_of one (λ _. refl) (λ _. refl) (λ _. refl)
   where
-    one : (t : Test) → interface_of (test_mention place t) ≡ link_of t
+    one : (t : Test) → interface_of (test_mention half t) ≡ link_of t
     one (Link name state) = refl
     one (External command period) = refl
 
-tests_in : (place : Place) (b : TextBlock) → flat_map tested_by (block_mentions place b) ≡ flat_map external_of (block_singles b)
-tests_in place = of_singles tested_by place external_of one (λ _. refl) (λ _. refl) (λ _. refl)
+tests_in : (half : Half) (b : TextBlock) → flat_map tested_by (block_mentions half b) ≡ flat_map external_of (block_singles b)
+tests_in half = of_singles tested_by half external_of one (λ _. refl) (λ _. refl) (λ _. refl)
   where
-    one : (t : Test) → tested_by (test_mention place t) ≡ external_of t
+    one : (t : Test) → tested_by (test_mention half t) ≡ external_of t
     one (Link name state) = refl
     one (External command period) = refl
 
-commands_in : (place : Place) (b : TextBlock) → flat_map command_of (block_mentions place b) ≡ block_commands b
-commands_in place = of_block command_of place (λ _. []) block_commands (no_single command_of place none) refl (λ _ _. refl) (λ _ _. refl) (λ _ _ _. refl)
+commands_in : (half : Half) (b : TextBlock) → flat_map command_of (block_mentions half b) ≡ block_commands b
+commands_in half = of_block command_of half (λ _. []) block_commands (no_single command_of half none) refl (λ _ _. refl) (λ _ _. refl) (λ _ _ _. refl)
   where
-    none : (t : Test) → command_of (test_mention place t) ≡ []
+    none : (t : Test) → command_of (test_mention half t) ≡ []
     none (Link name state) = refl
     none (External command period) = refl
 
-wishes_in : (place : Place) (b : TextBlock) → flat_map wanted_by (block_mentions place b) ≡ block_wishes b
-wishes_in place = of_block wanted_by place (λ _. []) block_wishes (no_single wanted_by place none) refl (λ _ _. refl) (λ _ _. refl) (λ _ _ _. refl)
+wishes_in : (half : Half) (b : TextBlock) → flat_map wanted_by (block_mentions half b) ≡ block_wishes b
+wishes_in half = of_block wanted_by half (λ _. []) block_wishes (no_single wanted_by half none) refl (λ _ _. refl) (λ _ _. refl) (λ _ _ _. refl)
   where
-    none : (t : Test) → wanted_by (test_mention place t) ≡ []
+    none : (t : Test) → wanted_by (test_mention half t) ≡ []
     none (Link name state) = refl
     none (External command period) = refl
 
@@ -202,10 +202,10 @@ picked_commands = of_all_parts command_of (λ part. block_commands (block_in par
     one owner (Do statement) = commands_in at.Body (statement_then statement tree.Done)
 
 -- Nothing of states stands in a block.
-no_states : (place : Place) (b : TextBlock) → flat_map state_of (block_mentions place b) ≡ []
-no_states place = of_block state_of place (λ _. []) (λ _. []) (no_single state_of place none) refl (λ _ _. refl) (λ _ _. refl) (λ _ _ _. refl)
+no_states : (half : Half) (b : TextBlock) → flat_map state_of (block_mentions half b) ≡ []
+no_states half = of_block state_of half (λ _. []) (λ _. []) (no_single state_of half none) refl (λ _ _. refl) (λ _ _. refl) (λ _ _ _. refl)
   where
-    none : (t : Test) → state_of (test_mention place t) ≡ []
+    none : (t : Test) → state_of (test_mention half t) ≡ []
     none (Link name state) = refl
     none (External command period) = refl
 
@@ -266,9 +266,9 @@ picked_init_wishes items =
     picked_in_inits wish_in_init (λ block. marks (block_wishes block)) one (λ _. refl) (λ _. refl) (λ _. refl) items
     ∙ marks_all block_wishes (inits_of (whole.parts items))
   where
-    none : (place : Place) (t : Test) → wish_in_init (test_mention place t) ≡ []
-    none place (Link name state) = refl
-    none place (External command period) = refl
+    none : (half : Half) (t : Test) → wish_in_init (test_mention half t) ≡ []
+    none half (Link name state) = refl
+    none half (External command period) = refl
 
     one : (owner : Owner) (part : Part) → flat_map wish_in_init (part_mentions owner part) ≡ of_init wish_in_init (λ block. marks (block_wishes block)) part
     one owner (Init span block) =
@@ -284,12 +284,12 @@ picked_outside =
     of_items always_init (λ items. marks (inits_of (whole.outside items))) refl (λ _ _ _. refl)
     (λ name ps rest. ap (λ xs. xs ++ marks (inits_of (whole.outside rest))) (no_parts always_init whose.State inside ps)) outside
   where
-    none : (place : Place) (t : Test) → always_init (test_mention place t) ≡ []
-    none place (Link name state) = refl
-    none place (External command period) = refl
+    none : (half : Half) (t : Test) → always_init (test_mention half t) ≡ []
+    none half (Link name state) = refl
+    none half (External command period) = refl
 
-    block : (place : Place) (b : TextBlock) → flat_map always_init (block_mentions place b) ≡ []
-    block place = of_block always_init place nothing nothing (no_single always_init place (none place)) refl (λ _ _. refl) (λ _ _. refl) (λ _ _ _. refl)
+    block : (half : Half) (b : TextBlock) → flat_map always_init (block_mentions half b) ≡ []
+    block half = of_block always_init half nothing nothing (no_single always_init half (none half)) refl (λ _ _. refl) (λ _ _. refl) (λ _ _ _. refl)
 
     inside : (part : Part) → flat_map always_init (part_mentions whose.State part) ≡ []
     inside (Init span b) = block at.Init b
@@ -305,12 +305,12 @@ picked_initial =
     (λ name ps rest. ap (λ xs. xs ++ marks (whole.init_states rest)) (no_parts init_state whose.State (one whose.State) ps))
     (λ part rest. ap (λ xs. xs ++ marks (whole.init_states rest)) (one whose.Always part))
   where
-    none : (place : Place) (t : Test) → init_state (test_mention place t) ≡ []
-    none place (Link name state) = refl
-    none place (External command period) = refl
+    none : (half : Half) (t : Test) → init_state (test_mention half t) ≡ []
+    none half (Link name state) = refl
+    none half (External command period) = refl
 
-    block : (place : Place) (b : TextBlock) → flat_map init_state (block_mentions place b) ≡ []
-    block place = of_block init_state place nothing nothing (no_single init_state place (none place)) refl (λ _ _. refl) (λ _ _. refl) (λ _ _ _. refl)
+    block : (half : Half) (b : TextBlock) → flat_map init_state (block_mentions half b) ≡ []
+    block half = of_block init_state half nothing nothing (no_single init_state half (none half)) refl (λ _ _. refl) (λ _ _. refl) (λ _ _ _. refl)
 
     one : (owner : Owner) (part : Part) → flat_map init_state (part_mentions owner part) ≡ []
     one owner (Init span b) = block at.Init b

@@ -8,7 +8,7 @@ use Rattle.ifs_policy.specs.declared.mention.Mention.TheVariants.{Interface, Ext
 use Rattle.ifs_policy.specs.declared.names.Names.{Names}
 use Rattle.ifs_policy.specs.Mentions.{Mentioned, mentions_of}
 use Rattle.ifs_policy.specs.Tables.{after, no_names, tables_of}
-use Rattle.ifs_policy.specs.Faults.{IsString, Breaks, number, IsLowest, FirstBroken, FirstUnknown, IsRefused, no_state, broken, unknown}
+use Rattle.ifs_policy.specs.Faults.{IsString, Breaks, number, IsLowest, FirstBroken, FirstUnknown, IsTreeRefused, no_state, broken, unknown}
 use Rattle.ifs_policy.proofs.Refusals.{broken_not_sound}
 
 -- The line that a fault tells, and the fault of a number and a line.
@@ -51,22 +51,22 @@ same_fault fault other n l = sym (told_whole fault) ∙ ap (λ m. fault_of m (to
 -- The line of a mention.
 abbrev line_of : Mentioned → ℕ
 line_of (Interface name) = name.span.line
-line_of (External place command period) = command.span.line
+line_of (External half command period) = command.span.line
 line_of (Command text) = text.span.line
 line_of (Defined name) = name.span.line
 line_of (Wanted name) = name.span.line
 line_of (Init owner span) = span.line
 line_of (InitState span) = span.line
-line_of (SetState place span) = span.line
+line_of (SetState half span) = span.line
 
 broken_here : (names : Names) (mention : Mentioned) (fault : ResolveFault) → Breaks names mention fault → told_line fault ≡ line_of mention
 broken_here names (Interface name) (TableFull line) h = h.0
 broken_here names (Interface name) (BadText line) h = h.0
 broken_here names (Interface name) _ h = absurd h
-broken_here names (External place command period) (TestInInit line) h = h.0
-broken_here names (External place command period) (TableFull line) h = h.0
-broken_here names (External place command period) (BadText line) h = h.0
-broken_here names (External place command period) _ h = absurd h
+broken_here names (External half command period) (TestInInit line) h = h.0
+broken_here names (External half command period) (TableFull line) h = h.0
+broken_here names (External half command period) (BadText line) h = h.0
+broken_here names (External half command period) _ h = absurd h
 broken_here names (Command text) (TableFull line) h = h.0
 broken_here names (Command text) (BadText line) h = h.0
 broken_here names (Command text) _ h = absurd h
@@ -81,8 +81,8 @@ broken_here names (Init owner span) (SecondInit line) h = h.0
 broken_here names (Init owner span) _ h = absurd h
 broken_here names (InitState span) (SecondInit line) h = h.0
 broken_here names (InitState span) _ h = absurd h
-broken_here names (SetState place span) (SetStateInInit line) h = h.0
-broken_here names (SetState place span) _ h = absurd h
+broken_here names (SetState half span) (SetStateInInit line) h = h.0
+broken_here names (SetState half span) _ h = absurd h
 
 one_number : (m n : ℕ) → ¬ (m < n) → ¬ (n < m) → m ≡ n
 one_number m n not_below not_above =
@@ -107,13 +107,13 @@ one_broken names (mention ∷ rest) fault other (inr h) (inr k) = one_broken (af
 
 string_here : (mention : Mentioned) (line other : ℕ) → IsString (λ text. Unit {0}) line mention → IsString (λ text. Unit {0}) other mention → line ≡ other
 string_here (Interface name) line other h k = h.0 ∙ sym k.0
-string_here (External place command period) line other h k = h.0 ∙ sym k.0
+string_here (External half command period) line other h k = h.0 ∙ sym k.0
 string_here (Command text) line other h k = h.0 ∙ sym k.0
 string_here (Defined name) line other h k = h.0 ∙ sym k.0
 string_here (Wanted name) line other h k = h.0 ∙ sym k.0
 string_here (Init owner span) line other h k = absurd h
 string_here (InitState span) line other h k = absurd h
-string_here (SetState place span) line other h k = absurd h
+string_here (SetState half span) line other h k = absurd h
 
 one_unknown : (states : List (List ℕ)) (mentions : List Mentioned) (line other : ℕ) → FirstUnknown states mentions line → FirstUnknown states mentions other → line ≡ other
 one_unknown states [] line other h k = absurd h
@@ -122,7 +122,7 @@ one_unknown states (mention ∷ rest) line other (inl h) (inr k) = absurd (h.1 k
 one_unknown states (mention ∷ rest) line other (inr h) (inl k) = absurd (k.1 h.0)
 one_unknown states (mention ∷ rest) line other (inr h) (inr k) = one_unknown states rest line other h.1 k.1
 
-pub one_refusal : (items : List Item) (fault other : ResolveFault) → IsRefused items fault → IsRefused items other → fault ≡ other
+pub one_refusal : (items : List Item) (fault other : ResolveFault) → IsTreeRefused items fault → IsTreeRefused items other → fault ≡ other
 one_refusal items _ _ (no_state h) (no_state k) = refl
 one_refusal items _ _ (no_state h) (broken other some k) = absurd (true≢false (sym some ∙ h))
 one_refusal items _ _ (no_state h) (unknown line some sound k) = absurd (true≢false (sym some ∙ h))

@@ -11,7 +11,7 @@ use Rattle.ifs_policy.specs.declared.policy.PolicyParts.{PolicyParts}
 use Rattle.ifs_policy.specs.Mentions.{Mentioned, mentions_of}
 use Rattle.ifs_policy.specs.Tables.{text_eq, test_eq, after, names_after, no_names, tables_of}
 use Rattle.ifs_policy.specs.Faults.{AreSound}
-use Rattle.ifs_policy.specs.Placed.{Resolves}
+use Rattle.ifs_policy.specs.Resolution.{Resolves}
 use Rattle.ifs_policy.specs.Order.{InOrder}
 use Rattle.ifs_policy.specs.Whole as whole
 use Rattle.ifs_policy.specs.Whole.{first_uses}
@@ -22,38 +22,38 @@ use Rattle.ifs_policy.proofs.Gathered.{interface_of, tested_by, command_of, stat
 interfaces_after : (names : Names) (mentions : List Mentioned) → (names_after names mentions).tables.interfaces ≡ fold (insert_key text_eq) names.tables.interfaces (flat_map interface_of mentions)
 interfaces_after names [] = refl
 interfaces_after names (Interface name ∷ rest) = interfaces_after (after names (Interface name)) rest
-interfaces_after names (External place command period ∷ rest) = interfaces_after (after names (External place command period)) rest
+interfaces_after names (External half command period ∷ rest) = interfaces_after (after names (External half command period)) rest
 interfaces_after names (Command text ∷ rest) = interfaces_after (after names (Command text)) rest
 interfaces_after names (Defined name ∷ rest) = interfaces_after (after names (Defined name)) rest
 interfaces_after names (Wanted name ∷ rest) = interfaces_after names rest
 interfaces_after names (Init whose.Always span ∷ rest) = interfaces_after (after names (Init whose.Always span)) rest
 interfaces_after names (Init whose.State span ∷ rest) = interfaces_after (after names (Init whose.State span)) rest
 interfaces_after names (InitState span ∷ rest) = interfaces_after (after names (InitState span)) rest
-interfaces_after names (SetState place span ∷ rest) = interfaces_after names rest
+interfaces_after names (SetState half span ∷ rest) = interfaces_after names rest
 
 tests_after : (names : Names) (mentions : List Mentioned) → (names_after names mentions).tables.tests ≡ fold (insert_key test_eq) names.tables.tests (flat_map tested_by mentions)
 tests_after names [] = refl
 tests_after names (Interface name ∷ rest) = tests_after (after names (Interface name)) rest
-tests_after names (External place command period ∷ rest) = tests_after (after names (External place command period)) rest
+tests_after names (External half command period ∷ rest) = tests_after (after names (External half command period)) rest
 tests_after names (Command text ∷ rest) = tests_after (after names (Command text)) rest
 tests_after names (Defined name ∷ rest) = tests_after (after names (Defined name)) rest
 tests_after names (Wanted name ∷ rest) = tests_after names rest
 tests_after names (Init whose.Always span ∷ rest) = tests_after (after names (Init whose.Always span)) rest
 tests_after names (Init whose.State span ∷ rest) = tests_after (after names (Init whose.State span)) rest
 tests_after names (InitState span ∷ rest) = tests_after (after names (InitState span)) rest
-tests_after names (SetState place span ∷ rest) = tests_after names rest
+tests_after names (SetState half span ∷ rest) = tests_after names rest
 
 commands_after : (names : Names) (mentions : List Mentioned) → (names_after names mentions).tables.commands ≡ fold (insert_key text_eq) names.tables.commands (flat_map command_of mentions)
 commands_after names [] = refl
 commands_after names (Interface name ∷ rest) = commands_after (after names (Interface name)) rest
-commands_after names (External place command period ∷ rest) = commands_after (after names (External place command period)) rest
+commands_after names (External half command period ∷ rest) = commands_after (after names (External half command period)) rest
 commands_after names (Command text ∷ rest) = commands_after (after names (Command text)) rest
 commands_after names (Defined name ∷ rest) = commands_after (after names (Defined name)) rest
 commands_after names (Wanted name ∷ rest) = commands_after names rest
 commands_after names (Init whose.Always span ∷ rest) = commands_after (after names (Init whose.Always span)) rest
 commands_after names (Init whose.State span ∷ rest) = commands_after (after names (Init whose.State span)) rest
 commands_after names (InitState span ∷ rest) = commands_after (after names (InitState span)) rest
-commands_after names (SetState place span ∷ rest) = commands_after names rest
+commands_after names (SetState half span ∷ rest) = commands_after names rest
 
 -- A state that is defined is new, so it goes last.
 state_goes_last : (names : Names) (mentions : List Mentioned) → AreSound names mentions → (names_after names mentions).tables.states ≡ names.tables.states ++ flat_map state_of mentions
@@ -63,7 +63,7 @@ state_goes_last names [] sound = sym (append_nil names.tables.states)
     append_nil [] = refl
     append_nil (x ∷ xs) = ap (λ l. x ∷ l) (append_nil xs)
 state_goes_last names (Interface name ∷ rest) sound = state_goes_last (after names (Interface name)) rest sound.1
-state_goes_last names (External place command period ∷ rest) sound = state_goes_last (after names (External place command period)) rest sound.1
+state_goes_last names (External half command period ∷ rest) sound = state_goes_last (after names (External half command period)) rest sound.1
 state_goes_last names (Command text ∷ rest) sound = state_goes_last (after names (Command text)) rest sound.1
 state_goes_last names (Defined name ∷ rest) sound =
     let new : insert_key text_eq names.tables.states name.text ≡ names.tables.states ++ name.text ∷ [] =
@@ -74,7 +74,7 @@ state_goes_last names (Wanted name ∷ rest) sound = state_goes_last names rest 
 state_goes_last names (Init whose.Always span ∷ rest) sound = state_goes_last (after names (Init whose.Always span)) rest sound.1
 state_goes_last names (Init whose.State span ∷ rest) sound = state_goes_last (after names (Init whose.State span)) rest sound.1
 state_goes_last names (InitState span ∷ rest) sound = state_goes_last (after names (InitState span)) rest sound.1
-state_goes_last names (SetState place span ∷ rest) sound = state_goes_last names rest sound.1
+state_goes_last names (SetState half span ∷ rest) sound = state_goes_last names rest sound.1
 
 pub interfaces_first : (items : List Item) → (tables_of (mentions_of items)).interfaces ≡ first_uses text_eq (whole.interfaces items)
 interfaces_first items = interfaces_after no_names (mentions_of items) ∙ ap (fold (insert_key text_eq) []) (picked_interfaces items) ∙ inserted_are_first text_eq text_laws (whole.interfaces items)

@@ -12,7 +12,7 @@ use Rattle.ifs_parse.specs.declared.tree.Part.TheVariants.{Init, Do}
 use Rattle.ifs_parse.specs.declared.block.Statement.{Statement}
 use Rattle.ifs_parse.specs.declared.block.Statement.TheVariants.{Run, SetState, If}
 use Rattle.ifs_policy.specs.declared.tables.Tables.{Tables}
-use Rattle.ifs_policy.specs.Placed.{body_in, place_condition, place_block}
+use Rattle.ifs_policy.specs.Resolution.{body_in, place_condition, place_block}
 use Rattle.ifs_policy.specs.inner.Sized.{place_statement}
 
 pub place_within : {X : Type 0} (p : X → Bool) (xs : List X) → position_or_len p xs ≤ length xs

@@ -7,9 +7,9 @@ use Rattle.ifs_policy.specs.declared.names.Names.{Names}
 use Rattle.ifs_policy.specs.declared.policy.PolicyParts.{PolicyParts}
 use Rattle.ifs_policy.specs.Mentions.{Mentioned, mentions_of}
 use Rattle.ifs_policy.specs.Tables.{after, no_names, tables_of}
-use Rattle.ifs_policy.specs.Faults.{AreSound, FirstBroken, AreKnown, FirstUnknown, is_state, IsRefused, no_state, broken, unknown}
-use Rattle.ifs_policy.specs.Placed.{Resolves}
-use Rattle.ifs_policy.specs.declared.placing.Placed.{Placed}
+use Rattle.ifs_policy.specs.Faults.{AreSound, FirstBroken, AreKnown, FirstUnknown, is_state, IsTreeRefused, no_state, broken, unknown}
+use Rattle.ifs_policy.specs.Resolution.{Resolves}
+use Rattle.ifs_policy.specs.declared.placing.PolicyTrees.{PolicyTrees}
 use Rattle.ifs_policy.specs.inner.Entries.{IsFirst}
 use Rattle.ifs_policy.specs.inner.Walked.{Walked}
 
@@ -23,17 +23,17 @@ unknown_not_known states [] line h known = h
 unknown_not_known states (mention ∷ rest) line (inl here) known = here.1 known.0
 unknown_not_known states (mention ∷ rest) line (inr later) known = unknown_not_known states rest line later.1 known.1
 
-pub refused_has_none : (items : List Item) (fault : ResolveFault) → IsRefused items fault → (policy : PolicyParts) → ¬ Resolves items policy
+pub refused_has_none : (items : List Item) (fault : ResolveFault) → IsTreeRefused items fault → (policy : PolicyParts) → ¬ Resolves items policy
 refused_has_none items _ (no_state h) policy r = true≢false (sym r.has_state ∙ h)
 refused_has_none items _ (broken fault some h) policy r = broken_not_sound no_names (mentions_of items) fault h r.sound
 refused_has_none items _ (unknown line some sound h) policy r = unknown_not_known (tables_of (mentions_of items)).states (mentions_of items) line h r.known
 
-pub first_is_refused : (items : List Item) (fault : ResolveFault) → IsTrue (list_any is_state items) → IsFirst no_names (mentions_of items) fault → IsRefused items fault
+pub first_is_refused : (items : List Item) (fault : ResolveFault) → IsTrue (list_any is_state items) → IsFirst no_names (mentions_of items) fault → IsTreeRefused items fault
 first_is_refused items fault some (inl h) = broken fault some h
-first_is_refused items fault some (inr h) = subst (IsRefused items) (sym h.1.1) (unknown h.1.0 some h.0 h.1.2)
+first_is_refused items fault some (inr h) = subst (IsTreeRefused items) (sym h.1.1) (unknown h.1.0 some h.0 h.1.2)
 
 -- What the walk leaves and makes is the policy of the items.
-pub resolved : (items : List Item) (placed : Placed) (names : Names) → IsTrue (list_any is_state items) → Walked items placed names
+pub resolved : (items : List Item) (placed : PolicyTrees) (names : Names) → IsTrue (list_any is_state items) → Walked items placed names
     → Resolves items (record { tables = names.tables; initial = placed.initial; always = placed.always; states = placed.states })
 resolved items placed names some w = record {
   has_state = some;

@@ -13,7 +13,7 @@ use Rattle.ifs_base.specs.declared.span.Span.{Span}
 use Rattle.ifs_parse.specs.declared.tree.Name.{Name}
 use Rattle.ifs_policy.specs.declared.fault.ResolveFault.TheVariants.{StateTwice, SecondInit, SetStateInInit, TestInInit, TableFull, BadText}
 use Rattle.ifs_policy.specs.declared.mention.Mention.TheVariants.{Interface, External, Command, Defined, Wanted, Init, InitState, SetState}
-use Rattle.ifs_policy.specs.declared.mention.Place.TheVariants as at
+use Rattle.ifs_policy.specs.declared.mention.Half.TheVariants as at
 use Rattle.ifs_policy.specs.declared.mention.Owner.{Owner}
 use Rattle.ifs_policy.specs.declared.mention.Owner.TheVariants as whose
 use Rattle.ifs_policy.specs.declared.names.Names.{Names}
@@ -481,20 +481,20 @@ pub known_forth : (states : List (List ℕ)) (ms : List Mentioned) → AreKnown 
 known_forth states [] h = tt
 known_forth states (Wanted name ∷ rest) h = (h.0, known_forth states rest h.1)
 known_forth states (Interface name ∷ rest) h = known_forth states rest h.1
-known_forth states (External place command period ∷ rest) h = known_forth states rest h.1
+known_forth states (External half command period ∷ rest) h = known_forth states rest h.1
 known_forth states (Command text ∷ rest) h = known_forth states rest h.1
 known_forth states (Defined name ∷ rest) h = known_forth states rest h.1
 known_forth states (Init owner span ∷ rest) h = known_forth states rest h.1
 known_forth states (InitState span ∷ rest) h = known_forth states rest h.1
-known_forth states (SetState place span ∷ rest) h = known_forth states rest h.1
+known_forth states (SetState half span ∷ rest) h = known_forth states rest h.1
 
 pub known_back : (states : List (List ℕ)) (ms : List Mentioned) → AllByRecursion (λ name. list_any (text_eq name) states ≡ true) (flat_map wanted_by ms) → AreKnown states ms
 known_back states [] h = tt
 known_back states (Wanted name ∷ rest) h = (h.0, known_back states rest h.1)
 known_back states (Interface name ∷ rest) h = (tt, known_back states rest h)
-known_back states (External place command period ∷ rest) h = (tt, known_back states rest h)
+known_back states (External half command period ∷ rest) h = (tt, known_back states rest h)
 known_back states (Command text ∷ rest) h = (tt, known_back states rest h)
 known_back states (Defined name ∷ rest) h = (tt, known_back states rest h)
 known_back states (Init owner span ∷ rest) h = (tt, known_back states rest h)
 known_back states (InitState span ∷ rest) h = (tt, known_back states rest h)
-known_back states (SetState place span ∷ rest) h = (tt, known_back states rest h)
+known_back states (SetState half span ∷ rest) h = (tt, known_back states rest h)

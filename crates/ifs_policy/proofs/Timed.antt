@@ -28,8 +28,8 @@ use Rattle.ifs_parse.specs.declared.tree.Item.TheVariants.{InitState, State, Alw
 use Rattle.ifs_parse.specs.declared.block.Statement.{Statement}
 use Rattle.ifs_parse.specs.declared.block.Statement.TheVariants.{Run, SetState, If}
 use Rattle.ifs_policy.specs.declared.policy.PolicyParts.{PolicyParts}
-use Rattle.ifs_policy.specs.declared.mention.Place.{Place}
-use Rattle.ifs_policy.specs.declared.mention.Place.TheVariants as at
+use Rattle.ifs_policy.specs.declared.mention.Half.{Half}
+use Rattle.ifs_policy.specs.declared.mention.Half.TheVariants as at
 use Rattle.ifs_policy.specs.declared.mention.Owner.{Owner}
 use Rattle.ifs_policy.specs.declared.mention.Owner.TheVariants as whose
 use Rattle.ifs_policy.specs.declared.mention.Mention.TheVariants as says
@@ -37,7 +37,7 @@ use Rattle.ifs_policy.specs.declared.names.Names.{Names}
 use Rattle.ifs_policy.specs.declared.tables.ExternalTest.{ExternalTest}
 use Rattle.ifs_policy.specs.Mentions.{Mentioned, condition_mentions, block_mentions, part_mentions, item_mentions, mentions_of}
 use Rattle.ifs_policy.specs.Tables.{test_eq, test_of, after, no_names, names_after}
-use Rattle.ifs_policy.specs.Placed.{Resolves}
+use Rattle.ifs_policy.specs.Resolution.{Resolves}
 use Rattle.ifs_policy.proofs.Filled.{at_most, all_insert}
 
 -- Each period in a tree fits.
@@ -237,7 +237,7 @@ said_timed tokens f h =
 
 -- The periods of mentions.
 abbrev MentionTimed : Mentioned → Type 0
-MentionTimed (says.External place command period) = PeriodFits period
+MentionTimed (says.External half command period) = PeriodFits period
 MentionTimed _ = Unit {0}
 
 abbrev AreTimed : List Mentioned → Type 0
@@ -248,22 +248,22 @@ both_timed : (xs ys : List Mentioned) → AreTimed xs → AreTimed ys → AreTim
 both_timed [] ys h k = k
 both_timed (x ∷ xs) ys h k = (h.0, both_timed xs ys h.1 k)
 
-condition_says : (place : Place) (c : tree.Condition Test) → ConditionTimed c → AreTimed (condition_mentions place c)
-condition_says place (tree.Leaf (Link name state)) h = (tt, tt)
-condition_says place (tree.Leaf (External command period)) h = (h, tt)
-condition_says place (tree.NotSo operand) h = condition_says place operand h
-condition_says place (tree.And left right) h =
-    both_timed (condition_mentions place left) (condition_mentions place right) (condition_says place left h.0) (condition_says place right h.1)
-condition_says place (tree.Or left right) h =
-    both_timed (condition_mentions place left) (condition_mentions place right) (condition_says place left h.0) (condition_says place right h.1)
+condition_says : (half : Half) (c : tree.Condition Test) → ConditionTimed c → AreTimed (condition_mentions half c)
+condition_says half (tree.Leaf (Link name state)) h = (tt, tt)
+condition_says half (tree.Leaf (External command period)) h = (h, tt)
+condition_says half (tree.NotSo operand) h = condition_says half operand h
+condition_says half (tree.And left right) h =
+    both_timed (condition_mentions half left) (condition_mentions half right) (condition_says half left h.0) (condition_says half right h.1)
+condition_says half (tree.Or left right) h =
+    both_timed (condition_mentions half left) (condition_mentions half right) (condition_says half left h.0) (condition_says half right h.1)
 
-block_says : (place : Place) (b : tree.Block Test Name Wish) → BlockTimed b → AreTimed (block_mentions place b)
-block_says place tree.Done h = tt
-block_says place (tree.RunThen command rest) h = (tt, block_says place rest h)
-block_says place (tree.WantThen wish rest) h = (tt, (tt, block_says place rest h))
-block_says place (tree.IfThen condition inner rest) h =
-    both_timed (condition_mentions place condition) (block_mentions place inner ++ block_mentions place rest) (condition_says place condition h.0)
-    (both_timed (block_mentions place inner) (block_mentions place rest) (block_says place inner h.1) (block_says place rest h.2))
+block_says : (half : Half) (b : tree.Block Test Name Wish) → BlockTimed b → AreTimed (block_mentions half b)
+block_says half tree.Done h = tt
+block_says half (tree.RunThen command rest) h = (tt, block_says half rest h)
+block_says half (tree.WantThen wish rest) h = (tt, (tt, block_says half rest h))
+block_says half (tree.IfThen condition inner rest) h =
+    both_timed (condition_mentions half condition) (block_mentions half inner ++ block_mentions half rest) (condition_says half condition h.0)
+    (both_timed (block_mentions half inner) (block_mentions half rest) (block_says half inner h.1) (block_says half rest h.2))
 
 part_says : (owner : Owner) (part : Part) → PartTimed part → AreTimed (part_mentions owner part)
 part_says owner (Init span block) h = (tt, block_says at.Init block h)
@@ -290,14 +290,14 @@ NamesTimed names = All (λ test. PeriodFits test.period) names.tables.tests
 
 timed_after : (names : Names) (mention : Mentioned) → MentionTimed mention → NamesTimed names → NamesTimed (after names mention)
 timed_after names (says.Interface name) m h = h
-timed_after names (says.External place command period) m h = all_insert test_eq (λ test. PeriodFits test.period) names.tables.tests (test_of command period) h m
+timed_after names (says.External half command period) m h = all_insert test_eq (λ test. PeriodFits test.period) names.tables.tests (test_of command period) h m
 timed_after names (says.Command text) m h = h
 timed_after names (says.Defined name) m h = h
 timed_after names (says.Wanted name) m h = h
 timed_after names (says.Init whose.Always span) m h = h
 timed_after names (says.Init whose.State span) m h = h
 timed_after names (says.InitState span) m h = h
-timed_after names (says.SetState place span) m h = h
+timed_after names (says.SetState half span) m h = h
 
 all_timed_after : (names : Names) (mentions : List Mentioned) → AreTimed mentions → NamesTimed names → NamesTimed (names_after names mentions)
 all_timed_after names [] m h = h

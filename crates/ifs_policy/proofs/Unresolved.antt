@@ -8,7 +8,7 @@ use Rattle.ifs_parse.specs.Files.{File}
 use Rattle.ifs_parse.specs.Grammar.{Says, StopsAt}
 use Rattle.ifs_parse.specs.declared.fault.ParseFault.{ParseFault}
 use Rattle.ifs_parse.specs.declared.fault.ParseFault.TheVariants as parsing
-use Rattle.ifs_policy.specs.Placed.{Resolves}
+use Rattle.ifs_policy.specs.Resolution.{Resolves}
 use Rattle.ifs_policy.specs.Faults as names
 use Rattle.ifs_policy.specs.declared.fault.ResolveFault.{ResolveFault}
 use Rattle.ifs_policy.specs.declared.fault.ResolveFault.TheVariants as resolving
@@ -55,7 +55,7 @@ module _ (text : List ℕ) (defs : List (List ℕ × List ℕ)) where
       resolved_by : (policy : PolicyParts) → HasPolicy text defs policy → Resolves file.items policy
       resolved_by policy h = subst (λ (f : File). Resolves f.items policy) (one_tree tokens h.file file (said_by policy h) said) h.resolved
 
-      pub refused_names : (fault : ResolveFault) → (fault ≢ resolving.Memory → names.IsRefused file.items fault)
+      pub refused_names : (fault : ResolveFault) → (fault ≢ resolving.Memory → names.IsTreeRefused file.items fault)
           → (fault ≢ resolving.Memory → (policy : PolicyParts) → ¬ Resolves file.items policy) → Refuses text defs (of_names fault)
       refused_names resolving.Memory e none other = absurd (other refl)
       refused_names (resolving.NoState line) e none other = ((λ policy h. none (λ k. absurd (cc)) policy (resolved_by policy h)), (tokens, file, spelled, said, e (λ k. absurd (cc))))

@@ -12,14 +12,14 @@ use Rattle.ifs_parse.specs.declared.tree.Part.{Part}
 use Rattle.ifs_parse.specs.declared.tree.Part.TheVariants.{Init, Do}
 use Rattle.ifs_parse.specs.declared.tree.Item.{Item}
 use Rattle.ifs_parse.specs.declared.tree.Item.TheVariants.{InitState, State, Always}
-use Rattle.ifs_policy.specs.declared.mention.Place.{Place}
-use Rattle.ifs_policy.specs.declared.mention.Place.TheVariants as at
+use Rattle.ifs_policy.specs.declared.mention.Half.{Half}
+use Rattle.ifs_policy.specs.declared.mention.Half.TheVariants as at
 use Rattle.ifs_policy.specs.declared.mention.Owner.TheVariants as whose
 use Rattle.ifs_policy.specs.declared.policy.PolicyParts.{PolicyParts}
 use Rattle.ifs_policy.specs.Mentions.{Mentioned, condition_mentions, block_mentions, part_mentions, mentions_of}
 use Rattle.ifs_policy.specs.Tables.{text_eq, test_eq, no_names, tables_of}
 use Rattle.ifs_policy.specs.Faults.{AreSound, AreKnown, is_state}
-use Rattle.ifs_policy.specs.Placed.{place_items, Resolves}
+use Rattle.ifs_policy.specs.Resolution.{place_items, Resolves}
 use Rattle.ifs_policy.specs.Whole as whole
 use Rattle.ifs_policy.specs.Whole.{TextBlock, inits_of, KeepsRules}
 use Rattle.ifs_policy.proofs.Filled.{tables_fit, no_tables_fit}
@@ -29,48 +29,48 @@ use Rattle.ifs_policy.proofs.Ordered.{interfaces_first, tests_first, commands_fi
 use Rattle.ifs_policy.proofs.Running.{Takes, Defines, Opens, bit, Sound, forth, back, takes_fit, all_taken, defines_fit, all_defined, contains_from, contains_to, known_forth, known_back}
 
 -- Conditions and blocks have no `init`.
-opens_condition : (has : Bool) (place : Place) (c : tree.Condition Test) (rest : List Mentioned) → Opens has (condition_mentions place c ++ rest) → Opens has rest
-opens_condition has place (tree.Leaf (Link name state)) rest h = h
-opens_condition has place (tree.Leaf (External command period)) rest h = h
-opens_condition has place (tree.NotSo c) rest h = opens_condition has place c rest h
-opens_condition has place (tree.And a b) rest h =
-    let later = condition_mentions place b in
-    opens_condition has place b rest (opens_condition has place a (later ++ rest) (subst (Opens has) (append_assoc (condition_mentions place a) later rest) h))
-opens_condition has place (tree.Or a b) rest h =
-    let later = condition_mentions place b in
-    opens_condition has place b rest (opens_condition has place a (later ++ rest) (subst (Opens has) (append_assoc (condition_mentions place a) later rest) h))
+opens_condition : (has : Bool) (half : Half) (c : tree.Condition Test) (rest : List Mentioned) → Opens has (condition_mentions half c ++ rest) → Opens has rest
+opens_condition has half (tree.Leaf (Link name state)) rest h = h
+opens_condition has half (tree.Leaf (External command period)) rest h = h
+opens_condition has half (tree.NotSo c) rest h = opens_condition has half c rest h
+opens_condition has half (tree.And a b) rest h =
+    let later = condition_mentions half b in
+    opens_condition has half b rest (opens_condition has half a (later ++ rest) (subst (Opens has) (append_assoc (condition_mentions half a) later rest) h))
+opens_condition has half (tree.Or a b) rest h =
+    let later = condition_mentions half b in
+    opens_condition has half b rest (opens_condition has half a (later ++ rest) (subst (Opens has) (append_assoc (condition_mentions half a) later rest) h))
 
-before_condition : (has : Bool) (place : Place) (c : tree.Condition Test) (rest : List Mentioned) → Opens has rest → Opens has (condition_mentions place c ++ rest)
-before_condition has place (tree.Leaf (Link name state)) rest h = h
-before_condition has place (tree.Leaf (External command period)) rest h = h
-before_condition has place (tree.NotSo c) rest h = before_condition has place c rest h
-before_condition has place (tree.And a b) rest h =
-    let later = condition_mentions place b in
-    subst (Opens has) (sym (append_assoc (condition_mentions place a) later rest)) (before_condition has place a (later ++ rest) (before_condition has place b rest h))
-before_condition has place (tree.Or a b) rest h =
-    let later = condition_mentions place b in
-    subst (Opens has) (sym (append_assoc (condition_mentions place a) later rest)) (before_condition has place a (later ++ rest) (before_condition has place b rest h))
+before_condition : (has : Bool) (half : Half) (c : tree.Condition Test) (rest : List Mentioned) → Opens has rest → Opens has (condition_mentions half c ++ rest)
+before_condition has half (tree.Leaf (Link name state)) rest h = h
+before_condition has half (tree.Leaf (External command period)) rest h = h
+before_condition has half (tree.NotSo c) rest h = before_condition has half c rest h
+before_condition has half (tree.And a b) rest h =
+    let later = condition_mentions half b in
+    subst (Opens has) (sym (append_assoc (condition_mentions half a) later rest)) (before_condition has half a (later ++ rest) (before_condition has half b rest h))
+before_condition has half (tree.Or a b) rest h =
+    let later = condition_mentions half b in
+    subst (Opens has) (sym (append_assoc (condition_mentions half a) later rest)) (before_condition has half a (later ++ rest) (before_condition has half b rest h))
 
-opens_block : (has : Bool) (place : Place) (b : TextBlock) (rest : List Mentioned) → Opens has (block_mentions place b ++ rest) → Opens has rest
-opens_block has place tree.Done rest h = h
-opens_block has place (tree.RunThen command b) rest h = opens_block has place b rest h
-opens_block has place (tree.WantThen wish b) rest h = opens_block has place b rest h
-opens_block has place (tree.IfThen c inner b) rest h =
-    let second = block_mentions place inner in
-    let third = block_mentions place b in
-    opens_block has place b rest (opens_block has place inner (third ++ rest) (subst (Opens has) (append_assoc second third rest)
-    (opens_condition has place c ((second ++ third) ++ rest) (subst (Opens has) (append_assoc (condition_mentions place c) (second ++ third) rest) h))))
+opens_block : (has : Bool) (half : Half) (b : TextBlock) (rest : List Mentioned) → Opens has (block_mentions half b ++ rest) → Opens has rest
+opens_block has half tree.Done rest h = h
+opens_block has half (tree.RunThen command b) rest h = opens_block has half b rest h
+opens_block has half (tree.WantThen wish b) rest h = opens_block has half b rest h
+opens_block has half (tree.IfThen c inner b) rest h =
+    let second = block_mentions half inner in
+    let third = block_mentions half b in
+    opens_block has half b rest (opens_block has half inner (third ++ rest) (subst (Opens has) (append_assoc second third rest)
+    (opens_condition has half c ((second ++ third) ++ rest) (subst (Opens has) (append_assoc (condition_mentions half c) (second ++ third) rest) h))))
 
-before_block : (has : Bool) (place : Place) (b : TextBlock) (rest : List Mentioned) → Opens has rest → Opens has (block_mentions place b ++ rest)
-before_block has place tree.Done rest h = h
-before_block has place (tree.RunThen command b) rest h = before_block has place b rest h
-before_block has place (tree.WantThen wish b) rest h = before_block has place b rest h
-before_block has place (tree.IfThen c inner b) rest h =
-    let second = block_mentions place inner in
-    let third = block_mentions place b in
-    subst (Opens has) (sym (append_assoc (condition_mentions place c) (second ++ third) rest))
-    (before_condition has place c ((second ++ third) ++ rest) (subst (Opens has) (sym (append_assoc second third rest))
-    (before_block has place inner (third ++ rest) (before_block has place b rest h))))
+before_block : (has : Bool) (half : Half) (b : TextBlock) (rest : List Mentioned) → Opens has rest → Opens has (block_mentions half b ++ rest)
+before_block has half tree.Done rest h = h
+before_block has half (tree.RunThen command b) rest h = before_block has half b rest h
+before_block has half (tree.WantThen wish b) rest h = before_block has half b rest h
+before_block has half (tree.IfThen c inner b) rest h =
+    let second = block_mentions half inner in
+    let third = block_mentions half b in
+    subst (Opens has) (sym (append_assoc (condition_mentions half c) (second ++ third) rest))
+    (before_condition has half c ((second ++ third) ++ rest) (subst (Opens has) (sym (append_assoc second third rest))
+    (before_block has half inner (third ++ rest) (before_block has half b rest h))))
 
 one_more : (has : Bool) (n : ℕ) → has ≡ false → 1 + n ≤ 1 → bit has + suc n ≤ 1
 one_more true n e h = absurd (cc)

@@ -5,7 +5,7 @@ use Rattle.ifs_base.specs.Sizes.{TextFits}
 use Rattle.ifs_parse.specs.declared.tree.Item.{Item}
 use Rattle.ifs_parse.specs.declared.tree.Item.TheVariants as item
 use Rattle.ifs_policy.specs.declared.mention.Mention.TheVariants.{Interface, External, Command, Defined, Wanted, Init, InitState, SetState}
-use Rattle.ifs_policy.specs.declared.mention.Place.TheVariants as at
+use Rattle.ifs_policy.specs.declared.mention.Half.TheVariants as at
 use Rattle.ifs_policy.specs.declared.mention.Owner.{Owner}
 use Rattle.ifs_policy.specs.declared.mention.Owner.TheVariants.{Always, State}
 use Rattle.ifs_policy.specs.declared.fault.ResolveFault.{ResolveFault}
@@ -21,7 +21,7 @@ IsFull eq limit table entry = (list_any (eq entry) table ≡ false) × (limit �
 -- The table of what is mentioned has no place for it.
 abbrev pub HasNoRoom : Names → Mentioned → Type 0
 HasNoRoom names (Interface name) = IsFull text_eq 64 names.tables.interfaces name.text
-HasNoRoom names (External place command period) = IsFull test_eq 64 names.tables.tests (test_of command period)
+HasNoRoom names (External half command period) = IsFull test_eq 64 names.tables.tests (test_of command period)
 HasNoRoom names (Command text) = IsFull text_eq 1024 names.tables.commands text.text
 HasNoRoom names (Defined name) = IsFull text_eq 256 names.tables.states name.text
 HasNoRoom names _ = ⊥
@@ -29,7 +29,7 @@ HasNoRoom names _ = ⊥
 -- What is mentioned is a string on this line, and the string has this property.
 abbrev pub IsString : (List ℕ → Type 0) → ℕ → Mentioned → Type 0
 IsString P line (Interface name) = (line ≡ name.span.line) × P name.text
-IsString P line (External place command period) = (line ≡ command.span.line) × P command.text
+IsString P line (External half command period) = (line ≡ command.span.line) × P command.text
 IsString P line (Command text) = (line ≡ text.span.line) × P text.text
 IsString P line (Defined name) = (line ≡ name.span.line) × P name.text
 IsString P line (Wanted name) = (line ≡ name.span.line) × P name.text
@@ -48,8 +48,8 @@ Breaks names (Defined name) (StateTwice line) = (line ≡ name.span.line) × IsT
 Breaks names (Init owner span) (SecondInit line) = (line ≡ span.line) × IsTrue (has_init names owner)
 Breaks names (InitState span) (SecondInit line) = (line ≡ span.line) × IsTrue names.init_state
 -- a `set-state` or an external test stands in an `init`
-Breaks names (SetState place span) (SetStateInInit line) = (line ≡ span.line) × (place ≡ at.Init)
-Breaks names (External place command period) (TestInInit line) = (line ≡ command.span.line) × (place ≡ at.Init)
+Breaks names (SetState half span) (SetStateInInit line) = (line ≡ span.line) × (half ≡ at.Init)
+Breaks names (External half command period) (TestInInit line) = (line ≡ command.span.line) × (half ≡ at.Init)
 -- a table's limit is passed
 Breaks names mention (TableFull line) = IsString (λ text. HasNoRoom names mention) line mention
 -- a name or a command is empty, too long or has a NUL
@@ -110,8 +110,8 @@ is_state (item.State name parts) = true
 is_state _ = false
 
 -- The fault that is told of a text's items: that there is no state, else the first rule that is broken, else the first unknown state.
-pub data IsRefused (items : List Item) : ResolveFault → Type 0 where
-  no_state : list_any is_state items ≡ false → IsRefused items (NoState 1)
-  broken : (fault : ResolveFault) → IsTrue (list_any is_state items) → FirstBroken no_names (mentions_of items) fault → IsRefused items fault
+pub data IsTreeRefused (items : List Item) : ResolveFault → Type 0 where
+  no_state : list_any is_state items ≡ false → IsTreeRefused items (NoState 1)
+  broken : (fault : ResolveFault) → IsTrue (list_any is_state items) → FirstBroken no_names (mentions_of items) fault → IsTreeRefused items fault
   unknown : (line : ℕ) → IsTrue (list_any is_state items) → AreSound no_names (mentions_of items)
-      → FirstUnknown (tables_of (mentions_of items)).states (mentions_of items) line → IsRefused items (UnknownState line)
+      → FirstUnknown (tables_of (mentions_of items)).states (mentions_of items) line → IsTreeRefused items (UnknownState line)

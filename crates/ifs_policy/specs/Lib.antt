@@ -1,7 +1,7 @@
 pub mod Mentions
 pub mod Tables
 pub mod Faults
-pub mod Placed
+pub mod Resolution
 pub mod Fits
 pub mod Texts
 pub mod Meaning

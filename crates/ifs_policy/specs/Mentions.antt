@@ -14,8 +14,8 @@ use Rattle.ifs_parse.specs.declared.tree.Item.TheVariants.{InitState, State, Alw
 use Rattle.ifs_parse.specs.declared.block.Statement.{Statement}
 use Rattle.ifs_policy.specs.declared.mention.Mention.{Mention}
 use Rattle.ifs_policy.specs.declared.mention.Mention.TheVariants as says
-use Rattle.ifs_policy.specs.declared.mention.Place.{Place}
-use Rattle.ifs_policy.specs.declared.mention.Place.TheVariants as at
+use Rattle.ifs_policy.specs.declared.mention.Half.{Half}
+use Rattle.ifs_policy.specs.declared.mention.Half.TheVariants as at
 use Rattle.ifs_policy.specs.declared.mention.Owner.{Owner}
 use Rattle.ifs_policy.specs.declared.mention.Owner.TheVariants as whose
 
@@ -24,27 +24,27 @@ abbrev pub Mentioned : Type 0
 Mentioned = Mention Name ℕ
 
 -- The mention that a single test makes.
-abbrev pub test_mention : Place → Test → Mentioned
-test_mention place (Link name state) = says.Interface name
-test_mention place (External command period) = says.External place command period
+abbrev pub test_mention : Half → Test → Mentioned
+test_mention half (Link name state) = says.Interface name
+test_mention half (External command period) = says.External half command period
 
 -- The mentions of a condition, from the left.
-abbrev pub condition_mentions : Place → tree.Condition Test → List Mentioned
-condition_mentions place (tree.Leaf test) = test_mention place test ∷ []
-condition_mentions place (tree.NotSo operand) = condition_mentions place operand
-condition_mentions place (tree.And left right) = condition_mentions place left ++ condition_mentions place right
-condition_mentions place (tree.Or left right) = condition_mentions place left ++ condition_mentions place right
+abbrev pub condition_mentions : Half → tree.Condition Test → List Mentioned
+condition_mentions half (tree.Leaf test) = test_mention half test ∷ []
+condition_mentions half (tree.NotSo operand) = condition_mentions half operand
+condition_mentions half (tree.And left right) = condition_mentions half left ++ condition_mentions half right
+condition_mentions half (tree.Or left right) = condition_mentions half left ++ condition_mentions half right
 
 -- The mentions of statements, in order.
-abbrev pub block_mentions : Place → tree.Block Test Name Wish → List Mentioned
-block_mentions place tree.Done = []
-block_mentions place (tree.RunThen command rest) = says.Command command ∷ block_mentions place rest
-block_mentions place (tree.WantThen wish rest) = says.SetState place wish.span ∷ says.Wanted wish.state ∷ block_mentions place rest
-block_mentions place (tree.IfThen condition inner rest) = condition_mentions place condition ++ (block_mentions place inner ++ block_mentions place rest)
+abbrev pub block_mentions : Half → tree.Block Test Name Wish → List Mentioned
+block_mentions half tree.Done = []
+block_mentions half (tree.RunThen command rest) = says.Command command ∷ block_mentions half rest
+block_mentions half (tree.WantThen wish rest) = says.SetState half wish.span ∷ says.Wanted wish.state ∷ block_mentions half rest
+block_mentions half (tree.IfThen condition inner rest) = condition_mentions half condition ++ (block_mentions half inner ++ block_mentions half rest)
 
 -- Those of one statement.
-abbrev pub statement_mentions : Place → Statement Test Name Wish → List Mentioned
-statement_mentions place statement = block_mentions place (statement_then statement tree.Done)
+abbrev pub statement_mentions : Half → Statement Test Name Wish → List Mentioned
+statement_mentions half statement = block_mentions half (statement_then statement tree.Done)
 
 -- The mentions of a part: an `init` with its block, or a statement of the body.
 abbrev pub part_mentions : Owner → Part → List Mentioned

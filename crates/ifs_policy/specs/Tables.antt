@@ -34,7 +34,7 @@ abbrev pub after : Names → Mentioned → Names
 after names (Interface name) =
     let tables = names.tables in
     record names { tables = record tables { interfaces = insert_key text_eq tables.interfaces name.text } }
-after names (External place command period) =
+after names (External half command period) =
     let tables = names.tables in
     record names { tables = record tables { tests = insert_key test_eq tables.tests (test_of command period) } }
 after names (Command text) =
@@ -47,7 +47,7 @@ after names (Wanted name) = names
 after names (Init Always span) = record names { always_init = true }
 after names (Init State span) = record names { state_init = true }
 after names (InitState span) = record names { init_state = true }
-after names (SetState place span) = names
+after names (SetState half span) = names
 
 -- The tables after mentions, from the left.
 abbrev pub names_after : Names → List Mentioned → Names

@@ -14,7 +14,7 @@ use Rattle.ifs_policy.specs.declared.front.PolicyFault.{PolicyFault}
 use Rattle.ifs_policy.specs.declared.front.PolicyFault.TheVariants.{Text, Tokens, Names, Memory}
 use Rattle.ifs_policy.specs.declared.policy.PolicyParts.{PolicyParts}
 use Rattle.ifs_policy.specs.Faults as names
-use Rattle.ifs_policy.specs.Placed.{Resolves}
+use Rattle.ifs_policy.specs.Resolution.{Resolves}
 
 -- A text says a file under the definitions that are given beside it: it spells tokens, which say the file.
 pub record SaysFile (text : List ℕ) (defs : List (List ℕ × List ℕ)) (file : File) : Type 0 where
@@ -51,5 +51,5 @@ of_names fault = Names fault
 abbrev pub IsTextRefused : List ℕ → List (List ℕ × List ℕ) → PolicyFault → Type 0
 IsTextRefused text defs (Text fault) = HasNoPolicy text defs × (lex.tokens_of text defs ≡ Err fault)
 IsTextRefused text defs (Tokens fault) = HasNoPolicy text defs × ((tokens : List Token) × lex.Spells text defs tokens × StopsAt tokens fault)
-IsTextRefused text defs (Names fault) = HasNoPolicy text defs × ((tokens : List Token) × (file : File) × lex.Spells text defs tokens × Says tokens file × names.IsRefused file.items fault)
+IsTextRefused text defs (Names fault) = HasNoPolicy text defs × ((tokens : List Token) × (file : File) × lex.Spells text defs tokens × Says tokens file × names.IsTreeRefused file.items fault)
 IsTextRefused text defs Memory = ⊥

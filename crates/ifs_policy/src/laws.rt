@@ -9,8 +9,8 @@ ghost use Rattle.ifs_parse.specs.Grammar.{IsSaid};
 ghost use Rattle.ifs_parse.specs.declared.tree.Item.{Item};
 ghost use Rattle.ifs_policy.specs.declared.fault.ResolveFault.{ResolveFault};
 ghost use Rattle.ifs_policy.specs.declared.policy.PolicyParts.{PolicyParts};
-ghost use Rattle.ifs_policy.specs.Faults.{IsRefused};
-ghost use Rattle.ifs_policy.specs.Placed.{Resolves};
+ghost use Rattle.ifs_policy.specs.Faults.{IsTreeRefused};
+ghost use Rattle.ifs_policy.specs.Resolution.{Resolves};
 ghost use Rattle.ifs_policy.specs.Fits.{PolicyFits};
 ghost use Rattle.ifs_policy.specs.Meaning.{body_yield, is_held, mentioned, reached, Block, IsHeld, Mentions};
 ghost use Rattle.ifs_policy.specs.Order.{InOrder};
@@ -23,8 +23,8 @@ pub fn one_policy()
 
 /// A tree that is refused has no policy, and there is one fault that stands first.
 pub fn one_refusal()
-    ensures none { (items : List Item) (fault : ResolveFault) → IsRefused items fault → (policy : PolicyParts) → ¬ Resolves items policy }
-    ensures one { (items : List Item) (fault other : ResolveFault) → IsRefused items fault → IsRefused items other → fault ≡ other }
+    ensures none { (items : List Item) (fault : ResolveFault) → IsTreeRefused items fault → (policy : PolicyParts) → ¬ Resolves items policy }
+    ensures one { (items : List Item) (fault other : ResolveFault) → IsTreeRefused items fault → IsTreeRefused items other → fault ≡ other }
 {}
 
 /// A tree has a policy exactly where its names keep the rules, which are said of the tree as a whole.

@@ -20,7 +20,7 @@ mod tables;
 
 pub use fault::ResolveFault;
 pub use front::{PolicyFault, PolicyText, policy_of};
-pub use mention::{Mention, Owner, Place};
+pub use mention::{Half, Mention, Owner};
 pub use names::Names;
 pub use policy::{Counts, Handlers, Policy, PolicyBlock, PolicyParts, Single};
 pub use resolving::resolve;

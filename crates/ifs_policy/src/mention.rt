@@ -9,9 +9,9 @@ use ifs_base::Span;
 use ifs_parse::{Action, Actions, Condition, Item, Name, Node, Part, Period, Statement, Test};
 use std::alloc::AllocError;
 
-/// Whether something stands in an `init` or in a body.
+/// The half of a part in which something stands: its `init` or its body.
 #[derive(Clone, Copy, Debug, PartialEq, Eq)]
-pub enum Place {
+pub enum Half {
     Init,
     Body,
 }
@@ -32,7 +32,7 @@ pub enum Mention<N, P> {
     /// The interface of a link test.
     Interface(N),
     /// The command of an external test, and its period.
-    External(Place, N, P),
+    External(Half, N, P),
     /// A command that is run.
     Command(N),
     /// The name that a state is defined by.
@@ -44,7 +44,7 @@ pub enum Mention<N, P> {
     /// `init-state`.
     InitState(Span),
     /// `set-state`.
-    SetState(Place, Span),
+    SetState(Half, Span),
 }
 
 /// The mentions of a tree, found so far.
@@ -85,11 +85,11 @@ fn mention_part<'a>(
     match part {
         Part::Init(span, block) => {
             mentions.push(Mention::Init(owner, *span))?;
-            mention_block(Place::Init, block, mentions)?;
+            mention_block(Half::Init, block, mentions)?;
             Ok(())
         }
         Part::Do(statement) => {
-            mention_statement(Place::Body, statement, mentions)?;
+            mention_statement(Half::Body, statement, mentions)?;
             Ok(())
         }
     }
@@ -98,14 +98,14 @@ fn mention_part<'a>(
 /// Adds the mentions of statements, in order.
 #[cycle(mention_block)]
 fn mention_block<'a>(
-    place: Place,
+    half: Half,
     block: &'a Actions,
     mentions: &mut Mentions<'a>,
 ) -> Result<(), AllocError>
-    ensures { OnOk result (map seen mentions.new.items ≡ map seen mentions.old.items ++ block_mentions place block.now) }
+    ensures { OnOk result (map seen mentions.new.items ≡ map seen mentions.old.items ++ block_mentions half block.now) }
 {
     for statement in block.statements() {
-        mention_statement(place, statement, mentions)?;
+        mention_statement(half, statement, mentions)?;
     }
     Ok(())
 }
@@ -113,11 +113,11 @@ fn mention_block<'a>(
 /// Adds the mentions of a statement.
 #[cycle(mention_block)]
 fn mention_statement<'a>(
-    place: Place,
+    half: Half,
     statement: &'a Action,
     mentions: &mut Mentions<'a>,
 ) -> Result<(), AllocError>
-    ensures { OnOk result (map seen mentions.new.items ≡ map seen mentions.old.items ++ statement_mentions place statement.now) }
+    ensures { OnOk result (map seen mentions.new.items ≡ map seen mentions.old.items ++ statement_mentions half statement.now) }
 {
     match statement {
         Statement::Run(command) => {
@@ -125,13 +125,13 @@ fn mention_statement<'a>(
             Ok(())
         }
         Statement::SetState(wish) => {
-            mentions.push(Mention::SetState(place, wish.span))?;
+            mentions.push(Mention::SetState(half, wish.span))?;
             mentions.push(Mention::Wanted(&wish.state))?;
             Ok(())
         }
         Statement::If(condition, block) => {
-            mention_condition(place, condition, mentions)?;
-            mention_block(place, block, mentions)?;
+            mention_condition(half, condition, mentions)?;
+            mention_block(half, block, mentions)?;
             Ok(())
         }
     }
@@ -139,11 +139,11 @@ fn mention_statement<'a>(
 
 /// Adds the mentions of a condition.
 fn mention_condition<'a>(
-    place: Place,
+    half: Half,
     condition: &'a Condition<Test>,
     mentions: &mut Mentions<'a>,
 ) -> Result<(), AllocError>
-    ensures { OnOk result (map seen mentions.new.items ≡ map seen mentions.old.items ++ condition_mentions place condition.now) }
+    ensures { OnOk result (map seen mentions.new.items ≡ map seen mentions.old.items ++ condition_mentions half condition.now) }
 {
     match condition.node() {
         Node::Leaf(Test::Link(name, _)) => {
@@ -151,18 +151,18 @@ fn mention_condition<'a>(
             Ok(())
         }
         Node::Leaf(Test::External(command, period)) => {
-            mentions.push(Mention::External(place, command, period))?;
+            mentions.push(Mention::External(half, command, period))?;
             Ok(())
         }
         Node::Not(operand) => {
-            mention_condition(place, operand, mentions)?;
+            mention_condition(half, operand, mentions)?;
             Ok(())
         }
         Node::All(first, second, rest) | Node::Any(first, second, rest) => {
-            mention_condition(place, first, mentions)?;
-            mention_condition(place, second, mentions)?;
+            mention_condition(half, first, mentions)?;
+            mention_condition(half, second, mentions)?;
             for operand in rest {
-                mention_condition(place, operand, mentions)?;
+                mention_condition(half, operand, mentions)?;
             }
             Ok(())
         }

@@ -9,7 +9,7 @@ ghost use Rattle.ifs_policy.specs.inner.Entries.{AllNoted, Enters, Filled, Noted
 ghost use Rattle.ifs_policy.specs.inner.Seen.{seen};
 
 use crate::fault::ResolveFault;
-use crate::mention::{Mention, Owner, Place};
+use crate::mention::{Half, Mention, Owner};
 use crate::table::Table;
 use crate::tables::{ExternalTest, Tables, test_of};
 use ifs_base::{Span, Text, limits};
@@ -74,7 +74,7 @@ impl Names {
             Mention::Interface(name) => {
                 enter_text(&mut self.tables.interfaces, limits::INTERFACES, name)
             }
-            Mention::External(place, command, period) => self.note_test(*place, command, **period),
+            Mention::External(half, command, period) => self.note_test(*half, command, **period),
             Mention::Command(text) => {
                 enter_text(&mut self.tables.commands, limits::COMMANDS, text)
             }
@@ -85,27 +85,22 @@ impl Names {
                 Owner::State => stand_once(&mut self.state_init, *span),
             },
             Mention::InitState(span) => stand_once(&mut self.init_state, *span),
-            Mention::SetState(place, span) => match place {
-                Place::Init => Err(ResolveFault::SetStateInInit { line: span.line }),
-                Place::Body => Ok(()),
+            Mention::SetState(half, span) => match half {
+                Half::Init => Err(ResolveFault::SetStateInInit { line: span.line }),
+                Half::Body => Ok(()),
             },
         }
     }
 
     /// Enters an external test, which stands in a body alone.
-    fn note_test(
-        &mut self,
-        place: Place,
-        command: &Name,
-        period: Period,
-    ) -> Result<(), ResolveFault>
-        ensures { Noted self.old (External place command.now period) result self.new }
+    fn note_test(&mut self, half: Half, command: &Name, period: Period) -> Result<(), ResolveFault>
+        ensures { Noted self.old (External half command.now period) result self.new }
     {
-        match place {
-            Place::Init => Err(ResolveFault::TestInInit {
+        match half {
+            Half::Init => Err(ResolveFault::TestInInit {
                 line: command.span.line,
             }),
-            Place::Body => enter_test(&mut self.tables.tests, command, period),
+            Half::Body => enter_test(&mut self.tables.tests, command, period),
         }
     }
 

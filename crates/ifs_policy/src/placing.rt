@@ -2,7 +2,7 @@
 
 ghost use Rattle.std.specs.Prelude.{◌≡◌, ◌≤◌, IfOk, length, map};
 ghost use Rattle.ifs_parse.specs.Views.{block_of, statement_then};
-ghost use Rattle.ifs_policy.specs.Placed.{always_of, body_in, init_in, initial_of, place_block, place_condition, place_in, place_part, place_single, place_states};
+ghost use Rattle.ifs_policy.specs.Resolution.{always_of, body_in, init_in, initial_of, place_block, place_condition, place_in, place_part, place_single, place_states};
 ghost use Rattle.ifs_policy.specs.inner.Sized.{IsSized, lent, place_statement};
 
 use crate::policy::{Handlers, PolicyBlock, Single};
@@ -220,7 +220,7 @@ fn initial_of(tables: &Tables, items: &[Item]) -> StateId
 
 /// The trees of a policy, by places.
 #[derive(Drop)]
-pub struct Placed {
+pub struct PolicyTrees {
     /// The state that it starts in.
     pub initial: StateId,
     /// What stands outside any state.
@@ -230,7 +230,11 @@ pub struct Placed {
 }
 
 /// What items say, by places in the tables of their names.
-pub fn place_items(alloc: Global, tables: &Tables, items: &[Item]) -> Result<Placed, AllocError>
+pub fn place_items(
+    alloc: Global,
+    tables: &Tables,
+    items: &[Item],
+) -> Result<PolicyTrees, AllocError>
     requires { IsSized tables.now }
     ensures initial { IfOk result (λ placed. placed.initial ≡ initial_of tables.now items.now) }
     ensures always { IfOk result (λ placed. placed.always ≡ place_part tables.now (always_of items.now)) }
@@ -240,7 +244,7 @@ pub fn place_items(alloc: Global, tables: &Tables, items: &[Item]) -> Result<Pla
     let always = always_of(alloc, items)?;
     let always = place_part(alloc, tables, always.as_slice())?;
     let states = Items::new(place_states(alloc, tables, items)?);
-    Ok(Placed {
+    Ok(PolicyTrees {
         initial,
         always,
         states,

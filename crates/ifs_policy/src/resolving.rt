@@ -5,8 +5,8 @@ ghost use Rattle.std.specs.List.{list_any};
 ghost use Rattle.ifs_policy.specs.declared.fault.ResolveFault.TheVariants.{Memory};
 ghost use Rattle.ifs_policy.specs.declared.policy.PolicyParts.{PolicyParts};
 ghost use Rattle.ifs_policy.specs.Mentions.{mentions_of};
-ghost use Rattle.ifs_policy.specs.Faults.{IsRefused, is_state};
-ghost use Rattle.ifs_policy.specs.Placed.{Resolves};
+ghost use Rattle.ifs_policy.specs.Faults.{IsTreeRefused, is_state};
+ghost use Rattle.ifs_policy.specs.Resolution.{Resolves};
 ghost use Rattle.ifs_policy.specs.Tables.{no_names};
 ghost use Rattle.ifs_policy.specs.inner.Entries.{IsFirst};
 ghost use Rattle.ifs_policy.specs.inner.Seen.{seen};
@@ -15,7 +15,7 @@ ghost use Rattle.ifs_policy.specs.inner.Walked.{Walked};
 use crate::fault::ResolveFault;
 use crate::mention::{Mentions, mention_item};
 use crate::names::Names;
-use crate::placing::{Placed, place_items};
+use crate::placing::{PolicyTrees, place_items};
 use crate::policy::{Policy, PolicyParts};
 use ifs_parse::{Item, Tree};
 use std::alloc::{AllocError, Global};
@@ -27,7 +27,7 @@ pub fn resolve(alloc: Global, tree: &Tree) -> Result<Policy, ResolveFault>
     // What is answered is the tree's policy.
     ensures policy { IfOk result (λ policy. Resolves tree.now.items policy) }
     // A fault other than want of memory is the first,
-    ensures refused { IfErr result (λ fault. fault ≢ Memory → IsRefused tree.now.items fault) }
+    ensures refused { IfErr result (λ fault. fault ≢ Memory → IsTreeRefused tree.now.items fault) }
     // and comes only where the tree has no policy.
     ensures none { IfErr result (λ fault. fault ≢ Memory → (policy : PolicyParts) → ¬ Resolves tree.now.items policy) }
 {
@@ -36,7 +36,7 @@ pub fn resolve(alloc: Global, tree: &Tree) -> Result<Policy, ResolveFault>
         return Err(ResolveFault::NoState { line: 1 });
     }
     let mut names = Names::new(alloc);
-    let Placed {
+    let PolicyTrees {
         initial,
         always,
         states,
@@ -50,7 +50,7 @@ pub fn resolve(alloc: Global, tree: &Tree) -> Result<Policy, ResolveFault>
 }
 
 /// Fills empty tables by the mentions of items, and places what the items say.
-fn walk(alloc: Global, names: &mut Names, items: &[Item]) -> Result<Placed, ResolveFault>
+fn walk(alloc: Global, names: &mut Names, items: &[Item]) -> Result<PolicyTrees, ResolveFault>
     requires { names.old ≡ no_names }
     ensures walked { IfOk result (λ placed. Walked items.now placed names.new) }
     ensures refused { IfErr result (λ fault. fault ≢ Memory → IsFirst no_names (mentions_of items.now) fault) }

@@ -7,10 +7,10 @@ use Rattle.ifs_policy.specs.declared.mention.Mention.TheVariants.{Interface, Ext
 
 abbrev pub seen : Mention (Bor Name) (Bor ℕ) → Mention Name ℕ
 seen (Interface name) = Interface name.now
-seen (External place name period) = External place name.now period.now
+seen (External half name period) = External half name.now period.now
 seen (Command name) = Command name.now
 seen (Defined name) = Defined name.now
 seen (Wanted name) = Wanted name.now
 seen (Init owner span) = Init owner span
 seen (InitState span) = InitState span
-seen (SetState place span) = SetState place span
+seen (SetState half span) = SetState half span

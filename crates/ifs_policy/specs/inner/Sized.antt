@@ -11,7 +11,7 @@ use Rattle.ifs_parse.specs.declared.tree.Test.{Test}
 use Rattle.ifs_parse.specs.declared.tree.Wish.{Wish}
 use Rattle.ifs_policy.specs.declared.policy.Single.{Single}
 use Rattle.ifs_policy.specs.declared.tables.Tables.{Tables}
-use Rattle.ifs_policy.specs.Placed.{place_command, place_state, place_condition, place_block}
+use Rattle.ifs_policy.specs.Resolution.{place_command, place_state, place_condition, place_block}
 
 pub record IsSized (tables : Tables) : Type 0 where
   pub interfaces : length tables.interfaces ≤ 64

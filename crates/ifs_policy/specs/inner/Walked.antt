@@ -2,13 +2,13 @@
 use Rattle.std.specs.Prelude.{◌≡◌, List}
 use Rattle.ifs_parse.specs.declared.tree.Item.{Item}
 use Rattle.ifs_policy.specs.declared.names.Names.{Names}
-use Rattle.ifs_policy.specs.declared.placing.Placed.{Placed}
+use Rattle.ifs_policy.specs.declared.placing.PolicyTrees.{PolicyTrees}
 use Rattle.ifs_policy.specs.Mentions.{mentions_of}
 use Rattle.ifs_policy.specs.Tables.{no_names, tables_of}
 use Rattle.ifs_policy.specs.Faults.{AreSound, AreKnown}
-use Rattle.ifs_policy.specs.Placed.{always_of, initial_of, place_part, place_states}
+use Rattle.ifs_policy.specs.Resolution.{always_of, initial_of, place_part, place_states}
 
-pub record Walked (items : List Item) (placed : Placed) (names : Names) : Type 0 where
+pub record Walked (items : List Item) (placed : PolicyTrees) (names : Names) : Type 0 where
   pub sound : AreSound no_names (mentions_of items)
   pub known : AreKnown (tables_of (mentions_of items)).states (mentions_of items)
   pub tables : names.tables ≡ tables_of (mentions_of items)

@@ -7,5 +7,5 @@ use Rattle.ifs_policy.proofs.mention.+mention_block.Goals as goal
 
 pub mention_block-returns : goal.mention_block-returns
 mention_block-returns t c =
-    let told = ap (block_mentions c.args.place) c.statements-statement-items.ensures.value ∙ statements_mentions c.args.place c.statements-statement-items.result.now in
+    let told = ap (block_mentions c.args.half) c.statements-statement-items.ensures.value ∙ statements_mentions c.args.half c.statements-statement-items.result.now in
     grind (arith, common_steps)

@@ -6,4 +6,4 @@ use Rattle.ifs_policy.specs.inner.Seen.{seen}
 use Rattle.ifs_policy.proofs.mention.+mention_block.Given as goal
 
 abbrev pub invariant-mention_block-loop-statement : goal.invariant-mention_block-loop-statement
-invariant-mention_block-loop-statement l = map seen l.mentions.items ≡ map seen l.initial.mentions.items ++ flat_map (statement_mentions l.place) (take l.statement-index l.statement-items)
+invariant-mention_block-loop-statement l = map seen l.mentions.items ≡ map seen l.initial.mentions.items ++ flat_map (statement_mentions l.half) (take l.statement-index l.statement-items)

@@ -10,13 +10,13 @@ use Rattle.ifs_policy.proofs.mention.+mention_condition.Goals as goal
 
 pub returns-after-loop-operand : goal.returns-after-loop-operand
 returns-after-loop-operand t c =
-    let told = condition_mentions c.args.place in
+    let told = condition_mentions c.args.half in
     let first = c.in-All.first.value in
     let second = c.in-All.second.value in
     let rest = c.in-All.rest.items in
     let chain : told c.args.condition.now ≡ told first ++ (told second ++ flat_map told rest) =
     elim c.in-All.is [
-      | inl e ↦ ap told (c.node.ensures.value ∙ ap condition_of e) ∙ all_mentions c.args.place (tree.And first second) rest ∙ append_assoc (told first) (told second) _
-      | inr e ↦ ap told (c.node.ensures.value ∙ ap condition_of e) ∙ any_mentions c.args.place (tree.Or first second) rest ∙ append_assoc (told first) (told second) _
+      | inl e ↦ ap told (c.node.ensures.value ∙ ap condition_of e) ∙ all_mentions c.args.half (tree.And first second) rest ∙ append_assoc (told first) (told second) _
+      | inr e ↦ ap told (c.node.ensures.value ∙ ap condition_of e) ∙ any_mentions c.args.half (tree.Or first second) rest ∙ append_assoc (told first) (told second) _
     ] in
     grind (arith, common_steps)

@@ -1,7 +1,7 @@
 use Rattle.std.proofs.Common.{◌++◌, ◌∷◌, [], map, ap, ◌∙◌, append_assoc}
 use Rattle.std.proofs.lemmas.List.{map-append}
 use Rattle.ifs_policy.specs.Mentions.{block_mentions}
-use Rattle.ifs_policy.specs.declared.mention.Place.TheVariants as at
+use Rattle.ifs_policy.specs.declared.mention.Half.TheVariants as at
 use Rattle.ifs_policy.specs.declared.mention.Mention.TheVariants as says
 use Rattle.ifs_policy.specs.inner.Seen.{seen}
 use Rattle.ifs_policy.proofs.mention.mention_part.Goals as goal

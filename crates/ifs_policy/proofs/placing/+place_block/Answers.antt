@@ -1,7 +1,7 @@
 -- The placed statements are those of the placed block.
 use Rattle.std.proofs.Common.{ap, ◌∙◌, arith}
 use Rattle.std.proofs.lemmas.Grind.{common_steps}
-use Rattle.ifs_policy.specs.Placed.{place_block}
+use Rattle.ifs_policy.specs.Resolution.{place_block}
 use Rattle.ifs_policy.proofs.Places.{place_statements}
 use Rattle.ifs_policy.proofs.placing.+place_block.Goals as goal
 

@@ -4,7 +4,7 @@ use Rattle.std.proofs.lemmas.Grind.{common_steps}
 use Rattle.ifs_parse.specs.Trees as tree
 use Rattle.ifs_parse.specs.Trees.{condition_size}
 use Rattle.ifs_parse.specs.Views.{condition_of, OperandsBelow}
-use Rattle.ifs_policy.specs.Placed.{place_condition}
+use Rattle.ifs_policy.specs.Resolution.{place_condition}
 use Rattle.ifs_policy.proofs.Places.{greatest, below_greatest, greatest_below, place_all, place_any}
 use Rattle.ifs_policy.proofs.placing.+place_condition.Goals as goal
 

@@ -1,7 +1,7 @@
 -- A chain's operands are smaller than it; those so far are placed.
 use Rattle.std.proofs.Common.{◌≡◌, ◌+◌, ◌*◌, map, take}
 use Rattle.ifs_parse.specs.Trees.{condition_size}
-use Rattle.ifs_policy.specs.Placed.{place_condition}
+use Rattle.ifs_policy.specs.Resolution.{place_condition}
 use Rattle.ifs_policy.proofs.Places.{greatest}
 use Rattle.ifs_policy.proofs.placing.+place_condition.Given as goal
 

@@ -1,6 +1,6 @@
 -- What stands outside any state is lent, of the items so far.
 use Rattle.std.proofs.Common.{◌≡◌, ◌++◌, drop}
-use Rattle.ifs_policy.specs.Placed.{always_of}
+use Rattle.ifs_policy.specs.Resolution.{always_of}
 use Rattle.ifs_policy.specs.inner.Sized.{lent}
 use Rattle.ifs_policy.proofs.placing.always_of.Given as goal
 

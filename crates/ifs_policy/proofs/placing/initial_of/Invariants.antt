@@ -1,6 +1,6 @@
 -- No `init-state` stands in the items so far.
 use Rattle.std.proofs.Common.{◌≡◌, drop}
-use Rattle.ifs_policy.specs.Placed.{initial_of}
+use Rattle.ifs_policy.specs.Resolution.{initial_of}
 use Rattle.ifs_policy.proofs.placing.initial_of.Given as goal
 
 abbrev pub invariant-loop-item : goal.invariant-loop-item

@@ -1,7 +1,7 @@
 -- The placed statements are those of the placed body.
 use Rattle.std.proofs.Common.{ap, ◌∙◌, arith}
 use Rattle.std.proofs.lemmas.Grind.{common_steps}
-use Rattle.ifs_policy.specs.Placed.{place_block}
+use Rattle.ifs_policy.specs.Resolution.{place_block}
 use Rattle.ifs_policy.specs.inner.Sized.{lent}
 use Rattle.ifs_policy.proofs.Places.{body_is, place_statements, statements_in}
 use Rattle.ifs_policy.proofs.placing.place_body.Goals as goal

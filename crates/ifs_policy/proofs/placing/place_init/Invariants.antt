@@ -1,6 +1,6 @@
 -- No `init` stands in the parts so far.
 use Rattle.std.proofs.Common.{◌≡◌, drop}
-use Rattle.ifs_policy.specs.Placed.{init_in}
+use Rattle.ifs_policy.specs.Resolution.{init_in}
 use Rattle.ifs_policy.specs.inner.Sized.{lent}
 use Rattle.ifs_policy.proofs.placing.place_init.Given as goal
 

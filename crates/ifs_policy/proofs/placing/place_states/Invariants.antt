@@ -1,6 +1,6 @@
 -- The states of the items so far are placed.
 use Rattle.std.proofs.Common.{◌≡◌, ◌++◌, drop}
-use Rattle.ifs_policy.specs.Placed.{place_states}
+use Rattle.ifs_policy.specs.Resolution.{place_states}
 use Rattle.ifs_policy.proofs.placing.place_states.Given as goal
 
 abbrev pub invariant-loop-item : goal.invariant-loop-item

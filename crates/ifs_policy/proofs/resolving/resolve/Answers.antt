@@ -3,7 +3,7 @@ use Rattle.std.proofs.Common.{◌≢◌, List, ap, sym, subst, ◌∙◌}
 use Rattle.std.proofs.lemmas.Result.{err_from_is_err_and}
 use Rattle.std.specs.List.{list_any}
 use Rattle.ifs_policy.specs.declared.fault.ResolveFault.TheVariants.{Memory}
-use Rattle.ifs_policy.specs.Faults.{IsRefused, is_state, no_state}
+use Rattle.ifs_policy.specs.Faults.{IsTreeRefused, is_state, no_state}
 use Rattle.ifs_parse.specs.declared.tree.Item.{Item}
 use Rattle.ifs_policy.specs.Mentions.{mentions_of}
 use Rattle.ifs_policy.specs.Tables.{no_names}
@@ -24,7 +24,7 @@ returns-in_err-initial-clause-refused c =
     let p = err_from_is_err_and c.from_residual.result c.from_residual.ensures.1 in
     rw p.1 (λ other.
     let first = c.in_err-initial.ensures.refused (subst (λ f. f ≢ Memory) p.2 other) in
-    subst (IsRefused items) (sym p.2) (first_is_refused items fault some (subst (λ (l : List Item). IsFirst no_names (mentions_of l) fault) c.items-items.ensures.items first)))
+    subst (IsTreeRefused items) (sym p.2) (first_is_refused items fault some (subst (λ (l : List Item). IsFirst no_names (mentions_of l) fault) c.items-items.ensures.items first)))
 
 pub returns-in_err-initial-clause-none : goal.returns-in_err-initial-clause-none
 returns-in_err-initial-clause-none c =
