@@ -14,7 +14,7 @@ use Rattle.ifs_verify.specs.Accepted.{IsAccepted}
 use Rattle.ifs_gen.specs.Trees.{Part, Policy}
 use Rattle.ifs_policy.specs.Meaning.{mentioned}
 use Rattle.ifs_gen.specs.PlainCode.{plain_coder, body_code, init_code, block_runs}
-use Rattle.ifs_gen.specs.PlainImage.{image_with, least_budgets, tests_in, parts_of, mask_in, handlers_of, greatest, room_of, init_length, body_length, part_height, plain_image, RoutinesFit, CodeFits}
+use Rattle.ifs_gen.specs.PlainImage.{image_with, least_budgets, test_count, parts_of, mask_in, handlers_of, greatest, room_of, init_length, body_length, part_height, plain_image, RoutinesFit, CodeFits}
 use Rattle.ifs_policy.specs.Fits.{PolicyFits}
 use Rattle.ifs_gen.specs.Acceptance.{PlainIsAccepted}
 use Rattle.ifs_policy.specs.Fits as fits
@@ -30,7 +30,7 @@ module _ (policy : Policy) (is : PolicyFits policy) (budgets : Budgets) where
   image = image_with budgets policy
 
   abbrev pub count : ℕ
-  count = tests_in policy
+  count = test_count policy
 
   pub tests_long : length image.tests ≡ count
   tests_long = length-map policy.tables.tests _
@@ -93,7 +93,7 @@ module _ (policy : Policy) (is : PolicyFits policy) (code : CodeFits policy) whe
   plain = plain_image policy
 
   abbrev counted : ℕ
-  counted = tests_in policy
+  counted = test_count policy
 
   abbrev all_good : EachGood plain plain.routines
   all_good = good policy is stated

@@ -13,7 +13,7 @@ use Rattle.ifs_parse.specs.Views.{all_of, any_of, block_of, statement_then}
 use Rattle.ifs_parse.specs.declared.block.Statement.{Statement}
 use Rattle.ifs_parse.specs.declared.block.Statement.TheVariants.{Run, SetState, If}
 use Rattle.ifs_gen.specs.Trees.{Single, Condition, Block}
-use Rattle.ifs_gen.specs.PlainCode.{plain_coder, condition_code, block_code, block_size, held_code}
+use Rattle.ifs_gen.specs.PlainCode.{plain_coder, condition_code, block_code, code_size, held_code}
 use Rattle.ifs_gen.specs.inner.Emission.{statement_code, statement_size}
 use Rattle.ifs_gen.proofs.Simulation.{condition_sized, block_sized}
 
@@ -36,35 +36,35 @@ then_code place (Run command) rest = refl
 then_code place (SetState state) rest = refl
 then_code place (If c inner) rest =
     let from = place + plain_coder.size c + 1 in
-    let past = from + block_size plain_coder inner in
+    let past = from + code_size plain_coder inner in
     let codes = block_code plain_coder from inner in
-    let same : past ≡ place + (plain_coder.size c + 1 + block_size plain_coder inner + 0) = omega arith in
+    let same : past ≡ place + (plain_coder.size c + 1 + code_size plain_coder inner + 0) = omega arith in
     ap (λ xs. plain_coder.code c ++ (JumpFalse past ∷ (xs ++ block_code plain_coder past rest))) (sym (append-nil codes))
     ∙ ap (λ xs. plain_coder.code c ++ (JumpFalse past ∷ xs)) refl
     ∙ sym (append_assoc (plain_coder.code c) (JumpFalse past ∷ (codes ++ [])) (block_code plain_coder past rest))
     ∙ ap (λ p. (plain_coder.code c ++ (JumpFalse past ∷ (codes ++ []))) ++ block_code plain_coder p rest) same
 
-then_size : (statement : Statement Single CommandId StateId) (rest : Block) → block_size plain_coder (statement_then statement rest) ≡ statement_size statement + block_size plain_coder rest
+then_size : (statement : Statement Single CommandId StateId) (rest : Block) → code_size plain_coder (statement_then statement rest) ≡ statement_size statement + code_size plain_coder rest
 then_size (Run command) rest = refl
 then_size (SetState state) rest = refl
 then_size (If c inner) rest = omega arith
 
 -- statements in two lists
 of_append : (place : ℕ) (xs ys : List (Statement Single CommandId StateId)) → block_code plain_coder place (block_of (xs ++ ys))
-    ≡ block_code plain_coder place (block_of xs) ++ block_code plain_coder (place + block_size plain_coder (block_of xs)) (block_of ys)
+    ≡ block_code plain_coder place (block_of xs) ++ block_code plain_coder (place + code_size plain_coder (block_of xs)) (block_of ys)
 of_append place [] ys = let same : place ≡ place + 0 = omega arith in ap (λ p. block_code plain_coder p (block_of ys)) same
 of_append place (x ∷ xs) ys =
     let next = place + statement_size x in
     let size = then_size x (block_of xs) in
-    let same : next + block_size plain_coder (block_of xs) ≡ place + block_size plain_coder (statement_then x (block_of xs)) = omega (arith, size) in
+    let same : next + code_size plain_coder (block_of xs) ≡ place + code_size plain_coder (statement_then x (block_of xs)) = omega (arith, size) in
     then_code place x (block_of (xs ++ ys))
     ∙ ap (λ c. statement_code place x ++ c) (of_append next xs ys)
-    ∙ sym (append_assoc (statement_code place x) (block_code plain_coder next (block_of xs)) (block_code plain_coder (next + block_size plain_coder (block_of xs)) (block_of ys)))
-    ∙ ap (λ c. c ++ block_code plain_coder (next + block_size plain_coder (block_of xs)) (block_of ys)) (sym (then_code place x (block_of xs)))
+    ∙ sym (append_assoc (statement_code place x) (block_code plain_coder next (block_of xs)) (block_code plain_coder (next + code_size plain_coder (block_of xs)) (block_of ys)))
+    ∙ ap (λ c. c ++ block_code plain_coder (next + code_size plain_coder (block_of xs)) (block_of ys)) (sym (then_code place x (block_of xs)))
     ∙ ap (λ p. block_code plain_coder place (block_of (x ∷ xs)) ++ block_code plain_coder p (block_of ys)) same
 
-pub of_size : (xs ys : List (Statement Single CommandId StateId)) → block_size plain_coder (block_of (xs ++ ys)) ≡ block_size plain_coder (block_of xs) + block_size plain_coder (block_of ys)
-of_size [] ys = let same : block_size plain_coder (block_of ys) ≡ 0 + block_size plain_coder (block_of ys) = omega arith in same
+pub of_size : (xs ys : List (Statement Single CommandId StateId)) → code_size plain_coder (block_of (xs ++ ys)) ≡ code_size plain_coder (block_of xs) + code_size plain_coder (block_of ys)
+of_size [] ys = let same : code_size plain_coder (block_of ys) ≡ 0 + code_size plain_coder (block_of ys) = omega arith in same
 of_size (x ∷ xs) ys =
     let e = then_size x (block_of (xs ++ ys)) in
     let f = then_size x (block_of xs) in
@@ -72,7 +72,7 @@ of_size (x ∷ xs) ys =
     omega (arith, e, f, h)
 
 pub if_room : (old mid next : List Op) (s : Statement Single CommandId StateId) (c : Condition) (inner : Block) (op : Op) → s ≡ If c inner → mid ≡ old ++ condition_code c → next ≡ mid ++ op ∷ []
-    → length old + statement_size s < 2 ^ 16 → length next + block_size plain_coder inner < 2 ^ 16
+    → length old + statement_size s < 2 ^ 16 → length next + code_size plain_coder inner < 2 ^ 16
 if_room old mid next s c inner op is mid_is next_is room =
     let a = ap length mid_is ∙ length-append old (condition_code c) in
     let b = ap length next_is ∙ length-append mid (op ∷ []) in
@@ -81,7 +81,7 @@ if_room old mid next s c inner op is mid_is next_is room =
     omega (arith, a, b, size, sized, room)
 
 pub if_fits : (next all : List Op) (inner : Block) (len : ℕ) → all ≡ next ++ block_code plain_coder (length next) inner → len ≡ length all
-    → length next + block_size plain_coder inner < 2 ^ 16 → len < 2 ^ 16
+    → length next + code_size plain_coder inner < 2 ^ 16 → len < 2 ^ 16
 if_fits next all inner len all_is len_is room =
     let a = ap length all_is ∙ length-append next (block_code plain_coder (length next) inner) in
     let sized = block_sized plain_coder condition_sized (length next) inner in
@@ -96,7 +96,7 @@ pub if_code : (old mid next all : List Op) (s : Statement Single CommandId State
     → slice_set all jump (JumpFalse len) ≡ old ++ statement_code (length old) s
 if_code old mid next all s c inner jump len is mid_is jump_is next_is all_is len_is =
     let from = length old + plain_coder.size c + 1 in
-    let past = from + block_size plain_coder inner in
+    let past = from + code_size plain_coder inner in
     let codes = block_code plain_coder (length next) inner in
     let a = ap length mid_is ∙ length-append old (condition_code c) in
     let b = ap length next_is ∙ length-append mid (JumpFalse 0 ∷ []) in
@@ -120,29 +120,29 @@ split_at items i = sym (take-append-drop i items)
 
 -- a statement is no larger than its block, and a block smaller than its statement
 pub item_within : (block : Block) (items : List (Statement Single CommandId StateId)) (i : ℕ) (item : Statement Single CommandId StateId) → block ≡ block_of items
-    → i < length items → item ≡ get_or items i item → statement_size item ≤ block_size plain_coder block
+    → i < length items → item ≡ get_or items i item → statement_size item ≤ code_size plain_coder block
 item_within block items i item block_is lt at =
     let rest = drop-cons items i item lt in
-    let whole = ap (λ xs. block_size plain_coder (block_of xs)) (split_at items i) ∙ of_size (take i items) (drop i items) in
-    let tail = ap (λ xs. block_size plain_coder (block_of xs)) rest ∙ then_size (get_or items i item) (block_of (drop (suc i) items)) in
+    let whole = ap (λ xs. code_size plain_coder (block_of xs)) (split_at items i) ∙ of_size (take i items) (drop i items) in
+    let tail = ap (λ xs. code_size plain_coder (block_of xs)) rest ∙ then_size (get_or items i item) (block_of (drop (suc i) items)) in
     let same = ap statement_size at in
-    let all = ap (block_size plain_coder) block_is in
+    let all = ap (code_size plain_coder) block_is in
     omega (arith, whole, tail, same, all)
 
-pub inner_within : (s : Statement Single CommandId StateId) (c : Condition) (inner : Block) → s ≡ If c inner → block_size plain_coder inner + 1 ≤ statement_size s
+pub inner_within : (s : Statement Single CommandId StateId) (c : Condition) (inner : Block) → s ≡ If c inner → code_size plain_coder inner + 1 ≤ statement_size s
 inner_within s c inner is = let size = ap statement_size is in omega (arith, size)
 
 pub loop_room : (old now : List Op) (block : Block) (items : List (Statement Single CommandId StateId)) (i : ℕ) (item : Statement Single CommandId StateId) → block ≡ block_of items
     → i < length items → item ≡ get_or items i item → now ≡ old ++ block_code plain_coder (length old) (block_of (take i items))
-    → length old + block_size plain_coder block < 2 ^ 16 → length now + statement_size item < 2 ^ 16
+    → length old + code_size plain_coder block < 2 ^ 16 → length now + statement_size item < 2 ^ 16
 loop_room old now block items i item block_is lt at now_is room =
     let rest = drop-cons items i item lt in
     let a = ap length now_is ∙ length-append old (block_code plain_coder (length old) (block_of (take i items))) in
     let sized = block_sized plain_coder condition_sized (length old) (block_of (take i items)) in
-    let whole = ap (λ xs. block_size plain_coder (block_of xs)) (split_at items i) ∙ of_size (take i items) (drop i items) in
-    let tail = ap (λ xs. block_size plain_coder (block_of xs)) rest ∙ then_size (get_or items i item) (block_of (drop (suc i) items)) in
+    let whole = ap (λ xs. code_size plain_coder (block_of xs)) (split_at items i) ∙ of_size (take i items) (drop i items) in
+    let tail = ap (λ xs. code_size plain_coder (block_of xs)) rest ∙ then_size (get_or items i item) (block_of (drop (suc i) items)) in
     let same = ap statement_size at in
-    let all = ap (block_size plain_coder) block_is in
+    let all = ap (code_size plain_coder) block_is in
     omega (arith, a, sized, whole, tail, same, all, room)
 
 pub loop_next : (old now next : List Op) (items : List (Statement Single CommandId StateId)) (i : ℕ) (item : Statement Single CommandId StateId)
@@ -153,7 +153,7 @@ loop_next old now next items i item lt at now_is next_is =
     let codes = block_code plain_coder (length old) (block_of front) in
     let a = ap length now_is ∙ length-append old codes in
     let sized = block_sized plain_coder condition_sized (length old) (block_of front) in
-    let place : length now ≡ length old + block_size plain_coder (block_of front) = omega (arith, a, sized) in
+    let place : length now ≡ length old + code_size plain_coder (block_of front) = omega (arith, a, sized) in
     let more = take_more items i item lt ∙ ap (λ x. front ++ x ∷ []) (sym at) in
     next_is ∙ ap (λ xs. xs ++ statement_code (length now) item) now_is
     ∙ append_assoc old codes (statement_code (length now) item)
@@ -184,7 +184,7 @@ held_long end [] = refl
 held_long end (test ∷ tests) = let h = held_long end tests in omega (arith, h)
 
 pub held_room : (end : ℕ) (now : List Op) (tests : List TestId) (i : ℕ) (body : Block) → length tests ≤ i → now ≡ held_code end (take i tests)
-    → end ≡ 2 * length tests + block_size plain_coder body → end < 1024 → length now + block_size plain_coder body < 2 ^ 16
+    → end ≡ 2 * length tests + code_size plain_coder body → end < 1024 → length now + code_size plain_coder body < 2 ^ 16
 held_room end now tests i body le now_is end_is room =
     let all = ap length (now_is ∙ ap (held_code end) (take_past tests i le)) in
     let long = held_long end tests in

@@ -17,8 +17,8 @@ use Rattle.ifs_gen.specs.declared.fault.GenFault.{GenFault}
 use Rattle.ifs_gen.specs.declared.fault.GenFault.TheVariants.{Memory}
 use Rattle.ifs_gen.specs.Trees.{Part, External, Policy}
 use Rattle.ifs_gen.specs.PlainCode.{plain_coder, init_code, body_code, tests_below}
-use Rattle.ifs_gen.specs.PlainImage.{tests_in, parts_of, test_spec, routine_of_code, RoutinesFit, mask_of, handlers_of, states_from, routines_of, least_budgets, CodeFits}
-use Rattle.ifs_gen.specs.Refused.{IsPassed, IsRefused}
+use Rattle.ifs_gen.specs.PlainImage.{test_count, parts_of, test_spec, routine_of_code, RoutinesFit, mask_of, handlers_of, states_from, routines_of, least_budgets, CodeFits}
+use Rattle.ifs_gen.specs.Refused.{IsPassed, PassesFirst}
 use Rattle.ifs_gen.specs.inner.Amounts.{numbers_of, measured, event_in, budgets_in, AreFine}
 use Rattle.ifs_gen.proofs.Images.{mask_below}
 use Rattle.ifs_gen.proofs.Totals.{code_fits, least, passed}
@@ -85,22 +85,22 @@ routines_next count parts start now next i part is at more =
 pub record Told (policy : Policy) (r : Result Budgets GenFault) : Type 0 where
   pub budgets : IfOk r (λ budgets. budgets ≡ least_budgets policy)
   pub fits : OnOk r (CodeFits policy)
-  pub refused : IfErr r (λ fault. fault ≢ Memory → IsRefused policy fault)
+  pub refused : IfErr r (λ fault. fault ≢ Memory → PassesFirst policy fault)
 
-at_policy : (policy : Policy) (r : Result Budgets GenFault) → (let ms = map (measured (tests_in policy)) (parts_of policy) in
+at_policy : (policy : Policy) (r : Result Budgets GenFault) → (let ms = map (measured (test_count policy)) (parts_of policy) in
     OnOk r (AreFine ms policy.initial.0) → IfOk r (λ budgets. budgets ≡ budgets_in ms policy.initial.0)
     → IfErr r (λ fault. IsPassed (numbers_of Size ms) (numbers_of Height ms) (event_in Runs ms policy.initial.0) fault) → Told policy r)
 at_policy policy (Ok b) fine is over = record { budgets = is ∙ least policy fine; fits = code_fits policy fine; refused = tt }
 at_policy policy (Err f) fine is over = record { budgets = tt; fits = tt; refused = λ other. passed policy f over }
 
-pub told : (policy : Policy) (r : Result Budgets GenFault) (ms : List PartMeasure) (initial : ℕ) → ms ≡ map (measured (tests_in policy)) (parts_of policy) → initial ≡ policy.initial.0
+pub told : (policy : Policy) (r : Result Budgets GenFault) (ms : List PartMeasure) (initial : ℕ) → ms ≡ map (measured (test_count policy)) (parts_of policy) → initial ≡ policy.initial.0
     → OnOk r (AreFine ms initial) → IfOk r (λ budgets. budgets ≡ budgets_in ms initial)
     → IfErr r (λ fault. IsPassed (numbers_of Size ms) (numbers_of Height ms) (event_in Runs ms initial) fault) → Told policy r
 told policy r ms initial ms_is initial_is fine is over =
     at_policy policy r
-    (subst (λ n. OnOk r (AreFine (map (measured (tests_in policy)) (parts_of policy)) n)) initial_is (subst (λ l. OnOk r (AreFine l initial)) ms_is fine))
-    (subst (λ n. IfOk r (λ budgets. budgets ≡ budgets_in (map (measured (tests_in policy)) (parts_of policy)) n)) initial_is (subst (λ l. IfOk r (λ budgets. budgets ≡ budgets_in l initial)) ms_is is))
-    (subst (λ n. IfErr r (λ fault. IsPassed (numbers_of Size (map (measured (tests_in policy)) (parts_of policy))) (numbers_of Height (map (measured (tests_in policy)) (parts_of policy))) (event_in Runs (map (measured (tests_in policy)) (parts_of policy)) n) fault)) initial_is
+    (subst (λ n. OnOk r (AreFine (map (measured (test_count policy)) (parts_of policy)) n)) initial_is (subst (λ l. OnOk r (AreFine l initial)) ms_is fine))
+    (subst (λ n. IfOk r (λ budgets. budgets ≡ budgets_in (map (measured (test_count policy)) (parts_of policy)) n)) initial_is (subst (λ l. IfOk r (λ budgets. budgets ≡ budgets_in l initial)) ms_is is))
+    (subst (λ n. IfErr r (λ fault. IsPassed (numbers_of Size (map (measured (test_count policy)) (parts_of policy))) (numbers_of Height (map (measured (test_count policy)) (parts_of policy))) (event_in Runs (map (measured (test_count policy)) (parts_of policy)) n) fault)) initial_is
     (subst (λ l. IfErr r (λ fault. IsPassed (numbers_of Size l) (numbers_of Height l) (event_in Runs l initial) fault)) ms_is over))
 
 pub set_64 : (count : ℕ) (xs tests : List TestId) → count ≤ 64 → tests ≡ tests_below count xs → mask_of tests < 2 ^ 64
@@ -115,6 +115,6 @@ at_index [] i d x lt e = absurd (omega (arith, lt))
 at_index (y ∷ xs) zero d x lt e = ap (λ z. Some z) (sym e)
 at_index (y ∷ xs) (suc i) d x lt e = at_index xs i d x (omega (arith, lt)) e
 
-pub states_fit : (policy : Policy) (count : ℕ) (states : List Part) → All (RoutinesFit (tests_in policy)) (parts_of policy) → count ≡ tests_in policy → states ≡ policy.states → All (RoutinesFit count) states
+pub states_fit : (policy : Policy) (count : ℕ) (states : List Part) → All (RoutinesFit (test_count policy)) (parts_of policy) → count ≡ test_count policy → states ≡ policy.states → All (RoutinesFit count) states
 states_fit policy count states fits is same =
-    subst (λ n. All (RoutinesFit n) states) (sym is) (subst (All (RoutinesFit (tests_in policy))) (sym same) (All-tail (RoutinesFit (tests_in policy)) policy.always policy.states fits))
+    subst (λ n. All (RoutinesFit n) states) (sym is) (subst (All (RoutinesFit (test_count policy))) (sym same) (All-tail (RoutinesFit (test_count policy)) policy.always policy.states fits))

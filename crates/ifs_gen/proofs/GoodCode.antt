@@ -8,7 +8,8 @@ use Rattle.ifs_image.specs.declared.parts.ImageParts.{ImageParts}
 use Rattle.ifs_verify.specs.Bounds.{cost_of, commands_of}
 use Rattle.ifs_gen.specs.Trees.{LinkIs, TestIs, Condition, Leaf, NotSo, And, Or, Block, Done, RunThen, WantThen, IfThen}
 use Rattle.ifs_policy.specs.Meaning.{mentioned}
-use Rattle.ifs_gen.specs.PlainCode.{plain_coder, condition_code, condition_size, block_code, block_size, block_height, block_runs, held_code, holding, body_start, body_end, body_code, init_code, body_size, init_size}
+use Rattle.ifs_parse.specs.Trees.{condition_size}
+use Rattle.ifs_gen.specs.PlainCode.{plain_coder, condition_code, block_code, code_size, block_height, block_runs, held_code, holding, body_start, body_end, body_code, init_code, body_size, init_size}
 use Rattle.ifs_gen.specs.PlainImage.{routine_of_code}
 use Rattle.ifs_policy.specs.Fits.{BlockFits}
 use Rattle.ifs_gen.specs.Runs.{image_sizes}
@@ -47,7 +48,7 @@ module _ (image : ImageParts) (block : Block) (fits : BlockFits (image_sizes ima
   -- an init is good
   pub init_good : (good : IsGood image (routine_of_code (init_code plain_coder block))) × (good.height ≡ high)
   init_good =
-      let end = block_size plain_coder block in
+      let end = code_size plain_coder block in
       let ks = block_kinds block ++ [] ∷ [] in
       let has = has_listed image high end [] ks in
       let own = kinds_left image (listed ks) high end 0 (block_kinds block) ([] ∷ []) has in
@@ -145,7 +146,7 @@ block_queues place (RunThen n rest) = let h = block_queues (place + 2) rest in o
 block_queues place (WantThen n rest) = let h = block_queues (place + 2) rest in omega (arith, h)
 block_queues place (IfThen c inner rest) =
     let from = place + condition_size c + 1 in
-    let past = from + block_size plain_coder inner in
+    let past = from + code_size plain_coder inner in
     let e = amount_append commands_of (condition_code c) (JumpFalse past ∷ (block_code plain_coder from inner ++ block_code plain_coder past rest)) in
     let f = amount_append commands_of (block_code plain_coder from inner) (block_code plain_coder past rest) in
     omega (arith, e, f, condition_queues c, block_queues from inner, block_queues past rest)

@@ -13,11 +13,11 @@ use Rattle.ifs_machine.specs.Table.{Ended, FramesFull, StackFull, WrongResults, 
 use Rattle.ifs_machine.specs.Run.{next, after, begin, RunsTo, AreFactsOf}
 use Rattle.ifs_gen.specs.Trees.{Block}
 use Rattle.ifs_policy.specs.Meaning.{has_a_value, mentioned, is_open, is_held, reached, body_yield, init_yield}
-use Rattle.ifs_gen.specs.PlainCode.{Coder, held_code, holding, body_start, body_end, body_code, init_code, block_code, block_size}
+use Rattle.ifs_gen.specs.PlainCode.{Coder, held_code, holding, body_start, body_end, body_code, init_code, block_code, code_size}
 use Rattle.ifs_gen.specs.Runs.{image_sizes, HasAt, Point, point, stands, Leads, Computes, block_cost, held_cost, body_cost, init_cost, IsHandlerOf, HandlersDo}
 use Rattle.ifs_gen.proofs.Rows.{entry_at, unless_fits, has_all, has_left, has_right, followed_nothing, no_rows, then_leads, as_told, at_place, one_row, jump_row}
 use Rattle.ifs_gen.proofs.Simulation.{block_sized, block_leads}
-use Rattle.ifs_gen.proofs.Mentions.{EachBelow, each_below, alike_below, block_mentions, HasRoomFor, room_any, body_room}
+use Rattle.ifs_gen.proofs.Mentions.{EachBelow, each_below, alike_below, block_tests_below, HasRoomFor, room_any, body_room}
 
 known_value : (v : Option Bool) → is_some v ≡ has_a_value (Some v)
 known_value None = refl
@@ -83,10 +83,10 @@ module _ (image : ImageParts) (facts : Facts) (coder : Coder) (given : AreFactsO
         let code = code_of image routine in
         let has = subst (λ c. HasAt c 0 (init_code coder block)) (sym h.listed) (has_all [] (init_code coder block)) in
         let size = block_sized coder computes.sized 0 block in
-        let ret = has_right code 0 (block_code coder 0 block) (Ret ∷ []) (0 + block_size coder block) (omega (arith, size)) has in
+        let ret = has_right code 0 (block_code coder 0 block) (Ret ∷ []) (0 + code_size coder block) (omega (arith, size)) has in
         let stack = h.stack in
         let runs = block_leads image facts coder computes routine [] block 0 [] before h.fits (has_left code 0 (block_code coder 0 block) (Ret ∷ []) has) (omega (arith, stack)) h.commands in
-        ends (0 + block_size coder block) (block_cost coder facts block) before (followed before (reached facts block)) h.results h.frame ret.0 runs
+        ends (0 + code_size coder block) (block_cost coder facts block) before (followed before (reached facts block)) h.results h.frame ret.0 runs
 
     -- a body that is held back has gone to its end, and else its block leads there
     body_choice : (held : Bool) (start end first cost : ℕ) (before more : Effects) → leads (point 0 [] before) first (point (if held then end else start) [] before)
@@ -115,7 +115,7 @@ module _ (image : ImageParts) (facts : Facts) (coder : Coder) (given : AreFactsO
         let stack = h.stack in
         let runs = block_leads image facts coder computes routine [] block start [] before h.fits (has_left code start statements (Ret ∷ []) there) (omega (arith, stack)) h.commands in
         let begins : 0 + start ≡ start = omega arith in
-        let alike = alike_below (is_open facts) count (mentioned block) (block_mentions (image_sizes image) block h.fits) in
+        let alike = alike_below (is_open facts) count (mentioned block) (block_tests_below (image_sizes image) block h.fits) in
         let first = subst (λ b. leads (point 0 [] before) (held_cost facts tests) (point (if b then end else start) [] before)) alike
         (subst (λ p. leads (point 0 [] before) (held_cost facts tests) (point (if list_any (is_open facts) tests then end else p) [] before)) begins test) in
         ends end (held_cost facts tests + (if is_held facts block then 0 else block_cost coder facts block)) before (followed before (body_yield facts block)) h.results h.frame ret.0

@@ -14,7 +14,7 @@ use Rattle.ifs_image.specs.Code.{code_in, code_of}
 use Rattle.ifs_verify.specs.Bounds.{FitsEvents}
 use Rattle.ifs_gen.specs.Trees.{Block, Part, Policy}
 use Rattle.ifs_gen.specs.PlainCode.{plain_coder, tests_below, body_code, init_code, block_height}
-use Rattle.ifs_gen.specs.PlainImage.{tests_in, parts_of, mask_of, handlers_of, states_from, routine_of_code, routines_of, image_with, greatest, number_in, event_total, part_height}
+use Rattle.ifs_gen.specs.PlainImage.{test_count, parts_of, mask_of, handlers_of, states_from, routine_of_code, routines_of, image_with, greatest, number_in, event_total, part_height}
 use Rattle.ifs_policy.specs.Fits.{BlockFits, HandlersFit}
 use Rattle.ifs_gen.specs.Runs.{image_sizes}
 use Rattle.ifs_gen.proofs.Fine.{IsGood}
@@ -191,23 +191,23 @@ module _ (weight : Op → ℕ) (count : ℕ) (init body : Part → ℕ)
       All-cons (Below b) policy.always policy.states (record { init_below = omega arith; body_below = omega arith })
       (states_below b policy.states (omega arith) (omega arith))
 
-  module _ (policy : Policy) (same : tests_in policy ≡ count) (budgets : Budgets) where
+  module _ (policy : Policy) (same : test_count policy ≡ count) (budgets : Budgets) where
     abbrev image : ImageParts
     image = image_with budgets policy
 
     pub init_amount : (k : ℕ) (part : Part) → slice_get (parts_of policy) k ≡ Some part → amount weight (code_of image (2 * k)) zero ≡ init part
-    init_amount k part e = ap (λ o. amount weight (code_in o) zero) (init_at (tests_in policy) (parts_of policy) k part e) ∙ init_is part
+    init_amount k part e = ap (λ o. amount weight (code_in o) zero) (init_at (test_count policy) (parts_of policy) k part e) ∙ init_is part
 
     pub body_amount : (k : ℕ) (part : Part) → slice_get (parts_of policy) k ≡ Some part → amount weight (code_of image (2 * k + 1)) zero ≡ body part
     body_amount k part e =
-        ap (λ o. amount weight (code_in o) zero) (body_at (tests_in policy) (parts_of policy) k part e)
+        ap (λ o. amount weight (code_in o) zero) (body_at (test_count policy) (parts_of policy) k part e)
         ∙ ap (λ n. amount weight (body_code plain_coder n part.body) zero) same ∙ body_is part
 
     pub fits_events : FitsEvents image (λ routine. amount weight (code_of image routine) zero) (event_total init body policy)
     fits_events = record {
       evaluation = λ j k current next at_j at_k.
-          let one = state_at (tests_in policy) 1 policy.tables.states policy.states j current at_j in
-          let two = state_at (tests_in policy) 1 policy.tables.states policy.states k next at_k in
+          let one = state_at (test_count policy) 1 policy.tables.states policy.states j current at_j in
+          let two = state_at (test_count policy) 1 policy.tables.states policy.states k next at_k in
           let always = body_amount 0 policy.always refl in
           let own = ap (λ (s : StateSpec). amount weight (code_of image s.handlers.body.0) zero) one.is ∙ body_amount (1 + j) one.part (part_at policy j one.part one.at) in
           let entry = ap (λ (s : StateSpec). amount weight (code_of image s.handlers.init.0) zero) two.is ∙ init_amount (1 + k) two.part (part_at policy k two.part two.at) in
@@ -215,7 +215,7 @@ module _ (weight : Op → ℕ) (count : ℕ) (init body : Part → ℕ)
           let most_init = at_most_greatest init policy.states k two.part two.at in
           omega (arith, always, own, entry, most_body, most_init);
       opening = λ first at.
-          let one = state_at (tests_in policy) 1 policy.tables.states policy.states policy.initial.0 first at in
+          let one = state_at (test_count policy) 1 policy.tables.states policy.states policy.initial.0 first at in
           let always = init_amount 0 policy.always refl in
           let own = ap (λ (s : StateSpec). amount weight (code_of image s.handlers.init.0) zero) one.is ∙ init_amount (1 + policy.initial.0) one.part (part_at policy policy.initial.0 one.part one.at) in
           let number = ap (number_in init) one.at in

@@ -12,7 +12,7 @@ use Rattle.ifs_verify.specs.Bounds.{AreAmounts, cost_of, commands_of, FitsEvents
 use Rattle.ifs_verify.specs.Accepted.{IsAccepted}
 use Rattle.ifs_gen.specs.Trees.{Part, Policy}
 use Rattle.ifs_gen.specs.PlainCode.{plain_coder, body_code, init_code, block_runs}
-use Rattle.ifs_gen.specs.PlainImage.{tests_in, parts_of, image_with, greatest, number_in, event_total, init_length, body_length, part_height}
+use Rattle.ifs_gen.specs.PlainImage.{test_count, parts_of, image_with, greatest, number_in, event_total, init_length, body_length, part_height}
 use Rattle.ifs_policy.specs.Fits.{PolicyFits}
 use Rattle.ifs_gen.specs.Acceptance.{BudgetsAreLeast}
 use Rattle.ifs_gen.proofs.GoodRoutines.{amount, heights_in, least_amount, least_height}
@@ -47,7 +47,7 @@ module _ (policy : Policy) (is : PolicyFits policy) (budgets : Budgets) (accepte
   image = image_with budgets policy
 
   abbrev count : ℕ
-  count = tests_in policy
+  count = test_count policy
 
   some_state : 1 ≤ length policy.states
   some_state = let h = is.initial in let e = is.count in omega (arith, h, e)
@@ -135,10 +135,10 @@ budgets_are_least one policy is budgets accepted = record {
   frames = let fit = accepted.frames in let own = fit.1.own 0 in let stated = fit.3.always_init in omega (arith, own, stated);
   cost =
       let fit = accepted.cost in
-      amounts_least policy is budgets accepted cost_of init_length (body_length (tests_in policy)) (λ part. cost_is_length (init_code plain_coder part.init) ∙ init_long part.init)
-      (λ part. cost_is_length (body_code plain_coder (tests_in policy) part.body) ∙ body_long (tests_in policy) part.body) fit.0 fit.1 budgets.cost fit.3;
+      amounts_least policy is budgets accepted cost_of init_length (body_length (test_count policy)) (λ part. cost_is_length (init_code plain_coder part.init) ∙ init_long part.init)
+      (λ part. cost_is_length (body_code plain_coder (test_count policy) part.body) ∙ body_long (test_count policy) part.body) fit.0 fit.1 budgets.cost fit.3;
   commands =
       let fit = accepted.commands in
       amounts_least policy is budgets accepted commands_of (λ part. block_runs part.init) (λ part. block_runs part.body) (λ part. init_queues part.init)
-      (λ part. body_queues (tests_in policy) part.body) fit.0 fit.1 budgets.commands fit.3;
+      (λ part. body_queues (test_count policy) part.body) fit.0 fit.1 budgets.commands fit.3;
 }

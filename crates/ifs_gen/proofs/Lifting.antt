@@ -24,7 +24,7 @@ use Rattle.ifs_core.specs.Steps.{CoreState, replies, after_steps}
 use Rattle.ifs_gen.specs.Trees.{Part, External, Policy}
 use Rattle.ifs_policy.specs.Meaning.{body_yield, init_yield}
 use Rattle.ifs_gen.specs.PlainCode.{plain_coder, body_code}
-use Rattle.ifs_gen.specs.PlainImage.{least_budgets, tests_in, parts_of, part_height, plain_image, room_of, CodeFits}
+use Rattle.ifs_gen.specs.PlainImage.{least_budgets, test_count, parts_of, part_height, plain_image, room_of, CodeFits}
 use Rattle.ifs_policy.specs.Fits.{PolicyFits}
 use Rattle.ifs_policy.specs.Fits.{HandlersFit}
 use Rattle.ifs_gen.specs.Runs.{image_sizes, init_cost, body_cost}
@@ -57,7 +57,7 @@ module _ (policy : Policy) (is : PolicyFits policy) (code : CodeFits policy) whe
   image = plain_image policy
 
   abbrev count : ℕ
-  count = tests_in policy
+  count = test_count policy
 
   -- What a handler costs on the machine.
   abbrev cost_of_handler : Handler → Facts → ℕ

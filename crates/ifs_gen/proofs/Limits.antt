@@ -12,7 +12,7 @@ use Rattle.ifs_image.specs.declared.parts.ImageParts.{ImageParts}
 use Rattle.ifs_image.specs.Limits.{TestFits, RoutineFits, names_of, AreDistinct, instructions, Fits}
 use Rattle.ifs_gen.specs.Trees.{Part, External, Policy}
 use Rattle.ifs_gen.specs.PlainCode.{plain_coder, body_code, init_code}
-use Rattle.ifs_gen.specs.PlainImage.{tests_in, parts_of, states_from, routine_of_code, routines_of, greatest, number_in, event_total, init_length, body_length, part_height, plain_image, RoutinesFit as PartLengths, CodeFits}
+use Rattle.ifs_gen.specs.PlainImage.{test_count, parts_of, states_from, routine_of_code, routines_of, greatest, number_in, event_total, init_length, body_length, part_height, plain_image, RoutinesFit as PartLengths, CodeFits}
 use Rattle.ifs_policy.specs.Fits.{PolicyFits}
 use Rattle.ifs_gen.proofs.GoodCode.{init_long, body_long}
 use Rattle.ifs_gen.proofs.Images.{routines_long, states_long, at_most_greatest, greatest_below}
@@ -68,7 +68,7 @@ tests_fit (x ∷ tests) texts periods =
 
 module _ (policy : Policy) (is : PolicyFits policy) (code : CodeFits policy) where
   abbrev count : ℕ
-  count = tests_in policy
+  count = test_count policy
 
   abbrev image : ImageParts
   image = plain_image policy

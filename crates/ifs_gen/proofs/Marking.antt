@@ -15,7 +15,7 @@ use Rattle.ifs_parse.specs.declared.block.Statement.{Statement}
 use Rattle.ifs_parse.specs.declared.block.Statement.TheVariants.{Run, SetState, If}
 use Rattle.ifs_policy.specs.Meaning.{mentioned_in, mentioned}
 use Rattle.ifs_gen.specs.Trees.{Single, Condition, Block}
-use Rattle.ifs_gen.specs.inner.Marks.{marked, statement_mentions, test_where}
+use Rattle.ifs_gen.specs.inner.Marks.{marked, statement_tests, test_where}
 use Rattle.ifs_gen.specs.PlainCode.{tests_below}
 
 pub marked_append : (marks : List Bool) (xs ys : List TestId) → marked marks (xs ++ ys) ≡ marked (marked marks xs) ys
@@ -30,15 +30,15 @@ pub any_mentions : (first : Condition) (rest : List Condition) → mentioned_in 
 any_mentions first [] = sym (append-nil (mentioned_in first))
 any_mentions first (next ∷ rest) = any_mentions (tree.Or first next) rest ∙ append_assoc (mentioned_in first) (mentioned_in next) (flat_map mentioned_in rest)
 
-then_mentions : (s : Statement Single CommandId StateId) (rest : Block) → mentioned (statement_then s rest) ≡ statement_mentions s ++ mentioned rest
+then_mentions : (s : Statement Single CommandId StateId) (rest : Block) → mentioned (statement_then s rest) ≡ statement_tests s ++ mentioned rest
 then_mentions (Run command) rest = refl
 then_mentions (SetState state) rest = refl
 then_mentions (If c inner) rest =
     sym (append_assoc (mentioned_in c) (mentioned inner ++ []) (mentioned rest) ∙ ap (λ xs. mentioned_in c ++ (xs ++ mentioned rest)) (append-nil (mentioned inner)))
 
-pub statements_mention : (items : List (Statement Single CommandId StateId)) → mentioned (block_of items) ≡ flat_map statement_mentions items
+pub statements_mention : (items : List (Statement Single CommandId StateId)) → mentioned (block_of items) ≡ flat_map statement_tests items
 statements_mention [] = refl
-statements_mention (s ∷ rest) = then_mentions s (block_of rest) ∙ ap (λ xs. statement_mentions s ++ xs) (statements_mention rest)
+statements_mention (s ∷ rest) = then_mentions s (block_of rest) ∙ ap (λ xs. statement_tests s ++ xs) (statements_mention rest)
 
 -- one member more
 flat_last : {T : Type 0} (f : T → List TestId) (xs : List T) (x : T) → flat_map f (xs ++ x ∷ []) ≡ flat_map f xs ++ f x
@@ -74,10 +74,10 @@ chain_marked start one two now c first second items i one_is two_is le now_is is
     ∙ sym (marked_append start (mentioned_in first ++ mentioned_in second) rest) ∙ ap (marked start) (sym whole)
 
 pub if_marked : (start one two : List Bool) (s : Statement Single CommandId StateId) (c : Condition) (inner : Block) → s ≡ If c inner → one ≡ marked start (mentioned_in c) → two ≡ marked one (mentioned inner)
-    → two ≡ marked start (statement_mentions s)
+    → two ≡ marked start (statement_tests s)
 if_marked start one two s c inner is one_is two_is =
     two_is ∙ ap (λ m. marked m (mentioned inner)) one_is ∙ sym (marked_append start (mentioned_in c) (mentioned inner))
-    ∙ ap (λ xs. marked start (mentioned_in c ++ xs)) (sym (append-nil (mentioned inner))) ∙ ap (λ x. marked start (statement_mentions x)) (sym is)
+    ∙ ap (λ xs. marked start (mentioned_in c ++ xs)) (sym (append-nil (mentioned inner))) ∙ ap (λ x. marked start (statement_tests x)) (sym is)
 
 -- a mark stands where it stood, and where its test is of the list
 marks_long : (marks : List Bool) (xs : List TestId) → length (marked marks xs) ≡ length marks

@@ -9,7 +9,8 @@ use Rattle.ifs_parse.specs.Views.{all_of, any_of, block_of, statement_then}
 use Rattle.ifs_parse.specs.declared.block.Statement.{Statement}
 use Rattle.ifs_parse.specs.declared.block.Statement.TheVariants.{Run, SetState, If}
 use Rattle.ifs_gen.specs.Trees.{Single, Condition, Block}
-use Rattle.ifs_gen.specs.PlainCode.{plain_coder, condition_size, condition_height, block_size, block_height, block_runs}
+use Rattle.ifs_parse.specs.Trees.{condition_size}
+use Rattle.ifs_gen.specs.PlainCode.{plain_coder, condition_height, code_size, block_height, block_runs}
 use Rattle.ifs_gen.specs.inner.Emission.{statement_size}
 use Rattle.ifs_gen.proofs.Chains.{of_size}
 use Rattle.ifs_gen.specs.inner.Measures.{statement_height, statement_runs}
@@ -87,7 +88,7 @@ of_runs (y ∷ xs) x =
 
 -- The measures of the statements up to one, and of it with them.
 pub record More (items : List (Statement Single CommandId StateId)) (i : ℕ) (item : Statement Single CommandId StateId) : Type 0 where
-  pub size : block_size plain_coder (block_of (take (i + 1) items)) ≡ block_size plain_coder (block_of (take i items)) + statement_size item
+  pub size : code_size plain_coder (block_of (take (i + 1) items)) ≡ code_size plain_coder (block_of (take i items)) + statement_size item
   pub height : block_height plain_coder (block_of (take (i + 1) items)) ≡ max (block_height plain_coder (block_of (take i items))) (statement_height item)
   pub runs : block_runs (block_of (take (i + 1) items)) ≡ block_runs (block_of (take i items)) + statement_runs item
 
@@ -96,7 +97,7 @@ more items i item lt at =
     let next = take_more items i item lt ∙ ap (λ x. take i items ++ x ∷ []) (sym at) in
     let last = of_size (take i items) (item ∷ []) in
     record {
-      size = ap (λ xs. block_size plain_coder (block_of xs)) next ∙ last;
+      size = ap (λ xs. code_size plain_coder (block_of xs)) next ∙ last;
       height = ap (λ xs. block_height plain_coder (block_of xs)) next ∙ of_height (take i items) item;
       runs = ap (λ xs. block_runs (block_of xs)) next ∙ of_runs (take i items) item;
     }

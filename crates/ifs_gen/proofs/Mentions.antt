@@ -99,20 +99,20 @@ module _ (p : TestId → Bool) where
       agree false false f g = refl
 
 module _ (sizes : Sizes) where
-  condition_mentions : (c : Condition) → ConditionFits sizes c → EachBelow sizes.tests (mentioned_in c)
-  condition_mentions (Leaf (LinkIs n s)) fits = tt
-  condition_mentions (Leaf (TestIs n)) fits = (fits, tt)
-  condition_mentions (NotSo c) fits = condition_mentions c fits
-  condition_mentions (And a b) fits = below_append sizes.tests (mentioned_in a) (mentioned_in b) (condition_mentions a fits.0) (condition_mentions b fits.1)
-  condition_mentions (Or a b) fits = below_append sizes.tests (mentioned_in a) (mentioned_in b) (condition_mentions a fits.0) (condition_mentions b fits.1)
+  condition_tests_below : (c : Condition) → ConditionFits sizes c → EachBelow sizes.tests (mentioned_in c)
+  condition_tests_below (Leaf (LinkIs n s)) fits = tt
+  condition_tests_below (Leaf (TestIs n)) fits = (fits, tt)
+  condition_tests_below (NotSo c) fits = condition_tests_below c fits
+  condition_tests_below (And a b) fits = below_append sizes.tests (mentioned_in a) (mentioned_in b) (condition_tests_below a fits.0) (condition_tests_below b fits.1)
+  condition_tests_below (Or a b) fits = below_append sizes.tests (mentioned_in a) (mentioned_in b) (condition_tests_below a fits.0) (condition_tests_below b fits.1)
 
-  pub block_mentions : (block : Block) → BlockFits sizes block → EachBelow sizes.tests (mentioned block)
-  block_mentions Done fits = tt
-  block_mentions (RunThen n rest) fits = block_mentions rest fits.1
-  block_mentions (WantThen n rest) fits = block_mentions rest fits.1
-  block_mentions (IfThen c inner rest) fits =
-      below_append sizes.tests (mentioned_in c) (mentioned inner ++ mentioned rest) (condition_mentions c fits.0)
-      (below_append sizes.tests (mentioned inner) (mentioned rest) (block_mentions inner fits.1) (block_mentions rest fits.2))
+  pub block_tests_below : (block : Block) → BlockFits sizes block → EachBelow sizes.tests (mentioned block)
+  block_tests_below Done fits = tt
+  block_tests_below (RunThen n rest) fits = block_tests_below rest fits.1
+  block_tests_below (WantThen n rest) fits = block_tests_below rest fits.1
+  block_tests_below (IfThen c inner rest) fits =
+      below_append sizes.tests (mentioned_in c) (mentioned inner ++ mentioned rest) (condition_tests_below c fits.0)
+      (below_append sizes.tests (mentioned inner) (mentioned rest) (block_tests_below inner fits.1) (block_tests_below rest fits.2))
 
 -- Stack for one value, where a list of tests has any.
 abbrev pub HasRoomFor : ℕ → List TestId → Type 0

@@ -10,8 +10,8 @@ use Rattle.ifs_gen.specs.declared.fault.GenFault.{GenFault}
 use Rattle.ifs_gen.specs.declared.fault.GenFault.TheVariants.{RoutineTooLong, CodeTooLong, StackTooHigh, TooManyCommands, Memory}
 use Rattle.ifs_gen.specs.Trees.{Part, Policy}
 use Rattle.ifs_gen.specs.PlainCode.{plain_coder, block_height}
-use Rattle.ifs_gen.specs.PlainImage.{tests_in, parts_of, init_length, body_length, part_height, room_of, RoutinesFit, CodeFits}
-use Rattle.ifs_gen.specs.Refused.{lengths_of, heights_of, lengths, heights, AreWithin, IsFirstOver, IsRefused, FitsOrIsRefused, OneLimitIsFirst}
+use Rattle.ifs_gen.specs.PlainImage.{test_count, parts_of, init_length, body_length, part_height, room_of, RoutinesFit, CodeFits}
+use Rattle.ifs_gen.specs.Refused.{lengths_of, heights_of, lengths, heights, AreWithin, IsFirstOver, PassesFirst, FitsOrIsRefused, OneLimitIsFirst}
 
 -- The index of the first number over a limit, where there is one.
 record Over (limit : ℕ) (numbers : List ℕ) : Type 0 where
@@ -66,7 +66,7 @@ sums_agree count (x ∷ parts) =
 
 pub fits_or_is_refused : FitsOrIsRefused
 fits_or_is_refused policy =
-    let sums = sums_agree (tests_in policy) (parts_of policy) in
+    let sums = sums_agree (test_count policy) (parts_of policy) in
     ⊎_elim
     (λ short. ⊎_elim
     (λ many. inr (CodeTooLong, (short, many)))
@@ -74,7 +74,7 @@ fits_or_is_refused policy =
     (λ low. ⊎_elim
     (λ loud. inr (TooManyCommands, (short, few, low, loud)))
     (λ quiet. inl (record {
-      each = each_fits (tests_in policy) (parts_of policy) short;
+      each = each_fits (test_count policy) (parts_of policy) short;
       together = omega (arith, few, sums);
       height = heights_fit (parts_of policy) low;
       room = quiet;
@@ -118,10 +118,10 @@ heights_low (x ∷ parts) h =
     (All-cons (λ n. n ≤ 32) body (heights_of parts) (omega (arith, low)) (heights_low parts (All-tail (λ part. part_height part ≤ 32) x parts h)))
 
 -- A code that passes a limit does not keep the limits.
-pub does_not_fit : (policy : Policy) (fault : GenFault) → IsRefused policy fault → ¬ CodeFits policy
-does_not_fit policy (RoutineTooLong routine) h code = none_over 1024 (lengths policy) routine.0 (lengths_low (tests_in policy) (parts_of policy) code.each) h
+pub does_not_fit : (policy : Policy) (fault : GenFault) → PassesFirst policy fault → ¬ CodeFits policy
+does_not_fit policy (RoutineTooLong routine) h code = none_over 1024 (lengths policy) routine.0 (lengths_low (test_count policy) (parts_of policy) code.each) h
 does_not_fit policy CodeTooLong h code =
-    let sums = sums_agree (tests_in policy) (parts_of policy) in
+    let sums = sums_agree (test_count policy) (parts_of policy) in
     let many = h.1 in
     let few = code.together in
     absurd (omega (arith, sums, many, few))

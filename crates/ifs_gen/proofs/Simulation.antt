@@ -12,7 +12,8 @@ use Rattle.ifs_machine.specs.Table.{Frame, StackFull, height, is_true}
 use Rattle.ifs_machine.specs.Run.{AreFactsOf}
 use Rattle.ifs_gen.specs.Trees.{LinkIs, TestIs, Condition, Leaf, NotSo, And, Or, Block, Done, RunThen, WantThen, IfThen}
 use Rattle.ifs_policy.specs.Meaning.{has_true, truth, reached}
-use Rattle.ifs_gen.specs.PlainCode.{Coder, condition_code, condition_size, condition_height, block_code, block_size, block_height, block_runs}
+use Rattle.ifs_parse.specs.Trees.{condition_size}
+use Rattle.ifs_gen.specs.PlainCode.{Coder, condition_code, condition_height, block_code, code_size, block_height, block_runs}
 use Rattle.ifs_policy.specs.Fits.{ConditionFits, BlockFits}
 use Rattle.ifs_gen.specs.Runs.{image_sizes, HasAt, Point, point, stands, Leads, HasStack, Computes, TruthRuns, block_cost, BlockRuns}
 use Rattle.ifs_gen.proofs.Rows.{entry_at, unless_fits, has_left, has_right, followed_assoc, followed_nothing, no_rows, then_leads, as_told, at_place, one_row, command_row, state_row, queue_row, want_row, jump_row}
@@ -103,13 +104,13 @@ chosen_within true x n h = h
 chosen_within false x n h = omega arith
 
 module _ (coder : Coder) where
-  pub block_sized : ((c : Condition) → length (coder.code c) ≡ coder.size c) → (place : ℕ) (block : Block) → length (block_code coder place block) ≡ block_size coder block
+  pub block_sized : ((c : Condition) → length (coder.code c) ≡ coder.size c) → (place : ℕ) (block : Block) → length (block_code coder place block) ≡ code_size coder block
   block_sized each place Done = refl
   block_sized each place (RunThen n rest) = let e = block_sized each (place + 2) rest in omega (arith, e)
   block_sized each place (WantThen n rest) = let e = block_sized each (place + 2) rest in omega (arith, e)
   block_sized each place (IfThen c inner rest) =
       let from = place + coder.size c + 1 in
-      let past = from + block_size coder inner in
+      let past = from + code_size coder inner in
       let e = length-append (coder.code c) (JumpFalse past ∷ (block_code coder from inner ++ block_code coder past rest)) in
       let f = length-append (block_code coder from inner) (block_code coder past rest) in
       omega (arith, e, f, each c, block_sized each from inner, block_sized each past rest)
@@ -160,7 +161,7 @@ module _ (image : ImageParts) (facts : Facts) (coder : Coder) where
     pub block_leads : (block : Block) (place : ℕ) (values : List Value) (effects : Effects) → BlockFits (image_sizes image) block
         → HasAt (code_of image routine) place (block_code coder place block) → HasStack image callers values (block_height coder block)
         → length effects.commands + block_runs block ≤ image.budgets.commands
-        → Leads image facts routine callers (point place values effects) (block_cost coder facts block) (point (place + block_size coder block) values (followed effects (reached facts block)))
+        → Leads image facts routine callers (point place values effects) (block_cost coder facts block) (point (place + code_size coder block) values (followed effects (reached facts block)))
     block_leads Done place values effects fits has room more =
         let same : place ≡ place + 0 = omega arith in
         as_told image facts routine callers _ _ _ _ _ (no_rows image facts routine callers (point place values effects)) refl
@@ -173,7 +174,7 @@ module _ (image : ImageParts) (facts : Facts) (coder : Coder) where
         let there = subst (λ p. HasAt (code_of image routine) p (block_code coder (place + 2) rest)) same has.1.1 in
         let long = length-append effects.commands (n ∷ []) in
         let onward = block_leads rest (place + 2) values (followed effects queued) fits.1 there (omega (arith, room)) (omega (arith, more, long)) in
-        two_rows place values effects queued (reached facts rest) (Command n) (block_cost coder facts rest) (block_size coder rest) push queue onward
+        two_rows place values effects queued (reached facts rest) (Command n) (block_cost coder facts rest) (code_size coder rest) push queue onward
     block_leads (WantThen n rest) place values effects fits has room more =
         let wished : Effects = record { commands = []; wish = Some n } in
         let push = state_row image facts routine callers place values effects n has.0 fits.0 (omega (arith, room)) in
@@ -182,12 +183,12 @@ module _ (image : ImageParts) (facts : Facts) (coder : Coder) where
         let there = subst (λ p. HasAt (code_of image routine) p (block_code coder (place + 2) rest)) same has.1.1 in
         let long = length-append effects.commands [] in
         let onward = block_leads rest (place + 2) values (followed effects wished) fits.1 there (omega (arith, room)) (omega (arith, more, long)) in
-        two_rows place values effects wished (reached facts rest) (StateName n) (block_cost coder facts rest) (block_size coder rest) push want onward
+        two_rows place values effects wished (reached facts rest) (StateName n) (block_cost coder facts rest) (code_size coder rest) push want onward
     block_leads (IfThen c inner rest) place values effects fits has room more =
         let code = code_of image routine in
         let at = place + coder.size c in
         let from = at + 1 in
-        let past = from + block_size coder inner in
+        let past = from + code_size coder inner in
         let codes = block_code coder from inner ++ block_code coder past rest in
         let b = truth facts c in
         let chosen = if b then reached facts inner else nothing_yet in

@@ -7,7 +7,7 @@ use Rattle.ifs_verify.specs.Bounds.{commands_of}
 use Rattle.ifs_image.specs.declared.parts.Routine.{Routine}
 use Rattle.ifs_gen.specs.Trees.{Part}
 use Rattle.ifs_gen.specs.PlainCode.{plain_coder, init_code, body_code}
-use Rattle.ifs_gen.specs.PlainImage.{tests_in, parts_of, routines_of, init_length, body_length}
+use Rattle.ifs_gen.specs.PlainImage.{test_count, parts_of, routines_of, init_length, body_length}
 use Rattle.ifs_gen.specs.Refused.{lengths_of}
 use Rattle.ifs_gen.specs.Sizes.{SizesAreLengths, RunsAreQueued}
 use Rattle.ifs_gen.proofs.Simulation.{condition_sized, block_sized}
@@ -29,8 +29,8 @@ sizes_are_lengths = record {
   block = block_sized plain_coder condition_sized;
   init = init_long;
   body = body_long;
-  routines = λ policy. routine_lengths (tests_in policy) (parts_of policy);
-  together = λ policy. together_same (tests_in policy) (parts_of policy) ∙ sym (sums_agree (tests_in policy) (parts_of policy));
+  routines = λ policy. routine_lengths (test_count policy) (parts_of policy);
+  together = λ policy. together_same (test_count policy) (parts_of policy) ∙ sym (sums_agree (test_count policy) (parts_of policy));
 }
 
 amount_is_sum : (weight : Op → ℕ) (code : List Op) → sum_by weight code ≡ amount weight code zero

@@ -21,9 +21,9 @@ use Rattle.ifs_verify.specs.declared.fault.VerifyFault.{VerifyFault}
 use Rattle.ifs_verify.specs.declared.fault.VerifyFault.TheVariants as verifying
 use Rattle.ifs_core.specs.Headline.{AcceptedIsKept}
 use Rattle.ifs_gen.specs.Trees.{Part, Policy, External}
-use Rattle.ifs_gen.specs.PlainImage.{tests_in, states_from, plain_image, CodeFits}
+use Rattle.ifs_gen.specs.PlainImage.{test_count, states_from, plain_image, CodeFits}
 use Rattle.ifs_gen.specs.Compiled.{MeansPolicy, TextsMeanTheirPolicy, IsCompiled, Compiles, IsRefusal, IsWritten, IsCodeRefusal, of_policy, of_code}
-use Rattle.ifs_gen.specs.Refused.{IsRefused}
+use Rattle.ifs_gen.specs.Refused.{PassesFirst}
 use Rattle.ifs_gen.specs.declared.compile_fault.CompileFault.{CompileFault}
 use Rattle.ifs_gen.specs.declared.compile_fault.CompileFault.TheVariants as compiling
 use Rattle.ifs_gen.specs.declared.compile_fault.CompileFault.TheVariants.{Memory}
@@ -96,7 +96,7 @@ means kept one_image policy is code bytes spelled =
         tests = map-map (λ (test : TestSpec). test.text) (λ (test : External). record { period = test.period; text = test.command }) policy.tables.tests;
         periods = map-map (λ (test : TestSpec). test.period) (λ (test : External). record { period = test.period; text = test.command }) policy.tables.tests;
         commands = refl;
-        states = state_names (tests_in policy) 1 policy.tables.states policy.states is.count;
+        states = state_names (test_count policy) 1 policy.tables.states policy.states is.count;
         initial = refl;
       };
       room = refl;
@@ -118,7 +118,7 @@ module _ (text : List ℕ) (defs : List (List ℕ × List ℕ)) where
   refused_policy (fronting.Names fault) e = e (λ k. absurd (cc))
   refused_policy fronting.Memory e = tt
 
-  pub refused_code : (policy : Policy) → HasPolicy text defs policy → (fault : GenFault) → (fault ≢ generating.Memory → IsRefused policy fault) → IsRefusal text defs (of_code fault)
+  pub refused_code : (policy : Policy) → HasPolicy text defs policy → (fault : GenFault) → (fault ≢ generating.Memory → PassesFirst policy fault) → IsRefusal text defs (of_code fault)
   refused_code policy h generating.Memory e = tt
   refused_code policy h (generating.RoutineTooLong routine) e = (policy, h, e (λ k. absurd (cc)))
   refused_code policy h generating.CodeTooLong e = (policy, h, e (λ k. absurd (cc)))

@@ -14,8 +14,8 @@ use Rattle.ifs_gen.specs.inner.Measures.{capped}
 use Rattle.ifs_image.specs.declared.parts.Budgets.{Budgets}
 use Rattle.ifs_gen.specs.Trees.{Part, Policy}
 use Rattle.ifs_gen.specs.PlainCode.{plain_coder, block_height, block_runs}
-use Rattle.ifs_gen.specs.PlainImage.{tests_in, parts_of, greatest, number_in, event_total, init_length, body_length, part_height, room_of, least_budgets, CodeFits}
-use Rattle.ifs_gen.specs.Refused.{lengths_of, heights_of, lengths, heights, AreWithin, IsFirstOver, IsPassed, IsRefused}
+use Rattle.ifs_gen.specs.PlainImage.{test_count, parts_of, greatest, number_in, event_total, init_length, body_length, part_height, room_of, least_budgets, CodeFits}
+use Rattle.ifs_gen.specs.Refused.{lengths_of, heights_of, lengths, heights, AreWithin, IsFirstOver, IsPassed, PassesFirst}
 use Rattle.ifs_gen.proofs.Refusing.{one_later, each_fits, heights_fit, sums_agree}
 
 -- What is looked for among the numbers that are left is found among all of them, so many places later.
@@ -126,14 +126,14 @@ first_is amount count number is (x ∷ parts) zero = is x
 first_is amount count number is (x ∷ parts) (suc i) = first_is amount count number is parts i
 
 event_is : (amount : Amount) (policy : Policy) (init body : Part → ℕ)
-    → ((part : Part) → number_of amount (measured (tests_in policy) part).init ≡ capped (init part)) → ((part : Part) → number_of amount (measured (tests_in policy) part).body ≡ capped (body part))
-    → capped (event_in amount (map (measured (tests_in policy)) (parts_of policy)) policy.initial.0) ≡ capped (event_total init body policy)
+    → ((part : Part) → number_of amount (measured (test_count policy) part).init ≡ capped (init part)) → ((part : Part) → number_of amount (measured (test_count policy) part).body ≡ capped (body part))
+    → capped (event_in amount (map (measured (test_count policy)) (parts_of policy)) policy.initial.0) ≡ capped (event_total init body policy)
 event_is amount policy init body init_is body_is =
     let a = init_is policy.always in
     let b = body_is policy.always in
-    let inits = inits_are amount (tests_in policy) init init_is policy.states in
-    let bodies = bodies_are amount (tests_in policy) body body_is policy.states in
-    let first = first_is amount (tests_in policy) init init_is policy.states policy.initial.0 in
+    let inits = inits_are amount (test_count policy) init init_is policy.states in
+    let bodies = bodies_are amount (test_count policy) body body_is policy.states in
+    let first = first_is amount (test_count policy) init init_is policy.states policy.initial.0 in
     omega (arith, a, b, inits, bodies, first)
 
 lengths_are : (count : ℕ) (parts : List Part) → numbers_of Size (map (measured count) parts) ≡ map capped (lengths_of count parts)
@@ -199,16 +199,16 @@ budgets_same s height cost costs runs commands same one two =
 
 module _ (policy : Policy) where
   abbrev measures : List PartMeasure
-  measures = map (measured (tests_in policy)) (parts_of policy)
+  measures = map (measured (test_count policy)) (parts_of policy)
 
   sizes : numbers_of Size measures ≡ map capped (lengths policy)
-  sizes = lengths_are (tests_in policy) (parts_of policy)
+  sizes = lengths_are (test_count policy) (parts_of policy)
 
   tall : numbers_of Height measures ≡ map capped (heights policy)
-  tall = heights_are (tests_in policy) (parts_of policy)
+  tall = heights_are (test_count policy) (parts_of policy)
 
-  costs : capped (event_in Size measures policy.initial.0) ≡ capped (event_total init_length (body_length (tests_in policy)) policy)
-  costs = event_is Size policy init_length (body_length (tests_in policy)) (λ part. refl) (λ part. refl)
+  costs : capped (event_in Size measures policy.initial.0) ≡ capped (event_total init_length (body_length (test_count policy)) policy)
+  costs = event_is Size policy init_length (body_length (test_count policy)) (λ part. refl) (λ part. refl)
 
   runs : capped (event_in Runs measures policy.initial.0) ≡ capped (room_of policy)
   runs = event_is Runs policy (λ part. block_runs part.init) (λ part. block_runs part.body) (λ part. refl) (λ part. refl)
@@ -228,9 +228,9 @@ module _ (policy : Policy) where
       let room = fine.room in
       let e = sums fine.each in
       let r = runs in
-      let s = sums_agree (tests_in policy) (parts_of policy) in
+      let s = sums_agree (test_count policy) (parts_of policy) in
       record {
-        each = each_fits (tests_in policy) (parts_of policy) (short fine.each);
+        each = each_fits (test_count policy) (parts_of policy) (short fine.each);
         together = omega (arith, together, e, s);
         height = heights_fit (parts_of policy) (low fine.heights);
         room = omega (arith, room, r);
@@ -238,7 +238,7 @@ module _ (policy : Policy) where
 
   pub least : AreFine measures policy.initial.0 → budgets_in measures policy.initial.0 ≡ least_budgets policy
   least fine =
-      let count = tests_in policy in
+      let count = test_count policy in
       let parts = parts_of policy in
       let inits = inits_are Height count (λ part. block_height plain_coder part.init) (λ part. refl) parts in
       let bodies = bodies_are Height count (λ part. block_height plain_coder part.body) (λ part. refl) parts in
@@ -254,7 +254,7 @@ module _ (policy : Policy) where
       let commands : event_in Runs measures policy.initial.0 ≡ room_of policy = omega (arith, room, r) in
       budgets_same _ _ _ _ _ _ stack cost commands
 
-  pub passed : (fault : GenFault) → IsPassed (numbers_of Size measures) (numbers_of Height measures) (event_in Runs measures policy.initial.0) fault → IsRefused policy fault
+  pub passed : (fault : GenFault) → IsPassed (numbers_of Size measures) (numbers_of Height measures) (event_in Runs measures policy.initial.0) fault → PassesFirst policy fault
   passed (RoutineTooLong routine) h = first_uncapped 1024 (lengths policy) routine.0 (omega arith) (subst (λ l. IsFirstOver 1024 l routine.0) sizes h)
   passed CodeTooLong h = (short h.0, let e = sums h.0 in let over = h.1 in omega (arith, e, over))
   passed (StackTooHigh routine) h =

@@ -11,7 +11,8 @@ use Rattle.ifs_image.specs.Code.{IsSuccessor, target_of, effect}
 use Rattle.ifs_verify.specs.Rules.{HasOperand}
 use Rattle.ifs_base.specs.declared.ids.RoutineId.{RoutineId}
 use Rattle.ifs_gen.specs.Trees.{LinkIs, TestIs, Condition, Leaf, NotSo, And, Or, Block, Done, RunThen, WantThen, IfThen}
-use Rattle.ifs_gen.specs.PlainCode.{plain_coder, condition_code, condition_size, condition_height, block_code, block_size, block_height, held_code}
+use Rattle.ifs_parse.specs.Trees.{condition_size}
+use Rattle.ifs_gen.specs.PlainCode.{plain_coder, condition_code, condition_height, block_code, code_size, block_height, held_code}
 use Rattle.ifs_policy.specs.Fits.{ConditionFits, BlockFits}
 use Rattle.ifs_gen.specs.Runs.{image_sizes}
 use Rattle.ifs_gen.proofs.Simulation.{condition_sized, condition_high, block_sized}
@@ -47,7 +48,7 @@ kinds_sized below (Or a b) =
     let f = length-append (condition_kinds (Truth ∷ below) b) ((Truth ∷ Truth ∷ below) ∷ []) in
     omega (arith, e, f, kinds_sized below a, kinds_sized (Truth ∷ below) b)
 
-pub block_kinds_sized : (block : Block) → length (block_kinds block) ≡ block_size plain_coder block
+pub block_kinds_sized : (block : Block) → length (block_kinds block) ≡ code_size plain_coder block
 block_kinds_sized Done = refl
 block_kinds_sized (RunThen n rest) = let e = block_kinds_sized rest in omega (arith, e)
 block_kinds_sized (WantThen n rest) = let e = block_kinds_sized rest in omega (arith, e)
@@ -165,7 +166,7 @@ module _ (image : ImageParts) (kinds : ℕ → List Kind) (height end : ℕ) whe
       two_fine a b Either place below first second
       (falls_on (at + condition_size b) Either (Truth ∷ Truth ∷ below) (Truth ∷ below) tt mid.0 (sym (ap kinds same) ∙ next) refl (λ to e. e) refl refl (λ callee e. cc) (omega (arith, room, high)) (omega (arith, room, high)))
 
-  pub block_starts : (block : Block) (place : ℕ) → HasKinds place (block_kinds block) → kinds (place + block_size plain_coder block) ≡ [] → kinds place ≡ []
+  pub block_starts : (block : Block) (place : ℕ) → HasKinds place (block_kinds block) → kinds (place + code_size plain_coder block) ≡ [] → kinds place ≡ []
   block_starts Done place has next = let same : place + 0 ≡ place = omega arith in sym (ap kinds same) ∙ next
   block_starts (RunThen n rest) place has next = has.0
   block_starts (WantThen n rest) place has next = has.0
@@ -176,7 +177,7 @@ module _ (image : ImageParts) (kinds : ℕ → List Kind) (height end : ℕ) whe
   two_steps : (place : ℕ) (push takes : Op) (kind : Kind) (rest : Block) → HasKinds place ([] ∷ (kind ∷ []) ∷ block_kinds rest)
       → (kinds place ≡ [] → kinds (place + 1) ≡ kind ∷ [] → IsFine image kinds height end place push)
       → (kinds (place + 1) ≡ kind ∷ [] → kinds (place + 1 + 1) ≡ [] → IsFine image kinds height end (place + 1) takes)
-      → kinds (place + 2 + block_size plain_coder rest) ≡ [] → AreFine image kinds height end (place + 2) (block_code plain_coder (place + 2) rest)
+      → kinds (place + 2 + code_size plain_coder rest) ≡ [] → AreFine image kinds height end (place + 2) (block_code plain_coder (place + 2) rest)
       → AreFine image kinds height end place (push ∷ takes ∷ block_code plain_coder (place + 2) rest)
   two_steps place push takes kind rest has first second next onward =
       let same : place + 2 ≡ place + 1 + 1 = omega arith in
@@ -184,11 +185,11 @@ module _ (image : ImageParts) (kinds : ℕ → List Kind) (height end : ℕ) whe
       let starts = sym (ap kinds same) ∙ block_starts rest (place + 2) there next in
       (first has.0 has.1.0, (second has.1.0 starts, subst (λ p. AreFine image kinds height end p (block_code plain_coder (place + 2) rest)) same onward))
 
-  pub block_fine : (block : Block) (place : ℕ) → HasKinds place (block_kinds block) → kinds (place + block_size plain_coder block) ≡ [] → BlockFits (image_sizes image) block
-      → block_height plain_coder block ≤ height → place + block_size plain_coder block ≤ end → AreFine image kinds height end place (block_code plain_coder place block)
+  pub block_fine : (block : Block) (place : ℕ) → HasKinds place (block_kinds block) → kinds (place + code_size plain_coder block) ≡ [] → BlockFits (image_sizes image) block
+      → block_height plain_coder block ≤ height → place + code_size plain_coder block ≤ end → AreFine image kinds height end place (block_code plain_coder place block)
   block_fine Done place has next fits room within = tt
   block_fine (RunThen n rest) place has next fits room within =
-      let far : place + (2 + block_size plain_coder rest) ≡ place + 2 + block_size plain_coder rest = omega arith in
+      let far : place + (2 + code_size plain_coder rest) ≡ place + 2 + code_size plain_coder rest = omega arith in
       let same : place + 1 + 1 ≡ place + 2 = omega arith in
       let last = sym (ap kinds far) ∙ next in
       two_steps place (PushCommand n) Queue Command rest has
@@ -197,7 +198,7 @@ module _ (image : ImageParts) (kinds : ℕ → List Kind) (height end : ℕ) whe
       last
       (block_fine rest (place + 2) (subst (λ p. HasKinds p (block_kinds rest)) same has.1.1) last fits.1 (omega (arith, room)) (omega (arith, within)))
   block_fine (WantThen n rest) place has next fits room within =
-      let far : place + (2 + block_size plain_coder rest) ≡ place + 2 + block_size plain_coder rest = omega arith in
+      let far : place + (2 + code_size plain_coder rest) ≡ place + 2 + code_size plain_coder rest = omega arith in
       let same : place + 1 + 1 ≡ place + 2 = omega arith in
       let last = sym (ap kinds far) ∙ next in
       two_steps place (PushState n) Want StateName rest has
@@ -208,13 +209,13 @@ module _ (image : ImageParts) (kinds : ℕ → List Kind) (height end : ℕ) whe
   block_fine (IfThen c inner rest) place has next fits room within =
       let at = place + condition_size c in
       let from = at + 1 in
-      let past = from + block_size plain_coder inner in
+      let past = from + code_size plain_coder inner in
       let kc = condition_kinds [] c in
       let kb = block_kinds inner ++ block_kinds rest in
       let high = condition_high c in
       let mid = kinds_right place kc ((Truth ∷ []) ∷ kb) at (ap (λ n. place + n) (kinds_sized [] c)) has in
       let there = kinds_right from (block_kinds inner) (block_kinds rest) past (ap (λ n. from + n) (block_kinds_sized inner)) mid.1 in
-      let far : place + (condition_size c + 1 + block_size plain_coder inner + block_size plain_coder rest) ≡ past + block_size plain_coder rest = omega arith in
+      let far : place + (condition_size c + 1 + code_size plain_coder inner + code_size plain_coder rest) ≡ past + code_size plain_coder rest = omega arith in
       let last = sym (ap kinds far) ∙ next in
       let after = block_starts rest past there last in
       let own = kinds_left from (block_kinds inner) (block_kinds rest) mid.1 in
@@ -278,17 +279,17 @@ module _ (image : ImageParts) (kinds : ℕ → List Kind) (height end : ℕ) whe
         let second = condition_low b at (Truth ∷ below) right mid.0 (omega (arith, within)) in
         omega (arith, first, second)
 
-    pub block_low : (block : Block) (place : ℕ) → HasKinds place (block_kinds block) → kinds (place + block_size plain_coder block) ≡ [] → place + block_size plain_coder block ≤ end
+    pub block_low : (block : Block) (place : ℕ) → HasKinds place (block_kinds block) → kinds (place + code_size plain_coder block) ≡ [] → place + code_size plain_coder block ≤ end
         → block_height plain_coder block ≤ height
     block_low Done place has next within = omega arith
     block_low (RunThen n rest) place has next within =
-        let far : place + (2 + block_size plain_coder rest) ≡ place + 1 + 1 + block_size plain_coder rest = omega arith in
+        let far : place + (2 + code_size plain_coder rest) ≡ place + 1 + 1 + code_size plain_coder rest = omega arith in
         let one = each (place + 1) (omega (arith, within)) in
         let long = ap length has.1.0 in
         let more = block_low rest (place + 1 + 1) has.1.1 (sym (ap kinds far) ∙ next) (omega (arith, within)) in
         omega (arith, one, long, more)
     block_low (WantThen n rest) place has next within =
-        let far : place + (2 + block_size plain_coder rest) ≡ place + 1 + 1 + block_size plain_coder rest = omega arith in
+        let far : place + (2 + code_size plain_coder rest) ≡ place + 1 + 1 + code_size plain_coder rest = omega arith in
         let one = each (place + 1) (omega (arith, within)) in
         let long = ap length has.1.0 in
         let more = block_low rest (place + 1 + 1) has.1.1 (sym (ap kinds far) ∙ next) (omega (arith, within)) in
@@ -296,12 +297,12 @@ module _ (image : ImageParts) (kinds : ℕ → List Kind) (height end : ℕ) whe
     block_low (IfThen c inner rest) place has next within =
         let at = place + condition_size c in
         let from = at + 1 in
-        let past = from + block_size plain_coder inner in
+        let past = from + code_size plain_coder inner in
         let kc = condition_kinds [] c in
         let kb = block_kinds inner ++ block_kinds rest in
         let mid = kinds_right place kc ((Truth ∷ []) ∷ kb) at (ap (λ n. place + n) (kinds_sized [] c)) has in
         let there = kinds_right from (block_kinds inner) (block_kinds rest) past (ap (λ n. from + n) (block_kinds_sized inner)) mid.1 in
-        let far : place + (condition_size c + 1 + block_size plain_coder inner + block_size plain_coder rest) ≡ past + block_size plain_coder rest = omega arith in
+        let far : place + (condition_size c + 1 + code_size plain_coder inner + code_size plain_coder rest) ≡ past + code_size plain_coder rest = omega arith in
         let last = sym (ap kinds far) ∙ next in
         let own = kinds_left from (block_kinds inner) (block_kinds rest) mid.1 in
         let tested = condition_low c place [] (kinds_left place kc ((Truth ∷ []) ∷ kb) has) mid.0 (omega (arith, within)) in

@@ -19,7 +19,7 @@ use Rattle.ifs_gen.specs.declared.fault.GenFault.TheVariants as generating
 use Rattle.ifs_gen.specs.declared.compile_fault.CompileFault.{CompileFault}
 use Rattle.ifs_gen.specs.declared.compile_fault.CompileFault.TheVariants.{Text, Code, Memory}
 use Rattle.ifs_gen.specs.Trees.{Policy}
-use Rattle.ifs_gen.specs.Refused.{IsRefused}
+use Rattle.ifs_gen.specs.Refused.{PassesFirst}
 use Rattle.ifs_gen.specs.PlainImage.{room_of, plain_image, CodeFits}
 use Rattle.ifs_gen.specs.Events.{RunsAsPolicy}
 
@@ -88,9 +88,9 @@ of_code fault = Code fault
 -- What a refusal says of a text: it has no policy, since it has that fault first; or the code of its policy passes that limit first. Want of memory says nothing of it.
 abbrev pub IsRefusal : List ℕ → List (List ℕ × List ℕ) → CompileFault → Type 0
 IsRefusal text defs (Text fault) = IsTextRefused text defs fault
-IsRefusal text defs (Code fault) = (policy : Policy) × HasPolicy text defs policy × IsRefused policy fault
+IsRefusal text defs (Code fault) = (policy : Policy) × HasPolicy text defs policy × PassesFirst policy fault
 IsRefusal text defs Memory = Unit {0}
 
 -- A refusal of a policy: for a limit that its code passes first, or want of memory.
 abbrev pub IsCodeRefusal : Policy → CompileFault → Type 0
-IsCodeRefusal policy fault = (limit : GenFault) × (fault ≡ of_code limit) × (limit ≢ generating.Memory → IsRefused policy limit)
+IsCodeRefusal policy fault = (limit : GenFault) × (fault ≡ of_code limit) × (limit ≢ generating.Memory → PassesFirst policy limit)

@@ -14,7 +14,7 @@ use Rattle.ifs_core.specs.Steps.{CoreState, replies, after_steps}
 use Rattle.ifs_gen.specs.Trees.{Part, Policy}
 use Rattle.ifs_policy.specs.Meaning.{Mentions, body_yield, init_yield}
 use Rattle.ifs_sched.specs.Schedule.{has_test}
-use Rattle.ifs_gen.specs.PlainImage.{tests_in, mask_in, room_of, plain_image, CodeFits}
+use Rattle.ifs_gen.specs.PlainImage.{test_count, mask_in, room_of, plain_image, CodeFits}
 use Rattle.ifs_policy.specs.Fits.{PolicyFits}
 
 -- What a state's part yields; nothing where there is no such state.
@@ -39,8 +39,8 @@ abbrev pub behaviour_of : Policy → Behaviour
 behaviour_of policy = record {
   answer = yield_of policy;
   cost = λ handler facts. 0;
-  always = mask_in (tests_in policy) policy.always;
-  active = λ k. mask_of_state (tests_in policy) (slice_get policy.states k);
+  always = mask_in (test_count policy) policy.always;
+  active = λ k. mask_of_state (test_count policy) (slice_get policy.states k);
 }
 
 -- The opening of a policy: nothing is known of its links, and the first run number is 1.

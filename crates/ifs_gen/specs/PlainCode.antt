@@ -4,6 +4,7 @@ use Rattle.std.specs.List.{list_any}
 use Rattle.ifs_base.specs.declared.ids.TestId.{TestId}
 use Rattle.ifs_base.specs.declared.op.Op.{Op}
 use Rattle.ifs_base.specs.declared.op.Op.TheVariants.{Ret, Link, Test, Known, Negate, Both, Either, PushCommand, PushState, Queue, Want, JumpFalse}
+use Rattle.ifs_parse.specs.Trees.{condition_size}
 use Rattle.ifs_gen.specs.Trees.{Single, LinkIs, TestIs, Condition, Leaf, NotSo, And, Or, Block, Done, RunThen, WantThen, IfThen}
 use Rattle.ifs_policy.specs.Meaning.{mentioned}
 
@@ -26,13 +27,6 @@ condition_code (NotSo operand) = condition_code operand ++ Negate ∷ []
 condition_code (And left right) = condition_code left ++ (condition_code right ++ Both ∷ [])
 condition_code (Or left right) = condition_code left ++ (condition_code right ++ Either ∷ [])
 
--- How many instructions that is.
-abbrev pub condition_size : Condition → ℕ
-condition_size (Leaf single) = 1
-condition_size (NotSo operand) = condition_size operand + 1
-condition_size (And left right) = condition_size left + condition_size right + 1
-condition_size (Or left right) = condition_size left + condition_size right + 1
-
 -- How many values it has on the stack at most: the right operand stands above the left one's value.
 abbrev pub condition_height : Condition → ℕ
 condition_height (Leaf single) = 1
@@ -40,16 +34,16 @@ condition_height (NotSo operand) = condition_height operand
 condition_height (And left right) = max (condition_height left) (condition_height right + 1)
 condition_height (Or left right) = max (condition_height left) (condition_height right + 1)
 
--- Conditions in plain code, each instruction of which is executed once.
+-- Conditions in plain code, an instruction for each leaf and sign, each of which is executed once.
 abbrev pub plain_coder : Coder
 plain_coder = record { code = condition_code; size = condition_size; height = condition_height; cost = condition_size }
 
--- How many instructions a block has.
-abbrev pub block_size : Coder → Block → ℕ
-block_size coder Done = 0
-block_size coder (RunThen command rest) = 2 + block_size coder rest
-block_size coder (WantThen state rest) = 2 + block_size coder rest
-block_size coder (IfThen condition inner rest) = coder.size condition + 1 + block_size coder inner + block_size coder rest
+-- How many instructions the code of a block has.
+abbrev pub code_size : Coder → Block → ℕ
+code_size coder Done = 0
+code_size coder (RunThen command rest) = 2 + code_size coder rest
+code_size coder (WantThen state rest) = 2 + code_size coder rest
+code_size coder (IfThen condition inner rest) = coder.size condition + 1 + code_size coder inner + code_size coder rest
 
 -- The code of a block that begins at a place: where a condition is false, its block is passed over.
 abbrev pub block_code : Coder → ℕ → Block → List Op
@@ -58,7 +52,7 @@ block_code coder place (RunThen command rest) = PushCommand command ∷ Queue �
 block_code coder place (WantThen state rest) = PushState state ∷ Want ∷ block_code coder (place + 2) rest
 block_code coder place (IfThen condition inner rest) =
     let from = place + coder.size condition + 1 in
-    let past = from + block_size coder inner in
+    let past = from + code_size coder inner in
     coder.code condition ++ (JumpFalse past ∷ (block_code coder from inner ++ block_code coder past rest))
 
 -- The tests below a number that stand in a list, by index.
@@ -80,7 +74,7 @@ abbrev pub body_start : ℕ → Block → ℕ
 body_start count body = 2 * length (holding count body)
 
 abbrev pub body_end : Coder → ℕ → Block → ℕ
-body_end coder count body = body_start count body + block_size coder body
+body_end coder count body = body_start count body + code_size coder body
 
 -- The code of a body, of a policy with so many tests.
 abbrev pub body_code : Coder → ℕ → Block → List Op
@@ -95,7 +89,7 @@ abbrev pub body_size : Coder → ℕ → Block → ℕ
 body_size coder count body = body_end coder count body + 1
 
 abbrev pub init_size : Coder → Block → ℕ
-init_size coder init = block_size coder init + 1
+init_size coder init = code_size coder init + 1
 
 -- How many values a block has on the stack at most.
 abbrev pub block_height : Coder → Block → ℕ

@@ -12,8 +12,8 @@ use Rattle.ifs_gen.specs.Trees.{Part, External, Policy}
 use Rattle.ifs_gen.specs.PlainCode.{plain_coder, holding, body_code, init_code, body_size, init_size, block_height, block_runs}
 
 -- How many external tests a policy has.
-abbrev pub tests_in : Policy → ℕ
-tests_in policy = length policy.tables.tests
+abbrev pub test_count : Policy → ℕ
+test_count policy = length policy.tables.tests
 
 -- The parts of a policy: the always part, then those of its states in order.
 abbrev pub parts_of : Policy → List Part
@@ -55,12 +55,12 @@ abbrev pub image_with : Budgets → Policy → ImageParts
 image_with budgets policy = record {
   budgets = budgets;
   initial = policy.initial;
-  always = handlers_of (tests_in policy) 0 policy.always;
+  always = handlers_of (test_count policy) 0 policy.always;
   interfaces = policy.tables.interfaces;
   tests = map test_spec policy.tables.tests;
   commands = policy.tables.commands;
-  states = states_from (tests_in policy) 1 policy.tables.states policy.states;
-  routines = routines_of (tests_in policy) (parts_of policy);
+  states = states_from (test_count policy) 1 policy.tables.states policy.states;
+  routines = routines_of (test_count policy) (parts_of policy);
 }
 
 -- The greatest number that a list's entries have.
@@ -99,7 +99,7 @@ abbrev pub least_budgets : Policy → Budgets
 least_budgets policy = record {
   stack = greatest part_height (parts_of policy);
   frames = 1;
-  cost = event_total init_length (body_length (tests_in policy)) policy;
+  cost = event_total init_length (body_length (test_count policy)) policy;
   commands = room_of policy;
 }
 
@@ -114,7 +114,7 @@ pub record RoutinesFit (count : ℕ) (part : Part) : Type 0 where
 
 -- The plain code of a policy keeps the limits: instructions of each routine and of all, height, and the room.
 pub record CodeFits (policy : Policy) : Type 0 where
-  pub each : All (RoutinesFit (tests_in policy)) (parts_of policy)
-  pub together : sum_by (λ part. init_length part + body_length (tests_in policy) part) (parts_of policy) ≤ 8192
+  pub each : All (RoutinesFit (test_count policy)) (parts_of policy)
+  pub together : sum_by (λ part. init_length part + body_length (test_count policy) part) (parts_of policy) ≤ 8192
   pub height : All (λ part. part_height part ≤ 32) (parts_of policy)
   pub room : room_of policy ≤ 64

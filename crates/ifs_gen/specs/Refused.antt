@@ -4,7 +4,7 @@ use Rattle.ifs_gen.specs.declared.fault.GenFault.{GenFault}
 use Rattle.ifs_gen.specs.declared.fault.GenFault.TheVariants.{RoutineTooLong, CodeTooLong, StackTooHigh, TooManyCommands, Memory}
 use Rattle.ifs_gen.specs.Trees.{Part, Policy}
 use Rattle.ifs_gen.specs.PlainCode.{plain_coder, block_height}
-use Rattle.ifs_gen.specs.PlainImage.{tests_in, parts_of, init_length, body_length, room_of, CodeFits}
+use Rattle.ifs_gen.specs.PlainImage.{test_count, parts_of, init_length, body_length, room_of, CodeFits}
 
 -- How many instructions the routines of parts have, in their order, of so many tests.
 abbrev pub lengths_of : ℕ → List Part → List ℕ
@@ -18,7 +18,7 @@ heights_of (part ∷ parts) = block_height plain_coder part.init ∷ block_heigh
 
 -- Those of a policy.
 abbrev pub lengths : Policy → List ℕ
-lengths policy = lengths_of (tests_in policy) (parts_of policy)
+lengths policy = lengths_of (test_count policy) (parts_of policy)
 
 abbrev pub heights : Policy → List ℕ
 heights policy = heights_of (parts_of policy)
@@ -43,17 +43,17 @@ IsPassed lengths heights room TooManyCommands = AreWithin 1024 lengths × (sum l
 IsPassed lengths heights room Memory = ⊥
 
 -- The plain code of a policy passes this limit first.
-abbrev pub IsRefused : Policy → GenFault → Type 0
-IsRefused policy fault = IsPassed (lengths policy) (heights policy) (room_of policy) fault
+abbrev pub PassesFirst : Policy → GenFault → Type 0
+PassesFirst policy fault = IsPassed (lengths policy) (heights policy) (room_of policy) fault
 
 -- The code of each policy keeps the limits, or it passes one first.
 abbrev pub FitsOrIsRefused : Type 0
-FitsOrIsRefused = (policy : Policy) → CodeFits policy ⊎ ((fault : GenFault) × IsRefused policy fault)
+FitsOrIsRefused = (policy : Policy) → CodeFits policy ⊎ ((fault : GenFault) × PassesFirst policy fault)
 
 -- A code that passes a limit first does not keep the limits.
 abbrev pub RefusedDoNotFit : Type 0
-RefusedDoNotFit = (policy : Policy) (fault : GenFault) → IsRefused policy fault → ¬ CodeFits policy
+RefusedDoNotFit = (policy : Policy) (fault : GenFault) → PassesFirst policy fault → ¬ CodeFits policy
 
 -- Of all limits, and of all routines, one at most is passed first.
 abbrev pub OneLimitIsFirst : Type 0
-OneLimitIsFirst = (policy : Policy) (fault other : GenFault) → IsRefused policy fault → IsRefused policy other → fault ≡ other
+OneLimitIsFirst = (policy : Policy) (fault other : GenFault) → PassesFirst policy fault → PassesFirst policy other → fault ≡ other

@@ -13,7 +13,7 @@ use Rattle.ifs_machine.specs.Run.{after, RunsTo, AreFactsOf}
 use Rattle.ifs_policy.specs.Fits.{Sizes, ConditionFits, BlockFits}
 use Rattle.ifs_gen.specs.Trees.{Condition, Block, Done, RunThen, WantThen, IfThen}
 use Rattle.ifs_policy.specs.Meaning.{truth, is_open, is_held, reached, body_yield, init_yield}
-use Rattle.ifs_gen.specs.PlainCode.{Coder, plain_coder, block_code, block_size, block_height, block_runs, holding, body_code, init_code}
+use Rattle.ifs_gen.specs.PlainCode.{Coder, plain_coder, block_code, code_size, block_height, block_runs, holding, body_code, init_code}
 
 -- How many entries the tables of an image have.
 abbrev pub image_sizes : ImageParts → Sizes
@@ -70,7 +70,7 @@ abbrev pub BlockRuns : Type 0
 BlockRuns = (image : ImageParts) (facts : Facts) (coder : Coder) (routine : ℕ) (callers : List Frame) (block : Block) (place : ℕ) (values : List Value) (effects : Effects)
     → Computes image facts coder → BlockFits (image_sizes image) block → HasAt (code_of image routine) place (block_code coder place block)
     → HasStack image callers values (block_height coder block) → length effects.commands + block_runs block ≤ image.budgets.commands
-    → Leads image facts routine callers (point place values effects) (block_cost coder facts block) (point (place + block_size coder block) values (followed effects (reached facts block)))
+    → Leads image facts routine callers (point place values effects) (block_cost coder facts block) (point (place + code_size coder block) values (followed effects (reached facts block)))
 
 -- How many instructions are executed to find whether a body is held back.
 abbrev pub held_cost : Facts → List TestId → ℕ

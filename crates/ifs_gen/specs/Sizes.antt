@@ -4,14 +4,15 @@ use Rattle.ifs_image.specs.declared.parts.Routine.{Routine}
 use Rattle.ifs_image.specs.Limits.{instructions}
 use Rattle.ifs_verify.specs.Bounds.{commands_of}
 use Rattle.ifs_gen.specs.Trees.{Condition, Block, Policy}
-use Rattle.ifs_gen.specs.PlainCode.{plain_coder, condition_code, condition_size, block_code, block_size, block_runs, body_code, body_size, init_code, init_size}
+use Rattle.ifs_parse.specs.Trees.{condition_size}
+use Rattle.ifs_gen.specs.PlainCode.{plain_coder, condition_code, block_code, code_size, block_runs, body_code, body_size, init_code, init_size}
 use Rattle.ifs_gen.specs.PlainImage.{plain_image}
 use Rattle.ifs_gen.specs.Refused.{lengths}
 
 -- The sizes of conditions, blocks, inits and bodies are the lengths of their codes, wherever these begin.
 pub record SizesAreLengths : Type 0 where
   pub condition : (condition : Condition) → length (condition_code condition) ≡ condition_size condition
-  pub block : (place : ℕ) (block : Block) → length (block_code plain_coder place block) ≡ block_size plain_coder block
+  pub block : (place : ℕ) (block : Block) → length (block_code plain_coder place block) ≡ code_size plain_coder block
   pub init : (init : Block) → length (init_code plain_coder init) ≡ init_size plain_coder init
   pub body : (count : ℕ) (body : Block) → length (body_code plain_coder count body) ≡ body_size plain_coder count body
   -- those of a policy are the lengths of the routines of its image, in their order, and so is their sum

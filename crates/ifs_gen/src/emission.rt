@@ -2,7 +2,7 @@
 
 ghost use Rattle.std.specs.Prelude.{◌≡◌, ◌+◌, ◌<◌, ◌^◌, ◌++◌, length, slice_set, OnOk};
 ghost use Rattle.ifs_base.specs.declared.op.Op.TheVariants.{JumpFalse};
-ghost use Rattle.ifs_gen.specs.PlainCode.{block_code, block_size, condition_code, plain_coder, single_op as op_of};
+ghost use Rattle.ifs_gen.specs.PlainCode.{block_code, code_size, condition_code, plain_coder, single_op as op_of};
 ghost use Rattle.ifs_gen.specs.inner.Emission.{op_of_sign, statement_code, statement_size};
 
 use ifs_base::{CommandId, Op, StateId};
@@ -82,7 +82,7 @@ pub(crate) fn put_condition(
 /// Adds the code of a block. Its places are those of the code that it is added to.
 #[cycle(put_block)]
 pub(crate) fn put_block(block: &PolicyBlock, code: &mut Vec<Op>) -> Result<(), AllocError>
-    requires room { length code.old.items + block_size plain_coder block.now < 2 ^ 16 }
+    requires room { length code.old.items + code_size plain_coder block.now < 2 ^ 16 }
     ensures { OnOk result (code.new.items
         ≡ code.old.items ++ block_code plain_coder (length code.old.items) block.now) }
 {

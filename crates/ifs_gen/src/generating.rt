@@ -5,7 +5,7 @@ ghost use Rattle.ifs_verify.specs.Accepted.{IsAccepted};
 ghost use Rattle.ifs_gen.specs.declared.fault.GenFault.TheVariants.{Memory};
 ghost use Rattle.ifs_gen.specs.PlainImage.{handlers_of, image_with, least_budgets, mask_in, mask_of, plain_image, routines_of, states_from, test_spec, CodeFits, RoutinesFit};
 ghost use Rattle.ifs_policy.specs.Fits.{PolicyFits};
-ghost use Rattle.ifs_gen.specs.Refused.{IsRefused};
+ghost use Rattle.ifs_gen.specs.Refused.{PassesFirst};
 
 use crate::amounts::{PartMeasure, budgets_of, measure_part, measure_parts};
 use crate::fault::GenFault;
@@ -29,7 +29,7 @@ pub fn generate(alloc: Global, policy: &Policy) -> Result<Image, GenFault>
     // and which the verifier's rules accept.
     ensures accepted { IfOk result (λ image. IsAccepted image) }
     // A fault other than want of memory is the first limit that is passed.
-    ensures refused { IfErr result (λ fault. fault ≢ Memory → IsRefused policy.now fault) }
+    ensures refused { IfErr result (λ fault. fault ≢ Memory → PassesFirst policy.now fault) }
 {
     let budgets = least_budgets(alloc, policy)?;
     let parts = image_with(alloc, policy, budgets)?;
@@ -41,7 +41,7 @@ pub fn generate(alloc: Global, policy: &Policy) -> Result<Image, GenFault>
 fn least_budgets(alloc: Global, policy: &Policy) -> Result<Budgets, GenFault>
     ensures budgets { IfOk result (λ budgets. budgets ≡ least_budgets policy.now) }
     ensures fits { OnOk result (CodeFits policy.now) }
-    ensures refused { IfErr result (λ fault. fault ≢ Memory → IsRefused policy.now fault) }
+    ensures refused { IfErr result (λ fault. fault ≢ Memory → PassesFirst policy.now fault) }
 {
     let count = usize::from(policy.counts().tests);
     let mut measures = Vec::new(alloc);

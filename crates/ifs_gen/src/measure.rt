@@ -3,7 +3,8 @@
 ghost use Rattle.std.specs.Prelude.{◌≡◌, ◌+◌, max};
 ghost use Rattle.ifs_gen.specs.inner.Measures.{capped, statement_height, statement_runs};
 ghost use Rattle.ifs_gen.specs.inner.Emission.{statement_size};
-ghost use Rattle.ifs_gen.specs.PlainCode.{block_height, block_runs, block_size, condition_height, condition_size, plain_coder};
+ghost use Rattle.ifs_parse.specs.Trees.{condition_size};
+ghost use Rattle.ifs_gen.specs.PlainCode.{block_height, block_runs, code_size, condition_height, plain_coder};
 
 use ifs_base::{CommandId, StateId};
 use ifs_parse::{Condition, Node, Statement};
@@ -84,7 +85,7 @@ impl BlockMeasure {
 /// Measures a block.
 #[cycle(measure_block)]
 pub(crate) fn measure_block(block: &PolicyBlock) -> BlockMeasure
-    ensures size { result.size ≡ capped (block_size plain_coder block.now) }
+    ensures size { result.size ≡ capped (code_size plain_coder block.now) }
     ensures height { result.height ≡ capped (block_height plain_coder block.now) }
     ensures runs { result.runs ≡ capped (block_runs block.now) }
 {

@@ -2,7 +2,7 @@
 
 ghost use Rattle.std.specs.Prelude.{◌≡◌, ◌<◌, ◌≤◌, ◌^◌, ◌++◌, true, slice_set, IfOk, OnOk};
 ghost use Rattle.ifs_policy.specs.Meaning.{mentioned, mentioned_in};
-ghost use Rattle.ifs_gen.specs.inner.Marks.{marked, statement_mentions, test_where};
+ghost use Rattle.ifs_gen.specs.inner.Marks.{marked, statement_tests, test_where};
 ghost use Rattle.ifs_gen.specs.PlainCode.{holding};
 
 use ifs_base::{CommandId, StateId, TestId};
@@ -83,7 +83,7 @@ fn mark_block(block: &PolicyBlock, marks: &mut [bool])
 /// Marks the tests that a statement mentions.
 #[cycle(mark_block)]
 fn mark_statement(statement: &Statement<Single, CommandId, StateId>, marks: &mut [bool])
-    ensures { marks.new ≡ marked marks.old (statement_mentions statement.now) }
+    ensures { marks.new ≡ marked marks.old (statement_tests statement.now) }
 {
     match statement {
         Statement::Run(_) | Statement::SetState(_) => {}

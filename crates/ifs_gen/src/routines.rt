@@ -2,7 +2,7 @@
 
 ghost use Rattle.std.specs.Prelude.{◌≡◌, ◌+◌, ◌*◌, ◌<◌, ◌++◌, [], ◌∷◌, length, IfOk};
 ghost use Rattle.ifs_base.specs.declared.op.Op.TheVariants.{Ret};
-ghost use Rattle.ifs_gen.specs.PlainCode.{block_code, block_size, held_code, init_code, plain_coder};
+ghost use Rattle.ifs_gen.specs.PlainCode.{block_code, code_size, held_code, init_code, plain_coder};
 ghost use Rattle.ifs_gen.specs.PlainImage.{routine_of_code};
 
 use crate::emission::put_block;
@@ -13,7 +13,7 @@ use std::alloc::{AllocError, Global};
 
 /// The routine of an init, which is never held back.
 pub(crate) fn init_routine(alloc: Global, init: &PolicyBlock) -> Result<Routine, AllocError>
-    requires { block_size plain_coder init.now < 1024 }
+    requires { code_size plain_coder init.now < 1024 }
     ensures { IfOk result (λ routine. routine ≡ routine_of_code (init_code plain_coder init.now)) }
 {
     let mut code = Vec::new(alloc);
@@ -32,7 +32,7 @@ pub(crate) fn body_routine(
     tests: &[TestId],
     end: u16,
 ) -> Result<Routine, AllocError>
-    requires end { end ≡ 2 * length tests.now + block_size plain_coder body.now }
+    requires end { end ≡ 2 * length tests.now + code_size plain_coder body.now }
     requires room { end < 1024 }
     ensures { IfOk result (λ routine. routine ≡ routine_of_code (held_code end tests.now
         ++ (block_code plain_coder (2 * length tests.now) body.now ++ Ret ∷ []))) }

@@ -9,7 +9,7 @@ use Rattle.ifs_parse.specs.declared.block.Statement.{Statement}
 use Rattle.ifs_gen.specs.declared.emission.Sign.{Sign}
 use Rattle.ifs_gen.specs.declared.emission.Sign.TheVariants.{And, Or}
 use Rattle.ifs_gen.specs.Trees.{Single, Done}
-use Rattle.ifs_gen.specs.PlainCode.{plain_coder, block_code, block_size}
+use Rattle.ifs_gen.specs.PlainCode.{plain_coder, block_code, code_size}
 
 -- It is that of a block of this statement alone.
 abbrev pub statement_code : ℕ → Statement Single CommandId StateId → List Op
@@ -17,7 +17,7 @@ statement_code place statement = block_code plain_coder place (statement_then st
 
 -- So is its size.
 abbrev pub statement_size : Statement Single CommandId StateId → ℕ
-statement_size statement = block_size plain_coder (statement_then statement Done)
+statement_size statement = code_size plain_coder (statement_then statement Done)
 
 -- The instruction of a sign.
 abbrev pub op_of_sign : Sign → Op

@@ -14,8 +14,8 @@ marked marks [] = marks
 marked marks (test ∷ tests) = marked (slice_set marks test.0 true) tests
 
 -- The tests that a statement mentions.
-abbrev pub statement_mentions : Statement Single CommandId StateId → List TestId
-statement_mentions statement = mentioned (statement_then statement Done)
+abbrev pub statement_tests : Statement Single CommandId StateId → List TestId
+statement_tests statement = mentioned (statement_then statement Done)
 
 -- The test of an index, where it is marked.
 abbrev pub test_where : Bool → ℕ → List TestId

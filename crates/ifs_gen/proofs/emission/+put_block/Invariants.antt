@@ -1,12 +1,12 @@
 -- Each call is of a smaller code, and the statements so far are added.
 use Rattle.std.proofs.Common.{◌≡◌, ◌+◌, ◌*◌, ◌++◌, length, take}
 use Rattle.ifs_parse.specs.Views.{block_of}
-use Rattle.ifs_gen.specs.PlainCode.{plain_coder, block_code, block_size}
+use Rattle.ifs_gen.specs.PlainCode.{plain_coder, block_code, code_size}
 use Rattle.ifs_gen.specs.inner.Emission.{statement_size}
 use Rattle.ifs_gen.proofs.emission.+put_block.Given as goal
 
 abbrev pub decreases-put_block : goal.decreases-put_block
-decreases-put_block l = 2 * block_size plain_coder l.block.now + 1
+decreases-put_block l = 2 * code_size plain_coder l.block.now + 1
 
 abbrev pub decreases-put_statement : goal.decreases-put_statement
 decreases-put_statement l = 2 * statement_size l.statement.now

@@ -1,6 +1,6 @@
 -- What the measures tell is told of the policy.
 use Rattle.std.proofs.Common.{◌≡◌, map, rules, ap}
-use Rattle.ifs_gen.specs.PlainImage.{tests_in, parts_of}
+use Rattle.ifs_gen.specs.PlainImage.{test_count, parts_of}
 use Rattle.ifs_gen.specs.inner.Amounts.{measured}
 use Rattle.ifs_gen.proofs.Copying.{told}
 use Rattle.ifs_gen.proofs.generating.least_budgets.Goals as goal
@@ -8,17 +8,17 @@ use Rattle.ifs_gen.proofs.generating.least_budgets.Goals as goal
 pub returns-clause-budgets : goal.returns-clause-budgets
 returns-clause-budgets c =
     let policy = c.args.policy.now in
-    let same : c.as_slice.result.now ≡ map (measured (tests_in policy)) (parts_of policy) = search rules in
+    let same : c.as_slice.result.now ≡ map (measured (test_count policy)) (parts_of policy) = search rules in
     (told policy c.budgets_of.result c.as_slice.result.now c.initial.result.0 same (ap (λ s. s.0) c.initial.ensures) c.budgets_of.ensures.fine c.budgets_of.ensures.budgets c.budgets_of.ensures.passed).budgets
 
 pub returns-clause-fits : goal.returns-clause-fits
 returns-clause-fits c =
     let policy = c.args.policy.now in
-    let same : c.as_slice.result.now ≡ map (measured (tests_in policy)) (parts_of policy) = search rules in
+    let same : c.as_slice.result.now ≡ map (measured (test_count policy)) (parts_of policy) = search rules in
     (told policy c.budgets_of.result c.as_slice.result.now c.initial.result.0 same (ap (λ s. s.0) c.initial.ensures) c.budgets_of.ensures.fine c.budgets_of.ensures.budgets c.budgets_of.ensures.passed).fits
 
 pub returns-clause-refused : goal.returns-clause-refused
 returns-clause-refused c =
     let policy = c.args.policy.now in
-    let same : c.as_slice.result.now ≡ map (measured (tests_in policy)) (parts_of policy) = search rules in
+    let same : c.as_slice.result.now ≡ map (measured (test_count policy)) (parts_of policy) = search rules in
     (told policy c.budgets_of.result c.as_slice.result.now c.initial.result.0 same (ap (λ s. s.0) c.initial.ensures) c.budgets_of.ensures.fine c.budgets_of.ensures.budgets c.budgets_of.ensures.passed).refused

@@ -2,7 +2,8 @@
 use Rattle.std.proofs.Common.{◌≡◌, ◌+◌, ◌⊎◌, inl, inr, max, ap, sym, ◌∙◌, refl, arith}
 use Rattle.ifs_parse.specs.Trees as tree
 use Rattle.ifs_parse.specs.Views.{condition_of, all_of, any_of}
-use Rattle.ifs_gen.specs.PlainCode.{condition_size, condition_height}
+use Rattle.ifs_parse.specs.Trees.{condition_size}
+use Rattle.ifs_gen.specs.PlainCode.{condition_height}
 use Rattle.ifs_gen.proofs.Measuring.{size_more, height_more, size_all, height_all}
 use Rattle.ifs_gen.proofs.measure.+measure_condition.Goals as goal
 
