@@ -107,14 +107,27 @@ least_budgets policy = record {
 abbrev pub plain_image : Policy → ImageParts
 plain_image policy = image_with (least_budgets policy) policy
 
+-- The limits of code: instructions of one routine and of all together, values on the stack, and commands of one event.
+abbrev pub most_of_routine : ℕ
+most_of_routine = 1024
+
+abbrev pub most_of_all : ℕ
+most_of_all = 8192
+
+abbrev pub most_of_stack : ℕ
+most_of_stack = 32
+
+abbrev pub most_of_event : ℕ
+most_of_event = 64
+
 -- The plain code of a part keeps the limits of one routine.
 pub record RoutinesFit (count : ℕ) (part : Part) : Type 0 where
-  pub init : init_length part ≤ 1024
-  pub body : body_length count part ≤ 1024
+  pub init : init_length part ≤ most_of_routine
+  pub body : body_length count part ≤ most_of_routine
 
 -- The plain code of a policy keeps the limits: instructions of each routine and of all, height, and the room.
 pub record CodeFits (policy : Policy) : Type 0 where
   pub each : All (RoutinesFit (test_count policy)) (parts_of policy)
-  pub together : sum_by (λ part. init_length part + body_length (test_count policy) part) (parts_of policy) ≤ 8192
-  pub height : All (λ part. part_height part ≤ 32) (parts_of policy)
-  pub room : room_of policy ≤ 64
+  pub together : sum_by (λ part. init_length part + body_length (test_count policy) part) (parts_of policy) ≤ most_of_all
+  pub height : All (λ part. part_height part ≤ most_of_stack) (parts_of policy)
+  pub room : room_of policy ≤ most_of_event

@@ -4,7 +4,7 @@ use Rattle.ifs_gen.specs.declared.fault.GenFault.{GenFault}
 use Rattle.ifs_gen.specs.declared.fault.GenFault.TheVariants.{RoutineTooLong, CodeTooLong, StackTooHigh, TooManyCommands, Memory}
 use Rattle.ifs_gen.specs.Trees.{Part, Policy}
 use Rattle.ifs_gen.specs.PlainCode.{plain_coder, block_height}
-use Rattle.ifs_gen.specs.PlainImage.{test_count, parts_of, init_length, body_length, room_of, CodeFits}
+use Rattle.ifs_gen.specs.PlainImage.{test_count, parts_of, init_length, body_length, room_of, most_of_routine, most_of_all, most_of_stack, most_of_event, CodeFits}
 
 -- How many instructions the routines of parts have, in their order, of so many tests.
 abbrev pub lengths_of : ℕ → List Part → List ℕ
@@ -36,10 +36,10 @@ pub record IsFirstOver (limit : ℕ) (numbers : List ℕ) (index : ℕ) : Type 0
 
 -- Of routines of these lengths and heights, and of a room, this limit is passed, and none that is looked for before it. Want of memory says nothing of them.
 abbrev pub IsPassed : List ℕ → List ℕ → ℕ → GenFault → Type 0
-IsPassed lengths heights room (RoutineTooLong routine) = IsFirstOver 1024 lengths routine.0
-IsPassed lengths heights room CodeTooLong = AreWithin 1024 lengths × (8192 < sum lengths)
-IsPassed lengths heights room (StackTooHigh routine) = AreWithin 1024 lengths × (sum lengths ≤ 8192) × IsFirstOver 32 heights routine.0
-IsPassed lengths heights room TooManyCommands = AreWithin 1024 lengths × (sum lengths ≤ 8192) × AreWithin 32 heights × (64 < room)
+IsPassed lengths heights room (RoutineTooLong routine) = IsFirstOver most_of_routine lengths routine.0
+IsPassed lengths heights room CodeTooLong = AreWithin most_of_routine lengths × (most_of_all < sum lengths)
+IsPassed lengths heights room (StackTooHigh routine) = AreWithin most_of_routine lengths × (sum lengths ≤ most_of_all) × IsFirstOver most_of_stack heights routine.0
+IsPassed lengths heights room TooManyCommands = AreWithin most_of_routine lengths × (sum lengths ≤ most_of_all) × AreWithin most_of_stack heights × (most_of_event < room)
 IsPassed lengths heights room Memory = ⊥
 
 -- The plain code of a policy passes this limit first.

@@ -11,20 +11,9 @@ use crate::measure::{BlockMeasure, measure_block};
 use crate::mention::tests_of;
 use ifs_base::{RoutineId, StateId};
 use ifs_image::Budgets;
+use ifs_image::limits::{CODE_OF_IMAGE, CODE_OF_ROUTINE, COMMANDS_OF_EVENT, STACK};
 use ifs_policy::Handlers;
 use std::alloc::{AllocError, Global};
-
-/// Instructions of one routine.
-const CODE_OF_ROUTINE: u64 = 1_024;
-
-/// Instructions of all routines together.
-const CODE_OF_IMAGE: u64 = 8_192;
-
-/// Values on the stack.
-const STACK: u64 = 32;
-
-/// Commands that one event runs.
-const COMMANDS_OF_EVENT: u64 = 64;
 
 /// What a limit is of.
 #[derive(Clone, Copy, Debug, PartialEq, Eq)]
@@ -184,17 +173,17 @@ pub(crate) fn budgets_of(measures: &[PartMeasure], initial: StateId) -> Result<B
     ensures budgets { IfOk result (λ budgets. budgets ≡ budgets_in measures.now initial.0) }
     ensures passed { IfErr result (λ fault. IsPassed (numbers_of Size measures.now) (numbers_of Height measures.now) (event_in Runs measures.now initial.0) fault) }
 {
-    if let Some(routine) = first_over(measures, Amount::Size, CODE_OF_ROUTINE) {
+    if let Some(routine) = first_over(measures, Amount::Size, u64::from(CODE_OF_ROUTINE)) {
         return Err(GenFault::RoutineTooLong(routine));
     }
-    if CODE_OF_IMAGE < total_size(measures) {
+    if u64::from(CODE_OF_IMAGE) < total_size(measures) {
         return Err(GenFault::CodeTooLong);
     }
-    if let Some(routine) = first_over(measures, Amount::Height, STACK) {
+    if let Some(routine) = first_over(measures, Amount::Height, u64::from(STACK)) {
         return Err(GenFault::StackTooHigh(routine));
     }
     let commands = event_total(measures, initial, Amount::Runs);
-    if COMMANDS_OF_EVENT < commands {
+    if u64::from(COMMANDS_OF_EVENT) < commands {
         return Err(GenFault::TooManyCommands);
     }
     let cost = event_total(measures, initial, Amount::Size);

@@ -5,13 +5,13 @@ ghost use Rattle.ifs_policy.specs.Meaning.{mentioned, mentioned_in};
 ghost use Rattle.ifs_gen.specs.inner.Marks.{marked, statement_tests, test_where};
 ghost use Rattle.ifs_gen.specs.PlainCode.{holding};
 
-use ifs_base::{CommandId, StateId, TestId};
+use ifs_base::{CommandId, StateId, TestId, limits};
 use ifs_parse::{Condition, Node, Statement};
 use ifs_policy::{PolicyBlock, Single};
 use std::alloc::{AllocError, Global};
 
-/// How many tests a policy has at most.
-const MAX_TESTS: usize = 64;
+/// A mark for each test that a policy may have.
+const MARKS: usize = limits::TESTS as usize;
 
 /// The tests that a body mentions at any depth, of so many, by index.
 pub(crate) fn tests_of(
@@ -22,7 +22,7 @@ pub(crate) fn tests_of(
     requires { count ≤ 64 }
     ensures { IfOk result (λ tests. tests.items ≡ holding count body.now) }
 {
-    let mut marks = [false; MAX_TESTS];
+    let mut marks = [false; MARKS];
     mark_block(body, &mut marks);
     let mut tests = Vec::new(alloc);
     for index in 0..count {

@@ -7,7 +7,7 @@ use Rattle.ifs_gen.specs.declared.amounts.Amount.{Amount}
 use Rattle.ifs_gen.specs.declared.amounts.Amount.TheVariants.{Size, Height, Runs}
 use Rattle.ifs_gen.specs.Trees.{Part}
 use Rattle.ifs_gen.specs.PlainCode.{plain_coder, block_height, block_runs}
-use Rattle.ifs_gen.specs.PlainImage.{greatest, number_in, init_length, body_length}
+use Rattle.ifs_gen.specs.PlainImage.{greatest, number_in, init_length, body_length, most_of_routine, most_of_all, most_of_stack, most_of_event}
 use Rattle.ifs_gen.specs.Refused.{AreWithin}
 use Rattle.ifs_gen.specs.inner.Measures.{capped}
 
@@ -58,7 +58,7 @@ budgets_in ms initial = record {
 
 -- Measures that keep all limits.
 pub record AreFine (ms : List PartMeasure) (initial : ℕ) : Type 0 where
-  pub each : AreWithin 1024 (numbers_of Size ms)
-  pub together : sum (numbers_of Size ms) ≤ 8192
-  pub heights : AreWithin 32 (numbers_of Height ms)
-  pub room : event_in Runs ms initial ≤ 64
+  pub each : AreWithin most_of_routine (numbers_of Size ms)
+  pub together : sum (numbers_of Size ms) ≤ most_of_all
+  pub heights : AreWithin most_of_stack (numbers_of Height ms)
+  pub room : event_in Runs ms initial ≤ most_of_event
