@@ -1,5 +1,5 @@
 -- A text that is refused has no policy, and the fault is the only one.
-use Rattle.std.proofs.Common.{inl, inr, ℕ, true≢false, IsTrue, List, [], ◌∷◌, sym, subst, ◌∙◌}
+use Rattle.std.proofs.Common.{◌≡◌, inl, inr, ℕ, true≢false, IsTrue, List, [], ◌∷◌, sym, subst, ◌∙◌}
 use Rattle.std.specs.List.{list_any}
 use Rattle.ifs_parse.specs.declared.tree.Item.{Item}
 use Rattle.ifs_policy.specs.declared.fault.ResolveFault.{ResolveFault}
@@ -28,9 +28,14 @@ refused_has_none items _ (no_state h) policy r = true≢false (sym r.has_state �
 refused_has_none items _ (broken fault some h) policy r = broken_not_sound no_names (mentions_of items) fault h r.sound
 refused_has_none items _ (unknown line some sound h) policy r = unknown_not_known (tables_of (mentions_of items)).states (mentions_of items) line h r.known
 
-pub first_is_refused : (items : List Item) (fault : ResolveFault) → IsTrue (list_any is_state items) → IsFirst no_names (mentions_of items) fault → IsTreeRefused items fault
+first_is_refused : (items : List Item) (fault : ResolveFault) → IsTrue (list_any is_state items) → IsFirst no_names (mentions_of items) fault → IsTreeRefused items fault
 first_is_refused items fault some (inl h) = broken fault some h
 first_is_refused items fault some (inr h) = subst (IsTreeRefused items) (sym h.1.1) (unknown h.1.0 some h.0 h.1.2)
+
+-- A fault that the walk over the items tells first refuses them.
+pub told_is_refused : (items walked : List Item) (fault : ResolveFault) → walked ≡ items → IsTrue (list_any is_state walked) → IsFirst no_names (mentions_of walked) fault
+    → IsTreeRefused items fault
+told_is_refused items walked fault same some first = subst (λ (l : List Item). IsTreeRefused l fault) same (first_is_refused walked fault some first)
 
 -- What the walk leaves and makes is the policy of the items.
 pub resolved : (items : List Item) (placed : PolicyTrees) (names : Names) → IsTrue (list_any is_state items) → Walked items placed names

@@ -5,12 +5,9 @@ use Rattle.std.specs.List.{list_any}
 use Rattle.ifs_policy.specs.declared.fault.ResolveFault.TheVariants.{Memory}
 use Rattle.ifs_policy.specs.Faults.{IsTreeRefused, is_state, no_state}
 use Rattle.ifs_parse.specs.declared.tree.Item.{Item}
-use Rattle.ifs_policy.specs.Mentions.{mentions_of}
-use Rattle.ifs_policy.specs.Tables.{no_names}
-use Rattle.ifs_policy.specs.inner.Entries.{IsFirst}
 use Rattle.ifs_policy.specs.inner.Walked.{Walked}
 use Rattle.ifs_policy.proofs.Fitting.{resolved_fits}
-use Rattle.ifs_policy.proofs.Refusals.{refused_has_none, first_is_refused, resolved}
+use Rattle.ifs_policy.proofs.Refusals.{refused_has_none, told_is_refused, resolved}
 use Rattle.ifs_policy.proofs.resolving.resolve.Goals as goal
 
 pub returns-then-not-has_state-clause-refused : goal.returns-then-not-has_state-clause-refused
@@ -20,21 +17,19 @@ pub returns-in_err-initial-clause-refused : goal.returns-in_err-initial-clause-r
 returns-in_err-initial-clause-refused c =
     let items = c.args.tree.now.items in
     let fault = c.in_err-initial.field-0.0 in
-    let some = ap (list_any is_state) (sym c.items-items.ensures.items) ∙ sym c.if-not-has_state.ensures in
     let p = err_from_is_err_and c.from_residual.result c.from_residual.ensures.1 in
     rw p.1 (λ other.
     let first = c.in_err-initial.ensures.refused (subst (λ f. f ≢ Memory) p.2 other) in
-    subst (IsTreeRefused items) (sym p.2) (first_is_refused items fault some (subst (λ (l : List Item). IsFirst no_names (mentions_of l) fault) c.items-items.ensures.items first)))
+    subst (IsTreeRefused items) (sym p.2) (told_is_refused items _ fault c.items-items.ensures.items (sym c.if-not-has_state.ensures) first))
 
 pub returns-in_err-initial-clause-none : goal.returns-in_err-initial-clause-none
 returns-in_err-initial-clause-none c =
     let items = c.args.tree.now.items in
     let fault = c.in_err-initial.field-0.0 in
-    let some = ap (list_any is_state) (sym c.items-items.ensures.items) ∙ sym c.if-not-has_state.ensures in
     let p = err_from_is_err_and c.from_residual.result c.from_residual.ensures.1 in
     rw p.1 (λ other.
     let first = c.in_err-initial.ensures.refused (subst (λ f. f ≢ Memory) p.2 other) in
-    refused_has_none items fault (first_is_refused items fault some (subst (λ (l : List Item). IsFirst no_names (mentions_of l) fault) c.items-items.ensures.items first)))
+    refused_has_none items fault (told_is_refused items _ fault c.items-items.ensures.items (sym c.if-not-has_state.ensures) first))
 
 pub new-requires : goal.new-requires
 new-requires c =
