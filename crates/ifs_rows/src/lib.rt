@@ -12,7 +12,10 @@ pub mod sessions;
 mod texts;
 
 pub use hexadecimal::{bytes_of, digits_of};
-pub use largest::{LARGEST_BYTES, largest_listing};
+pub use largest::{
+    LARGEST_BYTES, LARGEST_COMPILED, definitions_in, largest_definitions, largest_listing,
+    largest_policy, longest_line_listing,
+};
 pub use refused::{cost_through_calls, refusals};
 pub use sessions::rows;
 
