@@ -4,6 +4,8 @@
 #![tactic(auto)]
 
 #[cfg(test)]
+mod largest;
+#[cfg(test)]
 mod machine;
 #[cfg(test)]
 mod schedule;

@@ -1,0 +1,55 @@
+//! A core on the largest image: nothing but memory is in its way.
+
+use ifs_asm::assemble;
+use ifs_base::{IfaceId, LinkState, StateId};
+use ifs_core::{Core, Reply, Step};
+use ifs_image::write;
+use ifs_rows::{LARGEST_BYTES, largest_listing};
+use ifs_verify::{Verified, verify};
+use std::alloc::Global;
+use std::process::Abort;
+use std::test::Fail;
+
+/// The bytes of the image that a text spells.
+fn bytes_in(alloc: Global, text: &str) -> Result<Vec<u8>, Fail> {
+    let image = assemble(alloc, text)?;
+    Ok(write(alloc, &image)?)
+}
+
+fn opened(alloc: Global, verified: Verified) -> Result<Core, Fail> {
+    match Core::open(alloc, verified) {
+        Ok(core) => Ok(core),
+        Err(_) => Err(Fail::from("no core")),
+    }
+}
+
+/// Its last state is the initial one, and its last interface is told.
+fn check_core(rt: &impl Abort, core: &mut Core) {
+    assert_eq!(rt; core.state(), StateId(255));
+    let reply = core.step(Step::Link(IfaceId(63), LinkState::Up));
+    assert!(rt;
+        matches!(
+            reply,
+            Reply::Done {
+                state: StateId(255),
+                ..
+            }
+        )
+    );
+    assert_eq!(rt; core.link(IfaceId(63)), Some(LinkState::Up));
+}
+
+fn check_opened(rt: &impl Abort, alloc: Global, bytes: &[u8]) -> Result<(), Fail> {
+    let verified = verify(alloc, bytes)?;
+    let mut core = opened(alloc, verified)?;
+    check_core(rt, &mut core);
+    Ok(())
+}
+
+#[test]
+fn opens_the_largest_image(rt: HostRuntime) -> Result<(), Fail> {
+    let text = largest_listing(rt.alloc())?;
+    let bytes = bytes_in(rt.alloc(), text.as_str())?;
+    assert_eq!(rt; bytes.len(), LARGEST_BYTES);
+    check_opened(&rt, rt.alloc(), bytes.as_slice())
+}
