@@ -1,5 +1,6 @@
 -- Accounts: each thing that is done carries them on.
-use Rattle.std.proofs.Common.{◌≡◌, ℕ, ◌-◌, Bool, true, false, cond, nat_lt, ◌<◌, ◌≤◌, length, List, [], ◌∷◌, ◌++◌, Option, Some, None, refl, sym, ap, ◌∙◌, subst, arith}
+use Rattle.std.proofs.Common.{◌≡◌, ℕ, ◌-◌, Bool, true, false, cond, nat_lt, ◌<◌, ◌≤◌, length, List, [], ◌∷◌, ◌++◌}
+use Rattle.std.proofs.Common.{Option, Some, None, refl, sym, ap, ◌∙◌, subst, arith}
 use Rattle.std.proofs.lemmas.Bool.Decides.{nat_tests}
 use Rattle.ifs_image.specs.declared.parts.ImageParts.{ImageParts}
 use Rattle.ifs_core.specs.declared.step.Step.{Step}
@@ -8,7 +9,8 @@ use Rattle.ifs_core.specs.declared.step.Reply.{Reply}
 use Rattle.ifs_core.specs.Event.{Behaviour}
 use Rattle.ifs_core.specs.Steps.{CoreState, turn, after_steps}
 use Rattle.ifs_session.specs.Hosts.{Ending, HostLog, Adds, ran, launched, polled}
-use Rattle.ifs_session.specs.Accounts.{Account, Part, attended, listened, takes_of, texts_of, launches_told, made, emptied, acted, heard, heard_out, ended, all_ended, served, all_served}
+use Rattle.ifs_session.specs.Accounts.{Account, Exchange, attended, listened, takes_of, texts_of, launches_told, made}
+use Rattle.ifs_session.specs.Accounts.{emptied, acted, heard, heard_out, ended, all_ended, served, all_served}
 use Rattle.ifs_session.specs.inner.Connections.{Standing, Stands, Carries, HasFollowed}
 use Rattle.ifs_session.proofs.Logs.{adds_both}
 
@@ -59,11 +61,11 @@ pub all_ended-push : (b : Behaviour) (image : ImageParts) (endings : List Ending
 all_ended-push b image [] e a = refl
 all_ended-push b image (first ∷ endings) e a = all_ended-push b image endings e (ended b image first a)
 
--- One more part.
-pub all_served-push : (b : Behaviour) (image : ImageParts) (parts : List Part) (part : Part) (a : Account)
-    → all_served b image (parts ++ part ∷ []) a ≡ served b image part (all_served b image parts a)
-all_served-push b image [] part a = refl
-all_served-push b image (first ∷ parts) part a = all_served-push b image parts part (served b image first a)
+-- One more exchange.
+pub all_served-push : (b : Behaviour) (image : ImageParts) (exchanges : List Exchange) (exchange : Exchange) (a : Account)
+    → all_served b image (exchanges ++ exchange ∷ []) a ≡ served b image exchange (all_served b image exchanges a)
+all_served-push b image [] exchange a = refl
+all_served-push b image (first ∷ exchanges) exchange a = all_served-push b image exchanges exchange (served b image first a)
 
 is_few : (steps : ℕ) → nat_lt (512 - steps) 130 ≡ true → 512 - steps < 130
 is_few steps h = grind (arith, nat_tests)
@@ -108,12 +110,12 @@ acted_said : (b : Behaviour) (image : ImageParts) (wanted : Option Step) (a : Ac
 acted_said b image None a = refl
 acted_said b image (Some step) a = refl
 
--- Nothing is written while a part is attended to.
-pub attended_said : (b : Behaviour) (image : ImageParts) (part : Part) (a : Account) → (attended b image part a).said ≡ a.said
-attended_said b image part a =
-    acted_said b image _ (listened b image part a)
-    ∙ either_said _ (all_ended b image part.endings a) (heard None (all_ended b image part.endings a)) refl
-    ∙ ended_said b image part.endings a
+-- Nothing is written while an exchange is attended to.
+pub attended_said : (b : Behaviour) (image : ImageParts) (exchange : Exchange) (a : Account) → (attended b image exchange a).said ≡ a.said
+attended_said b image exchange a =
+    acted_said b image _ (listened b image exchange a)
+    ∙ either_said _ (all_ended b image exchange.endings a) (heard None (all_ended b image exchange.endings a)) refl
+    ∙ ended_said b image exchange.endings a
 
 not_few : (w : Bool) (steps : ℕ) (answer : Option Ending) (e : Ending) → nat_lt (512 - steps) 130 ≡ w → (512 - steps < 130 → answer ≡ None) → answer ≡ Some e → 130 ≤ 512 - steps
 not_few true steps answer e w few is = let none = few (is_few steps w) in cc

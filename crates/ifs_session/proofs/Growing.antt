@@ -1,5 +1,6 @@
 -- What steps make of a core and of a host's log, one list after the other.
-use Rattle.std.proofs.Common.{◌≡◌, ◌≢◌, ℕ, Bool, true, false, not, nat_lt, if◌then◌else◌, cond, List, [], ◌∷◌, ◌++◌, All, Option, Some, None, refl, sym, ap, ◌∙◌, subst, append-nil}
+use Rattle.std.proofs.Common.{◌≡◌, ◌≢◌, ℕ, Bool, true, false, not, nat_lt, if◌then◌else◌, cond, List, [], ◌∷◌, ◌++◌}
+use Rattle.std.proofs.Common.{All, Option, Some, None, refl, sym, ap, ◌∙◌, subst, append-nil}
 use Rattle.std.specs.List.{flat_map, filter_map}
 use Rattle.std.proofs.lemmas.Grind.{flat_map-append}
 use Rattle.std.proofs.lemmas.List.Elements.{All-nil, All-cons, All-append, filter_map-append}
@@ -16,7 +17,9 @@ use Rattle.ifs_core.specs.Headline.{IsKept}
 use Rattle.ifs_base.specs.Facts.{is_link}
 use Rattle.ifs_sched.specs.Schedule.{is_running}
 use Rattle.ifs_core.specs.Event.{Position, evaluation}
-use Rattle.ifs_core.specs.Steps.{CoreState, Turn, LinkSeen, RunEnded, turn, take_turn, link_turn, finished_turn, tick_turn, changing, unchanged, same, done, ticked_after, no_event, at_position, with_link, with_value, with_run_over, lacks_room, has_value, replies, after_steps}
+use Rattle.ifs_core.specs.Steps.{CoreState, Turn, LinkSeen, RunEnded, turn, take_turn, link_turn, finished_turn}
+use Rattle.ifs_core.specs.Steps.{tick_turn, changing, unchanged, same, done, ticked_after, no_event, at_position}
+use Rattle.ifs_core.specs.Steps.{with_link, with_value, with_run_over, lacks_room, has_value, replies, after_steps}
 use Rattle.ifs_session.specs.Hosts.{HostLog, ran, launched}
 use Rattle.ifs_session.specs.Accounts.{client_asked, step_asked, takes_of, texts_of, launches_told}
 use Rattle.ifs_session.specs.Service.{ending_made, ending_heard, request_made, text_taken, given, gives}

@@ -1,5 +1,6 @@
 -- Reading a line of hexadecimal digits.
-use Rattle.std.proofs.Common.{◌≡◌, ℕ, ◌+◌, ◌*◌, ◌/◌, ◌%◌, ◌<◌, true, false, List, [], ◌∷◌, ◌++◌, length, All, Option, Some, None, Ok, Err, refl, sym, subst, ap, ◌∙◌, append-nil, arith, length-append}
+use Rattle.std.proofs.Common.{◌≡◌, ℕ, ◌+◌, ◌*◌, ◌/◌, ◌%◌, ◌<◌, true, false, List, [], ◌∷◌, ◌++◌, length, All, Option}
+use Rattle.std.proofs.Common.{Some, None, Ok, Err, refl, sym, subst, ap, ◌∙◌, append-nil, arith, length-append}
 use Rattle.std.proofs.lemmas.List.Elements.{All-push, All-append}
 use Rattle.std.specs.Io.KnownBytes.{Keeps, Consumes, IsAtEnd}
 use Rattle.ifs_session.specs.declared.hexadecimal.HexFault.{HexFault}
@@ -7,7 +8,8 @@ use Rattle.ifs_session.specs.declared.hexadecimal.HexFault.TheVariants.{Broken, 
 use Rattle.ifs_session.specs.Device.{Feed, counted}
 use Rattle.ifs_session.specs.Lines.{ending}
 use Rattle.ifs_base.specs.Words.{hex_digit}
-use Rattle.ifs_session.specs.Hexadecimal.{hex_text, Takes, HexGives, begun_text, ReadsBeginning, NoDigit, OddDigit, DigitTooMany}
+use Rattle.ifs_session.specs.Hexadecimal.{hex_text, Takes, HexGives, begun_text, ReadsBeginning, NoDigit, OddDigit}
+use Rattle.ifs_session.specs.Hexadecimal.{DigitTooMany}
 use Rattle.ifs_session.specs.inner.Reading.{DigitGives, AtHandGives}
 use Rattle.ifs_session.proofs.Known.{consumes_nothing, consumes_more, consumes_kept, kept_consumes}
 

@@ -1,5 +1,6 @@
 -- What an account keeps: its steps lead from the state at its beginning to its own, and are those of its lines and of its log.
-use Rattle.std.proofs.Common.{◌≡◌, ℕ, Bool, true, false, cond, List, [], ◌∷◌, ◌++◌, Option, slice_get, Some, None, option_map, refl, sym, ap, subst, append_assoc, append-nil}
+use Rattle.std.proofs.Common.{◌≡◌, ℕ, Bool, true, false, cond, List, [], ◌∷◌, ◌++◌, Option, slice_get, Some, None}
+use Rattle.std.proofs.Common.{option_map, refl, sym, ap, subst, append_assoc, append-nil}
 use Rattle.std.specs.List.{filter_map}
 use Rattle.std.proofs.lemmas.List.Elements.{All-nil}
 use Rattle.ifs_base.specs.declared.ids.IfaceId.{IfaceId}
@@ -14,9 +15,12 @@ use Rattle.ifs_core.specs.Headline.{IsKept}
 use Rattle.ifs_core.specs.Steps.{CoreState, turn}
 use Rattle.ifs_session.specs.Requests.{Asked, ALink, AResult, ATick, ATake, AStatus, ATrace, AStop, AFault}
 use Rattle.ifs_session.specs.Hosts.{Ending, HostLog, ran, launched, polled}
-use Rattle.ifs_session.specs.Accounts.{Account, Part, client_asked, step_asked, takes_of, texts_of, launches_told, begun, emptied, heard, ended, all_ended, acted, listened, served, all_served, account}
+use Rattle.ifs_session.specs.Accounts.{Account, Exchange, client_asked, step_asked, takes_of, texts_of, launches_told}
+use Rattle.ifs_session.specs.Accounts.{begun, emptied, heard, ended, all_ended, acted, listened, served, all_served}
+use Rattle.ifs_session.specs.Accounts.{account}
 use Rattle.ifs_session.specs.Service.{ending_made, ending_heard, request_made, given, lines_in, Keeps}
-use Rattle.ifs_session.proofs.Growing.{Grows, TakesNone, line_step, grows_more, takes_grow, step_grows, link_takes, finished_takes, tick_takes}
+use Rattle.ifs_session.proofs.Growing.{Grows, TakesNone, line_step, grows_more, takes_grow, step_grows, link_takes}
+use Rattle.ifs_session.proofs.Growing.{finished_takes, tick_takes}
 
 -- What is known of a core's image throughout.
 pub record Kept (b : Behaviour) (image : ImageParts) : Type 0 where
@@ -92,10 +96,10 @@ lawful_either : (b : Behaviour) (image : ImageParts) (lines : List (List ℕ)) (
 lawful_either b image lines s true x y p q = p
 lawful_either b image lines s false x y p q = q
 
-listened_lawful : (b : Behaviour) (image : ImageParts) (part : Part) (lines : List (List ℕ)) (s : CoreState) (a : Account) → Kept b image → Lawful b image lines s a
-    → Lawful b image lines s (listened b image part a)
-listened_lawful b image part lines s a k l =
-    let all = all_ended_lawful b image part.endings lines s a k l in
+listened_lawful : (b : Behaviour) (image : ImageParts) (exchange : Exchange) (lines : List (List ℕ)) (s : CoreState) (a : Account) → Kept b image → Lawful b image lines s a
+    → Lawful b image lines s (listened b image exchange a)
+listened_lawful b image exchange lines s a k l =
+    let all = all_ended_lawful b image exchange.endings lines s a k l in
     lawful_either b image lines s _ _ _ all (heard_lawful b image lines s _ all)
 
 -- ---- requests
@@ -138,24 +142,24 @@ acted_lawful b image line (Some step) lines s a e k l =
     let r = requested image (client_asked line) step e in
     acts_lawful b image step lines (line ∷ []) [] s a k l (r.no_take b a.state) (rw r.no_ending refl) refl (rw (r.request, e) refl)
 
-served_lawful : (b : Behaviour) (image : ImageParts) (part : Part) (lines : List (List ℕ)) (s : CoreState) (a : Account) → Kept b image → Lawful b image lines s a
-    → Lawful b image (lines ++ part.line ∷ []) s (served b image part a)
-served_lawful b image part lines s a k l =
-    let acts = acted_lawful b image part.line (line_step image part.line) lines s (listened b image part a) refl k (listened_lawful b image part lines s a k l) in
+served_lawful : (b : Behaviour) (image : ImageParts) (exchange : Exchange) (lines : List (List ℕ)) (s : CoreState) (a : Account) → Kept b image → Lawful b image lines s a
+    → Lawful b image (lines ++ exchange.line ∷ []) s (served b image exchange a)
+served_lawful b image exchange lines s a k l =
+    let acts = acted_lawful b image exchange.line (line_step image exchange.line) lines s (listened b image exchange a) refl k (listened_lawful b image exchange lines s a k l) in
     record { grows = acts.grows; empty = acts.empty }
 
-all_served_lawful : (b : Behaviour) (image : ImageParts) (parts : List Part) (lines : List (List ℕ)) (s : CoreState) (a : Account) → Kept b image → Lawful b image lines s a
-    → Lawful b image (lines ++ lines_in parts) s (all_served b image parts a)
+all_served_lawful : (b : Behaviour) (image : ImageParts) (exchanges : List Exchange) (lines : List (List ℕ)) (s : CoreState) (a : Account) → Kept b image → Lawful b image lines s a
+    → Lawful b image (lines ++ lines_in exchanges) s (all_served b image exchanges a)
 all_served_lawful b image [] lines s a k l = subst (λ ls. Lawful b image ls s a) (sym (append-nil lines)) l
-all_served_lawful b image (part ∷ parts) lines s a k l =
-    subst (λ ls. Lawful b image ls s (all_served b image parts (served b image part a))) (append_assoc lines (part.line ∷ []) (lines_in parts))
-    (all_served_lawful b image parts (lines ++ part.line ∷ []) s (served b image part a) k (served_lawful b image part lines s a k l))
+all_served_lawful b image (exchange ∷ exchanges) lines s a k l =
+    subst (λ ls. Lawful b image ls s (all_served b image exchanges (served b image exchange a))) (append_assoc lines (exchange.line ∷ []) (lines_in exchanges))
+    (all_served_lawful b image exchanges (lines ++ exchange.line ∷ []) s (served b image exchange a) k (served_lawful b image exchange lines s a k l))
 
 -- The account of a connection keeps it.
-pub account_keeps : (b : Behaviour) (image : ImageParts) (parts : List Part) (s : CoreState) → Kept b image → IsStateOf image s
-    → Keeps b image (lines_in parts) (account b image parts s).steps (account b image parts s).log s (account b image parts s).state
-account_keeps b image parts s k stands =
-    let l = all_served_lawful b image parts [] s _ k (begun_lawful b image s k stands) in
+pub account_keeps : (b : Behaviour) (image : ImageParts) (exchanges : List Exchange) (s : CoreState) → Kept b image → IsStateOf image s
+    → Keeps b image (lines_in exchanges) (account b image exchanges s).steps (account b image exchanges s).log s (account b image exchanges s).state
+account_keeps b image exchanges s k stands =
+    let l = all_served_lawful b image exchanges [] s _ k (begun_lawful b image s k stands) in
     record {
       made = l.grows.made;
       never_busy = l.grows.never_busy;

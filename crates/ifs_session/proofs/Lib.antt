@@ -16,7 +16,7 @@ pub mod Accounting
 pub mod Growing
 pub mod Lawful
 pub mod Answering
-pub mod Parts
+pub mod Exchanges
 pub mod Skipping
 pub mod Spelling
 pub mod Spaces

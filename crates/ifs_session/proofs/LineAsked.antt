@@ -1,5 +1,6 @@
 -- What a line asks of which the first 256 bytes are kept.
-use Rattle.std.proofs.Common.{◌≡◌, ℕ, ◌≤◌, Bool, true, false, nat_lt, cond, List, length, take, ap, ◌∙◌, take_all, arith}
+use Rattle.std.proofs.Common.{◌≡◌, ℕ, ◌≤◌, Bool, true, false, nat_lt, cond, List, length, take, ap, ◌∙◌, take_all}
+use Rattle.std.proofs.Common.{arith}
 use Rattle.std.proofs.lemmas.Bool.Decides.{nat_tests}
 use Rattle.ifs_session.specs.declared.lines.Line.{Line}
 use Rattle.ifs_session.specs.declared.request.RequestFault.TheVariants.{TooLong, NoRequest}

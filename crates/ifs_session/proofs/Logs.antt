@@ -1,5 +1,6 @@
 -- What a host tells, after one thing came to its log and then another.
-use Rattle.std.proofs.Common.{◌≡◌, List, [], ◌∷◌, ◌++◌, Option, Some, None, refl, sym, ap, ◌∙◌, append_assoc, append-nil}
+use Rattle.std.proofs.Common.{◌≡◌, List, [], ◌∷◌, ◌++◌, Option, Some, None, refl, sym, ap, ◌∙◌, append_assoc}
+use Rattle.std.proofs.Common.{append-nil}
 use Rattle.std.specs.List.{filter_map}
 use Rattle.ifs_session.specs.declared.host.HostEvent.TheVariants.{Started}
 use Rattle.ifs_session.specs.Hosts.{Launch, HostLog, launched, Adds}

@@ -1,12 +1,14 @@
 -- No first line both gives bytes and is broken.
-use Rattle.std.proofs.Common.{◌≡◌, ◌≢◌, ℕ, ◌+◌, ◌/◌, ◌%◌, ◌<◌, ◌≤◌, Bool, true, false, All, List, [], ◌∷◌, ◌++◌, length, Option, Some, None, refl, sym, subst, ap, ◌∙◌, append_assoc, arith}
+use Rattle.std.proofs.Common.{◌≡◌, ◌≢◌, ℕ, ◌+◌, ◌/◌, ◌%◌, ◌<◌, ◌≤◌, Bool, true, false, All, List, [], ◌∷◌, ◌++◌, length}
+use Rattle.std.proofs.Common.{Option, Some, None, refl, sym, subst, ap, ◌∙◌, append_assoc, arith}
 use Rattle.std.proofs.lemmas.Bool.Decides.{nat_tests}
 use Rattle.std.proofs.lemmas.List.Elements.{All-head, All-tail}
 use Rattle.std.specs.Io.KnownBytes.{Consumes, IsAtEnd}
 use Rattle.ifs_session.specs.Device.{Feed}
 use Rattle.ifs_session.specs.Lines.{ending}
 use Rattle.ifs_base.specs.Words.{hex_digit}
-use Rattle.ifs_session.specs.Hexadecimal.{hex_text, high_digit, begun_text, EndsAt, Breaks, NoDigit, OddDigit, DigitTooMany, OneAnswer}
+use Rattle.ifs_session.specs.Hexadecimal.{hex_text, high_digit, begun_text, EndsAt, Breaks, NoDigit, OddDigit}
+use Rattle.ifs_session.specs.Hexadecimal.{DigitTooMany, OneAnswer}
 
 no_newline : (digit : ℕ) → hex_digit digit ≢ 10
 no_newline digit same = grind (arith, nat_tests)

@@ -1,5 +1,7 @@
 -- Sessions line by line: what was read so far, and what was made of it.
-use Rattle.std.proofs.Common.{◌≡◌, ◌≢◌, ◌⊎◌, ℕ, ◌+◌, ◌<◌, ◌≤◌, Bool, true, false, ◌==◌, cond, not, List, [], ◌∷◌, ◌++◌, length, count_by, Option, None, Ok, Err, inl, inr, subst, refl, sym, ap, ◌∙◌, append_assoc, append-nil, arith, length-append}
+use Rattle.std.proofs.Common.{◌≡◌, ◌≢◌, ◌⊎◌, ℕ, ◌+◌, ◌<◌, ◌≤◌, Bool, true, false, ◌==◌, cond, not, List, [], ◌∷◌, ◌++◌}
+use Rattle.std.proofs.Common.{length, count_by, Option, None, Ok, Err, inl, inr, subst, refl, sym, ap, ◌∙◌}
+use Rattle.std.proofs.Common.{append_assoc, append-nil, arith, length-append}
 use Rattle.std.specs.List.{onto_first}
 use Rattle.std.proofs.lemmas.Bool.Decides.{nat_tests}
 use Rattle.std.proofs.lemmas.List.Sums.{sum_by-append}
@@ -16,9 +18,13 @@ use Rattle.ifs_session.specs.Lines.{lines_of, whole_lines, onto_line, ending}
 use Rattle.ifs_session.specs.Requests.{Asked, ALink, AResult, ATick, ATake, AStatus, ATrace, AStop, AFault, asked}
 use Rattle.ifs_session.specs.declared.session.LineKind.{LineKind}
 use Rattle.ifs_session.specs.declared.session.LineKind.TheVariants as kinds
-use Rattle.ifs_session.specs.Sessions.{SessionGives, deed, replies, after_lines, is_step, is_stop, GoOn, OnlyLastMayStop, Moment, HasServed, HasReplied, Closes, EndsLine, EndsLines, Completes, BreaksReading, BreaksWriting, ReadsPast}
-use Rattle.ifs_session.specs.inner.Serving.{kind_of, with_line, intake, MakesLine, RepliesToLine, OnlyReads, OnlyWrites, NextServed}
-use Rattle.ifs_session.proofs.Known.{consumes_nothing, consumes_more, consumes_kept, append_known-append, append_known-nil}
+use Rattle.ifs_session.specs.Sessions.{SessionGives, deed, replies, after_lines, is_step, is_stop, GoOn}
+use Rattle.ifs_session.specs.Sessions.{OnlyLastMayStop, Moment, HasServed, HasReplied, Closes, EndsLine, EndsLines}
+use Rattle.ifs_session.specs.Sessions.{Completes, BreaksReading, BreaksWriting, ReadsPast}
+use Rattle.ifs_session.specs.inner.Serving.{kind_of, with_line, intake, MakesLine, RepliesToLine, OnlyReads, OnlyWrites}
+use Rattle.ifs_session.specs.inner.Serving.{NextServed}
+use Rattle.ifs_session.proofs.Known.{consumes_nothing, consumes_more, consumes_kept, append_known-append}
+use Rattle.ifs_session.proofs.Known.{append_known-nil}
 
 -- ---- lines
 

@@ -1,5 +1,6 @@
 -- A text before and after its first space.
-use Rattle.std.proofs.Common.{◌≡◌, ℕ, ◌+◌, ◌-◌, ◌≤◌, Bool, cond, not, nat_lt, List, [], length, take, drop, Some, None, sym, ap, ◌∙◌, arith, take_all}
+use Rattle.std.proofs.Common.{◌≡◌, ℕ, ◌+◌, ◌-◌, ◌≤◌, Bool, cond, not, nat_lt, List, [], length, take, drop, Some, None}
+use Rattle.std.proofs.Common.{sym, ap, ◌∙◌, arith, take_all}
 use Rattle.std.specs.Prelude.{◌==◌}
 use Rattle.std.specs.List.{before_first, after_first, position, position_or_len}
 use Rattle.std.proofs.lemmas.List.{take_rest, drop_all}

@@ -1,5 +1,6 @@
 -- Accounts: what the requests of a connection and the ends of tests make of a core and of a host.
-use Rattle.std.specs.Prelude.{ℕ, ◌-◌, nat_lt, Bool, ◌||◌, if◌then◌else◌, List, [], ◌∷◌, ◌++◌, length, map, slice_get, codes, Option, Some, None, unwrap_or, option_map}
+use Rattle.std.specs.Prelude.{ℕ, ◌-◌, nat_lt, Bool, ◌||◌, if◌then◌else◌, List, [], ◌∷◌, ◌++◌, length, map, slice_get}
+use Rattle.std.specs.Prelude.{codes, Option, Some, None, unwrap_or, option_map}
 use Rattle.std.specs.Str.{bytes_eq}
 use Rattle.ifs_base.specs.declared.ids.CommandId.{CommandId}
 use Rattle.ifs_image.specs.declared.parts.ImageParts.{ImageParts}
@@ -119,34 +120,34 @@ replied b image (Some step) told s = reply_line image (turn b image.budgets.comm
 abbrev pub with_said : List ℕ → Account → Account
 with_said more a = record { state = a.state; steps = a.steps; log = a.log; said = a.said ++ more }
 
--- One part of a connection: the line of a request, and the ends of tests that were answered before it was done.
-pub record Part : Type 0 where
+-- One exchange of a connection: the line of a request, and the ends of tests that were answered before it was done.
+pub record Exchange : Type 0 where
   pub line : List ℕ
   pub endings : List Ending
 
--- The account when the ends of a part were heard, and when its request was done too.
-abbrev pub listened : Behaviour → ImageParts → Part → Account → Account
-listened b image part a = heard_out (all_ended b image part.endings a)
+-- The account when the ends of an exchange were heard, and when its request was done too.
+abbrev pub listened : Behaviour → ImageParts → Exchange → Account → Account
+listened b image exchange a = heard_out (all_ended b image exchange.endings a)
 
-abbrev pub attended : Behaviour → ImageParts → Part → Account → Account
-attended b image part a = acted b image (step_asked image (client_asked part.line)) (listened b image part a)
+abbrev pub attended : Behaviour → ImageParts → Exchange → Account → Account
+attended b image exchange a = acted b image (step_asked image (client_asked exchange.line)) (listened b image exchange a)
 
--- The reply to the request of a part, by the core's state before it was done.
+-- The reply to the request of an exchange, by the core's state before it was done.
 abbrev pub answered : Behaviour → ImageParts → Asked → CoreState → List ℕ
 answered b image asked s = replied b image (step_asked image asked) (told_line image asked s) s
 
-abbrev pub spoken : Behaviour → ImageParts → Part → Account → List ℕ
-spoken b image part a = answered b image (client_asked part.line) (listened b image part a).state
+abbrev pub spoken : Behaviour → ImageParts → Exchange → Account → List ℕ
+spoken b image exchange a = answered b image (client_asked exchange.line) (listened b image exchange a).state
 
--- The account after a part, whose request was replied to.
-abbrev pub served : Behaviour → ImageParts → Part → Account → Account
-served b image part a = with_said (spoken b image part a) (attended b image part a)
+-- The account after an exchange, whose request was replied to.
+abbrev pub served : Behaviour → ImageParts → Exchange → Account → Account
+served b image exchange a = with_said (spoken b image exchange a) (attended b image exchange a)
 
--- The account after parts, one after the other.
-abbrev pub all_served : Behaviour → ImageParts → List Part → Account → Account
+-- The account after exchanges, one after the other.
+abbrev pub all_served : Behaviour → ImageParts → List Exchange → Account → Account
 all_served b image [] a = a
-all_served b image (part ∷ parts) a = all_served b image parts (served b image part a)
+all_served b image (exchange ∷ exchanges) a = all_served b image exchanges (served b image exchange a)
 
--- The account of a connection of these parts, on a core of this state: its queue is emptied first.
-abbrev pub account : Behaviour → ImageParts → List Part → CoreState → Account
-account b image parts s = all_served b image parts (emptied b image (begun s))
+-- The account of a connection of these exchanges, on a core of this state: its queue is emptied first.
+abbrev pub account : Behaviour → ImageParts → List Exchange → CoreState → Account
+account b image exchanges s = all_served b image exchanges (emptied b image (begun s))

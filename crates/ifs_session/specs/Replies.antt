@@ -1,5 +1,6 @@
 -- Replies: the bytes of each reply line.
-use Rattle.std.specs.Prelude.{ℕ, Bool, true, false, if◌then◌else◌, List, [], ◌++◌, length, map, slice_get, codes, decimal, unwrap_or}
+use Rattle.std.specs.Prelude.{ℕ, Bool, true, false, if◌then◌else◌, List, [], ◌++◌, length, map, slice_get, codes}
+use Rattle.std.specs.Prelude.{decimal, unwrap_or}
 use Rattle.std.specs.Option.{option_map}
 use Rattle.std.specs.List.{flat_map}
 use Rattle.ifs_base.specs.declared.ids.CommandId.{CommandId}
@@ -9,7 +10,8 @@ use Rattle.ifs_sched.specs.Schedule.{running_count}
 use Rattle.ifs_core.specs.declared.step.Step.{Step}
 use Rattle.ifs_core.specs.declared.step.Step.TheVariants.{Link, Finished, Tick, Take}
 use Rattle.ifs_core.specs.declared.step.Reply.{Reply}
-use Rattle.ifs_core.specs.declared.step.Reply.TheVariants.{Done, Same, Ticked, Taken, Empty, Busy, Stale, Backwards, NoSuch}
+use Rattle.ifs_core.specs.declared.step.Reply.TheVariants.{Done, Same, Ticked, Taken, Empty, Busy, Stale, Backwards}
+use Rattle.ifs_core.specs.declared.step.Reply.TheVariants.{NoSuch}
 use Rattle.ifs_core.specs.declared.step.Answer.{Answer}
 use Rattle.ifs_core.specs.declared.step.Answer.TheVariants as answers
 use Rattle.ifs_core.specs.declared.step.Record.{Record}

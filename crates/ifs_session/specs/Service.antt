@@ -1,5 +1,6 @@
 -- Service: what a served connection gives, in each way that it ends.
-use Rattle.std.specs.Prelude.{◌≡◌, ◌≢◌, ℕ, ◌<◌, Bool, true, false, List, [], ◌∷◌, ◌++◌, length, map, All, Option, Some, None}
+use Rattle.std.specs.Prelude.{◌≡◌, ◌≢◌, ℕ, ◌<◌, Bool, true, false, List, [], ◌∷◌, ◌++◌, length, map, All, Option, Some}
+use Rattle.std.specs.Prelude.{None}
 use Rattle.std.specs.List.{flat_map, filter_map}
 use Rattle.std.specs.Io.KnownBytes.{append_known, Consumes, IsAtEnd}
 use Rattle.ifs_image.specs.declared.parts.ImageParts.{ImageParts}
@@ -18,9 +19,9 @@ use Rattle.ifs_session.specs.Hosts.{Ending, Event, HostLog, Adds, ran, launched}
 use Rattle.ifs_session.specs.Lines.{lines_of, whole_lines}
 use Rattle.ifs_session.specs.Replies.{command_text}
 use Rattle.ifs_session.specs.Sessions.{Moment, HasRead, EndsLine, EndsLines, is_stop}
-use Rattle.ifs_session.specs.Accounts.{Part, client_asked, step_asked, launches_told, account}
+use Rattle.ifs_session.specs.Accounts.{Exchange, client_asked, step_asked, launches_told, account}
 
--- ---- what the steps of a connection are, whatever its parts
+-- ---- what the steps of a connection are, whatever its exchanges
 
 -- The ends of tests that steps tell of.
 abbrev pub ending_made : Step → Option Ending
@@ -62,11 +63,11 @@ pub record Keeps (b : Behaviour) (image : ImageParts) (lines : List (List ℕ)) 
   pub given_in : filter_map given log ≡ flat_map (gives image) (replies b image.budgets.commands steps s)
   pub empty : s'.queue ≡ []
 
--- ---- its parts and its end
+-- ---- its exchanges and its end
 
--- The lines of parts.
-abbrev pub lines_in : List Part → List (List ℕ)
-lines_in parts = map (λ part. part.line) parts
+-- The lines of exchanges.
+abbrev pub lines_in : List Exchange → List (List ℕ)
+lines_in exchanges = map (λ exchange. exchange.line) exchanges
 
 -- A line does not ask for the end of the service.
 abbrev pub GoesOn : List ℕ → Type 0
@@ -77,18 +78,18 @@ abbrev pub Stops : Bool → List (List ℕ) → Type 0
 Stops false lines = All GoesOn lines
 Stops true lines = (earlier : List (List ℕ)) × (stop : List ℕ) × (lines ≡ earlier ++ stop ∷ []) × All GoesOn earlier × (is_stop (client_asked stop) ≡ true)
 
--- From one moment to another these parts were attended to, of a host that told this before and tells that now. Each of them left the queue empty.
-pub record HasAttended (b : Behaviour) (parts : List Part) (steps : List Step) (told told' : Option HostLog) (before after : Moment) : Type 0 where
+-- From one moment to another these exchanges were attended to, of a host that told this before and tells that now. Each of them left the queue empty.
+pub record HasAttended (b : Behaviour) (exchanges : List Exchange) (steps : List Step) (told told' : Option HostLog) (before after : Moment) : Type 0 where
   pub image : after.core.image ≡ before.core.image
-  pub state : after.core.state ≡ (account b before.core.image parts before.core.state).state
-  pub steps_are : steps ≡ (account b before.core.image parts before.core.state).steps
-  pub told_is : Adds (account b before.core.image parts before.core.state).log told told'
-  pub keeps : Keeps b before.core.image (lines_in parts) steps (account b before.core.image parts before.core.state).log before.core.state after.core.state
-  pub each_empties : (front rest : List Part) → parts ≡ front ++ rest → (account b before.core.image front before.core.state).state.queue ≡ []
+  pub state : after.core.state ≡ (account b before.core.image exchanges before.core.state).state
+  pub steps_are : steps ≡ (account b before.core.image exchanges before.core.state).steps
+  pub told_is : Adds (account b before.core.image exchanges before.core.state).log told told'
+  pub keeps : Keeps b before.core.image (lines_in exchanges) steps (account b before.core.image exchanges before.core.state).log before.core.state after.core.state
+  pub each_empties : (front rest : List Exchange) → exchanges ≡ front ++ rest → (account b before.core.image front before.core.state).state.queue ≡ []
 
 -- And each was replied to, in order, and nothing else was written.
-pub record HasAnswered (b : Behaviour) (parts : List Part) (before after : Moment) : Type 0 where
-  pub written : after.written ≡ append_known before.written (account b before.core.image parts before.core.state).said
+pub record HasAnswered (b : Behaviour) (exchanges : List Exchange) (before after : Moment) : Type 0 where
+  pub written : after.written ≡ append_known before.written (account b before.core.image exchanges before.core.state).said
   pub same_faults : after.write_faults ≡ before.write_faults
 
 -- How a connection ends without a fault: at the end of input; with a line that asks for it; or where fewer than 65 places for steps are left. After the last line nothing more was read.
@@ -98,54 +99,54 @@ EndsAs Stop stopped input steps after = (stopped ≡ true) × EndsLine input aft
 EndsAs Full stopped input steps after = (stopped ≡ false) × (447 < length steps) × EndsLines input after.left
 EndsAs (Fault fault) stopped input steps after = ⊥
 
--- A connection has ended without a fault: each line is that of a part, in order.
-pub record Completes (b : Behaviour) (end : End) (stopped : Bool) (input : List ℕ) (parts : List Part) (steps : List Step) (told told' : Option HostLog) (before after : Moment) : Type 0 where
+-- A connection has ended without a fault: each line is that of an exchange, in order.
+pub record Completes (b : Behaviour) (end : End) (stopped : Bool) (input : List ℕ) (exchanges : List Exchange) (steps : List Step) (told told' : Option HostLog) (before after : Moment) : Type 0 where
   pub read : HasRead input before after
-  pub lines : lines_of input ≡ lines_in parts
-  pub attended : HasAttended b parts steps told told' before after
-  pub answered : HasAnswered b parts before after
+  pub lines : lines_of input ≡ lines_in exchanges
+  pub attended : HasAttended b exchanges steps told told' before after
+  pub answered : HasAnswered b exchanges before after
   pub same_faults : after.read_faults ≡ before.read_faults
   pub stops : Stops stopped (lines_of input)
   pub ends : EndsAs end stopped input steps after
 
 -- A read failed: the lines that were whole by then were served.
-pub record BreaksReading (b : Behaviour) (stopped : Bool) (input : List ℕ) (parts : List Part) (steps : List Step) (told told' : Option HostLog) (before after : Moment) : Type 0 where
+pub record BreaksReading (b : Behaviour) (stopped : Bool) (input : List ℕ) (exchanges : List Exchange) (steps : List Step) (told told' : Option HostLog) (before after : Moment) : Type 0 where
   pub read : HasRead input before after
-  pub lines : whole_lines input ≡ lines_in parts
-  pub attended : HasAttended b parts steps told told' before after
-  pub answered : HasAnswered b parts before after
+  pub lines : whole_lines input ≡ lines_in exchanges
+  pub attended : HasAttended b exchanges steps told told' before after
+  pub answered : HasAnswered b exchanges before after
   pub one_fault : after.read_faults ≡ counted before.read_faults
   pub stops : Stops stopped (whole_lines input)
   pub not_stopped : stopped ≡ false
 
 -- A write failed: the lines that were read by then, each to its end, were attended to. Only the last may have asked for the end of the service.
-pub record BreaksWriting (b : Behaviour) (stopped : Bool) (input : List ℕ) (parts : List Part) (steps : List Step) (told told' : Option HostLog) (before after : Moment) : Type 0 where
+pub record BreaksWriting (b : Behaviour) (stopped : Bool) (input : List ℕ) (exchanges : List Exchange) (steps : List Step) (told told' : Option HostLog) (before after : Moment) : Type 0 where
   pub read : HasRead input before after
   pub whole : EndsLines input after.left
-  pub lines : lines_of input ≡ lines_in parts
-  pub attended : HasAttended b parts steps told told' before after
+  pub lines : lines_of input ≡ lines_in exchanges
+  pub attended : HasAttended b exchanges steps told told' before after
   pub same_faults : after.read_faults ≡ before.read_faults
   pub stops : Stops stopped (lines_of input)
   pub one_fault : after.write_faults ≡ counted before.write_faults
 
 -- A byte was read after the 16,777,216 of a connection: the lines that were whole before it were served.
-pub record ReadsPast (b : Behaviour) (stopped : Bool) (input : List ℕ) (byte : ℕ) (parts : List Part) (steps : List Step) (told told' : Option HostLog) (before after : Moment) : Type 0 where
+pub record ReadsPast (b : Behaviour) (stopped : Bool) (input : List ℕ) (byte : ℕ) (exchanges : List Exchange) (steps : List Step) (told told' : Option HostLog) (before after : Moment) : Type 0 where
   pub given : Consumes before.left after.left (input ++ byte ∷ [])
   pub full : length input ≡ 16777216
-  pub lines : whole_lines input ≡ lines_in parts
-  pub attended : HasAttended b parts steps told told' before after
-  pub answered : HasAnswered b parts before after
+  pub lines : whole_lines input ≡ lines_in exchanges
+  pub attended : HasAttended b exchanges steps told told' before after
+  pub answered : HasAnswered b exchanges before after
   pub same_faults : after.read_faults ≡ before.read_faults
   pub stops : Stops stopped (whole_lines input)
   pub not_stopped : stopped ≡ false
 
--- What a connection gives: there is an input that was read, and parts, one for each of its lines.
+-- What a connection gives: there is an input that was read, and exchanges, one for each of its lines.
 abbrev pub ConnectionGives : Behaviour → End → Bool → List Step → Option HostLog → Option HostLog → Moment → Moment → Type 0
 ConnectionGives b (Fault ReadFailed) stopped steps told told' before after =
-    (input : List ℕ) × (parts : List Part) × BreaksReading b stopped input parts steps told told' before after
+    (input : List ℕ) × (exchanges : List Exchange) × BreaksReading b stopped input exchanges steps told told' before after
 ConnectionGives b (Fault WriteFailed) stopped steps told told' before after =
-    (input : List ℕ) × (parts : List Part) × BreaksWriting b stopped input parts steps told told' before after
+    (input : List ℕ) × (exchanges : List Exchange) × BreaksWriting b stopped input exchanges steps told told' before after
 ConnectionGives b (Fault TooMuchInput) stopped steps told told' before after =
-    (input : List ℕ) × (byte : ℕ) × (parts : List Part) × ReadsPast b stopped input byte parts steps told told' before after
+    (input : List ℕ) × (byte : ℕ) × (exchanges : List Exchange) × ReadsPast b stopped input byte exchanges steps told told' before after
 ConnectionGives b end stopped steps told told' before after =
-    (input : List ℕ) × (parts : List Part) × Completes b end stopped input parts steps told told' before after
+    (input : List ℕ) × (exchanges : List Exchange) × Completes b end stopped input exchanges steps told told' before after

@@ -1,7 +1,8 @@
 //! Readers and writers of bytes.
 
 ghost use Rattle.std.specs.Prelude.{List, [], ℕ, Option, None, OnOk};
-ghost use Rattle.ifs_session.specs.Device.{NextGives, ReadyGives, AreAtHand, MaySkip, SkipGives, PutGives, HoldsNothing};
+ghost use Rattle.ifs_session.specs.Device.{NextGives, ReadyGives, AreAtHand, MaySkip, SkipGives, PutGives};
+ghost use Rattle.ifs_session.specs.Device.{HoldsNothing};
 
 use thiserror::Error;
 

@@ -2,7 +2,8 @@
 
 ghost use Rattle.std.specs.Prelude.{◌≡◌, ◌++◌, OnOk};
 ghost use Rattle.ifs_session.specs.Device.{PutGives, HoldsNothing};
-ghost use Rattle.ifs_session.specs.Runs.{place_words, image_fault_words, verify_fault_words, refusal_words, refused_line};
+ghost use Rattle.ifs_session.specs.Runs.{place_words, image_fault_words, verify_fault_words, refusal_words};
+ghost use Rattle.ifs_session.specs.Runs.{refused_line};
 ghost use Rattle.ifs_session.specs.inner.Opening.{RefuseGives};
 
 use crate::device::{ByteOut, DeviceFault};

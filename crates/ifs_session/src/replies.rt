@@ -6,7 +6,10 @@ ghost use Rattle.ifs_core.specs.Gateway.{IsListed, IsReplyOf};
 ghost use Rattle.ifs_core.specs.Steps.{reply_of};
 ghost use Rattle.ifs_session.specs.Device.{PutGives};
 ghost use Rattle.ifs_base.specs.Words.{link_word, listed, quoted};
-ghost use Rattle.ifs_session.specs.Replies.{state_name, command_text, evaluation_words, start_word, starts_words, before_starts, taken_line, reply_line, status_numbers, status_line, yes_or_no, value_word, step_words, answer_word, answer_words, record_line, trace_lines, fault_line};
+ghost use Rattle.ifs_session.specs.Replies.{state_name, command_text, evaluation_words, start_word, starts_words};
+ghost use Rattle.ifs_session.specs.Replies.{before_starts, taken_line, reply_line, status_numbers, status_line};
+ghost use Rattle.ifs_session.specs.Replies.{yes_or_no, value_word, step_words, answer_word, answer_words, record_line};
+ghost use Rattle.ifs_session.specs.Replies.{trace_lines, fault_line};
 
 use crate::device::{ByteOut, DeviceFault};
 use crate::request::RequestFault;

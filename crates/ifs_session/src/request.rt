@@ -4,7 +4,8 @@ ghost use Rattle.std.specs.Prelude.{◌≡◌, ◌==◌};
 ghost use Rattle.std.specs.List.{before_first, after_first, position};
 ghost use Rattle.ifs_base.specs.Numbers.{number_of};
 ghost use Rattle.ifs_session.specs.inner.Parsing.{told_by, result_kept};
-ghost use Rattle.ifs_session.specs.Requests.{asked, short_asked, link_asked, result_asked, result_valued, word_asked, link_named, tick_asked};
+ghost use Rattle.ifs_session.specs.Requests.{asked, short_asked, link_asked, result_asked, result_valued, word_asked};
+ghost use Rattle.ifs_session.specs.Requests.{link_named, tick_asked};
 
 use ifs_base::{LinkState, Number, TestId, parse_number};
 use thiserror::Error;

@@ -1,18 +1,20 @@
 //! One served connection: requests of a client, ends of tests and commands, in one order.
 
-ghost use Rattle.std.specs.Prelude.{◌≡◌, ◌≢◌, ◌+◌, ◌-◌, ◌<◌, ◌≤◌, ◌∷◌, [], List, All, length, map, None, Some, IfOk, IfSome, MatchResult};
+ghost use Rattle.std.specs.Prelude.{◌≡◌, ◌≢◌, ◌+◌, ◌-◌, ◌<◌, ◌≤◌, ◌∷◌, [], List, All, length, map, None, Some, IfOk};
+ghost use Rattle.std.specs.Prelude.{IfSome, MatchResult};
 ghost use Rattle.ifs_core.specs.Event.{Behaviour};
 ghost use Rattle.ifs_core.specs.Machine.{IsBehaviour};
 ghost use Rattle.ifs_core.specs.Gateway.{IsReplyOf};
 ghost use Rattle.ifs_core.specs.Steps.{turn, reply_of, replies, after_steps};
 ghost use Rattle.ifs_session.specs.Device.{HoldsNothing, PutGives};
 ghost use Rattle.ifs_session.specs.Hosts.{Ending, Adds, launched, polled};
-ghost use Rattle.ifs_session.specs.Accounts.{launch_of, launches_told, acted, all_ended, heard_out, step_asked, told_line, answered};
+ghost use Rattle.ifs_session.specs.Accounts.{launch_of, launches_told, acted, all_ended, heard_out, step_asked};
+ghost use Rattle.ifs_session.specs.Accounts.{told_line, answered};
 ghost use Rattle.ifs_session.specs.Service.{ConnectionGives};
 ghost use Rattle.ifs_session.specs.Replies.{reply_line};
 ghost use Rattle.ifs_session.specs.Sessions.{is_stop};
 ghost use Rattle.ifs_session.specs.inner.Parsing.{told_by};
-ghost use Rattle.ifs_session.specs.inner.Connections.{Carries, HasFollowed, PartGives, FlushGives, end_of};
+ghost use Rattle.ifs_session.specs.inner.Connections.{Carries, HasFollowed, ExchangeGives, FlushGives, end_of};
 
 use crate::device::{ByteIn, ByteOut, DeviceFault};
 use crate::fault::SessionFault;
@@ -31,7 +33,7 @@ use ifs_sched::Start;
 pub(crate) const STEPS: usize = 512;
 
 /// The most places that a step and the taking of all commands after it want.
-const PART: usize = 65;
+const PLACES_OF_STEP: usize = 65;
 
 /// Why a connection ended.
 #[derive(Clone, Copy, Debug, PartialEq, Eq)]
@@ -137,8 +139,8 @@ fn serve_lines<H: Host, R: ByteIn, W: ByteOut>(
     empty_queue(core, host, steps);
     let mut lists = Lists::new();
     let mut budget = INPUT;
-    'parts: loop {
-        let line = match serve_part(core, host, &mut lists, steps, reader, writer, &mut budget) {
+    'exchanges: loop {
+        let line = match next_exchange(core, host, &mut lists, steps, reader, writer, &mut budget) {
             Err(broken) => {
                 return Close {
                     end: End::Fault(broken.fault),
@@ -169,7 +171,7 @@ fn end_after(line: ServedLine, steps: usize) -> Option<End>
 {
     if line.is_stop {
         Some(End::Stop)
-    } else if STEPS - steps < PART {
+    } else if STEPS - steps < PLACES_OF_STEP {
         Some(End::Full)
     } else if line.is_ended {
         None
@@ -190,7 +192,7 @@ fn flushed<W: ByteOut>(writer: &mut W, end: End) -> End
 }
 
 /// Reads the next line, once what was written has gone out, and serves it.
-fn serve_part<H: Host, R: ByteIn, W: ByteOut>(
+fn next_exchange<H: Host, R: ByteIn, W: ByteOut>(
     core: &mut Core,
     host: &mut H,
     lists: &mut Lists,
@@ -201,7 +203,7 @@ fn serve_part<H: Host, R: ByteIn, W: ByteOut>(
 ) -> Result<Option<ServedLine>, Break>
     requires { length steps.old.items + 65 ≤ 512 }
     ensures image { core.new.image ≡ core.old.image }
-    ensures part { (b : Behaviour) → IsBehaviour core.old.image b → PartGives b result
+    ensures exchange { (b : Behaviour) → IsBehaviour core.old.image b → ExchangeGives b result
         (record { moment = record { core = core.old; left = R.left reader.old; written = W.written writer.old; read_faults = R.faults reader.old; write_faults = W.faults writer.old }; budget = budget.old; steps = steps.old.items; told = H.told host.old })
         (record { moment = record { core = core.new; left = R.left reader.new; written = W.written writer.new; read_faults = R.faults reader.new; write_faults = W.faults writer.new }; budget = budget.new; steps = steps.new.items; told = H.told host.new }) }
     ensures counts { IfOk result (λ next. IfSome next (λ _. budget.new < budget.old)) }
@@ -271,7 +273,7 @@ fn next_ending<H: Host>(host: &mut H, steps: usize) -> Option<(TestId, u64, bool
     ensures unasked { 512 - steps < 130 → H.told host.new ≡ H.told host.old }
     ensures asked { 130 ≤ 512 - steps → Adds (polled result) (H.told host.old) (H.told host.new) }
 {
-    if STEPS - steps < 2 * PART {
+    if STEPS - steps < 2 * PLACES_OF_STEP {
         return None;
     }
     host.poll()

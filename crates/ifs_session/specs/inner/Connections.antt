@@ -1,5 +1,6 @@
 -- What the functions that serve a connection give.
-use Rattle.std.specs.Prelude.{◌≡◌, ◌⊎◌, ℕ, Bool, false, nat_lt, ◌-◌, if◌then◌else◌, List, [], ◌++◌, Option, Some, None, Result, Ok, Err}
+use Rattle.std.specs.Prelude.{◌≡◌, ◌⊎◌, ℕ, Bool, false, nat_lt, ◌-◌, if◌then◌else◌, List, [], ◌++◌, Option, Some, None}
+use Rattle.std.specs.Prelude.{Result, Ok, Err}
 use Rattle.std.specs.Io.KnownBytes.{append_known}
 use Rattle.ifs_image.specs.declared.parts.ImageParts.{ImageParts}
 use Rattle.ifs_core.specs.declared.step.Reply.{Reply}
@@ -18,7 +19,7 @@ use Rattle.ifs_session.specs.Device.{counted}
 use Rattle.ifs_session.specs.Requests.{Asked, AFault, short_asked}
 use Rattle.ifs_session.specs.Sessions.{Moment, is_stop}
 use Rattle.ifs_session.specs.Hosts.{HostLog, Adds, ran, launched}
-use Rattle.ifs_session.specs.Accounts.{Account, Part, asks_of_hosts, client_asked, launches_told, attended, spoken}
+use Rattle.ifs_session.specs.Accounts.{Account, Exchange, asks_of_hosts, client_asked, launches_told, attended, spoken}
 use Rattle.ifs_session.specs.inner.Reading.{Intake, ReadsText, ReadsNothing, ReadFails, ReadsTooMuch}
 use Rattle.ifs_session.specs.inner.Serving.{intake, OnlyReads, OnlyWrites}
 
@@ -70,33 +71,33 @@ pub record Idles (before after : Point) : Type 0 where
   pub told : after.told ≡ before.told
 
 -- A line was read, which asks for the end of the service or does not, and attended to.
-pub record ServesPart (b : Behaviour) (part : Part) (ended stop : Bool) (before after : Point) : Type 0 where
-  pub read : ReadsText part.line ended (taken_in before) (taken_in after)
+pub record ServesExchange (b : Behaviour) (exchange : Exchange) (ended stop : Bool) (before after : Point) : Type 0 where
+  pub read : ReadsText exchange.line ended (taken_in before) (taken_in after)
   pub image : after.moment.core.image ≡ before.moment.core.image
-  pub attends : Carries (attended b before.moment.core.image part) (standing before) (standing after)
-  pub stops : stop ≡ is_stop (client_asked part.line)
+  pub attends : Carries (attended b before.moment.core.image exchange) (standing before) (standing after)
+  pub stops : stop ≡ is_stop (client_asked exchange.line)
 
 -- And it was replied to.
-pub record AnswersPart (b : Behaviour) (part : Part) (before after : Point) : Type 0 where
+pub record AnswersExchange (b : Behaviour) (exchange : Exchange) (before after : Point) : Type 0 where
   pub written : (origin : Option HostLog) (a : Account) → Stands origin a (standing before)
-      → after.moment.written ≡ append_known before.moment.written (spoken b before.moment.core.image part a)
+      → after.moment.written ≡ append_known before.moment.written (spoken b before.moment.core.image exchange a)
   pub same_faults : after.moment.write_faults ≡ before.moment.write_faults
 
 -- What it gives that the next line was not served, or not replied to, for this fault.
-abbrev pub PartFails : Behaviour → SessionFault → Bool → Point → Point → Type 0
-PartFails b ReadFailed stopped before after =
+abbrev pub ExchangeFails : Behaviour → SessionFault → Bool → Point → Point → Type 0
+ExchangeFails b ReadFailed stopped before after =
     (text : List ℕ) × ReadFails text (taken_in before) (taken_in after) × OnlyReads before.moment after.moment × Idles before after × (stopped ≡ false)
-PartFails b TooMuchInput stopped before after =
+ExchangeFails b TooMuchInput stopped before after =
     (text : List ℕ) × (byte : ℕ) × ReadsTooMuch text byte (taken_in before) (taken_in after) × OnlyReads before.moment after.moment × Idles before after × (stopped ≡ false)
-PartFails b WriteFailed stopped before after =
+ExchangeFails b WriteFailed stopped before after =
     (after.moment.write_faults ≡ counted before.moment.write_faults)
-    × ((OnlyWrites before.moment after.moment × Idles before after × (stopped ≡ false)) ⊎ ((part : Part) × (ended : Bool) × ServesPart b part ended stopped before after))
+    × ((OnlyWrites before.moment after.moment × Idles before after × (stopped ≡ false)) ⊎ ((exchange : Exchange) × (ended : Bool) × ServesExchange b exchange ended stopped before after))
 
 -- What the serving of the next line gives, from one point to another.
-abbrev pub PartGives : Behaviour → Result (Option ServedLine) Break → Point → Point → Type 0
-PartGives b (Ok (Some line)) before after = (part : Part) × ServesPart b part line.is_ended line.is_stop before after × AnswersPart b part before after
-PartGives b (Ok None) before after = ReadsNothing (taken_in before) (taken_in after) × OnlyReads before.moment after.moment × Idles before after
-PartGives b (Err broken) before after = PartFails b broken.fault broken.stopped before after
+abbrev pub ExchangeGives : Behaviour → Result (Option ServedLine) Break → Point → Point → Type 0
+ExchangeGives b (Ok (Some line)) before after = (exchange : Exchange) × ServesExchange b exchange line.is_ended line.is_stop before after × AnswersExchange b exchange before after
+ExchangeGives b (Ok None) before after = ReadsNothing (taken_in before) (taken_in after) × OnlyReads before.moment after.moment × Idles before after
+ExchangeGives b (Err broken) before after = ExchangeFails b broken.fault broken.stopped before after
 
 -- The end after a line that was served, where so many steps were made, if it is one.
 abbrev pub end_of : ServedLine → ℕ → Option End

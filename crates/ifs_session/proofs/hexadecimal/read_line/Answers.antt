@@ -1,6 +1,7 @@
 use Rattle.std.proofs.Common.{arith}
 use Rattle.std.proofs.lemmas.Result.{err_from_is_err_and}
-use Rattle.ifs_session.proofs.HexReading.{line_start, high_read, low_read, digit_fails, at_hand_read, at_hand_starves, line_ends, odd_digit, digit_too_many}
+use Rattle.ifs_session.proofs.HexReading.{line_start, high_read, low_read, digit_fails, at_hand_read, at_hand_starves}
+use Rattle.ifs_session.proofs.HexReading.{line_ends, odd_digit, digit_too_many}
 use Rattle.ifs_session.proofs.hexadecimal.read_line.Goals as goal
 
 pub digits-init : goal.digits-init

@@ -1,5 +1,6 @@
 use Rattle.std.proofs.Common.{◌++◌, ◌∷◌, []}
-use Rattle.ifs_session.proofs.LineReading.{is_full, has_room, partway_start, partway_push, partway_drop, line_fails, no_line, last_line, ended_line, too_much}
+use Rattle.ifs_session.proofs.LineReading.{is_full, has_room, partway_start, partway_push, partway_drop, line_fails}
+use Rattle.ifs_session.proofs.LineReading.{no_line, last_line, ended_line, too_much}
 use Rattle.ifs_session.proofs.lines.next_line.Goals as goal
 
 pub loop-next-init : goal.loop-next-init

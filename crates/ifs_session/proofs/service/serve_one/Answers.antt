@@ -1,4 +1,4 @@
-use Rattle.ifs_session.proofs.Parts.{was_attended}
+use Rattle.ifs_session.proofs.Exchanges.{was_attended}
 use Rattle.ifs_session.proofs.service.serve_one.Goals as goal
 
 pub returns-clause-made : goal.returns-clause-made

@@ -1,9 +1,11 @@
 use Rattle.std.proofs.Common.{◌++◌, ◌∷◌, [], inl, inr, sym, subst, arith}
 use Rattle.std.proofs.lemmas.Result.{err_from_is_err_and}
 use Rattle.ifs_core.specs.Machine.{IsBehaviour}
-use Rattle.ifs_session.proofs.Serving.{underway_start, not_served, nothing_left, replied_to, session_closes, session_goes_on, line_total, line_steps, out_flushed, out_fails}
+use Rattle.ifs_session.proofs.Serving.{underway_start, not_served, nothing_left, replied_to, session_closes}
+use Rattle.ifs_session.proofs.Serving.{session_goes_on, line_total, line_steps, out_flushed, out_fails}
 use Rattle.ifs_session.proofs.session.simulate.Goals as goal
-use Rattle.ifs_session.proofs.session.simulate.Goals.{then-summary-via-then-summary, then-summary-via-else-summary+then-not-served}
+use Rattle.ifs_session.proofs.session.simulate.Goals.{then-summary-via-then-summary}
+use Rattle.ifs_session.proofs.session.simulate.Goals.{then-summary-via-else-summary+then-not-served}
 
 pub lines-init : goal.lines-init
 lines-init g c = record { within = omega arith; fewer = omega arith; underway = λ b h. ([], underway_start b _) }

@@ -3,22 +3,22 @@ use Rattle.ifs_session.specs.Device.{counted}
 use Rattle.ifs_core.specs.Machine.{IsBehaviour}
 use Rattle.ifs_session.proofs.Known.{append_known-nil}
 use Rattle.ifs_session.proofs.LineAsked.{kept_client_asked-line}
-use Rattle.ifs_session.proofs.Answering.{not_read, no_reply, part_answered, part_attended}
-use Rattle.ifs_session.proofs.service.serve_part.Goals as goal
+use Rattle.ifs_session.proofs.Answering.{not_read, no_reply, exchange_answered, exchange_attended}
+use Rattle.ifs_session.proofs.service.next_exchange.Goals as goal
 
-pub returns-in-Ok-answer-clause-part : goal.returns-in-Ok-answer-clause-part
-returns-in-Ok-answer-clause-part g c = λ b h.
+pub returns-in-Ok-answer-clause-exchange : goal.returns-in-Ok-answer-clause-exchange
+returns-in-Ok-answer-clause-exchange g c = λ b h.
     let r = rw c.in-Ok-Some.field-0-is at c.in-Ok-Some.ensures in
     let asks = c.client_request-asked.ensures ∙ kept_client_asked-line r.1 in
     let there = subst (λ i. IsBehaviour i b) (sym c.hear_endings.ensures.image) h in
     let heard = c.hear_endings.ensures.heard b h in (
       record { line = r.0; endings = heard.0 },
-      part_attended b r.0 c.in-Ok-Some.line.is_ended _ heard.0 _ _ _ _ _ r.1.read c.hear_endings.ensures.image c.in-Ok-answer.ensures.image asks heard.1 (c.in-Ok-answer.ensures.acts b there) c.asks_stop.ensures,
-      part_answered b r.0 heard.0 _ _ _ _ _ _ _ c.in-Ok.ensures.puts.0 c.in-Ok.ensures.puts.1 c.hear_endings.ensures.image asks heard.1 (c.in-Ok-answer.ensures.replies b there),
+      exchange_attended b r.0 c.in-Ok-Some.line.is_ended _ heard.0 _ _ _ _ _ r.1.read c.hear_endings.ensures.image c.in-Ok-answer.ensures.image asks heard.1 (c.in-Ok-answer.ensures.acts b there) c.asks_stop.ensures,
+      exchange_answered b r.0 heard.0 _ _ _ _ _ _ _ c.in-Ok.ensures.puts.0 c.in-Ok.ensures.puts.1 c.hear_endings.ensures.image asks heard.1 (c.in-Ok-answer.ensures.replies b there),
     )
 
-pub returns-in-Err-answer-clause-part : goal.returns-in-Err-answer-clause-part
-returns-in-Err-answer-clause-part g c = λ b h.
+pub returns-in-Err-answer-clause-exchange : goal.returns-in-Err-answer-clause-exchange
+returns-in-Err-answer-clause-exchange g c = λ b h.
     let r = rw c.in-Ok-Some.field-0-is at c.in-Ok-Some.ensures in
     let asks = c.client_request-asked.ensures ∙ kept_client_asked-line r.1 in
     let there = subst (λ i. IsBehaviour i b) (sym c.hear_endings.ensures.image) h in
@@ -28,12 +28,12 @@ returns-in-Err-answer-clause-part g c = λ b h.
       inr (
         record { line = r.0; endings = heard.0 },
         c.in-Ok-Some.line.is_ended,
-        part_attended b r.0 c.in-Ok-Some.line.is_ended _ heard.0 _ _ _ _ _ r.1.read c.hear_endings.ensures.image c.in-Err-answer.ensures.image asks heard.1 (c.in-Err-answer.ensures.acts b there) refl,
+        exchange_attended b r.0 c.in-Ok-Some.line.is_ended _ heard.0 _ _ _ _ _ r.1.read c.hear_endings.ensures.image c.in-Err-answer.ensures.image asks heard.1 (c.in-Err-answer.ensures.acts b there) refl,
       ),
     )
 
-pub returns-in-Err-clause-part : goal.returns-in-Err-clause-part
-returns-in-Err-clause-part g c = λ b h.
+pub returns-in-Err-clause-exchange : goal.returns-in-Err-clause-exchange
+returns-in-Err-clause-exchange g c = λ b h.
     not_read b c.in-Err.fault _ _ c.in-Err.ensures
     (record { core = refl; written = c.in-Ok.ensures.puts.0 ∙ append_known-nil _; same_faults = c.in-Ok.ensures.puts.1 })
     (record { steps = refl; told = refl })
