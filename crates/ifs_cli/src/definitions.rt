@@ -1,29 +1,43 @@
 //! Definitions on the command line.
 
-ghost use Rattle.std.specs.Prelude.{◌≡◌, ℕ, List, IfSome, IsSomeAnd};
+ghost use Rattle.std.specs.Prelude.{◌≡◌, ℕ, List, IfOk, IfSome, IsSomeAnd};
 ghost use Rattle.ifs_cli.specs.Definitions.{Defines};
 
 use ifs_lex::is_macro_name;
 use std::alloc::{AllocError, Global};
+use std::marker::Model;
 
-/// A macro that is defined beside a text.
+/// A macro that is defined beside a text, seen as its name and its value.
 #[derive(Debug, Drop)]
 pub struct Definition {
     name: String,
     value: String,
 }
 
+impl Model for Definition {
+    ghost use Rattle.std.specs.Prelude.{ℕ, List, string_bytes};
+
+    ghost Value = { List ℕ × List ℕ };
+
+    ghost view = { λ d. (string_bytes d.name, string_bytes d.value) };
+}
+
 impl Definition {
     /// The definition of a name as a value.
-    pub fn new(alloc: Global, name: &str, value: &str) -> Result<Self, AllocError> {
+    pub fn new(alloc: Global, name: &str, value: &str) -> Result<Self, AllocError>
+        ensures { IfOk result (λ it. it ≡ (name.now, value.now)) }
+    {
         Ok(Definition {
             name: String::from_str(alloc, name)?,
             value: String::from_str(alloc, value)?,
         })
     }
 
-    /// Its name and its value.
-    pub fn pair(&self) -> (&str, &str) {
+    /// Its name and its value, in this order.
+    pub fn pair(&self) -> (&str, &str)
+        ensures name { result.0.now ≡ self.now.0 }
+        ensures value { result.1.now ≡ self.now.1 }
+    {
         (self.name.as_str(), self.value.as_str())
     }
 }
