@@ -1,3 +1,4 @@
+pub mod Lines
 pub mod Answers
 pub mod Children
 pub mod Definitions

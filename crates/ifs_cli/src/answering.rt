@@ -1,7 +1,7 @@
 //! What the words on files answer, apart from the files themselves.
 
 ghost use Rattle.std.specs.Prelude.{◌≡◌, ◌≢◌, None, map, option_map, string_bytes, IfOk};
-ghost use Rattle.ifs_cli.specs.Answers.{AreAccepted, AreGood, IsGiven, IsPrinted};
+ghost use Rattle.ifs_cli.specs.Answers.{AreAccepted, AreGood, IsGiven, IsPrinted, TellsBudgets};
 
 use crate::assembling::asm;
 use crate::checking::check;
@@ -10,8 +10,8 @@ use crate::disassembling::disasm;
 use crate::ending::{Ending, out_of_memory};
 use crate::files::{FileFault, contents, fault_of};
 use crate::images::write_image;
+use crate::lines::of_budgets;
 use crate::task::{Answer, Task};
-use ifs_image::Budgets;
 use ifs_verify::{VerifyFault, verify};
 use std::alloc::{AllocError, Global};
 use std::rt::Files;
@@ -27,8 +27,8 @@ pub fn answer(
     // Bytes are told to be good exactly where they are what the task asks for.
     ensures good { IfOk result (λ answer. answer.status ≡ 0 → AreGood task input.now (map (λ d. (d.0.now, d.1.now)) defs.now)) }
     ensures refused { IfOk result (λ answer. answer.status ≢ 0 → ¬ AreGood task input.now (map (λ d. (d.0.now, d.1.now)) defs.now)) }
-    // What is printed of an image is its canonical text.
-    ensures text { IfOk result (λ answer. answer.status ≡ 0 → IsPrinted task input.now (string_bytes answer.text)) }
+    // What is printed of good bytes is what they are: budgets, counts, notes, lengths, an image's text.
+    ensures text { IfOk result (λ answer. answer.status ≡ 0 → IsPrinted task input.now (map (λ d. (d.0.now, d.1.now)) defs.now) (option_map (λ file. file.items) answer.file) (string_bytes answer.text)) }
     // The file is the one that the task asks for, and there is none with a refusal.
     ensures file { IfOk result (λ answer. answer.status ≡ 0 → IsGiven task input.now (map (λ d. (d.0.now, d.1.now)) defs.now) (option_map (λ file. file.items) answer.file)) }
     ensures no_file { IfOk result (λ answer. answer.status ≢ 0 → answer.file ≡ None) }
@@ -46,23 +46,14 @@ pub fn answer(
 fn verified(alloc: Global, image: &[u8]) -> Result<Answer, AllocError>
     ensures good { IfOk result (λ answer. answer.status ≡ 0 → AreAccepted image.now) }
     ensures refused { IfOk result (λ answer. answer.status ≢ 0 → ¬ AreAccepted image.now) }
+    ensures text { IfOk result (λ answer. answer.status ≡ 0 → TellsBudgets image.now (string_bytes answer.text)) }
     ensures file { IfOk result (λ answer. answer.file ≡ None) }
 {
     match verify(alloc, image) {
-        Ok(verified) => Ok(Answer::good(budgets_line(alloc, verified.budgets())?, None)),
+        Ok(verified) => Ok(Answer::good(of_budgets(alloc, verified.budgets())?, None)),
         Err(VerifyFault::OutOfMemory) => Err(AllocError),
         Err(fault) => Answer::refused(alloc, fault),
     }
-}
-
-fn budgets_line(alloc: Global, budgets: Budgets) -> Result<String, AllocError> {
-    let Budgets {
-        stack,
-        frames,
-        cost,
-        commands,
-    } = budgets;
-    format!(in alloc; "ok stack {stack} frames {frames} cost {cost} commands {commands}\n")
 }
 
 /// Does a task on the bytes of a file: writes the image that it answers, if any, and then prints the answer.

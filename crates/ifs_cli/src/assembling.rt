@@ -1,10 +1,12 @@
 //! What `asm` answers to the bytes of an assembly text.
 
-ghost use Rattle.std.specs.Prelude.{◌≡◌, ◌≢◌, None, option_map, IsSomeAnd, IfOk};
+ghost use Rattle.std.specs.Prelude.{◌≡◌, ◌≢◌, length, None, option_map, string_bytes, IsSomeAnd, IfOk};
 ghost use Rattle.ifs_image.specs.Spelling.{Spells};
 ghost use Rattle.ifs_cli.specs.Answers.{AreAssembly, IsAssembled};
+ghost use Rattle.ifs_cli.specs.Lines.{size_line};
 
 use crate::checking::{NotText, text_of};
+use crate::lines::of_size;
 use crate::task::Answer;
 use ifs_asm::{AsmFault, assemble};
 use ifs_image::{Image, write};
@@ -15,6 +17,7 @@ pub fn asm(alloc: Global, bytes: &[u8]) -> Result<Answer, AllocError>
     ensures good { IfOk result (λ answer. answer.status ≡ 0 → AreAssembly bytes.now) }
     ensures refused { IfOk result (λ answer. answer.status ≢ 0 → ¬ AreAssembly bytes.now) }
     ensures file { IfOk result (λ answer. answer.status ≡ 0 → IsSomeAnd (option_map (λ file. file.items) answer.file) (IsAssembled bytes.now)) }
+    ensures text { IfOk result (λ answer. answer.status ≡ 0 → IsSomeAnd (option_map (λ file. file.items) answer.file) (λ file. string_bytes answer.text ≡ size_line (length file))) }
     ensures no_file { IfOk result (λ answer. answer.status ≢ 0 → answer.file ≡ None) }
 {
     let text = match text_of(bytes) {
@@ -32,9 +35,10 @@ pub fn asm(alloc: Global, bytes: &[u8]) -> Result<Answer, AllocError>
 fn written(alloc: Global, image: &Image) -> Result<Answer, AllocError>
     ensures good { IfOk result (λ answer. answer.status ≡ 0) }
     ensures file { IfOk result (λ answer. IsSomeAnd (option_map (λ file. file.items) answer.file) (λ file. Spells file image.now)) }
+    ensures text { IfOk result (λ answer. IsSomeAnd (option_map (λ file. file.items) answer.file) (λ file. string_bytes answer.text ≡ size_line (length file))) }
 {
     let file = write(alloc, image)?;
-    let line = format!(in alloc; "ok {} bytes\n", file.len())?;
+    let line = of_size(alloc, file.len())?;
     Ok(Answer::good(line, Some(file)))
 }
 

@@ -1,11 +1,13 @@
 //! What `check` answers to the bytes of a policy.
 
-ghost use Rattle.std.specs.Prelude.{◌≡◌, ◌≢◌, ◌+◌, ℕ, None, take, count_by, map, ◌==◌, IfOk, IfErr};
+ghost use Rattle.std.specs.Prelude.{◌≡◌, ◌≢◌, ◌+◌, ◌++◌, ℕ, None, take, count_by, map, ◌==◌, string_bytes, IfOk, IfErr};
 ghost use Rattle.std.specs.Str.{IsUtf8, IsValidUpTo};
-ghost use Rattle.ifs_cli.specs.Answers.{ArePolicy};
+ghost use Rattle.ifs_cli.specs.Answers.{ArePolicy, TellsPolicy};
+ghost use Rattle.ifs_cli.specs.Lines.{note_lines, counts_line};
 
+use crate::lines::{of_notes, put_counts};
 use crate::task::Answer;
-use ifs_policy::{Counts, PolicyFault, PolicyText, policy_of};
+use ifs_policy::{PolicyFault, PolicyText, policy_of};
 use std::alloc::{AllocError, Global};
 use std::str::from_utf8;
 use thiserror::Error;
@@ -40,6 +42,7 @@ pub fn text_of(bytes: &[u8]) -> Result<&str, NotText>
 pub fn check(alloc: Global, bytes: &[u8], defs: &[(&str, &str)]) -> Result<Answer, AllocError>
     ensures good { IfOk result (λ answer. answer.status ≡ 0 → ArePolicy bytes.now (map (λ d. (d.0.now, d.1.now)) defs.now)) }
     ensures refused { IfOk result (λ answer. answer.status ≢ 0 → ¬ ArePolicy bytes.now (map (λ d. (d.0.now, d.1.now)) defs.now)) }
+    ensures text { IfOk result (λ answer. answer.status ≡ 0 → TellsPolicy bytes.now (map (λ d. (d.0.now, d.1.now)) defs.now) (string_bytes answer.text)) }
     ensures file { IfOk result (λ answer. answer.file ≡ None) }
 {
     let text = match text_of(bytes) {
@@ -55,40 +58,18 @@ pub fn check(alloc: Global, bytes: &[u8], defs: &[(&str, &str)]) -> Result<Answe
 
 /// The answer to a policy.
 fn answered(alloc: Global, found: PolicyText) -> Result<Answer, AllocError>
-    ensures { IfOk result (λ answer. (answer.status ≡ 0) × (answer.file ≡ None)) }
+    ensures good { IfOk result (λ answer. (answer.status ≡ 0) × (answer.file ≡ None)) }
+    ensures text { IfOk result (λ answer. string_bytes answer.text ≡ note_lines found.tree.notes ++ counts_line found.policy.tables) }
 {
     told(alloc, &found)
 }
 
 /// What is told of a policy.
 fn told(alloc: Global, found: &PolicyText) -> Result<Answer, AllocError>
-    ensures { IfOk result (λ answer. (answer.status ≡ 0) × (answer.file ≡ None)) }
+    ensures good { IfOk result (λ answer. (answer.status ≡ 0) × (answer.file ≡ None)) }
+    ensures text { IfOk result (λ answer. string_bytes answer.text ≡ note_lines found.now.tree.notes ++ counts_line found.now.policy.tables) }
 {
-    let mut lines = notes_of(alloc, found.tree.notes())?;
-    put_counts(&mut lines, found.policy.counts())?;
+    let mut lines = of_notes(alloc, found.tree.notes())?;
+    put_counts(&mut lines, &found.policy)?;
     Ok(Answer::good(lines, None))
-}
-
-/// A line for each note, whose number it has.
-pub fn notes_of(alloc: Global, notes: &[u32]) -> Result<String, AllocError> {
-    let mut lines = String::new(alloc);
-    for line in notes {
-        writeln!(lines, "note line {line}: || and && without parentheses")?;
-    }
-    Ok(lines)
-}
-
-/// Adds the line that tells how many names a policy has.
-fn put_counts(lines: &mut String, counts: Counts) -> Result<(), AllocError> {
-    let Counts {
-        interfaces,
-        tests,
-        commands,
-        states,
-    } = counts;
-    writeln!(
-        lines,
-        "ok {interfaces} interfaces {tests} tests {commands} commands {states} states"
-    )?;
-    Ok(())
 }

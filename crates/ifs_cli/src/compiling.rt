@@ -1,12 +1,15 @@
 //! What `compile` answers to the bytes of a policy.
 
-ghost use Rattle.std.specs.Prelude.{◌≡◌, ◌≢◌, None, map, option_map, IsSomeAnd, IfOk};
+ghost use Rattle.std.specs.Prelude.{◌≡◌, ◌≢◌, ◌++◌, length, None, map, option_map, string_bytes, IsSomeAnd, IfOk};
 ghost use Rattle.ifs_gen.specs.Compiled.{IsCompiled};
-ghost use Rattle.ifs_cli.specs.Answers.{AreCompiled};
+ghost use Rattle.ifs_cli.specs.Answers.{AreCompiled, TellsCompiled};
+ghost use Rattle.ifs_cli.specs.Lines.{note_lines, size_line};
 
-use crate::checking::{notes_of, text_of};
+use crate::checking::text_of;
+use crate::lines::{of_notes, put_size};
 use crate::task::Answer;
 use ifs_gen::{CompileFault, CompiledText, compile_with_notes};
+use ifs_parse::Tree;
 use std::alloc::{AllocError, Global};
 
 /// The answer of `compile`: the notes on a policy and the length of its image, which is the file.
@@ -15,6 +18,8 @@ pub fn compile(alloc: Global, bytes: &[u8], defs: &[(&str, &str)]) -> Result<Ans
     ensures refused { IfOk result (λ answer. answer.status ≢ 0 → ¬ AreCompiled bytes.now (map (λ d. (d.0.now, d.1.now)) defs.now)) }
     ensures file { IfOk result (λ answer. answer.status ≡ 0
         → IsSomeAnd (option_map (λ file. file.items) answer.file) (IsCompiled bytes.now (map (λ d. (d.0.now, d.1.now)) defs.now))) }
+    ensures text { IfOk result (λ answer. answer.status ≡ 0
+        → IsSomeAnd (option_map (λ file. file.items) answer.file) (λ file. TellsCompiled bytes.now (map (λ d. (d.0.now, d.1.now)) defs.now) (string_bytes answer.text) (length file))) }
     ensures no_file { IfOk result (λ answer. answer.status ≢ 0 → answer.file ≡ None) }
 {
     let text = match text_of(bytes) {
@@ -23,11 +28,19 @@ pub fn compile(alloc: Global, bytes: &[u8], defs: &[(&str, &str)]) -> Result<Ans
     };
     match compile_with_notes(alloc, text, defs) {
         Ok(CompiledText { tree, bytes }) => {
-            let mut lines = notes_of(alloc, tree.notes())?;
-            writeln!(lines, "ok {} bytes", bytes.len())?;
+            let lines = lines_of(alloc, &tree, bytes.len())?;
             Ok(Answer::good(lines, Some(bytes)))
         }
         Err(CompileFault::Memory) => Err(AllocError),
         Err(fault) => Answer::refused(alloc, fault),
     }
+}
+
+/// The lines of the notes of a policy, and of an image of so many bytes.
+fn lines_of(alloc: Global, tree: &Tree, size: usize) -> Result<String, AllocError>
+    ensures { IfOk result (λ lines. string_bytes lines ≡ note_lines tree.now.notes ++ size_line size) }
+{
+    let mut lines = of_notes(alloc, tree.notes())?;
+    put_size(&mut lines, size)?;
+    Ok(lines)
 }

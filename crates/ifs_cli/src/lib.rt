@@ -16,5 +16,6 @@ mod disassembling;
 pub mod ending;
 pub mod files;
 pub mod images;
+mod lines;
 pub mod shell;
 pub mod task;
