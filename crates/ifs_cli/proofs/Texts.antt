@@ -1,14 +1,14 @@
 -- What is no text, and what is no policy.
-use Rattle.std.proofs.Common.{ℕ, List, ◌++◌, length, ◌≡◌, ◌≢◌, subst, sym, arith}
+use Rattle.std.proofs.Common.{ℕ, List, length, ◌≡◌, ◌≢◌, ◌⊎◌, inl, inr, Result, Ok, Err, IfOk, subst, sym, arith}
 use Rattle.std.proofs.lemmas.List.{take_all}
 use Rattle.std.specs.Str.{IsUtf8, IsValidUpTo}
 use Rattle.ifs_policy.specs.declared.front.PolicyFault.{PolicyFault}
 use Rattle.ifs_policy.specs.declared.front.PolicyFault.TheVariants.{Text, Tokens, Names, Memory}
-use Rattle.ifs_parse.specs.Files.{File}
-use Rattle.ifs_policy.specs.declared.policy.PolicyParts.{PolicyParts}
-use Rattle.ifs_policy.specs.Texts.{HasNoPolicy, HasPolicy, IsTextRefused, SaysFile}
-use Rattle.ifs_cli.specs.Answers.{ArePolicy, TellsPolicy, TellsCompiled}
-use Rattle.ifs_cli.specs.Lines.{note_lines, counts_line, size_line}
+use Rattle.ifs_policy.specs.Texts.{HasNoPolicy, IsTextRefused}
+use Rattle.ifs_cli.specs.Answers.{ArePolicy, IsNoText, Tells, TellsNoText, TellsNoLine}
+use Rattle.ifs_asm.specs.declared.fault.AsmFault.TheVariants.{Unknown}
+use Rattle.ifs_cli.specs.Faults.{no_text_words, policy_words, assembly_words}
+use Rattle.ifs_cli.specs.Lines.{refusal_line}
 
 -- Bytes that are UTF-8 up to a place before their end are no text.
 pub not_utf8 : (bytes : List ℕ) (n : ℕ) → IsValidUpTo bytes n → ¬ IsUtf8 bytes
@@ -27,19 +27,20 @@ pub no_policy : (bytes text : List ℕ) (defs : List (List ℕ × List ℕ)) (fa
 no_policy bytes text defs fault same refused other are =
     has_none bytes defs fault (subst (λ t. IsTextRefused t defs fault) same (refused other)) are.1.0 are.1.1
 
--- What is told of a text that has a policy, of the bytes that are this text.
-pub tells_policy : (bytes text printed : List ℕ) (defs : List (List ℕ × List ℕ)) (said : File) (policy : PolicyParts) → text ≡ bytes
-    → SaysFile text defs said → HasPolicy text defs policy → printed ≡ note_lines said.notes ++ counts_line policy.tables → TellsPolicy bytes defs printed
-tells_policy bytes text printed defs said policy same says has line = record {
-  said = said;
-  policy = policy;
-  says = subst (λ t. SaysFile t defs said) same says;
-  has = subst (λ t. HasPolicy t defs policy) same has;
-  printed = line;
-}
+-- What is known of an answer, where it says more.
+pub each : {A E : Type 0} {P Q : A → Type 0} (result : Result A E) → ((answer : A) → P answer → Q answer) → IfOk result P → IfOk result Q
+each (Ok answer) more known = more answer known
+each (Err fault) more known = tt
 
--- What is told of one that compiles.
-pub tells_compiled : (bytes text printed : List ℕ) (defs : List (List ℕ × List ℕ)) (said : File) (size : ℕ) → text ≡ bytes
-    → SaysFile text defs said → printed ≡ note_lines said.notes ++ size_line size → TellsCompiled bytes defs printed size
-tells_compiled bytes text printed defs said size same says line =
-    record { said = said; says = subst (λ t. SaysFile t defs said) same says; printed = line }
+-- What is told of bytes that are no text.
+pub told_no_text : {X : Type 0} (bytes printed : List ℕ) (line : ℕ) → IsNoText bytes line → printed ≡ refusal_line (no_text_words line) → TellsNoText bytes printed ⊎ X
+told_no_text bytes printed line none is = inl (record { fault = line; holds = none; printed = is })
+
+pub told_no_line : {X : Type 0} (bytes printed : List ℕ) (line : ℕ) → IsNoText bytes line → printed ≡ refusal_line (assembly_words (Unknown line)) → TellsNoLine bytes printed ⊎ X
+told_no_line bytes printed line none is = inl (record { fault = line; holds = none; printed = is })
+
+-- What is told of a text that is refused, of the bytes that are this text.
+pub told_no_policy : {X : Type 0} (bytes text printed : List ℕ) (defs : List (List ℕ × List ℕ)) (fault : PolicyFault) → text ≡ bytes
+    → (fault ≢ Memory → IsTextRefused text defs fault) → fault ≢ Memory → printed ≡ refusal_line (policy_words fault) → X ⊎ Tells policy_words (IsTextRefused bytes defs) printed
+told_no_policy bytes text printed defs fault same refused other is =
+    inr (record { fault = fault; holds = subst (λ t. IsTextRefused t defs fault) same (refused other); printed = is })

@@ -1,18 +1,27 @@
 -- What the program's answers say of the bytes of a file.
-use Rattle.std.specs.Prelude.{ℕ, ◌≡◌, ◌++◌, List, length, Option, None, IsSomeAnd}
-use Rattle.std.specs.Str.{IsUtf8}
+use Rattle.std.specs.Prelude.{ℕ, ◌≡◌, ◌≢◌, ◌+◌, ◌==◌, ◌++◌, ◌⊎◌, List, length, take, count_by}
+use Rattle.std.specs.Prelude.{Option, None, Err, IsSomeAnd}
+use Rattle.std.specs.Str.{IsUtf8, IsValidUpTo}
 use Rattle.ifs_asm.specs.Spellings as asm
+use Rattle.ifs_asm.specs.Refused as assembling
+use Rattle.ifs_asm.specs.declared.fault.AsmFault.TheVariants.{Unknown}
 use Rattle.ifs_asm.specs.Texts.{canonical}
-use Rattle.ifs_gen.specs.Compiled.{Compiles, IsCompiled}
+use Rattle.ifs_gen.specs.Compiled.{Compiles, IsCompiled, IsRefusal}
+use Rattle.ifs_gen.specs.declared.compile_fault.CompileFault.TheVariants.{Memory}
 use Rattle.ifs_image.specs.declared.parts.ImageParts.{ImageParts}
 use Rattle.ifs_image.specs.Spelling.{Spells}
+use Rattle.ifs_image.specs.Reading.{image_of}
 use Rattle.ifs_parse.specs.Files.{File}
-use Rattle.ifs_policy.specs.Texts.{HasPolicy, SaysFile}
+use Rattle.ifs_policy.specs.Texts.{HasPolicy, SaysFile, IsTextRefused}
 use Rattle.ifs_policy.specs.declared.policy.PolicyParts.{PolicyParts}
+use Rattle.ifs_session.specs.Runs.{image_fault_words, verify_fault_words}
 use Rattle.ifs_verify.specs.Accepted.{IsAccepted}
+use Rattle.ifs_verify.specs.Refused as verifying
+use Rattle.ifs_verify.specs.declared.fault.VerifyFault.TheVariants.{OutOfMemory}
 use Rattle.ifs_cli.specs.declared.task.Task.{Task}
 use Rattle.ifs_cli.specs.declared.task.Task.TheVariants.{Check, Compile, Verify, Disasm, Asm}
-use Rattle.ifs_cli.specs.Lines.{budgets_line, size_line, note_lines, counts_line}
+use Rattle.ifs_cli.specs.Lines.{budgets_line, size_line, note_lines, counts_line, refusal_line}
+use Rattle.ifs_cli.specs.Faults.{no_text_words, policy_words, compile_words, assembly_words}
 
 -- Bytes spell an image that is accepted.
 abbrev pub AreAccepted : List ℕ → Type 0
@@ -68,13 +77,39 @@ pub record TellsCompiled (bytes : List ℕ) (defs : List (List ℕ × List ℕ))
   pub says : SaysFile bytes defs said
   pub printed : text ≡ note_lines said.notes ++ size_line size
 
--- What is printed of good bytes, with the file that is given beside it: of `check` the notes and the numbers of names, of `compile` the notes and the length of the file, of `verify` the stated budgets, of `disasm` the canonical text, of `asm` the length of the file.
+-- What is printed of good bytes, beside the file that is given: what was found in them, or its length.
 abbrev pub IsPrinted : Task → List ℕ → List (List ℕ × List ℕ) → Option (List ℕ) → List ℕ → Type 0
 IsPrinted Check bytes defs file text = TellsPolicy bytes defs text
 IsPrinted Compile bytes defs file text = IsSomeAnd file (λ image. TellsCompiled bytes defs text (length image))
 IsPrinted Verify bytes defs file text = TellsBudgets bytes text
 IsPrinted Disasm bytes defs file text = IsListing bytes text
 IsPrinted Asm bytes defs file text = IsSomeAnd file (λ image. text ≡ size_line (length image))
+
+-- A text is the line of a refusal, which tells in words a fault of which something holds.
+pub record Tells {Fault : Type 0} (words : Fault → List ℕ) (Holds : Fault → Type 0) (text : List ℕ) : Type 0 where
+  pub fault : Fault
+  pub holds : Holds fault
+  pub printed : text ≡ refusal_line (words fault)
+
+-- The first byte of some that is no UTF-8 stands on this line, counted from 1.
+abbrev pub IsNoText : List ℕ → ℕ → Type 0
+IsNoText bytes line = (n : ℕ) × IsValidUpTo bytes n × (line ≡ 1 + count_by (λ byte. byte == 10) (take n bytes))
+
+-- A text tells a line with a byte that is no UTF-8, by the code of what begins no word.
+abbrev pub TellsNoText : List ℕ → List ℕ → Type 0
+TellsNoText bytes text = Tells no_text_words (IsNoText bytes) text
+
+-- A text tells such a line by the code of a line of assembly that is not known.
+abbrev pub TellsNoLine : List ℕ → List ℕ → Type 0
+TellsNoLine bytes text = Tells (λ line. assembly_words (Unknown line)) (IsNoText bytes) text
+
+-- What is printed of refused bytes: a fault that they have, in its words.
+abbrev pub IsRefusedBy : Task → List ℕ → List (List ℕ × List ℕ) → List ℕ → Type 0
+IsRefusedBy Check bytes defs text = TellsNoText bytes text ⊎ Tells policy_words (IsTextRefused bytes defs) text
+IsRefusedBy Compile bytes defs text = TellsNoText bytes text ⊎ Tells compile_words (λ fault. (fault ≢ Memory) × IsRefusal bytes defs fault) text
+IsRefusedBy Verify bytes defs text = Tells verify_fault_words (λ fault. (fault ≢ OutOfMemory) × verifying.IsRefusal bytes fault) text
+IsRefusedBy Disasm bytes defs text = Tells image_fault_words (λ fault. image_of bytes ≡ Err fault) text
+IsRefusedBy Asm bytes defs text = TellsNoLine bytes text ⊎ Tells assembly_words (assembling.IsRefused bytes) text
 
 -- The file that is given for good bytes: of a text that is compiled the image that means its policy, of assembly text the image that it spells, and none of the other tasks.
 abbrev pub IsGiven : Task → List ℕ → List (List ℕ × List ℕ) → Option (List ℕ) → Type 0

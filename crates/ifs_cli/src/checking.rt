@@ -1,22 +1,33 @@
 //! What `check` answers to the bytes of a policy.
 
-ghost use Rattle.std.specs.Prelude.{◌≡◌, ◌≢◌, ◌+◌, ◌++◌, ℕ, None, take, count_by, map, ◌==◌, string_bytes, IfOk, IfErr};
-ghost use Rattle.std.specs.Str.{IsUtf8, IsValidUpTo};
-ghost use Rattle.ifs_cli.specs.Answers.{ArePolicy, TellsPolicy};
+ghost use Rattle.std.specs.Prelude.{◌≡◌, ◌≢◌, ◌≤◌, ◌++◌, ◌⊎◌, None, Some, map, string_bytes, IfOk, IfErr};
+ghost use Rattle.std.specs.Str.{IsUtf8};
+ghost use Rattle.ifs_cli.specs.Answers.{ArePolicy, IsNoText, Tells, TellsNoText, TellsPolicy};
+ghost use Rattle.ifs_cli.specs.Faults.{no_text_words, policy_words};
+ghost use Rattle.ifs_policy.specs.Texts.{IsTextRefused};
 ghost use Rattle.ifs_cli.specs.Lines.{note_lines, counts_line};
 
 use crate::lines::{of_notes, put_counts};
+use crate::refusing::Told;
 use crate::task::Answer;
 use ifs_policy::{PolicyFault, PolicyText, policy_of};
 use std::alloc::{AllocError, Global};
+use std::fmt::{self, Display, Formatter, Write};
 use std::str::from_utf8;
-use thiserror::Error;
 
 /// P1: a byte that is no UTF-8, with its line, from 1.
-#[derive(Clone, Copy, Debug, PartialEq, Eq, Error)]
-#[error("P1 line {line}")]
+#[derive(Clone, Copy, Debug, PartialEq, Eq)]
 pub struct NotText {
     pub line: usize,
+}
+
+impl Display for NotText {
+    ghost output = { λ fault. Some (no_text_words fault.line) };
+
+    fn fmt<W: Write>(&self, f: &mut Formatter<W>) -> fmt::Result {
+        let line = self.line;
+        write!(f, "P1 line {line}")
+    }
 }
 
 /// The text of these bytes. They are none where a byte is no UTF-8: the line is that of the first one.
@@ -24,8 +35,7 @@ pub struct NotText {
 pub fn text_of(bytes: &[u8]) -> Result<&str, NotText>
     ensures text { IfOk result (λ text. (text.now ≡ bytes.now) × IsUtf8 bytes.now) }
     ensures none { IfErr result (λ _. ¬ IsUtf8 bytes.now) }
-    ensures line { IfErr result (λ fault. (n : ℕ) × IsValidUpTo bytes.now n
-        × (fault.line ≡ 1 + count_by (λ byte. byte == 10) (take n bytes.now))) }
+    ensures line { IfErr result (λ fault. IsNoText bytes.now fault.line) }
 {
     match from_utf8(bytes) {
         Ok(text) => Ok(text),
@@ -40,9 +50,12 @@ pub fn text_of(bytes: &[u8]) -> Result<&str, NotText>
 /// The answer of `check`: the notes on a policy, and how many names it has.
 #[tactic(auto, using(crate::proofs::Texts::no_policy))]
 pub fn check(alloc: Global, bytes: &[u8], defs: &[(&str, &str)]) -> Result<Answer, AllocError>
+    ensures status { IfOk result (λ answer. answer.status ≤ 1) }
     ensures good { IfOk result (λ answer. answer.status ≡ 0 → ArePolicy bytes.now (map (λ d. (d.0.now, d.1.now)) defs.now)) }
     ensures refused { IfOk result (λ answer. answer.status ≢ 0 → ¬ ArePolicy bytes.now (map (λ d. (d.0.now, d.1.now)) defs.now)) }
     ensures text { IfOk result (λ answer. answer.status ≡ 0 → TellsPolicy bytes.now (map (λ d. (d.0.now, d.1.now)) defs.now) (string_bytes answer.text)) }
+    ensures told { IfOk result (λ answer. answer.status ≢ 0 → TellsNoText bytes.now (string_bytes answer.text)
+        ⊎ Tells policy_words (IsTextRefused bytes.now (map (λ d. (d.0.now, d.1.now)) defs.now)) (string_bytes answer.text)) }
     ensures file { IfOk result (λ answer. answer.file ≡ None) }
 {
     let text = match text_of(bytes) {
@@ -52,7 +65,7 @@ pub fn check(alloc: Global, bytes: &[u8], defs: &[(&str, &str)]) -> Result<Answe
     match policy_of(alloc, text, defs) {
         Ok(found) => answered(alloc, found),
         Err(PolicyFault::Memory) => Err(AllocError),
-        Err(fault) => Answer::refused(alloc, fault),
+        Err(fault) => Answer::refused(alloc, Told(fault)),
     }
 }
 

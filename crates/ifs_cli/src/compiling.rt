@@ -1,12 +1,16 @@
 //! What `compile` answers to the bytes of a policy.
 
-ghost use Rattle.std.specs.Prelude.{◌≡◌, ◌≢◌, ◌++◌, length, None, map, option_map, string_bytes, IsSomeAnd, IfOk};
-ghost use Rattle.ifs_gen.specs.Compiled.{IsCompiled};
-ghost use Rattle.ifs_cli.specs.Answers.{AreCompiled, TellsCompiled};
+ghost use Rattle.std.specs.Prelude.{◌≡◌, ◌≢◌, ◌≤◌, ◌++◌, ◌⊎◌, length, None, map, option_map, string_bytes};
+ghost use Rattle.std.specs.Prelude.{IsSomeAnd, IfOk};
+ghost use Rattle.ifs_gen.specs.Compiled.{IsCompiled, IsRefusal};
+ghost use Rattle.ifs_gen.specs.declared.compile_fault.CompileFault.TheVariants.{Memory};
+ghost use Rattle.ifs_cli.specs.Answers.{AreCompiled, Tells, TellsCompiled, TellsNoText};
+ghost use Rattle.ifs_cli.specs.Faults.{compile_words};
 ghost use Rattle.ifs_cli.specs.Lines.{note_lines, size_line};
 
 use crate::checking::text_of;
 use crate::lines::{of_notes, put_size};
+use crate::refusing::Told;
 use crate::task::Answer;
 use ifs_gen::{CompileFault, CompiledText, compile_with_notes};
 use ifs_parse::Tree;
@@ -14,12 +18,15 @@ use std::alloc::{AllocError, Global};
 
 /// The answer of `compile`: the notes on a policy and the length of its image, which is the file.
 pub fn compile(alloc: Global, bytes: &[u8], defs: &[(&str, &str)]) -> Result<Answer, AllocError>
+    ensures status { IfOk result (λ answer. answer.status ≤ 1) }
     ensures good { IfOk result (λ answer. answer.status ≡ 0 → AreCompiled bytes.now (map (λ d. (d.0.now, d.1.now)) defs.now)) }
     ensures refused { IfOk result (λ answer. answer.status ≢ 0 → ¬ AreCompiled bytes.now (map (λ d. (d.0.now, d.1.now)) defs.now)) }
     ensures file { IfOk result (λ answer. answer.status ≡ 0
         → IsSomeAnd (option_map (λ file. file.items) answer.file) (IsCompiled bytes.now (map (λ d. (d.0.now, d.1.now)) defs.now))) }
     ensures text { IfOk result (λ answer. answer.status ≡ 0
         → IsSomeAnd (option_map (λ file. file.items) answer.file) (λ file. TellsCompiled bytes.now (map (λ d. (d.0.now, d.1.now)) defs.now) (string_bytes answer.text) (length file))) }
+    ensures told { IfOk result (λ answer. answer.status ≢ 0 → TellsNoText bytes.now (string_bytes answer.text)
+        ⊎ Tells compile_words (λ fault. (fault ≢ Memory) × IsRefusal bytes.now (map (λ d. (d.0.now, d.1.now)) defs.now) fault) (string_bytes answer.text)) }
     ensures no_file { IfOk result (λ answer. answer.status ≢ 0 → answer.file ≡ None) }
 {
     let text = match text_of(bytes) {
@@ -32,7 +39,7 @@ pub fn compile(alloc: Global, bytes: &[u8], defs: &[(&str, &str)]) -> Result<Ans
             Ok(Answer::good(lines, Some(bytes)))
         }
         Err(CompileFault::Memory) => Err(AllocError),
-        Err(fault) => Answer::refused(alloc, fault),
+        Err(fault) => Answer::refused(alloc, Told(fault)),
     }
 }
 

@@ -1,8 +1,11 @@
 //! What `disasm` answers to the bytes of an image.
 
-ghost use Rattle.std.specs.Prelude.{◌≡◌, ◌≢◌, None, string_bytes, IfOk};
-ghost use Rattle.ifs_cli.specs.Answers.{AreImage, IsListing};
+ghost use Rattle.std.specs.Prelude.{◌≡◌, ◌≢◌, ◌≤◌, None, Err, string_bytes, IfOk};
+ghost use Rattle.ifs_cli.specs.Answers.{AreImage, IsListing, Tells};
+ghost use Rattle.ifs_image.specs.Reading.{image_of};
+ghost use Rattle.ifs_session.specs.Runs.{image_fault_words};
 
+use crate::refusing::Told;
 use crate::task::Answer;
 use ifs_asm::disassemble;
 use ifs_image::{ImageFault, read};
@@ -10,13 +13,15 @@ use std::alloc::{AllocError, Global};
 
 /// The answer of `disasm`: the canonical text of an image, accepted or not.
 pub fn disasm(alloc: Global, bytes: &[u8]) -> Result<Answer, AllocError>
+    ensures status { IfOk result (λ answer. answer.status ≤ 1) }
     ensures good { IfOk result (λ answer. answer.status ≡ 0 → IsListing bytes.now (string_bytes answer.text)) }
     ensures refused { IfOk result (λ answer. answer.status ≢ 0 → ¬ AreImage bytes.now) }
+    ensures told { IfOk result (λ answer. answer.status ≢ 0 → Tells image_fault_words (λ fault. image_of bytes.now ≡ Err fault) (string_bytes answer.text)) }
     ensures file { IfOk result (λ answer. answer.file ≡ None) }
 {
     match read(alloc, bytes) {
         Ok(image) => Ok(Answer::good(disassemble(alloc, &image)?, None)),
         Err(ImageFault::Memory) => Err(AllocError),
-        Err(fault) => Answer::refused(alloc, fault),
+        Err(fault) => Answer::refused(alloc, Told(fault)),
     }
 }

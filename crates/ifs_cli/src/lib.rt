@@ -1,9 +1,10 @@
 //! What the program `ifsvm` answers, the files that it reads and writes, and the host of its daemon.
 //!
-//! Contract: the answer to each word on the bytes of a file is what `Answers` in `specs/` says of these bytes; a file
-//! is read and an image written whole, as far as reader and writer tell their bytes; and a test that the host was told
-//! to start waits until its end is told, or a later start of it fails. The program itself, which has its command line
-//! and its sessions, stands over it.
+//! Contract: an answer on the bytes of a file has status 0 exactly where they are what its word asks for; its lines
+//! are then the budgets, counts, notes, lengths or text that they have, and else a fault that they have; its file is
+//! theirs. A file is read and an image written whole, as far as reader and writer tell their bytes; and a test that the
+//! host was told to start waits until its end is told, or a later start of it fails. The program itself, which has its
+//! command line and its sessions, stands over it.
 #![tactic(auto)]
 
 pub mod answering;
@@ -17,5 +18,6 @@ pub mod ending;
 pub mod files;
 pub mod images;
 mod lines;
+mod refusing;
 pub mod shell;
 pub mod task;

@@ -1,6 +1,8 @@
 //! Tasks on the bytes of a file, and their answers.
 
-ghost use Rattle.std.specs.Prelude.{◌≡◌, None, IfOk};
+ghost use Rattle.std.specs.Prelude.{◌≡◌, None, string_bytes, IfOk, IfSome};
+ghost use Rattle.ifs_cli.specs.Faults.{memory_words};
+ghost use Rattle.ifs_cli.specs.Lines.{refusal_line};
 
 use std::alloc::{AllocError, Global};
 use std::fmt::Display;
@@ -22,7 +24,9 @@ pub enum Task {
 
 impl Task {
     /// The code that refuses for want of memory.
-    pub(crate) fn memory_code(self) -> &'static str {
+    pub(crate) fn memory_code(self) -> &'static str
+        ensures { result.now ≡ memory_words self }
+    {
         match self {
             Task::Check | Task::Compile => "P0",
             Task::Verify => "V0",
@@ -57,6 +61,7 @@ impl Answer {
     /// The answer to bytes that are refused: one line, with the fault.
     pub(crate) fn refused<F: Display + Drop>(alloc: Global, fault: F) -> Result<Answer, AllocError>
         ensures status { IfOk result (λ answer. answer.status ≡ 1) }
+        ensures text { IfSome (F.output fault) (λ words. IfOk result (λ answer. string_bytes answer.text ≡ refusal_line words)) }
         ensures file { IfOk result (λ answer. answer.file ≡ None) }
     {
         Ok(Answer {
