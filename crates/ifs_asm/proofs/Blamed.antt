@@ -1,5 +1,6 @@
 -- What a refused line did: it repeats a name, passes a count, or cannot follow.
-use Rattle.std.proofs.Common.{◌≡◌, ℕ, ◌≤◌, Bool, true, false, List, [], ◌∷◌, ◌++◌, length, map, take, Option, Some, None, refl, sym, ap, subst, ◌∙◌, arith, append_assoc, inl, inr}
+use Rattle.std.proofs.Common.{◌≡◌, ℕ, ◌≤◌, Bool, true, false, List, [], ◌∷◌, ◌++◌, length, map, take}
+use Rattle.std.proofs.Common.{Option, Some, None, refl, sym, ap, subst, ◌∙◌, arith, append_assoc, inl, inr}
 use Rattle.std.specs.Prelude.{◌||◌, ◌⊎◌, not, nat_lt}
 use Rattle.std.specs.List.{flat_map}
 use Rattle.std.specs.Str.{bytes_eq}
@@ -18,7 +19,8 @@ use Rattle.ifs_asm.specs.declared.line.Line.TheVariants as lines
 use Rattle.ifs_asm.specs.Texts.{front_lines, routine_lines}
 use Rattle.ifs_asm.specs.Refused.{EachBreaks, StandsIn, Repeats, IsLong, IsOver, SaysLine}
 use Rattle.ifs_asm.specs.inner.Forms.{formed}
-use Rattle.ifs_asm.specs.inner.Building.{Built, listed_routine, current_len, parts_of, lines_said, has_name, is_full, line_in}
+use Rattle.ifs_asm.specs.inner.Building.{Built, listed_routine, current_len, parts_of}
+use Rattle.ifs_asm.specs.inner.Building.{lines_said, has_name, is_full, line_in}
 use Rattle.ifs_asm.specs.inner.Reading.{Blames}
 use Rattle.ifs_asm.proofs.Bytes.{same_word}
 use Rattle.ifs_asm.proofs.BuildFits.{IsWithin}

@@ -1,5 +1,6 @@
 -- The lines of an image build it.
-use Rattle.std.proofs.Common.{◌≡◌, ℕ, ◌+◌, ◌<◌, ◌≤◌, Bool, true, false, cond, List, [], ◌∷◌, ◌++◌, length, map, Option, Some, None, refl, sym, ap, subst, ◌∙◌, arith, append_assoc, length-append}
+use Rattle.std.proofs.Common.{◌≡◌, ℕ, ◌+◌, ◌<◌, ◌≤◌, Bool, true, false, cond, List, [], ◌∷◌, ◌++◌, length, map}
+use Rattle.std.proofs.Common.{Option, Some, None, refl, sym, ap, subst, ◌∙◌, arith, append_assoc, length-append}
 use Rattle.std.specs.Prelude.{◌||◌, not, nat_lt, option_and_then, Contains, min}
 use Rattle.std.specs.Bool.{Decides}
 use Rattle.std.specs.List.{flat_map, AllByRecursion}
@@ -20,7 +21,8 @@ use Rattle.ifs_image.specs.Reading.{stands_in}
 use Rattle.ifs_asm.specs.declared.line.Line.{Line}
 use Rattle.ifs_asm.specs.declared.line.Line.TheVariants as lines
 use Rattle.ifs_asm.specs.Texts.{front_lines, routine_lines, lines_of}
-use Rattle.ifs_asm.specs.inner.Building.{Built, listed_routine, parts_of, has_name, is_full, is_in_order, with_line, step, built_of, nothing, is_none}
+use Rattle.ifs_asm.specs.inner.Building.{Built, listed_routine, parts_of, has_name, is_full}
+use Rattle.ifs_asm.specs.inner.Building.{is_in_order, with_line, step, built_of, nothing, is_none}
 
 -- ---- names
 

@@ -1,5 +1,6 @@
 -- What lines built keeps to the limits of an image.
-use Rattle.std.proofs.Common.{◌≡◌, ℕ, ◌+◌, ◌<◌, ◌≤◌, Bool, true, false, cond, List, [], ◌∷◌, ◌++◌, length, Option, Some, None, refl, sym, ap, subst, ◌∙◌, arith, length-append}
+use Rattle.std.proofs.Common.{◌≡◌, ℕ, ◌+◌, ◌<◌, ◌≤◌, Bool, true, false, cond, List, [], ◌∷◌, ◌++◌, length}
+use Rattle.std.proofs.Common.{Option, Some, None, refl, sym, ap, subst, ◌∙◌, arith, length-append}
 use Rattle.std.specs.Prelude.{◌||◌, ◌↔◌, IsTrue, not, nat_lt, option_and_then, is_some, min}
 use Rattle.std.specs.List.{AllByRecursion}
 use Rattle.std.proofs.lemmas.Bool.{or_parts, iff_false}
@@ -19,7 +20,8 @@ use Rattle.ifs_image.proofs.Names.{AreDistinct-push}
 use Rattle.ifs_asm.specs.declared.line.Line.{Line}
 use Rattle.ifs_asm.specs.declared.line.Line.TheVariants as lines
 use Rattle.ifs_asm.specs.Texts.{routine_lines}
-use Rattle.ifs_asm.specs.inner.Building.{Built, listed_routine, current_len, parts_of, has_name, is_full, is_in_order, with_line, with_op, step, line_in, built_by, nothing}
+use Rattle.ifs_asm.specs.inner.Building.{Built, listed_routine, current_len, parts_of, has_name, is_full}
+use Rattle.ifs_asm.specs.inner.Building.{is_in_order, with_line, with_op, step, line_in, built_by, nothing}
 use Rattle.ifs_asm.proofs.Bytes.{each_append, each_weaker}
 use Rattle.ifs_asm.specs.Refused.{LineFits, TextGood}
 use Rattle.ifs_asm.proofs.BuildFound.{image_said}

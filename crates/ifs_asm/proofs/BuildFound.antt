@@ -1,5 +1,6 @@
 -- What was built is said by the lines that built it.
-use Rattle.std.proofs.Common.{◌≡◌, ℕ, suc, ◌<◌, ◌≤◌, Bool, true, false, cond, List, [], ◌∷◌, ◌++◌, length, map, take, Option, Some, None, refl, sym, ap, subst, ◌∙◌, arith, append_assoc, inl, inr}
+use Rattle.std.proofs.Common.{◌≡◌, ℕ, suc, ◌<◌, ◌≤◌, Bool, true, false, cond, List, [], ◌∷◌, ◌++◌, length, map}
+use Rattle.std.proofs.Common.{take, Option, Some, None, refl, sym, ap, subst, ◌∙◌, arith, append_assoc, inl, inr}
 use Rattle.std.specs.Prelude.{◌==◌, ◌&&◌, ◌||◌, not, option_and_then, is_some}
 use Rattle.std.specs.List.{flat_map, AllByRecursion, AllZip}
 use Rattle.std.proofs.lemmas.Bool.{and_parts, eqb-true, not-true, cases_lt}
@@ -15,7 +16,8 @@ use Rattle.ifs_asm.specs.declared.line.Line.{Line}
 use Rattle.ifs_asm.specs.declared.line.Line.TheVariants as lines
 use Rattle.ifs_asm.specs.Texts.{front_lines, routine_lines, lines_of}
 use Rattle.ifs_asm.specs.Spellings.{Says}
-use Rattle.ifs_asm.specs.inner.Building.{Built, listed_routine, parts_of, lines_said, has_name, is_full, is_in_order, with_line, with_op, step, line_in, built_by, nothing, is_none}
+use Rattle.ifs_asm.specs.inner.Building.{Built, listed_routine, parts_of, lines_said, has_name, is_full}
+use Rattle.ifs_asm.specs.inner.Building.{is_in_order, with_line, with_op, step, line_in, built_by, nothing, is_none}
 use Rattle.ifs_asm.specs.Refused.{LineFits}
 use Rattle.ifs_asm.proofs.TextLaws.{line_in_found}
 

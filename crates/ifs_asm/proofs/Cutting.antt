@@ -1,12 +1,14 @@
 -- The words of a line are cut as it has them.
-use Rattle.std.proofs.Common.{◌≡◌, ℕ, zero, suc, ◌+◌, ◌-◌, ◌<◌, Bool, true, false, cond, List, [], ◌∷◌, ◌++◌, length, map, take, drop, refl, sym, ap, subst, ◌∙◌, arith, append_assoc}
+use Rattle.std.proofs.Common.{◌≡◌, ℕ, zero, suc, ◌+◌, ◌-◌, ◌<◌, Bool, true, false, cond, List, [], ◌∷◌}
+use Rattle.std.proofs.Common.{◌++◌, length, map, take, drop, refl, sym, ap, subst, ◌∙◌, arith, append_assoc}
 use Rattle.std.specs.Prelude.{◌==◌, ◌&&◌, not}
 use Rattle.std.specs.List.{prefix_len, AllByRecursion, AllZip}
 use Rattle.std.proofs.lemmas.Bool.{and_parts, both_ways, ne_eqb, not-true}
 use Rattle.std.proofs.lemmas.List.{append-nil, map-append, take_at, drop_at, take-append-drop}
 use Rattle.ifs_asm.specs.Texts.{Word}
 use Rattle.ifs_asm.specs.Spellings.{is_blank, IsSpelling, EndsWord, HaveWords}
-use Rattle.ifs_asm.specs.inner.Words.{Mode, Bare, Inside, Escaped, mode_after, ends_at, word_len, after_blanks, word_of, after_word, first_then, words_up_to}
+use Rattle.ifs_asm.specs.inner.Words.{Mode, Bare, Inside, Escaped, mode_after, ends_at, word_len}
+use Rattle.ifs_asm.specs.inner.Words.{after_blanks, word_of, after_word, first_then, words_up_to}
 
 -- A word is spelled by bytes.
 abbrev pub Spelled : List ℕ → Word → Type 0

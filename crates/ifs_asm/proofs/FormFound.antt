@@ -1,5 +1,6 @@
 -- What words say: the line that is read of them has those words, and fits.
-use Rattle.std.proofs.Common.{◌≡◌, ℕ, ◌^◌, ◌<◌, ◌≤◌, cond, List, [], ◌∷◌, length, Option, Some, None, refl, subst, arith, codes}
+use Rattle.std.proofs.Common.{◌≡◌, ℕ, ◌^◌, ◌<◌, ◌≤◌, cond, List, [], ◌∷◌, length}
+use Rattle.std.proofs.Common.{Option, Some, None, refl, subst, arith, codes}
 use Rattle.std.specs.Prelude.{◌&&◌, nat_lt, IfSome, option_and_then, option_map}
 use Rattle.std.specs.List.{AllZip}
 use Rattle.std.specs.Str.{bytes_eq, is_utf8}
@@ -19,7 +20,9 @@ use Rattle.ifs_asm.specs.declared.line.Line.TheVariants as lines
 use Rattle.ifs_asm.specs.Texts.{words_of, handlers_words}
 use Rattle.ifs_asm.specs.Spellings.{IsQuoted}
 use Rattle.ifs_asm.specs.inner.Words.{Start, text_from, in_utf8, mask_in}
-use Rattle.ifs_asm.specs.inner.Forms.{plain_op, indexed_op, link_state, up_to, number_up_to, sized, sized_text, period, period_in, number_line, two_words, routine_line, link_line, test_line, three_words, handlers_of, handlers_in, always_line, state_line, line_of}
+use Rattle.ifs_asm.specs.inner.Forms.{plain_op, indexed_op, link_state, up_to, number_up_to, sized, sized_text}
+use Rattle.ifs_asm.specs.inner.Forms.{period, period_in, number_line, two_words, routine_line, link_line, test_line}
+use Rattle.ifs_asm.specs.inner.Forms.{three_words, handlers_of, handlers_in, always_line, state_line, line_of}
 use Rattle.ifs_asm.proofs.Bytes.{same_word}
 use Rattle.ifs_asm.proofs.Quotes.{text_found, no_nul}
 use Rattle.ifs_asm.proofs.MaskLists.{mask_found, mask_small}

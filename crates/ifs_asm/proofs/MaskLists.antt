@@ -1,10 +1,13 @@
 -- Lists of tests: what is read of one is the mask whose tests it lists.
-use Rattle.std.proofs.Common.{◌≡◌, ℕ, zero, suc, ◌+◌, ◌-◌, ◌*◌, ◌%◌, ◌^◌, ◌<◌, ◌≤◌, Bool, true, false, cond, List, [], ◌∷◌, ◌++◌, length, map, Option, Some, refl, sym, ap, subst, ◌∙◌, arith, codes, decimal, append_assoc, pow-suc, mod-lt, length-append, inl, inr}
+use Rattle.std.proofs.Common.{◌≡◌, ℕ, zero, suc, ◌+◌, ◌-◌, ◌*◌, ◌%◌, ◌^◌, ◌<◌, ◌≤◌, Bool, true, false, cond}
+use Rattle.std.proofs.Common.{List, [], ◌∷◌, ◌++◌, length, map, Option, Some, refl, sym, ap, subst, ◌∙◌}
+use Rattle.std.proofs.Common.{arith, codes, decimal, append_assoc, pow-suc, mod-lt, length-append, inl, inr}
 use Rattle.std.specs.Prelude.{◌==◌, ◌&&◌, nat_lt, option_and_then}
 use Rattle.std.specs.Int.{bit_at}
 use Rattle.std.specs.List.{flat_map, slice_split, onto_first, AllByRecursion, AllZip, All}
 use Rattle.std.specs.Str.{bytes_eq}
-use Rattle.std.proofs.lemmas.Bool.{and_parts, cond_both, eqb-true, eqb-false, or_from, cond-false, ltb-true, lt-ltb, cases_order}
+use Rattle.std.proofs.lemmas.Bool.{and_parts, cond_both, eqb-true, eqb-false, or_from}
+use Rattle.std.proofs.lemmas.Bool.{cond-false, ltb-true, lt-ltb, cases_order}
 use Rattle.std.proofs.lemmas.List.{append-nil}
 use Rattle.std.proofs.lemmas.List.Elements.{All-from_recursion}
 use Rattle.std.proofs.lemmas.List.Splits.{slice_split_none, slice_split_at, length-slice_split}
@@ -17,7 +20,8 @@ use Rattle.ifs_base.specs.Numbers.{number_of}
 use Rattle.ifs_asm.specs.Texts.{tests_from, tests_of}
 use Rattle.ifs_asm.specs.Spellings.{is_blank, IsList}
 use Rattle.ifs_asm.specs.inner.Words.{Bare, with_test, masked, mask_in}
-use Rattle.ifs_asm.proofs.Bytes.{IsDigit, number_digits, number_nonempty, number_decimal, digit_is_not, each_append, each_weaker, same_word}
+use Rattle.ifs_asm.proofs.Bytes.{IsDigit, number_digits, number_nonempty, number_decimal}
+use Rattle.ifs_asm.proofs.Bytes.{digit_is_not, each_append, each_weaker, same_word}
 use Rattle.ifs_asm.proofs.Cutting.{runs, IsOneWord}
 
 abbrev pub IsNumber : List ℕ → ℕ → Type 0

@@ -1,5 +1,6 @@
 -- Texts in quotes: what is read of one is the text that its bytes stand for.
-use Rattle.std.proofs.Common.{◌≡◌, ◌≢◌, ℕ, ◌+◌, ◌*◌, ◌/◌, ◌%◌, ◌<◌, true, false, cond, List, [], ◌∷◌, ◌++◌, Option, Some, None, refl, sym, ap, subst, ◌∙◌, arith, append_assoc}
+use Rattle.std.proofs.Common.{◌≡◌, ◌≢◌, ℕ, ◌+◌, ◌*◌, ◌/◌, ◌%◌, ◌<◌, true, false, cond, List, [], ◌∷◌}
+use Rattle.std.proofs.Common.{◌++◌, Option, Some, None, refl, sym, ap, subst, ◌∙◌, arith, append_assoc}
 use Rattle.std.specs.Prelude.{◌==◌, ◌&&◌, ◌||◌, nat_lt, All}
 use Rattle.std.specs.List.{flat_map, AllByRecursion}
 use Rattle.std.proofs.lemmas.Bool.{and_parts, cond_both, eqb-true, ltb-true}
@@ -7,7 +8,8 @@ use Rattle.std.proofs.lemmas.Bool.Decides.{nat_tests}
 use Rattle.std.proofs.lemmas.List.Elements.{All-from_recursion}
 use Rattle.ifs_base.specs.Words.{hex_digit, quoted_byte, quoted}
 use Rattle.ifs_asm.specs.Spellings.{is_plain, StandsFor, itself, escaped, hexadecimal, StandFor, IsQuoted}
-use Rattle.ifs_asm.specs.inner.Words.{Inside, Quote, Start, Within, Backslash, High, Low, Done, Turn, Goes, Gives, Stops, hex_value, high_turn, low_turn, turn, onto, after_turn, text_from}
+use Rattle.ifs_asm.specs.inner.Words.{Inside, Quote, Start, Within, Backslash, High, Low, Done, Turn, Goes, Gives}
+use Rattle.ifs_asm.specs.inner.Words.{Stops, hex_value, high_turn, low_turn, turn, onto, after_turn, text_from}
 use Rattle.ifs_asm.proofs.Cutting.{runs, IsOneWord}
 
 -- ---- hexadecimal digits

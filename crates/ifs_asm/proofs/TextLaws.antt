@@ -1,5 +1,6 @@
 -- The lines of a text: which line bytes say, and that the canonical text says the lines of its image.
-use Rattle.std.proofs.Common.{◌≡◌, ℕ, ◌^◌, ◌/◌, ◌%◌, ◌<◌, Bool, true, false, List, [], ◌∷◌, ◌++◌, length, map, Some, refl, sym, ap, subst, ◌∙◌, arith, codes, append_assoc, inl}
+use Rattle.std.proofs.Common.{◌≡◌, ℕ, ◌^◌, ◌/◌, ◌%◌, ◌<◌, Bool, true, false, List, [], ◌∷◌, ◌++◌, length}
+use Rattle.std.proofs.Common.{map, Some, refl, sym, ap, subst, ◌∙◌, arith, codes, append_assoc, inl}
 use Rattle.std.specs.Prelude.{◌==◌, ◌&&◌, ◌||◌, not, nat_lt, filter}
 use Rattle.std.specs.List.{flat_map, slice_split, AllByRecursion, AllZip}
 use Rattle.std.proofs.lemmas.Bool.{and_parts, ltb-true, not-true}
@@ -9,11 +10,15 @@ use Rattle.std.proofs.lemmas.List.Splits.{slice_split_at}
 use Rattle.ifs_base.specs.Words.{listed, hex_digit}
 use Rattle.ifs_base.specs.declared.op.LinkState.TheVariants.{Unknown, Down, Up}
 use Rattle.ifs_base.specs.declared.op.Op.{Op}
-use Rattle.ifs_base.specs.declared.op.Op.TheVariants.{Ret, Yes, No, Link, Test, Known, Negate, Both, Either, PushCommand, PushState, Queue, Want, Jump, JumpFalse, JumpTrue, Call, Pop, Dup}
+use Rattle.ifs_base.specs.declared.op.Op.TheVariants.{Ret, Yes, No, Link, Test, Known, Negate, Both}
+use Rattle.ifs_base.specs.declared.op.Op.TheVariants.{Either, PushCommand, PushState, Queue, Want}
+use Rattle.ifs_base.specs.declared.op.Op.TheVariants.{Jump, JumpFalse, JumpTrue, Call, Pop, Dup}
 use Rattle.ifs_asm.specs.declared.line.Line.{Line}
 use Rattle.ifs_asm.specs.declared.line.Line.TheVariants as lines
-use Rattle.ifs_asm.specs.Texts.{Word, Key, Number, Quoted, Tests, written, words_of, op_words, tests_of, spaced, line_text}
-use Rattle.ifs_asm.specs.Spellings.{is_blank, is_plain, is_silent, StandsFor, itself, escaped, hexadecimal, StandFor, IsSpelling, EndsWord, HaveWords, Says, spoken}
+use Rattle.ifs_asm.specs.Texts.{Word, Key, Number, Quoted, Tests, written}
+use Rattle.ifs_asm.specs.Texts.{words_of, op_words, tests_of, spaced, line_text}
+use Rattle.ifs_asm.specs.Spellings.{is_blank, is_plain, is_silent, StandsFor, itself, escaped}
+use Rattle.ifs_asm.specs.Spellings.{hexadecimal, StandFor, IsSpelling, EndsWord, HaveWords, Says, spoken}
 use Rattle.ifs_asm.specs.inner.Words.{Bare, words_up_to}
 use Rattle.ifs_asm.specs.inner.Building.{line_in}
 use Rattle.ifs_asm.proofs.Bytes.{IsDigit, number_digits, number_decimal, digit_is_not, each_append, each_weaker}

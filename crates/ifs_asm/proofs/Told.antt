@@ -1,5 +1,7 @@
 -- The line that is told, while a text is read.
-use Rattle.std.proofs.Common.{◌≡◌, ◌≢◌, ℕ, ◌+◌, ◌-◌, ◌<◌, Bool, true, false, cond, List, [], ◌∷◌, ◌++◌, length, take, drop, Option, Some, None, refl, sym, ap, subst, ◌∙◌, arith, append_assoc, length-append, inl}
+use Rattle.std.proofs.Common.{◌≡◌, ◌≢◌, ℕ, ◌+◌, ◌-◌, ◌<◌, Bool, true, false, cond, List}
+use Rattle.std.proofs.Common.{[], ◌∷◌, ◌++◌, length, take, drop, Option, Some, None, refl}
+use Rattle.std.proofs.Common.{sym, ap, subst, ◌∙◌, arith, append_assoc, length-append, inl}
 use Rattle.std.specs.Prelude.{◌==◌, not, option_and_then}
 use Rattle.std.specs.List.{slice_split, onto_first, position, AllZip}
 use Rattle.std.proofs.lemmas.List.{append-nil}
@@ -10,7 +12,8 @@ use Rattle.ifs_asm.specs.declared.fault.LineFault.TheVariants as faults
 use Rattle.ifs_asm.specs.declared.line.Line.{Line}
 use Rattle.ifs_asm.specs.Texts.{lines_of}
 use Rattle.ifs_asm.specs.Spellings.{Says, Spells, spoken, is_silent}
-use Rattle.ifs_asm.specs.Refused.{without_empty_last, text_lines, speaking, GoOn, EachBreaks, Repeats, IsOver, SaysLine, StopsAt, EndsEarly, IsRefused}
+use Rattle.ifs_asm.specs.Refused.{without_empty_last, text_lines, speaking, GoOn, EachBreaks}
+use Rattle.ifs_asm.specs.Refused.{Repeats, IsOver, SaysLine, StopsAt, EndsEarly, IsRefused}
 use Rattle.ifs_asm.specs.inner.Building.{Built, line_in, built_by, nothing, spoken_line}
 use Rattle.ifs_asm.specs.inner.Reading.{AreRead, Blames, fault_at}
 use Rattle.ifs_asm.proofs.Cuts.{cut_some, cut_none, line_case}

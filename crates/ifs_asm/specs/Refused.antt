@@ -1,5 +1,6 @@
 -- Refusals: which line of a text is told, and what each fault says of it.
-use Rattle.std.specs.Prelude.{ℕ, ◌≡◌, ◌+◌, ◌<◌, ◌≤◌, ◌^◌, ◌==◌, ◌⊎◌, not, List, [], ◌∷◌, ◌++◌, length, map, filter, IsUtf8}
+use Rattle.std.specs.Prelude.{ℕ, ◌≡◌, ◌+◌, ◌<◌, ◌≤◌, ◌^◌, ◌==◌, ◌⊎◌, not, List}
+use Rattle.std.specs.Prelude.{[], ◌∷◌, ◌++◌, length, map, filter, IsUtf8}
 use Rattle.std.specs.List.{flat_map, slice_split, AllZip}
 use Rattle.ifs_base.specs.Sizes.{TextFits, PeriodFits}
 use Rattle.ifs_base.specs.Spelling.{HasSpelling}

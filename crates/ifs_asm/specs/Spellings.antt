@@ -1,5 +1,6 @@
 -- Which texts spell an image: its lines in their order, each by its words.
-use Rattle.std.specs.Prelude.{ℕ, ◌≡◌, ◌≤◌, ◌<◌, ◌/◌, ◌%◌, ◌==◌, ◌&&◌, ◌||◌, not, nat_lt, Bool, true, if◌then◌else◌, List, [], ◌∷◌, ◌++◌, codes, filter, Some}
+use Rattle.std.specs.Prelude.{ℕ, ◌≡◌, ◌≤◌, ◌<◌, ◌/◌, ◌%◌, ◌==◌, ◌&&◌, ◌||◌, not, nat_lt, Bool}
+use Rattle.std.specs.Prelude.{true, if◌then◌else◌, List, [], ◌∷◌, ◌++◌, codes, filter, Some}
 use Rattle.std.specs.List.{slice_split, AllZip, AllByRecursion}
 use Rattle.ifs_base.specs.Words.{hex_digit, listed}
 use Rattle.ifs_base.specs.Numbers.{number_of}

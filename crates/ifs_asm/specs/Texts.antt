@@ -4,7 +4,9 @@ use Rattle.std.specs.List.{flat_map}
 use Rattle.std.specs.Int.{bit_at}
 use Rattle.ifs_base.specs.Words.{link_word, quoted, listed}
 use Rattle.ifs_base.specs.declared.op.Op.{Op}
-use Rattle.ifs_base.specs.declared.op.Op.TheVariants.{Ret, Yes, No, Link, Test, Known, Negate, Both, Either, PushCommand, PushState, Queue, Want, Jump, JumpFalse, JumpTrue, Call, Pop, Dup}
+use Rattle.ifs_base.specs.declared.op.Op.TheVariants.{Ret, Yes, No, Link, Test, Known, Negate, Both}
+use Rattle.ifs_base.specs.declared.op.Op.TheVariants.{Either, PushCommand, PushState, Queue, Want}
+use Rattle.ifs_base.specs.declared.op.Op.TheVariants.{Jump, JumpFalse, JumpTrue, Call, Pop, Dup}
 use Rattle.ifs_image.specs.declared.parts.Handlers.{Handlers}
 use Rattle.ifs_image.specs.declared.parts.Routine.{Routine}
 use Rattle.ifs_image.specs.declared.parts.ImageParts.{ImageParts}

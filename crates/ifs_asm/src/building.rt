@@ -1,6 +1,7 @@
 //! An image that is built line by line.
 
-ghost use Rattle.std.specs.Prelude.{◌≡◌, ◌≢◌, ◌++◌, ◌∷◌, [], Some, None, MatchResult, OnOk, IfErr, IfOk, option_and_then};
+ghost use Rattle.std.specs.Prelude.{◌≡◌, ◌≢◌, ◌++◌, ◌∷◌, [], Some, None};
+ghost use Rattle.std.specs.Prelude.{MatchResult, OnOk, IfErr, IfOk, option_and_then};
 ghost use Rattle.ifs_asm.specs.declared.fault.LineFault.TheVariants as faults;
 ghost use Rattle.std.specs.List.{list_any};
 ghost use Rattle.std.specs.Str.{bytes_eq};
@@ -10,7 +11,8 @@ ghost use Rattle.ifs_base.specs.declared.op.Op.TheVariants.{Ret};
 ghost use Rattle.ifs_asm.specs.declared.line.Line.TheVariants as lines;
 ghost use Rattle.ifs_asm.specs.inner.Forms.{formed};
 ghost use Rattle.ifs_asm.specs.inner.Reading.{Blames};
-ghost use Rattle.ifs_asm.specs.inner.Building.{Built, has_name, is_full, is_in_order, with_line, step, nothing, parts_of};
+ghost use Rattle.ifs_asm.specs.inner.Building.{Built, has_name, is_full, is_in_order};
+ghost use Rattle.ifs_asm.specs.inner.Building.{with_line, step, nothing, parts_of};
 
 use crate::fault::LineFault;
 use crate::forms::Formed;

@@ -2,7 +2,10 @@
 
 ghost use Rattle.std.specs.Prelude.{◌≡◌, ◌≤◌, ◌&&◌, ℕ, IfOk, IfSome, length, map, nat_lt, option_map};
 ghost use Rattle.ifs_asm.specs.declared.line.Line.TheVariants as lines;
-ghost use Rattle.ifs_asm.specs.inner.Forms.{plain_op, indexed_op, link_state, number_up_to, sized_text, period_in, version, indexed_line, number_line, two_words, routine_line, link_line, test_line, three_words, handlers_in, handlers_of, always_line, state_line, line_of, formed, bounded, sized_by, handlers_by};
+ghost use Rattle.ifs_asm.specs.inner.Forms.{plain_op, indexed_op, link_state, number_up_to, sized_text, period_in};
+ghost use Rattle.ifs_asm.specs.inner.Forms.{version, indexed_line, number_line, two_words, routine_line, link_line};
+ghost use Rattle.ifs_asm.specs.inner.Forms.{test_line, three_words, handlers_in, handlers_of, always_line};
+ghost use Rattle.ifs_asm.specs.inner.Forms.{state_line, line_of, formed, bounded, sized_by, handlers_by};
 
 use crate::line::Line;
 use crate::lists::{ListForm, list_of};

@@ -1,6 +1,7 @@
 //! Image to text, line by line.
 
-ghost use Rattle.std.specs.Prelude.{◌≡◌, ◌+◌, ◌++◌, ◌<◌, ◌^◌, ◌==◌, string_bytes, OnOk, IfOk, [], ◌∷◌, decimal, map, codes, All, IsUtf8};
+ghost use Rattle.std.specs.Prelude.{◌≡◌, ◌+◌, ◌++◌, ◌<◌, ◌^◌, ◌==◌, string_bytes, OnOk};
+ghost use Rattle.std.specs.Prelude.{IfOk, [], ◌∷◌, decimal, map, codes, All, IsUtf8};
 ghost use Rattle.std.specs.Int.{bit_at};
 ghost use Rattle.std.specs.List.{flat_map};
 ghost use Rattle.ifs_base.specs.Spelling.{HasSpelling};
@@ -9,7 +10,8 @@ ghost use Rattle.ifs_image.specs.Limits.{HandlersInRange, StateInRange};
 ghost use Rattle.ifs_asm.specs.declared.line.Line.TheVariants as lines;
 ghost use Rattle.ifs_asm.specs.inner.Lists.{before_item, left_at};
 ghost use Rattle.ifs_asm.specs.Spellings.{Spells};
-ghost use Rattle.ifs_asm.specs.Texts.{canonical, line_text, tests_of, written, handlers_words, op_words, spaced, routine_lines, front_lines};
+ghost use Rattle.ifs_asm.specs.Texts.{canonical, line_text, tests_of, written, handlers_words};
+ghost use Rattle.ifs_asm.specs.Texts.{op_words, spaced, routine_lines, front_lines};
 
 use crate::quoting::put_quoted;
 use ifs_base::{LinkState, Op, StateId, Text};

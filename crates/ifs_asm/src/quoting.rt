@@ -1,10 +1,12 @@
 //! Texts in quotes.
 
-ghost use Rattle.std.specs.Prelude.{◌≡◌, ◌++◌, ◌<◌, ◌≤◌, ◌∷◌, List, ℕ, None, length, string_bytes, MatchOption, IfSome, IfOk, IsUtf8, OnOk};
+ghost use Rattle.std.specs.Prelude.{◌≡◌, ◌++◌, ◌<◌, ◌≤◌, ◌∷◌, List, ℕ, None, length};
+ghost use Rattle.std.specs.Prelude.{string_bytes, MatchOption, IfSome, IfOk, IsUtf8, OnOk};
 ghost use Rattle.std.specs.Option.{option_map};
 ghost use Rattle.std.specs.List.{flat_map, prefix_len};
 ghost use Rattle.ifs_asm.specs.Spellings.{is_plain};
-ghost use Rattle.ifs_asm.specs.inner.Words.{Start, Within, Backslash, High, text_in, text_from, in_utf8, turn, after_turn, given, hex_value, onto, ending};
+ghost use Rattle.ifs_asm.specs.inner.Words.{Start, Within, Backslash, High, text_in, text_from};
+ghost use Rattle.ifs_asm.specs.inner.Words.{in_utf8, turn, after_turn, given, hex_value, onto, ending};
 ghost use Rattle.ifs_base.specs.Words.{quoted_byte, quoted};
 
 use crate::plain::{begins_plain, plain_run};

@@ -1,5 +1,6 @@
 -- A macro name has no equals sign, so a word is split in one way.
-use Rattle.std.proofs.Common.{ℕ, ◌<◌, ◌≡◌, ◌≢◌, Bool, true, false, ◌&&◌, eqb, ◌∷◌, List, [], length, Option, get_or, arith, zero, suc, refl, Bor, MatchOption}
+use Rattle.std.proofs.Common.{ℕ, ◌<◌, ◌≡◌, ◌≢◌, Bool, true, false, ◌&&◌, eqb, ◌∷◌, List, []}
+use Rattle.std.proofs.Common.{length, Option, get_or, arith, zero, suc, refl, Bor, MatchOption}
 use Rattle.std.proofs.lemmas.Bool.Decides.{nat_tests}
 use Rattle.std.proofs.lemmas.List.Sums.{prefix_len_passes}
 use Rattle.std.proofs.lemmas.Str.Pattern.{IsSplitOnceResult, split_after}

@@ -1,5 +1,6 @@
 -- What waits, where programs are looked at and taken out.
-use Rattle.std.proofs.Common.{◌≡◌, ℕ, zero, suc, ◌<◌, List, [], ◌∷◌, ◌++◌, length, map, remove, get_or, refl, ap, sym, ◌∙◌, arith}
+use Rattle.std.proofs.Common.{◌≡◌, ℕ, zero, suc, ◌<◌, List, [], ◌∷◌, ◌++◌, length}
+use Rattle.std.proofs.Common.{map, remove, get_or, refl, ap, sym, ◌∙◌, arith}
 use Rattle.ifs_sched.specs.declared.start.Start.{Start}
 use Rattle.ifs_cli.specs.Children.{IsTakenOut}
 

@@ -1,5 +1,6 @@
 -- Reading up to a limit that is not passed.
-use Rattle.std.proofs.Common.{ℕ, ◌<◌, ◌≡◌, ◌++◌, List, [], length, take, Option, Some, None, IfSome, option_map, ◌∙◌, subst, arith}
+use Rattle.std.proofs.Common.{ℕ, ◌<◌, ◌≡◌, ◌++◌, List, [], length, take, Option}
+use Rattle.std.proofs.Common.{Some, None, IfSome, option_map, ◌∙◌, subst, arith}
 use Rattle.std.proofs.lemmas.List.{take_all, length-take-le}
 
 -- Of bytes of which fewer than the limit were taken all were taken.

@@ -1,5 +1,6 @@
 -- Starts of tests that wait to be answered.
-use Rattle.std.specs.Prelude.{◌≡◌, ◌-◌, ◌==◌, not, false, Bool, List, [], ◌∷◌, ◌++◌, length, filter, drop, Option, Some, None}
+use Rattle.std.specs.Prelude.{◌≡◌, ◌-◌, ◌==◌, not, false, Bool, List, [], ◌∷◌}
+use Rattle.std.specs.Prelude.{◌++◌, length, filter, drop, Option, Some, None}
 use Rattle.ifs_sched.specs.declared.start.Start.{Start}
 
 -- The starts whose program runs, and those that failed, each in the order in which they came.

@@ -3,7 +3,8 @@
 ghost use Rattle.std.specs.Prelude.{◌≡◌, ◌<◌, ◌↔◌, List, [], ◌∷◌, ◌++◌, length, map, IsTrue, IfOk, IfSome, MatchOption};
 ghost use Rattle.ifs_sched.specs.declared.start.Start.{Start};
 ghost use Rattle.std.specs.Vec.{vec_capacity};
-ghost use Rattle.ifs_cli.specs.Children.{Waiting, none_waits, with_running, with_failed, of_others, latest, IsTakenOut, Ends};
+ghost use Rattle.ifs_cli.specs.Children.{Waiting, none_waits, with_running, with_failed};
+ghost use Rattle.ifs_cli.specs.Children.{of_others, latest, IsTakenOut, Ends};
 
 use arrayvec::ArrayVec;
 use ifs_sched::Start;

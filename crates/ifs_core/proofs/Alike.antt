@@ -1,5 +1,6 @@
 -- Two behaviours of an image make one run.
-use Rattle.std.proofs.Common.{◌≡◌, ℕ, ◌+◌, ◌<◌, Bool, true, false, not, List, [], ◌∷◌, ◌++◌, length, Option, Some, None, refl, sym, ap, ◌∙◌}
+use Rattle.std.proofs.Common.{◌≡◌, ℕ, ◌+◌, ◌<◌, Bool, true, false, not, List, [], ◌∷◌}
+use Rattle.std.proofs.Common.{◌++◌, length, Option, Some, None, refl, sym, ap, ◌∙◌}
 use Rattle.std.specs.Prelude.{IfSome, slice_get, nat_lt, if◌then◌else◌}
 use Rattle.ifs_base.specs.Facts.{Facts, is_link}
 use Rattle.ifs_base.specs.declared.ids.StateId.{StateId}
@@ -13,10 +14,13 @@ use Rattle.ifs_machine.specs.Run.{AreFactsOf, HandlersEnd, RunsAreUnique}
 use Rattle.ifs_core.specs.declared.step.Step.{Step}
 use Rattle.ifs_core.specs.declared.step.Step.TheVariants.{Link, Finished, Tick, Take}
 use Rattle.ifs_core.specs.declared.step.Reply.TheVariants.{Busy, Stale, Backwards}
-use Rattle.ifs_core.specs.Event.{Handler, AlwaysInit, AlwaysBody, Init, Body, Behaviour, Position, Event, kept_values, change_of, with_change, entering, evaluation}
+use Rattle.ifs_core.specs.Event.{Handler, AlwaysInit, AlwaysBody, Init, Body, Behaviour, Position}
+use Rattle.ifs_core.specs.Event.{Event, kept_values, change_of, with_change, entering, evaluation}
 use Rattle.ifs_core.specs.Machine.{routine_of, IsBehaviour, periods_in}
 use Rattle.ifs_core.specs.Gateway.{IsPositionOf, IsStateOf, opening_of, opened}
-use Rattle.ifs_core.specs.Steps.{CoreState, Turn, at_position, unchanged, same, done, ticked_after, no_event, lacks_room, with_link, with_value, with_run_over, has_value, changing, LinkSeen, RunEnded, link_turn, finished_turn, tick_turn, turn, replies, after_steps}
+use Rattle.ifs_core.specs.Steps.{CoreState, Turn, at_position, unchanged, same, done, ticked_after, no_event}
+use Rattle.ifs_core.specs.Steps.{lacks_room, with_link, with_value, with_run_over, has_value, changing, LinkSeen}
+use Rattle.ifs_core.specs.Steps.{RunEnded, link_turn, finished_turn, tick_turn, turn, replies, after_steps}
 use Rattle.ifs_core.specs.HeadlineParts.{RunAlike}
 use Rattle.ifs_core.proofs.Runs.{body_of, init_of}
 use Rattle.ifs_core.proofs.Exists.{state_at, room_from_nothing}

@@ -1,5 +1,6 @@
 -- What a behaviour's events do: their handlers run to their ends, and they keep the image's budgets.
-use Rattle.std.proofs.Common.{◌≡◌, ℕ, ◌+◌, ◌≤◌, ◌<◌, Bool, true, false, [], ◌++◌, length, Option, Some, None, refl, ap, subst, ◌∙◌, arith}
+use Rattle.std.proofs.Common.{◌≡◌, ℕ, ◌+◌, ◌≤◌, ◌<◌, Bool, true, false, [], ◌++◌}
+use Rattle.std.proofs.Common.{length, Option, Some, None, refl, ap, subst, ◌∙◌, arith}
 use Rattle.std.specs.Prelude.{IfSome, slice_get, ◌==◌, if◌then◌else◌}
 use Rattle.std.proofs.lemmas.List.Elements.{All-nil}
 use Rattle.std.proofs.lemmas.Option.{none-some, same_Some}
@@ -12,12 +13,14 @@ use Rattle.ifs_verify.specs.Accepted.{IsAccepted}
 use Rattle.ifs_base.specs.Effects.{Effects, nothing_yet, later_wish, followed}
 use Rattle.ifs_machine.specs.Run.{AreFactsOf, HasRoom, Appends, IsWish, IsCostOf, HandlersEnd, RunsAreUnique}
 use Rattle.ifs_core.specs.declared.step.Record.{Record}
-use Rattle.ifs_core.specs.Event.{Handler, AlwaysInit, AlwaysBody, Init, Body, Behaviour, Position, Event, change_of, with_change, entering, evaluation}
+use Rattle.ifs_core.specs.Event.{Handler, AlwaysInit, AlwaysBody, Init, Body, Behaviour}
+use Rattle.ifs_core.specs.Event.{Position, Event, change_of, with_change, entering, evaluation}
 use Rattle.ifs_core.specs.Machine.{routine_of, IsBehaviour, KeepsBudgets}
 use Rattle.ifs_core.specs.inner.Within.{RanBodies}
 use Rattle.ifs_core.specs.Gateway.{IsListed, IsPositionOf, IsStateOf, opening_of, opened}
 use Rattle.ifs_core.specs.HeadlineParts.{IsRun, EachRun, BothRuns, after_always, after_bodies}
-use Rattle.ifs_core.proofs.Runs.{room_for_body, room_for_init, room_for_first_init, body_of, init_of, ran_bodies, ran_init, bodies_keep, change_keeps, count_after, two_known}
+use Rattle.ifs_core.proofs.Runs.{room_for_body, room_for_init, room_for_first_init, body_of, init_of}
+use Rattle.ifs_core.proofs.Runs.{ran_bodies, ran_init, bodies_keep, change_keeps, count_after, two_known}
 use Rattle.ifs_core.proofs.Exists.{handles, state_at, room_from_nothing}
 use Rattle.ifs_core.proofs.Opening.{length-all_unknown, length-no_values, length-all_off}
 use Rattle.ifs_core.proofs.Places.{length-entered, entering_stays, paid_stays}

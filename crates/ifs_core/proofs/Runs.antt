@@ -1,5 +1,6 @@
 -- One handler after another: room for its commands, and what a behaviour says of it.
-use Rattle.std.proofs.Common.{◌≡◌, ℕ, ◌+◌, ◌≤◌, ◌<◌, List, [], ◌++◌, length, Option, Some, slice_get, sym, ap, subst, ◌∙◌, arith, length-append, option_map, inl, inr}
+use Rattle.std.proofs.Common.{◌≡◌, ℕ, ◌+◌, ◌≤◌, ◌<◌, List, [], ◌++◌, length, Option, Some, slice_get}
+use Rattle.std.proofs.Common.{sym, ap, subst, ◌∙◌, arith, length-append, option_map, inl, inr}
 use Rattle.std.specs.Prelude.{All, IfSome}
 use Rattle.std.proofs.lemmas.List.Elements.{All-append, All-nil}
 use Rattle.ifs_base.specs.Facts.{Facts}

@@ -1,5 +1,6 @@
 -- What holds of each step of a run.
-use Rattle.std.proofs.Common.{◌≡◌, ℕ, ◌+◌, ◌-◌, ◌≤◌, ◌<◌, Bool, true, false, not, List, [], ◌∷◌, length, Option, Some, None, refl, ap, subst, arith}
+use Rattle.std.proofs.Common.{◌≡◌, ℕ, ◌+◌, ◌-◌, ◌≤◌, ◌<◌, Bool, true, false, not, List}
+use Rattle.std.proofs.Common.{[], ◌∷◌, length, Option, Some, None, refl, ap, subst, arith}
 use Rattle.std.specs.Prelude.{All, IfSome, slice_get, nat_lt, if◌then◌else◌}
 use Rattle.std.proofs.lemmas.Bool.{ltb-true, ltb-false}
 use Rattle.std.proofs.lemmas.List.Elements.{All-nil, All-head, All-tail}
@@ -17,7 +18,10 @@ use Rattle.ifs_core.specs.declared.step.Reply.TheVariants.{Busy, Stale, Backward
 use Rattle.ifs_core.specs.Event.{Behaviour, Position, Event, evaluation}
 use Rattle.ifs_core.specs.Machine.{IsBehaviour, KeepsBudgets}
 use Rattle.ifs_core.specs.Gateway.{IsReplyOf, IsPositionOf, IsStateOf}
-use Rattle.ifs_core.specs.Steps.{CoreState, Turn, at_position, unchanged, same, done, ticked_after, no_event, lacks_room, with_link, with_value, with_run_over, has_value, changing, LinkSeen, RunEnded, link_turn, finished_turn, tick_turn, take_turn, turn, after_steps, cost_told, commands_told, state_told, ChangesNothing}
+use Rattle.ifs_core.specs.Steps.{CoreState, Turn, at_position, unchanged, same, done, ticked_after, no_event}
+use Rattle.ifs_core.specs.Steps.{lacks_room, with_link, with_value, with_run_over, has_value, changing}
+use Rattle.ifs_core.specs.Steps.{LinkSeen, RunEnded, link_turn, finished_turn, tick_turn, take_turn, turn}
+use Rattle.ifs_core.specs.Steps.{after_steps, cost_told, commands_told, state_told, ChangesNothing}
 use Rattle.ifs_core.specs.HeadlineParts.{IsRun, EachRun, changed_by}
 use Rattle.ifs_core.proofs.Places.{link_stays, value_stays, run_over_stays, ticked_stays, settled_stays}
 use Rattle.ifs_core.proofs.Evaluating.{evaluation_keeps, evaluation_runs}

@@ -11,7 +11,8 @@ use Rattle.ifs_core.specs.declared.step.Reply.TheVariants.{Busy}
 use Rattle.ifs_core.specs.Event.{Behaviour}
 use Rattle.ifs_core.specs.Machine.{IsBehaviour}
 use Rattle.ifs_core.specs.Gateway.{IsListed, IsReplyOf, IsStateOf, opening_of, opened}
-use Rattle.ifs_core.specs.Steps.{CoreState, Turn, cost_told, commands_told, state_told, ChangesNothing, turn, after_steps}
+use Rattle.ifs_core.specs.Steps.{CoreState, Turn, cost_told, commands_told}
+use Rattle.ifs_core.specs.Steps.{state_told, ChangesNothing, turn, after_steps}
 use Rattle.ifs_core.specs.HeadlineParts.{IsRun, IsWithinBudgets, EachRun, BothRuns, changed_by, RunAlike}
 
 -- The bytes are accepted by `verify`, which answers with this image: they spell it, and it is accepted.

@@ -1,5 +1,6 @@
 -- Steps: for each one reply, and one next state of the core.
-use Rattle.std.specs.Prelude.{ℕ, ◌≡◌, ◌-◌, Bool, true, false, not, nat_lt, if◌then◌else◌, List, [], ◌∷◌, ◌++◌, length, slice_get, slice_set, Option, Some, None}
+use Rattle.std.specs.Prelude.{ℕ, ◌≡◌, ◌-◌, Bool, true, false, not, nat_lt, if◌then◌else◌, List}
+use Rattle.std.specs.Prelude.{[], ◌∷◌, ◌++◌, length, slice_get, slice_set, Option, Some, None}
 use Rattle.circular_buffer.specs.Buffer.{keep_last}
 use Rattle.ifs_base.specs.declared.ids.CommandId.{CommandId}
 use Rattle.ifs_base.specs.declared.ids.IfaceId.{IfaceId}
@@ -11,7 +12,8 @@ use Rattle.ifs_sched.specs.Schedule.{ticked, starts, is_exhausted, is_running, f
 use Rattle.ifs_core.specs.declared.step.Step.{Step}
 use Rattle.ifs_core.specs.declared.step.Step.TheVariants.{Link, Finished, Tick, Take}
 use Rattle.ifs_core.specs.declared.step.Reply.{Reply}
-use Rattle.ifs_core.specs.declared.step.Reply.TheVariants.{Done, Same, Ticked, Taken, Empty, Busy, Stale, Backwards, NoSuch}
+use Rattle.ifs_core.specs.declared.step.Reply.TheVariants.{Done, Same, Ticked, Taken, Empty}
+use Rattle.ifs_core.specs.declared.step.Reply.TheVariants.{Busy, Stale, Backwards, NoSuch}
 use Rattle.ifs_core.specs.declared.step.Outcome.{Outcome}
 use Rattle.ifs_core.specs.declared.step.Outcome.TheVariants as outcomes
 use Rattle.ifs_core.specs.declared.step.Lists.{Lists}

@@ -18,7 +18,9 @@ impl Core {
     ghost use Rattle.ifs_core.specs.Event.{Behaviour, IsEvent, event_of, evaluation};
     ghost use Rattle.ifs_core.specs.Machine.{IsBehaviour};
     ghost use Rattle.ifs_core.specs.Headline.{StepKeeps};
-    ghost use Rattle.ifs_core.specs.Steps.{Makes, turn, take_turn, reply_of, taken_reply, settled, ticked_after, same as nothing_new, at_position, with_link, with_value, with_run_over, lacks_room as is_without_room, done as comes_to};
+    ghost use Rattle.ifs_core.specs.Steps.{Makes, turn, take_turn, reply_of, taken_reply, settled, ticked_after};
+    ghost use Rattle.ifs_core.specs.Steps.{same as nothing_new, at_position, with_link, with_value};
+    ghost use Rattle.ifs_core.specs.Steps.{with_run_over, lacks_room as is_without_room, done as comes_to};
 
     /// Makes a step. It takes no memory and always answers.
     ///

@@ -14,57 +14,18 @@ use Rattle.ifs_verify.specs.Accepted.{IsAccepted}
 use Rattle.ifs_gen.specs.Trees.{Part, Policy}
 use Rattle.ifs_policy.specs.Meaning.{mentioned}
 use Rattle.ifs_gen.specs.PlainCode.{plain_coder, body_code, init_code, block_runs}
-use Rattle.ifs_gen.specs.PlainImage.{
-  image_with,
-  least_budgets,
-  test_count,
-  parts_of,
-  mask_in,
-  handlers_of,
-  greatest,
-  room_of,
-  init_length,
-  body_length,
-  part_height,
-  plain_image,
-  RoutinesFit,
-  CodeFits,
-}
+use Rattle.ifs_gen.specs.PlainImage.{image_with, least_budgets, test_count, parts_of, mask_in, handlers_of, greatest}
+use Rattle.ifs_gen.specs.PlainImage.{room_of, init_length, body_length, part_height, plain_image, RoutinesFit, CodeFits}
 use Rattle.ifs_policy.specs.Fits.{PolicyFits}
 use Rattle.ifs_gen.specs.Acceptance.{PlainIsAccepted}
 use Rattle.ifs_policy.specs.Fits as fits
 use Rattle.ifs_policy.specs.Fits.{Sizes, HandlersFit}
 use Rattle.ifs_gen.specs.Runs.{image_sizes}
-use Rattle.ifs_gen.proofs.GoodRoutines.{
-  EachGood,
-  kinds_in,
-  heights_in,
-  amount,
-  operands,
-  jumps,
-  ends,
-  calls,
-  reached,
-  typings,
-  are_heights,
-  are_depths,
-  are_amounts,
-  leave_nothing,
-}
+use Rattle.ifs_gen.proofs.GoodRoutines.{EachGood, kinds_in, heights_in, amount, operands, jumps, ends, calls}
+use Rattle.ifs_gen.proofs.GoodRoutines.{reached, typings, are_heights, are_depths, are_amounts, leave_nothing}
 use Rattle.ifs_gen.proofs.GoodCode.{cost_is_length, init_queues, body_queues, init_long, body_long}
-use Rattle.ifs_gen.proofs.Images.{
-  routines_long,
-  states_long,
-  state_at,
-  greatest_below,
-  mask_below,
-  each_good,
-  heights_within,
-  Below,
-  routines_within,
-  parts_below,
-  fits_events,
-}
+use Rattle.ifs_gen.proofs.Images.{routines_long, states_long, state_at, greatest_below, mask_below, each_good}
+use Rattle.ifs_gen.proofs.Images.{heights_within, Below, routines_within, parts_below, fits_events}
 use Rattle.ifs_gen.proofs.Limits.{fits}
 
 module _ (policy : Policy) (is : PolicyFits policy) (budgets : Budgets) where

@@ -1,40 +1,7 @@
 -- Tables copied entry by entry, and states with their routines.
-use Rattle.std.proofs.Common.{
-  ◌≡◌,
-  ℕ,
-  zero,
-  suc,
-  ◌+◌,
-  ◌^◌,
-  ◌<◌,
-  ◌≤◌,
-  Bool,
-  true,
-  false,
-  List,
-  [],
-  ◌∷◌,
-  ◌++◌,
-  length,
-  map,
-  Some,
-  Result,
-  Ok,
-  Err,
-  IfOk,
-  OnOk,
-  IfErr,
-  refl,
-  sym,
-  ap,
-  ◌∙◌,
-  subst,
-  arith,
-  take,
-  drop,
-  get_or,
-  append_assoc,
-}
+use Rattle.std.proofs.Common.{◌≡◌, ℕ, zero, suc, ◌+◌, ◌^◌, ◌<◌, ◌≤◌, Bool, true, false, List, []}
+use Rattle.std.proofs.Common.{◌∷◌, ◌++◌, length, map, Some, Result, Ok, Err, IfOk, OnOk, IfErr}
+use Rattle.std.proofs.Common.{refl, sym, ap, ◌∙◌, subst, arith, take, drop, get_or, append_assoc}
 use Rattle.std.specs.Prelude.{slice_get, All, ◌==◌, ◌≢◌, if◌then◌else◌}
 use Rattle.std.specs.List.{list_any}
 use Rattle.std.proofs.lemmas.List.{map-append}
@@ -52,19 +19,8 @@ use Rattle.ifs_gen.specs.declared.fault.GenFault.{GenFault}
 use Rattle.ifs_gen.specs.declared.fault.GenFault.TheVariants.{Memory}
 use Rattle.ifs_gen.specs.Trees.{Part, External, Policy}
 use Rattle.ifs_gen.specs.PlainCode.{plain_coder, init_code, body_code, tests_below}
-use Rattle.ifs_gen.specs.PlainImage.{
-  test_count,
-  parts_of,
-  test_spec,
-  routine_of_code,
-  RoutinesFit,
-  mask_of,
-  handlers_of,
-  states_from,
-  routines_of,
-  least_budgets,
-  CodeFits,
-}
+use Rattle.ifs_gen.specs.PlainImage.{test_count, parts_of, test_spec, routine_of_code, RoutinesFit, mask_of}
+use Rattle.ifs_gen.specs.PlainImage.{handlers_of, states_from, routines_of, least_budgets, CodeFits}
 use Rattle.ifs_gen.specs.Refused.{IsPassed, PassesFirst}
 use Rattle.ifs_gen.specs.inner.Amounts.{numbers_of, measured, event_in, budgets_in, AreFine}
 use Rattle.ifs_gen.proofs.Images.{mask_below}

@@ -1,28 +1,6 @@
 -- Two behaviours that differ in costs alone make the same run, costs aside.
-use Rattle.std.proofs.Common.{
-  ◌≡◌,
-  ℕ,
-  ◌+◌,
-  ◌-◌,
-  Bool,
-  true,
-  false,
-  not,
-  List,
-  [],
-  ◌∷◌,
-  ◌++◌,
-  length,
-  map,
-  drop,
-  Option,
-  Some,
-  None,
-  refl,
-  sym,
-  ap,
-  ◌∙◌,
-}
+use Rattle.std.proofs.Common.{◌≡◌, ℕ, ◌+◌, ◌-◌, Bool, true, false, not, List, [], ◌∷◌, ◌++◌}
+use Rattle.std.proofs.Common.{length, map, drop, Option, Some, None, refl, sym, ap, ◌∙◌}
 use Rattle.std.specs.Prelude.{slice_get, nat_lt, if◌then◌else◌}
 use Rattle.std.proofs.lemmas.List.{length-map, drop-map, map-append}
 use Rattle.ifs_base.specs.Facts.{is_link}
@@ -39,33 +17,10 @@ use Rattle.ifs_core.specs.declared.step.Answer.{Answer}
 use Rattle.ifs_core.specs.declared.step.Answer.TheVariants as answers
 use Rattle.ifs_core.specs.declared.step.Record.{Record}
 use Rattle.ifs_core.specs.Event.{AlwaysBody, Body, Behaviour, Position, Event, change_of, with_change, evaluation}
-use Rattle.ifs_core.specs.Steps.{
-  CoreState,
-  Turn,
-  traced,
-  settled,
-  at_position,
-  unchanged,
-  same,
-  done,
-  ticked_after,
-  no_event,
-  lacks_room,
-  with_link,
-  with_value,
-  with_run_over,
-  has_value,
-  changing,
-  LinkSeen,
-  RunEnded,
-  link_turn,
-  finished_turn,
-  tick_turn,
-  take_turn,
-  turn,
-  replies,
-  after_steps,
-}
+use Rattle.ifs_core.specs.Steps.{CoreState, Turn, traced, settled, at_position, unchanged, same}
+use Rattle.ifs_core.specs.Steps.{done, ticked_after, no_event, lacks_room, with_link, with_value}
+use Rattle.ifs_core.specs.Steps.{with_run_over, has_value, changing, LinkSeen, RunEnded, link_turn}
+use Rattle.ifs_core.specs.Steps.{finished_turn, tick_turn, take_turn, turn, replies, after_steps}
 use Rattle.ifs_gen.specs.Events.{reply_without_cost, record_without_cost, state_without_costs}
 
 -- A turn, costs aside, and an event.

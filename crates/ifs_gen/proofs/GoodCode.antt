@@ -1,25 +1,6 @@
 -- The code of inits and bodies is good, and what its instructions weigh together.
-use Rattle.std.proofs.Common.{
-  ◌≡◌,
-  ℕ,
-  zero,
-  suc,
-  ◌+◌,
-  ◌≤◌,
-  List,
-  [],
-  ◌∷◌,
-  ◌++◌,
-  length,
-  refl,
-  sym,
-  ap,
-  ◌∙◌,
-  subst,
-  arith,
-  append_assoc,
-  length-append,
-}
+use Rattle.std.proofs.Common.{◌≡◌, ℕ, zero, suc, ◌+◌, ◌≤◌, List, [], ◌∷◌, ◌++◌, length}
+use Rattle.std.proofs.Common.{refl, sym, ap, ◌∙◌, subst, arith, append_assoc, length-append}
 use Rattle.ifs_base.specs.declared.op.Kind.{Kind}
 use Rattle.ifs_base.specs.declared.op.Op.{Op}
 use Rattle.ifs_base.specs.declared.op.Op.TheVariants.{Ret, Negate, Both, Either, JumpFalse}
@@ -29,22 +10,9 @@ use Rattle.ifs_verify.specs.Bounds.{cost_of, commands_of}
 use Rattle.ifs_gen.specs.Trees.{LinkIs, TestIs, Condition, Leaf, NotSo, And, Or, Block, Done, RunThen, WantThen, IfThen}
 use Rattle.ifs_policy.specs.Meaning.{mentioned}
 use Rattle.ifs_parse.specs.Trees.{condition_size}
-use Rattle.ifs_gen.specs.PlainCode.{
-  plain_coder,
-  condition_code,
-  block_code,
-  code_size,
-  block_height,
-  block_runs,
-  held_code,
-  holding,
-  body_start,
-  body_end,
-  body_code,
-  init_code,
-  body_size,
-  init_size,
-}
+use Rattle.ifs_gen.specs.PlainCode.{plain_coder, condition_code, block_code, code_size}
+use Rattle.ifs_gen.specs.PlainCode.{block_height, block_runs, held_code, holding, body_start}
+use Rattle.ifs_gen.specs.PlainCode.{body_end, body_code, init_code, body_size, init_size}
 use Rattle.ifs_gen.specs.PlainImage.{routine_of_code}
 use Rattle.ifs_policy.specs.Fits.{BlockFits}
 use Rattle.ifs_gen.specs.Runs.{image_sizes}
@@ -52,20 +20,9 @@ use Rattle.ifs_gen.proofs.Simulation.{condition_sized, condition_high, block_siz
 use Rattle.ifs_gen.proofs.Mentions.{each_below, body_room}
 use Rattle.ifs_gen.proofs.Handlers.{held_sized}
 use Rattle.ifs_gen.proofs.Fine.{AreFine, fine_append, IsGood}
-use Rattle.ifs_gen.proofs.TypedTrees.{
-  block_kinds,
-  held_kinds,
-  block_kinds_sized,
-  held_kinds_sized,
-  HasKinds,
-  kinds_left,
-  kinds_right,
-  block_starts,
-  block_fine,
-  block_low,
-  held_starts,
-  held_fine,
-}
+use Rattle.ifs_gen.proofs.TypedTrees.{block_kinds, held_kinds, block_kinds_sized}
+use Rattle.ifs_gen.proofs.TypedTrees.{held_kinds_sized, HasKinds, kinds_left, kinds_right}
+use Rattle.ifs_gen.proofs.TypedTrees.{block_starts, block_fine, block_low, held_starts, held_fine}
 use Rattle.ifs_gen.proofs.GoodRoutines.{amount, amount_append}
 
 -- The kinds at a place of a list; none past its end.

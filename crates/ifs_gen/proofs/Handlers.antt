@@ -1,32 +1,6 @@
 -- Handlers of a policy on the machine: a body that is held back goes to its end, and else does what it reaches.
-use Rattle.std.proofs.Common.{
-  ◌≡◌,
-  ℕ,
-  suc,
-  ◌+◌,
-  ◌*◌,
-  ◌<◌,
-  ◌≤◌,
-  Bool,
-  true,
-  false,
-  not,
-  cond,
-  List,
-  [],
-  ◌∷◌,
-  ◌++◌,
-  length,
-  Option,
-  Some,
-  None,
-  refl,
-  sym,
-  ap,
-  ◌∙◌,
-  subst,
-  arith,
-}
+use Rattle.std.proofs.Common.{◌≡◌, ℕ, suc, ◌+◌, ◌*◌, ◌<◌, ◌≤◌, Bool, true, false, not, cond, List, []}
+use Rattle.std.proofs.Common.{◌∷◌, ◌++◌, length, Option, Some, None, refl, sym, ap, ◌∙◌, subst, arith}
 use Rattle.std.specs.Prelude.{◌||◌, is_some, slice_get, if◌then◌else◌}
 use Rattle.std.specs.List.{list_any}
 use Rattle.ifs_base.specs.Facts.{Facts}
@@ -40,56 +14,15 @@ use Rattle.ifs_machine.specs.Table.{Ended, FramesFull, StackFull, WrongResults, 
 use Rattle.ifs_machine.specs.Run.{next, after, begin, RunsTo, AreFactsOf}
 use Rattle.ifs_gen.specs.Trees.{Block}
 use Rattle.ifs_policy.specs.Meaning.{has_a_value, mentioned, is_open, is_held, reached, body_yield, init_yield}
-use Rattle.ifs_gen.specs.PlainCode.{
-  Coder,
-  held_code,
-  holding,
-  body_start,
-  body_end,
-  body_code,
-  init_code,
-  block_code,
-  code_size,
-}
-use Rattle.ifs_gen.specs.Runs.{
-  image_sizes,
-  HasAt,
-  Point,
-  point,
-  stands,
-  Leads,
-  Computes,
-  block_cost,
-  held_cost,
-  body_cost,
-  init_cost,
-  IsHandlerOf,
-  HandlersDo,
-}
-use Rattle.ifs_gen.proofs.Rows.{
-  entry_at,
-  unless_fits,
-  has_all,
-  has_left,
-  has_right,
-  followed_nothing,
-  no_rows,
-  then_leads,
-  as_told,
-  at_place,
-  one_row,
-  jump_row,
-}
+use Rattle.ifs_gen.specs.PlainCode.{Coder, held_code, holding, body_start, body_end}
+use Rattle.ifs_gen.specs.PlainCode.{body_code, init_code, block_code, code_size}
+use Rattle.ifs_gen.specs.Runs.{image_sizes, HasAt, Point, point, stands, Leads, Computes}
+use Rattle.ifs_gen.specs.Runs.{block_cost, held_cost, body_cost, init_cost, IsHandlerOf, HandlersDo}
+use Rattle.ifs_gen.proofs.Rows.{entry_at, unless_fits, has_all, has_left, has_right, followed_nothing}
+use Rattle.ifs_gen.proofs.Rows.{no_rows, then_leads, as_told, at_place, one_row, jump_row}
 use Rattle.ifs_gen.proofs.Simulation.{block_sized, block_leads}
-use Rattle.ifs_gen.proofs.Mentions.{
-  EachBelow,
-  each_below,
-  alike_below,
-  block_tests_below,
-  HasRoomFor,
-  room_any,
-  body_room,
-}
+use Rattle.ifs_gen.proofs.Mentions.{EachBelow, each_below, alike_below}
+use Rattle.ifs_gen.proofs.Mentions.{block_tests_below, HasRoomFor, room_any, body_room}
 
 known_value : (v : Option Bool) → is_some v ≡ has_a_value (Some v)
 known_value None = refl

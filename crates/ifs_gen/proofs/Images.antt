@@ -1,30 +1,6 @@
 -- The plain image of a policy, entry by entry: its routines, its states, and what handlers come to.
-use Rattle.std.proofs.Common.{
-  ◌≡◌,
-  ℕ,
-  zero,
-  suc,
-  ◌+◌,
-  ◌*◌,
-  ◌^◌,
-  ◌<◌,
-  ◌≤◌,
-  Bool,
-  true,
-  false,
-  List,
-  [],
-  ◌∷◌,
-  ◌++◌,
-  length,
-  Some,
-  refl,
-  sym,
-  ap,
-  ◌∙◌,
-  subst,
-  arith,
-}
+use Rattle.std.proofs.Common.{◌≡◌, ℕ, zero, suc, ◌+◌, ◌*◌, ◌^◌, ◌<◌, ◌≤◌, Bool, true, false, List}
+use Rattle.std.proofs.Common.{[], ◌∷◌, ◌++◌, length, Some, refl, sym, ap, ◌∙◌, subst, arith}
 use Rattle.std.specs.Prelude.{slice_get, All, ◌==◌, if◌then◌else◌}
 use Rattle.std.specs.List.{list_any}
 use Rattle.std.proofs.lemmas.List.Elements.{All-head, All-tail, All-cons, All-nil}
@@ -39,20 +15,8 @@ use Rattle.ifs_image.specs.Code.{code_in, code_of}
 use Rattle.ifs_verify.specs.Bounds.{FitsEvents}
 use Rattle.ifs_gen.specs.Trees.{Block, Part, Policy}
 use Rattle.ifs_gen.specs.PlainCode.{plain_coder, tests_below, body_code, init_code, block_height}
-use Rattle.ifs_gen.specs.PlainImage.{
-  test_count,
-  parts_of,
-  mask_of,
-  handlers_of,
-  states_from,
-  routine_of_code,
-  routines_of,
-  image_with,
-  greatest,
-  number_in,
-  event_total,
-  part_height,
-}
+use Rattle.ifs_gen.specs.PlainImage.{test_count, parts_of, mask_of, handlers_of, states_from, routine_of_code}
+use Rattle.ifs_gen.specs.PlainImage.{routines_of, image_with, greatest, number_in, event_total, part_height}
 use Rattle.ifs_policy.specs.Fits.{BlockFits, HandlersFit}
 use Rattle.ifs_gen.specs.Runs.{image_sizes}
 use Rattle.ifs_gen.proofs.Fine.{IsGood}

@@ -1,25 +1,6 @@
 -- No budgets under the least are enough.
-use Rattle.std.proofs.Common.{
-  ◌≡◌,
-  ℕ,
-  zero,
-  suc,
-  ◌+◌,
-  ◌*◌,
-  ◌<◌,
-  ◌≤◌,
-  ⊎_elim,
-  List,
-  [],
-  ◌∷◌,
-  length,
-  Some,
-  refl,
-  ap,
-  ◌∙◌,
-  subst,
-  arith,
-}
+use Rattle.std.proofs.Common.{◌≡◌, ℕ, zero, suc, ◌+◌, ◌*◌, ◌<◌, ◌≤◌, ⊎_elim, List}
+use Rattle.std.proofs.Common.{[], ◌∷◌, length, Some, refl, ap, ◌∙◌, subst, arith}
 use Rattle.std.specs.Prelude.{slice_get}
 use Rattle.std.proofs.lemmas.Bool.{cases_lt}
 use Rattle.ifs_base.specs.declared.op.Op.{Op}
@@ -32,17 +13,8 @@ use Rattle.ifs_verify.specs.Bounds.{AreAmounts, cost_of, commands_of, FitsEvents
 use Rattle.ifs_verify.specs.Accepted.{IsAccepted}
 use Rattle.ifs_gen.specs.Trees.{Part, Policy}
 use Rattle.ifs_gen.specs.PlainCode.{plain_coder, body_code, init_code, block_runs}
-use Rattle.ifs_gen.specs.PlainImage.{
-  test_count,
-  parts_of,
-  image_with,
-  greatest,
-  number_in,
-  event_total,
-  init_length,
-  body_length,
-  part_height,
-}
+use Rattle.ifs_gen.specs.PlainImage.{test_count, parts_of, image_with, greatest, number_in}
+use Rattle.ifs_gen.specs.PlainImage.{event_total, init_length, body_length, part_height}
 use Rattle.ifs_policy.specs.Fits.{PolicyFits}
 use Rattle.ifs_gen.specs.Acceptance.{BudgetsAreLeast}
 use Rattle.ifs_gen.proofs.GoodRoutines.{amount, heights_in, least_amount, least_height}

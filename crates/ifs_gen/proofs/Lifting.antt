@@ -1,27 +1,6 @@
 -- The core that is opened on a policy's plain image runs as the policy does.
-use Rattle.std.proofs.Common.{
-  ◌≡◌,
-  ℕ,
-  zero,
-  suc,
-  ◌+◌,
-  ◌*◌,
-  List,
-  [],
-  ◌∷◌,
-  length,
-  map,
-  Option,
-  Some,
-  None,
-  refl,
-  sym,
-  ap,
-  ◌∙◌,
-  subst,
-  arith,
-  option_map,
-}
+use Rattle.std.proofs.Common.{◌≡◌, ℕ, zero, suc, ◌+◌, ◌*◌, List, [], ◌∷◌, length, map, Option}
+use Rattle.std.proofs.Common.{Some, None, refl, sym, ap, ◌∙◌, subst, arith, option_map}
 use Rattle.std.specs.Prelude.{slice_get, All}
 use Rattle.std.proofs.lemmas.List.Elements.{All-head, All-tail}
 use Rattle.std.proofs.lemmas.Option.{none-some, same_Some, slice_get_within}
@@ -50,17 +29,8 @@ use Rattle.ifs_gen.specs.PlainImage.{least_budgets, test_count, parts_of, part_h
 use Rattle.ifs_policy.specs.Fits.{PolicyFits}
 use Rattle.ifs_policy.specs.Fits.{HandlersFit}
 use Rattle.ifs_gen.specs.Runs.{image_sizes, init_cost, body_cost}
-use Rattle.ifs_gen.specs.Events.{
-  yield_in,
-  yield_of,
-  mask_of_state,
-  behaviour_of,
-  policy_opened,
-  reply_without_cost,
-  state_without_costs,
-  RunsAsPolicy,
-  ImageMeansPolicy,
-}
+use Rattle.ifs_gen.specs.Events.{yield_in, yield_of, mask_of_state, behaviour_of, policy_opened}
+use Rattle.ifs_gen.specs.Events.{reply_without_cost, state_without_costs, RunsAsPolicy, ImageMeansPolicy}
 use Rattle.ifs_gen.proofs.Simulation.{truth_runs}
 use Rattle.ifs_gen.proofs.Handlers.{handlers_do}
 use Rattle.ifs_gen.proofs.GoodRoutines.{amount, leave_nothing, least_amount}

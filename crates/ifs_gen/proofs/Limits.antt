@@ -1,23 +1,6 @@
 -- The plain image of a policy keeps the limits of images.
-use Rattle.std.proofs.Common.{
-  ◌≡◌,
-  ℕ,
-  ◌+◌,
-  ◌≤◌,
-  List,
-  [],
-  ◌∷◌,
-  length,
-  map,
-  Option,
-  Some,
-  None,
-  refl,
-  sym,
-  ap,
-  subst,
-  arith,
-}
+use Rattle.std.proofs.Common.{◌≡◌, ℕ, ◌+◌, ◌≤◌, List, [], ◌∷◌, length, map}
+use Rattle.std.proofs.Common.{Option, Some, None, refl, sym, ap, subst, arith}
 use Rattle.std.specs.Prelude.{slice_get, All, sum_by}
 use Rattle.std.proofs.lemmas.List.{length-map}
 use Rattle.std.proofs.lemmas.List.Elements.{All-head, All-tail, All-cons, All-nil, All-weaker, All-map}
@@ -30,22 +13,9 @@ use Rattle.ifs_image.specs.declared.parts.ImageParts.{ImageParts}
 use Rattle.ifs_image.specs.Limits.{TestFits, RoutineFits, names_of, AreDistinct, instructions, Fits}
 use Rattle.ifs_gen.specs.Trees.{Part, External, Policy}
 use Rattle.ifs_gen.specs.PlainCode.{plain_coder, body_code, init_code}
-use Rattle.ifs_gen.specs.PlainImage.{
-  test_count,
-  parts_of,
-  states_from,
-  routine_of_code,
-  routines_of,
-  greatest,
-  number_in,
-  event_total,
-  init_length,
-  body_length,
-  part_height,
-  plain_image,
-  RoutinesFit as PartLengths,
-  CodeFits,
-}
+use Rattle.ifs_gen.specs.PlainImage.{test_count, parts_of, states_from, routine_of_code, routines_of}
+use Rattle.ifs_gen.specs.PlainImage.{greatest, number_in, event_total, init_length, body_length}
+use Rattle.ifs_gen.specs.PlainImage.{part_height, plain_image, RoutinesFit as PartLengths, CodeFits}
 use Rattle.ifs_policy.specs.Fits.{PolicyFits}
 use Rattle.ifs_gen.proofs.GoodCode.{init_long, body_long}
 use Rattle.ifs_gen.proofs.Images.{routines_long, states_long, at_most_greatest, greatest_below}

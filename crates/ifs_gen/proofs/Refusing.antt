@@ -1,24 +1,6 @@
 -- The code of each policy keeps the limits, or it passes one first.
-use Rattle.std.proofs.Common.{
-  ◌≡◌,
-  ℕ,
-  zero,
-  suc,
-  ◌+◌,
-  ◌<◌,
-  ◌≤◌,
-  ◌⊎◌,
-  inl,
-  inr,
-  ⊎_elim,
-  List,
-  [],
-  ◌∷◌,
-  Some,
-  refl,
-  ap,
-  arith,
-}
+use Rattle.std.proofs.Common.{◌≡◌, ℕ, zero, suc, ◌+◌, ◌<◌, ◌≤◌, ◌⊎◌, inl, inr}
+use Rattle.std.proofs.Common.{⊎_elim, List, [], ◌∷◌, Some, refl, ap, arith}
 use Rattle.std.specs.Prelude.{slice_get, All, sum, sum_by}
 use Rattle.std.proofs.lemmas.Bool.{cases_lt}
 use Rattle.std.proofs.lemmas.List.Elements.{All-head, All-tail, All-cons, All-nil}
@@ -26,36 +8,14 @@ use Rattle.std.proofs.lemmas.List.Sums.{sum_by-cons}
 use Rattle.std.proofs.lemmas.Option.{none-some, same_Some}
 use Rattle.ifs_base.specs.declared.ids.RoutineId.{RoutineId}
 use Rattle.ifs_gen.specs.declared.fault.GenFault.{GenFault}
-use Rattle.ifs_gen.specs.declared.fault.GenFault.TheVariants.{
-  RoutineTooLong,
-  CodeTooLong,
-  StackTooHigh,
-  TooManyCommands,
-  Memory,
-}
+use Rattle.ifs_gen.specs.declared.fault.GenFault.TheVariants.{RoutineTooLong, CodeTooLong}
+use Rattle.ifs_gen.specs.declared.fault.GenFault.TheVariants.{StackTooHigh, TooManyCommands, Memory}
 use Rattle.ifs_gen.specs.Trees.{Part, Policy}
 use Rattle.ifs_gen.specs.PlainCode.{plain_coder, block_height}
-use Rattle.ifs_gen.specs.PlainImage.{
-  test_count,
-  parts_of,
-  init_length,
-  body_length,
-  part_height,
-  room_of,
-  RoutinesFit,
-  CodeFits,
-}
-use Rattle.ifs_gen.specs.Refused.{
-  lengths_of,
-  heights_of,
-  lengths,
-  heights,
-  AreWithin,
-  IsFirstOver,
-  PassesFirst,
-  FitsOrIsRefused,
-  OneLimitIsFirst,
-}
+use Rattle.ifs_gen.specs.PlainImage.{test_count, parts_of, init_length, body_length}
+use Rattle.ifs_gen.specs.PlainImage.{part_height, room_of, RoutinesFit, CodeFits}
+use Rattle.ifs_gen.specs.Refused.{lengths_of, heights_of, lengths, heights, AreWithin}
+use Rattle.ifs_gen.specs.Refused.{IsFirstOver, PassesFirst, FitsOrIsRefused, OneLimitIsFirst}
 
 -- The index of the first number over a limit, where there is one.
 record Over (limit : ℕ) (numbers : List ℕ) : Type 0 where

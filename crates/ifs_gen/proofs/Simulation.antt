@@ -1,29 +1,6 @@
 -- Plain code on the machine: conditions leave their truth, blocks bring about what they reach, handlers what they yield.
-use Rattle.std.proofs.Common.{
-  ◌≡◌,
-  ℕ,
-  ◌+◌,
-  ◌≤◌,
-  Bool,
-  true,
-  false,
-  not,
-  List,
-  [],
-  ◌∷◌,
-  ◌++◌,
-  length,
-  Option,
-  Some,
-  None,
-  refl,
-  sym,
-  ap,
-  ◌∙◌,
-  subst,
-  arith,
-  length-append,
-}
+use Rattle.std.proofs.Common.{◌≡◌, ℕ, ◌+◌, ◌≤◌, Bool, true, false, not, List, [], ◌∷◌, ◌++◌, length}
+use Rattle.std.proofs.Common.{Option, Some, None, refl, sym, ap, ◌∙◌, subst, arith, length-append}
 use Rattle.std.specs.Prelude.{◌&&◌, ◌||◌, if◌then◌else◌}
 use Rattle.ifs_base.specs.Facts.{Facts, is_link}
 use Rattle.ifs_base.specs.Effects.{Effects, nothing_yet, followed}
@@ -37,47 +14,14 @@ use Rattle.ifs_machine.specs.Run.{AreFactsOf}
 use Rattle.ifs_gen.specs.Trees.{LinkIs, TestIs, Condition, Leaf, NotSo, And, Or, Block, Done, RunThen, WantThen, IfThen}
 use Rattle.ifs_policy.specs.Meaning.{has_true, truth, reached}
 use Rattle.ifs_parse.specs.Trees.{condition_size}
-use Rattle.ifs_gen.specs.PlainCode.{
-  Coder,
-  condition_code,
-  condition_height,
-  block_code,
-  code_size,
-  block_height,
-  block_runs,
-}
+use Rattle.ifs_gen.specs.PlainCode.{Coder, condition_code, condition_height}
+use Rattle.ifs_gen.specs.PlainCode.{block_code, code_size, block_height, block_runs}
 use Rattle.ifs_policy.specs.Fits.{ConditionFits, BlockFits}
-use Rattle.ifs_gen.specs.Runs.{
-  image_sizes,
-  HasAt,
-  Point,
-  point,
-  stands,
-  Leads,
-  HasStack,
-  Computes,
-  TruthRuns,
-  block_cost,
-  BlockRuns,
-}
-use Rattle.ifs_gen.proofs.Rows.{
-  entry_at,
-  unless_fits,
-  has_left,
-  has_right,
-  followed_assoc,
-  followed_nothing,
-  no_rows,
-  then_leads,
-  as_told,
-  at_place,
-  one_row,
-  command_row,
-  state_row,
-  queue_row,
-  want_row,
-  jump_row,
-}
+use Rattle.ifs_gen.specs.Runs.{image_sizes, HasAt, Point, point, stands, Leads}
+use Rattle.ifs_gen.specs.Runs.{HasStack, Computes, TruthRuns, block_cost, BlockRuns}
+use Rattle.ifs_gen.proofs.Rows.{entry_at, unless_fits, has_left, has_right, followed_assoc}
+use Rattle.ifs_gen.proofs.Rows.{followed_nothing, no_rows, then_leads, as_told, at_place}
+use Rattle.ifs_gen.proofs.Rows.{one_row, command_row, state_row, queue_row, want_row, jump_row}
 
 pub condition_sized : (c : Condition) → length (condition_code c) ≡ condition_size c
 condition_sized (Leaf (LinkIs n s)) = refl

@@ -22,17 +22,8 @@ use Rattle.ifs_verify.specs.declared.fault.VerifyFault.TheVariants as verifying
 use Rattle.ifs_core.specs.Headline.{AcceptedIsKept}
 use Rattle.ifs_gen.specs.Trees.{Part, Policy, External}
 use Rattle.ifs_gen.specs.PlainImage.{test_count, states_from, plain_image, CodeFits}
-use Rattle.ifs_gen.specs.Compiled.{
-  MeansPolicy,
-  TextsMeanTheirPolicy,
-  IsCompiled,
-  Compiles,
-  IsRefusal,
-  IsWritten,
-  IsCodeRefusal,
-  of_policy,
-  of_code,
-}
+use Rattle.ifs_gen.specs.Compiled.{MeansPolicy, TextsMeanTheirPolicy, IsCompiled, Compiles}
+use Rattle.ifs_gen.specs.Compiled.{IsRefusal, IsWritten, IsCodeRefusal, of_policy, of_code}
 use Rattle.ifs_gen.specs.Refused.{PassesFirst}
 use Rattle.ifs_gen.specs.declared.compile_fault.CompileFault.{CompileFault}
 use Rattle.ifs_gen.specs.declared.compile_fault.CompileFault.TheVariants as compiling

@@ -1,77 +1,26 @@
 -- What measures of a policy's parts say of the policy.
-use Rattle.std.proofs.Common.{
-  ◌≡◌,
-  ℕ,
-  zero,
-  suc,
-  ◌+◌,
-  ◌*◌,
-  ◌<◌,
-  ◌≤◌,
-  List,
-  [],
-  ◌∷◌,
-  map,
-  Some,
-  refl,
-  sym,
-  ap,
-  ◌∙◌,
-  subst,
-  arith,
-}
+use Rattle.std.proofs.Common.{◌≡◌, ℕ, zero, suc, ◌+◌, ◌*◌, ◌<◌, ◌≤◌, List, []}
+use Rattle.std.proofs.Common.{◌∷◌, map, Some, refl, sym, ap, ◌∙◌, subst, arith}
 use Rattle.std.specs.Prelude.{slice_get, sum, max}
 use Rattle.std.proofs.lemmas.List.Elements.{All-head, All-tail, All-cons, All-nil}
 use Rattle.std.proofs.lemmas.List.Sums.{sum_by-cons}
 use Rattle.std.proofs.lemmas.Option.{none-some, same_Some}
 use Rattle.ifs_gen.specs.declared.fault.GenFault.{GenFault}
-use Rattle.ifs_gen.specs.declared.fault.GenFault.TheVariants.{
-  RoutineTooLong,
-  CodeTooLong,
-  StackTooHigh,
-  TooManyCommands,
-  Memory,
-}
+use Rattle.ifs_gen.specs.declared.fault.GenFault.TheVariants.{RoutineTooLong, CodeTooLong}
+use Rattle.ifs_gen.specs.declared.fault.GenFault.TheVariants.{StackTooHigh, TooManyCommands, Memory}
 use Rattle.ifs_gen.specs.declared.amounts.PartMeasure.{PartMeasure}
 use Rattle.ifs_gen.specs.declared.amounts.Amount.{Amount}
 use Rattle.ifs_gen.specs.declared.amounts.Amount.TheVariants.{Size, Height, Runs}
-use Rattle.ifs_gen.specs.inner.Amounts.{
-  number_of,
-  numbers_of,
-  measured,
-  most_of_inits,
-  most_of_bodies,
-  event_in,
-  budgets_in,
-  AreFine,
-}
+use Rattle.ifs_gen.specs.inner.Amounts.{number_of, numbers_of, measured, most_of_inits}
+use Rattle.ifs_gen.specs.inner.Amounts.{most_of_bodies, event_in, budgets_in, AreFine}
 use Rattle.ifs_gen.specs.inner.Measures.{capped}
 use Rattle.ifs_image.specs.declared.parts.Budgets.{Budgets}
 use Rattle.ifs_gen.specs.Trees.{Part, Policy}
 use Rattle.ifs_gen.specs.PlainCode.{plain_coder, block_height, block_runs}
-use Rattle.ifs_gen.specs.PlainImage.{
-  test_count,
-  parts_of,
-  greatest,
-  number_in,
-  event_total,
-  init_length,
-  body_length,
-  part_height,
-  room_of,
-  least_budgets,
-  CodeFits,
-}
-use Rattle.ifs_gen.specs.Refused.{
-  lengths_of,
-  heights_of,
-  lengths,
-  heights,
-  AreWithin,
-  IsFirstOver,
-  IsPassed,
-  PassesFirst,
-}
+use Rattle.ifs_gen.specs.PlainImage.{test_count, parts_of, greatest, number_in, event_total, init_length}
+use Rattle.ifs_gen.specs.PlainImage.{body_length, part_height, room_of, least_budgets, CodeFits}
+use Rattle.ifs_gen.specs.Refused.{lengths_of, heights_of, lengths, heights}
+use Rattle.ifs_gen.specs.Refused.{AreWithin, IsFirstOver, IsPassed, PassesFirst}
 use Rattle.ifs_gen.proofs.Refusing.{one_later, each_fits, heights_fit, sums_agree}
 
 -- What is looked for among the numbers that are left is found among all of them, so many places later.

@@ -1,63 +1,21 @@
 -- The kinds at each place of plain code, with which its instructions are fine.
-use Rattle.std.proofs.Common.{
-  ◌≡◌,
-  ℕ,
-  suc,
-  ◌+◌,
-  ◌*◌,
-  ◌<◌,
-  ◌≤◌,
-  inl,
-  ⊎_elim,
-  List,
-  [],
-  ◌∷◌,
-  ◌++◌,
-  length,
-  Some,
-  None,
-  refl,
-  sym,
-  ap,
-  ◌∙◌,
-  subst,
-  arith,
-  length-append,
-}
+use Rattle.std.proofs.Common.{◌≡◌, ℕ, suc, ◌+◌, ◌*◌, ◌<◌, ◌≤◌, inl, ⊎_elim, List, [], ◌∷◌, ◌++◌}
+use Rattle.std.proofs.Common.{length, Some, None, refl, sym, ap, ◌∙◌, subst, arith, length-append}
 use Rattle.std.proofs.lemmas.Option.{none-some, same_Some}
 use Rattle.ifs_base.specs.declared.ids.TestId.{TestId}
 use Rattle.ifs_base.specs.declared.op.Kind.{Kind}
 use Rattle.ifs_base.specs.declared.op.Kind.TheVariants.{Truth, Command, StateName}
 use Rattle.ifs_base.specs.declared.op.Op.{Op}
-use Rattle.ifs_base.specs.declared.op.Op.TheVariants.{
-  Link,
-  Test,
-  Known,
-  Negate,
-  Both,
-  Either,
-  PushCommand,
-  PushState,
-  Queue,
-  Want,
-  JumpFalse,
-  Call,
-}
+use Rattle.ifs_base.specs.declared.op.Op.TheVariants.{Link, Test, Known, Negate, Both, Either, PushCommand}
+use Rattle.ifs_base.specs.declared.op.Op.TheVariants.{PushState, Queue, Want, JumpFalse, Call}
 use Rattle.ifs_image.specs.declared.parts.ImageParts.{ImageParts}
 use Rattle.ifs_image.specs.Code.{IsSuccessor, target_of, effect}
 use Rattle.ifs_verify.specs.Rules.{HasOperand}
 use Rattle.ifs_base.specs.declared.ids.RoutineId.{RoutineId}
 use Rattle.ifs_gen.specs.Trees.{LinkIs, TestIs, Condition, Leaf, NotSo, And, Or, Block, Done, RunThen, WantThen, IfThen}
 use Rattle.ifs_parse.specs.Trees.{condition_size}
-use Rattle.ifs_gen.specs.PlainCode.{
-  plain_coder,
-  condition_code,
-  condition_height,
-  block_code,
-  code_size,
-  block_height,
-  held_code,
-}
+use Rattle.ifs_gen.specs.PlainCode.{plain_coder, condition_code, condition_height}
+use Rattle.ifs_gen.specs.PlainCode.{block_code, code_size, block_height, held_code}
 use Rattle.ifs_policy.specs.Fits.{ConditionFits, BlockFits}
 use Rattle.ifs_gen.specs.Runs.{image_sizes}
 use Rattle.ifs_gen.proofs.Simulation.{condition_sized, condition_high, block_sized}

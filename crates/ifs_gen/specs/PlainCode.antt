@@ -3,36 +3,11 @@ use Rattle.std.specs.Prelude.{ℕ, zero, suc, ◌+◌, ◌*◌, ◌==◌, max, i
 use Rattle.std.specs.List.{list_any}
 use Rattle.ifs_base.specs.declared.ids.TestId.{TestId}
 use Rattle.ifs_base.specs.declared.op.Op.{Op}
-use Rattle.ifs_base.specs.declared.op.Op.TheVariants.{
-  Ret,
-  Link,
-  Test,
-  Known,
-  Negate,
-  Both,
-  Either,
-  PushCommand,
-  PushState,
-  Queue,
-  Want,
-  JumpFalse,
-}
+use Rattle.ifs_base.specs.declared.op.Op.TheVariants.{Ret, Link, Test, Known, Negate, Both, Either}
+use Rattle.ifs_base.specs.declared.op.Op.TheVariants.{PushCommand, PushState, Queue, Want, JumpFalse}
 use Rattle.ifs_parse.specs.Trees.{condition_size}
-use Rattle.ifs_gen.specs.Trees.{
-  Single,
-  LinkIs,
-  TestIs,
-  Condition,
-  Leaf,
-  NotSo,
-  And,
-  Or,
-  Block,
-  Done,
-  RunThen,
-  WantThen,
-  IfThen,
-}
+use Rattle.ifs_gen.specs.Trees.{Single, LinkIs, TestIs, Condition, Leaf, NotSo}
+use Rattle.ifs_gen.specs.Trees.{And, Or, Block, Done, RunThen, WantThen, IfThen}
 use Rattle.ifs_policy.specs.Meaning.{mentioned}
 
 -- How a condition is computed: its code, how many instructions that has, how many values stand above the others at most, and how many instructions are executed.

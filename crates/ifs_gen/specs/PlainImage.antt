@@ -1,23 +1,6 @@
 -- The plain image of a policy, and its sizes apart from the code: instructions, height and commands, the room, and the budgets.
-use Rattle.std.specs.Prelude.{
-  ℕ,
-  ◌+◌,
-  ◌*◌,
-  ◌^◌,
-  ◌≤◌,
-  max,
-  List,
-  [],
-  ◌∷◌,
-  length,
-  map,
-  sum_by,
-  Option,
-  Some,
-  None,
-  slice_get,
-  All,
-}
+use Rattle.std.specs.Prelude.{ℕ, ◌+◌, ◌*◌, ◌^◌, ◌≤◌, max, List, [], ◌∷◌, length}
+use Rattle.std.specs.Prelude.{map, sum_by, Option, Some, None, slice_get, All}
 use Rattle.ifs_base.specs.declared.ids.TestId.{TestId}
 use Rattle.ifs_base.specs.declared.op.Op.{Op}
 use Rattle.ifs_image.specs.declared.parts.Budgets.{Budgets}
@@ -27,16 +10,8 @@ use Rattle.ifs_image.specs.declared.parts.Routine.{Routine}
 use Rattle.ifs_image.specs.declared.parts.ImageParts.{ImageParts}
 use Rattle.ifs_image.specs.declared.parts.TestSpec.{TestSpec}
 use Rattle.ifs_gen.specs.Trees.{Part, External, Policy}
-use Rattle.ifs_gen.specs.PlainCode.{
-  plain_coder,
-  holding,
-  body_code,
-  init_code,
-  body_size,
-  init_size,
-  block_height,
-  block_runs,
-}
+use Rattle.ifs_gen.specs.PlainCode.{plain_coder, holding, body_code, init_code}
+use Rattle.ifs_gen.specs.PlainCode.{body_size, init_size, block_height, block_runs}
 
 -- How many external tests a policy has.
 abbrev pub test_count : Policy → ℕ

@@ -13,17 +13,8 @@ use Rattle.ifs_machine.specs.Run.{after, RunsTo, AreFactsOf}
 use Rattle.ifs_policy.specs.Fits.{Sizes, ConditionFits, BlockFits}
 use Rattle.ifs_gen.specs.Trees.{Condition, Block, Done, RunThen, WantThen, IfThen}
 use Rattle.ifs_policy.specs.Meaning.{truth, is_open, is_held, reached, body_yield, init_yield}
-use Rattle.ifs_gen.specs.PlainCode.{
-  Coder,
-  plain_coder,
-  block_code,
-  code_size,
-  block_height,
-  block_runs,
-  holding,
-  body_code,
-  init_code,
-}
+use Rattle.ifs_gen.specs.PlainCode.{Coder, plain_coder, block_code, code_size, block_height}
+use Rattle.ifs_gen.specs.PlainCode.{block_runs, holding, body_code, init_code}
 
 -- How many entries the tables of an image have.
 abbrev pub image_sizes : ImageParts → Sizes

@@ -5,17 +5,8 @@ use Rattle.ifs_image.specs.Limits.{instructions}
 use Rattle.ifs_verify.specs.Bounds.{commands_of}
 use Rattle.ifs_gen.specs.Trees.{Condition, Block, Policy}
 use Rattle.ifs_parse.specs.Trees.{condition_size}
-use Rattle.ifs_gen.specs.PlainCode.{
-  plain_coder,
-  condition_code,
-  block_code,
-  code_size,
-  block_runs,
-  body_code,
-  body_size,
-  init_code,
-  init_size,
-}
+use Rattle.ifs_gen.specs.PlainCode.{plain_coder, condition_code, block_code, code_size}
+use Rattle.ifs_gen.specs.PlainCode.{block_runs, body_code, body_size, init_code, init_size}
 use Rattle.ifs_gen.specs.PlainImage.{plain_image}
 use Rattle.ifs_gen.specs.Refused.{lengths}
 

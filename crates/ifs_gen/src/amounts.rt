@@ -3,16 +3,8 @@
 ghost use Rattle.std.specs.Prelude.{◌≡◌, ◌+◌, ◌<◌, ◌≤◌, ◌++◌, length, map, sum, None, IfSome, IfOk, IfErr, OnOk};
 ghost use Rattle.ifs_gen.specs.declared.amounts.Amount.TheVariants.{Size, Height, Runs};
 ghost use Rattle.ifs_gen.specs.Refused.{AreWithin, IsFirstOver, IsPassed};
-ghost use Rattle.ifs_gen.specs.inner.Amounts.{
-  budgets_in,
-  event_in,
-  measured,
-  most_of_bodies,
-  most_of_inits,
-  number_of,
-  numbers_of,
-  AreFine,
-};
+ghost use Rattle.ifs_gen.specs.inner.Amounts.{budgets_in, event_in, measured, most_of_bodies};
+ghost use Rattle.ifs_gen.specs.inner.Amounts.{most_of_inits, number_of, numbers_of, AreFine};
 ghost use Rattle.ifs_gen.specs.inner.Measures.{capped};
 
 use crate::fault::GenFault;

@@ -1,38 +1,11 @@
 //! From a policy to its image.
 
-ghost use Rattle.std.specs.Prelude.{
-  ◌≡◌,
-  ◌≢◌,
-  ◌+◌,
-  ◌≤◌,
-  ◌^◌,
-  ◌<◌,
-  ◌*◌,
-  ◌++◌,
-  [],
-  ◌∷◌,
-  length,
-  map,
-  All,
-  IfOk,
-  IfErr,
-  OnOk,
-};
+ghost use Rattle.std.specs.Prelude.{◌≡◌, ◌≢◌, ◌+◌, ◌≤◌, ◌^◌, ◌<◌, ◌*◌, ◌++◌, []};
+ghost use Rattle.std.specs.Prelude.{◌∷◌, length, map, All, IfOk, IfErr, OnOk};
 ghost use Rattle.ifs_verify.specs.Accepted.{IsAccepted};
 ghost use Rattle.ifs_gen.specs.declared.fault.GenFault.TheVariants.{Memory};
-ghost use Rattle.ifs_gen.specs.PlainImage.{
-  handlers_of,
-  image_with,
-  least_budgets,
-  mask_in,
-  mask_of,
-  plain_image,
-  routines_of,
-  states_from,
-  test_spec,
-  CodeFits,
-  RoutinesFit,
-};
+ghost use Rattle.ifs_gen.specs.PlainImage.{handlers_of, image_with, least_budgets, mask_in, mask_of, plain_image};
+ghost use Rattle.ifs_gen.specs.PlainImage.{routines_of, states_from, test_spec, CodeFits, RoutinesFit};
 ghost use Rattle.ifs_policy.specs.Fits.{PolicyFits};
 ghost use Rattle.ifs_gen.specs.Refused.{PassesFirst};
 

@@ -1,5 +1,6 @@
 -- An image that is read is the one that the bytes spell, and what spells an image is read.
-use Rattle.std.proofs.Common.{◌≡◌, ◌≢◌, ℕ, ◌+◌, ◌-◌, ◌^◌, ◌<◌, ◌≤◌, false, cond, List, [], ◌∷◌, ◌++◌, length, get_or, take, Result, Ok, Err, refl, sym, ap, subst, ◌∙◌, append_assoc, arith, All}
+use Rattle.std.proofs.Common.{◌≡◌, ◌≢◌, ℕ, ◌+◌, ◌-◌, ◌^◌, ◌<◌, ◌≤◌, false, cond, List, [], ◌∷◌, ◌++◌, length}
+use Rattle.std.proofs.Common.{get_or, take, Result, Ok, Err, refl, sym, ap, subst, ◌∙◌, append_assoc, arith, All}
 use Rattle.std.specs.Prelude.{◌==◌, codes, IsUtf8, IfOk}
 use Rattle.std.specs.Int.{w16, w32, to_be_bytes}
 use Rattle.std.specs.List.{flat_map}
@@ -21,13 +22,20 @@ use Rattle.ifs_image.specs.declared.parts.StateSpec.{StateSpec}
 use Rattle.ifs_image.specs.declared.parts.Routine.{Routine}
 use Rattle.ifs_image.specs.declared.parts.ImageParts.{ImageParts}
 use Rattle.ifs_base.specs.Sizes.{TextFits}
-use Rattle.ifs_image.specs.Limits.{BudgetsFit, CountsFit, TestFits, RoutineFits, AreDistinct, HandlersInRange, StateInRange, names_of, instructions, Fits, InRange}
-use Rattle.ifs_image.specs.Spelling.{front_bytes, budgets_bytes, counts_bytes, handlers_bytes, text_bytes, test_bytes, state_bytes, routine_bytes, counts, image_bytes, Spells}
-use Rattle.ifs_image.specs.Reading.{Cursor, cursor, ◌>>=◌, bytes_at, byte_at, number_at, number_within, magic_at, version_at, budgets_at, counts_at, handlers_at, text_at, stands_in, name_at, test_at, state_at, items_at, routine_at, room_after, parts_at, image_of}
+use Rattle.ifs_image.specs.Limits.{BudgetsFit, CountsFit, TestFits, RoutineFits, AreDistinct}
+use Rattle.ifs_image.specs.Limits.{HandlersInRange, StateInRange, names_of, instructions, Fits, InRange}
+use Rattle.ifs_image.specs.Spelling.{front_bytes, budgets_bytes, counts_bytes, handlers_bytes, text_bytes}
+use Rattle.ifs_image.specs.Spelling.{test_bytes, state_bytes, routine_bytes, counts, image_bytes, Spells}
+use Rattle.ifs_image.specs.Reading.{Cursor, cursor, ◌>>=◌, bytes_at, byte_at, number_at, number_within, magic_at}
+use Rattle.ifs_image.specs.Reading.{version_at, budgets_at, counts_at, handlers_at, text_at, stands_in, name_at}
+use Rattle.ifs_image.specs.Reading.{test_at, state_at, items_at, routine_at, room_after, parts_at, image_of}
 use Rattle.ifs_image.specs.Answers.{Answers}
 use Rattle.ifs_image.proofs.Names.{AreDistinct-push, distinct_broken}
-use Rattle.ifs_image.proofs.FieldLaws.{IsBytes, bind_ok, again_bind, passed_ok, ok_is, Took, Took-then, IsField, bytes_again, bytes_taken, wide16, number_field, within16, within32, byte_again, byte_taken, AllAfter, table_field}
-use Rattle.ifs_image.proofs.PartLaws.{TextGood, text_field, name_field, handlers_field, TestGood, test_field, StateGood, state_field, RoutineGood, routine_field}
+use Rattle.ifs_image.proofs.FieldLaws.{IsBytes, bind_ok, again_bind, passed_ok, ok_is, Took, Took-then}
+use Rattle.ifs_image.proofs.FieldLaws.{IsField, bytes_again, bytes_taken, wide16, number_field, within16}
+use Rattle.ifs_image.proofs.FieldLaws.{within32, byte_again, byte_taken, AllAfter, table_field}
+use Rattle.ifs_image.proofs.PartLaws.{TextGood, text_field, name_field, handlers_field, TestGood}
+use Rattle.ifs_image.proofs.PartLaws.{test_field, StateGood, state_field, RoutineGood, routine_field}
 
 -- ---- magic, version, budgets, counts
 

@@ -1,5 +1,7 @@
 -- The parts of an image, each read as it is spelled.
-use Rattle.std.proofs.Common.{◌≡◌, ◌≢◌, ℕ, ◌+◌, ◌^◌, ◌≤◌, Bool, true, false, cond, eqb, ltb, List, [], ◌∷◌, ◌++◌, length, get_or, Option, Some, None, Ok, Err, refl, sym, ap, subst, ◌∙◌, append_assoc, arith, All}
+use Rattle.std.proofs.Common.{◌≡◌, ◌≢◌, ℕ, ◌+◌, ◌^◌, ◌≤◌, Bool, true, false, cond, eqb}
+use Rattle.std.proofs.Common.{ltb, List, [], ◌∷◌, ◌++◌, length, get_or, Option, Some, None}
+use Rattle.std.proofs.Common.{Ok, Err, refl, sym, ap, subst, ◌∙◌, append_assoc, arith, All}
 use Rattle.std.specs.Prelude.{◌&&◌, ◌||◌, not, ◌==◌, min, IsUtf8}
 use Rattle.std.specs.Int.{w16, w32, w64, to_be_bytes}
 use Rattle.std.specs.List.{list_any, flat_map}
@@ -11,7 +13,9 @@ use Rattle.std.proofs.lemmas.List.{length-append, get_or_default}
 use Rattle.std.proofs.lemmas.List.Folds.{list_any_none}
 use Rattle.std.proofs.lemmas.Str.{is_utf8-from_IsUtf8, IsUtf8-from_is_utf8}
 use Rattle.ifs_base.specs.declared.op.Op.{Op}
-use Rattle.ifs_base.specs.declared.op.Op.TheVariants.{Ret, Yes, No, Link, Test, Known, Negate, Both, Either, PushCommand, PushState, Queue, Want, Jump, JumpFalse, JumpTrue, Call, Pop, Dup}
+use Rattle.ifs_base.specs.declared.op.Op.TheVariants.{Ret, Yes, No, Link, Test, Known, Negate, Both}
+use Rattle.ifs_base.specs.declared.op.Op.TheVariants.{Either, PushCommand, PushState, Queue, Want}
+use Rattle.ifs_base.specs.declared.op.Op.TheVariants.{Jump, JumpFalse, JumpTrue, Call, Pop, Dup}
 use Rattle.ifs_base.specs.Spelling.{spelling, op_of, HasSpelling}
 use Rattle.ifs_image.specs.declared.fault.ImageFault.{ImageFault}
 use Rattle.ifs_image.specs.declared.fault.ImageFault.TheVariants.{BadText, RepeatedName, OutOfLimit, NoInstruction}
@@ -22,8 +26,12 @@ use Rattle.ifs_image.specs.declared.parts.Routine.{Routine}
 use Rattle.ifs_base.specs.Sizes.{TextFits}
 use Rattle.ifs_image.specs.Limits.{TestFits, HandlersInRange, StateInRange, RoutineFits, names_of}
 use Rattle.ifs_image.specs.Spelling.{handlers_bytes, text_bytes, test_bytes, state_bytes, routine_bytes}
-use Rattle.ifs_image.specs.Reading.{Cursor, cursor, ◌>>=◌, bytes_at, byte_at, number_at, number_within, handlers_at, length_at, is_text, text_sized, text_at, stands_in, name_at, test_at, state_at, instruction_at, items_at, results_at, routine_at}
-use Rattle.ifs_image.proofs.FieldLaws.{IsBytes, bind_ok, again_bind, guard_ok, passed_ok, ok_is, or_false, Took, Took-then, IsField, bytes_again, bytes_taken, wide16, wide64, number_field, within16, within32, byte_again, byte_taken, AllAfter, table_field}
+use Rattle.ifs_image.specs.Reading.{Cursor, cursor, ◌>>=◌, bytes_at, byte_at, number_at, number_within}
+use Rattle.ifs_image.specs.Reading.{handlers_at, length_at, is_text, text_sized, text_at, stands_in, name_at}
+use Rattle.ifs_image.specs.Reading.{test_at, state_at, instruction_at, items_at, results_at, routine_at}
+use Rattle.ifs_image.proofs.FieldLaws.{IsBytes, bind_ok, again_bind, guard_ok, passed_ok, ok_is, or_false, Took}
+use Rattle.ifs_image.proofs.FieldLaws.{Took-then, IsField, bytes_again, bytes_taken, wide16, wide64, number_field}
+use Rattle.ifs_image.proofs.FieldLaws.{within16, within32, byte_again, byte_taken, AllAfter, table_field}
 use Rattle.ifs_image.proofs.Ops.{op_of-spelling, op_of-spelled}
 
 -- ---- texts

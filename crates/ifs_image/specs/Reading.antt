@@ -1,5 +1,6 @@
 -- Reading an image from the left, field by field down its table: to the image, or to the first fault.
-use Rattle.std.specs.Prelude.{ℕ, zero, suc, ◌+◌, ◌-◌, min, Bool, ◌&&◌, ◌||◌, not, ◌==◌, nat_lt, if◌then◌else◌, List, [], ◌∷◌, ◌++◌, length, take, drop, slice_index, Result, Ok, Err, codes}
+use Rattle.std.specs.Prelude.{ℕ, zero, suc, ◌+◌, ◌-◌, min, Bool, ◌&&◌, ◌||◌, not, ◌==◌, nat_lt, if◌then◌else◌}
+use Rattle.std.specs.Prelude.{List, [], ◌∷◌, ◌++◌, length, take, drop, slice_index, Result, Ok, Err, codes}
 use Rattle.std.specs.Int.{Width, w16, w32, w64, byte_len, from_be_bytes}
 use Rattle.std.specs.List.{list_any}
 use Rattle.std.specs.Option.{ok_or}
@@ -7,7 +8,8 @@ use Rattle.std.specs.Str.{bytes_eq, is_utf8}
 use Rattle.ifs_base.specs.declared.op.Op.{Op}
 use Rattle.ifs_base.specs.Spelling.{op_of}
 use Rattle.ifs_image.specs.declared.fault.ImageFault.{ImageFault}
-use Rattle.ifs_image.specs.declared.fault.ImageFault.TheVariants.{Truncated, WrongMagic, WrongVersion, OutOfLimit, BadText, RepeatedName, Trailing, NoInstruction}
+use Rattle.ifs_image.specs.declared.fault.ImageFault.TheVariants.{Truncated, WrongMagic, WrongVersion, OutOfLimit}
+use Rattle.ifs_image.specs.declared.fault.ImageFault.TheVariants.{BadText, RepeatedName, Trailing, NoInstruction}
 use Rattle.ifs_image.specs.declared.parts.Budgets.{Budgets}
 use Rattle.ifs_image.specs.declared.parts.Counts.{Counts}
 use Rattle.ifs_image.specs.declared.parts.Handlers.{Handlers}

@@ -2,7 +2,8 @@
 
 ghost use Rattle.std.specs.Prelude.{◌≡◌, ◌≤◌, ◌==◌, length, is_some, IfSome, IfOk};
 ghost use Rattle.std.specs.Int.{w16, w32, w64};
-ghost use Rattle.ifs_image.specs.Reading.{bytes_at, byte_at, number_at, number_within, length_at, is_text, text_sized, text_at, instruction_at};
+ghost use Rattle.ifs_image.specs.Reading.{bytes_at, byte_at, number_at, number_within, length_at};
+ghost use Rattle.ifs_image.specs.Reading.{is_text, text_sized, text_at, instruction_at};
 ghost use Rattle.ifs_image.specs.Answers.{Gives, GivesBy};
 
 use crate::fault::ImageFault;

@@ -1,7 +1,8 @@
 //! Whether parts keep to the limits of the format.
 
 ghost use Rattle.std.specs.Prelude.{◌≡◌, ◌↔◌, ◌≤◌, IsTrue};
-ghost use Rattle.ifs_image.specs.Limits.{Fits, BudgetsFit, CountsFit, TestFits, RoutineFits, RoutinesFit, NamesFit, StatesFit, AreDistinct, names_of, instructions};
+ghost use Rattle.ifs_image.specs.Limits.{Fits, BudgetsFit, CountsFit, TestFits, RoutineFits, RoutinesFit};
+ghost use Rattle.ifs_image.specs.Limits.{NamesFit, StatesFit, AreDistinct, names_of, instructions};
 ghost use Rattle.ifs_base.specs.Sizes.{TextFits};
 ghost use Rattle.std.specs.List.{list_any};
 ghost use Rattle.std.specs.Str.{bytes_eq};

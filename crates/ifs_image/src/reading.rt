@@ -5,7 +5,9 @@ ghost use Rattle.std.specs.Int.{w16};
 ghost use Rattle.ifs_image.specs.declared.parts.ImageParts.{ImageParts};
 ghost use Rattle.ifs_image.specs.declared.fault.ImageFault.TheVariants.{Memory};
 ghost use Rattle.ifs_image.specs.Spelling.{Spells};
-ghost use Rattle.ifs_image.specs.Reading.{magic_at, version_at, budgets_at, counts_at, handlers_at, name_at, test_at, state_at, text_at, instruction_at, results_at, routine_at, room_after, items_at, parts_at, image_of};
+ghost use Rattle.ifs_image.specs.Reading.{magic_at, version_at, budgets_at, counts_at, handlers_at};
+ghost use Rattle.ifs_image.specs.Reading.{name_at, test_at, state_at, text_at, instruction_at, results_at};
+ghost use Rattle.ifs_image.specs.Reading.{routine_at, room_after, items_at, parts_at, image_of};
 ghost use Rattle.ifs_image.specs.Answers.{Gives, Answers};
 
 use crate::fault::ImageFault;

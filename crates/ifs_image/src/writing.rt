@@ -6,7 +6,8 @@ ghost use Rattle.std.specs.List.{flat_map};
 ghost use Rattle.ifs_base.specs.Spelling.{spelling, HasSpelling};
 ghost use Rattle.ifs_base.specs.Sizes.{TextFits};
 ghost use Rattle.ifs_image.specs.Limits.{CountsFit, TestFits, RoutineFits, HandlersInRange, StateInRange};
-ghost use Rattle.ifs_image.specs.Spelling.{Spells, front_bytes, budgets_bytes, counts_bytes, counts, handlers_bytes, text_bytes, test_bytes, state_bytes, routine_bytes, image_bytes};
+ghost use Rattle.ifs_image.specs.Spelling.{Spells, front_bytes, budgets_bytes, counts_bytes, counts, handlers_bytes};
+ghost use Rattle.ifs_image.specs.Spelling.{text_bytes, test_bytes, state_bytes, routine_bytes, image_bytes};
 
 use crate::image::Image;
 use crate::parts::{Budgets, Handlers, ImageParts, Routine, StateSpec, TestSpec};

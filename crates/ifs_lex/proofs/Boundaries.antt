@@ -1,18 +1,22 @@
 -- Where a text may be cut: beside bytes of ASCII.
-use Rattle.std.proofs.Common.{◌≡◌, ℕ, zero, suc, ◌+◌, ◌-◌, ◌<◌, ◌≤◌, Bool, true, false, cond, eqb, ◌&&◌, ◌||◌, not, List, [], ◌∷◌, length, take, drop, get_or, Option, Some, None, option_map, refl, sym, ◌∙◌, ap, subst, arith}
+use Rattle.std.proofs.Common.{◌≡◌, ℕ, zero, suc, ◌+◌, ◌-◌, ◌<◌, ◌≤◌, Bool, true, false, cond}
+use Rattle.std.proofs.Common.{eqb, ◌&&◌, ◌||◌, not, List, [], ◌∷◌, length, take, drop, get_or}
+use Rattle.std.proofs.Common.{Option, Some, None, option_map, refl, sym, ◌∙◌, ap, subst, arith}
 use Rattle.std.specs.List.{prefix_len}
 use Rattle.std.specs.Option.{option_map_or}
 use Rattle.std.specs.Str.{IsUtf8, IsCharBoundary}
 use Rattle.std.proofs.lemmas.Bool.{eqb-true}
 use Rattle.std.proofs.lemmas.Bool.Decides.{nat_tests}
 use Rattle.std.proofs.lemmas.List.Sums.{prefix_len-le-length, prefix_len_passes}
-use Rattle.std.proofs.lemmas.Str.{IsCharBoundary-start, IsCharBoundary-after_ascii, IsCharBoundary-before_ascii, IsCharBoundary-from_rest, IsUtf8-drop}
+use Rattle.std.proofs.lemmas.Str.{IsCharBoundary-start, IsCharBoundary-after_ascii}
+use Rattle.std.proofs.lemmas.Str.{IsCharBoundary-before_ascii, IsCharBoundary-from_rest, IsUtf8-drop}
 use Rattle.ifs_lex.specs.declared.token.What.{What}
 use Rattle.ifs_lex.specs.declared.token.What.TheVariants.{Quoted, And, Or}
 use Rattle.ifs_lex.specs.declared.scans.Gap.{Gap}
 use Rattle.ifs_lex.specs.declared.scans.Gap.TheVariants.{Blanks, Comment}
 use Rattle.ifs_lex.specs.Characters.{is_blank, is_quote, begins_word, continues_word, continues_name}
-use Rattle.ifs_lex.specs.Items.{gap_after, gap_len, inside_len, begins_with, begins_macro, Scan, scan, One, Open, quoted_value, use_here, twice, sign_here, item_here}
+use Rattle.ifs_lex.specs.Items.{gap_after, gap_len, inside_len, begins_with, begins_macro, Scan}
+use Rattle.ifs_lex.specs.Items.{scan, One, Open, quoted_value, use_here, twice, sign_here, item_here}
 
 word_ascii : (b : ℕ) → continues_word b ≡ true → b < 128
 word_ascii b h = grind (arith, nat_tests)

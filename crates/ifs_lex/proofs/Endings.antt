@@ -1,16 +1,23 @@
 -- Each text ends once.
-use Rattle.std.proofs.Common.{◌≡◌, ℕ, zero, suc, ◌+◌, ◌<◌, Bool, true, false, cond, ltb, ◌||◌, List, [], ◌∷◌, ◌++◌, length, map, Option, Some, None, option_map, Result, Ok, Err, refl, sym, ◌∙◌, ap, subst, arith}
+use Rattle.std.proofs.Common.{◌≡◌, ℕ, zero, suc, ◌+◌, ◌<◌, Bool, true, false, cond, ltb}
+use Rattle.std.proofs.Common.{◌||◌, List, [], ◌∷◌, ◌++◌, length, map, Option, Some, None}
+use Rattle.std.proofs.Common.{option_map, Result, Ok, Err, refl, sym, ◌∙◌, ap, subst, arith}
 use Rattle.std.specs.Prelude.{is_some}
 use Rattle.std.specs.Option.{option_map_or}
 use Rattle.std.specs.Str.{bytes_eq}
 use Rattle.ifs_base.specs.declared.span.Span.{Span}
 use Rattle.ifs_lex.specs.declared.token.What.{What}
-use Rattle.ifs_lex.specs.declared.token.What.TheVariants.{Word, Quoted, BraceOpen, BraceClose, ParenOpen, ParenClose, Dot, Equals, Bang, And, Or, End}
+use Rattle.ifs_lex.specs.declared.token.What.TheVariants.{Word, Quoted, BraceOpen, BraceClose, ParenOpen}
+use Rattle.ifs_lex.specs.declared.token.What.TheVariants.{ParenClose, Dot, Equals, Bang, And, Or, End}
 use Rattle.ifs_lex.specs.declared.token.Token.{Token}
 use Rattle.ifs_lex.specs.declared.fault.LexFault.{LexFault}
 use Rattle.ifs_lex.specs.declared.fault.LexFault.TheVariants.{OverLimit, BadMacro}
-use Rattle.ifs_lex.specs.Items.{Item, One, Uses, Astray, Open, Place, Placed, item_at, after_item, is_last, items_at, items_of, start}
-use Rattle.ifs_lex.specs.Expansion.{Macro, Macros, no_macros, with_macro, whats_of, joined, value_from, value_of, is_given, known_as, defined, name_of, State, state, token, with_whats, with_use, with_item, tokens_after, parts_from, given_one, given_from, tokens_of, ◌>>=◌, is_end, Endless, EndsOnce, Spells}
+use Rattle.ifs_lex.specs.Items.{Item, One, Uses, Astray, Open, Place, Placed, item_at}
+use Rattle.ifs_lex.specs.Items.{after_item, is_last, items_at, items_of, start}
+use Rattle.ifs_lex.specs.Expansion.{Macro, Macros, no_macros, with_macro, whats_of, joined, value_from}
+use Rattle.ifs_lex.specs.Expansion.{value_of, is_given, known_as, defined, name_of, State, state, token}
+use Rattle.ifs_lex.specs.Expansion.{with_whats, with_use, with_item, tokens_after, parts_from, given_one}
+use Rattle.ifs_lex.specs.Expansion.{given_from, tokens_of, ◌>>=◌, is_end, Endless, EndsOnce, Spells}
 use Rattle.ifs_lex.specs.Turns.{text_here, definition_here, after_definition, with_turn}
 use Rattle.ifs_lex.proofs.Parts.{turn_is, ending, turn_smaller}
 

@@ -1,12 +1,14 @@
 -- The parts of a text from a place on: the next one, and those after it.
-use Rattle.std.proofs.Common.{◌≡◌, ℕ, Bool, true, false, cond, List, [], ◌∷◌, Option, Some, None, option_map, Result, Ok, Err, refl, sym, ◌∙◌, ap, ◌<◌, ◌≤◌, length, arith}
+use Rattle.std.proofs.Common.{◌≡◌, ℕ, Bool, true, false, cond, List, [], ◌∷◌, Option, Some, None}
+use Rattle.std.proofs.Common.{option_map, Result, Ok, Err, refl, sym, ◌∙◌, ap, ◌<◌, ◌≤◌, length, arith}
 use Rattle.std.specs.Prelude.{is_some}
 use Rattle.std.specs.Option.{option_map_or}
 use Rattle.ifs_lex.specs.declared.token.What.TheVariants.{End}
 use Rattle.ifs_lex.specs.declared.token.Token.{Token}
 use Rattle.ifs_lex.specs.declared.fault.LexFault.{LexFault}
 use Rattle.ifs_lex.specs.Items.{Item, One, Uses, Astray, Open, Place, Placed, item_at, after_item, is_last, items_at}
-use Rattle.ifs_lex.specs.Expansion.{Part, Defines, Stands, State, name_of, is_equals, text_of, given_text, parts_from, with_item, with_part, tokens_after, ◌>>=◌}
+use Rattle.ifs_lex.specs.Expansion.{Part, Defines, Stands, State, name_of, is_equals, text_of}
+use Rattle.ifs_lex.specs.Expansion.{given_text, parts_from, with_item, with_part, tokens_after, ◌>>=◌}
 use Rattle.ifs_lex.specs.Turns.{text_here, definition_here, after_definition, with_turn}
 use Rattle.ifs_lex.proofs.Unrolled.{items_unroll, fewer_left, no_more_left}
 

@@ -1,15 +1,19 @@
 -- The item that is read is the one that the relation says.
-use Rattle.std.proofs.Common.{◌≡◌, ℕ, ◌+◌, ◌≤◌, Bool, true, false, cond, eqb, ◌&&◌, List, [], ◌∷◌, ◌++◌, length, take, Option, Some, None, refl, sym, ◌∙◌, ap, subst, arith, length-append}
+use Rattle.std.proofs.Common.{◌≡◌, ℕ, ◌+◌, ◌≤◌, Bool, true, false, cond, eqb, ◌&&◌, List, [], ◌∷◌, ◌++◌, length}
+use Rattle.std.proofs.Common.{take, Option, Some, None, refl, sym, ◌∙◌, ap, subst, arith, length-append}
 use Rattle.std.specs.List.{prefix_len}
 use Rattle.std.specs.Option.{option_map_or}
 use Rattle.std.proofs.lemmas.Bool.{eqb-true}
 use Rattle.std.proofs.lemmas.Bool.Decides.{nat_tests}
 use Rattle.ifs_lex.specs.declared.token.What.{What}
-use Rattle.ifs_lex.specs.declared.token.What.TheVariants.{Word, Quoted, BraceOpen, BraceClose, ParenOpen, ParenClose, Dot, Equals, Bang, And, Or, End}
+use Rattle.ifs_lex.specs.declared.token.What.TheVariants.{Word, Quoted, BraceOpen, BraceClose, ParenOpen}
+use Rattle.ifs_lex.specs.declared.token.What.TheVariants.{ParenClose, Dot, Equals, Bang, And, Or, End}
 use Rattle.ifs_lex.specs.declared.scans.Gap.TheVariants.{Blanks}
 use Rattle.ifs_lex.specs.Characters.{is_blank, is_quote, begins_word, continues_word, begins_name, continues_name}
-use Rattle.ifs_lex.specs.Items.{Item, One, Uses, Astray, Open, Scan, scan, is_last, begins_with, gap_len, inside_len, quoted_value, word_here, quoted_here, use_here, twice, sign_here, item_here}
-use Rattle.ifs_lex.specs.Spelling.{IsSign, brace_open, brace_close, paren_open, paren_close, point, equals, bang, conjunction, disjunction, IsItem, word, quoted, uses, sign}
+use Rattle.ifs_lex.specs.Items.{Item, One, Uses, Astray, Open, Scan, scan, is_last, begins_with, gap_len, inside_len}
+use Rattle.ifs_lex.specs.Items.{quoted_value, word_here, quoted_here, use_here, twice, sign_here, item_here}
+use Rattle.ifs_lex.specs.Spelling.{IsSign, brace_open, brace_close, paren_open, paren_close, point, equals}
+use Rattle.ifs_lex.specs.Spelling.{bang, conjunction, disjunction, IsItem, word, quoted, uses, sign}
 use Rattle.ifs_lex.proofs.Spelt.{prefix_longest, longest_once, says, said, closes, closed}
 use Rattle.ifs_lex.proofs.Gaps.{no_gap}
 

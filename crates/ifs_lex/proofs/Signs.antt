@@ -2,7 +2,8 @@
 use Rattle.std.proofs.Common.{◌≡◌, [], ◌∷◌, Some, None, false, refl}
 use Rattle.ifs_base.specs.declared.span.Span.{Span}
 use Rattle.ifs_lex.specs.declared.pieces.Sign.{Sign}
-use Rattle.ifs_lex.specs.declared.pieces.Sign.TheVariants.{OpenBrace, CloseBrace, OpenParen, CloseParen, Point, Not, Both, Either}
+use Rattle.ifs_lex.specs.declared.pieces.Sign.TheVariants.{OpenBrace, CloseBrace, OpenParen}
+use Rattle.ifs_lex.specs.declared.pieces.Sign.TheVariants.{CloseParen, Point, Not, Both, Either}
 use Rattle.ifs_lex.specs.Items.{One, is_last}
 use Rattle.ifs_lex.specs.Expansion.{Macros, State, name_of, is_equals, text_of, whats_of, with_item, with_whats}
 use Rattle.ifs_lex.specs.Pieces.{what_of}

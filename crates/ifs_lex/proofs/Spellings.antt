@@ -1,14 +1,17 @@
 -- The items that are read are those that the relation says.
-use Rattle.std.proofs.Common.{◌≡◌, ℕ, zero, suc, ◌+◌, ◌≤◌, Bool, true, false, cond, eqb, List, [], ◌∷◌, length, take, drop, count_by, refl, sym, ◌∙◌, ap, subst, arith, length-drop, drop-drop, take-add}
+use Rattle.std.proofs.Common.{◌≡◌, ℕ, zero, suc, ◌+◌, ◌≤◌, Bool, true, false, cond, eqb, List, [], ◌∷◌, length, take}
+use Rattle.std.proofs.Common.{drop, count_by, refl, sym, ◌∙◌, ap, subst, arith, length-drop, drop-drop, take-add}
 use Rattle.std.proofs.lemmas.List.{drop_all}
 use Rattle.std.proofs.lemmas.List.Sums.{sum_by-append}
 use Rattle.ifs_lex.specs.declared.token.What.TheVariants.{End}
 use Rattle.ifs_lex.specs.declared.scans.Gap.TheVariants.{Blanks}
-use Rattle.ifs_lex.specs.Items.{Item, One, Scan, scan, is_last, gap_len, item_here, Place, Placed, past, item_at, after_item, items_from, items_at, items_of}
+use Rattle.ifs_lex.specs.Items.{Item, One, Scan, scan, is_last, gap_len, item_here, Place, Placed}
+use Rattle.ifs_lex.specs.Items.{past, item_at, after_item, items_from, items_at, items_of}
 use Rattle.ifs_lex.specs.Spelling.{IsGap, IsItem, stands, Spelling, ends, goes_on, Ended}
 use Rattle.ifs_lex.proofs.Spelt.{true_false}
 use Rattle.ifs_lex.proofs.Gaps.{gap_only, gap_within, gap_found}
-use Rattle.ifs_lex.proofs.Scanned.{item_no_gap, item_within, item_not_last, item_only, Reads, at_end, an_item, no_item, reads, none_left}
+use Rattle.ifs_lex.proofs.Scanned.{item_no_gap, item_within, item_not_last, item_only}
+use Rattle.ifs_lex.proofs.Scanned.{Reads, at_end, an_item, no_item, reads, none_left}
 use Rattle.ifs_lex.proofs.Unrolled.{items_unroll}
 
 abbrev newlines : List ℕ → ℕ

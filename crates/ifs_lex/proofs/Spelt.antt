@@ -1,12 +1,15 @@
 -- What the functions on bytes read is what the relations say, and nothing else.
-use Rattle.std.proofs.Common.{Option, Some, None, option_map, ◌≡◌, ◌≢◌, ℕ, zero, suc, ◌+◌, ◌<◌, ◌≤◌, Bool, true, false, cond, eqb, ◌&&◌, ◌||◌, not, List, [], ◌∷◌, get_or, refl, sym, ◌∙◌, ap, subst, arith, ◌⊎◌, inl, inr}
+use Rattle.std.proofs.Common.{Option, Some, None, option_map, ◌≡◌, ◌≢◌, ℕ, zero, suc, ◌+◌, ◌<◌}
+use Rattle.std.proofs.Common.{◌≤◌, Bool, true, false, cond, eqb, ◌&&◌, ◌||◌, not, List, []}
+use Rattle.std.proofs.Common.{◌∷◌, get_or, refl, sym, ◌∙◌, ap, subst, arith, ◌⊎◌, inl, inr}
 use Rattle.std.specs.List.{prefix_len}
 use Rattle.std.proofs.lemmas.Bool.{cases_lt, eqb-true, eq-eqb}
 use Rattle.std.proofs.lemmas.Bool.Decides.{nat_tests}
 use Rattle.std.proofs.lemmas.List.Sums.{prefix_len-le-length, prefix_len_passes, prefix_len_stops}
 use Rattle.ifs_lex.specs.Characters.{is_quote}
 use Rattle.ifs_lex.specs.Items.{begins_with, inside_len, is_dropped, quoted_value}
-use Rattle.ifs_lex.specs.Spelling.{Longest, is_given, escapes, after_backslash, Closes, Says, nothing, newline, continued, escaped, itself}
+use Rattle.ifs_lex.specs.Spelling.{Longest, is_given, escapes, after_backslash, Closes}
+use Rattle.ifs_lex.specs.Spelling.{Says, nothing, newline, continued, escaped, itself}
 
 pub prefix_longest : (p : ℕ → Bool) (bs : List ℕ) → Longest p bs (prefix_len p bs)
 prefix_longest p bs = record {

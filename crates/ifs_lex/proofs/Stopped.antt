@@ -1,20 +1,27 @@
 -- A text has a list of items, or is stuck in one place with one fault.
-use Rattle.std.proofs.Common.{◌≡◌, ℕ, zero, suc, ◌+◌, Bool, true, false, cond, eqb, ◌&&◌, not, List, [], ◌∷◌, ◌++◌, length, take, drop, Option, Some, None, refl, sym, ◌∙◌, ap, subst, arith, drop-drop, ◌⊎◌, inl, inr}
+use Rattle.std.proofs.Common.{◌≡◌, ℕ, zero, suc, ◌+◌, Bool, true, false, cond, eqb, ◌&&◌, not}
+use Rattle.std.proofs.Common.{List, [], ◌∷◌, ◌++◌, length, take, drop, Option, Some, None}
+use Rattle.std.proofs.Common.{refl, sym, ◌∙◌, ap, subst, arith, drop-drop, ◌⊎◌, inl, inr}
 use Rattle.std.specs.List.{prefix_len}
 use Rattle.std.specs.Option.{option_map_or}
 use Rattle.ifs_lex.specs.declared.token.What.{What}
-use Rattle.ifs_lex.specs.declared.token.What.TheVariants.{Word, Quoted, BraceOpen, BraceClose, ParenOpen, ParenClose, Dot, Equals, Bang, And, Or, End}
+use Rattle.ifs_lex.specs.declared.token.What.TheVariants.{Word, Quoted, BraceOpen, BraceClose, ParenOpen}
+use Rattle.ifs_lex.specs.declared.token.What.TheVariants.{ParenClose, Dot, Equals, Bang, And, Or, End}
 use Rattle.ifs_lex.specs.declared.scans.Gap.{Gap}
 use Rattle.ifs_lex.specs.declared.scans.Gap.TheVariants.{Blanks, Comment}
 use Rattle.ifs_lex.specs.declared.fault.LexFault.{LexFault}
 use Rattle.ifs_lex.specs.declared.fault.LexFault.TheVariants.{Stray, Unclosed}
 use Rattle.ifs_lex.specs.Characters.{is_quote, begins_word, continues_word, continues_name}
-use Rattle.ifs_lex.specs.Items.{One, Uses, Astray, Open, Scan, scan, is_last, begins_with, begins_macro, gap_after, gap_len, inside_len, quoted_value, use_here, twice, sign_here, item_here, Placed, items_from, items_at, items_of}
-use Rattle.ifs_lex.specs.Spelling.{Closes, IsGap, empty, blank, joined, comment, last_comment, IsItem, stands, Spelling, Ended}
+use Rattle.ifs_lex.specs.Items.{One, Uses, Astray, Open, Scan, scan, is_last, begins_with}
+use Rattle.ifs_lex.specs.Items.{begins_macro, gap_after, gap_len, inside_len, quoted_value, use_here}
+use Rattle.ifs_lex.specs.Items.{twice, sign_here, item_here, Placed, items_from, items_at, items_of}
+use Rattle.ifs_lex.specs.Spelling.{Closes, IsGap, empty, blank, joined, comment}
+use Rattle.ifs_lex.specs.Spelling.{last_comment, IsItem, stands, Spelling, Ended}
 use Rattle.ifs_lex.specs.Stuck.{UpTo, gap_to, item_to, IsOpen, FitsNothing, IsFaultAt, IsStuck, StuckWith}
 use Rattle.ifs_lex.proofs.Spelt.{true_false, closes, closed}
 use Rattle.ifs_lex.proofs.Gaps.{blank_step, joined_step, comment_step, gap_only, gap_found}
-use Rattle.ifs_lex.proofs.Scanned.{item_no_gap, item_not_last, item_only, here_quoted, Reads, at_end, an_item, no_item, reads, none_left}
+use Rattle.ifs_lex.proofs.Scanned.{item_no_gap, item_not_last, item_only, here_quoted}
+use Rattle.ifs_lex.proofs.Scanned.{Reads, at_end, an_item, no_item, reads, none_left}
 use Rattle.ifs_lex.proofs.Spellings.{place, turned, unrolled, spelling_only}
 
 -- After the blanks and comments that are read none come.

@@ -1,5 +1,6 @@
 -- A table of macros while ropes are added.
-use Rattle.std.proofs.Common.{◌≡◌, ℕ, ◌+◌, ◌≤◌, List, ◌++◌, length, Bool, true, false, cond, ltb, ◌||◌, Option, Some, None, option_map, Result, Ok, Err, refl, sym, ◌∙◌, ap, subst, arith, length-append}
+use Rattle.std.proofs.Common.{◌≡◌, ℕ, ◌+◌, ◌≤◌, List, ◌++◌, length, Bool, true, false, cond, ltb, ◌||◌, Option, Some}
+use Rattle.std.proofs.Common.{None, option_map, Result, Ok, Err, refl, sym, ◌∙◌, ap, subst, arith, length-append}
 use Rattle.std.specs.Prelude.{IfSome, OnOk, OnErr, is_some}
 use mathlib.Core.Path.{fun_ext}
 use Rattle.std.specs.HashMap as hash

@@ -1,15 +1,22 @@
 -- P1 and P2 are told of items of the text alone.
-use Rattle.std.proofs.Common.{◌≡◌, ◌≢◌, ℕ, zero, suc, ◌+◌, ◌<◌, Bool, true, false, cond, ltb, ◌||◌, List, [], ◌∷◌, length, Option, Some, None, option_map, Result, Ok, Err, refl, sym, ◌∙◌, ap, subst, arith, ◌⊎◌, inl, inr}
+use Rattle.std.proofs.Common.{◌≡◌, ◌≢◌, ℕ, zero, suc, ◌+◌, ◌<◌, Bool, true, false, cond, ltb}
+use Rattle.std.proofs.Common.{◌||◌, List, [], ◌∷◌, length, Option, Some, None, option_map}
+use Rattle.std.proofs.Common.{Result, Ok, Err, refl, sym, ◌∙◌, ap, subst, arith, ◌⊎◌, inl, inr}
 use Rattle.std.specs.Prelude.{is_some}
 use Rattle.std.specs.Option.{option_map_or}
 use Rattle.ifs_base.specs.declared.span.Span.{Span}
 use Rattle.ifs_lex.specs.declared.token.What.{What}
-use Rattle.ifs_lex.specs.declared.token.What.TheVariants.{Word, Quoted, BraceOpen, BraceClose, ParenOpen, ParenClose, Dot, Equals, Bang, And, Or, End}
+use Rattle.ifs_lex.specs.declared.token.What.TheVariants.{Word, Quoted, BraceOpen, BraceClose, ParenOpen}
+use Rattle.ifs_lex.specs.declared.token.What.TheVariants.{ParenClose, Dot, Equals, Bang, And, Or, End}
 use Rattle.ifs_lex.specs.declared.fault.LexFault.{LexFault}
-use Rattle.ifs_lex.specs.declared.fault.LexFault.TheVariants.{Stray, Unclosed, UnknownMacro, BadMacro, OverLimit, Memory}
+use Rattle.ifs_lex.specs.declared.fault.LexFault.TheVariants.{Stray, Unclosed, UnknownMacro}
+use Rattle.ifs_lex.specs.declared.fault.LexFault.TheVariants.{BadMacro, OverLimit, Memory}
 use Rattle.ifs_lex.specs.Characters.{is_macro_name}
-use Rattle.ifs_lex.specs.Items.{Item, One, Uses, Astray, Open, Place, Placed, item_at, after_item, is_last, items_from, items_at, items_of, start}
-use Rattle.ifs_lex.specs.Expansion.{Macro, Macros, no_macros, value_of, is_given, known_as, defined, Defines, Stands, name_of, given_text, parts_from, State, state, with_whats, with_use, with_item, with_part, tokens_after, given_one, given_from, tokens_of, ◌>>=◌}
+use Rattle.ifs_lex.specs.Items.{Item, One, Uses, Astray, Open, Place, Placed, item_at}
+use Rattle.ifs_lex.specs.Items.{after_item, is_last, items_from, items_at, items_of, start}
+use Rattle.ifs_lex.specs.Expansion.{Macro, Macros, no_macros, value_of, is_given, known_as, defined, Defines}
+use Rattle.ifs_lex.specs.Expansion.{Stands, name_of, given_text, parts_from, State, state, with_whats, with_use}
+use Rattle.ifs_lex.specs.Expansion.{with_item, with_part, tokens_after, given_one, given_from, tokens_of, ◌>>=◌}
 use Rattle.ifs_lex.specs.Spelling.{Spelling, Ended}
 use Rattle.ifs_lex.specs.Stuck.{StuckWith, SaysStuck}
 use Rattle.ifs_lex.proofs.Unrolled.{fewer_left}

@@ -1,12 +1,15 @@
 -- The items from a place on: the next one, and those after it.
-use Rattle.std.proofs.Common.{◌≡◌, ℕ, zero, suc, ◌+◌, ◌<◌, ◌≤◌, Bool, true, false, cond, eqb, ltb, List, [], ◌∷◌, length, take, Option, Some, None, refl, sym, ◌∙◌, ap, arith, length-drop, rules, tests}
+use Rattle.std.proofs.Common.{◌≡◌, ℕ, zero, suc, ◌+◌, ◌<◌, ◌≤◌, Bool, true, false, cond, eqb, ltb, List, [], ◌∷◌}
+use Rattle.std.proofs.Common.{length, take, Option, Some, None, refl, sym, ◌∙◌, ap, arith, length-drop, rules, tests}
 use Rattle.std.specs.List.{prefix_len}
 use Rattle.std.specs.Option.{option_map_or}
 use Rattle.ifs_lex.specs.declared.token.What.{What}
 use Rattle.ifs_lex.specs.declared.token.What.TheVariants.{Quoted, And, Or, End}
 use Rattle.ifs_lex.specs.declared.scans.Gap.TheVariants.{Blanks}
 use Rattle.ifs_lex.specs.Characters.{begins_word, continues_word, is_quote}
-use Rattle.ifs_lex.specs.Items.{Item, One, Astray, Open, Scan, scan, begins_with, begins_macro, gap_len, quoted_value, twice, sign_here, item_here, Place, Placed, past_gap, item_at, after_item, is_last, items_from, items_at, items_of}
+use Rattle.ifs_lex.specs.Items.{Item, One, Astray, Open, Scan, scan, begins_with, begins_macro}
+use Rattle.ifs_lex.specs.Items.{gap_len, quoted_value, twice, sign_here, item_here, Place, Placed}
+use Rattle.ifs_lex.specs.Items.{past_gap, item_at, after_item, is_last, items_from, items_at, items_of}
 use Rattle.ifs_lex.specs.Expansion.{Macros, whats_of, joined, value_from, value_of}
 
 -- A scan that goes on has a byte at least.

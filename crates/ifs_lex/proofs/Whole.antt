@@ -1,5 +1,6 @@
 -- A text that has tokens, or is a value, is read to its end.
-use Rattle.std.proofs.Common.{◌≡◌, ℕ, zero, suc, ◌<◌, Bool, true, false, cond, ltb, List, [], ◌∷◌, length, Option, Some, None, option_map, Result, Ok, Err, refl, sym, ◌∙◌, ap, subst, arith}
+use Rattle.std.proofs.Common.{◌≡◌, ℕ, zero, suc, ◌<◌, Bool, true, false, cond, ltb, List, [], ◌∷◌, length}
+use Rattle.std.proofs.Common.{Option, Some, None, option_map, Result, Ok, Err, refl, sym, ◌∙◌, ap, subst, arith}
 use Rattle.std.specs.Prelude.{is_some}
 use Rattle.std.specs.Option.{option_map_or}
 use Rattle.ifs_base.specs.declared.span.Span.{Span}
@@ -8,8 +9,11 @@ use Rattle.ifs_lex.specs.declared.token.What.TheVariants.{End}
 use Rattle.ifs_lex.specs.declared.token.Token.{Token}
 use Rattle.ifs_lex.specs.declared.fault.LexFault.{LexFault}
 use Rattle.ifs_lex.specs.declared.fault.LexFault.TheVariants.{OverLimit}
-use Rattle.ifs_lex.specs.Items.{Item, One, Uses, Astray, Open, Place, Placed, item_at, after_item, is_last, items_at, items_of, start}
-use Rattle.ifs_lex.specs.Expansion.{Macros, no_macros, whats_of, joined, value_from, value_of, name_of, is_equals, text_of, State, state, with_item, tokens_after, parts_from, given_from, tokens_of, ◌>>=◌, Spells}
+use Rattle.ifs_lex.specs.Items.{Item, One, Uses, Astray, Open, Place, Placed, item_at}
+use Rattle.ifs_lex.specs.Items.{after_item, is_last, items_at, items_of, start}
+use Rattle.ifs_lex.specs.Expansion.{Macros, no_macros, whats_of, joined, value_from, value_of}
+use Rattle.ifs_lex.specs.Expansion.{name_of, is_equals, text_of, State, state, with_item}
+use Rattle.ifs_lex.specs.Expansion.{tokens_after, parts_from, given_from, tokens_of, ◌>>=◌, Spells}
 use Rattle.ifs_lex.specs.Spelling.{Spelling, Ended}
 use Rattle.ifs_lex.specs.Turns.{text_here, definition_here, after_definition, with_turn}
 use Rattle.ifs_lex.proofs.Unrolled.{items_unroll, fewer_left, value_none, value_turn}

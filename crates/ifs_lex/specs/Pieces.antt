@@ -1,10 +1,12 @@
 -- What the code's pieces of a text stand for.
 use Rattle.std.specs.Prelude.{ℕ, ◌+◌, if◌then◌else◌, List, [], ◌∷◌, Option, Some, None, option_map}
-use Rattle.ifs_lex.specs.declared.token.What.TheVariants.{Word, Quoted, BraceOpen, BraceClose, ParenOpen, ParenClose, Dot, Equals, Bang, And, Or, End}
+use Rattle.ifs_lex.specs.declared.token.What.TheVariants.{Word, Quoted, BraceOpen, BraceClose, ParenOpen}
+use Rattle.ifs_lex.specs.declared.token.What.TheVariants.{ParenClose, Dot, Equals, Bang, And, Or, End}
 use Rattle.ifs_lex.specs.declared.pieces.Piece.{Piece}
 use Rattle.ifs_lex.specs.declared.pieces.Piece.TheVariants.{Bare, Between, Named, Equal, Plain, Last, Nothing, Unclosed}
 use Rattle.ifs_lex.specs.declared.pieces.Sign.{Sign}
-use Rattle.ifs_lex.specs.declared.pieces.Sign.TheVariants.{OpenBrace, CloseBrace, OpenParen, CloseParen, Point, Not, Both, Either}
+use Rattle.ifs_lex.specs.declared.pieces.Sign.TheVariants.{OpenBrace, CloseBrace, OpenParen}
+use Rattle.ifs_lex.specs.declared.pieces.Sign.TheVariants.{CloseParen, Point, Not, Both, Either}
 use Rattle.ifs_lex.specs.declared.token.What.{What}
 use Rattle.ifs_lex.specs.declared.place.Found.{Found}
 use Rattle.ifs_lex.specs.Items.{Item, Placed, One, Uses, Astray, Open, is_dropped, quoted_value}

@@ -33,8 +33,10 @@ pub struct MacroTable<'a> {
 }
 
 impl<'a> MacroTable<'a> {
-    ghost use Rattle.std.specs.Prelude.{◌≢◌, ◌+◌, ◌≤◌, ◌++◌, ◌∷◌, [], length, map, option_map, ◌||◌, nat_lt, is_some, Ok, IfOk, IfSome, OnOk};
-    ghost use Rattle.ifs_lex.specs.Expansion.{no_macros, with_macro, whats_of, joined, value_of, defined, is_given, known_as, token};
+    ghost use Rattle.std.specs.Prelude.{◌≢◌, ◌+◌, ◌≤◌, ◌++◌, ◌∷◌, [], length, map, option_map};
+    ghost use Rattle.std.specs.Prelude.{◌||◌, nat_lt, is_some, Ok, IfOk, IfSome, OnOk};
+    ghost use Rattle.ifs_lex.specs.Expansion.{no_macros, with_macro, whats_of, joined};
+    ghost use Rattle.ifs_lex.specs.Expansion.{value_of, defined, is_given, known_as, token};
     ghost use Rattle.ifs_lex.specs.Pieces.{item_of};
     ghost use Rattle.ifs_lex.specs.Ropes.{whats_at, Keeps};
     ghost use Rattle.ifs_lex.specs.Kept.{macro_of, whats_of_rope, Answers};

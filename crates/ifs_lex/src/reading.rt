@@ -1,10 +1,12 @@
 //! A text to its tokens.
 
-ghost use Rattle.std.specs.Prelude.{◌≡◌, ◌≤◌, [], ◌∷◌, length, option_map, is_some, map, Err, IfOk, IfErr, IsOkAnd, ◌≢◌, List};
+ghost use Rattle.std.specs.Prelude.{◌≡◌, ◌≤◌, [], ◌∷◌, length, option_map, is_some};
+ghost use Rattle.std.specs.Prelude.{map, Err, IfOk, IfErr, IsOkAnd, ◌≢◌, List};
 ghost use Rattle.ifs_lex.specs.declared.token.Token.{Token};
 ghost use Rattle.ifs_lex.specs.declared.fault.LexFault.TheVariants.{Memory};
 ghost use Rattle.ifs_lex.specs.Items.{items_of};
-ghost use Rattle.ifs_lex.specs.Expansion.{state, tokens_after, parts_from, given_one, given_from, tokens_of, Spells, EndsOnce};
+ghost use Rattle.ifs_lex.specs.Expansion.{state, tokens_after, parts_from, given_one};
+ghost use Rattle.ifs_lex.specs.Expansion.{given_from, tokens_of, Spells, EndsOnce};
 ghost use Rattle.ifs_lex.specs.Kept.{Answers};
 ghost use Rattle.ifs_lex.specs.Known.{macros_of};
 ghost use Rattle.ifs_lex.specs.Pieces.{item_of};

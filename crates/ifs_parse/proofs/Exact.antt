@@ -1,5 +1,7 @@
 -- What it means that a parser reads a rule, and that the parsers that are made of such ones do.
-use Rattle.std.proofs.Common.{◌≡◌, Bool, true, false, length-append, inl, inr, ℕ, zero, suc, ◌≤◌, refl, sym, ap, subst, ◌∙◌, Option, Some, None, Ok, Err, List, [], ◌∷◌, ◌++◌, length, append_assoc, append-nil, arith}
+use Rattle.std.proofs.Common.{◌≡◌, Bool, true, false, length-append, inl, inr, ℕ, zero, suc}
+use Rattle.std.proofs.Common.{◌≤◌, refl, sym, ap, subst, ◌∙◌, Option, Some, None, Ok, Err}
+use Rattle.std.proofs.Common.{List, [], ◌∷◌, ◌++◌, length, append_assoc, append-nil, arith}
 use Rattle.std.specs.Prelude.{Result, insert, if◌then◌else◌}
 use Rattle.std.specs.Option.{option_map_or}
 use Rattle.ifs_base.specs.declared.span.Span.{Span}
@@ -7,7 +9,8 @@ use Rattle.ifs_lex.specs.declared.token.Token.{Token}
 use Rattle.ifs_parse.specs.declared.fault.ParseFault.{ParseFault}
 use Rattle.ifs_parse.specs.declared.mark.Mark.{Mark}
 use Rattle.ifs_parse.specs.Reading.{with_note, noted}
-use Rattle.ifs_parse.specs.Combined.{State, state, Parse, past, ◌>>=◌, ◌▸◌, pure, found, accepted, one_token, either, expected, unexpected, begins, no_more, required, many, many_from}
+use Rattle.ifs_parse.specs.Combined.{State, state, Parse, past, ◌>>=◌, ◌▸◌, pure, found, accepted, one_token}
+use Rattle.ifs_parse.specs.Combined.{either, expected, unexpected, begins, no_more, required, many, many_from}
 use Rattle.ifs_parse.specs.Words.{marked}
 use Rattle.ifs_parse.specs.Rules.{Rule, Gives, OneToken, TheMark, ◌⨟◌, ◌or◌, Never, Optional, Noted, Many, Enough, More}
 

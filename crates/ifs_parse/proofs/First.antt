@@ -1,5 +1,6 @@
 -- Where the parsers of the grammar fail.
-use Rattle.std.proofs.Common.{◌≡◌, inl, inr, ℕ, zero, suc, ◌≤◌, refl, sym, ap, subst, append_assoc, append-nil, ◌∙◌, Bool, true, false, ◌||◌, Option, Some, None, Ok, Err, List, [], ◌∷◌, ◌++◌, length}
+use Rattle.std.proofs.Common.{◌≡◌, inl, inr, ℕ, zero, suc, ◌≤◌, refl, sym, ap, subst, append_assoc, append-nil, ◌∙◌}
+use Rattle.std.proofs.Common.{Bool, true, false, ◌||◌, Option, Some, None, Ok, Err, List, [], ◌∷◌, ◌++◌, length}
 use Rattle.std.specs.Prelude.{Result, if◌then◌else◌, option_map}
 use Rattle.std.specs.Option.{option_map_or}
 use Rattle.ifs_base.specs.declared.span.Span.{Span}
@@ -22,22 +23,32 @@ use Rattle.ifs_parse.specs.declared.block.Statement.TheVariants.{Run, SetState, 
 use Rattle.ifs_parse.specs.Trees as tree
 use Rattle.ifs_parse.specs.Views.{all_of, any_of, block_of}
 use Rattle.ifs_parse.specs.declared.fault.ParseFault.TheVariants.{Period}
-use Rattle.ifs_parse.specs.Combined.{State, state, Parse, line_of, past, found, unexpected, ◌▸◌, pure, begins, expected, no_more, required, many}
+use Rattle.ifs_parse.specs.Combined.{State, state, Parse, line_of, past, found, unexpected}
+use Rattle.ifs_parse.specs.Combined.{◌▸◌, pure, begins, expected, no_more, required, many}
 use Rattle.ifs_parse.specs.Words.{marked}
 use Rattle.ifs_parse.specs.Rules.{Rule, Gives, TheMark, ◌⨟◌, ◌or◌, Never, Optional, Noted, Many}
 use Rattle.ifs_parse.specs.Reading as reading
 use Rattle.ifs_parse.specs.Words as words
 use Rattle.ifs_parse.specs.Rules as rules
 use Rattle.ifs_parse.specs.Grammar as grammar
-use Rattle.ifs_parse.proofs.Exact.{Always, Any, Until, Reads, Exact, exact_token, exact_mark, exact_required, exact_many}
+use Rattle.ifs_parse.proofs.Exact.{Always, Any, Until, Reads, Exact, exact_token}
+use Rattle.ifs_parse.proofs.Exact.{exact_mark, exact_required, exact_many}
 use Rattle.ifs_base.specs.declared.op.LinkState.TheVariants as link
 use Rattle.std.specs.Prelude.{codes}
 use Rattle.ifs_parse.specs.Rules.{Enough, OneToken}
 use Rattle.ifs_parse.specs.declared.fault.ParseFault.TheVariants.{Unexpected, Nesting, Memory}
-use Rattle.ifs_parse.proofs.Read.{exact_string, exact_period, exact_test, exact_next, exact_all, exact_one, exact_condition, reads_more, begins_longer, exact_braced, exact_part, exact_item, part_longer, item_longer, closes_part, not_statement, close_if, close_run, close_set, No, Over, NoStatement, NoPart, NoItem, known, Known}
+use Rattle.ifs_parse.proofs.Read.{exact_string, exact_period, exact_test, exact_next, exact_all, exact_one}
+use Rattle.ifs_parse.proofs.Read.{exact_condition, reads_more, begins_longer, exact_braced, exact_part}
+use Rattle.ifs_parse.proofs.Read.{exact_item, part_longer, item_longer, closes_part, not_statement, close_if}
+use Rattle.ifs_parse.proofs.Read.{close_run, close_set, No, Over, NoStatement, NoPart, NoItem, known, Known}
 use Rattle.ifs_parse.proofs.Operands as operands
 use Rattle.ifs_parse.proofs.Operands.{condition_kept, kept_condition}
-use Rattle.ifs_parse.proofs.Stuck.{next_token, found_by_next, line_by_next, ByNext, Limit, Periods, Depth, OfPeriods, OfDepth, IsOf, Fails, fails_as, fails_here, Goes, Sample, Within, Stuck, begins_first, begins_left, begins_right, same_within, then_within, marked_within, optional_within, stuck_pure, stuck_token, stuck_then_at, stuck_then, stuck_either, stuck_deep, stuck_begins, stuck_no_more, stuck_as, stuck_required, stuck_option, stuck_noted, stuck_many, optional_or, Broke, Before, After, broke}
+use Rattle.ifs_parse.proofs.Stuck.{next_token, found_by_next, line_by_next, ByNext, Limit, Periods, Depth, OfPeriods}
+use Rattle.ifs_parse.proofs.Stuck.{OfDepth, IsOf, Fails, fails_as, fails_here, Goes, Sample, Within, Stuck}
+use Rattle.ifs_parse.proofs.Stuck.{begins_first, begins_left, begins_right, same_within, then_within, marked_within}
+use Rattle.ifs_parse.proofs.Stuck.{optional_within, stuck_pure, stuck_token, stuck_then_at, stuck_then, stuck_either}
+use Rattle.ifs_parse.proofs.Stuck.{stuck_deep, stuck_begins, stuck_no_more, stuck_as, stuck_required, stuck_option}
+use Rattle.ifs_parse.proofs.Stuck.{stuck_noted, stuck_many, optional_or, Broke, Before, After, broke}
 use Rattle.ifs_parse.proofs.Whole.{says_no_fault}
 use Rattle.ifs_parse.proofs.Limits.{no_help_at}
 use Rattle.ifs_parse.proofs.Ends.{ends_there}

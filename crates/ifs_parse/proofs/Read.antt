@@ -1,5 +1,7 @@
 -- Each parser reads its rule of the grammar.
-use Rattle.std.proofs.Common.{◌≡◌, inl, inr, ℕ, zero, suc, ◌≤◌, refl, sym, ap, subst, ◌∙◌, cond, Bool, true, false, ◌||◌, Option, Some, None, Ok, Err, List, [], ◌∷◌, ◌++◌, length, append_assoc, append-nil, length-append, arith}
+use Rattle.std.proofs.Common.{◌≡◌, inl, inr, ℕ, zero, suc, ◌≤◌, refl, sym, ap, subst, ◌∙◌, cond}
+use Rattle.std.proofs.Common.{Bool, true, false, ◌||◌, Option, Some, None, Ok, Err, List, []}
+use Rattle.std.proofs.Common.{◌∷◌, ◌++◌, length, append_assoc, append-nil, length-append, arith}
 use Rattle.std.specs.Prelude.{Result, if◌then◌else◌, option_map}
 use Rattle.std.specs.Option.{option_map_or}
 use denote.Enum.Bare.{same_true}
@@ -25,7 +27,8 @@ use Rattle.ifs_parse.specs.declared.block.Statement.TheVariants.{Run, SetState, 
 use Rattle.ifs_parse.specs.Trees as tree
 use Rattle.ifs_parse.specs.Views.{all_of, any_of, block_of}
 use Rattle.ifs_parse.specs.declared.fault.ParseFault.TheVariants.{Period}
-use Rattle.ifs_parse.specs.Combined.{State, state, Parse, line_of, past, found, accepted, unexpected, ◌▸◌, pure, begins, either, expected, no_more, required, many}
+use Rattle.ifs_parse.specs.Combined.{State, state, Parse, line_of, past, found, accepted, unexpected}
+use Rattle.ifs_parse.specs.Combined.{◌▸◌, pure, begins, either, expected, no_more, required, many}
 use Rattle.ifs_parse.specs.Words.{marked}
 use Rattle.ifs_parse.specs.Rules.{Rule, Gives, TheMark, ◌⨟◌, ◌or◌, Never, Optional, Noted, Many}
 use Rattle.ifs_parse.specs.Reading as reading
@@ -34,7 +37,10 @@ use Rattle.ifs_parse.specs.Rules as rules
 use Rattle.ifs_parse.specs.Grammar as grammar
 use Rattle.ifs_parse.proofs.Operands as operands
 use Rattle.ifs_parse.proofs.Operands.{condition_kept, kept_condition}
-use Rattle.ifs_parse.proofs.Exact.{exact_as, Stop, Always, Any, Until, Found, Reads, Exact, exact_pure, exact_token, exact_mark, reads_then, exact_then, exact_map, exact_either, reads_either, many_next, exact_no_more, exact_optional_as, exact_begins, exact_required, reads_many, exact_many, exact_noted, went, told}
+use Rattle.ifs_parse.proofs.Exact.{exact_as, Stop, Always, Any, Until, Found, Reads, Exact, exact_pure}
+use Rattle.ifs_parse.proofs.Exact.{exact_token, exact_mark, reads_then, exact_then, exact_map, exact_either}
+use Rattle.ifs_parse.proofs.Exact.{reads_either, many_next, exact_no_more, exact_optional_as, exact_begins}
+use Rattle.ifs_parse.proofs.Exact.{exact_required, reads_many, exact_many, exact_noted, went, told}
 
 -- A token that is one mark is not another.
 is_at : (k m n : Mark) → is k m ≡ true → is m n ≡ false → is k n ≡ false

@@ -1,6 +1,8 @@
 -- Where a parser fails: what stands before could go on, and what comes with the next token fails alike. Where a limit is
 -- the reason, the next token could go on by the wider rule that is the same without that limit.
-use Rattle.std.proofs.Common.{◌≡◌, inl, inr, ℕ, zero, suc, ◌≤◌, refl, sym, ap, subst, ◌∙◌, cond, Bool, true, false, Option, Some, None, Ok, Err, List, [], ◌∷◌, ◌++◌, length, length-append, append_assoc, append-nil, arith}
+use Rattle.std.proofs.Common.{◌≡◌, inl, inr, ℕ, zero, suc, ◌≤◌, refl, sym, ap, subst, ◌∙◌, cond}
+use Rattle.std.proofs.Common.{Bool, true, false, Option, Some, None, Ok, Err, List, [], ◌∷◌}
+use Rattle.std.proofs.Common.{◌++◌, length, length-append, append_assoc, append-nil, arith}
 use Rattle.std.specs.Prelude.{Result, if◌then◌else◌, option_map}
 use Rattle.std.specs.Option.{option_map_or}
 use Rattle.ifs_base.specs.declared.span.Span.{Span}
@@ -10,7 +12,8 @@ use Rattle.ifs_parse.specs.declared.fault.ParseFault.TheVariants.{Unexpected, Pe
 use Rattle.ifs_parse.specs.declared.mark.Mark.{Mark}
 use Rattle.ifs_parse.specs.Reading as reading
 use Rattle.ifs_parse.specs.Grammar.{IsAt}
-use Rattle.ifs_parse.specs.Combined.{State, state, Parse, past, line_of, ◌>>=◌, ◌▸◌, pure, found, accepted, one_token, either, unexpected, begins, no_more, required, many, many_from}
+use Rattle.ifs_parse.specs.Combined.{State, state, Parse, past, line_of, ◌>>=◌, ◌▸◌, pure, found, accepted}
+use Rattle.ifs_parse.specs.Combined.{one_token, either, unexpected, begins, no_more, required, many, many_from}
 use Rattle.ifs_parse.specs.Words.{marked}
 use Rattle.ifs_parse.specs.Rules.{Rule, Gives, OneToken, TheMark, ◌⨟◌, ◌or◌, Never, Optional, Noted, Many, Enough, More}
 use Rattle.ifs_parse.proofs.Exact.{Always, Any, Until, Found, Reads, Exact}

@@ -1,5 +1,6 @@
 -- What a reader within wider limits reads alike: each value, and the faults that the wider limits keep.
-use Rattle.std.proofs.Common.{◌≡◌, ℕ, zero, suc, ◌≤◌, refl, sym, ap, subst, Bool, true, false, ◌||◌, Option, Some, None, Ok, Err, List, [], length, arith}
+use Rattle.std.proofs.Common.{◌≡◌, ℕ, zero, suc, ◌≤◌, refl, sym, ap, subst, Bool, true, false}
+use Rattle.std.proofs.Common.{◌||◌, Option, Some, None, Ok, Err, List, [], length, arith}
 use Rattle.std.specs.Prelude.{Result, if◌then◌else◌, option_map}
 use Rattle.std.specs.Option.{option_map_or}
 use Rattle.ifs_base.specs.declared.span.Span.{Span}
@@ -16,7 +17,8 @@ use Rattle.ifs_parse.specs.declared.block.Statement.{Statement}
 use Rattle.ifs_parse.specs.declared.parser.Operand.{Operand}
 use Rattle.ifs_parse.specs.Trees as tree
 use Rattle.ifs_parse.specs.Files.{file}
-use Rattle.ifs_parse.specs.Combined.{State, state, Parse, past, line_of, ◌>>=◌, ◌▸◌, pure, found, accepted, either, begins, expected, unexpected, no_more, required, many, many_from}
+use Rattle.ifs_parse.specs.Combined.{State, state, Parse, past, line_of, ◌>>=◌, ◌▸◌, pure, found, accepted}
+use Rattle.ifs_parse.specs.Combined.{either, begins, expected, unexpected, no_more, required, many, many_from}
 use Rattle.ifs_parse.specs.Reading as reading
 use Rattle.ifs_parse.specs.Words as words
 use Rattle.ifs_parse.specs.Rules as rules

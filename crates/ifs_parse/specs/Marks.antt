@@ -5,7 +5,9 @@ use denote.Enum.Bare.{sameb}
 use Rattle.ifs_lex.specs.declared.token.What.{What}
 use Rattle.ifs_lex.specs.declared.token.What.TheVariants as what
 use Rattle.ifs_parse.specs.declared.mark.Mark.{Mark}
-use Rattle.ifs_parse.specs.declared.mark.Mark.TheVariants.{BraceOpen, BraceClose, ParenOpen, ParenClose, Dot, Bang, And, Or, End, State, InitState, Init, If, Run, SetState, Every, Link, Up, Down, Unknown, Other}
+use Rattle.ifs_parse.specs.declared.mark.Mark.TheVariants.{BraceOpen, BraceClose, ParenOpen, ParenClose, Dot}
+use Rattle.ifs_parse.specs.declared.mark.Mark.TheVariants.{Bang, And, Or, End, State, InitState, Init, If, Run}
+use Rattle.ifs_parse.specs.declared.mark.Mark.TheVariants.{SetState, Every, Link, Up, Down, Unknown, Other}
 use Rattle.ifs_parse.specs.contracts.mark.Mark.{the_type}
 
 -- What a word of a test is: one that the grammar names, or another.

@@ -1,5 +1,6 @@
 -- What tokens say, read from the left: one parser a line of the grammar.
-use Rattle.std.specs.Prelude.{ℕ, zero, suc, Bool, true, false, ◌||◌, if◌then◌else◌, List, [], ◌∷◌, ◌++◌, length, insert, Option, Some, None, option_map, Result, Ok, Err}
+use Rattle.std.specs.Prelude.{ℕ, zero, suc, Bool, true, false, ◌||◌, if◌then◌else◌, List, [], ◌∷◌}
+use Rattle.std.specs.Prelude.{◌++◌, length, insert, Option, Some, None, option_map, Result, Ok, Err}
 use Rattle.std.specs.Option.{option_map_or}
 use Rattle.ifs_base.specs.declared.op.LinkState.{LinkState}
 use Rattle.ifs_base.specs.declared.span.Span.{Span}
@@ -26,7 +27,8 @@ use Rattle.ifs_parse.specs.Marks.{mark_of}
 use Rattle.ifs_parse.specs.Words.{name_of, link_state_of, number_of_what}
 use Rattle.ifs_parse.specs.Rules.{with_last}
 use Rattle.ifs_parse.specs.Combined as combined
-use Rattle.ifs_parse.specs.Combined.{Parse, state, ◌>>=◌, ◌▸◌, pure, past, one_token, either, begins, no_more, required, expected, unexpected, accepted, found, many, line_of}
+use Rattle.ifs_parse.specs.Combined.{Parse, state, ◌>>=◌, ◌▸◌, pure, past, one_token, either, begins}
+use Rattle.ifs_parse.specs.Combined.{no_more, required, expected, unexpected, accepted, found, many, line_of}
 
 -- string : a word that is not reserved | a quoted text
 abbrev pub string : Parse Name

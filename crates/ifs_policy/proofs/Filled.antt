@@ -1,32 +1,6 @@
 -- Mentions that break no rule leave tables within their limits, and what they mention stands in them.
-use Rattle.std.proofs.Common.{
-  ◌≡◌,
-  ◌≢◌,
-  ℕ,
-  ◌+◌,
-  ◌≤◌,
-  inl,
-  inr,
-  Bool,
-  true,
-  false,
-  nat_eq,
-  ◌||◌,
-  ◌&&◌,
-  true≢false,
-  List,
-  [],
-  ◌∷◌,
-  ◌++◌,
-  length,
-  if◌then◌else◌,
-  All,
-  refl,
-  sym,
-  ap,
-  ◌∙◌,
-  arith,
-}
+use Rattle.std.proofs.Common.{◌≡◌, ◌≢◌, ℕ, ◌+◌, ◌≤◌, inl, inr, Bool, true, false, nat_eq, ◌||◌, ◌&&◌, true≢false}
+use Rattle.std.proofs.Common.{List, [], ◌∷◌, ◌++◌, length, if◌then◌else◌, All, refl, sym, ap, ◌∙◌, arith}
 use Rattle.std.proofs.lemmas.Bool.{cases_lt}
 use Rattle.std.proofs.Math.Bool.{or-true}
 use Rattle.std.proofs.lemmas.Cmp.{nat_list_eq_equiv, nat_eq_equiv}
@@ -38,16 +12,8 @@ use Rattle.std.specs.List.{list_any, AllPairs}
 use Rattle.indexmap.specs.IndexSet.{insert_key}
 use Rattle.ifs_base.specs.Sizes.{TextFits}
 use Rattle.ifs_policy.specs.declared.fault.ResolveFault.TheVariants.{StateTwice, TableFull, BadText}
-use Rattle.ifs_policy.specs.declared.mention.Mention.TheVariants.{
-  Interface,
-  External,
-  Command,
-  Defined,
-  Wanted,
-  Init,
-  InitState,
-  SetState,
-}
+use Rattle.ifs_policy.specs.declared.mention.Mention.TheVariants.{Interface, External, Command, Defined}
+use Rattle.ifs_policy.specs.declared.mention.Mention.TheVariants.{Wanted, Init, InitState, SetState}
 use Rattle.ifs_policy.specs.declared.mention.Owner.TheVariants as whose
 use Rattle.ifs_policy.specs.declared.tables.ExternalTest.{ExternalTest}
 use Rattle.ifs_policy.specs.declared.tables.Tables.{Tables}

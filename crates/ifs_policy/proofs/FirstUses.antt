@@ -1,23 +1,6 @@
 -- Entries that are put last where they are new are the first uses.
-use Rattle.std.proofs.Common.{
-  ◌≡◌,
-  ◌∙◌,
-  Bool,
-  true,
-  false,
-  cond,
-  not,
-  ◌||◌,
-  List,
-  [],
-  ◌∷◌,
-  ◌++◌,
-  fold,
-  refl,
-  sym,
-  ap,
-  append_assoc,
-}
+use Rattle.std.proofs.Common.{◌≡◌, ◌∙◌, Bool, true, false, cond, not, ◌||◌, List}
+use Rattle.std.proofs.Common.{[], ◌∷◌, ◌++◌, fold, refl, sym, ap, append_assoc}
 use Rattle.std.specs.Prelude.{filter}
 use Rattle.std.specs.List.{list_any}
 use Rattle.std.specs.Cmp.{IsEquivalence}

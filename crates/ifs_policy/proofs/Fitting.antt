@@ -1,30 +1,6 @@
 -- The policy of a text is within its limits.
-use Rattle.std.proofs.Common.{
-  ◌≡◌,
-  suc,
-  ◌+◌,
-  ◌<◌,
-  Bool,
-  true,
-  false,
-  cond,
-  not,
-  ◌||◌,
-  true≢false,
-  List,
-  [],
-  ◌∷◌,
-  ◌++◌,
-  length,
-  All,
-  refl,
-  sym,
-  ap,
-  subst,
-  ◌∙◌,
-  append_assoc,
-  arith,
-}
+use Rattle.std.proofs.Common.{◌≡◌, suc, ◌+◌, ◌<◌, Bool, true, false, cond, not, ◌||◌, true≢false, List}
+use Rattle.std.proofs.Common.{[], ◌∷◌, ◌++◌, length, All, refl, sym, ap, subst, ◌∙◌, append_assoc, arith}
 use Rattle.std.proofs.lemmas.List.Elements.{All-nil, All-cons}
 use Rattle.std.specs.List.{flat_map, list_any, position_or_len}
 use Rattle.ifs_parse.specs.Trees as tree
@@ -50,40 +26,16 @@ use Rattle.ifs_policy.specs.declared.mention.Owner.TheVariants as whose
 use Rattle.ifs_policy.specs.declared.names.Names.{Names}
 use Rattle.ifs_policy.specs.declared.policy.PolicyParts.{PolicyParts}
 use Rattle.ifs_policy.specs.declared.tables.Tables.{Tables}
-use Rattle.ifs_policy.specs.Mentions.{
-  Mentioned,
-  condition_mentions,
-  block_mentions,
-  statement_mentions,
-  part_mentions,
-  mentions_of,
-}
+use Rattle.ifs_policy.specs.Mentions.{Mentioned, condition_mentions, block_mentions}
+use Rattle.ifs_policy.specs.Mentions.{statement_mentions, part_mentions, mentions_of}
 use Rattle.ifs_policy.specs.Tables.{text_eq, test_eq, test_of, no_names, names_after, tables_of}
 use Rattle.ifs_policy.specs.Faults.{AreSound, is_state}
-use Rattle.ifs_policy.specs.Resolution.{
-  place_condition,
-  place_block,
-  place_part,
-  init_in,
-  body_in,
-  always_of,
-  place_states,
-  initial_of,
-  place_items,
-  Resolves,
-}
+use Rattle.ifs_policy.specs.Resolution.{place_condition, place_block, place_part, init_in, body_in}
+use Rattle.ifs_policy.specs.Resolution.{always_of, place_states, initial_of, place_items, Resolves}
 use Rattle.ifs_policy.specs.Fits.{TablesFit, Sizes, sizes_of, ConditionFits, BlockFits, HandlersFit, PolicyFits}
 use Rattle.ifs_policy.specs.inner.Sized.{IsSized}
-use Rattle.ifs_policy.proofs.Filled.{
-  AreStanding,
-  stand_left,
-  stand_right,
-  all_stand,
-  tables_fit,
-  no_tables_fit,
-  defined,
-  count_states,
-}
+use Rattle.ifs_policy.proofs.Filled.{AreStanding, stand_left, stand_right, all_stand}
+use Rattle.ifs_policy.proofs.Filled.{tables_fit, no_tables_fit, defined, count_states}
 
 -- What stands in a table has a place there.
 place_below : {X : Type 0} (p : X → Bool) (xs : List X) → list_any p xs ≡ true → position_or_len p xs < length xs

@@ -20,27 +20,12 @@ use Rattle.ifs_policy.specs.declared.mention.Half.TheVariants as at
 use Rattle.ifs_policy.specs.declared.mention.Owner.{Owner}
 use Rattle.ifs_policy.specs.declared.mention.Owner.TheVariants as whose
 use Rattle.ifs_policy.specs.declared.tables.ExternalTest.{ExternalTest}
-use Rattle.ifs_policy.specs.Mentions.{
-  Mentioned,
-  test_mention,
-  condition_mentions,
-  block_mentions,
-  part_mentions,
-  mentions_of,
-}
+use Rattle.ifs_policy.specs.Mentions.{Mentioned, test_mention, condition_mentions}
+use Rattle.ifs_policy.specs.Mentions.{block_mentions, part_mentions, mentions_of}
 use Rattle.ifs_policy.specs.Tables.{test_of}
 use Rattle.ifs_policy.specs.Whole as whole
-use Rattle.ifs_policy.specs.Whole.{
-  TextBlock,
-  singles,
-  block_singles,
-  block_commands,
-  block_wishes,
-  link_of,
-  external_of,
-  block_in,
-  inits_of,
-}
+use Rattle.ifs_policy.specs.Whole.{TextBlock, singles, block_singles, block_commands}
+use Rattle.ifs_policy.specs.Whole.{block_wishes, link_of, external_of, block_in, inits_of}
 
 -- What is picked from one mention.
 abbrev pub interface_of : Mentioned → List (List ℕ)

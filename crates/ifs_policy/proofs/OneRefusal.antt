@@ -1,61 +1,19 @@
 -- One fault stands first.
-use Rattle.std.proofs.Common.{
-  ◌≡◌,
-  ◌<◌,
-  ◌==◌,
-  if◌then◌else◌,
-  inl,
-  inr,
-  ℕ,
-  true≢false,
-  List,
-  [],
-  ◌∷◌,
-  ap,
-  sym,
-  ◌∙◌,
-  refl,
-  arith,
-}
+use Rattle.std.proofs.Common.{◌≡◌, ◌<◌, ◌==◌, if◌then◌else◌, inl, inr, ℕ}
+use Rattle.std.proofs.Common.{true≢false, List, [], ◌∷◌, ap, sym, ◌∙◌, refl, arith}
 use Rattle.std.proofs.lemmas.Bool.{cases_lt}
 use Rattle.ifs_parse.specs.declared.tree.Item.{Item}
 use Rattle.ifs_policy.specs.declared.fault.ResolveFault.{ResolveFault}
-use Rattle.ifs_policy.specs.declared.fault.ResolveFault.TheVariants.{
-  NoState,
-  StateTwice,
-  SecondInit,
-  SetStateInInit,
-  TestInInit,
-  TableFull,
-  BadText,
-  UnknownState,
-  Memory,
-}
-use Rattle.ifs_policy.specs.declared.mention.Mention.TheVariants.{
-  Interface,
-  External,
-  Command,
-  Defined,
-  Wanted,
-  Init,
-  InitState,
-  SetState,
-}
+use Rattle.ifs_policy.specs.declared.fault.ResolveFault.TheVariants.{NoState, StateTwice, SecondInit}
+use Rattle.ifs_policy.specs.declared.fault.ResolveFault.TheVariants.{SetStateInInit, TestInInit, TableFull}
+use Rattle.ifs_policy.specs.declared.fault.ResolveFault.TheVariants.{BadText, UnknownState, Memory}
+use Rattle.ifs_policy.specs.declared.mention.Mention.TheVariants.{Interface, External, Command, Defined}
+use Rattle.ifs_policy.specs.declared.mention.Mention.TheVariants.{Wanted, Init, InitState, SetState}
 use Rattle.ifs_policy.specs.declared.names.Names.{Names}
 use Rattle.ifs_policy.specs.Mentions.{Mentioned, mentions_of}
 use Rattle.ifs_policy.specs.Tables.{after, no_names, tables_of}
-use Rattle.ifs_policy.specs.Faults.{
-  IsString,
-  Breaks,
-  number,
-  IsLowest,
-  FirstBroken,
-  FirstUnknown,
-  IsTreeRefused,
-  no_state,
-  broken,
-  unknown,
-}
+use Rattle.ifs_policy.specs.Faults.{IsString, Breaks, number, IsLowest, FirstBroken}
+use Rattle.ifs_policy.specs.Faults.{FirstUnknown, IsTreeRefused, no_state, broken, unknown}
 use Rattle.ifs_policy.proofs.Refusals.{broken_not_sound}
 
 -- The line that a fault tells, and the fault of a number and a line.

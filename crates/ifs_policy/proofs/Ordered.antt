@@ -4,16 +4,8 @@ use Rattle.std.specs.List.{flat_map}
 use Rattle.indexmap.specs.IndexSet.{insert_key}
 use Rattle.ifs_parse.specs.declared.tree.Item.{Item}
 use Rattle.ifs_policy.specs.declared.fault.ResolveFault.TheVariants.{StateTwice}
-use Rattle.ifs_policy.specs.declared.mention.Mention.TheVariants.{
-  Interface,
-  External,
-  Command,
-  Defined,
-  Wanted,
-  Init,
-  InitState,
-  SetState,
-}
+use Rattle.ifs_policy.specs.declared.mention.Mention.TheVariants.{Interface, External, Command, Defined}
+use Rattle.ifs_policy.specs.declared.mention.Mention.TheVariants.{Wanted, Init, InitState, SetState}
 use Rattle.ifs_policy.specs.declared.mention.Owner.TheVariants as whose
 use Rattle.ifs_policy.specs.declared.names.Names.{Names}
 use Rattle.ifs_policy.specs.declared.policy.PolicyParts.{PolicyParts}
@@ -26,16 +18,8 @@ use Rattle.ifs_policy.specs.Whole as whole
 use Rattle.ifs_policy.specs.Whole.{first_uses}
 use Rattle.ifs_policy.proofs.Filled.{insert_cases}
 use Rattle.ifs_policy.proofs.FirstUses.{inserted_are_first, text_laws, test_laws}
-use Rattle.ifs_policy.proofs.Gathered.{
-  interface_of,
-  tested_by,
-  command_of,
-  state_of,
-  picked_interfaces,
-  picked_tests,
-  picked_commands,
-  picked_states,
-}
+use Rattle.ifs_policy.proofs.Gathered.{interface_of, tested_by, command_of, state_of}
+use Rattle.ifs_policy.proofs.Gathered.{picked_interfaces, picked_tests, picked_commands, picked_states}
 
 interfaces_after : (names : Names) (mentions : List Mentioned) → (names_after names mentions).tables.interfaces ≡ fold (insert_key text_eq) names.tables.interfaces (flat_map interface_of mentions)
 interfaces_after names [] = refl

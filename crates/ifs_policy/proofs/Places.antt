@@ -1,25 +1,6 @@
 -- Placing goes into the members of chains and of blocks.
-use Rattle.std.proofs.Common.{
-  ◌≡◌,
-  ℕ,
-  zero,
-  suc,
-  ◌<◌,
-  ◌≤◌,
-  max,
-  Bool,
-  List,
-  [],
-  ◌∷◌,
-  map,
-  length,
-  get_or,
-  refl,
-  ap,
-  ◌∙◌,
-  not,
-  arith,
-}
+use Rattle.std.proofs.Common.{◌≡◌, ℕ, zero, suc, ◌<◌, ◌≤◌, max, Bool, List, []}
+use Rattle.std.proofs.Common.{◌∷◌, map, length, get_or, refl, ap, ◌∙◌, not, arith}
 use Rattle.std.proofs.lemmas.List.Sums.{prefix_len-le-length}
 use Rattle.std.specs.List.{position_or_len, AllByRecursion}
 use Rattle.ifs_parse.specs.Trees as tree

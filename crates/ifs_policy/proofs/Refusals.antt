@@ -7,17 +7,8 @@ use Rattle.ifs_policy.specs.declared.names.Names.{Names}
 use Rattle.ifs_policy.specs.declared.policy.PolicyParts.{PolicyParts}
 use Rattle.ifs_policy.specs.Mentions.{Mentioned, mentions_of}
 use Rattle.ifs_policy.specs.Tables.{after, no_names, tables_of}
-use Rattle.ifs_policy.specs.Faults.{
-  AreSound,
-  FirstBroken,
-  AreKnown,
-  FirstUnknown,
-  is_state,
-  IsTreeRefused,
-  no_state,
-  broken,
-  unknown,
-}
+use Rattle.ifs_policy.specs.Faults.{AreSound, FirstBroken, AreKnown, FirstUnknown}
+use Rattle.ifs_policy.specs.Faults.{is_state, IsTreeRefused, no_state, broken, unknown}
 use Rattle.ifs_policy.specs.Resolution.{Resolves}
 use Rattle.ifs_policy.specs.declared.placing.PolicyTrees.{PolicyTrees}
 use Rattle.ifs_policy.specs.inner.Entries.{IsFirst}

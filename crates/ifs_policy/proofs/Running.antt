@@ -1,30 +1,6 @@
 -- That mentions break no rule, as what holds of the lists that are picked from them.
-use Rattle.std.proofs.Common.{
-  ◌≡◌,
-  ◌≢◌,
-  ℕ,
-  suc,
-  ◌+◌,
-  ◌≤◌,
-  ⊎_elim,
-  Bool,
-  true,
-  false,
-  ◌||◌,
-  List,
-  [],
-  ◌∷◌,
-  ◌++◌,
-  length,
-  fold,
-  AllPairs,
-  Contains,
-  refl,
-  sym,
-  ap,
-  ◌∙◌,
-  arith,
-}
+use Rattle.std.proofs.Common.{◌≡◌, ◌≢◌, ℕ, suc, ◌+◌, ◌≤◌, ⊎_elim, Bool, true, false, ◌||◌, List, []}
+use Rattle.std.proofs.Common.{◌∷◌, ◌++◌, length, fold, AllPairs, Contains, refl, sym, ap, ◌∙◌, arith}
 use Rattle.std.proofs.lemmas.Bool.{or_cases, or_from, false_from_ne_true}
 use Rattle.std.proofs.lemmas.Bool.Decides.{Decides-eqb}
 use Rattle.std.proofs.lemmas.Slice.Eq.{slice_eq-Decides}
@@ -36,24 +12,10 @@ use Rattle.indexmap.specs.IndexSet.{insert_key}
 use Rattle.ifs_base.specs.Sizes.{TextFits}
 use Rattle.ifs_base.specs.declared.span.Span.{Span}
 use Rattle.ifs_parse.specs.declared.tree.Name.{Name}
-use Rattle.ifs_policy.specs.declared.fault.ResolveFault.TheVariants.{
-  StateTwice,
-  SecondInit,
-  SetStateInInit,
-  TestInInit,
-  TableFull,
-  BadText,
-}
-use Rattle.ifs_policy.specs.declared.mention.Mention.TheVariants.{
-  Interface,
-  External,
-  Command,
-  Defined,
-  Wanted,
-  Init,
-  InitState,
-  SetState,
-}
+use Rattle.ifs_policy.specs.declared.fault.ResolveFault.TheVariants.{StateTwice, SecondInit, SetStateInInit}
+use Rattle.ifs_policy.specs.declared.fault.ResolveFault.TheVariants.{TestInInit, TableFull, BadText}
+use Rattle.ifs_policy.specs.declared.mention.Mention.TheVariants.{Interface, External, Command, Defined}
+use Rattle.ifs_policy.specs.declared.mention.Mention.TheVariants.{Wanted, Init, InitState, SetState}
 use Rattle.ifs_policy.specs.declared.mention.Half.TheVariants as at
 use Rattle.ifs_policy.specs.declared.mention.Owner.{Owner}
 use Rattle.ifs_policy.specs.declared.mention.Owner.TheVariants as whose
@@ -62,17 +24,8 @@ use Rattle.ifs_policy.specs.Mentions.{Mentioned}
 use Rattle.ifs_policy.specs.Tables.{text_eq, test_eq, test_of, after}
 use Rattle.ifs_policy.specs.Faults.{IsFull, IsSound, AreSound, AreKnown, has_init}
 use Rattle.ifs_policy.proofs.Filled.{insert_cases, fit, text_same}
-use Rattle.ifs_policy.proofs.Gathered.{
-  interface_of,
-  tested_by,
-  command_of,
-  state_of,
-  wanted_by,
-  tested_in_init,
-  wish_in_init,
-  always_init,
-  init_state,
-}
+use Rattle.ifs_policy.proofs.Gathered.{interface_of, tested_by, command_of, state_of, wanted_by}
+use Rattle.ifs_policy.proofs.Gathered.{tested_in_init, wish_in_init, always_init, init_state}
 
 -- Each entry finds a place in its table, and its text fits.
 abbrev pub Takes : {T : Type 0} → (T → T → Bool) → (T → List ℕ) → ℕ → List T → List T → Type 0

@@ -1,35 +1,17 @@
 -- The tests that are found in a tree are those that it mentions, and one of them without a value holds a body back.
-use Rattle.std.proofs.Common.{◌≡◌, ◌↔◌, inl, inr, Bool, true, false, true≢false, [], ◌∷◌, ◌++◌, Contains, refl, sym, ap, subst, ◌∙◌, arith}
+use Rattle.std.proofs.Common.{◌≡◌, ◌↔◌, inl, inr, Bool, true, false, true≢false, []}
+use Rattle.std.proofs.Common.{◌∷◌, ◌++◌, Contains, refl, sym, ap, subst, ◌∙◌, arith}
 use Rattle.std.specs.Prelude.{if◌then◌else◌, IsTrue}
-use Rattle.std.proofs.lemmas.List.Elements.{
-  Contains-append_left,
-  Contains-append_right,
-  Contains-append_cases,
-  Contains-push_cases,
-}
+use Rattle.std.proofs.lemmas.List.Elements.{Contains-append_left, Contains-append_right}
+use Rattle.std.proofs.lemmas.List.Elements.{Contains-append_cases, Contains-push_cases}
 use Rattle.std.proofs.lemmas.List.Folds.{Any-from_list_any, list_any_at}
 use Rattle.ifs_base.specs.Facts.{Facts}
 use Rattle.ifs_base.specs.Effects.{Effects, nothing_yet}
 use Rattle.ifs_base.specs.declared.ids.TestId.{TestId}
 use Rattle.ifs_parse.specs.Trees.{Leaf, NotSo, And, Or, Done, RunThen, WantThen, IfThen}
 use Rattle.ifs_policy.specs.declared.policy.Single.TheVariants.{LinkIs, TestIs}
-use Rattle.ifs_policy.specs.Meaning.{
-  Condition,
-  Block,
-  StandsIn,
-  itself,
-  negated,
-  left_of_and,
-  right_of_and,
-  left_of_or,
-  right_of_or,
-  Mentions,
-  asked,
-  inside,
-  behind_if,
-  behind_run,
-  behind_wish,
-}
+use Rattle.ifs_policy.specs.Meaning.{Condition, Block, StandsIn, itself, negated, left_of_and, right_of_and, left_of_or}
+use Rattle.ifs_policy.specs.Meaning.{right_of_or, Mentions, asked, inside, behind_if, behind_run, behind_wish}
 use Rattle.ifs_policy.specs.Meaning.{mentioned_in, mentioned, reached, is_open, IsHeld, is_held, body_yield}
 
 none_there : {X : Type 0} (x : X) → Contains [] x → ⊥

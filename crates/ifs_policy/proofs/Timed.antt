@@ -1,28 +1,6 @@
 -- The periods of a policy's tests are those that the grammar lets through.
-use Rattle.std.proofs.Common.{
-  ◌≡◌,
-  ℕ,
-  zero,
-  suc,
-  Bool,
-  true,
-  false,
-  ◌&&◌,
-  inl,
-  inr,
-  Some,
-  None,
-  if◌then◌else◌,
-  List,
-  [],
-  ◌∷◌,
-  ◌++◌,
-  map,
-  All,
-  refl,
-  sym,
-  subst,
-}
+use Rattle.std.proofs.Common.{◌≡◌, ℕ, zero, suc, Bool, true, false, ◌&&◌, inl, inr, Some, None}
+use Rattle.std.proofs.Common.{if◌then◌else◌, List, [], ◌∷◌, ◌++◌, map, All, refl, sym, subst}
 use Rattle.std.specs.Prelude.{Option, nat_le}
 use Rattle.std.specs.List.{flat_map}
 use Rattle.std.proofs.lemmas.Bool.{leb-true}
@@ -58,14 +36,8 @@ use Rattle.ifs_policy.specs.declared.mention.Owner.TheVariants as whose
 use Rattle.ifs_policy.specs.declared.mention.Mention.TheVariants as says
 use Rattle.ifs_policy.specs.declared.names.Names.{Names}
 use Rattle.ifs_policy.specs.declared.tables.ExternalTest.{ExternalTest}
-use Rattle.ifs_policy.specs.Mentions.{
-  Mentioned,
-  condition_mentions,
-  block_mentions,
-  part_mentions,
-  item_mentions,
-  mentions_of,
-}
+use Rattle.ifs_policy.specs.Mentions.{Mentioned, condition_mentions, block_mentions}
+use Rattle.ifs_policy.specs.Mentions.{part_mentions, item_mentions, mentions_of}
 use Rattle.ifs_policy.specs.Tables.{test_eq, test_of, after, no_names, names_after}
 use Rattle.ifs_policy.specs.Resolution.{Resolves}
 use Rattle.ifs_policy.proofs.Filled.{at_most, all_insert}

@@ -1,31 +1,6 @@
 -- A tree has a policy exactly where it keeps the rules as a whole.
-use Rattle.std.proofs.Common.{
-  ◌≡◌,
-  ◌≢◌,
-  ℕ,
-  suc,
-  ◌+◌,
-  ◌≤◌,
-  ◌↔◌,
-  Bool,
-  true,
-  false,
-  List,
-  [],
-  ◌∷◌,
-  ◌++◌,
-  length,
-  All,
-  AllPairs,
-  Contains,
-  refl,
-  sym,
-  ap,
-  subst,
-  ◌∙◌,
-  append_assoc,
-  arith,
-}
+use Rattle.std.proofs.Common.{◌≡◌, ◌≢◌, ℕ, suc, ◌+◌, ◌≤◌, ◌↔◌, Bool, true, false, List, [], ◌∷◌, ◌++◌, length}
+use Rattle.std.proofs.Common.{All, AllPairs, Contains, refl, sym, ap, subst, ◌∙◌, append_assoc, arith}
 use Rattle.std.proofs.lemmas.List.{length-map}
 use Rattle.std.proofs.lemmas.List.Elements.{All-from_recursion, recursion_from_All, All-weaker, All-contains}
 use Rattle.std.specs.List.{flat_map, list_any, AllByRecursion}
@@ -49,46 +24,14 @@ use Rattle.ifs_policy.specs.Resolution.{place_items, Resolves}
 use Rattle.ifs_policy.specs.Whole as whole
 use Rattle.ifs_policy.specs.Whole.{TextBlock, inits_of, KeepsRules}
 use Rattle.ifs_policy.proofs.Filled.{tables_fit, no_tables_fit}
-use Rattle.ifs_policy.proofs.Gathered.{
-  interface_of,
-  tested_by,
-  command_of,
-  state_of,
-  always_init,
-  init_state,
-  marks,
-  picked_interfaces,
-  picked_tests,
-  picked_commands,
-  picked_states,
-  picked_init_tests,
-  picked_init_wishes,
-  picked_outside,
-  picked_initial,
-  picked_wanted,
-  wanted_wishes,
-  wanted_initial,
-  all_wanted,
-}
+use Rattle.ifs_policy.proofs.Gathered.{interface_of, tested_by, command_of, state_of, always_init, init_state}
+use Rattle.ifs_policy.proofs.Gathered.{marks, picked_interfaces, picked_tests, picked_commands, picked_states}
+use Rattle.ifs_policy.proofs.Gathered.{picked_init_tests, picked_init_wishes, picked_outside, picked_initial}
+use Rattle.ifs_policy.proofs.Gathered.{picked_wanted, wanted_wishes, wanted_initial, all_wanted}
 use Rattle.ifs_policy.proofs.FirstUses.{inserted_are_first, text_laws, test_laws}
 use Rattle.ifs_policy.proofs.Ordered.{interfaces_first, tests_first, commands_first, states_defined}
-use Rattle.ifs_policy.proofs.Running.{
-  Takes,
-  Defines,
-  Opens,
-  bit,
-  Sound,
-  forth,
-  back,
-  takes_fit,
-  all_taken,
-  defines_fit,
-  all_defined,
-  contains_from,
-  contains_to,
-  known_forth,
-  known_back,
-}
+use Rattle.ifs_policy.proofs.Running.{Takes, Defines, Opens, bit, Sound, forth, back, takes_fit, all_taken}
+use Rattle.ifs_policy.proofs.Running.{defines_fit, all_defined, contains_from, contains_to, known_forth, known_back}
 
 -- Conditions and blocks have no `init`.
 opens_condition : (has : Bool) (half : Half) (c : tree.Condition Test) (rest : List Mentioned) → Opens has (condition_mentions half c ++ rest) → Opens has rest

@@ -4,31 +4,15 @@ use Rattle.std.specs.List.{list_any}
 use Rattle.ifs_base.specs.Sizes.{TextFits}
 use Rattle.ifs_parse.specs.declared.tree.Item.{Item}
 use Rattle.ifs_parse.specs.declared.tree.Item.TheVariants as item
-use Rattle.ifs_policy.specs.declared.mention.Mention.TheVariants.{
-  Interface,
-  External,
-  Command,
-  Defined,
-  Wanted,
-  Init,
-  InitState,
-  SetState,
-}
+use Rattle.ifs_policy.specs.declared.mention.Mention.TheVariants.{Interface, External, Command, Defined}
+use Rattle.ifs_policy.specs.declared.mention.Mention.TheVariants.{Wanted, Init, InitState, SetState}
 use Rattle.ifs_policy.specs.declared.mention.Half.TheVariants as at
 use Rattle.ifs_policy.specs.declared.mention.Owner.{Owner}
 use Rattle.ifs_policy.specs.declared.mention.Owner.TheVariants.{Always, State}
 use Rattle.ifs_policy.specs.declared.fault.ResolveFault.{ResolveFault}
-use Rattle.ifs_policy.specs.declared.fault.ResolveFault.TheVariants.{
-  NoState,
-  StateTwice,
-  SecondInit,
-  SetStateInInit,
-  TestInInit,
-  TableFull,
-  BadText,
-  UnknownState,
-  Memory,
-}
+use Rattle.ifs_policy.specs.declared.fault.ResolveFault.TheVariants.{NoState, StateTwice, SecondInit}
+use Rattle.ifs_policy.specs.declared.fault.ResolveFault.TheVariants.{SetStateInInit, TestInInit, TableFull}
+use Rattle.ifs_policy.specs.declared.fault.ResolveFault.TheVariants.{BadText, UnknownState, Memory}
 use Rattle.ifs_policy.specs.declared.names.Names.{Names}
 use Rattle.ifs_policy.specs.Mentions.{Mentioned, mentions_of}
 use Rattle.ifs_policy.specs.Tables.{text_eq, test_eq, test_of, after, no_names, tables_of}

@@ -1,22 +1,6 @@
 -- What a policy's trees mean under facts: truth of conditions, and yield of blocks.
-use Rattle.std.specs.Prelude.{
-  Bool,
-  true,
-  false,
-  not,
-  ◌&&◌,
-  ◌||◌,
-  if◌then◌else◌,
-  List,
-  [],
-  ◌∷◌,
-  ◌++◌,
-  Option,
-  Some,
-  None,
-  slice_get,
-  IsTrue,
-}
+use Rattle.std.specs.Prelude.{Bool, true, false, not, ◌&&◌, ◌||◌, if◌then◌else◌, List}
+use Rattle.std.specs.Prelude.{[], ◌∷◌, ◌++◌, Option, Some, None, slice_get, IsTrue}
 use Rattle.std.specs.List.{list_any}
 use Rattle.ifs_base.specs.Facts.{Facts, is_link}
 use Rattle.ifs_base.specs.Effects.{Effects, nothing_yet, followed}

@@ -3,16 +3,8 @@ use Rattle.std.specs.Prelude.{ℕ, Bool, true, false, ◌&&◌, nat_eq, List, []
 use Rattle.std.specs.Cmp.Lexicographic.{pointwise}
 use Rattle.indexmap.specs.IndexSet.{insert_key}
 use Rattle.ifs_parse.specs.declared.tree.Name.{Name}
-use Rattle.ifs_policy.specs.declared.mention.Mention.TheVariants.{
-  Interface,
-  External,
-  Command,
-  Defined,
-  Wanted,
-  Init,
-  InitState,
-  SetState,
-}
+use Rattle.ifs_policy.specs.declared.mention.Mention.TheVariants.{Interface, External, Command, Defined}
+use Rattle.ifs_policy.specs.declared.mention.Mention.TheVariants.{Wanted, Init, InitState, SetState}
 use Rattle.ifs_policy.specs.declared.mention.Owner.TheVariants.{Always, State}
 use Rattle.ifs_policy.specs.declared.tables.ExternalTest.{ExternalTest}
 use Rattle.ifs_policy.specs.declared.tables.Tables.{Tables}

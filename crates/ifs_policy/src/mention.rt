@@ -2,13 +2,8 @@
 
 ghost use Rattle.std.specs.Prelude.{◌≡◌, ◌++◌, map, OnOk};
 ghost use Rattle.std.specs.List.{flat_map};
-ghost use Rattle.ifs_policy.specs.Mentions.{
-  block_mentions,
-  condition_mentions,
-  item_mentions,
-  part_mentions,
-  statement_mentions,
-};
+ghost use Rattle.ifs_policy.specs.Mentions.{block_mentions, condition_mentions};
+ghost use Rattle.ifs_policy.specs.Mentions.{item_mentions, part_mentions, statement_mentions};
 ghost use Rattle.ifs_policy.specs.inner.Seen.{seen};
 
 use ifs_base::Span;

@@ -2,18 +2,8 @@
 
 ghost use Rattle.std.specs.Prelude.{◌≡◌, ◌≤◌, IfOk, length, map};
 ghost use Rattle.ifs_parse.specs.Views.{block_of, statement_then};
-ghost use Rattle.ifs_policy.specs.Resolution.{
-  always_of,
-  body_in,
-  init_in,
-  initial_of,
-  place_block,
-  place_condition,
-  place_in,
-  place_part,
-  place_single,
-  place_states,
-};
+ghost use Rattle.ifs_policy.specs.Resolution.{always_of, body_in, init_in, initial_of, place_block};
+ghost use Rattle.ifs_policy.specs.Resolution.{place_condition, place_in, place_part, place_single, place_states};
 ghost use Rattle.ifs_policy.specs.inner.Sized.{IsSized, lent, place_statement};
 
 use crate::policy::{Handlers, PolicyBlock, Single};

@@ -1,20 +1,7 @@
 //! A table of distinct entries, found by hash.
 
-ghost use Rattle.std.specs.Prelude.{
-  ◌≡◌,
-  ◌≤◌,
-  ◌<◌,
-  ◌↔◌,
-  [],
-  length,
-  slice_get,
-  option_copied,
-  IsSome,
-  IfSome,
-  IfOk,
-  OnOk,
-  OnErr,
-};
+ghost use Rattle.std.specs.Prelude.{◌≡◌, ◌≤◌, ◌<◌, ◌↔◌, [], length, slice_get};
+ghost use Rattle.std.specs.Prelude.{option_copied, IsSome, IfSome, IfOk, OnOk, OnErr};
 ghost use Rattle.std.specs.List.{list_any, position_or_len};
 ghost use Rattle.indexmap.specs.IndexSet.{insert_key};
 

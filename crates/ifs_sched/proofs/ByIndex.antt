@@ -1,7 +1,9 @@
 -- Lists that a loop makes test by test, with the index.
-use Rattle.std.proofs.Common.{◌≡◌, Bool, false, ◌||◌, ℕ, ◌+◌, ◌<◌, List, [], ◌∷◌, ◌++◌, Option, length, get_or, set, take, drop, map, ap, sym, ◌∙◌, arith, append-nil, append_assoc}
+use Rattle.std.proofs.Common.{◌≡◌, Bool, false, ◌||◌, ℕ, ◌+◌, ◌<◌, List, [], ◌∷◌, ◌++◌, Option, length}
+use Rattle.std.proofs.Common.{get_or, set, take, drop, map, ap, sym, ◌∙◌, arith, append-nil, append_assoc}
 use Rattle.std.specs.List.{enumerate_from, filter_map, cons_option, list_any}
-use Rattle.std.proofs.lemmas.List.{map_push, take_more, drop_more, set_at, get_or_at, length-take-le, length-map, take_all, drop_all, set-get_or, get_or_default}
+use Rattle.std.proofs.lemmas.List.{map_push, take_more, drop_more, set_at, get_or_at, length-take-le}
+use Rattle.std.proofs.lemmas.List.{length-map, take_all, drop_all, set-get_or, get_or_default}
 use Rattle.std.proofs.lemmas.List.FromFn.{length-enumerate_from}
 use Rattle.std.proofs.lemmas.List.Folds.{list_any-append}
 use Rattle.std.proofs.lemmas.List.Elements.{filter_map-append}

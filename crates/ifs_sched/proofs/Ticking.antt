@@ -1,5 +1,7 @@
 -- A tick, test by test.
-use Rattle.std.proofs.Common.{◌≡◌, ℕ, ◌+◌, ◌<◌, ◌≤◌, ◌^◌, min, Bool, true, false, not, cond, ◌&&◌, ◌||◌, List, [], ◌∷◌, ◌++◌, Option, Some, None, nat_lt, length, map, get_or, take, set, refl, ap, sym, ◌∙◌, arith, append-nil}
+use Rattle.std.proofs.Common.{◌≡◌, ℕ, ◌+◌, ◌<◌, ◌≤◌, ◌^◌, min, Bool, true, false, not, cond, ◌&&◌}
+use Rattle.std.proofs.Common.{◌||◌, List, [], ◌∷◌, ◌++◌, Option, Some, None, nat_lt, length, map}
+use Rattle.std.proofs.Common.{get_or, take, set, refl, ap, sym, ◌∙◌, arith, append-nil}
 use Rattle.std.specs.List.{cons_option, range_with_len}
 use Rattle.std.specs.Option.{SomeIff}
 use Rattle.std.proofs.lemmas.Bool.Decides.{nat_tests}
@@ -9,8 +11,10 @@ use Rattle.std.proofs.lemmas.List.Sums.{count_by_more_no, count_by_more_yes}
 use Rattle.ifs_sched.specs.declared.start.Start.{Start}
 use Rattle.ifs_sched.specs.declared.timer.Timer.{Timer}
 use Rattle.ifs_sched.specs.Timer.{is_due, started}
-use Rattle.ifs_sched.specs.Schedule.{any_by_index, collect_by_index, has_number, left_at, number_at, number_of, start_of, starts_at, ticked_test}
-use Rattle.ifs_sched.proofs.ByIndex.{any_by_index-more, changed_below, changed_below-more, changed_below-read, collect_by_index-more}
+use Rattle.ifs_sched.specs.Schedule.{any_by_index, collect_by_index, has_number, left_at}
+use Rattle.ifs_sched.specs.Schedule.{number_at, number_of, start_of, starts_at, ticked_test}
+use Rattle.ifs_sched.proofs.ByIndex.{any_by_index-more, changed_below, changed_below-more}
+use Rattle.ifs_sched.proofs.ByIndex.{changed_below-read, collect_by_index-more}
 
 -- the first i tests have had their turn in a tick
 pub record IsTickedBelow (now next : ℕ) (old : List Timer) (i : ℕ) (tests : List Timer) (starts : List Start) (exhausted : Bool) (number : ℕ) : Type 0 where

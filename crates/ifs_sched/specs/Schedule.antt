@@ -1,5 +1,6 @@
 -- The schedule of external tests: what each call makes of it.
-use Rattle.std.specs.Prelude.{ℕ, ◌+◌, ◌^◌, min, Bool, false, not, ◌&&◌, ◌==◌, nat_lt, if◌then◌else◌, List, map, length, take, slice_get, count_by, Option, Some, None}
+use Rattle.std.specs.Prelude.{ℕ, ◌+◌, ◌^◌, min, Bool, false, not, ◌&&◌, ◌==◌, nat_lt, if◌then◌else◌}
+use Rattle.std.specs.Prelude.{List, map, length, take, slice_get, count_by, Option, Some, None}
 use Rattle.std.specs.List.{enumerate_from, filter_map, list_any}
 use Rattle.std.specs.Int.{bit_at}
 use Rattle.ifs_sched.specs.declared.start.Start.{Start}

@@ -2,7 +2,8 @@
 
 ghost use Rattle.std.specs.Prelude.{◌≡◌, ◌<◌, ◌≤◌, ◌+◌, ◌^◌, length, map, min};
 ghost use Rattle.std.specs.List.{range_with_len};
-ghost use Rattle.ifs_sched.specs.Schedule.{any_by_index, collect_by_index, entered_test, has_test as is_in_mask, left_at, map_by_index, number_at, number_of, start_of, ticked_test};
+ghost use Rattle.ifs_sched.specs.Schedule.{any_by_index, collect_by_index, entered_test, has_test as is_in_mask};
+ghost use Rattle.ifs_sched.specs.Schedule.{left_at, map_by_index, number_at, number_of, start_of, ticked_test};
 
 use crate::start::{MAX_TESTS, Start};
 use crate::timer::Timer;

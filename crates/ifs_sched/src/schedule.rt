@@ -2,7 +2,8 @@
 
 ghost use Rattle.std.specs.Prelude.{◌≡◌, ◌<◌, ◌≤◌, ◌↔◌, ◌+◌, IsTrue, IsOk, IsErr, IfOk, OnOk, OnErr, All, length, map};
 ghost use Rattle.std.specs.List.{range_with_len};
-ghost use Rattle.ifs_sched.specs.Schedule.{all_off, entered, finished, is_exhausted, is_running, running_count, starts as starts_at, ticked};
+ghost use Rattle.ifs_sched.specs.Schedule.{all_off, entered, finished, is_exhausted, is_running};
+ghost use Rattle.ifs_sched.specs.Schedule.{running_count, starts as starts_at, ticked};
 
 use crate::rows::{enter_all, start_due};
 use crate::start::{MAX_TESTS, Start, Started};

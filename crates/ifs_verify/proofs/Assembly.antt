@@ -1,5 +1,6 @@
 -- From what is found of all routines to the rules of acceptance, and back.
-use Rattle.std.proofs.Common.{ℕ, ◌≡◌, ◌<◌, ◌≤◌, ◌+◌, ◌-◌, List, [], length, Some, slice_index, arith, refl, ap, sym, ◌∙◌, subst, inl, inr, ◌⊎◌}
+use Rattle.std.proofs.Common.{ℕ, ◌≡◌, ◌<◌, ◌≤◌, ◌+◌, ◌-◌, List, [], length, Some}
+use Rattle.std.proofs.Common.{slice_index, arith, refl, ap, sym, ◌∙◌, subst, inl, inr, ◌⊎◌}
 use Rattle.std.specs.List.{slice_get}
 use Rattle.std.proofs.lemmas.Bool.{cases_lt}
 use Rattle.ifs_base.specs.declared.ids.RoutineId.{RoutineId}
@@ -16,7 +17,8 @@ use Rattle.ifs_verify.specs.Bounds.{AreDepths, AreAmounts, callee_amount, FitsEv
 use Rattle.ifs_verify.specs.Accepted.{EachWithin, StackFits, FramesFit}
 use Rattle.ifs_verify.specs.Refused.{AreOver, AreTypedHeights, AreTotals}
 use Rattle.ifs_verify.specs.declared.fault.At.TheVariants.{Head, Code}
-use Rattle.ifs_verify.specs.inner.Passes.{PlainRulesHold, HoldsHeight, IsHeld, IsCounted, LeastHeights, LeastDepths, LeastAmounts, Reaches}
+use Rattle.ifs_verify.specs.inner.Passes.{PlainRulesHold, HoldsHeight, IsHeld, IsCounted}
+use Rattle.ifs_verify.specs.inner.Passes.{LeastHeights, LeastDepths, LeastAmounts, Reaches}
 use Rattle.ifs_verify.proofs.Instructions.{op_at-routine}
 
 -- One value for each number, where there is one for each number below another.

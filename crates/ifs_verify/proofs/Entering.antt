@@ -1,5 +1,6 @@
 -- The tables of bounds: what they keep when one more routine is entered.
-use Rattle.std.proofs.Common.{ℕ, ◌≡◌, ◌<◌, ◌≤◌, ◌+◌, ◌*◌, List, [], ◌∷◌, ◌++◌, length, get_or, Option, Some, None, slice_index, arith, refl, ap, sym, ◌∙◌, subst, inl, inr}
+use Rattle.std.proofs.Common.{ℕ, ◌≡◌, ◌<◌, ◌≤◌, ◌+◌, ◌*◌, List, [], ◌∷◌, ◌++◌, length, get_or, Option}
+use Rattle.std.proofs.Common.{Some, None, slice_index, arith, refl, ap, sym, ◌∙◌, subst, inl, inr}
 use Rattle.std.proofs.Math.Seq.{get_or-append_seam}
 use Rattle.std.proofs.lemmas.Bool.{cases_eq, cases_lt}
 use Rattle.std.proofs.lemmas.List.{get_or_append_left, get_or_past, length_push}
@@ -13,7 +14,8 @@ use Rattle.ifs_image.specs.Code.{op_at, code_of, effect}
 use Rattle.ifs_verify.specs.Rules.{IsRoutine}
 use Rattle.ifs_verify.specs.Typing.{IsTyping}
 use Rattle.ifs_verify.specs.Bounds.{AreDepths, AreAmounts, callee_amount}
-use Rattle.ifs_verify.specs.inner.Passes.{PlainRulesHold, IsTypedUpTo, row_at, HoldsHeight, AllHold, HoldsDepth, HoldsRow, IsHeld, IsCounted, LeastHeights, LeastDepths, LeastAmounts}
+use Rattle.ifs_verify.specs.inner.Passes.{PlainRulesHold, IsTypedUpTo, row_at, HoldsHeight, AllHold, HoldsDepth}
+use Rattle.ifs_verify.specs.inner.Passes.{HoldsRow, IsHeld, IsCounted, LeastHeights, LeastDepths, LeastAmounts}
 use Rattle.ifs_verify.proofs.Flow.{led_row}
 use Rattle.ifs_verify.proofs.Holding.{passed_at}
 use Rattle.ifs_verify.proofs.Instructions.{op_at-routine}

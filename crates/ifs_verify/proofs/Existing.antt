@@ -1,5 +1,6 @@
 -- Bounds exist, however large, where calls and jumps lead on.
-use Rattle.std.proofs.Common.{ℕ, zero, suc, ◌≡◌, ◌<◌, ◌≤◌, ◌+◌, ◌-◌, ◌*◌, List, slice_index, Some, arith, refl, ap, sym, ◌∙◌, inl, inr}
+use Rattle.std.proofs.Common.{ℕ, zero, suc, ◌≡◌, ◌<◌, ◌≤◌, ◌+◌, ◌-◌, ◌*◌, List}
+use Rattle.std.proofs.Common.{slice_index, Some, arith, refl, ap, sym, ◌∙◌, inl, inr}
 use Rattle.std.proofs.lemmas.Bool.{cases_lt}
 use Rattle.std.proofs.lemmas.Option.{slice_get_within}
 use Rattle.ifs_base.specs.declared.ids.RoutineId.{RoutineId}
@@ -9,9 +10,11 @@ use Rattle.ifs_image.specs.declared.parts.ImageParts.{ImageParts}
 use Rattle.ifs_image.specs.Code.{op_at, code_of}
 use Rattle.ifs_verify.specs.declared.fault.At.TheVariants.{Code}
 use Rattle.ifs_verify.specs.Rules.{IsRoutine}
-use Rattle.ifs_verify.specs.Bounds.{AreDepths, AreAmounts, callee_amount, cost_of, commands_of, FitsEvents, FitsHandlers}
+use Rattle.ifs_verify.specs.Bounds.{AreDepths, AreAmounts, callee_amount, cost_of}
+use Rattle.ifs_verify.specs.Bounds.{commands_of, FitsEvents, FitsHandlers}
 use Rattle.ifs_verify.specs.Refused.{AreOver, AreTotals}
-use Rattle.ifs_verify.specs.inner.Passes.{PlainRulesHold, HoldsDepth, IsCountedFrom, LeastDepths, LeastAmounts, weight_of, limit_of, stated_of}
+use Rattle.ifs_verify.specs.inner.Passes.{PlainRulesHold, HoldsDepth, IsCountedFrom, LeastDepths}
+use Rattle.ifs_verify.specs.inner.Passes.{LeastAmounts, weight_of, limit_of, stated_of}
 use Rattle.ifs_verify.specs.inner.Found.{IsAmount}
 use Rattle.ifs_verify.specs.declared.amounts.Weight.{Weight}
 use Rattle.ifs_verify.specs.declared.amounts.Weight.TheVariants.{Cost, Commands}

@@ -7,12 +7,17 @@ use Rattle.ifs_image.specs.Code.{op_at, effect, IsSuccessor}
 use Rattle.ifs_verify.specs.declared.fault.At.{At}
 use Rattle.ifs_verify.specs.declared.fault.At.TheVariants.{Head, State, Code}
 use Rattle.ifs_verify.specs.declared.fault.VerifyFault.{VerifyFault}
-use Rattle.ifs_verify.specs.declared.fault.VerifyFault.TheVariants.{NoImage, NoEntry, JumpTarget, LeftAtEnd, Unreached, WrongOperand, WaysDisagree, CallNotLower, WrongResults, StackOver, FramesOver, CostOver, CommandsOver, HandlerLeaves, OutOfMemory}
+use Rattle.ifs_verify.specs.declared.fault.VerifyFault.TheVariants.{NoImage, NoEntry, JumpTarget, LeftAtEnd, Unreached}
+use Rattle.ifs_verify.specs.declared.fault.VerifyFault.TheVariants.{WrongOperand, WaysDisagree, CallNotLower}
+use Rattle.ifs_verify.specs.declared.fault.VerifyFault.TheVariants.{WrongResults, StackOver, FramesOver, CostOver}
+use Rattle.ifs_verify.specs.declared.fault.VerifyFault.TheVariants.{CommandsOver, HandlerLeaves, OutOfMemory}
 use Rattle.ifs_verify.specs.Rules.{IndexesFit, HandlersLeaveNothing}
 use Rattle.ifs_verify.specs.Typing.{IsTyped, IsTyping, FlowsOn}
 use Rattle.ifs_verify.specs.Bounds.{cost_of, commands_of, FitsEvents, FitsHandlers, AreDepths}
 use Rattle.ifs_verify.specs.Accepted.{IsAccepted, EachWithin, StackFits}
-use Rattle.ifs_verify.specs.Refused.{Fails, LacksEntry, LeavesValue, InCode, JumpsElsewhere, IsOpenEnd, CallsNoLower, IsDead, LacksOperand, ReturnsOthers, LeavesList, LeavesMany, Disagrees, AreOver, AreTypedHeights, AreTotals}
+use Rattle.ifs_verify.specs.Refused.{Fails, LacksEntry, LeavesValue, InCode, JumpsElsewhere, IsOpenEnd}
+use Rattle.ifs_verify.specs.Refused.{CallsNoLower, IsDead, LacksOperand, ReturnsOthers, LeavesList}
+use Rattle.ifs_verify.specs.Refused.{LeavesMany, Disagrees, AreOver, AreTypedHeights, AreTotals}
 use Rattle.ifs_verify.proofs.Instructions.{op_at-routine}
 use Rattle.ifs_verify.proofs.Ways.{led}
 

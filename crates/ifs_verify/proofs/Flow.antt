@@ -1,5 +1,6 @@
 -- The forward pass: what its rows keep when a list of kinds is handed on, and what a refusal shows.
-use Rattle.std.proofs.Common.{ℕ, ◌≡◌, ◌≢◌, ◌<◌, ◌≤◌, ◌+◌, ◌-◌, List, [], length, replicate, Option, Some, None, arith, ap, sym, ◌∙◌, subst, inl, inr, ◌⊎◌}
+use Rattle.std.proofs.Common.{ℕ, ◌≡◌, ◌≢◌, ◌<◌, ◌≤◌, ◌+◌, ◌-◌, List, [], length, replicate}
+use Rattle.std.proofs.Common.{Option, Some, None, arith, ap, sym, ◌∙◌, subst, inl, inr, ◌⊎◌}
 use Rattle.std.proofs.Math.ListN.{set, length-set}
 use Rattle.std.proofs.lemmas.Bool.{cases_eq, cases_lt}
 use Rattle.std.proofs.lemmas.Option.{slice_get_within, slice_get_past}
@@ -13,10 +14,12 @@ use Rattle.ifs_image.specs.Code.{op_at, code_of, target_of, effect, IsSuccessor}
 use Rattle.ifs_verify.specs.Rules.{IsRoutine, RoutinesEnd, JumpsLeadOn}
 use Rattle.ifs_verify.specs.Ways.{Leads, begins, goes_on}
 use Rattle.ifs_verify.specs.Refused.{LeavesList, Disagrees}
-use Rattle.ifs_verify.specs.inner.Passes.{next_of, row_at, Extends, Leaves, HasPassed, IsTypedUpTo, PlainRulesHold, Yields, AreAhead, AreClear, IsCleared, Stands, IsLeft}
+use Rattle.ifs_verify.specs.inner.Passes.{next_of, row_at, Extends, Leaves, HasPassed, IsTypedUpTo}
+use Rattle.ifs_verify.specs.inner.Passes.{PlainRulesHold, Yields, AreAhead, AreClear, IsCleared, Stands, IsLeft}
 use Rattle.ifs_verify.proofs.Ways.{Leads-later}
 use Rattle.ifs_verify.proofs.Instructions.{op_at-routine}
-use Rattle.ifs_verify.proofs.Rows.{Extends-set, row_at-set_same, row_at-set_other, row_at-set_cases, row_at-none, some_kinds}
+use Rattle.ifs_verify.proofs.Rows.{Extends-set, row_at-set_same, row_at-set_other}
+use Rattle.ifs_verify.proofs.Rows.{row_at-set_cases, row_at-none, some_kinds}
 
 -- A successor is the next place or the target.
 pub successor_cases : (op : Op) (place to : ℕ) → IsSuccessor op place to → (next_of op place ≡ Some to) ⊎ (target_of op ≡ Some to)

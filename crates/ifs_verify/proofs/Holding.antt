@@ -5,7 +5,8 @@ use Rattle.ifs_base.specs.declared.op.Kind.{Kind}
 use Rattle.ifs_base.specs.declared.op.Op.{Op}
 use Rattle.ifs_image.specs.declared.parts.ImageParts.{ImageParts}
 use Rattle.ifs_image.specs.Code.{op_at, code_of, effect}
-use Rattle.ifs_verify.specs.inner.Passes.{PlainRulesHold, HoldsHeight, IsTypedUpTo, IsHighEnough, HoldsAt, NeedsHeight, AllHold, Stands, Yields, row_at}
+use Rattle.ifs_verify.specs.inner.Passes.{PlainRulesHold, HoldsHeight, IsTypedUpTo, IsHighEnough}
+use Rattle.ifs_verify.specs.inner.Passes.{HoldsAt, NeedsHeight, AllHold, Stands, Yields, row_at}
 use Rattle.ifs_verify.proofs.Ways.{Leads-later}
 use Rattle.ifs_verify.proofs.Flow.{led_row}
 

@@ -1,5 +1,6 @@
 -- What follows from an instruction that stands at a place.
-use Rattle.std.proofs.Common.{ℕ, ◌≡◌, ◌≢◌, ◌<◌, length, Option, Some, None, ap, ◌∙◌, ◌+◌, ◌-◌, List, inl, inr, arith, subst, sym}
+use Rattle.std.proofs.Common.{ℕ, ◌≡◌, ◌≢◌, ◌<◌, length, Option, Some, None, ap}
+use Rattle.std.proofs.Common.{◌∙◌, ◌+◌, ◌-◌, List, inl, inr, arith, subst, sym}
 use Rattle.std.specs.List.{slice_get}
 use Rattle.std.proofs.lemmas.Bool.{cases_lt}
 use Rattle.std.proofs.lemmas.Option.{slice_get_past, slice_get_within}

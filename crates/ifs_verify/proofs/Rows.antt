@@ -1,5 +1,6 @@
 -- Rows of lists of kinds: what stands at a place after another was written, and what one reads.
-use Rattle.std.proofs.Common.{ℕ, zero, suc, replicate, ◌≡◌, ◌≢◌, ◌<◌, List, length, Option, Some, None, get_or, arith, refl, ap, sym, ◌∙◌, subst, inl, inr, ◌⊎◌}
+use Rattle.std.proofs.Common.{ℕ, zero, suc, replicate, ◌≡◌, ◌≢◌, ◌<◌, List, length, Option, Some}
+use Rattle.std.proofs.Common.{None, get_or, arith, refl, ap, sym, ◌∙◌, subst, inl, inr, ◌⊎◌}
 use Rattle.std.specs.List.{slice_get}
 use Rattle.std.specs.Option.{option_flatten}
 use Rattle.std.proofs.Math.ListN.{set, length-set}

@@ -1,9 +1,12 @@
 -- From an image's limits to what the checks rest on, and from their answers to what a refusal says.
-use Rattle.std.proofs.Common.{ℕ, ◌≡◌, ◌≢◌, ◌≤◌, List, length, Option, Some, None, Result, Ok, Err, arith, refl, ap, sym, ◌∙◌, subst}
+use Rattle.std.proofs.Common.{ℕ, ◌≡◌, ◌≢◌, ◌≤◌, List, length, Option, Some, None}
+use Rattle.std.proofs.Common.{Result, Ok, Err, arith, refl, ap, sym, ◌∙◌, subst}
 use Rattle.std.proofs.lemmas.Option.{get_or_from_slice_get, slice_get_within}
 use Rattle.std.specs.List.{slice_get, All}
 use Rattle.ifs_image.specs.declared.fault.ImageFault.{ImageFault}
-use Rattle.ifs_image.specs.declared.fault.ImageFault.TheVariants.{Truncated, WrongMagic, WrongVersion, OutOfLimit, BadText, RepeatedName, Trailing, NoInstruction, Memory}
+use Rattle.ifs_image.specs.declared.fault.ImageFault.TheVariants.{Truncated, WrongMagic, WrongVersion}
+use Rattle.ifs_image.specs.declared.fault.ImageFault.TheVariants.{OutOfLimit, BadText, RepeatedName}
+use Rattle.ifs_image.specs.declared.fault.ImageFault.TheVariants.{Trailing, NoInstruction, Memory}
 use Rattle.ifs_image.specs.declared.parts.Routine.{Routine}
 use Rattle.ifs_image.specs.declared.parts.ImageParts.{ImageParts}
 use Rattle.ifs_image.specs.Code.{code_in}
@@ -11,7 +14,10 @@ use Rattle.ifs_image.specs.Limits.{Fits, RoutineFits}
 use Rattle.ifs_image.specs.Spelling.{Spells}
 use Rattle.ifs_image.specs.Reading.{image_of}
 use Rattle.ifs_verify.specs.declared.fault.VerifyFault.{VerifyFault}
-use Rattle.ifs_verify.specs.declared.fault.VerifyFault.TheVariants.{NoImage, NoEntry, JumpTarget, LeftAtEnd, Unreached, WrongOperand, WaysDisagree, CallNotLower, WrongResults, StackOver, FramesOver, CostOver, CommandsOver, HandlerLeaves, OutOfMemory}
+use Rattle.ifs_verify.specs.declared.fault.VerifyFault.TheVariants.{NoImage, NoEntry, JumpTarget, LeftAtEnd, Unreached}
+use Rattle.ifs_verify.specs.declared.fault.VerifyFault.TheVariants.{WrongOperand, WaysDisagree, CallNotLower}
+use Rattle.ifs_verify.specs.declared.fault.VerifyFault.TheVariants.{WrongResults, StackOver, FramesOver, CostOver}
+use Rattle.ifs_verify.specs.declared.fault.VerifyFault.TheVariants.{CommandsOver, HandlerLeaves, OutOfMemory}
 use Rattle.ifs_verify.specs.Accepted.{IsAccepted}
 use Rattle.ifs_verify.specs.Refused.{refusal_of, Fails, IsRefusal}
 use Rattle.ifs_verify.specs.Laws.{RefusedAreNotAccepted}

@@ -2,7 +2,8 @@
 use Rattle.std.specs.Prelude.{ℕ, ◌≤◌, List}
 use Rattle.ifs_base.specs.declared.op.Kind.{Kind}
 use Rattle.ifs_image.specs.declared.parts.ImageParts.{ImageParts}
-use Rattle.ifs_verify.specs.Rules.{IsRoutine, IndexesFit, HandlersLeaveNothing, JumpsLeadOn, RoutinesEnd, CallsGoDown, PlacesAreReached}
+use Rattle.ifs_verify.specs.Rules.{IsRoutine, IndexesFit, HandlersLeaveNothing}
+use Rattle.ifs_verify.specs.Rules.{JumpsLeadOn, RoutinesEnd, CallsGoDown, PlacesAreReached}
 use Rattle.ifs_verify.specs.Typing.{AreTypings, IsTyped}
 use Rattle.ifs_verify.specs.Bounds.{AreHeights, AreDepths, AreAmounts, cost_of, commands_of, FitsEvents, FitsHandlers}
 

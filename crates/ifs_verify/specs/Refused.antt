@@ -14,7 +14,10 @@ use Rattle.ifs_image.specs.Reading.{image_of}
 use Rattle.ifs_verify.specs.declared.fault.At.{At}
 use Rattle.ifs_verify.specs.declared.fault.At.TheVariants.{Head, State, Code}
 use Rattle.ifs_verify.specs.declared.fault.VerifyFault.{VerifyFault}
-use Rattle.ifs_verify.specs.declared.fault.VerifyFault.TheVariants.{NoImage, NoEntry, JumpTarget, LeftAtEnd, Unreached, WrongOperand, WaysDisagree, CallNotLower, WrongResults, StackOver, FramesOver, CostOver, CommandsOver, HandlerLeaves, OutOfMemory}
+use Rattle.ifs_verify.specs.declared.fault.VerifyFault.TheVariants.{NoImage, NoEntry, JumpTarget, LeftAtEnd, Unreached}
+use Rattle.ifs_verify.specs.declared.fault.VerifyFault.TheVariants.{WrongOperand, WaysDisagree, CallNotLower}
+use Rattle.ifs_verify.specs.declared.fault.VerifyFault.TheVariants.{WrongResults, StackOver, FramesOver, CostOver}
+use Rattle.ifs_verify.specs.declared.fault.VerifyFault.TheVariants.{CommandsOver, HandlerLeaves, OutOfMemory}
 use Rattle.ifs_verify.specs.Rules.{IsRoutine, AreIndexes, HasOperand, LeaveNothing, IsReached}
 use Rattle.ifs_verify.specs.Typing.{AreTypings}
 use Rattle.ifs_verify.specs.Ways.{Leads}

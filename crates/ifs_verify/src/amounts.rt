@@ -7,7 +7,8 @@ ghost use Rattle.ifs_image.specs.Code.{op_at, IsSuccessor};
 ghost use Rattle.ifs_verify.specs.declared.amounts.Weight.TheVariants.{Cost, Commands};
 ghost use Rattle.ifs_verify.specs.Bounds.{callee_amount, cost_of, commands_of};
 ghost use Rattle.ifs_verify.specs.Rules.{IsRoutine};
-ghost use Rattle.ifs_verify.specs.inner.Passes.{IsSized, PlainRulesHold, HoldsAmount, IsCountedFrom, LeastAmounts, weight_of, limit_of, amount_behind};
+ghost use Rattle.ifs_verify.specs.inner.Passes.{IsSized, PlainRulesHold, HoldsAmount, IsCountedFrom};
+ghost use Rattle.ifs_verify.specs.inner.Passes.{LeastAmounts, weight_of, limit_of, amount_behind};
 ghost use Rattle.ifs_verify.specs.inner.Found.{IsAmount, HaveRoom};
 
 use crate::places::{code, next, op_at, room, target};

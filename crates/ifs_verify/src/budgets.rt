@@ -1,13 +1,15 @@
 //! The stated budgets, against the bounds of the handlers.
 
-ghost use Rattle.std.specs.Prelude.{ℕ, ◌≡◌, ◌+◌, ◌<◌, ◌≤◌, ◌↔◌, Some, IsTrue, OnOk, IfErr, length, slice_get, slice_index};
+ghost use Rattle.std.specs.Prelude.{ℕ, ◌≡◌, ◌+◌, ◌<◌, ◌≤◌, ◌↔◌, Some, IsTrue};
+ghost use Rattle.std.specs.Prelude.{OnOk, IfErr, length, slice_get, slice_index};
 ghost use Rattle.ifs_image.specs.declared.parts.StateSpec.{StateSpec};
 ghost use Rattle.ifs_verify.specs.Bounds.{FitsEvents, FitsHandlers};
 ghost use Rattle.std.specs.Bool.{OnTrue, OnFalse};
 ghost use Rattle.ifs_verify.specs.declared.fault.At.TheVariants.{Head};
 ghost use Rattle.ifs_verify.specs.Rules.{IsRoutine, AreRoutines, IndexesFit};
 ghost use Rattle.ifs_verify.specs.Refused.{StackIsOver, FramesAreOver};
-ghost use Rattle.ifs_verify.specs.inner.Passes.{PlainRulesHold, IsRefused, LeastHeights, LeastDepths, LeastAmounts, AmountIsOver, Reaches, handler_in, weight_of, limit_of, stated_of};
+ghost use Rattle.ifs_verify.specs.inner.Passes.{PlainRulesHold, IsRefused, LeastHeights, LeastDepths, LeastAmounts};
+ghost use Rattle.ifs_verify.specs.inner.Passes.{AmountIsOver, Reaches, handler_in, weight_of, limit_of, stated_of};
 ghost use Rattle.ifs_verify.specs.inner.Found.{AreFound};
 
 use crate::amounts::Weight;

@@ -5,7 +5,8 @@ ghost use Rattle.ifs_base.specs.declared.ids.RoutineId.{RoutineId};
 ghost use Rattle.ifs_base.specs.declared.op.Op.TheVariants.{Call};
 ghost use Rattle.ifs_image.specs.Code.{code_of};
 ghost use Rattle.ifs_verify.specs.Rules.{IsRoutine};
-ghost use Rattle.ifs_verify.specs.inner.Passes.{PlainRulesHold, IsRefused, IsTypable, AllHold, IsHighEnough, AreLow, AreClear};
+ghost use Rattle.ifs_verify.specs.inner.Passes.{PlainRulesHold, IsRefused, IsTypable};
+ghost use Rattle.ifs_verify.specs.inner.Passes.{AllHold, IsHighEnough, AreLow, AreClear};
 
 use crate::fault::VerifyFault;
 use crate::places::{code, op_at};

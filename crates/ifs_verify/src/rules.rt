@@ -8,7 +8,8 @@ ghost use Rattle.ifs_image.specs.declared.parts.StateSpec.{StateSpec};
 ghost use Rattle.ifs_image.specs.Code.{op_at, target_of};
 ghost use Rattle.std.specs.Bool.{OnTrue, OnFalse};
 ghost use Rattle.ifs_verify.specs.declared.fault.At.TheVariants.{Code};
-ghost use Rattle.ifs_verify.specs.Rules.{IsRoutine, AreRoutines, IsMask, HasOperand, LeaveNothing, IndexesFit, HandlersLeaveNothing, JumpsLeadOn, RoutinesEnd, CallsGoDown, PlacesAreReached};
+ghost use Rattle.ifs_verify.specs.Rules.{IsRoutine, AreRoutines, IsMask, HasOperand, LeaveNothing, IndexesFit};
+ghost use Rattle.ifs_verify.specs.Rules.{HandlersLeaveNothing, JumpsLeadOn, RoutinesEnd, CallsGoDown, PlacesAreReached};
 ghost use Rattle.ifs_verify.specs.Refused.{Fails};
 ghost use Rattle.ifs_verify.specs.inner.Passes.{IsSized, Keeps, fault_of};
 

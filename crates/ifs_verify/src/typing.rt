@@ -4,7 +4,8 @@
 //! lists that jumps brought to later places; where the pass comes to such a place by falling through,
 //! both have to be the same.
 
-ghost use Rattle.std.specs.Prelude.{ℕ, ◌≡◌, ◌≢◌, ◌+◌, ◌^◌, ◌<◌, ◌≤◌, List, Option, Some, None, length, slice_index, IfOk, OnOk, IfErr};
+ghost use Rattle.std.specs.Prelude.{ℕ, ◌≡◌, ◌≢◌, ◌+◌, ◌^◌, ◌<◌, ◌≤◌, List, Option};
+ghost use Rattle.std.specs.Prelude.{Some, None, length, slice_index, IfOk, OnOk, IfErr};
 ghost use Rattle.std.specs.Bool.{OnTrue, OnFalse};
 ghost use Rattle.ifs_base.specs.declared.op.Kind.{Kind};
 ghost use Rattle.ifs_base.specs.declared.op.Op.TheVariants.{Ret};
@@ -12,7 +13,8 @@ ghost use Rattle.ifs_image.specs.Code.{op_at, code_of, results_of, target_of, ef
 ghost use Rattle.ifs_verify.specs.Rules.{IsRoutine, HasOperand};
 ghost use Rattle.ifs_verify.specs.Ways.{Leads};
 ghost use Rattle.ifs_verify.specs.Refused.{ReturnsOthers, LacksOperand, LeavesList, LeavesMany, Disagrees};
-ghost use Rattle.ifs_verify.specs.inner.Passes.{IsSized, PlainRulesHold, IsRefused, Yields, Stands, IsLeft, IsCleared, AreClear, NeedsHeight, AreLow, row_at};
+ghost use Rattle.ifs_verify.specs.inner.Passes.{IsSized, PlainRulesHold, IsRefused, Yields, Stands};
+ghost use Rattle.ifs_verify.specs.inner.Passes.{IsLeft, IsCleared, AreClear, NeedsHeight, AreLow, row_at};
 
 use crate::effects::{apply, keeps_results};
 use crate::fault::VerifyFault;

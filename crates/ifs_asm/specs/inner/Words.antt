@@ -1,5 +1,6 @@
 -- Reading words: where a word ends, the words of a line, and what quoted texts and lists of tests say.
-use Rattle.std.specs.Prelude.{ℕ, zero, suc, ◌+◌, ◌-◌, ◌*◌, ◌^◌, ◌==◌, ◌&&◌, ◌||◌, not, nat_lt, Bool, false, if◌then◌else◌, List, [], ◌∷◌, codes, take, drop, Option, Some, None, option_and_then}
+use Rattle.std.specs.Prelude.{ℕ, zero, suc, ◌+◌, ◌-◌, ◌*◌, ◌^◌, ◌==◌, ◌&&◌, ◌||◌, not, nat_lt, Bool, false}
+use Rattle.std.specs.Prelude.{if◌then◌else◌, List, [], ◌∷◌, codes, take, drop, Option, Some, None, option_and_then}
 use Rattle.std.specs.List.{slice_split, prefix_len}
 use Rattle.std.specs.Str.{bytes_eq, is_utf8}
 use Rattle.ifs_base.specs.Numbers.{number_of}

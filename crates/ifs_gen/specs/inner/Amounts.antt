@@ -7,16 +7,8 @@ use Rattle.ifs_gen.specs.declared.amounts.Amount.{Amount}
 use Rattle.ifs_gen.specs.declared.amounts.Amount.TheVariants.{Size, Height, Runs}
 use Rattle.ifs_gen.specs.Trees.{Part}
 use Rattle.ifs_gen.specs.PlainCode.{plain_coder, block_height, block_runs}
-use Rattle.ifs_gen.specs.PlainImage.{
-  greatest,
-  number_in,
-  init_length,
-  body_length,
-  most_of_routine,
-  most_of_all,
-  most_of_stack,
-  most_of_event,
-}
+use Rattle.ifs_gen.specs.PlainImage.{greatest, number_in, init_length, body_length}
+use Rattle.ifs_gen.specs.PlainImage.{most_of_routine, most_of_all, most_of_stack, most_of_event}
 use Rattle.ifs_gen.specs.Refused.{AreWithin}
 use Rattle.ifs_gen.specs.inner.Measures.{capped}
 

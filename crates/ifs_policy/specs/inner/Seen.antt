@@ -3,16 +3,8 @@ use Rattle.std.specs.Prelude.{ℕ}
 use Rattle.std.specs.Borrow.{Bor}
 use Rattle.ifs_parse.specs.declared.tree.Name.{Name}
 use Rattle.ifs_policy.specs.declared.mention.Mention.{Mention}
-use Rattle.ifs_policy.specs.declared.mention.Mention.TheVariants.{
-  Interface,
-  External,
-  Command,
-  Defined,
-  Wanted,
-  Init,
-  InitState,
-  SetState,
-}
+use Rattle.ifs_policy.specs.declared.mention.Mention.TheVariants.{Interface, External, Command, Defined}
+use Rattle.ifs_policy.specs.declared.mention.Mention.TheVariants.{Wanted, Init, InitState, SetState}
 
 abbrev pub seen : Mention (Bor Name) (Bor ℕ) → Mention Name ℕ
 seen (Interface name) = Interface name.now

@@ -6,7 +6,8 @@ use Rattle.ifs_verify.specs.declared.amounts.Weight.{Weight}
 use Rattle.ifs_verify.specs.declared.bounds.Bounds.{Bounds}
 use Rattle.ifs_verify.specs.declared.fault.At.TheVariants.{Code}
 use Rattle.ifs_verify.specs.Bounds.{AreAmounts, cost_of, commands_of}
-use Rattle.ifs_verify.specs.inner.Passes.{HoldsRow, IsRoom, AmountIsOver, LeastDepths, LeastAmounts, weight_of, limit_of}
+use Rattle.ifs_verify.specs.inner.Passes.{HoldsRow, IsRoom, AmountIsOver, LeastDepths}
+use Rattle.ifs_verify.specs.inner.Passes.{LeastAmounts, weight_of, limit_of}
 
 -- An amount of a routine, where those of the routines below are known: large enough, below every other, and over where it passes the limit.
 pub record IsAmount (weight : Weight) (image : ImageParts) (lower : List ℕ) (routine amount : ℕ) : Type 0 where

@@ -2,7 +2,8 @@
 use Rattle.std.proofs.Common.{sym, ap, ◌∙◌, arith}
 use Rattle.ifs_sched.specs.Schedule.{number_of}
 use Rattle.ifs_sched.specs.Timer.{inactive}
-use Rattle.ifs_sched.proofs.Ticking.{IsTickedBelow-none, IsTickedBelow-skipped, IsTickedBelow-started, IsTickedBelow-left, number_of-checked}
+use Rattle.ifs_sched.proofs.Ticking.{IsTickedBelow-none, IsTickedBelow-skipped}
+use Rattle.ifs_sched.proofs.Ticking.{IsTickedBelow-started, IsTickedBelow-left, number_of-checked}
 use Rattle.ifs_sched.proofs.rows.start_due.Goals as goal
 use Rattle.ifs_sched.proofs.rows.start_due.Goals.{in-Some, in-None}
 

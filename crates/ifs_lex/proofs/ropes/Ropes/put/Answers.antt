@@ -1,7 +1,8 @@
 use Rattle.std.proofs.Common.{arith, ap, ◌++◌, map, sym}
 use Rattle.ifs_lex.specs.Expansion.{token}
 use Rattle.ifs_lex.specs.Ropes.{stacked}
-use Rattle.ifs_lex.proofs.RopeLaws.{cells_within, cell_at, none_put, leaf_put, both_put, both_earlier, both_lighter, weight_some, leaf_out, all_two}
+use Rattle.ifs_lex.proofs.RopeLaws.{cells_within, cell_at, none_put, leaf_put, both_put}
+use Rattle.ifs_lex.proofs.RopeLaws.{both_earlier, both_lighter, weight_some, leaf_out, all_two}
 use Rattle.ifs_lex.proofs.ropes.Ropes.put.Goals as goal
 
 pub index-requires : goal.index-requires
