@@ -17,13 +17,15 @@ use Rattle.ifs_asm.specs.declared.forms.Formed.{Formed}
 use Rattle.ifs_asm.specs.declared.line.Line.{Line}
 use Rattle.ifs_asm.specs.declared.line.Line.TheVariants as lines
 use Rattle.ifs_asm.specs.Texts.{front_lines, routine_lines}
-use Rattle.ifs_asm.specs.Refused.{EachBreaks, StandsIn, Repeats, IsLong, IsOver, SaysLine}
+use Rattle.ifs_asm.specs.Refused.{EachBreaks, StandsIn, Repeats, IsLong, IsOver, IsOneTooMany, IsOutOfPlace}
 use Rattle.ifs_asm.specs.inner.Forms.{formed}
 use Rattle.ifs_asm.specs.inner.Building.{Built, listed_routine, current_len, parts_of}
 use Rattle.ifs_asm.specs.inner.Building.{lines_said, has_name, is_full, line_in}
 use Rattle.ifs_asm.specs.inner.Reading.{Blames}
 use Rattle.ifs_asm.proofs.Bytes.{same_word}
 use Rattle.ifs_asm.proofs.BuildFits.{IsWithin}
+use Rattle.ifs_asm.proofs.BuildFound.{Sound}
+use Rattle.ifs_asm.proofs.Picked.{repeats_none, over_none}
 use Rattle.ifs_asm.proofs.TextLaws.{line_in_found, line_in_again}
 
 -- ---- a line among others
@@ -192,16 +194,17 @@ pub blames_name : (b : Built) (said : List Line) (bytes : List ℕ) → lines_sa
 blames_name b said bytes same blames = λ line says fits.
     subst (λ (ls : List Line). Repeats ls line) same (repeats b line (blames line (line_in_again bytes line says fits)))
 
-pub blames_count : (b : Built) (said : List Line) (bytes : List ℕ) → IsWithin b → lines_said b ≡ said → Blames b (line_in bytes) faults.OutOfRange → EachBreaks (IsOver said) bytes
+pub blames_count : (b : Built) (said : List Line) (bytes : List ℕ) → IsWithin b → lines_said b ≡ said → Blames b (line_in bytes) faults.OutOfRange → EachBreaks (IsOneTooMany said) bytes
 blames_count b said bytes within same blames = λ line says fits.
-    subst (λ (ls : List Line). IsOver ls line) same (over b line within (blames line (line_in_again bytes line says fits)))
+    let broken = blames line (line_in_again bytes line says fits) in
+    subst (λ (ls : List Line). IsOneTooMany ls line) same (over b line within broken.1, repeats_none b line broken.0)
 
-pub blames_order : (b : Built) (bytes : List ℕ) → Blames b (line_in bytes) faults.OutOfOrder → SaysLine bytes
-blames_order b bytes blames =
+pub blames_order : (b : Built) (said : List Line) (bytes : List ℕ) → IsWithin b → Sound b → lines_said b ≡ said → Blames b (line_in bytes) faults.OutOfOrder → IsOutOfPlace said bytes
+blames_order b said bytes within sound same blames =
     let f = line_in_found bytes blames.0 blames.1 in
-    record { line = blames.0; says = f.0; fits = f.1 }
+    subst (λ (ls : List Line). IsOutOfPlace ls bytes) same (record { line = blames.0; says = f.0; fits = f.1; new = repeats_none b blames.0 blames.2; room = over_none b blames.0 within sound blames.3 })
 
 -- ---- a form whose numbers and texts are in their ranges says a line
 
-pub form_late : (b : Built) (form : Formed) → form.fits ≡ true → Blames b (formed (Some form)) faults.OutOfOrder
-form_late b form h = (form.line, rw h refl)
+pub form_late : (b : Built) (form : Formed) → form.fits ≡ true → has_name b form.line ≡ false → is_full b form.line ≡ false → Blames b (formed (Some form)) faults.OutOfOrder
+form_late b form h new free = (form.line, rw h refl, new, free)

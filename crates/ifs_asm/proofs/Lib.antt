@@ -19,5 +19,6 @@ mod Steps
 mod Utf8
 mod Shapes
 mod Completed
+mod Picked
 mod Blamed
 mod Told

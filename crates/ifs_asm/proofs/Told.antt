@@ -13,12 +13,13 @@ use Rattle.ifs_asm.specs.declared.line.Line.{Line}
 use Rattle.ifs_asm.specs.Texts.{lines_of}
 use Rattle.ifs_asm.specs.Spellings.{Says, Spells, spoken, is_silent}
 use Rattle.ifs_asm.specs.Refused.{without_empty_last, text_lines, speaking, GoOn, EachBreaks}
-use Rattle.ifs_asm.specs.Refused.{Repeats, IsOver, SaysLine, StopsAt, EndsEarly, IsRefused}
+use Rattle.ifs_asm.specs.Refused.{Repeats, IsOneTooMany, IsOutOfPlace, StopsAt, EndsEarly, IsRefused}
 use Rattle.ifs_asm.specs.inner.Building.{Built, line_in, built_by, nothing, spoken_line}
 use Rattle.ifs_asm.specs.inner.Reading.{AreRead, Blames, fault_at}
 use Rattle.ifs_asm.proofs.Cuts.{cut_some, cut_none, line_case}
 use Rattle.ifs_asm.proofs.Completed.{GoesOn, goes_on, never_goes_on}
 use Rattle.ifs_asm.proofs.BuildFits.{IsWithin, nothing_within, built_within}
+use Rattle.ifs_asm.proofs.BuildFound.{Sound, built_said, nothing_sound}
 use Rattle.ifs_asm.proofs.Blamed.{blames_name, blames_count, blames_order}
 use Rattle.ifs_asm.proofs.Steps.{by_append}
 
@@ -116,6 +117,7 @@ pub record Stopped (text : List ℕ) (n : ℕ) (b : Built) (line : List ℕ) : T
   pub number_is : n ≡ length before + 1
   pub goes_on : GoesOn before b
   pub within : IsWithin b
+  pub sound : Sound b
   pub stop : GoOn (before ++ line ∷ []) → ⊥
 
 pub stops_at : (text left line rest : List ℕ) (b : Built) (n : ℕ) → AreRead text left b n → text_lines left ≡ line ∷ text_lines rest → built_by b (spoken_line line) ≡ None → Stopped text n b line
@@ -126,6 +128,7 @@ stops_at text left line rest b n r cut none = record {
   number_is = r.number_is;
   goes_on = goes_on r.done b r.built;
   within = built_within nothing b (speaking r.done) nothing_within r.built;
+  sound = (built_said nothing b (speaking r.done) nothing_sound r.built).sound;
   stop = never_goes_on (r.done ++ line ∷ []) (with_last r.done line b None r.built none);
 }
 
@@ -180,7 +183,8 @@ told_at text faults.Unknown n b line stopped blames other =
     with_fault text n b line (λ said bytes. EachBreaks (Repeats said) bytes) s (blames_name b s.goes_on.go_on.said line s.goes_on.said_is blames)
 told_at text faults.OutOfRange n b line stopped blames other =
     let s = stopped (λ e. absurd cc) in
-    with_fault text n b line (λ said bytes. EachBreaks (IsOver said) bytes) s (blames_count b s.goes_on.go_on.said line s.within s.goes_on.said_is blames)
+    with_fault text n b line (λ said bytes. EachBreaks (IsOneTooMany said) bytes) s (blames_count b s.goes_on.go_on.said line s.within s.goes_on.said_is blames)
 told_at text faults.OutOfOrder n b line stopped blames other =
-    inl (with_fault text n b line (λ said bytes. SaysLine bytes) (stopped (λ e. absurd cc)) (blames_order b line blames))
+    let s = stopped (λ e. absurd cc) in
+    inl (with_fault text n b line IsOutOfPlace s (blames_order b s.goes_on.go_on.said line s.within s.sound s.goes_on.said_is blames))
 told_at text faults.Memory n b line stopped blames other = absurd (other refl)

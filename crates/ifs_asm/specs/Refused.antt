@@ -114,11 +114,17 @@ IsOver said (lines.Routine results) = EndsWith (λ routines. 1024 ≤ length rou
 IsOver said (lines.Instruction op) = IsLong said ⊎ EndsWith (λ routines. 8192 ≤ instructions routines) said
 IsOver said _ = ⊥
 
--- Bytes say a line in its ranges.
-pub record SaysLine (bytes : List ℕ) : Type 0 where
+-- A line passes a count, and repeats no name.
+abbrev pub IsOneTooMany : List Line → Line → Type 0
+IsOneTooMany said line = IsOver said line × (Repeats said line → ⊥)
+
+-- Bytes say a line in its ranges, which repeats no name and passes no count: only its place among the lines is wrong.
+pub record IsOutOfPlace (said : List Line) (bytes : List ℕ) : Type 0 where
   pub line : Line
   pub says : Says bytes line
   pub fits : LineFits line
+  pub new : Repeats said line → ⊥
+  pub room : IsOver said line → ⊥
 
 -- A line of a text, counted from 1, is the first with which its lines do not go on; something holds of it, after what was said before.
 pub record StopsAt (text : List ℕ) (number : ℕ) (Fault : List Line → List ℕ → Type 0) : Type 0 where
@@ -138,10 +144,10 @@ pub record EndsEarly (text : List ℕ) (number : ℕ) : Type 0 where
   pub number_is : number ≡ length (text_lines text) + 1
 
 -- What a refusal says of a text, at the line that it tells. Unknown: what is said there in its ranges, if anything is, repeats a
--- name. Out of range: it passes a count. Out of order: something is said there in its ranges, which cannot follow; or something
--- is missing at the end. Want of memory says nothing of a line.
+-- name. Out of range: it passes a count, and repeats no name. Out of order: something is said there in its ranges, which does
+-- neither and cannot follow; or something is missing at the end. Want of memory says nothing of a line.
 abbrev pub IsRefused : List ℕ → AsmFault → Type 0
 IsRefused text (Unknown line) = StopsAt text line (λ said bytes. EachBreaks (Repeats said) bytes)
-IsRefused text (OutOfRange line) = StopsAt text line (λ said bytes. EachBreaks (IsOver said) bytes)
-IsRefused text (OutOfOrder line) = StopsAt text line (λ said bytes. SaysLine bytes) ⊎ EndsEarly text line
+IsRefused text (OutOfRange line) = StopsAt text line (λ said bytes. EachBreaks (IsOneTooMany said) bytes)
+IsRefused text (OutOfOrder line) = StopsAt text line IsOutOfPlace ⊎ EndsEarly text line
 IsRefused text Memory = ⊥

@@ -1,5 +1,5 @@
 -- What is known while the lines of a text are read.
-use Rattle.std.specs.Prelude.{ℕ, ◌≡◌, ◌+◌, ◌≤◌, List, ◌++◌, length, true, Option, Some}
+use Rattle.std.specs.Prelude.{ℕ, ◌≡◌, ◌+◌, ◌≤◌, List, ◌++◌, length, true, false, Option, Some}
 use Rattle.ifs_asm.specs.declared.fault.AsmFault.{AsmFault}
 use Rattle.ifs_asm.specs.declared.fault.AsmFault.TheVariants as told
 use Rattle.ifs_asm.specs.declared.fault.LineFault.{LineFault}
@@ -26,6 +26,6 @@ fault_at Memory number = told.Memory
 -- What a fault says of the line that is read, if one is, after what was built.
 abbrev pub Blames : Built → Option Line → LineFault → Type 0
 Blames b read Unknown = (line : Line) → read ≡ Some line → has_name b line ≡ true
-Blames b read OutOfRange = (line : Line) → read ≡ Some line → is_full b line ≡ true
-Blames b read OutOfOrder = (line : Line) × (read ≡ Some line)
+Blames b read OutOfRange = (line : Line) → read ≡ Some line → (has_name b line ≡ false) × (is_full b line ≡ true)
+Blames b read OutOfOrder = (line : Line) × (read ≡ Some line) × (has_name b line ≡ false) × (is_full b line ≡ false)
 Blames b read Memory = Unit {0}
