@@ -4,7 +4,7 @@ use Rattle.std.specs.List.{cons_option, enumerate_from, filter_map}
 use Rattle.std.proofs.lemmas.List.Elements.{All-nil, All-cons}
 use Rattle.ifs_sched.specs.declared.start.Start.{Start}
 use Rattle.ifs_sched.specs.declared.timer.Timer.{Timer}
-use Rattle.ifs_sched.specs.Schedule.{collect_by_index, number_at, start_of, starts_at}
+use Rattle.ifs_sched.specs.Schedule.{collect_by_index, run_number_at, start_of, starts_at}
 
 -- a fact of a list and of what may stand before it
 All-cons_option_if : (P : Start → Type 0) (b : Bool) (x : Start) (xs : List Start) → P x → All P xs
@@ -17,7 +17,7 @@ within_from : (now next limit : ℕ) (old : List Timer) (n : ℕ) (tests : List 
     → All (λ start. start.test.0 < limit) (filter_map (λ p. start_of now next old p.0 p.1) (enumerate_from n tests))
 within_from now next limit old n [] h = All-nil (λ start. start.test.0 < limit)
 within_from now next limit old n (t ∷ ts) h =
-    All-cons_option_if (λ start. start.test.0 < limit) (starts_at now next old n t) (record { test = record { 0 = n }; run = number_at now next old n }) _ (omega arith) (within_from now next limit old (n + 1) ts (omega arith))
+    All-cons_option_if (λ start. start.test.0 < limit) (starts_at now next old n t) (record { test = record { 0 = n }; run = run_number_at now next old n }) _ (omega arith) (within_from now next limit old (n + 1) ts (omega arith))
 
 -- the same for all tests
 pub starts_within : (now next : ℕ) (tests : List Timer)

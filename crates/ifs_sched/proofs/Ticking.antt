@@ -11,8 +11,8 @@ use Rattle.std.proofs.lemmas.List.Sums.{count_by_more_no, count_by_more_yes}
 use Rattle.ifs_sched.specs.declared.start.Start.{Start}
 use Rattle.ifs_sched.specs.declared.timer.Timer.{Timer}
 use Rattle.ifs_sched.specs.Timer.{is_due, started}
-use Rattle.ifs_sched.specs.Schedule.{any_by_index, collect_by_index, has_number, left_at}
-use Rattle.ifs_sched.specs.Schedule.{number_at, number_of, start_of, starts_at, ticked_test}
+use Rattle.ifs_sched.specs.Schedule.{any_by_index, collect_by_index, has_number, is_left_over}
+use Rattle.ifs_sched.specs.Schedule.{run_number_at, run_as_number, start_of, starts_at, ticked_test}
 use Rattle.ifs_sched.proofs.ByIndex.{any_by_index-more, changed_below, changed_below-more}
 use Rattle.ifs_sched.proofs.ByIndex.{changed_below-read, collect_by_index-more}
 
@@ -20,8 +20,8 @@ use Rattle.ifs_sched.proofs.ByIndex.{changed_below-read, collect_by_index-more}
 pub record IsTickedBelow (now next : ℕ) (old : List Timer) (i : ℕ) (tests : List Timer) (starts : List Start) (exhausted : Bool) (number : ℕ) : Type 0 where
   pub tests_so_far : tests ≡ changed_below (ticked_test now next old) i old
   pub starts_so_far : starts ≡ collect_by_index (start_of now next old) (take i old)
-  pub number_so_far : number ≡ min (number_at now next old i) (2 ^ 64)
-  pub exhausted_so_far : exhausted ≡ any_by_index (left_at now next old) (take i old)
+  pub number_so_far : number ≡ min (run_number_at now next old i) (2 ^ 64)
+  pub exhausted_so_far : exhausted ≡ any_by_index (is_left_over now next old) (take i old)
   pub numbered_so_far : map (λ start. start.run) starts ≡ range_with_len next (length starts)
   pub in_sequence : number ≡ next + length starts
   pub starts_fit : length starts ≤ i
@@ -50,10 +50,10 @@ range_with_len-more a n =
     ∙ ap (λ r. r ++ (a + n) ∷ []) (map-id (range_with_len a n))
 
 -- the number after one that is left
-pub number_of-checked : (r : Option ℕ) (run : ℕ) → SomeIff r (run + 1 < 2 ^ 64) (run + 1) → run < 2 ^ 64
-    → number_of r ≡ run + 1
-number_of-checked None run h k = let n = h in omega arith
-number_of-checked (Some x) run h k = h.1
+pub run_as_number-checked : (r : Option ℕ) (run : ℕ) → SomeIff r (run + 1 < 2 ^ 64) (run + 1) → run < 2 ^ 64
+    → run_as_number r ≡ run + 1
+run_as_number-checked None run h k = let n = h in omega arith
+run_as_number-checked (Some x) run h k = h.1
 
 -- the runs with one more, where it has the next number
 numbered-push : (next : ℕ) (starts : List Start) (start : Start)
@@ -70,31 +70,31 @@ numbered-push next starts start so is =
 module _ (now next : ℕ) (old : List Timer) (i : ℕ) (timer : Timer) where
   skipped_test : is_due now timer ≡ false → timer ≡ ticked_test now next old i timer
   skipped_test off =
-      ap (λ b. cond (b && has_number now next old i) (started now (number_at now next old i) timer) timer) (sym off)
+      ap (λ b. cond (b && has_number now next old i) (started now (run_number_at now next old i) timer) timer) (sym off)
 
   skipped_start : is_due now timer ≡ false → start_of now next old i timer ≡ None
   skipped_start off =
-      ap (λ b. cond (b && has_number now next old i) (Some (record { test = record { 0 = i }; run = number_at now next old i })) None) off
+      ap (λ b. cond (b && has_number now next old i) (Some (record { test = record { 0 = i }; run = run_number_at now next old i })) None) off
 
-  skipped_left : is_due now timer ≡ false → left_at now next old i timer ≡ false
+  skipped_left : is_due now timer ≡ false → is_left_over now next old i timer ≡ false
   skipped_left off = ap (λ b. b && not (has_number now next old i)) off
 
   starts_if : (b : Bool) → is_due now timer ≡ true → has_number now next old i ≡ b → starts_at now next old i timer ≡ b
   starts_if b on has = ap (λ d. d && has_number now next old i) on ∙ has
 
-  left_if : (b : Bool) → is_due now timer ≡ true → has_number now next old i ≡ b → left_at now next old i timer ≡ not b
+  left_if : (b : Bool) → is_due now timer ≡ true → has_number now next old i ≡ b → is_left_over now next old i timer ≡ not b
   left_if b on has = ap (λ d. d && not (has_number now next old i)) on ∙ ap not has
 
-  test_if : (b : Bool) (run : ℕ) → starts_at now next old i timer ≡ b → run ≡ number_at now next old i
+  test_if : (b : Bool) (run : ℕ) → starts_at now next old i timer ≡ b → run ≡ run_number_at now next old i
       → cond b (started now run timer) timer ≡ ticked_test now next old i timer
   test_if b run h is =
       ap (λ k. cond b (started now k timer) timer) is
-      ∙ ap (λ d. cond d (started now (number_at now next old i) timer) timer) (sym h)
+      ∙ ap (λ d. cond d (started now (run_number_at now next old i) timer) timer) (sym h)
 
-  start_if : (b : Bool) (run : ℕ) → starts_at now next old i timer ≡ b → run ≡ number_at now next old i
+  start_if : (b : Bool) (run : ℕ) → starts_at now next old i timer ≡ b → run ≡ run_number_at now next old i
       → start_of now next old i timer ≡ cond b (Some (record { test = record { 0 = i }; run = run })) None
   start_if b run h is =
-      ap (λ d. cond d (Some (record { test = record { 0 = i }; run = number_at now next old i })) None) h
+      ap (λ d. cond d (Some (record { test = record { 0 = i }; run = run_number_at now next old i })) None) h
       ∙ ap (λ k. cond b (Some (record { test = record { 0 = i }; run = k })) None) (sym is)
 
 -- no test has had its turn
@@ -120,12 +120,12 @@ module _ (now next : ℕ) (old : List Timer) (i : ℕ) (tests : List Timer) (sta
       ∙ ap (λ p. collect_by_index (start_of now next old) (take i old) ++ cons_option p []) (sym e)
       ∙ sym (collect_by_index-more (start_of now next old) old i d within)
 
-  exhausted_more : (b : Bool) → left_at now next old i (get_or old i d) ≡ b
-      → (exhausted || (b || false)) ≡ any_by_index (left_at now next old) (take (i + 1) old)
+  exhausted_more : (b : Bool) → is_left_over now next old i (get_or old i d) ≡ b
+      → (exhausted || (b || false)) ≡ any_by_index (is_left_over now next old) (take (i + 1) old)
   exhausted_more b e =
       ap (λ x. x || (b || false)) so.exhausted_so_far
-      ∙ ap (λ x. any_by_index (left_at now next old) (take i old) || (x || false)) (sym e)
-      ∙ sym (any_by_index-more (left_at now next old) old i d within)
+      ∙ ap (λ x. any_by_index (is_left_over now next old) (take i old) || (x || false)) (sym e)
+      ∙ sym (any_by_index-more (is_left_over now next old) old i d within)
 
   -- the test at i is not due
   pub IsTickedBelow-skipped : is_due now (get_or tests i d) ≡ false
@@ -149,7 +149,7 @@ module _ (now next : ℕ) (old : List Timer) (i : ℕ) (tests : List Timer) (sta
   IsTickedBelow-started run after h is_run left e =
       let on : is_due now (get_or old i d) ≡ true = ap (is_due now) (sym same) ∙ h in
       let count = count_by_more_yes (is_due now) old i d within on in
-      let is : run ≡ number_at now next old i = let k = so.number_so_far in omega arith in
+      let is : run ≡ run_number_at now next old i = let k = so.number_so_far in omega arith in
       let some : has_number now next old i ≡ true = number_left _ (omega arith) in
       let many = length_push starts (record { test = record { 0 = i }; run = run }) in
       let changed = test_if now next old i (get_or tests i d) true run (starts_if now next old i (get_or tests i d) true h some) is in

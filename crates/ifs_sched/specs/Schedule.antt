@@ -27,9 +27,9 @@ abbrev pub any_by_index : (ℕ → Timer → Bool) → List Timer → Bool
 any_by_index f tests = list_any (λ p. f p.0 p.1) (enumerate_from 0 tests)
 
 -- A next run number, or none, as a number: 2 ^ 64 is none.
-abbrev pub number_of : Option ℕ → ℕ
-number_of None = 2 ^ 64
-number_of (Some run) = run
+abbrev pub run_as_number : Option ℕ → ℕ
+run_as_number None = 2 ^ 64
+run_as_number (Some run) = run
 
 -- A schedule at moment 0 whose tests, of these periods, are all off.
 unfoldable pub all_off : List ℕ → ℕ → Timetable
@@ -50,38 +50,38 @@ entered always own now s = record s { tests = map_by_index (entered_test always 
 
 -- The number that the test of an index gets at a tick if it is due: numbers go to the due tests in
 -- one sequence, by index.
-abbrev pub number_at : ℕ → ℕ → List Timer → ℕ → ℕ
-number_at now next tests t = next + count_by (is_due now) (take t tests)
+abbrev pub run_number_at : ℕ → ℕ → List Timer → ℕ → ℕ
+run_number_at now next tests t = next + count_by (is_due now) (take t tests)
 
 -- Whether that number is left: the last one is 2^64 - 1.
 abbrev pub has_number : ℕ → ℕ → List Timer → ℕ → Bool
-has_number now next tests t = nat_lt (number_at now next tests t) (2 ^ 64)
+has_number now next tests t = nat_lt (run_number_at now next tests t) (2 ^ 64)
 
 -- Whether a test starts at a tick: it is due, and its number is left.
 abbrev pub starts_at : ℕ → ℕ → List Timer → ℕ → Timer → Bool
 starts_at now next tests t timer = is_due now timer && has_number now next tests t
 
 -- Whether a due test does not start at a tick, for want of a number.
-abbrev pub left_at : ℕ → ℕ → List Timer → ℕ → Timer → Bool
-left_at now next tests t timer = is_due now timer && not (has_number now next tests t)
+abbrev pub is_left_over : ℕ → ℕ → List Timer → ℕ → Timer → Bool
+is_left_over now next tests t timer = is_due now timer && not (has_number now next tests t)
 
 -- What a tick makes of a test.
 abbrev pub ticked_test : ℕ → ℕ → List Timer → ℕ → Timer → Timer
 ticked_test now next tests t timer =
-    if starts_at now next tests t timer then started now (number_at now next tests t) timer else timer
+    if starts_at now next tests t timer then started now (run_number_at now next tests t) timer else timer
 
 -- What a tick starts of a test.
 abbrev pub start_of : ℕ → ℕ → List Timer → ℕ → Timer → Option Start
 start_of now next tests t timer =
     if starts_at now next tests t timer
-    then Some (record { test = record { 0 = t }; run = number_at now next tests t })
+    then Some (record { test = record { 0 = t }; run = run_number_at now next tests t })
     else None
 
 -- The schedule after a tick at a moment.
 unfoldable pub ticked : ℕ → Timetable → Timetable
 ticked now s = record {
   present = now;
-  next_run = min (number_at now s.next_run s.tests (length s.tests)) (2 ^ 64);
+  next_run = min (run_number_at now s.next_run s.tests (length s.tests)) (2 ^ 64);
   tests = map_by_index (ticked_test now s.next_run s.tests) s.tests;
 }
 
@@ -91,7 +91,7 @@ starts now s = collect_by_index (start_of now s.next_run s.tests) s.tests
 
 -- Whether a tick at a moment leaves a due test for want of a number.
 unfoldable pub is_exhausted : ℕ → Timetable → Bool
-is_exhausted now s = any_by_index (left_at now s.next_run s.tests) s.tests
+is_exhausted now s = any_by_index (is_left_over now s.next_run s.tests) s.tests
 
 -- Whether there is a test, and it runs under a number.
 abbrev pub runs_under : ℕ → Option Timer → Bool

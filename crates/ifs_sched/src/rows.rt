@@ -3,7 +3,8 @@
 ghost use Rattle.std.specs.Prelude.{◌≡◌, ◌<◌, ◌≤◌, ◌+◌, ◌^◌, length, map, min};
 ghost use Rattle.std.specs.List.{range_with_len};
 ghost use Rattle.ifs_sched.specs.Schedule.{any_by_index, collect_by_index, entered_test, has_test as is_in_mask};
-ghost use Rattle.ifs_sched.specs.Schedule.{left_at, map_by_index, number_at, number_of, start_of, ticked_test};
+ghost use Rattle.ifs_sched.specs.Schedule.{is_left_over, map_by_index, run_number_at, run_as_number, start_of};
+ghost use Rattle.ifs_sched.specs.Schedule.{ticked_test};
 
 use crate::start::{MAX_TESTS, Start};
 use crate::timer::Timer;
@@ -29,20 +30,20 @@ pub fn start_due(
     starts: &mut ArrayVec<Start, MAX_TESTS>,
 ) -> bool
     requires room { length tests.old ≤ MAX_TESTS }
-    requires number { number_of next_run.old ≤ 2 ^ 64 }
+    requires number { run_as_number next_run.old ≤ 2 ^ 64 }
     ensures tests { tests.new
-        ≡ map_by_index (ticked_test now (number_of next_run.old) tests.old) tests.old }
-    ensures next_run { number_of next_run.new
-        ≡ min (number_at now (number_of next_run.old) tests.old (length tests.old)) (2 ^ 64) }
+        ≡ map_by_index (ticked_test now (run_as_number next_run.old) tests.old) tests.old }
+    ensures next_run { run_as_number next_run.new
+        ≡ min (run_number_at now (run_as_number next_run.old) tests.old (length tests.old)) (2 ^ 64) }
     ensures starts { starts.new.items
-        ≡ collect_by_index (start_of now (number_of next_run.old) tests.old) tests.old }
+        ≡ collect_by_index (start_of now (run_as_number next_run.old) tests.old) tests.old }
     ensures exhausted { result
-        ≡ any_by_index (left_at now (number_of next_run.old) tests.old) tests.old }
+        ≡ any_by_index (is_left_over now (run_as_number next_run.old) tests.old) tests.old }
     // The numbers are in one sequence.
     ensures numbered { map (λ start. start.run) starts.new.items
-        ≡ range_with_len (number_of next_run.old) (length starts.new.items) }
-    ensures in_sequence { number_of next_run.new
-        ≡ number_of next_run.old + length starts.new.items }
+        ≡ range_with_len (run_as_number next_run.old) (length starts.new.items) }
+    ensures in_sequence { run_as_number next_run.new
+        ≡ run_as_number next_run.old + length starts.new.items }
 {
     starts.clear();
     let mut exhausted = false;

@@ -33,13 +33,13 @@ pub struct Schedule {
 
 impl Model for Schedule {
     ghost use Rattle.std.specs.Prelude.{◌≤◌, ◌^◌};
-    ghost use Rattle.ifs_sched.specs.Schedule.{Timetable, number_of};
+    ghost use Rattle.ifs_sched.specs.Schedule.{Timetable, run_as_number};
 
     ghost Value = { Timetable };
 
-    ghost view = { λ a. record { present = a.present; next_run = number_of a.next_run; tests = a.tests.items } };
+    ghost view = { λ a. record { present = a.present; next_run = run_as_number a.next_run; tests = a.tests.items } };
 
-    ghost invariant = { λ a. number_of a.next_run ≤ 2 ^ 64 };
+    ghost invariant = { λ a. run_as_number a.next_run ≤ 2 ^ 64 };
 }
 
 impl Schedule {

@@ -1,9 +1,9 @@
 -- A test is not due, or it starts with the next number, or none is left for it.
 use Rattle.std.proofs.Common.{sym, ap, ◌∙◌, arith}
-use Rattle.ifs_sched.specs.Schedule.{number_of}
+use Rattle.ifs_sched.specs.Schedule.{run_as_number}
 use Rattle.ifs_sched.specs.Timer.{inactive}
 use Rattle.ifs_sched.proofs.Ticking.{IsTickedBelow-none, IsTickedBelow-skipped}
-use Rattle.ifs_sched.proofs.Ticking.{IsTickedBelow-started, IsTickedBelow-left, number_of-checked}
+use Rattle.ifs_sched.proofs.Ticking.{IsTickedBelow-started, IsTickedBelow-left, run_as_number-checked}
 use Rattle.ifs_sched.proofs.rows.start_due.Goals as goal
 use Rattle.ifs_sched.proofs.rows.start_due.Goals.{in-Some, in-None}
 
@@ -21,8 +21,8 @@ loop-index-preserved c =
       | in-Some w ↦
           let run = w.in-Some.run' in
           rw (w.tests-is, w.next_run-is, w.starts-is, w.exhausted-is, w.start.ensures, w.push.ensures.items)
-          (IsTickedBelow-started _ _ _ _ _ _ _ _ (inactive 0) c.loop-index.invariant c.loop-index-test.true run (number_of w.checked_add.result) due (ap number_of w.in-Some.is) (omega arith) (number_of-checked w.checked_add.result run w.checked_add.ensures (omega arith)))
+          (IsTickedBelow-started _ _ _ _ _ _ _ _ (inactive 0) c.loop-index.invariant c.loop-index-test.true run (run_as_number w.checked_add.result) due (ap run_as_number w.in-Some.is) (omega arith) (run_as_number-checked w.checked_add.result run w.checked_add.ensures (omega arith)))
       | in-None w ↦
           rw (w.tests-is, w.next_run-is, w.starts-is, w.exhausted-is)
-          (IsTickedBelow-left _ _ _ _ _ _ _ _ (inactive 0) c.loop-index.invariant c.loop-index-test.true due (ap number_of w.in-None.is))
+          (IsTickedBelow-left _ _ _ _ _ _ _ _ (inactive 0) c.loop-index.invariant c.loop-index-test.true due (ap run_as_number w.in-None.is))
     ]
