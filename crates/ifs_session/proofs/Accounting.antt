@@ -10,15 +10,15 @@ use Rattle.ifs_core.specs.Event.{Behaviour}
 use Rattle.ifs_core.specs.Steps.{CoreState, turn, after_steps}
 use Rattle.ifs_session.specs.Hosts.{Ending, HostLog, Adds, ran, launched, polled}
 use Rattle.ifs_session.specs.Accounts.{Account, Exchange, attended, listened, takes_of, texts_of, launches_told, made}
-use Rattle.ifs_session.specs.Accounts.{emptied, acted, heard, heard_out, ended, all_ended, served, all_served}
-use Rattle.ifs_session.specs.inner.Connections.{Standing, Stands, Carries, HasFollowed}
+use Rattle.ifs_session.specs.Accounts.{emptied, acted, heard, heard_out, run_ended, runs_ended, served, all_served}
+use Rattle.ifs_session.specs.inner.Connections.{Standing, HasComeTo, Carries, HasFollowed}
 use Rattle.ifs_session.proofs.Logs.{adds_both}
 
 -- A step was made, and its starts were told.
 pub makes : (b : Behaviour) (image : ImageParts) (step : Step) (origin : Option HostLog) (a : Account) (before : Standing) (state : CoreState) (reply : Reply) (told : Option HostLog)
-    → Stands origin a before → state ≡ (turn b image.budgets.commands step before.state).next → reply ≡ (turn b image.budgets.commands step before.state).reply
+    → HasComeTo origin a before → state ≡ (turn b image.budgets.commands step before.state).next → reply ≡ (turn b image.budgets.commands step before.state).reply
     → Adds (launched (launches_told image reply)) before.told told
-    → Stands origin (made b image step a) (record { state = state; steps = before.steps ++ step ∷ []; told = told })
+    → HasComeTo origin (made b image step a) (record { state = state; steps = before.steps ++ step ∷ []; told = told })
 makes b image step origin a before state reply told h next is starts = record {
   state_is = next ∙ ap (λ s. (turn b image.budgets.commands step s).next) h.state_is;
   steps_are = ap (λ steps. steps ++ step ∷ []) h.steps_are;
@@ -37,9 +37,9 @@ followed image image' reply texts earlier between told same starts runs = record
 }
 
 -- The queue was emptied.
-pub empties : (b : Behaviour) (image : ImageParts) (origin : Option HostLog) (a : Account) (before after : Standing) → Stands origin a before
+pub empties : (b : Behaviour) (image : ImageParts) (origin : Option HostLog) (a : Account) (before after : Standing) → HasComeTo origin a before
     → after.state ≡ after_steps b image.budgets.commands (takes_of before.state.queue) before.state → after.steps ≡ before.steps ++ takes_of before.state.queue
-    → Adds (ran (texts_of image before.state.queue)) before.told after.told → Stands origin (emptied b image a) after
+    → Adds (ran (texts_of image before.state.queue)) before.told after.told → HasComeTo origin (emptied b image a) after
 empties b image origin a before after h state steps texts = record {
   state_is = state ∙ ap (λ s. after_steps b image.budgets.commands (takes_of s.queue) s) h.state_is;
   steps_are = steps ∙ ap (λ l. l ++ takes_of before.state.queue) h.steps_are ∙ ap (λ s. a.steps ++ takes_of s.queue) h.state_is;
@@ -47,8 +47,8 @@ empties b image origin a before after h state steps texts = record {
 }
 
 -- The host was polled.
-pub hears : (origin : Option HostLog) (a : Account) (before : Standing) (answer : Option Ending) (told : Option HostLog) → Stands origin a before
-    → Adds (polled answer) before.told told → Stands origin (heard answer a) (record { state = before.state; steps = before.steps; told = told })
+pub hears : (origin : Option HostLog) (a : Account) (before : Standing) (answer : Option Ending) (told : Option HostLog) → HasComeTo origin a before
+    → Adds (polled answer) before.told told → HasComeTo origin (heard answer a) (record { state = before.state; steps = before.steps; told = told })
 hears origin a before answer told h heard = record {
   state_is = h.state_is;
   steps_are = h.steps_are;
@@ -56,10 +56,10 @@ hears origin a before answer told h heard = record {
 }
 
 -- One more end of a test.
-pub all_ended-push : (b : Behaviour) (image : ImageParts) (endings : List Ending) (e : Ending) (a : Account)
-    → all_ended b image (endings ++ e ∷ []) a ≡ ended b image e (all_ended b image endings a)
-all_ended-push b image [] e a = refl
-all_ended-push b image (first ∷ endings) e a = all_ended-push b image endings e (ended b image first a)
+pub runs_ended-push : (b : Behaviour) (image : ImageParts) (endings : List Ending) (e : Ending) (a : Account)
+    → runs_ended b image (endings ++ e ∷ []) a ≡ run_ended b image e (runs_ended b image endings a)
+runs_ended-push b image [] e a = refl
+runs_ended-push b image (first ∷ endings) e a = runs_ended-push b image endings e (run_ended b image first a)
 
 -- One more exchange.
 pub all_served-push : (b : Behaviour) (image : ImageParts) (exchanges : List Exchange) (exchange : Exchange) (a : Account)
@@ -73,34 +73,34 @@ is_few steps h = grind (arith, nat_tests)
 is_many : (steps : ℕ) → nat_lt (512 - steps) 130 ≡ false → 130 ≤ 512 - steps
 is_many steps h = grind (arith, nat_tests)
 
-heard_by : (few : Bool) (origin : Option HostLog) (a : Account) (before : Standing) (told : Option HostLog) → nat_lt (512 - length before.steps) 130 ≡ few → Stands origin a before
+heard_by : (few : Bool) (origin : Option HostLog) (a : Account) (before : Standing) (told : Option HostLog) → nat_lt (512 - length before.steps) 130 ≡ few → HasComeTo origin a before
     → (512 - length before.steps < 130 → told ≡ before.told) → (130 ≤ 512 - length before.steps → Adds (polled None) before.told told)
-    → Stands origin (cond few a (heard None a)) (record { state = before.state; steps = before.steps; told = told })
+    → HasComeTo origin (cond few a (heard None a)) (record { state = before.state; steps = before.steps; told = told })
 heard_by true origin a before told is h unasked asked = record { state_is = h.state_is; steps_are = h.steps_are; told_is = subst (Adds a.log origin) (sym (unasked (is_few _ is))) h.told_is }
 heard_by false origin a before told is h unasked asked = hears origin a before None told h (asked (is_many _ is))
 
 -- The host was polled to the end, or too few places are free.
-pub heard_no_more : (origin : Option HostLog) (a : Account) (before : Standing) (told : Option HostLog) → Stands origin a before
+pub heard_no_more : (origin : Option HostLog) (a : Account) (before : Standing) (told : Option HostLog) → HasComeTo origin a before
     → (512 - length before.steps < 130 → told ≡ before.told) → (130 ≤ 512 - length before.steps → Adds (polled None) before.told told)
-    → Stands origin (heard_out a) (record { state = before.state; steps = before.steps; told = told })
+    → HasComeTo origin (heard_out a) (record { state = before.state; steps = before.steps; told = told })
 heard_no_more origin a before told h unasked asked =
     heard_by (nat_lt (512 - length a.steps) 130) origin a before told (ap (λ steps. nat_lt (512 - length steps) 130) h.steps_are) h unasked asked
 
 -- The host answered one more end of a test, and its step was made.
 pub hear_more : (b : Behaviour) (image image' : ImageParts) (endings : List Ending) (e : Ending) (start before after : Standing) (told : Option HostLog) → image' ≡ image
-    → Carries (all_ended b image endings) start before → Adds (polled (Some e)) before.told told
+    → Carries (runs_ended b image endings) start before → Adds (polled (Some e)) before.told told
     → Carries (acted b image' (Some (Finished e.0 e.1 e.2))) (record { state = before.state; steps = before.steps; told = told }) after
-    → Carries (all_ended b image (endings ++ e ∷ [])) start after
+    → Carries (runs_ended b image (endings ++ e ∷ [])) start after
 hear_more b image image' endings e start before after told same so_far answer more origin a h =
-    subst (λ account. Stands origin account after) (sym (all_ended-push b image endings e a))
-    (subst (λ i. Stands origin (ended b i e (all_ended b image endings a)) after) same
-    (more origin _ (hears origin (all_ended b image endings a) before (Some e) told (so_far origin a h) answer)))
+    subst (λ account. HasComeTo origin account after) (sym (runs_ended-push b image endings e a))
+    (subst (λ i. HasComeTo origin (run_ended b i e (runs_ended b image endings a)) after) same
+    (more origin _ (hears origin (runs_ended b image endings a) before (Some e) told (so_far origin a h) answer)))
 
 -- ---- what was written stays
 
-ended_said : (b : Behaviour) (image : ImageParts) (endings : List Ending) (a : Account) → (all_ended b image endings a).said ≡ a.said
+ended_said : (b : Behaviour) (image : ImageParts) (endings : List Ending) (a : Account) → (runs_ended b image endings a).said ≡ a.said
 ended_said b image [] a = refl
-ended_said b image (e ∷ endings) a = ended_said b image endings (ended b image e a)
+ended_said b image (e ∷ endings) a = ended_said b image endings (run_ended b image e a)
 
 either_said : (c : Bool) (x y : Account) → x.said ≡ y.said → (cond c x y).said ≡ y.said
 either_said true x y e = e
@@ -114,7 +114,7 @@ acted_said b image (Some step) a = refl
 pub attended_said : (b : Behaviour) (image : ImageParts) (exchange : Exchange) (a : Account) → (attended b image exchange a).said ≡ a.said
 attended_said b image exchange a =
     acted_said b image _ (listened b image exchange a)
-    ∙ either_said _ (all_ended b image exchange.endings a) (heard None (all_ended b image exchange.endings a)) refl
+    ∙ either_said _ (runs_ended b image exchange.endings a) (heard None (runs_ended b image exchange.endings a)) refl
     ∙ ended_said b image exchange.endings a
 
 not_few : (w : Bool) (steps : ℕ) (answer : Option Ending) (e : Ending) → nat_lt (512 - steps) 130 ≡ w → (512 - steps < 130 → answer ≡ None) → answer ≡ Some e → 130 ≤ 512 - steps

@@ -9,45 +9,46 @@ use Rattle.ifs_session.specs.declared.fault.SessionFault.TheVariants.{ReadFailed
 use Rattle.ifs_session.specs.Requests.{Asked}
 use Rattle.ifs_session.specs.Sessions.{is_stop}
 use Rattle.ifs_session.specs.Hosts.{Ending}
-use Rattle.ifs_session.specs.Accounts.{client_asked, step_asked, acted, all_ended, heard_out, answered, listened}
+use Rattle.ifs_session.specs.Accounts.{client_asked, step_asked, acted, runs_ended, heard_out, answered, listened}
 use Rattle.ifs_session.specs.inner.Reading.{ReadsText, LineGives}
 use Rattle.ifs_session.specs.inner.Serving.{OnlyReads}
-use Rattle.ifs_session.specs.inner.Connections.{Standing, Stands, Carries, Point, standing, taken_in, Idles}
+use Rattle.ifs_session.specs.inner.Connections.{Standing, HasComeTo, Carries, ConnectionPoint, standing, taken_in}
+use Rattle.ifs_session.specs.inner.Connections.{Idles}
 use Rattle.ifs_session.specs.inner.Connections.{ServesExchange, AnswersExchange, ExchangeFails}
 use Rattle.ifs_session.proofs.Known.{append_known-nil}
 
 -- No line was read.
-pub not_read : (b : Behaviour) (fault : SessionFault) (before after : Point) → LineGives (Err fault) (taken_in before) (taken_in after)
+pub not_read : (b : Behaviour) (fault : SessionFault) (before after : ConnectionPoint) → LineGives (Err fault) (taken_in before) (taken_in after)
     → OnlyReads before.moment after.moment → Idles before after → ExchangeFails b fault false before after
 not_read b ReadFailed before after (text, r) o idle = (text, r, o, idle, refl)
 not_read b TooMuchInput before after (text, byte, r) o idle = (text, byte, r, o, idle, refl)
 not_read b WriteFailed before after r o idle = absurd r
 
 -- No reply was written.
-pub no_reply : (b : Behaviour) (broken : Break) (stop : Bool) (before after : Point) → broken ≡ record { fault = WriteFailed; stopped = stop }
+pub no_reply : (b : Behaviour) (broken : Break) (stop : Bool) (before after : ConnectionPoint) → broken ≡ record { fault = WriteFailed; stopped = stop }
     → ExchangeFails b WriteFailed stop before after → ExchangeFails b broken.fault broken.stopped before after
 no_reply b broken stop before after is fails = subst (λ x. ExchangeFails b x.fault x.stopped before after) (sym is) fails
 
 -- It was attended to.
-pub exchange_attended : (b : Behaviour) (text : List ℕ) (ended stop : Bool) (endings : List Ending) (before after : Point) (middle : Standing) (image : ImageParts) (a : Asked)
+pub exchange_attended : (b : Behaviour) (text : List ℕ) (ended stop : Bool) (endings : List Ending) (before after : ConnectionPoint) (middle : Standing) (image : ImageParts) (a : Asked)
     → ReadsText text ended (taken_in before) (taken_in after) → image ≡ before.moment.core.image → after.moment.core.image ≡ image → a ≡ client_asked text
-    → Carries (λ account. heard_out (all_ended b before.moment.core.image endings account)) (standing before) middle
+    → Carries (λ account. heard_out (runs_ended b before.moment.core.image endings account)) (standing before) middle
     → Carries (acted b image (step_asked image a)) middle (standing after) → stop ≡ is_stop a
     → ServesExchange b (record { line = text; endings = endings }) ended stop before after
 exchange_attended b text ended stop endings before after middle image a r same kept asks heard acts stops = record {
   read = r;
   image = kept ∙ same;
   attends = λ origin account h.
-      subst (λ x. Stands origin (acted b before.moment.core.image (step_asked before.moment.core.image x) (listened b before.moment.core.image (record { line = text; endings = endings }) account)) (standing after)) asks
-      (subst (λ i. Stands origin (acted b i (step_asked i a) (listened b before.moment.core.image (record { line = text; endings = endings }) account)) (standing after)) same
+      subst (λ x. HasComeTo origin (acted b before.moment.core.image (step_asked before.moment.core.image x) (listened b before.moment.core.image (record { line = text; endings = endings }) account)) (standing after)) asks
+      (subst (λ i. HasComeTo origin (acted b i (step_asked i a) (listened b before.moment.core.image (record { line = text; endings = endings }) account)) (standing after)) same
       (acts origin _ (heard origin account h)));
   stops = stops ∙ ap is_stop asks;
 }
 
 -- And it was replied to.
-pub exchange_answered : (b : Behaviour) (text : List ℕ) (endings : List Ending) (before after : Point) (middle : Standing) (image : ImageParts) (a : Asked) (written : Option (List ℕ)) (faults : Option ℕ)
+pub exchange_answered : (b : Behaviour) (text : List ℕ) (endings : List Ending) (before after : ConnectionPoint) (middle : Standing) (image : ImageParts) (a : Asked) (written : Option (List ℕ)) (faults : Option ℕ)
     → written ≡ append_known before.moment.written [] → faults ≡ before.moment.write_faults → image ≡ before.moment.core.image → a ≡ client_asked text
-    → Carries (λ account. heard_out (all_ended b before.moment.core.image endings account)) (standing before) middle
+    → Carries (λ account. heard_out (runs_ended b before.moment.core.image endings account)) (standing before) middle
     → (after.moment.written ≡ append_known written (answered b image a middle.state)) × (after.moment.write_faults ≡ faults)
     → AnswersExchange b (record { line = text; endings = endings }) before after
 exchange_answered b text endings before after middle image a written faults out same_faults same asks heard put = record {

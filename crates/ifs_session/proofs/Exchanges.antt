@@ -20,21 +20,24 @@ use Rattle.ifs_session.specs.declared.service.End.{End}
 use Rattle.ifs_session.specs.declared.service.End.TheVariants.{Closed, Stop, Full, Fault}
 use Rattle.ifs_session.specs.declared.service.ServedLine.{ServedLine}
 use Rattle.ifs_session.specs.Device.{counted}
-use Rattle.ifs_session.specs.Lines.{lines_of, ending}
+use Rattle.ifs_session.specs.Lines.{input_lines, line_end}
 use Rattle.ifs_session.specs.Sessions.{Moment, is_stop, EndsLines}
 use Rattle.ifs_session.specs.Hosts.{HostLog, Adds, ran}
-use Rattle.ifs_session.specs.Accounts.{Account, Exchange, takes_of, texts_of, client_asked, spoken, attended, served}
+use Rattle.ifs_session.specs.Accounts.{Account, Exchange, takes_of, texts_of, client_asked, exchange_reply, attended}
+use Rattle.ifs_session.specs.Accounts.{served}
 use Rattle.ifs_session.specs.Accounts.{emptied, begun, account}
-use Rattle.ifs_session.specs.Service.{lines_in, GoesOn, Stops, Keeps, HasAttended, HasAnswered, EndsAs, Completes}
-use Rattle.ifs_session.specs.Service.{BreaksReading, BreaksWriting, ReadsPast, ConnectionGives}
+use Rattle.ifs_session.specs.Service.{lines_in, AsksNoStop, Stops, ConnectionKeeps, HasAttended, HasAnswered, EndsAs}
+use Rattle.ifs_session.specs.Service.{ConnectionCompletes}
+use Rattle.ifs_session.specs.Service.{ConnectionBreaksReading, ConnectionBreaksWriting, ConnectionReadsPast}
+use Rattle.ifs_session.specs.Service.{ConnectionGives}
 use Rattle.ifs_session.specs.inner.Reading.{ReadFails, ReadsTooMuch}
 use Rattle.ifs_session.specs.inner.Serving.{OnlyReads, OnlyWrites}
-use Rattle.ifs_session.specs.inner.Connections.{Stands, Point, standing, taken_in, Idles, ServesExchange}
+use Rattle.ifs_session.specs.inner.Connections.{HasComeTo, ConnectionPoint, standing, taken_in, Idles, ServesExchange}
 use Rattle.ifs_session.specs.inner.Connections.{AnswersExchange, ExchangeFails, ExchangeGives, FlushGives, end_of}
 use Rattle.ifs_session.proofs.Known.{consumes_nothing, consumes_more, consumes_kept, append_known-append}
 use Rattle.ifs_session.proofs.Known.{append_known-nil}
 use Rattle.ifs_session.proofs.Serving.{unlines, ArePlain, unlines-push, ArePlain-push, unlines-ends_lines, last_line}
-use Rattle.ifs_session.proofs.Serving.{line_ends, all_lines, lines_of-unlines, whole_lines-unlines}
+use Rattle.ifs_session.proofs.Serving.{line_ends, all_lines, input_lines-unlines, whole_lines-unlines}
 use Rattle.ifs_session.proofs.Accounting.{empties, all_served-push, attended_said}
 use Rattle.ifs_session.proofs.Logs.{adds_nothing}
 use Rattle.ifs_session.proofs.Lawful.{Kept, account_keeps}
@@ -44,19 +47,19 @@ abbrev pub so_far : Behaviour → List Exchange → Moment → Account
 so_far b exchanges before = account b before.core.image exchanges before.core.state
 
 -- These exchanges were served since a moment, at which the host told this, and none of them ended the connection.
-pub record Ongoing (b : Behaviour) (exchanges : List Exchange) (origin : Option HostLog) (before : Moment) (now : Point) : Type 0 where
+pub record Ongoing (b : Behaviour) (exchanges : List Exchange) (origin : Option HostLog) (before : Moment) (now : ConnectionPoint) : Type 0 where
   pub plain : ArePlain (lines_in exchanges)
-  pub on : All GoesOn (lines_in exchanges)
+  pub on : All AsksNoStop (lines_in exchanges)
   pub given : Consumes before.left now.moment.left (unlines (lines_in exchanges))
   pub spent : 16777216 ≡ length (unlines (lines_in exchanges)) + now.budget
   pub read_faults : now.moment.read_faults ≡ before.read_faults
   pub write_faults : now.moment.write_faults ≡ before.write_faults
   pub image : now.moment.core.image ≡ before.core.image
-  pub stands : Stands origin (so_far b exchanges before) (standing now)
+  pub stands : HasComeTo origin (so_far b exchanges before) (standing now)
   pub written : now.moment.written ≡ append_known before.written (so_far b exchanges before).said
 
 -- The queue was emptied, and no line was read yet.
-pub ongoing_start : (b : Behaviour) (origin : Option HostLog) (before : Moment) (now : Point) (steps : List Step)
+pub ongoing_start : (b : Behaviour) (origin : Option HostLog) (before : Moment) (now : ConnectionPoint) (steps : List Step)
     → now.moment.left ≡ before.left → now.moment.written ≡ before.written → now.moment.read_faults ≡ before.read_faults → now.moment.write_faults ≡ before.write_faults
     → now.moment.core.image ≡ before.core.image → now.budget ≡ 16777216
     → now.moment.core.state ≡ after_steps b before.core.image.budgets.commands (takes_of before.core.state.queue) before.core.state
@@ -85,20 +88,20 @@ pub record Sound (b : Behaviour) (before : Moment) : Type 0 where
 pub sound : (b : Behaviour) (before : Moment) → IsKept before.core.image → IsBehaviour before.core.image b → IsStateOf before.core.image before.core.state → Sound b before
 sound b before kept behaves at = record { kept = record { kept = kept; behaves = behaves }; at = at }
 
-attends_so_far : (b : Behaviour) (exchanges : List Exchange) (origin : Option HostLog) (before : Moment) (now : Point) → Sound b before
-    → now.moment.core.image ≡ before.core.image → Stands origin (so_far b exchanges before) (standing now) → HasAttended b exchanges now.steps origin now.told before now.moment
+attends_so_far : (b : Behaviour) (exchanges : List Exchange) (origin : Option HostLog) (before : Moment) (now : ConnectionPoint) → Sound b before
+    → now.moment.core.image ≡ before.core.image → HasComeTo origin (so_far b exchanges before) (standing now) → HasAttended b exchanges now.steps origin now.told before now.moment
 attends_so_far b exchanges origin before now sound image stands = record {
   image = image;
   state = stands.state_is;
   steps_are = stands.steps_are;
   told_is = stands.told_is;
-  keeps = subst (λ steps. Keeps b before.core.image (lines_in exchanges) steps (so_far b exchanges before).log before.core.state now.moment.core.state) (sym stands.steps_are)
-      (subst (λ s. Keeps b before.core.image (lines_in exchanges) (so_far b exchanges before).steps (so_far b exchanges before).log before.core.state s) (sym stands.state_is)
+  keeps = subst (λ steps. ConnectionKeeps b before.core.image (lines_in exchanges) steps (so_far b exchanges before).log before.core.state now.moment.core.state) (sym stands.steps_are)
+      (subst (λ s. ConnectionKeeps b before.core.image (lines_in exchanges) (so_far b exchanges before).steps (so_far b exchanges before).log before.core.state s) (sym stands.state_is)
       (account_keeps b before.core.image exchanges before.core.state sound.kept sound.at));
   each_empties = λ front rest are. (account_keeps b before.core.image front before.core.state sound.kept sound.at).empty;
 }
 
-idle_stands : (origin : Option HostLog) (a : Account) (now after : Point) → after.moment.core ≡ now.moment.core → Idles now after → Stands origin a (standing now) → Stands origin a (standing after)
+idle_stands : (origin : Option HostLog) (a : Account) (now after : ConnectionPoint) → after.moment.core ≡ now.moment.core → Idles now after → HasComeTo origin a (standing now) → HasComeTo origin a (standing after)
 idle_stands origin a now after core idle stands = record {
   state_is = ap (λ c. c.state) core ∙ stands.state_is;
   steps_are = idle.steps ∙ stands.steps_are;
@@ -106,7 +109,7 @@ idle_stands origin a now after core idle stands = record {
 }
 
 -- Exchanges were served, and since then nothing was done.
-served_before : {b : Behaviour} {exchanges : List Exchange} {origin : Option HostLog} {before : Moment} {now : Point} (after : Point) → Sound b before → Ongoing b exchanges origin before now
+served_before : {b : Behaviour} {exchanges : List Exchange} {origin : Option HostLog} {before : Moment} {now : ConnectionPoint} (after : ConnectionPoint) → Sound b before → Ongoing b exchanges origin before now
     → OnlyReads now.moment after.moment → Idles now after → HasAttended b exchanges after.steps origin after.told before after.moment × HasAnswered b exchanges before after.moment
 served_before {b} {exchanges} {origin} {before} {now} after sound u o idle = (
   attends_so_far b exchanges origin before after sound (ap (λ c. c.image) o.core ∙ u.image) (idle_stands origin _ now after o.core idle u.stands),
@@ -115,9 +118,9 @@ served_before {b} {exchanges} {origin} {before} {now} after sound u o idle = (
 
 -- ---- the next line was not served
 
-reading_fails : {b : Behaviour} {exchanges : List Exchange} {origin : Option HostLog} {before : Moment} {now : Point} (text : List ℕ) (after : Point) → Sound b before → Ongoing b exchanges origin before now
+reading_fails : {b : Behaviour} {exchanges : List Exchange} {origin : Option HostLog} {before : Moment} {now : ConnectionPoint} (text : List ℕ) (after : ConnectionPoint) → Sound b before → Ongoing b exchanges origin before now
     → ReadFails text (taken_in now) (taken_in after) → OnlyReads now.moment after.moment → Idles now after
-    → BreaksReading b false (unlines (lines_in exchanges) ++ text) exchanges after.steps origin after.told before after.moment
+    → ConnectionBreaksReading b false (unlines (lines_in exchanges) ++ text) exchanges after.steps origin after.told before after.moment
 reading_fails {b} {exchanges} {origin} {before} {now} text after sound u r o idle =
     let whole = whole_lines-unlines (lines_in exchanges) text u.plain r.plain in
     let done = served_before after sound u o idle in
@@ -130,13 +133,13 @@ reading_fails {b} {exchanges} {origin} {before} {now} text after sound u r o idl
       attended = done.0;
       answered = done.1;
       one_fault = r.one_fault ∙ ap counted u.read_faults;
-      stops = subst (All GoesOn) (sym whole) u.on;
+      stops = subst (All AsksNoStop) (sym whole) u.on;
       not_stopped = refl;
     }
 
-reading_past : {b : Behaviour} {exchanges : List Exchange} {origin : Option HostLog} {before : Moment} {now : Point} (text : List ℕ) (byte : ℕ) (after : Point) → Sound b before → Ongoing b exchanges origin before now
+reading_past : {b : Behaviour} {exchanges : List Exchange} {origin : Option HostLog} {before : Moment} {now : ConnectionPoint} (text : List ℕ) (byte : ℕ) (after : ConnectionPoint) → Sound b before → Ongoing b exchanges origin before now
     → ReadsTooMuch text byte (taken_in now) (taken_in after) → OnlyReads now.moment after.moment → Idles now after
-    → ReadsPast b false (unlines (lines_in exchanges) ++ text) byte exchanges after.steps origin after.told before after.moment
+    → ConnectionReadsPast b false (unlines (lines_in exchanges) ++ text) byte exchanges after.steps origin after.told before after.moment
 reading_past {b} {exchanges} {origin} {before} {now} text byte after sound u r o idle =
     let whole = whole_lines-unlines (lines_in exchanges) text u.plain r.plain in
     let done = served_before after sound u o idle in
@@ -148,27 +151,27 @@ reading_past {b} {exchanges} {origin} {before} {now} text byte after sound u r o
       attended = done.0;
       answered = done.1;
       same_faults = r.same_faults ∙ u.read_faults;
-      stops = subst (All GoesOn) (sym whole) u.on;
+      stops = subst (All AsksNoStop) (sym whole) u.on;
       not_stopped = refl;
     }
 
 -- What was written could not go out.
-flushing_fails : {b : Behaviour} {exchanges : List Exchange} {origin : Option HostLog} {before : Moment} {now : Point} (after : Point) → Sound b before → Ongoing b exchanges origin before now
+flushing_fails : {b : Behaviour} {exchanges : List Exchange} {origin : Option HostLog} {before : Moment} {now : ConnectionPoint} (after : ConnectionPoint) → Sound b before → Ongoing b exchanges origin before now
     → OnlyWrites now.moment after.moment → Idles now after → after.moment.write_faults ≡ counted now.moment.write_faults
-    → BreaksWriting b false (unlines (lines_in exchanges)) exchanges after.steps origin after.told before after.moment
+    → ConnectionBreaksWriting b false (unlines (lines_in exchanges)) exchanges after.steps origin after.told before after.moment
 flushing_fails {b} {exchanges} {origin} {before} {now} after sound u o idle one = record {
   read = record { given = subst (λ left. Consumes before.left left (unlines (lines_in exchanges))) (sym o.left) u.given; within = omega (arith, u.spent) };
   whole = unlines-ends_lines (lines_in exchanges) after.moment.left;
   lines = all_lines (lines_in exchanges) u.plain;
   attended = attends_so_far b exchanges origin before after sound (ap (λ c. c.image) o.core ∙ u.image) (idle_stands origin _ now after o.core idle u.stands);
   same_faults = o.same_faults ∙ u.read_faults;
-  stops = subst (All GoesOn) (sym (all_lines (lines_in exchanges) u.plain)) u.on;
+  stops = subst (All AsksNoStop) (sym (all_lines (lines_in exchanges) u.plain)) u.on;
   one_fault = one ∙ ap counted u.write_faults;
 }
 
 -- The input was at its end.
-pub nothing_left : {b : Behaviour} {exchanges : List Exchange} {origin : Option HostLog} {before : Moment} {now : Point} (after : Point) → Sound b before → Ongoing b exchanges origin before now
-    → ExchangeGives b (Ok None) now after → Completes b Closed false (unlines (lines_in exchanges)) exchanges after.steps origin after.told before after.moment
+pub nothing_left : {b : Behaviour} {exchanges : List Exchange} {origin : Option HostLog} {before : Moment} {now : ConnectionPoint} (after : ConnectionPoint) → Sound b before → Ongoing b exchanges origin before now
+    → ExchangeGives b (Ok None) now after → ConnectionCompletes b Closed false (unlines (lines_in exchanges)) exchanges after.steps origin after.told before after.moment
 nothing_left {b} {exchanges} {origin} {before} {now} after sound u (r, o, idle) =
     let all = all_lines (lines_in exchanges) u.plain in
     let done = served_before after sound u o idle in
@@ -178,20 +181,20 @@ nothing_left {b} {exchanges} {origin} {before} {now} after sound u (r, o, idle) 
       attended = done.0;
       answered = done.1;
       same_faults = r.same_faults ∙ u.read_faults;
-      stops = subst (All GoesOn) (sym all) u.on;
+      stops = subst (All AsksNoStop) (sym all) u.on;
       ends = (refl, r.at_end);
     }
 
 -- ---- a line was read and attended to
 
 -- One more exchange, since the moment at the beginning.
-record Advances (b : Behaviour) (exchanges : List Exchange) (origin : Option HostLog) (input : List ℕ) (before : Moment) (after : Point) : Type 0 where
+record Advances (b : Behaviour) (exchanges : List Exchange) (origin : Option HostLog) (input : List ℕ) (before : Moment) (after : ConnectionPoint) : Type 0 where
   pub given : Consumes before.left after.moment.left input
   pub spent : 16777216 ≡ length input + after.budget
   pub read_faults : after.moment.read_faults ≡ before.read_faults
-  pub lines_are : lines_of input ≡ lines_in exchanges
+  pub lines_are : input_lines input ≡ lines_in exchanges
   pub image : after.moment.core.image ≡ before.core.image
-  pub stands : Stands origin (so_far b exchanges before) (standing after)
+  pub stands : HasComeTo origin (so_far b exchanges before) (standing after)
 
 lines_in-push : (exchanges : List Exchange) (exchange : Exchange) → lines_in (exchanges ++ exchange ∷ []) ≡ lines_in exchanges ++ exchange.line ∷ []
 lines_in-push exchanges exchange = map-append (λ (p : Exchange). p.line) exchanges (exchange ∷ [])
@@ -199,36 +202,36 @@ lines_in-push exchanges exchange = map-append (λ (p : Exchange). p.line) exchan
 so_far-push : (b : Behaviour) (exchanges : List Exchange) (exchange : Exchange) (before : Moment) → so_far b (exchanges ++ exchange ∷ []) before ≡ served b before.core.image exchange (so_far b exchanges before)
 so_far-push b exchanges exchange before = all_served-push b before.core.image exchanges exchange (emptied b before.core.image (begun before.core.state))
 
-served_stands : (b : Behaviour) (image : ImageParts) (exchange : Exchange) (origin : Option HostLog) (a : Account) (now : Point)
-    → Stands origin (attended b image exchange a) (standing now) → Stands origin (served b image exchange a) (standing now)
+served_stands : (b : Behaviour) (image : ImageParts) (exchange : Exchange) (origin : Option HostLog) (a : Account) (now : ConnectionPoint)
+    → HasComeTo origin (attended b image exchange a) (standing now) → HasComeTo origin (served b image exchange a) (standing now)
 served_stands b image exchange origin a now h = record { state_is = h.state_is; steps_are = h.steps_are; told_is = h.told_is }
 
-advances : {b : Behaviour} {exchanges : List Exchange} {origin : Option HostLog} {before : Moment} {now after : Point} {exchange : Exchange} {ended stop : Bool} → Ongoing b exchanges origin before now → ServesExchange b exchange ended stop now after
-    → Advances b (exchanges ++ exchange ∷ []) origin (unlines (lines_in exchanges) ++ (exchange.line ++ ending ended)) before after
+advances : {b : Behaviour} {exchanges : List Exchange} {origin : Option HostLog} {before : Moment} {now after : ConnectionPoint} {exchange : Exchange} {ended stop : Bool} → Ongoing b exchanges origin before now → ServesExchange b exchange ended stop now after
+    → Advances b (exchanges ++ exchange ∷ []) origin (unlines (lines_in exchanges) ++ (exchange.line ++ line_end ended)) before after
 advances {b} {exchanges} {origin} {before} {now} {after} {exchange} {ended} u m = record {
-  given = consumes_more before.left now.moment.left after.moment.left (unlines (lines_in exchanges)) (exchange.line ++ ending ended) u.given m.read.given;
-  spent = omega (arith, u.spent, m.read.spent, length-append (unlines (lines_in exchanges)) (exchange.line ++ ending ended));
+  given = consumes_more before.left now.moment.left after.moment.left (unlines (lines_in exchanges)) (exchange.line ++ line_end ended) u.given m.read.given;
+  spent = omega (arith, u.spent, m.read.spent, length-append (unlines (lines_in exchanges)) (exchange.line ++ line_end ended));
   read_faults = m.read.same_faults ∙ u.read_faults;
-  lines_are = lines_of-unlines (lines_in exchanges) (exchange.line ++ ending ended) u.plain ∙ ap (λ ls. lines_in exchanges ++ ls) (last_line exchange.line ended (IsAtEnd after.moment.left) m.read.plain m.read.last)
+  lines_are = input_lines-unlines (lines_in exchanges) (exchange.line ++ line_end ended) u.plain ∙ ap (λ ls. lines_in exchanges ++ ls) (last_line exchange.line ended (IsAtEnd after.moment.left) m.read.plain m.read.last)
       ∙ sym (lines_in-push exchanges exchange);
   image = m.image ∙ u.image;
-  stands = subst (λ a. Stands origin a (standing after)) (sym (so_far-push b exchanges exchange before))
+  stands = subst (λ a. HasComeTo origin a (standing after)) (sym (so_far-push b exchanges exchange before))
       (served_stands b before.core.image exchange origin (so_far b exchanges before) after
-      (subst (λ image. Stands origin (attended b image exchange (so_far b exchanges before)) (standing after)) u.image (m.attends origin (so_far b exchanges before) u.stands)));
+      (subst (λ image. HasComeTo origin (attended b image exchange (so_far b exchanges before)) (standing after)) u.image (m.attends origin (so_far b exchanges before) u.stands)));
 }
 
-GoesOn-push : (exchanges : List Exchange) (exchange : Exchange) → All GoesOn (lines_in exchanges) → is_stop (client_asked exchange.line) ≡ false → All GoesOn (lines_in (exchanges ++ exchange ∷ []))
-GoesOn-push exchanges exchange on last = subst (All GoesOn) (sym (lines_in-push exchanges exchange)) (All-append GoesOn (lines_in exchanges) (exchange.line ∷ []) on (All-cons GoesOn exchange.line [] last (All-nil GoesOn)))
+AsksNoStop-push : (exchanges : List Exchange) (exchange : Exchange) → All AsksNoStop (lines_in exchanges) → is_stop (client_asked exchange.line) ≡ false → All AsksNoStop (lines_in (exchanges ++ exchange ∷ []))
+AsksNoStop-push exchanges exchange on last = subst (All AsksNoStop) (sym (lines_in-push exchanges exchange)) (All-append AsksNoStop (lines_in exchanges) (exchange.line ∷ []) on (All-cons AsksNoStop exchange.line [] last (All-nil AsksNoStop)))
 
 -- Whether the service was stopped, by the last line.
-Stops-push : (stop : Bool) (exchanges : List Exchange) (exchange : Exchange) → All GoesOn (lines_in exchanges) → stop ≡ is_stop (client_asked exchange.line) → Stops stop (lines_in (exchanges ++ exchange ∷ []))
+Stops-push : (stop : Bool) (exchanges : List Exchange) (exchange : Exchange) → All AsksNoStop (lines_in exchanges) → stop ≡ is_stop (client_asked exchange.line) → Stops stop (lines_in (exchanges ++ exchange ∷ []))
 Stops-push true exchanges exchange on is = (lines_in exchanges, exchange.line, lines_in-push exchanges exchange, on, sym is)
-Stops-push false exchanges exchange on is = GoesOn-push exchanges exchange on (sym is)
+Stops-push false exchanges exchange on is = AsksNoStop-push exchanges exchange on (sym is)
 
 -- The reply could not be written.
-replying_fails : {b : Behaviour} {exchanges : List Exchange} {origin : Option HostLog} {before : Moment} {now after : Point} {exchange : Exchange} {ended stop : Bool} → Sound b before → Ongoing b exchanges origin before now
+replying_fails : {b : Behaviour} {exchanges : List Exchange} {origin : Option HostLog} {before : Moment} {now after : ConnectionPoint} {exchange : Exchange} {ended stop : Bool} → Sound b before → Ongoing b exchanges origin before now
     → ServesExchange b exchange ended stop now after → after.moment.write_faults ≡ counted now.moment.write_faults
-    → BreaksWriting b stop (unlines (lines_in exchanges) ++ (exchange.line ++ ending ended)) (exchanges ++ exchange ∷ []) after.steps origin after.told before after.moment
+    → ConnectionBreaksWriting b stop (unlines (lines_in exchanges) ++ (exchange.line ++ line_end ended)) (exchanges ++ exchange ∷ []) after.steps origin after.told before after.moment
 replying_fails {b} {exchanges} {origin} {before} {now} {after} {exchange} {ended} {stop} sound u m one =
     let a = advances u m in
     record {
@@ -242,7 +245,7 @@ replying_fails {b} {exchanges} {origin} {before} {now} {after} {exchange} {ended
     }
 
 -- No reply was written.
-not_done : {b : Behaviour} {exchanges : List Exchange} {origin : Option HostLog} {before : Moment} {now : Point} (fault : SessionFault) (stopped : Bool) (after : Point) → Sound b before → Ongoing b exchanges origin before now
+not_done : {b : Behaviour} {exchanges : List Exchange} {origin : Option HostLog} {before : Moment} {now : ConnectionPoint} (fault : SessionFault) (stopped : Bool) (after : ConnectionPoint) → Sound b before → Ongoing b exchanges origin before now
     → ExchangeFails b fault stopped now after → ConnectionGives b (Fault fault) stopped after.steps origin after.told before after.moment
 not_done {b} {exchanges} {origin} {before} {now} ReadFailed stopped after sound u (text, r, o, idle, on) =
     subst (λ s. ConnectionGives b (Fault ReadFailed) s after.steps origin after.told before after.moment) (sym on) (_, _, reading_fails text after sound u r o idle)
@@ -252,26 +255,26 @@ not_done {b} {exchanges} {origin} {before} {now} WriteFailed stopped after sound
     subst (λ s. ConnectionGives b (Fault WriteFailed) s after.steps origin after.told before after.moment) (sym on) (_, _, flushing_fails after sound u o idle one)
 not_done WriteFailed stopped after sound u (one, inr (exchange, ended, m)) = (_, _, replying_fails sound u m one)
 
-pub not_served : {b : Behaviour} {exchanges : List Exchange} {origin : Option HostLog} {before : Moment} {now : Point} (broken : Break) (after : Point) → Sound b before → Ongoing b exchanges origin before now
+pub not_served : {b : Behaviour} {exchanges : List Exchange} {origin : Option HostLog} {before : Moment} {now : ConnectionPoint} (broken : Break) (after : ConnectionPoint) → Sound b before → Ongoing b exchanges origin before now
     → ExchangeGives b (Err broken) now after → ConnectionGives b (Fault broken.fault) broken.stopped after.steps origin after.told before after.moment
 not_served broken after sound u fails = not_done broken.fault broken.stopped after sound u fails
 
 -- And it was replied to.
-answers : {b : Behaviour} {exchanges : List Exchange} {origin : Option HostLog} {before : Moment} {now after : Point} {exchange : Exchange} → Ongoing b exchanges origin before now → AnswersExchange b exchange now after
+answers : {b : Behaviour} {exchanges : List Exchange} {origin : Option HostLog} {before : Moment} {now after : ConnectionPoint} {exchange : Exchange} → Ongoing b exchanges origin before now → AnswersExchange b exchange now after
     → HasAnswered b (exchanges ++ exchange ∷ []) before after.moment
 answers {b} {exchanges} {origin} {before} {now} {after} {exchange} u r =
     let a = so_far b exchanges before in
     record {
-      written = r.written origin a u.stands ∙ ap (λ image. append_known now.moment.written (spoken b image exchange a)) u.image
-          ∙ ap (λ k. append_known k (spoken b before.core.image exchange a)) u.written
-          ∙ append_known-append before.written a.said (spoken b before.core.image exchange a)
-          ∙ ap (λ said. append_known before.written (said ++ spoken b before.core.image exchange a)) (sym (attended_said b before.core.image exchange a))
+      written = r.written origin a u.stands ∙ ap (λ image. append_known now.moment.written (exchange_reply b image exchange a)) u.image
+          ∙ ap (λ k. append_known k (exchange_reply b before.core.image exchange a)) u.written
+          ∙ append_known-append before.written a.said (exchange_reply b before.core.image exchange a)
+          ∙ ap (λ said. append_known before.written (said ++ exchange_reply b before.core.image exchange a)) (sym (attended_said b before.core.image exchange a))
           ∙ ap (λ x. append_known before.written x.said) (sym (so_far-push b exchanges exchange before));
       same_faults = r.same_faults ∙ u.write_faults;
     }
 
 -- The connection goes on after the line.
-goes_on : {b : Behaviour} {exchanges : List Exchange} {origin : Option HostLog} {before : Moment} {now after : Point} {exchange : Exchange} → Ongoing b exchanges origin before now
+goes_on : {b : Behaviour} {exchanges : List Exchange} {origin : Option HostLog} {before : Moment} {now after : ConnectionPoint} {exchange : Exchange} → Ongoing b exchanges origin before now
     → ServesExchange b exchange true false now after → AnswersExchange b exchange now after → Ongoing b (exchanges ++ exchange ∷ []) origin before after
 goes_on {b} {exchanges} {origin} {before} {now} {after} {exchange} u m r =
     let a = advances u m in
@@ -280,7 +283,7 @@ goes_on {b} {exchanges} {origin} {before} {now} {after} {exchange} u m r =
     let all : unlines (lines_in exchanges) ++ (exchange.line ++ 10 ∷ []) ≡ unlines (lines_in (exchanges ++ exchange ∷ [])) = sym (unlines-push (lines_in exchanges) exchange.line) ∙ ap unlines (sym push) in
     record {
       plain = subst ArePlain (sym push) (ArePlain-push (lines_in exchanges) exchange.line u.plain m.read.plain);
-      on = GoesOn-push exchanges exchange u.on (sym m.stops);
+      on = AsksNoStop-push exchanges exchange u.on (sym m.stops);
       given = subst (λ t. Consumes before.left after.moment.left t) all a.given;
       spent = a.spent ∙ ap (λ t. length t + after.budget) all;
       read_faults = a.read_faults;
@@ -292,10 +295,10 @@ goes_on {b} {exchanges} {origin} {before} {now} {after} {exchange} u m r =
 
 -- ---- its end
 
-completes : {b : Behaviour} {exchanges : List Exchange} {origin : Option HostLog} {before : Moment} {now after : Point} {exchange : Exchange} {ended stop : Bool} (end : End) → Sound b before → Ongoing b exchanges origin before now
+completes : {b : Behaviour} {exchanges : List Exchange} {origin : Option HostLog} {before : Moment} {now after : ConnectionPoint} {exchange : Exchange} {ended stop : Bool} (end : End) → Sound b before → Ongoing b exchanges origin before now
     → ServesExchange b exchange ended stop now after → AnswersExchange b exchange now after
-    → EndsAs end stop (unlines (lines_in exchanges) ++ (exchange.line ++ ending ended)) after.steps after.moment
-    → Completes b end stop (unlines (lines_in exchanges) ++ (exchange.line ++ ending ended)) (exchanges ++ exchange ∷ []) after.steps origin after.told before after.moment
+    → EndsAs end stop (unlines (lines_in exchanges) ++ (exchange.line ++ line_end ended)) after.steps after.moment
+    → ConnectionCompletes b end stop (unlines (lines_in exchanges) ++ (exchange.line ++ line_end ended)) (exchanges ++ exchange ∷ []) after.steps origin after.told before after.moment
 completes {b} {exchanges} {origin} {before} {now} {after} {exchange} {stop = stop} end sound u m r ends =
     let a = advances u m in
     record {
@@ -340,17 +343,17 @@ on_by false true ended e = cc
 on_by false false false e = cc
 on_by false false true e = record { not_stop = refl; not_full = refl; is_ended = refl }
 
-ends_as : {b : Behaviour} {now after : Point} {exchange : Exchange} {ended stop : Bool} (end : End) (front : List ℕ)
+ends_as : {b : Behaviour} {now after : ConnectionPoint} {exchange : Exchange} {ended stop : Bool} (end : End) (front : List ℕ)
     → ServesExchange b exchange ended stop now after → EndsBy stop (nat_lt (512 - length after.steps) 65) ended end
-    → EndsAs end stop (front ++ (exchange.line ++ ending ended)) after.steps after.moment
+    → EndsAs end stop (front ++ (exchange.line ++ line_end ended)) after.steps after.moment
 ends_as {b} {now} {after} {exchange} {ended} {stop} end front m (inl (is, stops)) =
-    subst (λ e. EndsAs e stop (front ++ (exchange.line ++ ending ended)) after.steps after.moment) (sym is)
+    subst (λ e. EndsAs e stop (front ++ (exchange.line ++ line_end ended)) after.steps after.moment) (sym is)
     (stops, line_ends front exchange.line ended after.moment.left m.read.last)
 ends_as {b} {now} {after} {exchange} {ended} {stop} end front m (inr (inl (is, going, full))) =
-    subst (λ e. EndsAs e stop (front ++ (exchange.line ++ ending ended)) after.steps after.moment) (sym is)
+    subst (λ e. EndsAs e stop (front ++ (exchange.line ++ line_end ended)) after.steps after.moment) (sym is)
     (going, no_room (length after.steps) full, inr (line_ends front exchange.line ended after.moment.left m.read.last))
 ends_as {b} {now} {after} {exchange} {ended} {stop} end front m (inr (inr (is, going, over))) =
-    subst (λ e. EndsAs e stop (front ++ (exchange.line ++ ending ended)) after.steps after.moment) (sym is) (going, (m.read.last over).1)
+    subst (λ e. EndsAs e stop (front ++ (exchange.line ++ line_end ended)) after.steps after.moment) (sym is) (going, (m.read.last over).1)
 
 -- ---- what was written last goes out, or does not
 
@@ -369,8 +372,8 @@ attended_alike : {b : Behaviour} {exchanges : List Exchange} {steps : List Step}
 attended_alike written faults a = record { image = a.image; state = a.state; steps_are = a.steps_are; told_is = a.told_is; keeps = a.keeps; each_empties = a.each_empties }
 
 goes_out : {b : Behaviour} {end : End} {stopped : Bool} {input : List ℕ} {exchanges : List Exchange} {steps : List Step} {told told' : Option HostLog} {before now : Moment} (written : Option (List ℕ)) (faults : Option ℕ)
-    → Completes b end stopped input exchanges steps told told' before now → written ≡ append_known now.written [] → faults ≡ now.write_faults
-    → Completes b end stopped input exchanges steps told told' before (at_end now written faults)
+    → ConnectionCompletes b end stopped input exchanges steps told told' before now → written ≡ append_known now.written [] → faults ≡ now.write_faults
+    → ConnectionCompletes b end stopped input exchanges steps told told' before (at_end now written faults)
 goes_out {end = end} {stopped} {input} {steps = steps} {now = now} written faults c put same = record {
   read = record { given = c.read.given; within = c.read.within };
   lines = c.lines;
@@ -388,8 +391,8 @@ whole_at_end Full stopped input steps now e = e.2
 whole_at_end (Fault fault) stopped input steps now e = absurd e
 
 stays_in : {b : Behaviour} {end : End} {stopped : Bool} {input : List ℕ} {exchanges : List Exchange} {steps : List Step} {told told' : Option HostLog} {before now : Moment} (written : Option (List ℕ)) (faults : Option ℕ)
-    → Completes b end stopped input exchanges steps told told' before now → faults ≡ counted now.write_faults
-    → BreaksWriting b stopped input exchanges steps told told' before (at_end now written faults)
+    → ConnectionCompletes b end stopped input exchanges steps told told' before now → faults ≡ counted now.write_faults
+    → ConnectionBreaksWriting b stopped input exchanges steps told told' before (at_end now written faults)
 stays_in {end = end} {stopped} {input} {steps = steps} {now = now} written faults c one = record {
   read = record { given = c.read.given; within = c.read.within };
   whole = whole_at_end end stopped input steps now c.ends;
@@ -401,14 +404,14 @@ stays_in {end = end} {stopped} {input} {steps = steps} {now = now} written fault
 }
 
 completed : (b : Behaviour) (end : End) (stopped : Bool) (input : List ℕ) (exchanges : List Exchange) (steps : List Step) (told told' : Option HostLog) (before now : Moment)
-    → Completes b end stopped input exchanges steps told told' before now → ConnectionGives b end stopped steps told told' before now
+    → ConnectionCompletes b end stopped input exchanges steps told told' before now → ConnectionGives b end stopped steps told told' before now
 completed b Closed stopped input exchanges steps told told' before now c = (input, exchanges, c)
 completed b Stop stopped input exchanges steps told told' before now c = (input, exchanges, c)
 completed b Full stopped input exchanges steps told told' before now c = (input, exchanges, c)
 completed b (Fault fault) stopped input exchanges steps told told' before now c = absurd c.ends
 
 -- The connection ended after a line.
-pub ends_after : {b : Behaviour} {exchanges : List Exchange} {origin : Option HostLog} {before : Moment} {now : Point} (line : ServedLine) (end result : End) (after : Point) (written : Option (List ℕ)) (faults : Option ℕ)
+pub ends_after : {b : Behaviour} {exchanges : List Exchange} {origin : Option HostLog} {before : Moment} {now : ConnectionPoint} (line : ServedLine) (end result : End) (after : ConnectionPoint) (written : Option (List ℕ)) (faults : Option ℕ)
     → Sound b before → Ongoing b exchanges origin before now → ExchangeGives b (Ok (Some line)) now after → Some end ≡ end_of line (length after.steps)
     → FlushGives end result after.moment.written written after.moment.write_faults faults
     → ConnectionGives b result line.is_stop after.steps origin after.told before (at_end after.moment written faults)
@@ -420,11 +423,11 @@ ends_after {b} {origin = origin} {before} line end result after written faults s
     (_, _, stays_in written faults (completes end sound u m r (ends_as end _ m (ends_by line.is_stop _ line.is_ended end (sym is)))) one)
 
 -- The connection goes on after a line.
-pub record GoesFurther (b : Behaviour) (origin : Option HostLog) (before : Moment) (after : Point) : Type 0 where
+pub record GoesFurther (b : Behaviour) (origin : Option HostLog) (before : Moment) (after : ConnectionPoint) : Type 0 where
   pub exchanges : List Exchange
   pub ongoing : Ongoing b exchanges origin before after
 
-pub goes_further : {b : Behaviour} {exchanges : List Exchange} {origin : Option HostLog} {before : Moment} {now : Point} (line : ServedLine) (after : Point)
+pub goes_further : {b : Behaviour} {exchanges : List Exchange} {origin : Option HostLog} {before : Moment} {now : ConnectionPoint} (line : ServedLine) (after : ConnectionPoint)
     → Ongoing b exchanges origin before now → ExchangeGives b (Ok (Some line)) now after → None ≡ end_of line (length after.steps) → GoesFurther b origin before after
 goes_further {b} {exchanges} {origin} {before} {now} line after u (exchange, m, r) is =
     let on = on_by line.is_stop _ line.is_ended (sym is) in
@@ -455,7 +458,7 @@ full_without_room line steps end result written written' faults faults' is (inl 
 pub record Attended (b : Behaviour) (steps : List Step) (told told' : Option HostLog) (before after : Moment) : Type 0 where
   pub exchanges : List Exchange
   pub attended : HasAttended b exchanges steps told told' before after
-  pub keeps : Keeps b before.core.image (lines_in exchanges) steps (so_far b exchanges before).log before.core.state after.core.state
+  pub keeps : ConnectionKeeps b before.core.image (lines_in exchanges) steps (so_far b exchanges before).log before.core.state after.core.state
 
 these : {b : Behaviour} {exchanges : List Exchange} {steps : List Step} {told told' : Option HostLog} {before after : Moment} → HasAttended b exchanges steps told told' before after → Attended b steps told told' before after
 these {exchanges = exchanges} a = record { exchanges = exchanges; attended = a; keeps = a.keeps }

@@ -22,7 +22,7 @@ use Rattle.ifs_core.specs.Steps.{tick_turn, changing, unchanged, same, done, tic
 use Rattle.ifs_core.specs.Steps.{with_link, with_value, with_run_over, lacks_room, has_value, replies, after_steps}
 use Rattle.ifs_session.specs.Hosts.{HostLog, ran, launched}
 use Rattle.ifs_session.specs.Accounts.{client_asked, step_asked, takes_of, texts_of, launches_told}
-use Rattle.ifs_session.specs.Service.{ending_made, ending_heard, request_made, text_taken, given, gives}
+use Rattle.ifs_session.specs.Service.{ending_made, ending_heard, request_made, text_taken, given_to_host, gives}
 use Rattle.ifs_session.proofs.Logs.{launched_heard, launched_given}
 
 -- ---- replies to steps, one after the other
@@ -50,7 +50,7 @@ pub record Grows (b : Behaviour) (image : ImageParts) (lines : List (List ℕ)) 
   pub never_busy : All (λ reply. reply ≢ Busy) (replies b image.budgets.commands steps s)
   pub endings : filter_map ending_made steps ≡ filter_map ending_heard log
   pub requests : filter_map request_made steps ≡ filter_map (line_step image) lines
-  pub given_in : filter_map given log ≡ flat_map (gives image) (replies b image.budgets.commands steps s)
+  pub given_in : filter_map given_to_host log ≡ flat_map (gives image) (replies b image.budgets.commands steps s)
 
 append_both : {X : Type 0} {a b c d : List X} → a ≡ b → c ≡ d → a ++ c ≡ b ++ d
 append_both {a = a} {d = d} e f = ap (λ x. a ++ x) f ∙ ap (λ x. x ++ d) e
@@ -72,7 +72,7 @@ grows_more b image lines lines' steps steps' log log' s mid s' g h =
       never_busy = subst (All (λ reply. reply ≢ Busy)) (sym all) (All-append (λ reply. reply ≢ Busy) _ _ g.never_busy h.never_busy);
       endings = filter_both ending_made ending_heard steps steps' log log' g.endings h.endings;
       requests = filter_both request_made (line_step image) steps steps' lines lines' g.requests h.requests;
-      given_in = filter_map-append given log log' ∙ append_both g.given_in h.given_in ∙ sym (flat_map-append (gives image) (replies b room steps s) (replies b room steps' mid)) ∙ ap (flat_map (gives image)) (sym all);
+      given_in = filter_map-append given_to_host log log' ∙ append_both g.given_in h.given_in ∙ sym (flat_map-append (gives image) (replies b room steps s) (replies b room steps' mid)) ∙ ap (flat_map (gives image)) (sym all);
     }
 
 -- ---- takes
@@ -155,7 +155,7 @@ tick_takes b image room now s =
 pub step_grows : (b : Behaviour) (image : ImageParts) (step : Step) (lines : List (List ℕ)) (heard : HostLog) (s : CoreState)
     → IsKept image → IsBehaviour image b → IsStateOf image s → s.queue ≡ []
     → TakesNone image (turn b image.budgets.commands step s)
-    → filter_map ending_made (step ∷ []) ≡ filter_map ending_heard heard → filter_map given heard ≡ [] → filter_map request_made (step ∷ []) ≡ filter_map (line_step image) lines
+    → filter_map ending_made (step ∷ []) ≡ filter_map ending_heard heard → filter_map given_to_host heard ≡ [] → filter_map request_made (step ∷ []) ≡ filter_map (line_step image) lines
     → Grows b image lines (step ∷ []) (heard ++ launched (launches_told image (turn b image.budgets.commands step s).reply)) s (turn b image.budgets.commands step s).next
 step_grows b image step lines heard s kept is stands empty none endings quiet requests =
     let keeps = kept.anywhere b is s stands step in
@@ -168,6 +168,6 @@ step_grows b image step lines heard s kept is stands empty none endings quiet re
       endings = endings ∙ sym (append-nil (filter_map ending_heard heard)) ∙ ap (λ x. filter_map ending_heard heard ++ x) (sym (launched_heard (launches_told image reply)))
           ∙ sym (filter_map-append ending_heard heard starts);
       requests = requests;
-      given_in = filter_map-append given heard starts ∙ append_both quiet (launched_given (launches_told image reply))
+      given_in = filter_map-append given_to_host heard starts ∙ append_both quiet (launched_given (launches_told image reply))
           ∙ sym (append-nil (gives image reply) ∙ ap (λ texts. starts ++ ran texts) none.none ∙ append-nil starts);
     }

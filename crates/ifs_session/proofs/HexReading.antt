@@ -6,7 +6,7 @@ use Rattle.std.specs.Io.KnownBytes.{Keeps, Consumes, IsAtEnd}
 use Rattle.ifs_session.specs.declared.hexadecimal.HexFault.{HexFault}
 use Rattle.ifs_session.specs.declared.hexadecimal.HexFault.TheVariants.{Broken, Memory, NotRead}
 use Rattle.ifs_session.specs.Device.{Feed, counted}
-use Rattle.ifs_session.specs.Lines.{ending}
+use Rattle.ifs_session.specs.Lines.{line_end}
 use Rattle.ifs_base.specs.Words.{hex_digit}
 use Rattle.ifs_session.specs.Hexadecimal.{hex_text, Takes, HexGives, begun_text, ReadsBeginning, NoDigit, OddDigit}
 use Rattle.ifs_session.specs.Hexadecimal.{DigitTooMany}
@@ -56,7 +56,7 @@ line_ends {bytes} reads (ended, more, end) = (
   record {
     are_bytes = reads.begins.are_bytes;
     within = reads.begins.within;
-    takes = takes_same (ap (λ t. t ++ ending ended) (append-nil (hex_text bytes))) (takes_more reads.takes more);
+    takes = takes_same (ap (λ t. t ++ line_end ended) (append-nil (hex_text bytes))) (takes_more reads.takes more);
     ends = end;
   },
 )
@@ -66,7 +66,7 @@ pub odd_digit : {bytes : List ℕ} {digit : ℕ} {before at after : Feed} → Re
 odd_digit {bytes} {digit} reads (ended, more, end) = (
   bytes,
   Some digit,
-  ending ended,
+  line_end ended,
   record { begins = reads.begins; takes = takes_more reads.takes more; breaks = OddDigit digit ended refl refl end },
 )
 

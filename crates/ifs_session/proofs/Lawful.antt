@@ -16,9 +16,10 @@ use Rattle.ifs_core.specs.Steps.{CoreState, turn}
 use Rattle.ifs_session.specs.Requests.{Asked, ALink, AResult, ATick, ATake, AStatus, ATrace, AStop, AFault}
 use Rattle.ifs_session.specs.Hosts.{Ending, HostLog, ran, launched, polled}
 use Rattle.ifs_session.specs.Accounts.{Account, Exchange, client_asked, step_asked, takes_of, texts_of, launches_told}
-use Rattle.ifs_session.specs.Accounts.{begun, emptied, heard, ended, all_ended, acted, listened, served, all_served}
+use Rattle.ifs_session.specs.Accounts.{begun, emptied, heard, run_ended, runs_ended, acted, listened, served}
+use Rattle.ifs_session.specs.Accounts.{all_served}
 use Rattle.ifs_session.specs.Accounts.{account}
-use Rattle.ifs_session.specs.Service.{ending_made, ending_heard, request_made, given, lines_in, Keeps}
+use Rattle.ifs_session.specs.Service.{ending_made, ending_heard, request_made, given_to_host, lines_in, ConnectionKeeps}
 use Rattle.ifs_session.proofs.Growing.{Grows, TakesNone, line_step, grows_more, takes_grow, step_grows, link_takes}
 use Rattle.ifs_session.proofs.Growing.{finished_takes, tick_takes}
 
@@ -47,7 +48,7 @@ same_log {b} {image} {lines} {steps} {s = s} {s'} e g = subst (λ l. Grows b ima
 -- A step that was made, and the taking of the commands after it.
 acts_lawful : (b : Behaviour) (image : ImageParts) (step : Step) (lines more : List (List ℕ)) (heard_before : HostLog) (s : CoreState) (a : Account)
     → Kept b image → Lawful b image lines s a → TakesNone image (turn b image.budgets.commands step a.state)
-    → filter_map ending_made (step ∷ []) ≡ filter_map ending_heard heard_before → filter_map given heard_before ≡ [] → filter_map request_made (step ∷ []) ≡ filter_map (line_step image) more
+    → filter_map ending_made (step ∷ []) ≡ filter_map ending_heard heard_before → filter_map given_to_host heard_before ≡ [] → filter_map request_made (step ∷ []) ≡ filter_map (line_step image) more
     → Lawful b image (lines ++ more) s (emptied b image (record {
       state = (turn b image.budgets.commands step a.state).next;
       steps = a.steps ++ step ∷ [];
@@ -68,7 +69,7 @@ acts_lawful b image step lines more heard_before s a k l none endings quiet requ
 -- ---- the ends of tests
 
 ended_lawful : (b : Behaviour) (image : ImageParts) (e : Ending) (lines : List (List ℕ)) (s : CoreState) (a : Account) → Kept b image → Lawful b image lines s a
-    → Lawful b image lines s (ended b image e a)
+    → Lawful b image lines s (run_ended b image e a)
 ended_lawful b image e lines s a k l =
     let acts = acts_lawful b image (Finished e.0 e.1 e.2) lines [] (polled (Some e)) s a k l (finished_takes b image image.budgets.commands (record { test = e.0; run = e.1; value = e.2 }) (slice_get a.state.position.facts.tests e.0.0) a.state) refl refl refl in
     let same = append_assoc a.log (polled (Some e)) (launched (launches_told image (turn b image.budgets.commands (Finished e.0 e.1 e.2) a.state).reply)) in
@@ -78,9 +79,9 @@ ended_lawful b image e lines s a k l =
     }
 
 all_ended_lawful : (b : Behaviour) (image : ImageParts) (endings : List Ending) (lines : List (List ℕ)) (s : CoreState) (a : Account) → Kept b image → Lawful b image lines s a
-    → Lawful b image lines s (all_ended b image endings a)
+    → Lawful b image lines s (runs_ended b image endings a)
 all_ended_lawful b image [] lines s a k l = l
-all_ended_lawful b image (e ∷ endings) lines s a k l = all_ended_lawful b image endings lines s (ended b image e a) k (ended_lawful b image e lines s a k l)
+all_ended_lawful b image (e ∷ endings) lines s a k l = all_ended_lawful b image endings lines s (run_ended b image e a) k (ended_lawful b image e lines s a k l)
 
 heard_lawful : (b : Behaviour) (image : ImageParts) (lines : List (List ℕ)) (s : CoreState) (a : Account) → Lawful b image lines s a → Lawful b image lines s (heard None a)
 heard_lawful b image lines s a l =
@@ -157,7 +158,7 @@ all_served_lawful b image (exchange ∷ exchanges) lines s a k l =
 
 -- The account of a connection keeps it.
 pub account_keeps : (b : Behaviour) (image : ImageParts) (exchanges : List Exchange) (s : CoreState) → Kept b image → IsStateOf image s
-    → Keeps b image (lines_in exchanges) (account b image exchanges s).steps (account b image exchanges s).log s (account b image exchanges s).state
+    → ConnectionKeeps b image (lines_in exchanges) (account b image exchanges s).steps (account b image exchanges s).log s (account b image exchanges s).state
 account_keeps b image exchanges s k stands =
     let l = all_served_lawful b image exchanges [] s _ k (begun_lawful b image s k stands) in
     record {

@@ -4,7 +4,7 @@ use Rattle.std.proofs.Common.{append-nil}
 use Rattle.std.specs.List.{filter_map}
 use Rattle.ifs_session.specs.declared.host.HostEvent.TheVariants.{Started}
 use Rattle.ifs_session.specs.Hosts.{Launch, HostLog, launched, Adds}
-use Rattle.ifs_session.specs.Service.{ending_heard, given}
+use Rattle.ifs_session.specs.Service.{ending_heard, given_to_host}
 
 pub adds_nothing : (told : Option HostLog) → Adds [] told told
 adds_nothing None = tt
@@ -21,6 +21,6 @@ pub launched_heard : (starts : List Launch) → filter_map ending_heard (launche
 launched_heard [] = refl
 launched_heard (start ∷ starts) = launched_heard starts
 
-pub launched_given : (starts : List Launch) → filter_map given (launched starts) ≡ launched starts
+pub launched_given : (starts : List Launch) → filter_map given_to_host (launched starts) ≡ launched starts
 launched_given [] = refl
 launched_given (start ∷ starts) = ap (λ log. Started start ∷ log) (launched_given starts)

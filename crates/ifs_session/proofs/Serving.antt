@@ -14,14 +14,15 @@ use Rattle.ifs_image.specs.declared.parts.ImageParts.{ImageParts}
 use Rattle.ifs_core.specs.Event.{Behaviour}
 use Rattle.ifs_core.specs.Steps.{CoreState}
 use Rattle.ifs_session.specs.inner.Reading.{HasNoNewline, ReadFails, ReadsTooMuch}
-use Rattle.ifs_session.specs.Lines.{lines_of, whole_lines, onto_line, ending}
+use Rattle.ifs_session.specs.Lines.{input_lines, whole_lines, onto_line, line_end}
 use Rattle.ifs_session.specs.Requests.{Asked, ALink, AResult, ATick, ATake, AStatus, ATrace, AStop, AFault, asked}
 use Rattle.ifs_session.specs.declared.session.LineKind.{LineKind}
 use Rattle.ifs_session.specs.declared.session.LineKind.TheVariants as kinds
-use Rattle.ifs_session.specs.Sessions.{SessionGives, deed, replies, after_lines, is_step, is_stop, GoOn}
-use Rattle.ifs_session.specs.Sessions.{OnlyLastMayStop, Moment, HasServed, HasReplied, Closes, EndsLine, EndsLines}
+use Rattle.ifs_session.specs.Sessions.{SessionGives, deed, replies_to, after_lines, is_step, is_stop, NoneStops}
+use Rattle.ifs_session.specs.Sessions.{OnlyLastMayStop, Moment, HasServed, HasReplied, EndsWell, EndsLine, EndsLines}
 use Rattle.ifs_session.specs.Sessions.{Completes, BreaksReading, BreaksWriting, ReadsPast}
-use Rattle.ifs_session.specs.inner.Serving.{kind_of, with_line, intake, MakesLine, RepliesToLine, OnlyReads, OnlyWrites}
+use Rattle.ifs_session.specs.inner.Serving.{kind_of, with_request, intake, MakesLine, RepliesToLine, OnlyReads}
+use Rattle.ifs_session.specs.inner.Serving.{OnlyWrites}
 use Rattle.ifs_session.specs.inner.Serving.{NextServed}
 use Rattle.ifs_session.proofs.Known.{consumes_nothing, consumes_more, consumes_kept, append_known-append}
 use Rattle.ifs_session.proofs.Known.{append_known-nil}
@@ -42,10 +43,10 @@ ArePlain (line ∷ lines) = HasNoNewline line × ArePlain lines
 other_byte : {X : Type 0} (byte : ℕ) (x y : X) → byte ≢ 10 → cond (byte == 10) x y ≡ y
 other_byte byte x y h = grind (arith, nat_tests)
 
-lines_of-ended : (text rest : List ℕ) → HasNoNewline text → lines_of (text ++ 10 ∷ rest) ≡ text ∷ lines_of rest
-lines_of-ended [] rest plain = refl
-lines_of-ended (byte ∷ text) rest plain =
-    other_byte byte _ _ plain.0 ∙ ap (onto_first byte) (lines_of-ended text rest plain.1)
+input_lines-ended : (text rest : List ℕ) → HasNoNewline text → input_lines (text ++ 10 ∷ rest) ≡ text ∷ input_lines rest
+input_lines-ended [] rest plain = refl
+input_lines-ended (byte ∷ text) rest plain =
+    other_byte byte _ _ plain.0 ∙ ap (onto_first byte) (input_lines-ended text rest plain.1)
 
 whole_lines-ended : (text rest : List ℕ) → HasNoNewline text → whole_lines (text ++ 10 ∷ rest) ≡ text ∷ whole_lines rest
 whole_lines-ended [] rest plain = refl
@@ -53,22 +54,22 @@ whole_lines-ended (byte ∷ text) rest plain =
     other_byte byte _ _ plain.0 ∙ ap (onto_line byte) (whole_lines-ended text rest plain.1)
 
 -- A rest without newline is a line if it has a byte, and no whole line.
-lines_of-rest : (text : List ℕ) → HasNoNewline text → 0 < length text → lines_of text ≡ text ∷ []
-lines_of-rest [] plain some = absurd (omega arith)
-lines_of-rest (byte ∷ []) plain some = other_byte byte _ _ plain.0
-lines_of-rest (byte ∷ other ∷ text) plain some =
-    other_byte byte _ _ plain.0 ∙ ap (onto_first byte) (lines_of-rest (other ∷ text) plain.1 (omega arith))
+input_lines-rest : (text : List ℕ) → HasNoNewline text → 0 < length text → input_lines text ≡ text ∷ []
+input_lines-rest [] plain some = absurd (omega arith)
+input_lines-rest (byte ∷ []) plain some = other_byte byte _ _ plain.0
+input_lines-rest (byte ∷ other ∷ text) plain some =
+    other_byte byte _ _ plain.0 ∙ ap (onto_first byte) (input_lines-rest (other ∷ text) plain.1 (omega arith))
 
 whole_lines-rest : (text : List ℕ) → HasNoNewline text → whole_lines text ≡ []
 whole_lines-rest [] plain = refl
 whole_lines-rest (byte ∷ text) plain = other_byte byte _ _ plain.0 ∙ ap (onto_line byte) (whole_lines-rest text plain.1)
 
-pub lines_of-unlines : (lines : List (List ℕ)) (rest : List ℕ) → ArePlain lines → lines_of (unlines lines ++ rest) ≡ lines ++ lines_of rest
-lines_of-unlines [] rest plain = refl
-lines_of-unlines (line ∷ lines) rest plain =
-    ap lines_of (append_assoc line (10 ∷ unlines lines) rest)
-    ∙ lines_of-ended line (unlines lines ++ rest) plain.0
-    ∙ ap (λ ls. line ∷ ls) (lines_of-unlines lines rest plain.1)
+pub input_lines-unlines : (lines : List (List ℕ)) (rest : List ℕ) → ArePlain lines → input_lines (unlines lines ++ rest) ≡ lines ++ input_lines rest
+input_lines-unlines [] rest plain = refl
+input_lines-unlines (line ∷ lines) rest plain =
+    ap input_lines (append_assoc line (10 ∷ unlines lines) rest)
+    ∙ input_lines-ended line (unlines lines ++ rest) plain.0
+    ∙ ap (λ ls. line ∷ ls) (input_lines-unlines lines rest plain.1)
 
 pub whole_lines-unlines : (lines : List (List ℕ)) (rest : List ℕ) → ArePlain lines → HasNoNewline rest → whole_lines (unlines lines ++ rest) ≡ lines
 whole_lines-unlines [] rest plain rest_plain = whole_lines-rest rest rest_plain
@@ -85,16 +86,16 @@ pub ArePlain-push : (lines : List (List ℕ)) (text : List ℕ) → ArePlain lin
 ArePlain-push [] text plain last = (last, tt)
 ArePlain-push (line ∷ lines) text plain last = (plain.0, ArePlain-push lines text plain.1 last)
 
-GoOn-push : (lines : List (List ℕ)) (text : List ℕ) → GoOn lines → is_stop (asked text) ≡ false → GoOn (lines ++ text ∷ [])
-GoOn-push [] text on last = (last, tt)
-GoOn-push (line ∷ lines) text on last = (on.0, GoOn-push lines text on.1 last)
+NoneStops-push : (lines : List (List ℕ)) (text : List ℕ) → NoneStops lines → is_stop (asked text) ≡ false → NoneStops (lines ++ text ∷ [])
+NoneStops-push [] text on last = (last, tt)
+NoneStops-push (line ∷ lines) text on last = (on.0, NoneStops-push lines text on.1 last)
 
-GoOn-may_stop : (lines : List (List ℕ)) → GoOn lines → OnlyLastMayStop lines
-GoOn-may_stop [] on = tt
-GoOn-may_stop (line ∷ []) on = tt
-GoOn-may_stop (line ∷ next ∷ lines) on = (on.0, GoOn-may_stop (next ∷ lines) on.1)
+NoneStops-may_stop : (lines : List (List ℕ)) → NoneStops lines → OnlyLastMayStop lines
+NoneStops-may_stop [] on = tt
+NoneStops-may_stop (line ∷ []) on = tt
+NoneStops-may_stop (line ∷ next ∷ lines) on = (on.0, NoneStops-may_stop (next ∷ lines) on.1)
 
-may_stop-push : (lines : List (List ℕ)) (text : List ℕ) → GoOn lines → OnlyLastMayStop (lines ++ text ∷ [])
+may_stop-push : (lines : List (List ℕ)) (text : List ℕ) → NoneStops lines → OnlyLastMayStop (lines ++ text ∷ [])
 may_stop-push [] text on = tt
 may_stop-push (line ∷ []) text on = (on.0, tt)
 may_stop-push (line ∷ next ∷ lines) text on = (on.0, may_stop-push (next ∷ lines) text on.1)
@@ -120,11 +121,11 @@ count_by-push p xs x = sum_by-append (λ y. cond (p y) 1 0) xs (x ∷ []) ∙ om
 
 -- ---- what is made of lines, one after the other
 
-replies-append : (b : Behaviour) (image : ImageParts) (lines others : List (List ℕ)) (s : CoreState)
-    → replies b image (lines ++ others) s ≡ replies b image lines s ++ replies b image others (after_lines b image lines s)
-replies-append b image [] others s = refl
-replies-append b image (line ∷ lines) others s =
-    ap (λ rest. (deed b image (asked line) s).reply ++ rest) (replies-append b image lines others (deed b image (asked line) s).next)
+replies_to-append : (b : Behaviour) (image : ImageParts) (lines others : List (List ℕ)) (s : CoreState)
+    → replies_to b image (lines ++ others) s ≡ replies_to b image lines s ++ replies_to b image others (after_lines b image lines s)
+replies_to-append b image [] others s = refl
+replies_to-append b image (line ∷ lines) others s =
+    ap (λ rest. (deed b image (asked line) s).reply ++ rest) (replies_to-append b image lines others (deed b image (asked line) s).next)
     ∙ sym (append_assoc (deed b image (asked line) s).reply _ _)
 
 after_lines-append : (b : Behaviour) (image : ImageParts) (lines others : List (List ℕ)) (s : CoreState)
@@ -137,14 +138,14 @@ after_lines-append b image (line ∷ lines) others s = after_lines-append b imag
 -- These lines were served since a moment, and none of them ended the session.
 pub record Underway (b : Behaviour) (lines : List (List ℕ)) (summary : Summary) (budget : ℕ) (before now : Moment) : Type 0 where
   pub plain : ArePlain lines
-  pub on : GoOn lines
+  pub on : NoneStops lines
   pub given : Consumes before.left now.left (unlines lines)
   pub spent : 16777216 ≡ length (unlines lines) + budget
   pub read_faults : now.read_faults ≡ before.read_faults
   pub write_faults : now.write_faults ≡ before.write_faults
   pub image : now.core.image ≡ before.core.image
   pub state : now.core.state ≡ after_lines b before.core.image lines before.core.state
-  pub written : now.written ≡ append_known before.written (replies b before.core.image lines before.core.state)
+  pub written : now.written ≡ append_known before.written (replies_to b before.core.image lines before.core.state)
   pub requests : summary.requests ≡ length lines
   pub steps : summary.steps ≡ count_by (λ line. is_step before.core.image (asked line)) lines
   pub running : summary.stopped ≡ false
@@ -166,8 +167,8 @@ underway_start b now = record {
   running = refl;
 }
 
-pub all_lines : (lines : List (List ℕ)) → ArePlain lines → lines_of (unlines lines) ≡ lines
-all_lines lines plain = ap lines_of (sym (append-nil (unlines lines))) ∙ lines_of-unlines lines [] plain ∙ append-nil lines
+pub all_lines : (lines : List (List ℕ)) → ArePlain lines → input_lines (unlines lines) ≡ lines
+all_lines lines plain = ap input_lines (sym (append-nil (unlines lines))) ∙ input_lines-unlines lines [] plain ∙ append-nil lines
 
 -- What was written could not go out.
 pub flushing_fails : {b : Behaviour} {lines : List (List ℕ)} {summary : Summary} {budget : ℕ} {before now : Moment} (after : Moment)
@@ -179,7 +180,7 @@ flushing_fails {b} {lines} {before = before} {now} after u o one = record {
   served = record { image = ap (λ c. c.image) o.core ∙ u.image; state = ap (λ c. c.state) o.core ∙ u.state ∙ ap (λ ls. after_lines b before.core.image ls before.core.state) (sym (all_lines lines u.plain)) };
   same_faults = o.same_faults ∙ u.read_faults;
   one_fault = one ∙ ap counted u.write_faults;
-  go_on = GoOn-may_stop _ (subst GoOn (sym (all_lines lines u.plain)) u.on);
+  go_on = NoneStops-may_stop _ (subst NoneStops (sym (all_lines lines u.plain)) u.on);
 }
 
 -- Lines were served and replied to, and since then something was read that ends no further line.
@@ -187,7 +188,7 @@ served_before : {b : Behaviour} {lines : List (List ℕ)} {summary : Summary} {b
     → Underway b lines summary budget before now → OnlyReads now after → lines ≡ others → HasServed b others before after × HasReplied b others before after
 served_before {b} {before = before} others after u o same = (
   record { image = ap (λ c. c.image) o.core ∙ u.image; state = ap (λ c. c.state) o.core ∙ u.state ∙ ap (λ ls. after_lines b before.core.image ls before.core.state) same },
-  record { written = o.written ∙ u.written ∙ ap (λ ls. append_known before.written (replies b before.core.image ls before.core.state)) same; same_faults = o.same_faults ∙ u.write_faults },
+  record { written = o.written ∙ u.written ∙ ap (λ ls. append_known before.written (replies_to b before.core.image ls before.core.state)) same; same_faults = o.same_faults ∙ u.write_faults },
 )
 
 -- A read failed.
@@ -205,7 +206,7 @@ reading_fails {b} {lines} {before = before} {now} text after budget' u r o =
       served = so_far.0;
       replied = so_far.1;
       one_fault = r.one_fault ∙ ap counted u.read_faults;
-      go_on = subst GoOn whole u.on;
+      go_on = subst NoneStops whole u.on;
     }
 
 -- A byte too many was read.
@@ -222,10 +223,10 @@ reading_past {b} {lines} {before = before} {now} text byte after budget' u r o =
       served = so_far.0;
       replied = so_far.1;
       same_faults = r.same_faults ∙ u.read_faults;
-      go_on = subst GoOn whole u.on;
+      go_on = subst NoneStops whole u.on;
     }
 
-ends_running : (stopped : Bool) (input : List ℕ) (after : Moment) → stopped ≡ false → GoOn (lines_of input) × IsAtEnd after.left → Closes stopped input after
+ends_running : (stopped : Bool) (input : List ℕ) (after : Moment) → stopped ≡ false → NoneStops (input_lines input) × IsAtEnd after.left → EndsWell stopped input after
 ends_running false input after e end = end
 ends_running true input after e end = cc
 
@@ -243,7 +244,7 @@ nothing_left {b} {lines} {summary} {budget} {before} {now} after budget' u (r, o
       same_faults = r.same_faults ∙ u.read_faults;
       requests = u.requests ∙ ap length all;
       steps = u.steps ∙ ap (count_by (λ line. is_step before.core.image (asked line))) all;
-      end = ends_running _ _ _ u.running (subst GoOn all u.on, r.at_end);
+      end = ends_running _ _ _ u.running (subst NoneStops all u.on, r.at_end);
     }
 
 -- ---- a line that was read and served
@@ -255,11 +256,11 @@ pub record Counts (image : ImageParts) (a : Asked) (s next : Summary) : Type 0 w
   pub stopped : next.stopped ≡ is_stop a
 
 counted_other : (image : ImageParts) (a : Asked) (yes : Bool) (s : Summary) → is_step image a ≡ yes → is_stop a ≡ false → s.stopped ≡ false
-    → Counts image a s (with_line (cond yes kinds.Step kinds.Other) s)
+    → Counts image a s (with_request (cond yes kinds.Step kinds.Other) s)
 counted_other image a true s e stop running = record { requests = refl; steps = ap (λ w. s.steps + cond w 1 0) (sym e); stopped = running ∙ sym stop }
 counted_other image a false s e stop running = record { requests = refl; steps = omega (arith, ap (λ w. s.steps + cond w 1 0) (sym e)); stopped = running ∙ sym stop }
 
-counted_line : (image : ImageParts) (a : Asked) (s : Summary) → s.stopped ≡ false → Counts image a s (with_line (kind_of image a) s)
+counted_line : (image : ImageParts) (a : Asked) (s : Summary) → s.stopped ≡ false → Counts image a s (with_request (kind_of image a) s)
 counted_line image (ALink name link) s running = counted_other image (ALink name link) (is_step image (ALink name link)) s refl refl running
 counted_line image (AResult test run value) s running = counted_other image (AResult test run value) true s refl refl running
 counted_line image (ATick moment) s running = counted_other image (ATick moment) true s refl refl running
@@ -270,11 +271,11 @@ counted_line image AStop s running = record { requests = refl; steps = omega ari
 counted_line image (AFault fault) s running = counted_other image (AFault fault) false s refl refl running
 
 -- The last line of an input, whatever ends it.
-pub last_line : (text : List ℕ) (ended : Bool) (P : Type 0) → HasNoNewline text → (ended ≡ false → (0 < length text) × P) → lines_of (text ++ ending ended) ≡ text ∷ []
-last_line text true P plain last = lines_of-ended text [] plain
-last_line text false P plain last = ap lines_of (append-nil text) ∙ lines_of-rest text plain (last refl).0
+pub last_line : (text : List ℕ) (ended : Bool) (P : Type 0) → HasNoNewline text → (ended ≡ false → (0 < length text) × P) → input_lines (text ++ line_end ended) ≡ text ∷ []
+last_line text true P plain last = input_lines-ended text [] plain
+last_line text false P plain last = ap input_lines (append-nil text) ∙ input_lines-rest text plain (last refl).0
 
-pub line_ends : (front text : List ℕ) (ended : Bool) (left : Option (List ℕ)) → (ended ≡ false → (0 < length text) × IsAtEnd left) → EndsLine (front ++ (text ++ ending ended)) left
+pub line_ends : (front text : List ℕ) (ended : Bool) (left : Option (List ℕ)) → (ended ≡ false → (0 < length text) × IsAtEnd left) → EndsLine (front ++ (text ++ line_end ended)) left
 line_ends front text true left last = inl (front ++ text, sym (append_assoc front text (10 ∷ [])))
 line_ends front text false left last = inr (last refl).1
 
@@ -288,18 +289,18 @@ pub record Advances (b : Behaviour) (lines : List (List ℕ)) (text input : List
   pub given : Consumes before.left after.left input
   pub spent : 16777216 ≡ length input + budget
   pub read_faults : after.read_faults ≡ before.read_faults
-  pub lines_are : lines_of input ≡ lines ++ text ∷ []
+  pub lines_are : input_lines input ≡ lines ++ text ∷ []
   pub image : after.core.image ≡ before.core.image
   pub state : after.core.state ≡ after_lines b before.core.image (lines ++ text ∷ []) before.core.state
 
 pub advances : {b : Behaviour} {lines : List (List ℕ)} {summary : Summary} {budget budget' : ℕ} {before now after : Moment} {text : List ℕ} {ended : Bool}
     → Underway b lines summary budget before now → MakesLine b text ended now budget after budget'
-    → Advances b lines text (unlines lines ++ (text ++ ending ended)) before after budget'
+    → Advances b lines text (unlines lines ++ (text ++ line_end ended)) before after budget'
 advances {b} {lines} {before = before} {now} {after} {text} {ended} u m = record {
-  given = consumes_more before.left now.left after.left (unlines lines) (text ++ ending ended) u.given m.read.given;
-  spent = omega (arith, u.spent, m.read.spent, length-append (unlines lines) (text ++ ending ended));
+  given = consumes_more before.left now.left after.left (unlines lines) (text ++ line_end ended) u.given m.read.given;
+  spent = omega (arith, u.spent, m.read.spent, length-append (unlines lines) (text ++ line_end ended));
   read_faults = m.read.same_faults ∙ u.read_faults;
-  lines_are = lines_of-unlines lines (text ++ ending ended) u.plain ∙ ap (λ ls. lines ++ ls) (last_line text ended (IsAtEnd after.left) m.read.plain m.read.last);
+  lines_are = input_lines-unlines lines (text ++ line_end ended) u.plain ∙ ap (λ ls. lines ++ ls) (last_line text ended (IsAtEnd after.left) m.read.plain m.read.last);
   image = m.image ∙ u.image;
   state = m.state ∙ ap (λ d. d.next) (same_deed text u) ∙ sym (after_lines-append b before.core.image lines (text ∷ []) before.core.state);
 }
@@ -307,7 +308,7 @@ advances {b} {lines} {before = before} {now} {after} {text} {ended} u m = record
 -- The reply could not be written.
 replying_fails : {b : Behaviour} {lines : List (List ℕ)} {summary : Summary} {budget budget' : ℕ} {before now after : Moment} {text : List ℕ} {ended : Bool}
     → Underway b lines summary budget before now → MakesLine b text ended now budget after budget' → after.write_faults ≡ counted now.write_faults
-    → BreaksWriting b (unlines lines ++ (text ++ ending ended)) before after
+    → BreaksWriting b (unlines lines ++ (text ++ line_end ended)) before after
 replying_fails {b} {lines} {before = before} {after = after} {text} {ended} u m one =
     let a = advances u m in
     record {
@@ -330,45 +331,45 @@ not_served WriteFailed after budget' u (one, inr (text, ended, m)) = (_, replyin
 
 -- And it was replied to.
 pub record Replies (b : Behaviour) (lines : List (List ℕ)) (text : List ℕ) (summary : Summary) (before after : Moment) : Type 0 where
-  pub written_is : after.written ≡ append_known before.written (replies b before.core.image (lines ++ text ∷ []) before.core.state)
+  pub written_is : after.written ≡ append_known before.written (replies_to b before.core.image (lines ++ text ∷ []) before.core.state)
   pub faults_are : after.write_faults ≡ before.write_faults
   pub requests : summary.requests ≡ length (lines ++ text ∷ [])
   pub steps : summary.steps ≡ count_by (λ line. is_step before.core.image (asked line)) (lines ++ text ∷ [])
   pub stopped : summary.stopped ≡ is_stop (asked text)
 
 pub replied_to : {b : Behaviour} {lines : List (List ℕ)} {summary : Summary} {budget : ℕ} {before now after : Moment} {text : List ℕ} {kind : LineKind} (next : Summary)
-    → Underway b lines summary budget before now → RepliesToLine b text kind now after → next ≡ with_line kind summary
+    → Underway b lines summary budget before now → RepliesToLine b text kind now after → next ≡ with_request kind summary
     → Replies b lines text next before after
 replied_to {b} {lines} {summary} {before = before} {now} {text = text} {kind} next u r next_is =
     let im = before.core.image in
     let s = before.core.state in
     let same_kind : kind ≡ kind_of im (asked text) = r.kind_is ∙ ap (λ i. kind_of i (asked text)) u.image in
-    let counts : Counts im (asked text) summary next = subst (Counts im (asked text) summary) (sym (next_is ∙ ap (λ k. with_line k summary) same_kind)) (counted_line im (asked text) summary u.running) in
+    let counts : Counts im (asked text) summary next = subst (Counts im (asked text) summary) (sym (next_is ∙ ap (λ k. with_request k summary) same_kind)) (counted_line im (asked text) summary u.running) in
     record {
       written_is = r.written ∙ ap (λ d. append_known now.written d.reply) (same_deed text u)
           ∙ ap (λ k. append_known k (deed b im (asked text) (after_lines b im lines s)).reply) u.written
-          ∙ append_known-append before.written (replies b im lines s) _
-          ∙ ap (λ t. append_known before.written (replies b im lines s ++ t)) (sym (append-nil (deed b im (asked text) (after_lines b im lines s)).reply))
-          ∙ ap (append_known before.written) (sym (replies-append b im lines (text ∷ []) s));
+          ∙ append_known-append before.written (replies_to b im lines s) _
+          ∙ ap (λ t. append_known before.written (replies_to b im lines s ++ t)) (sym (append-nil (deed b im (asked text) (after_lines b im lines s)).reply))
+          ∙ ap (append_known before.written) (sym (replies_to-append b im lines (text ∷ []) s));
       faults_are = r.same_faults ∙ u.write_faults;
       requests = counts.requests ∙ omega (arith, u.requests, length-append lines (text ∷ []));
       steps = counts.steps ∙ ap (λ n. n + cond (is_step im (asked text)) 1 0) u.steps ∙ sym (count_by-push (λ other. is_step im (asked other)) lines text);
       stopped = counts.stopped;
     }
 
-ends_stopped : (lines : List (List ℕ)) (text input : List ℕ) (after : Moment) (stopped : Bool) → stopped ≡ true → lines_of input ≡ lines ++ text ∷ [] → GoOn lines → is_stop (asked text) ≡ true → EndsLine input after.left
-    → Closes stopped input after
+ends_stopped : (lines : List (List ℕ)) (text input : List ℕ) (after : Moment) (stopped : Bool) → stopped ≡ true → input_lines input ≡ lines ++ text ∷ [] → NoneStops lines → is_stop (asked text) ≡ true → EndsLine input after.left
+    → EndsWell stopped input after
 ends_stopped lines text input after true e are on stop line = (lines, text, are, on, stop, line)
 ends_stopped lines text input after false e are on stop line = cc
 
 -- The line was `stop`, or the input ended with it.
 session_ends : {b : Behaviour} {lines : List (List ℕ)} {text input : List ℕ} {next : Summary} {before after : Moment} {budget : ℕ}
-    → Advances b lines text input before after budget → Replies b lines text next before after → Closes next.stopped input after
+    → Advances b lines text input before after budget → Replies b lines text next before after → EndsWell next.stopped input after
     → Completes b next input before after
 session_ends {b} {before = before} a p end = record {
   read = record { given = a.given; within = omega (arith, a.spent) };
   served = record { image = a.image; state = a.state ∙ ap (λ ls. after_lines b before.core.image ls before.core.state) (sym a.lines_are) };
-  replied = record { written = p.written_is ∙ ap (λ ls. append_known before.written (replies b before.core.image ls before.core.state)) (sym a.lines_are); same_faults = p.faults_are };
+  replied = record { written = p.written_is ∙ ap (λ ls. append_known before.written (replies_to b before.core.image ls before.core.state)) (sym a.lines_are); same_faults = p.faults_are };
   same_faults = a.read_faults;
   requests = p.requests ∙ ap length (sym a.lines_are);
   steps = p.steps ∙ ap (count_by (λ line. is_step before.core.image (asked line))) (sym a.lines_are);
@@ -387,13 +388,13 @@ is_ended false h = cc
 pub session_closes : {b : Behaviour} {lines : List (List ℕ)} {summary next : Summary} {budget budget' : ℕ} {before now after : Moment} {text : List ℕ} {ended : Bool}
     → Underway b lines summary budget before now → MakesLine b text ended now budget after budget' → Replies b lines text next before after
     → (next.stopped ≡ true) ⊎ ((next.stopped ≡ false) × (not ended ≡ true))
-    → Completes b next (unlines lines ++ (text ++ ending ended)) before after
+    → Completes b next (unlines lines ++ (text ++ line_end ended)) before after
 session_closes {lines = lines} {next = next} {after = after} {text} {ended} u m p (inl stopped) =
     let a = advances u m in
     session_ends a p (ends_stopped lines text _ _ next.stopped stopped a.lines_are u.on (sym p.stopped ∙ stopped) (line_ends (unlines lines) text ended after.left m.read.last))
 session_closes {lines = lines} {next = next} {text = text} u m p (inr (running, over)) =
     let a = advances u m in
-    session_ends a p (ends_running next.stopped _ _ running (subst GoOn (sym a.lines_are) (GoOn-push lines text u.on (sym p.stopped ∙ running)), (m.read.last (not_ended _ over)).1))
+    session_ends a p (ends_running next.stopped _ _ running (subst NoneStops (sym a.lines_are) (NoneStops-push lines text u.on (sym p.stopped ∙ running)), (m.read.last (not_ended _ over)).1))
 
 -- The session goes on after the line.
 pub session_goes_on : {b : Behaviour} {lines : List (List ℕ)} {summary next : Summary} {budget budget' : ℕ} {before now after : Moment} {text : List ℕ} {ended : Bool}
@@ -402,10 +403,10 @@ pub session_goes_on : {b : Behaviour} {lines : List (List ℕ)} {summary next : 
     → Underway b (lines ++ text ∷ []) next budget' before after
 session_goes_on {lines = lines} {budget' = budget'} {before} {after = after} {text} u m p running more =
     let a = advances u m in
-    let all : unlines lines ++ (text ++ ending _) ≡ unlines (lines ++ text ∷ []) = ap (λ e. unlines lines ++ (text ++ ending e)) (is_ended _ more) ∙ sym (unlines-push lines text) in
+    let all : unlines lines ++ (text ++ line_end _) ≡ unlines (lines ++ text ∷ []) = ap (λ e. unlines lines ++ (text ++ line_end e)) (is_ended _ more) ∙ sym (unlines-push lines text) in
     record {
       plain = ArePlain-push lines text u.plain m.read.plain;
-      on = GoOn-push lines text u.on (sym p.stopped ∙ running);
+      on = NoneStops-push lines text u.on (sym p.stopped ∙ running);
       given = subst (λ t. Consumes before.left after.left t) all a.given;
       spent = a.spent ∙ ap (λ t. length t + budget') all;
       read_faults = a.read_faults;
@@ -420,17 +421,17 @@ session_goes_on {lines = lines} {budget' = budget'} {before} {after = after} {te
 
 -- ---- counts, and what is written at the end
 
-pub line_total : (kind : LineKind) (s next : Summary) → next ≡ with_line kind s → next.requests ≡ s.requests + 1
+pub line_total : (kind : LineKind) (s next : Summary) → next ≡ with_request kind s → next.requests ≡ s.requests + 1
 line_total kinds.Step s next e = ap (λ x. x.requests) e
 line_total kinds.Other s next e = ap (λ x. x.requests) e
 line_total kinds.Stop s next e = ap (λ x. x.requests) e
 
-pub line_steps : (kind : LineKind) (s next : Summary) → next ≡ with_line kind s → next.steps ≤ s.steps + 1
+pub line_steps : (kind : LineKind) (s next : Summary) → next ≡ with_request kind s → next.steps ≤ s.steps + 1
 line_steps kinds.Step s next e = omega (arith, ap (λ x. x.steps) e)
 line_steps kinds.Other s next e = omega (arith, ap (λ x. x.steps) e)
 line_steps kinds.Stop s next e = omega (arith, ap (λ x. x.steps) e)
 
-ends_alike : (stopped : Bool) (input : List ℕ) (now after : Moment) → after.left ≡ now.left → Closes stopped input now → Closes stopped input after
+ends_alike : (stopped : Bool) (input : List ℕ) (now after : Moment) → after.left ≡ now.left → EndsWell stopped input now → EndsWell stopped input after
 ends_alike false input now after same end = (end.0, subst IsAtEnd (sym same) end.1)
 ends_alike true input now after same end = (end.0, end.1, end.2, end.3, end.4, subst (EndsLine input) (sym same) end.5)
 
@@ -452,12 +453,12 @@ out_flushed {summary = summary} {now = now} written faults (input, done) put = (
 )
 
 -- Input that a session ended with was read to the end of a line, and only its last line may ask for the end.
-ends_lines : (stopped : Bool) (input : List ℕ) (now : Moment) → Closes stopped input now → EndsLines input now.left
+ends_lines : (stopped : Bool) (input : List ℕ) (now : Moment) → EndsWell stopped input now → EndsLines input now.left
 ends_lines false input now end = inr (inr end.1)
 ends_lines true input now end = inr end.5
 
-ends_may_stop : (stopped : Bool) (input : List ℕ) (now : Moment) → Closes stopped input now → OnlyLastMayStop (lines_of input)
-ends_may_stop false input now end = GoOn-may_stop (lines_of input) end.0
+ends_may_stop : (stopped : Bool) (input : List ℕ) (now : Moment) → EndsWell stopped input now → OnlyLastMayStop (input_lines input)
+ends_may_stop false input now end = NoneStops-may_stop (input_lines input) end.0
 ends_may_stop true input now end = subst OnlyLastMayStop (sym end.2) (may_stop-push end.0 end.1 end.3)
 
 -- They could not go out.

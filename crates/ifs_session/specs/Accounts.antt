@@ -13,13 +13,13 @@ use Rattle.ifs_core.specs.Event.{Behaviour}
 use Rattle.ifs_core.specs.Steps.{CoreState, turn, after_steps}
 use Rattle.ifs_core.specs.Gateway.{interface_of}
 use Rattle.ifs_session.specs.declared.request.RequestFault.TheVariants.{NoRequest, TooLong, NoInterface}
-use Rattle.ifs_session.specs.Requests.{Asked, ALink, ATick, AStatus, ATrace, AStop, AFault, begins_with, short_asked}
+use Rattle.ifs_session.specs.Requests.{Asked, ALink, ATick, AStatus, ATrace, AStop, AFault, starts_with, short_asked}
 use Rattle.ifs_session.specs.Replies.{command_text, reply_line, status_line, trace_lines, fault_line, bye_line}
 use Rattle.ifs_session.specs.Hosts.{Ending, Launch, HostLog, ran, launched, polled}
 
 -- Whether a line asks for what the service does by itself: a result, or the taking of a command.
 abbrev pub asks_of_hosts : List ℕ → Bool
-asks_of_hosts line = begins_with (codes "result ") line || bytes_eq line (codes "take")
+asks_of_hosts line = starts_with (codes "result ") line || bytes_eq line (codes "take")
 
 -- What a line of a client asks for, or its fault: as in a session, but `take` and `result` are no requests of a client.
 abbrev pub client_asked : List ℕ → Asked
@@ -94,13 +94,13 @@ abbrev pub heard : Option Ending → Account → Account
 heard answer a = record { state = a.state; steps = a.steps; log = a.log ++ polled answer; said = a.said }
 
 -- The end of a test's run was answered, its step is made, and the queue is emptied.
-abbrev pub ended : Behaviour → ImageParts → Ending → Account → Account
-ended b image e a = emptied b image (made b image (Finished e.0 e.1 e.2) (heard (Some e) a))
+abbrev pub run_ended : Behaviour → ImageParts → Ending → Account → Account
+run_ended b image e a = emptied b image (made b image (Finished e.0 e.1 e.2) (heard (Some e) a))
 
 -- The same of several, one after the other.
-abbrev pub all_ended : Behaviour → ImageParts → List Ending → Account → Account
-all_ended b image [] a = a
-all_ended b image (e ∷ es) a = all_ended b image es (ended b image e a)
+abbrev pub runs_ended : Behaviour → ImageParts → List Ending → Account → Account
+runs_ended b image [] a = a
+runs_ended b image (e ∷ es) a = runs_ended b image es (run_ended b image e a)
 
 -- The host is polled where at least 130 places for steps are free, and answers that there is no more.
 abbrev pub heard_out : Account → Account
@@ -127,7 +127,7 @@ pub record Exchange : Type 0 where
 
 -- The account when the ends of an exchange were heard, and when its request was done too.
 abbrev pub listened : Behaviour → ImageParts → Exchange → Account → Account
-listened b image exchange a = heard_out (all_ended b image exchange.endings a)
+listened b image exchange a = heard_out (runs_ended b image exchange.endings a)
 
 abbrev pub attended : Behaviour → ImageParts → Exchange → Account → Account
 attended b image exchange a = acted b image (step_asked image (client_asked exchange.line)) (listened b image exchange a)
@@ -136,12 +136,12 @@ attended b image exchange a = acted b image (step_asked image (client_asked exch
 abbrev pub answered : Behaviour → ImageParts → Asked → CoreState → List ℕ
 answered b image asked s = replied b image (step_asked image asked) (told_line image asked s) s
 
-abbrev pub spoken : Behaviour → ImageParts → Exchange → Account → List ℕ
-spoken b image exchange a = answered b image (client_asked exchange.line) (listened b image exchange a).state
+abbrev pub exchange_reply : Behaviour → ImageParts → Exchange → Account → List ℕ
+exchange_reply b image exchange a = answered b image (client_asked exchange.line) (listened b image exchange a).state
 
 -- The account after an exchange, whose request was replied to.
 abbrev pub served : Behaviour → ImageParts → Exchange → Account → Account
-served b image exchange a = with_said (spoken b image exchange a) (attended b image exchange a)
+served b image exchange a = with_said (exchange_reply b image exchange a) (attended b image exchange a)
 
 -- The account after exchanges, one after the other.
 abbrev pub all_served : Behaviour → ImageParts → List Exchange → Account → Account

@@ -5,7 +5,7 @@ use Rattle.std.specs.Io.KnownBytes.{Consumes, IsAtEnd}
 use Rattle.ifs_session.specs.declared.hexadecimal.HexFault.{HexFault}
 use Rattle.ifs_session.specs.declared.hexadecimal.HexFault.TheVariants.{Broken, Memory, NotRead}
 use Rattle.ifs_session.specs.Device.{Feed, counted}
-use Rattle.ifs_session.specs.Lines.{ending}
+use Rattle.ifs_session.specs.Lines.{line_end}
 use Rattle.ifs_base.specs.Words.{hex_digit, IsNoDigit}
 
 -- The hexadecimal digits of bytes, two each, the high one first.
@@ -49,22 +49,22 @@ pub record ReadsBeginning (bytes : List ℕ) (high : Option ℕ) (before after :
   pub takes : Takes (begun_text bytes high) before after
 
 -- Why what is read after such a beginning breaks the rule: it is no digit and no newline; or it is the line's end, and the byte that was begun has no low digit; or it is a digit after 131,072.
-pub data Breaks (whole : ℕ) (high : Option ℕ) (last : List ℕ) (after : Feed) : Type 0 where
-  NoDigit : (byte : ℕ) → last ≡ byte ∷ [] → IsNoDigit byte → byte ≢ 10 → Breaks whole high last after
-  OddDigit : (digit : ℕ) (ended : Bool) → high ≡ Some digit → last ≡ ending ended → EndsAt ended after → Breaks whole high last after
-  DigitTooMany : (digit : ℕ) → high ≡ None → whole ≡ 65536 → digit < 16 → last ≡ hex_digit digit ∷ [] → Breaks whole high last after
+pub data BreaksRule (whole : ℕ) (high : Option ℕ) (last : List ℕ) (after : Feed) : Type 0 where
+  NoDigit : (byte : ℕ) → last ≡ byte ∷ [] → IsNoDigit byte → byte ≢ 10 → BreaksRule whole high last after
+  OddDigit : (digit : ℕ) (ended : Bool) → high ≡ Some digit → last ≡ line_end ended → EndsAt ended after → BreaksRule whole high last after
+  DigitTooMany : (digit : ℕ) → high ≡ None → whole ≡ 65536 → digit < 16 → last ≡ hex_digit digit ∷ [] → BreaksRule whole high last after
 
 -- A line that breaks the rule was read as far as what breaks it, and no further.
 pub record ReadsBroken (bytes : List ℕ) (high : Option ℕ) (last : List ℕ) (before after : Feed) : Type 0 where
   pub begins : LineBegins bytes high
   pub takes : Takes (begun_text bytes high ++ last) before after
-  pub breaks : Breaks (length bytes) high last after
+  pub breaks : BreaksRule (length bytes) high last after
 
 -- A line that keeps the rule was read, and no more.
 pub record ReadsBytes (bytes : List ℕ) (ended : Bool) (before after : Feed) : Type 0 where
   pub are_bytes : All (λ byte. byte < 256) bytes
   pub within : length bytes ≤ 65536
-  pub takes : Takes (hex_text bytes ++ ending ended) before after
+  pub takes : Takes (hex_text bytes ++ line_end ended) before after
   pub ends : EndsAt ended after
 
 -- A read failed in an image's line, after its beginning.

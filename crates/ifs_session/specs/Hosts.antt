@@ -15,12 +15,12 @@ abbrev pub Launch : Type 0
 Launch = LaunchWith (List ℕ)
 
 -- One thing that happened at a host: it answered a poll, was told to start a test, or ran a text.
-abbrev pub Event : Type 0
-Event = HostEvent (List ℕ)
+abbrev pub Happening : Type 0
+Happening = HostEvent (List ℕ)
 
 -- What happened at a host, in order.
 abbrev pub HostLog : Type 0
-HostLog = List Event
+HostLog = List Happening
 
 -- Texts were run, tests were started, and one answer was given.
 abbrev pub ran : List (List ℕ) → HostLog

@@ -3,9 +3,9 @@ use Rattle.std.specs.Prelude.{ℕ, Bool, true, false, ◌==◌, if◌then◌else
 use Rattle.std.specs.List.{onto_first}
 
 -- The lines of an input: it is cut at newlines, and a last rest of at least one byte is a line.
-abbrev pub lines_of : List ℕ → List (List ℕ)
-lines_of [] = []
-lines_of (byte ∷ input) = if byte == 10 then [] ∷ lines_of input else onto_first byte (lines_of input)
+abbrev pub input_lines : List ℕ → List (List ℕ)
+input_lines [] = []
+input_lines (byte ∷ input) = if byte == 10 then [] ∷ input_lines input else onto_first byte (input_lines input)
 
 -- A byte put before the first line, if there is one.
 abbrev pub onto_line : ℕ → List (List ℕ) → List (List ℕ)
@@ -18,6 +18,6 @@ whole_lines [] = []
 whole_lines (byte ∷ input) = if byte == 10 then [] ∷ whole_lines input else onto_line byte (whole_lines input)
 
 -- What ends a line: a newline, or nothing at the end of input.
-abbrev pub ending : Bool → List ℕ
-ending true = 10 ∷ []
-ending false = []
+abbrev pub line_end : Bool → List ℕ
+line_end true = 10 ∷ []
+line_end false = []

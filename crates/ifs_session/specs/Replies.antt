@@ -46,8 +46,8 @@ starts_words starts exhausted =
     codes "starts " ++ listed (map start_word starts) ++ (if exhausted then codes " exhausted" else [])
 
 -- The line that ends here.
-abbrev pub line_of : List ℕ → List ℕ
-line_of words = words ++ codes "\n"
+abbrev pub ended_line : List ℕ → List ℕ
+ended_line words = words ++ codes "\n"
 
 -- What stands before the starts of a tick: its evaluation, if it made one.
 abbrev pub before_starts : Bool → List ℕ → List ℕ
@@ -56,15 +56,15 @@ before_starts false evaluation = []
 
 -- The line of a tick, by whether it evaluated.
 abbrev pub tick_line : Bool → List ℕ → List ℕ → List ℕ
-tick_line evaluated evaluation starts = line_of (codes "tick " ++ before_starts evaluated evaluation ++ starts)
+tick_line evaluated evaluation starts = ended_line (codes "tick " ++ before_starts evaluated evaluation ++ starts)
 
 -- The line of a command that was taken.
 abbrev pub taken_line : ImageParts → ℕ → List ℕ
-taken_line image command = line_of (codes "taken " ++ decimal command ++ codes " " ++ quoted (command_text image command))
+taken_line image command = ended_line (codes "taken " ++ decimal command ++ codes " " ++ quoted (command_text image command))
 
 -- The line of a reply to a step.
 abbrev pub reply_line : ImageParts → Reply → List ℕ
-reply_line image (Done state queued cost) = line_of (codes "done " ++ evaluation_words image state.0 cost queued.items)
+reply_line image (Done state queued cost) = ended_line (codes "done " ++ evaluation_words image state.0 cost queued.items)
 reply_line image Same = codes "same\n"
 reply_line image (Ticked evaluated state queued cost starts exhausted) =
     tick_line evaluated (evaluation_words image state.0 cost queued.items) (starts_words starts.items exhausted)
@@ -87,7 +87,7 @@ status_numbers s = codes " queue " ++ decimal (length s.queue)
 
 -- The line of a status.
 abbrev pub status_line : ImageParts → CoreState → List ℕ
-status_line image s = line_of (codes "status " ++ quoted (state_name image s.position.current.0)
+status_line image s = ended_line (codes "status " ++ quoted (state_name image s.position.current.0)
     ++ codes " owed " ++ yes_or_no s.position.owed ++ status_numbers s)
 
 -- The value of a test.
@@ -115,11 +115,11 @@ answer_words image r = answer_word r.answer ++ codes " " ++ quoted (state_name i
 
 -- The line of a record of the trace.
 abbrev pub record_line : ImageParts → Record → List ℕ
-record_line image r = line_of (step_words r.step ++ codes " -> " ++ answer_words image r)
+record_line image r = ended_line (step_words r.step ++ codes " -> " ++ answer_words image r)
 
 -- The lines of a trace: how many records there are, and each, the oldest first.
 abbrev pub trace_lines : ImageParts → List Record → List ℕ
-trace_lines image trace = line_of (codes "trace " ++ decimal (length trace)) ++ flat_map (record_line image) trace
+trace_lines image trace = ended_line (codes "trace " ++ decimal (length trace)) ++ flat_map (record_line image) trace
 
 -- The code of a request's fault.
 abbrev pub fault_code : RequestFault → List ℕ
@@ -130,7 +130,7 @@ fault_code NoInterface = codes "C4"
 
 -- The line of a fault.
 abbrev pub fault_line : RequestFault → List ℕ
-fault_line fault = line_of (codes "fault " ++ fault_code fault)
+fault_line fault = ended_line (codes "fault " ++ fault_code fault)
 
 -- The line of `stop`.
 abbrev pub bye_line : List ℕ

@@ -26,15 +26,15 @@ link_named [] link = AFault NoRequest
 link_named (byte ∷ name) link = ALink (byte ∷ name) link
 
 -- Whether a text begins with a word, and whether it ends with one.
-abbrev pub begins_with : List ℕ → List ℕ → Bool
-begins_with word text = bytes_eq (take (length word) text) word
+abbrev pub starts_with : List ℕ → List ℕ → Bool
+starts_with word text = bytes_eq (take (length word) text) word
 
 abbrev pub ends_with : List ℕ → List ℕ → Bool
 ends_with word text = bytes_eq (drop (length text - length word) text) word
 
 -- What stands after the word that a text begins with, and before the one that it ends with.
-abbrev pub after_word : List ℕ → List ℕ → List ℕ
-after_word word text = drop (length word) text
+abbrev pub behind_word : List ℕ → List ℕ → List ℕ
+behind_word word text = drop (length word) text
 
 abbrev pub before_word : List ℕ → List ℕ → List ℕ
 before_word word text = take (length text - length word) text
@@ -82,9 +82,9 @@ word_asked word =
 -- What is asked by a line that is not too long.
 abbrev pub short_asked : List ℕ → Asked
 short_asked line =
-    if begins_with (codes "link ") line then link_asked (after_word (codes "link ") line) else
-    if begins_with (codes "result ") line then result_asked (after_word (codes "result ") line) else
-    if begins_with (codes "tick ") line then tick_asked (number_of (after_word (codes "tick ") line)) else
+    if starts_with (codes "link ") line then link_asked (behind_word (codes "link ") line) else
+    if starts_with (codes "result ") line then result_asked (behind_word (codes "result ") line) else
+    if starts_with (codes "tick ") line then tick_asked (number_of (behind_word (codes "tick ") line)) else
     word_asked line
 
 -- What a line asks for, or its fault: a line of over 256 bytes is too long, whatever it says.

@@ -72,10 +72,10 @@ abbrev pub refused_line : Refusal → List ℕ
 refused_line refusal = codes "refused " ++ refusal_words refusal ++ codes "\n"
 
 -- What a run answers where it refuses.
-abbrev pub fault_of : Refusal → RunFault
-fault_of refusals.Broken = X1
-fault_of (refusals.NotAccepted fault) = Verify fault
-fault_of refusals.Memory = Memory
+abbrev pub run_fault : Refusal → RunFault
+run_fault refusals.Broken = X1
+run_fault (refusals.NotAccepted fault) = Verify fault
+run_fault refusals.Memory = Memory
 
 -- A core stands at the opening of the image that these bytes spell, which is accepted.
 pub record OpensImage (bytes : List ℕ) (core : OpenCore) : Type 0 where

@@ -15,8 +15,8 @@ use Rattle.ifs_session.specs.declared.service.End.{End}
 use Rattle.ifs_session.specs.declared.service.End.TheVariants.{Closed, Stop, Full, Fault}
 use Rattle.ifs_session.specs.Device.{counted}
 use Rattle.ifs_session.specs.declared.host.HostEvent.TheVariants.{Polled, Started, Ran}
-use Rattle.ifs_session.specs.Hosts.{Ending, Event, HostLog, Adds, ran, launched}
-use Rattle.ifs_session.specs.Lines.{lines_of, whole_lines}
+use Rattle.ifs_session.specs.Hosts.{Ending, Happening, HostLog, Adds, ran, launched}
+use Rattle.ifs_session.specs.Lines.{input_lines, whole_lines}
 use Rattle.ifs_session.specs.Replies.{command_text}
 use Rattle.ifs_session.specs.Sessions.{Moment, HasRead, EndsLine, EndsLines, is_stop}
 use Rattle.ifs_session.specs.Accounts.{Exchange, client_asked, step_asked, launches_told, account}
@@ -40,27 +40,27 @@ text_taken image (Taken command) = command_text image command.0 ∷ []
 text_taken image _ = []
 
 -- The end of a test that a host told of, when it was polled.
-abbrev pub ending_heard : Event → Option Ending
+abbrev pub ending_heard : Happening → Option Ending
 ending_heard (Polled answer) = answer
 ending_heard _ = None
 
 -- What a host was given: all that happened at it but its answers.
-abbrev pub given : Event → Option Event
-given (Polled answer) = None
-given (Started launch) = Some (Started launch)
-given (Ran text) = Some (Ran text)
+abbrev pub given_to_host : Happening → Option Happening
+given_to_host (Polled answer) = None
+given_to_host (Started launch) = Some (Started launch)
+given_to_host (Ran text) = Some (Ran text)
 
 -- What a host is to be given for a reply: the tests that it says are started, and the text of the command that it hands out.
 abbrev pub gives : ImageParts → Reply → HostLog
 gives image reply = launched (launches_told image reply) ++ ran (text_taken image reply)
 
 -- These steps lead from one state of a core to another, and none of them was answered `Busy`. The ends of tests among them are those that the host answered, each once, in order; the requests are those of the lines, in order; and the host was given the tests that they start and the texts of the commands that they take, and nothing else, in the order of the steps. They leave the queue empty.
-pub record Keeps (b : Behaviour) (image : ImageParts) (lines : List (List ℕ)) (steps : List Step) (log : HostLog) (s s' : CoreState) : Type 0 where
+pub record ConnectionKeeps (b : Behaviour) (image : ImageParts) (lines : List (List ℕ)) (steps : List Step) (log : HostLog) (s s' : CoreState) : Type 0 where
   pub made : s' ≡ after_steps b image.budgets.commands steps s
   pub never_busy : All (λ reply. reply ≢ Busy) (replies b image.budgets.commands steps s)
   pub endings : filter_map ending_made steps ≡ filter_map ending_heard log
   pub requests : filter_map request_made steps ≡ filter_map (λ line. step_asked image (client_asked line)) lines
-  pub given_in : filter_map given log ≡ flat_map (gives image) (replies b image.budgets.commands steps s)
+  pub given_in : filter_map given_to_host log ≡ flat_map (gives image) (replies b image.budgets.commands steps s)
   pub empty : s'.queue ≡ []
 
 -- ---- its exchanges and its end
@@ -70,13 +70,13 @@ abbrev pub lines_in : List Exchange → List (List ℕ)
 lines_in exchanges = map (λ exchange. exchange.line) exchanges
 
 -- A line does not ask for the end of the service.
-abbrev pub GoesOn : List ℕ → Type 0
-GoesOn line = is_stop (client_asked line) ≡ false
+abbrev pub AsksNoStop : List ℕ → Type 0
+AsksNoStop line = is_stop (client_asked line) ≡ false
 
 -- None of these lines before the last asks for the end of the service, and the last does exactly where the service was stopped.
 abbrev pub Stops : Bool → List (List ℕ) → Type 0
-Stops false lines = All GoesOn lines
-Stops true lines = (earlier : List (List ℕ)) × (stop : List ℕ) × (lines ≡ earlier ++ stop ∷ []) × All GoesOn earlier × (is_stop (client_asked stop) ≡ true)
+Stops false lines = All AsksNoStop lines
+Stops true lines = (earlier : List (List ℕ)) × (stop : List ℕ) × (lines ≡ earlier ++ stop ∷ []) × All AsksNoStop earlier × (is_stop (client_asked stop) ≡ true)
 
 -- From one moment to another these exchanges were attended to, of a host that told this before and tells that now. Each of them left the queue empty.
 pub record HasAttended (b : Behaviour) (exchanges : List Exchange) (steps : List Step) (told told' : Option HostLog) (before after : Moment) : Type 0 where
@@ -84,7 +84,7 @@ pub record HasAttended (b : Behaviour) (exchanges : List Exchange) (steps : List
   pub state : after.core.state ≡ (account b before.core.image exchanges before.core.state).state
   pub steps_are : steps ≡ (account b before.core.image exchanges before.core.state).steps
   pub told_is : Adds (account b before.core.image exchanges before.core.state).log told told'
-  pub keeps : Keeps b before.core.image (lines_in exchanges) steps (account b before.core.image exchanges before.core.state).log before.core.state after.core.state
+  pub keeps : ConnectionKeeps b before.core.image (lines_in exchanges) steps (account b before.core.image exchanges before.core.state).log before.core.state after.core.state
   pub each_empties : (front rest : List Exchange) → exchanges ≡ front ++ rest → (account b before.core.image front before.core.state).state.queue ≡ []
 
 -- And each was replied to, in order, and nothing else was written.
@@ -100,17 +100,17 @@ EndsAs Full stopped input steps after = (stopped ≡ false) × (447 < length ste
 EndsAs (Fault fault) stopped input steps after = ⊥
 
 -- A connection has ended without a fault: each line is that of an exchange, in order.
-pub record Completes (b : Behaviour) (end : End) (stopped : Bool) (input : List ℕ) (exchanges : List Exchange) (steps : List Step) (told told' : Option HostLog) (before after : Moment) : Type 0 where
+pub record ConnectionCompletes (b : Behaviour) (end : End) (stopped : Bool) (input : List ℕ) (exchanges : List Exchange) (steps : List Step) (told told' : Option HostLog) (before after : Moment) : Type 0 where
   pub read : HasRead input before after
-  pub lines : lines_of input ≡ lines_in exchanges
+  pub lines : input_lines input ≡ lines_in exchanges
   pub attended : HasAttended b exchanges steps told told' before after
   pub answered : HasAnswered b exchanges before after
   pub same_faults : after.read_faults ≡ before.read_faults
-  pub stops : Stops stopped (lines_of input)
+  pub stops : Stops stopped (input_lines input)
   pub ends : EndsAs end stopped input steps after
 
 -- A read failed: the lines that were whole by then were served.
-pub record BreaksReading (b : Behaviour) (stopped : Bool) (input : List ℕ) (exchanges : List Exchange) (steps : List Step) (told told' : Option HostLog) (before after : Moment) : Type 0 where
+pub record ConnectionBreaksReading (b : Behaviour) (stopped : Bool) (input : List ℕ) (exchanges : List Exchange) (steps : List Step) (told told' : Option HostLog) (before after : Moment) : Type 0 where
   pub read : HasRead input before after
   pub lines : whole_lines input ≡ lines_in exchanges
   pub attended : HasAttended b exchanges steps told told' before after
@@ -120,17 +120,17 @@ pub record BreaksReading (b : Behaviour) (stopped : Bool) (input : List ℕ) (ex
   pub not_stopped : stopped ≡ false
 
 -- A write failed: the lines that were read by then, each to its end, were attended to. Only the last may have asked for the end of the service.
-pub record BreaksWriting (b : Behaviour) (stopped : Bool) (input : List ℕ) (exchanges : List Exchange) (steps : List Step) (told told' : Option HostLog) (before after : Moment) : Type 0 where
+pub record ConnectionBreaksWriting (b : Behaviour) (stopped : Bool) (input : List ℕ) (exchanges : List Exchange) (steps : List Step) (told told' : Option HostLog) (before after : Moment) : Type 0 where
   pub read : HasRead input before after
   pub whole : EndsLines input after.left
-  pub lines : lines_of input ≡ lines_in exchanges
+  pub lines : input_lines input ≡ lines_in exchanges
   pub attended : HasAttended b exchanges steps told told' before after
   pub same_faults : after.read_faults ≡ before.read_faults
-  pub stops : Stops stopped (lines_of input)
+  pub stops : Stops stopped (input_lines input)
   pub one_fault : after.write_faults ≡ counted before.write_faults
 
 -- A byte was read after the 16,777,216 of a connection: the lines that were whole before it were served.
-pub record ReadsPast (b : Behaviour) (stopped : Bool) (input : List ℕ) (byte : ℕ) (exchanges : List Exchange) (steps : List Step) (told told' : Option HostLog) (before after : Moment) : Type 0 where
+pub record ConnectionReadsPast (b : Behaviour) (stopped : Bool) (input : List ℕ) (byte : ℕ) (exchanges : List Exchange) (steps : List Step) (told told' : Option HostLog) (before after : Moment) : Type 0 where
   pub given : Consumes before.left after.left (input ++ byte ∷ [])
   pub full : length input ≡ 16777216
   pub lines : whole_lines input ≡ lines_in exchanges
@@ -143,10 +143,10 @@ pub record ReadsPast (b : Behaviour) (stopped : Bool) (input : List ℕ) (byte :
 -- What a connection gives: there is an input that was read, and exchanges, one for each of its lines.
 abbrev pub ConnectionGives : Behaviour → End → Bool → List Step → Option HostLog → Option HostLog → Moment → Moment → Type 0
 ConnectionGives b (Fault ReadFailed) stopped steps told told' before after =
-    (input : List ℕ) × (exchanges : List Exchange) × BreaksReading b stopped input exchanges steps told told' before after
+    (input : List ℕ) × (exchanges : List Exchange) × ConnectionBreaksReading b stopped input exchanges steps told told' before after
 ConnectionGives b (Fault WriteFailed) stopped steps told told' before after =
-    (input : List ℕ) × (exchanges : List Exchange) × BreaksWriting b stopped input exchanges steps told told' before after
+    (input : List ℕ) × (exchanges : List Exchange) × ConnectionBreaksWriting b stopped input exchanges steps told told' before after
 ConnectionGives b (Fault TooMuchInput) stopped steps told told' before after =
-    (input : List ℕ) × (byte : ℕ) × (exchanges : List Exchange) × ReadsPast b stopped input byte exchanges steps told told' before after
+    (input : List ℕ) × (byte : ℕ) × (exchanges : List Exchange) × ConnectionReadsPast b stopped input byte exchanges steps told told' before after
 ConnectionGives b end stopped steps told told' before after =
-    (input : List ℕ) × (exchanges : List Exchange) × Completes b end stopped input exchanges steps told told' before after
+    (input : List ℕ) × (exchanges : List Exchange) × ConnectionCompletes b end stopped input exchanges steps told told' before after

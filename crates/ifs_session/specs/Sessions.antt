@@ -17,7 +17,7 @@ use Rattle.ifs_session.specs.declared.session.Summary.{Summary}
 use Rattle.ifs_session.specs.Device.{counted}
 use Rattle.ifs_session.specs.Requests.{Asked, ALink, AResult, ATick, ATake, AStatus, ATrace, AStop, AFault, asked}
 use Rattle.ifs_session.specs.Replies.{reply_line, status_line, trace_lines, fault_line, bye_line}
-use Rattle.ifs_session.specs.Lines.{lines_of, whole_lines}
+use Rattle.ifs_session.specs.Lines.{input_lines, whole_lines}
 
 -- What a line makes: the bytes of its reply, and the state after it.
 pub record Deed : Type 0 where
@@ -51,9 +51,9 @@ deed b image AStop s = told bye_line s
 deed b image (AFault fault) s = told (fault_line fault) s
 
 -- The replies to lines, one after the other.
-abbrev pub replies : Behaviour → ImageParts → List (List ℕ) → CoreState → List ℕ
-replies b image [] s = []
-replies b image (line ∷ lines) s = (deed b image (asked line) s).reply ++ replies b image lines (deed b image (asked line) s).next
+abbrev pub replies_to : Behaviour → ImageParts → List (List ℕ) → CoreState → List ℕ
+replies_to b image [] s = []
+replies_to b image (line ∷ lines) s = (deed b image (asked line) s).reply ++ replies_to b image lines (deed b image (asked line) s).next
 
 -- The state after lines.
 abbrev pub after_lines : Behaviour → ImageParts → List (List ℕ) → CoreState → CoreState
@@ -74,9 +74,9 @@ is_stop AStop = true
 is_stop _ = false
 
 -- None of these lines asks for the end of the session.
-abbrev pub GoOn : List (List ℕ) → Type 0
-GoOn [] = Unit {0}
-GoOn (line ∷ lines) = (is_stop (asked line) ≡ false) × GoOn lines
+abbrev pub NoneStops : List (List ℕ) → Type 0
+NoneStops [] = Unit {0}
+NoneStops (line ∷ lines) = (is_stop (asked line) ≡ false) × NoneStops lines
 
 -- None of these lines but the last asks for the end of the session.
 abbrev pub OnlyLastMayStop : List (List ℕ) → Type 0
@@ -104,7 +104,7 @@ pub record HasServed (b : Behaviour) (lines : List (List ℕ)) (before after : M
 
 -- And each was replied to, in order, and nothing else was written.
 pub record HasReplied (b : Behaviour) (lines : List (List ℕ)) (before after : Moment) : Type 0 where
-  pub written : after.written ≡ append_known before.written (replies b before.core.image lines before.core.state)
+  pub written : after.written ≡ append_known before.written (replies_to b before.core.image lines before.core.state)
   pub same_faults : after.write_faults ≡ before.write_faults
 
 -- The input ends with a newline, or it is at its end.
@@ -116,19 +116,19 @@ abbrev pub EndsLines : List ℕ → Option (List ℕ) → Type 0
 EndsLines input left = (input ≡ []) ⊎ EndsLine input left
 
 -- How a session ends that ends well: at the end of input, where no line asked for it; or with its last line, which alone asks for it. After that line's newline, where it has one, nothing more was read.
-abbrev pub Closes : Bool → List ℕ → Moment → Type 0
-Closes false input after = GoOn (lines_of input) × IsAtEnd after.left
-Closes true input after = (earlier : List (List ℕ)) × (stop : List ℕ) × (lines_of input ≡ earlier ++ stop ∷ []) × GoOn earlier × (is_stop (asked stop) ≡ true) × EndsLine input after.left
+abbrev pub EndsWell : Bool → List ℕ → Moment → Type 0
+EndsWell false input after = NoneStops (input_lines input) × IsAtEnd after.left
+EndsWell true input after = (earlier : List (List ℕ)) × (stop : List ℕ) × (input_lines input ≡ earlier ++ stop ∷ []) × NoneStops earlier × (is_stop (asked stop) ≡ true) × EndsLine input after.left
 
 -- A session has ended.
 pub record Completes (b : Behaviour) (summary : Summary) (input : List ℕ) (before after : Moment) : Type 0 where
   pub read : HasRead input before after
-  pub served : HasServed b (lines_of input) before after
-  pub replied : HasReplied b (lines_of input) before after
+  pub served : HasServed b (input_lines input) before after
+  pub replied : HasReplied b (input_lines input) before after
   pub same_faults : after.read_faults ≡ before.read_faults
-  pub requests : summary.requests ≡ length (lines_of input)
-  pub steps : summary.steps ≡ count_by (λ line. is_step before.core.image (asked line)) (lines_of input)
-  pub end : Closes summary.stopped input after
+  pub requests : summary.requests ≡ length (input_lines input)
+  pub steps : summary.steps ≡ count_by (λ line. is_step before.core.image (asked line)) (input_lines input)
+  pub end : EndsWell summary.stopped input after
 
 -- A read failed: the lines that were whole by then were served.
 pub record BreaksReading (b : Behaviour) (input : List ℕ) (before after : Moment) : Type 0 where
@@ -136,16 +136,16 @@ pub record BreaksReading (b : Behaviour) (input : List ℕ) (before after : Mome
   pub served : HasServed b (whole_lines input) before after
   pub replied : HasReplied b (whole_lines input) before after
   pub one_fault : after.read_faults ≡ counted before.read_faults
-  pub go_on : GoOn (whole_lines input)
+  pub go_on : NoneStops (whole_lines input)
 
 -- A write failed: the lines that were read by then, each to its end, were served.
 pub record BreaksWriting (b : Behaviour) (input : List ℕ) (before after : Moment) : Type 0 where
   pub read : HasRead input before after
   pub whole : EndsLines input after.left
-  pub served : HasServed b (lines_of input) before after
+  pub served : HasServed b (input_lines input) before after
   pub same_faults : after.read_faults ≡ before.read_faults
   pub one_fault : after.write_faults ≡ counted before.write_faults
-  pub go_on : OnlyLastMayStop (lines_of input)
+  pub go_on : OnlyLastMayStop (input_lines input)
 
 -- A byte was read after the 16,777,216 that a session reads: the lines that were whole before it were served.
 pub record ReadsPast (b : Behaviour) (input : List ℕ) (byte : ℕ) (before after : Moment) : Type 0 where
@@ -154,7 +154,7 @@ pub record ReadsPast (b : Behaviour) (input : List ℕ) (byte : ℕ) (before aft
   pub served : HasServed b (whole_lines input) before after
   pub replied : HasReplied b (whole_lines input) before after
   pub same_faults : after.read_faults ≡ before.read_faults
-  pub go_on : GoOn (whole_lines input)
+  pub go_on : NoneStops (whole_lines input)
 
 -- What a session gives: there is an input that was read, and the lines of which were served.
 abbrev pub SessionGives : Behaviour → Result Summary SessionFault → Moment → Moment → Type 0

@@ -1,17 +1,17 @@
 //! A host in memory, for tests: it answers by a script and notes what happened at it.
 
 ghost use Rattle.std.specs.Prelude.{◌≡◌, ◌+◌, ◌<◌, ◌≤◌, ◌∷◌, [], length, drop, true, None, Some, IfSome, IsSome, OnOk};
-ghost use Rattle.ifs_session.specs.Hosts.{Event, Adds, ran, launched, polled, RunCounts};
+ghost use Rattle.ifs_session.specs.Hosts.{Happening, Adds, ran, launched, polled, RunCounts};
 ghost use Rattle.ifs_session.specs.Script.{told_whole, next_ending, next_status};
 
 use crate::host::{Host, HostEvent, HostFault, Launch};
 use arrayvec::ArrayVec;
-use ifs_base::TestId;
+use ifs_base::{TestId, limits};
 use std::alloc::{AllocError, Allocator, Global};
 use std::marker::Model;
 
 /// The most bytes of a text that is noted.
-const TEXT: usize = 1024;
+const TEXT: usize = limits::TEXT as usize;
 
 /// A text that a host was given.
 #[derive(Debug, Drop)]

@@ -8,7 +8,7 @@ ghost use Rattle.ifs_core.specs.Gateway.{IsReplyOf};
 ghost use Rattle.ifs_core.specs.Steps.{turn, reply_of, replies, after_steps};
 ghost use Rattle.ifs_session.specs.Device.{HoldsNothing, PutGives};
 ghost use Rattle.ifs_session.specs.Hosts.{Ending, Adds, launched, polled};
-ghost use Rattle.ifs_session.specs.Accounts.{launch_of, launches_told, acted, all_ended, heard_out, step_asked};
+ghost use Rattle.ifs_session.specs.Accounts.{launch_of, launches_told, acted, runs_ended, heard_out, step_asked};
 ghost use Rattle.ifs_session.specs.Accounts.{told_line, answered};
 ghost use Rattle.ifs_session.specs.Service.{ConnectionGives};
 ghost use Rattle.ifs_session.specs.Replies.{reply_line};
@@ -257,7 +257,7 @@ fn hear_endings<H: Host>(
     requires { length steps.old.items + 65 ≤ 512 }
     ensures image { core.new.image ≡ core.old.image }
     ensures room { length steps.new.items + 65 ≤ 512 }
-    ensures heard { (b : Behaviour) → IsBehaviour core.old.image b → (endings : List Ending) × Carries (λ a. heard_out (all_ended b core.old.image endings a))
+    ensures heard { (b : Behaviour) → IsBehaviour core.old.image b → (endings : List Ending) × Carries (λ a. heard_out (runs_ended b core.old.image endings a))
         (record { state = core.old.state; steps = steps.old.items; told = H.told host.old })
         (record { state = core.new.state; steps = steps.new.items; told = H.told host.new }) }
 {

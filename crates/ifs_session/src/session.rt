@@ -7,7 +7,7 @@ ghost use Rattle.ifs_session.specs.Device.{HoldsNothing};
 ghost use Rattle.ifs_session.specs.Requests.{ALink};
 ghost use Rattle.ifs_session.specs.inner.Parsing.{told_by};
 ghost use Rattle.ifs_session.specs.Sessions.{deed, step_deed, SessionGives};
-ghost use Rattle.ifs_session.specs.inner.Serving.{kind_of, with_line, ServeGives, NextServed};
+ghost use Rattle.ifs_session.specs.inner.Serving.{kind_of, with_request, ServeGives, NextServed};
 
 use crate::device::{ByteIn, ByteOut, DeviceFault};
 use crate::fault::SessionFault;
@@ -156,7 +156,7 @@ fn serve_read<R: ByteIn, W: ByteOut>(
 fn count(summary: &mut Summary, kind: LineKind)
     requires requests { summary.old.requests + 1 < 2 ^ 32 }
     requires steps { summary.old.steps + 1 < 2 ^ 32 }
-    ensures { summary.new ≡ with_line kind summary.old }
+    ensures { summary.new ≡ with_request kind summary.old }
 {
     summary.requests += 1;
     match kind {

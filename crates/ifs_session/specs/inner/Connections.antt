@@ -19,7 +19,8 @@ use Rattle.ifs_session.specs.Device.{counted}
 use Rattle.ifs_session.specs.Requests.{Asked, AFault, short_asked}
 use Rattle.ifs_session.specs.Sessions.{Moment, is_stop}
 use Rattle.ifs_session.specs.Hosts.{HostLog, Adds, ran, launched}
-use Rattle.ifs_session.specs.Accounts.{Account, Exchange, asks_of_hosts, client_asked, launches_told, attended, spoken}
+use Rattle.ifs_session.specs.Accounts.{Account, Exchange, asks_of_hosts, client_asked, launches_told, attended}
+use Rattle.ifs_session.specs.Accounts.{exchange_reply}
 use Rattle.ifs_session.specs.inner.Reading.{Intake, ReadsText, ReadsNothing, ReadFails, ReadsTooMuch}
 use Rattle.ifs_session.specs.inner.Serving.{intake, OnlyReads, OnlyWrites}
 
@@ -37,14 +38,14 @@ pub record Standing : Type 0 where
   pub told : Option HostLog
 
 -- An account has come to this, on a host that told this when the account began.
-pub record Stands (origin : Option HostLog) (a : Account) (s : Standing) : Type 0 where
+pub record HasComeTo (origin : Option HostLog) (a : Account) (s : Standing) : Type 0 where
   pub state_is : s.state ≡ a.state
   pub steps_are : s.steps ≡ a.steps
   pub told_is : Adds a.log origin s.told
 
 -- What was done makes this of each account.
 abbrev pub Carries : (Account → Account) → Standing → Standing → Type 0
-Carries f before after = (origin : Option HostLog) (a : Account) → Stands origin a before → Stands origin (f a) after
+Carries f before after = (origin : Option HostLog) (a : Account) → HasComeTo origin a before → HasComeTo origin (f a) after
 
 -- A host was told to start the tests that a reply tells of, and after that ran texts; nothing has happened at it since.
 pub record HasFollowed (image : ImageParts) (reply : Reply) (told : Option HostLog) : Type 0 where
@@ -53,38 +54,38 @@ pub record HasFollowed (image : ImageParts) (reply : Reply) (told : Option HostL
   pub given : Adds (launched (launches_told image reply) ++ ran texts) earlier told
 
 -- A point of a connection: its moment, how many more bytes may be read, the steps made, and what the host tells.
-pub record Point : Type 0 where
+pub record ConnectionPoint : Type 0 where
   pub moment : Moment
   pub budget : ℕ
   pub steps : List Step
   pub told : Option HostLog
 
-abbrev pub standing : Point → Standing
+abbrev pub standing : ConnectionPoint → Standing
 standing p = record { state = p.moment.core.state; steps = p.steps; told = p.told }
 
-abbrev pub taken_in : Point → Intake
+abbrev pub taken_in : ConnectionPoint → Intake
 taken_in p = intake p.moment p.budget
 
 -- No step was made and the host was given nothing.
-pub record Idles (before after : Point) : Type 0 where
+pub record Idles (before after : ConnectionPoint) : Type 0 where
   pub steps : after.steps ≡ before.steps
   pub told : after.told ≡ before.told
 
 -- A line was read, which asks for the end of the service or does not, and attended to.
-pub record ServesExchange (b : Behaviour) (exchange : Exchange) (ended stop : Bool) (before after : Point) : Type 0 where
+pub record ServesExchange (b : Behaviour) (exchange : Exchange) (ended stop : Bool) (before after : ConnectionPoint) : Type 0 where
   pub read : ReadsText exchange.line ended (taken_in before) (taken_in after)
   pub image : after.moment.core.image ≡ before.moment.core.image
   pub attends : Carries (attended b before.moment.core.image exchange) (standing before) (standing after)
   pub stops : stop ≡ is_stop (client_asked exchange.line)
 
 -- And it was replied to.
-pub record AnswersExchange (b : Behaviour) (exchange : Exchange) (before after : Point) : Type 0 where
-  pub written : (origin : Option HostLog) (a : Account) → Stands origin a (standing before)
-      → after.moment.written ≡ append_known before.moment.written (spoken b before.moment.core.image exchange a)
+pub record AnswersExchange (b : Behaviour) (exchange : Exchange) (before after : ConnectionPoint) : Type 0 where
+  pub written : (origin : Option HostLog) (a : Account) → HasComeTo origin a (standing before)
+      → after.moment.written ≡ append_known before.moment.written (exchange_reply b before.moment.core.image exchange a)
   pub same_faults : after.moment.write_faults ≡ before.moment.write_faults
 
 -- What it gives that the next line was not served, or not replied to, for this fault.
-abbrev pub ExchangeFails : Behaviour → SessionFault → Bool → Point → Point → Type 0
+abbrev pub ExchangeFails : Behaviour → SessionFault → Bool → ConnectionPoint → ConnectionPoint → Type 0
 ExchangeFails b ReadFailed stopped before after =
     (text : List ℕ) × ReadFails text (taken_in before) (taken_in after) × OnlyReads before.moment after.moment × Idles before after × (stopped ≡ false)
 ExchangeFails b TooMuchInput stopped before after =
@@ -94,7 +95,7 @@ ExchangeFails b WriteFailed stopped before after =
     × ((OnlyWrites before.moment after.moment × Idles before after × (stopped ≡ false)) ⊎ ((exchange : Exchange) × (ended : Bool) × ServesExchange b exchange ended stopped before after))
 
 -- What the serving of the next line gives, from one point to another.
-abbrev pub ExchangeGives : Behaviour → Result (Option ServedLine) Break → Point → Point → Type 0
+abbrev pub ExchangeGives : Behaviour → Result (Option ServedLine) Break → ConnectionPoint → ConnectionPoint → Type 0
 ExchangeGives b (Ok (Some line)) before after = (exchange : Exchange) × ServesExchange b exchange line.is_ended line.is_stop before after × AnswersExchange b exchange before after
 ExchangeGives b (Ok None) before after = ReadsNothing (taken_in before) (taken_in after) × OnlyReads before.moment after.moment × Idles before after
 ExchangeGives b (Err broken) before after = ExchangeFails b broken.fault broken.stopped before after

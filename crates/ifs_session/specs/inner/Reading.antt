@@ -10,7 +10,7 @@ use Rattle.ifs_session.specs.declared.hexadecimal.HexFault.TheVariants.{Broken, 
 use Rattle.ifs_session.specs.declared.lines.Line.{Line}
 use Rattle.ifs_session.specs.Device.{counted, Feed}
 use Rattle.ifs_base.specs.Words.{hex_digit, IsNoDigit}
-use Rattle.ifs_session.specs.Lines.{ending}
+use Rattle.ifs_session.specs.Lines.{line_end}
 use Rattle.ifs_session.specs.Hexadecimal.{Takes, EndsAt, hex_text, HexGives}
 
 -- A text without newline.
@@ -27,8 +27,8 @@ pub record Intake : Type 0 where
 -- A line was read, this text. One that no newline ends has at least one byte and stands at the end of input.
 pub record ReadsText (text : List ℕ) (ended : Bool) (before after : Intake) : Type 0 where
   pub plain : HasNoNewline text
-  pub given : Consumes before.left after.left (text ++ ending ended)
-  pub spent : before.budget ≡ length (text ++ ending ended) + after.budget
+  pub given : Consumes before.left after.left (text ++ line_end ended)
+  pub spent : before.budget ≡ length (text ++ line_end ended) + after.budget
   pub same_faults : after.faults ≡ before.faults
   pub last : ended ≡ false → (0 < length text) × IsAtEnd after.left
 
@@ -81,7 +81,7 @@ LineGives (Err WriteFailed) before after = ⊥
 -- What the reading of a digit gives: the digit, or none at the end of the line.
 abbrev pub DigitGives : Result (Option ℕ) HexFault → Feed → Feed → Type 0
 DigitGives (Ok (Some digit)) before after = (digit < 16) × Takes (hex_digit digit ∷ []) before after
-DigitGives (Ok None) before after = (ended : Bool) × Takes (ending ended) before after × EndsAt ended after
+DigitGives (Ok None) before after = (ended : Bool) × Takes (line_end ended) before after × EndsAt ended after
 DigitGives (Err Broken) before after = (byte : ℕ) × Takes (byte ∷ []) before after × IsNoDigit byte × (byte ≢ 10)
 DigitGives (Err NotRead) before after = Keeps before.left after.left × (after.faults ≡ counted before.faults)
 DigitGives (Err Memory) before after = ⊥

@@ -71,7 +71,7 @@ NextServed b (Err WriteFailed) before budget after budget' =
     (after.write_faults ≡ counted before.write_faults) × (OnlyWrites before after ⊎ ((text : List ℕ) × (ended : Bool) × MakesLine b text ended before budget after budget'))
 
 -- A summary with one more line of this kind.
-abbrev pub with_line : LineKind → Summary → Summary
-with_line kinds.Step s = record { requests = s.requests + 1; steps = s.steps + 1; stopped = s.stopped }
-with_line kinds.Other s = record { requests = s.requests + 1; steps = s.steps; stopped = s.stopped }
-with_line kinds.Stop s = record { requests = s.requests + 1; steps = s.steps; stopped = true }
+abbrev pub with_request : LineKind → Summary → Summary
+with_request kinds.Step s = record { requests = s.requests + 1; steps = s.steps + 1; stopped = s.stopped }
+with_request kinds.Other s = record { requests = s.requests + 1; steps = s.steps; stopped = s.stopped }
+with_request kinds.Stop s = record { requests = s.requests + 1; steps = s.steps; stopped = true }
