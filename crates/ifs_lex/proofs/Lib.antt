@@ -13,3 +13,4 @@ pub mod Spellings
 pub mod Stopped
 pub mod Telling
 pub mod Whole
+pub mod Certain

@@ -8,3 +8,4 @@ pub mod Known
 pub mod Turns
 pub mod Spelling
 pub mod Stuck
+pub mod AtOnce

@@ -1,7 +1,9 @@
 //! A text to its tokens.
 
 ghost use Rattle.std.specs.Prelude.{◌≡◌, ◌≤◌, [], ◌∷◌, length, option_map, is_some};
-ghost use Rattle.std.specs.Prelude.{map, Err, IfOk, IfErr, IsOkAnd, ◌≢◌, List};
+ghost use Rattle.std.specs.Prelude.{map, Some, Err, IfOk, IfErr, IsOkAnd, ◌≢◌, List};
+ghost use Rattle.ifs_lex.specs.declared.fault.LexFault.{LexFault};
+ghost use Rattle.ifs_lex.specs.AtOnce as at_once;
 ghost use Rattle.ifs_lex.specs.declared.token.Token.{Token};
 ghost use Rattle.ifs_lex.specs.declared.fault.LexFault.TheVariants.{Memory};
 ghost use Rattle.ifs_lex.specs.Items.{items_of};
@@ -204,8 +206,46 @@ fn read_given<'a>(
     Ok(())
 }
 
+/// What is wrong with a piece where no macro is known.
+fn fault_without_macros(found: Found<'_>) -> Option<LexFault>
+    ensures { result ≡ at_once.fault_without_macros found.entry.span (item_of found.entry.piece) }
+{
+    let line = found.span.line;
+    match found.piece {
+        Piece::Bare(_) => None,
+        Piece::Between(_, _) => None,
+        Piece::Named(_) => Some(LexFault::UnknownMacro { line }),
+        Piece::Equal => None,
+        Piece::Plain(_) => None,
+        Piece::Last => None,
+        Piece::Nothing => Some(LexFault::Stray { line }),
+        Piece::Unclosed => Some(LexFault::Unclosed { line }),
+    }
+}
+
+/// The fault that is certain before anything is kept, where there is one.
+fn certain_at_once<'a>(text: &'a str, defs: &[(&'a str, &'a str)]) -> Option<LexFault>
+    ensures { result ≡ at_once.certain_at_once text.now (map (λ d. (d.0.now, d.1.now)) defs.now) }
+{
+    match defs {
+        [] => {
+            if text.len() > MAX_TEXT {
+                return Some(LexFault::OverLimit { line: 1 });
+            }
+            let mut place = Place::start(text);
+            fault_without_macros(place.next())
+        }
+        [(name, value), ..] => {
+            if is_macro_name(name) && value.len() <= MAX_TEXT {
+                return None;
+            }
+            Some(LexFault::BadMacro { line: 0 })
+        }
+    }
+}
+
 #[tactic(auto, unfolding(crate::specs::Expansion::tokens_of))]
-fn answer<'a>(
+fn read_all<'a>(
     alloc: Global,
     text: &'a str,
     defs: &'a [(&'a str, &'a str)],
@@ -226,11 +266,27 @@ fn answer<'a>(
     }
 }
 
+/// The fault that is certain at once, or else what is read.
+fn answer<'a>(
+    alloc: Global,
+    text: &'a str,
+    defs: &'a [(&'a str, &'a str)],
+) -> Result<Vec<Token>, LexFault>
+    ensures wanted { Answers (λ tokens. tokens.items) result (tokens_of text.now (map (λ d. (d.0.now, d.1.now)) defs.now)) }
+    ensures at_once { (fault : LexFault) → at_once.certain_at_once text.now (map (λ d. (d.0.now, d.1.now)) defs.now) ≡ Some fault → result ≡ Err fault }
+{
+    match certain_at_once(text, defs) {
+        Some(fault) => Err(fault),
+        None => read_all(alloc, text, defs),
+    }
+}
+
 /// The tokens of a policy text, the one `End` last. `defs` are definitions that win over the text's:
 /// of two with one name the first holds.
 ///
 /// A refusal is the first fault from the left, with its line; faults of `defs` come before the text
-/// and have line 0. P0, for want of memory, may come in place of another answer.
+/// and have line 0. P0, for want of memory, may come in place of another answer, but not of a fault that is
+/// certain before anything is kept.
 pub fn tokens<'a>(
     alloc: Global,
     text: &'a str,
@@ -240,13 +296,15 @@ pub fn tokens<'a>(
     ensures found { IfOk result (λ tokens. Spells text.now (map (λ d. (d.0.now, d.1.now)) defs.now) tokens.items) }
     // The one end stands last.
     ensures ended { IfOk result (λ tokens. EndsOnce tokens.items) }
-    // Tokens that the text spells are answered, unless memory runs out.
+    // Tokens that the text spells are answered, unless want of memory is told.
     ensures only { (spelled : List Token) → Spells text.now (map (λ d. (d.0.now, d.1.now)) defs.now) spelled
         → result ≢ Err Memory → IsOkAnd result (λ tokens. tokens.items ≡ spelled) }
     // Any other refusal is the first fault.
     ensures first_fault { IfErr result (λ fault. fault ≢ Memory → tokens_of text.now (map (λ d. (d.0.now, d.1.now)) defs.now) ≡ Err fault) }
     // P1 and P2 are told only of a text that is stuck, and with that fault: never of a macro's value.
     ensures stuck { IfErr result (λ fault. SaysStuck text.now fault) }
+    // What is certain before anything is kept is told, and no want of memory in its place.
+    ensures at_once { (fault : LexFault) → at_once.certain_at_once text.now (map (λ d. (d.0.now, d.1.now)) defs.now) ≡ Some fault → result ≡ Err fault }
 {
     match answer(alloc, text, defs) {
         Ok(tokens) => Ok(tokens),
