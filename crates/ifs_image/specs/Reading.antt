@@ -177,6 +177,17 @@ routine_at room p = do
 abbrev pub room_after : List Routine → ℕ
 room_after before = 8192 - instructions before
 
+-- The fields before the tables.
+unfoldable pub head_at : Cursor → Read (Unit {0})
+head_at p = do
+  magic ← magic_at p
+  version ← version_at magic.1
+  budgets ← budgets_at version.1
+  counts ← counts_at budgets.1
+  initial ← number_at w16 counts.1
+  always ← handlers_at initial.1
+  Ok (tt, always.1)
+
 -- All fields of an image.
 unfoldable pub parts_at : Cursor → Read ImageParts
 parts_at p = do

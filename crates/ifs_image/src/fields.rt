@@ -4,7 +4,7 @@ ghost use Rattle.std.specs.Prelude.{◌≡◌, ◌≤◌, ◌==◌, length, is_s
 ghost use Rattle.std.specs.Int.{w16, w32, w64};
 ghost use Rattle.ifs_image.specs.Reading.{bytes_at, byte_at, number_at, number_within, length_at};
 ghost use Rattle.ifs_image.specs.Reading.{is_text, text_sized, text_at, instruction_at};
-ghost use Rattle.ifs_image.specs.Answers.{Gives, GivesBy};
+ghost use Rattle.ifs_image.specs.Answers.{Gives, GivesAtOnce, GivesAtOnceBy};
 
 use crate::fault::ImageFault;
 use crate::limits;
@@ -57,7 +57,7 @@ impl<'a> Reader<'a> {
     /// The next bytes, so many; I1 where fewer are left.
     #[tactic(auto, unfolding(crate::specs::Reading::bytes_at))]
     pub fn take(&mut self, count: usize) -> Result<&'a [u8], ImageFault>
-        ensures given { GivesBy (λ bytes. bytes.now) result self.new (bytes_at count self.old) }
+        ensures given { GivesAtOnceBy (λ bytes. bytes.now) result self.new (bytes_at count self.old) }
         ensures count { IfOk result (λ bytes. length bytes.now ≡ count) }
     {
         if self.rest.len() < count {
@@ -72,7 +72,7 @@ impl<'a> Reader<'a> {
     /// A number of one byte.
     #[tactic(auto, unfolding(crate::specs::Reading::byte_at))]
     pub fn u8(&mut self) -> Result<u8, ImageFault>
-        ensures { Gives result self.new (byte_at self.old) }
+        ensures { GivesAtOnce result self.new (byte_at self.old) }
     {
         let bytes = self.take(1)?;
         Ok(bytes[0])
@@ -81,7 +81,7 @@ impl<'a> Reader<'a> {
     /// A number of two bytes, the high one first.
     #[tactic(auto, unfolding(crate::specs::Reading::number_at))]
     pub fn u16(&mut self) -> Result<u16, ImageFault>
-        ensures { Gives result self.new (number_at w16 self.old) }
+        ensures { GivesAtOnce result self.new (number_at w16 self.old) }
     {
         let bytes = self.take(2)?;
         Ok(u16::from_be_bytes([bytes[0], bytes[1]]))
@@ -90,7 +90,7 @@ impl<'a> Reader<'a> {
     /// A number of four bytes, the high one first.
     #[tactic(auto, unfolding(crate::specs::Reading::number_at))]
     pub fn u32(&mut self) -> Result<u32, ImageFault>
-        ensures { Gives result self.new (number_at w32 self.old) }
+        ensures { GivesAtOnce result self.new (number_at w32 self.old) }
     {
         let bytes = self.take(4)?;
         Ok(u32::from_be_bytes([bytes[0], bytes[1], bytes[2], bytes[3]]))
@@ -99,7 +99,7 @@ impl<'a> Reader<'a> {
     /// A number of eight bytes, the high one first.
     #[tactic(auto, unfolding(crate::specs::Reading::number_at))]
     pub fn u64(&mut self) -> Result<u64, ImageFault>
-        ensures { Gives result self.new (number_at w64 self.old) }
+        ensures { GivesAtOnce result self.new (number_at w64 self.old) }
     {
         let bytes = self.take(8)?;
         let [a, b, c, d] = [bytes[0], bytes[1], bytes[2], bytes[3]];
@@ -110,7 +110,7 @@ impl<'a> Reader<'a> {
     /// A number of two bytes from `least` to `most`; I4 outside.
     #[tactic(auto, unfolding(crate::specs::Reading::number_within))]
     pub fn u16_within(&mut self, least: u16, most: u16) -> Result<u16, ImageFault>
-        ensures given { Gives result self.new (number_within w16 least most self.old) }
+        ensures given { GivesAtOnce result self.new (number_within w16 least most self.old) }
         ensures within { IfOk result (λ number. number ≤ most) }
     {
         let at = self.at;
@@ -124,7 +124,7 @@ impl<'a> Reader<'a> {
     /// A number of four bytes from `least` to `most`; I4 outside.
     #[tactic(auto, unfolding(crate::specs::Reading::number_within))]
     pub fn u32_within(&mut self, least: u32, most: u32) -> Result<u32, ImageFault>
-        ensures { Gives result self.new (number_within w32 least most self.old) }
+        ensures { GivesAtOnce result self.new (number_within w32 least most self.old) }
     {
         let at = self.at;
         let number = self.u32()?;

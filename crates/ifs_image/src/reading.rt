@@ -7,8 +7,8 @@ ghost use Rattle.ifs_image.specs.declared.fault.ImageFault.TheVariants.{Memory};
 ghost use Rattle.ifs_image.specs.Spelling.{Spells};
 ghost use Rattle.ifs_image.specs.Reading.{magic_at, version_at, budgets_at, counts_at, handlers_at};
 ghost use Rattle.ifs_image.specs.Reading.{name_at, test_at, state_at, text_at, instruction_at, results_at};
-ghost use Rattle.ifs_image.specs.Reading.{routine_at, room_after, items_at, parts_at, image_of};
-ghost use Rattle.ifs_image.specs.Answers.{Gives, Answers};
+ghost use Rattle.ifs_image.specs.Reading.{routine_at, room_after, items_at, parts_at, head_at, image_of, cursor};
+ghost use Rattle.ifs_image.specs.Answers.{Gives, GivesAtOnce, Answers, RefusesHead};
 
 use crate::fault::ImageFault;
 use crate::fields::Reader;
@@ -22,15 +22,17 @@ use std::alloc::Global;
 /// The image that the bytes spell, all of them. After a refusal nothing is kept.
 ///
 /// I1 to I8 name the first fault from the left, with the offset of the first byte of its field. I0, for
-/// want of memory, may come in place of another answer.
+/// want of memory, may come in place of another answer, unless a field before the tables has a fault.
 #[tactic(auto, unfolding(crate::specs::Reading::image_of))]
 pub fn read(alloc: Global, bytes: &[u8]) -> Result<Image, ImageFault>
     // What is read is spelled by the bytes, all of them.
     ensures found { IfOk result (λ image. Spells bytes.now image) }
-    // What the bytes spell is read, unless memory runs out.
+    // What the bytes spell is read, unless want of memory is told.
     ensures only { (image : ImageParts) → Spells bytes.now image → result ≢ Err Memory → result ≡ Ok image }
     // Any other refusal is the first fault from the left.
     ensures first_fault { Answers result (image_of bytes.now) }
+    // A fault before the tables is told, and not want of memory.
+    ensures at_once { RefusesHead result (cursor 0 bytes.now) }
 {
     let mut reader = Reader::new(bytes);
     let parts = parts_of(alloc, &mut reader)?;
@@ -40,9 +42,10 @@ pub fn read(alloc: Global, bytes: &[u8]) -> Result<Image, ImageFault>
     Ok(Image::new(parts))
 }
 
-#[tactic(auto, unfolding(crate::specs::Reading::parts_at))]
+#[tactic(auto, unfolding(crate::specs::Reading::parts_at, crate::specs::Reading::head_at))]
 fn parts_of(alloc: Global, reader: &mut Reader<'_>) -> Result<ImageParts, ImageFault>
-    ensures { Gives result reader.new (parts_at reader.old) }
+    ensures given { Gives result reader.new (parts_at reader.old) }
+    ensures at_once { RefusesHead result reader.old }
 {
     magic_of(reader)?;
     version_of(reader)?;
@@ -69,7 +72,7 @@ fn parts_of(alloc: Global, reader: &mut Reader<'_>) -> Result<ImageParts, ImageF
 
 #[tactic(auto, unfolding(crate::specs::Reading::magic_at))]
 fn magic_of(reader: &mut Reader<'_>) -> Result<(), ImageFault>
-    ensures { Gives result reader.new (magic_at reader.old) }
+    ensures { GivesAtOnce result reader.new (magic_at reader.old) }
 {
     let at = reader.at();
     if reader.take(4)? != b"IFSV".as_slice() {
@@ -80,7 +83,7 @@ fn magic_of(reader: &mut Reader<'_>) -> Result<(), ImageFault>
 
 #[tactic(auto, unfolding(crate::specs::Reading::version_at))]
 fn version_of(reader: &mut Reader<'_>) -> Result<(), ImageFault>
-    ensures { Gives result reader.new (version_at reader.old) }
+    ensures { GivesAtOnce result reader.new (version_at reader.old) }
 {
     let at = reader.at();
     if reader.u8()? != 1 {
@@ -91,7 +94,7 @@ fn version_of(reader: &mut Reader<'_>) -> Result<(), ImageFault>
 
 #[tactic(auto, unfolding(crate::specs::Reading::budgets_at))]
 fn budgets_of(reader: &mut Reader<'_>) -> Result<Budgets, ImageFault>
-    ensures { Gives result reader.new (budgets_at reader.old) }
+    ensures { GivesAtOnce result reader.new (budgets_at reader.old) }
 {
     let stack = reader.u16_within(0, limits::STACK)?;
     let frames = reader.u16_within(0, limits::FRAMES)?;
@@ -107,7 +110,7 @@ fn budgets_of(reader: &mut Reader<'_>) -> Result<Budgets, ImageFault>
 
 #[tactic(auto, unfolding(crate::specs::Reading::counts_at))]
 fn counts_of(reader: &mut Reader<'_>) -> Result<Counts, ImageFault>
-    ensures { Gives result reader.new (counts_at reader.old) }
+    ensures { GivesAtOnce result reader.new (counts_at reader.old) }
 {
     let interfaces = reader.u16_within(0, limits::INTERFACES)?;
     let tests = reader.u16_within(0, limits::TESTS)?;
@@ -125,7 +128,7 @@ fn counts_of(reader: &mut Reader<'_>) -> Result<Counts, ImageFault>
 
 #[tactic(auto, unfolding(crate::specs::Reading::handlers_at))]
 fn handlers_of(reader: &mut Reader<'_>) -> Result<Handlers, ImageFault>
-    ensures { Gives result reader.new (handlers_at reader.old) }
+    ensures { GivesAtOnce result reader.new (handlers_at reader.old) }
 {
     let init = RoutineId(reader.u16()?);
     let body = RoutineId(reader.u16()?);

@@ -5,7 +5,7 @@ use Rattle.ifs_image.proofs.ImageLaws.{parts_taken, is_found, only_it}
 use Rattle.ifs_image.proofs.reading.read.Goals as goal
 
 pub new-requires : goal.new-requires
-new-requires c = (parts_taken (cursor 0 c.args.bytes.now) (c.in_ok-parts.parts, c.parts_of.new.reader) (λ i. omega (arith, c.type_inv.bytes i)) (rw c.new-reader.ensures at c.in_ok-parts.ensures)).fits
+new-requires c = (parts_taken (cursor 0 c.args.bytes.now) (c.in_ok-parts.parts, c.parts_of.new.reader) (λ i. omega (arith, c.type_inv.bytes i)) (rw c.new-reader.ensures at c.in_ok-parts.ensures.given)).fits
 
 pub returns-in_err-parts-clause-only : goal.returns-in_err-parts-clause-only
 unfolding image_of
