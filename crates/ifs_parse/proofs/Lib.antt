@@ -10,3 +10,4 @@ pub mod Limits
 pub mod Stuck
 pub mod First
 pub mod OneFault
+pub mod Certain

@@ -7,5 +7,6 @@ pub mod Rules
 pub mod Combined
 pub mod Reading
 pub mod Grammar
+pub mod AtOnce
 pub mod Parsers
 pub mod inner

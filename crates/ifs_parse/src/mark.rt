@@ -1,6 +1,7 @@
 //! What a token is in the grammar, but for strings and numbers.
 
 ghost use Rattle.std.specs.Prelude.{◌≡◌};
+ghost use Rattle.ifs_parse.specs.AtOnce as at_once;
 ghost use Rattle.ifs_parse.specs.Marks as marks;
 
 use ifs_lex::What;
@@ -106,5 +107,18 @@ impl Mark {
         ensures { result ≡ marks.is self other }
     {
         self == other
+    }
+
+    /// Whether a file can begin with it.
+    pub fn may_come_first(self) -> bool
+        ensures { result ≡ at_once.may_come_first self }
+    {
+        self.is(Mark::InitState)
+            || self.is(Mark::State)
+            || self.is(Mark::Init)
+            || self.is(Mark::If)
+            || self.is(Mark::Run)
+            || self.is(Mark::SetState)
+            || self.is(Mark::End)
     }
 }

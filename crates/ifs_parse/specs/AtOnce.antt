@@ -1,0 +1,18 @@
+-- The fault that is certain at once, before anything is kept: no want of memory comes in its place.
+use Rattle.std.specs.Prelude.{Bool, ◌||◌, if◌then◌else◌, List, [], ◌∷◌, Option, Some, None}
+use Rattle.ifs_lex.specs.declared.token.Token.{Token}
+use Rattle.ifs_parse.specs.declared.mark.Mark.{Mark}
+use Rattle.ifs_parse.specs.declared.mark.Mark.TheVariants as mark
+use Rattle.ifs_parse.specs.declared.fault.ParseFault.{ParseFault}
+use Rattle.ifs_parse.specs.declared.fault.ParseFault.TheVariants.{Unexpected}
+use Rattle.ifs_parse.specs.Marks.{mark_of, is}
+
+-- What a file can begin with: an item, or its end.
+abbrev pub may_come_first : Mark → Bool
+may_come_first m =
+    is m mark.InitState || (is m mark.State || (is m mark.Init || (is m mark.If || (is m mark.Run || (is m mark.SetState || is m mark.End)))))
+
+-- What is certain at once of tokens: that no file begins with the first of them.
+abbrev pub certain_at_once : List Token → Option ParseFault
+certain_at_once [] = None
+certain_at_once (t ∷ rest) = if may_come_first (mark_of t.what) then None else Some (Unexpected t.span.line)
