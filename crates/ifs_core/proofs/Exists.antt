@@ -9,7 +9,7 @@ use Rattle.ifs_image.specs.declared.parts.StateSpec.{StateSpec}
 use Rattle.ifs_image.specs.declared.parts.ImageParts.{ImageParts}
 use Rattle.ifs_verify.specs.Accepted.{IsAccepted}
 use Rattle.ifs_base.specs.Effects.{Effects, nothing_yet, followed}
-use Rattle.ifs_machine.specs.Run.{RunsTo, AreFactsOf, HasRoom, IsHandler, HandlersEnd, RunsFollow, Ends}
+use Rattle.ifs_machine.specs.Run.{RunsTo, AreFactsOf, HasRoom, IsHandler, HandlersEnd, RunsFollow, RunEnds}
 use Rattle.ifs_core.specs.Event.{Handler, AlwaysInit, AlwaysBody, Init, Body, Behaviour}
 use Rattle.ifs_core.specs.Machine.{routine_of, IsBehaviour}
 
@@ -90,7 +90,7 @@ mask_in (Some state) = state.handlers.mask
 
 module _ (ends : HandlersEnd) (follow : RunsFollow) (image : ImageParts) (accepted : IsAccepted image) where
   -- The run from nothing.
-  found : (handler : Handler) (facts : Facts) → (a : Answers image handler facts) → Ends image facts a.routine nothing_yet
+  found : (handler : Handler) (facts : Facts) → (a : Answers image handler facts) → RunEnds image facts a.routine nothing_yet
   found handler facts a = ends image facts a.routine nothing_yet accepted (handles image handler a.routine a.is) a.given (room_from_nothing image handler a.routine accepted a.is)
 
   -- What the run from nothing does; nothing where there is none.

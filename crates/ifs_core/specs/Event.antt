@@ -91,8 +91,8 @@ evaluation b p =
     (record { position = record p { owed = false }; commands = always.commands ++ own.commands; cost = b.cost AlwaysBody p.facts + b.cost (Body p.current.0) p.facts })
 
 -- An event by its parts.
-abbrev pub event_of : Position → List CommandId → ℕ → Event
-event_of position commands cost = record { position = position; commands = commands; cost = cost }
+abbrev pub event_with : Position → List CommandId → ℕ → Event
+event_with position commands cost = record { position = position; commands = commands; cost = cost }
 
 -- These are the parts of an event.
 pub record IsEvent (e : Event) (position : Position) (commands : List CommandId) (cost : ℕ) : Type 0 where

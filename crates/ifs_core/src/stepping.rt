@@ -15,7 +15,7 @@ impl Core {
     ghost use Rattle.std.specs.Prelude.{◌≡◌, ◌≤◌, ◌<◌, ◌+◌, [], false, All, length};
     ghost use Rattle.ifs_sched.specs.Schedule.{is_running};
     ghost use Rattle.ifs_machine.specs.Run.{IsCommand};
-    ghost use Rattle.ifs_core.specs.Event.{Behaviour, IsEvent, event_of, evaluation};
+    ghost use Rattle.ifs_core.specs.Event.{Behaviour, IsEvent, event_with, evaluation};
     ghost use Rattle.ifs_core.specs.Machine.{IsBehaviour};
     ghost use Rattle.ifs_core.specs.Headline.{StepKeeps};
     ghost use Rattle.ifs_core.specs.Steps.{Makes, turn, take_turn, reply_of, taken_reply, settled, ticked_after};
@@ -198,7 +198,7 @@ impl Core {
         requires room { length self.old.state.queue + length lists.old.effects.queued.items ≤ 64 }
         requires known { All (IsCommand self.old.image) lists.old.effects.queued.items }
         ensures image { self.new.image ≡ self.old.image }
-        ensures run { Makes (ticked_after now evaluated (event_of self.old.state.position lists.old.effects.queued.items cost) self.old.state) (reply_of result lists.new) self.new.state }
+        ensures run { Makes (ticked_after now evaluated (event_with self.old.state.position lists.old.effects.queued.items cost) self.old.state) (reply_of result lists.new) self.new.state }
     {
         let Ok(exhausted) = self.position.schedule.tick_into(now, &mut lists.starts) else {
             unreachable!()

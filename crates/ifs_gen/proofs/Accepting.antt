@@ -14,8 +14,10 @@ use Rattle.ifs_verify.specs.Accepted.{IsAccepted}
 use Rattle.ifs_gen.specs.Trees.{Part, Policy}
 use Rattle.ifs_policy.specs.Meaning.{mentioned}
 use Rattle.ifs_gen.specs.PlainCode.{plain_coder, body_code, init_code, block_runs}
-use Rattle.ifs_gen.specs.PlainImage.{image_with, least_budgets, test_count, parts_of, mask_in, handlers_of, greatest}
-use Rattle.ifs_gen.specs.PlainImage.{room_of, init_length, body_length, part_height, plain_image, RoutinesFit, CodeFits}
+use Rattle.ifs_gen.specs.PlainImage.{image_with, least_budgets, test_count, parts_of, mask_of_part, handlers_of}
+use Rattle.ifs_gen.specs.PlainImage.{greatest}
+use Rattle.ifs_gen.specs.PlainImage.{room_of, init_length, body_length, part_height, plain_image, PartCodeFits}
+use Rattle.ifs_gen.specs.PlainImage.{CodeFits}
 use Rattle.ifs_policy.specs.Fits.{PolicyFits}
 use Rattle.ifs_gen.specs.Acceptance.{PlainIsAccepted}
 use Rattle.ifs_policy.specs.Fits as fits
@@ -58,8 +60,8 @@ module _ (policy : Policy) (is : PolicyFits policy) (budgets : Budgets) where
   routine_there : (k : ℕ) → k < suc (length policy.states) → AreRoutines image (handlers_of count k policy.always)
   routine_there k lt = (omega (arith, lt, routines_are), omega (arith, lt, routines_are))
 
-  mask_there : (part : Part) → IsMask image (mask_in count part)
-  mask_there part = subst (λ n. mask_in count part < 2 ^ n) (sym tests_long) (mask_below count (mentioned part.body))
+  mask_there : (part : Part) → IsMask image (mask_of_part count part)
+  mask_there part = subst (λ n. mask_of_part count part < 2 ^ n) (sym tests_long) (mask_below count (mentioned part.body))
 
   state_there : (k : ℕ) (spec : StateSpec) → slice_get image.states k ≡ Some spec → AreRoutines image spec.handlers × IsMask image spec.handlers.mask
   state_there k spec at =
@@ -133,7 +135,7 @@ module _ (policy : Policy) (is : PolicyFits policy) (code : CodeFits policy) whe
 
   cheap : All (Below cost_of counted init_length (body_length counted) init_costs body_costs 100000) (parts_of policy)
   cheap =
-      All-weaker (RoutinesFit counted) (Below cost_of counted init_length (body_length counted) init_costs body_costs 100000)
+      All-weaker (PartCodeFits counted) (Below cost_of counted init_length (body_length counted) init_costs body_costs 100000)
       (λ part fit. record { init_below = let h = fit.init in omega (arith, h); body_below = let h = fit.body in omega (arith, h) }) (parts_of policy) code.each
 
   pub accepted : IsAccepted plain

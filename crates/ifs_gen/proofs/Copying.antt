@@ -19,7 +19,7 @@ use Rattle.ifs_gen.specs.declared.fault.GenFault.{GenFault}
 use Rattle.ifs_gen.specs.declared.fault.GenFault.TheVariants.{Memory}
 use Rattle.ifs_gen.specs.Trees.{Part, External, Policy}
 use Rattle.ifs_gen.specs.PlainCode.{plain_coder, init_code, body_code, tests_below}
-use Rattle.ifs_gen.specs.PlainImage.{test_count, parts_of, test_spec, routine_of_code, RoutinesFit, mask_of}
+use Rattle.ifs_gen.specs.PlainImage.{test_count, parts_of, test_spec, routine_of_code, PartCodeFits, mask_of}
 use Rattle.ifs_gen.specs.PlainImage.{handlers_of, states_from, routines_of, least_budgets, CodeFits}
 use Rattle.ifs_gen.specs.Refused.{IsPassed, PassesFirst}
 use Rattle.ifs_gen.specs.inner.Amounts.{numbers_of, measured, event_in, budgets_in, AreFine}
@@ -118,6 +118,6 @@ at_index [] i d x lt e = absurd (omega (arith, lt))
 at_index (y ∷ xs) zero d x lt e = ap (λ z. Some z) (sym e)
 at_index (y ∷ xs) (suc i) d x lt e = at_index xs i d x (omega (arith, lt)) e
 
-pub states_fit : (policy : Policy) (count : ℕ) (states : List Part) → All (RoutinesFit (test_count policy)) (parts_of policy) → count ≡ test_count policy → states ≡ policy.states → All (RoutinesFit count) states
+pub states_fit : (policy : Policy) (count : ℕ) (states : List Part) → All (PartCodeFits (test_count policy)) (parts_of policy) → count ≡ test_count policy → states ≡ policy.states → All (PartCodeFits count) states
 states_fit policy count states fits is same =
-    subst (λ n. All (RoutinesFit n) states) (sym is) (subst (All (RoutinesFit (test_count policy))) (sym same) (All-tail (RoutinesFit (test_count policy)) policy.always policy.states fits))
+    subst (λ n. All (PartCodeFits n) states) (sym is) (subst (All (PartCodeFits (test_count policy))) (sym same) (All-tail (PartCodeFits (test_count policy)) policy.always policy.states fits))

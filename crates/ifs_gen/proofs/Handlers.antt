@@ -10,13 +10,13 @@ use Rattle.ifs_base.specs.declared.op.Op.TheVariants.{Ret, Known}
 use Rattle.ifs_image.specs.declared.parts.ImageParts.{ImageParts}
 use Rattle.ifs_image.specs.Code.{code_of, op_at, results_of}
 use Rattle.ifs_machine.specs.declared.value.Value.TheVariants.{Truth}
-use Rattle.ifs_machine.specs.Table.{Ended, FramesFull, StackFull, WrongResults, unless, have_kinds, returns, row_at}
-use Rattle.ifs_machine.specs.Run.{next, after, begin, RunsTo, AreFactsOf}
+use Rattle.ifs_machine.specs.Table.{Ended, FramesFull, StackFull, WrongResults, unless, have_kinds, returns, row_of}
+use Rattle.ifs_machine.specs.Run.{next, after_rows, begin, RunsTo, AreFactsOf}
 use Rattle.ifs_gen.specs.Trees.{Block}
 use Rattle.ifs_policy.specs.Meaning.{has_a_value, mentioned, is_open, is_held, reached, body_yield, init_yield}
 use Rattle.ifs_gen.specs.PlainCode.{Coder, held_code, holding, body_start, body_end}
 use Rattle.ifs_gen.specs.PlainCode.{body_code, init_code, block_code, code_size}
-use Rattle.ifs_gen.specs.Runs.{image_sizes, HasAt, Point, point, stands, Leads, Computes}
+use Rattle.ifs_gen.specs.Runs.{image_sizes, HasAt, Point, point, at_point, RowsLead, Computes}
 use Rattle.ifs_gen.specs.Runs.{block_cost, held_cost, body_cost, init_cost, IsHandlerOf, HandlersDo}
 use Rattle.ifs_gen.proofs.Rows.{entry_at, unless_fits, has_all, has_left, has_right, followed_nothing}
 use Rattle.ifs_gen.proofs.Rows.{no_rows, then_leads, as_told, at_place, one_row, jump_row}
@@ -35,14 +35,14 @@ held_sized end (test ∷ tests) = let h = held_sized end tests in omega (arith, 
 module _ (image : ImageParts) (facts : Facts) (coder : Coder) (given : AreFactsOf image facts) (computes : Computes image facts coder) where
   module _ (routine : ℕ) where
     abbrev leads : Point → ℕ → Point → Type 0
-    leads from rows to = Leads image facts routine [] from rows to
+    leads from rows to = RowsLead image facts routine [] from rows to
 
     known_row : (place : ℕ) (effects : Effects) (n : TestId) → op_at image routine place ≡ Some (Known n) → n.0 < length image.tests → 1 ≤ image.budgets.stack
         → leads (point place [] effects) 1 (point (place + 1) (Truth (has_a_value (slice_get facts.tests n.0)) ∷ []) effects)
     known_row place effects n here fits room =
         let there = entry_at facts.tests n.0 (omega (arith, given.tests, fits)) in
         one_row image facts routine [] _ _ (Known n) here
-        (rw there.1 (unless_fits 1 image.budgets.stack StackFull _ room ∙ ap (λ b. stands routine [] (point (place + 1) (Truth b ∷ []) effects)) (known_value there.0)))
+        (rw there.1 (unless_fits 1 image.budgets.stack StackFull _ room ∙ ap (λ b. at_point routine [] (point (place + 1) (Truth b ∷ []) effects)) (known_value there.0)))
 
     -- a test that has no value leads to the end, and one that has leads on
     held_choice : (b any : Bool) (place end past cost : ℕ) (effects : Effects) → leads (point place [] effects) 2 (point (cond b (place + 1 + 1) end) [] effects)
@@ -73,13 +73,13 @@ module _ (image : ImageParts) (facts : Facts) (coder : Coder) (given : AreFactsO
     ends : (place cost : ℕ) (before effects : Effects) → results_of image routine ≡ [] → 1 ≤ image.budgets.frames → op_at image routine place ≡ Some Ret
         → leads (point 0 [] before) cost (point place [] effects) → RunsTo image facts routine before (cost + 1) effects
     ends place cost before effects results frame here runs =
-        let start : begin image routine before ≡ stands routine [] (point 0 [] before) = unless_fits 1 image.budgets.frames FramesFull _ frame in
+        let start : begin image routine before ≡ at_point routine [] (point 0 [] before) = unless_fits 1 image.budgets.frames FramesFull _ frame in
         let more : cost + 1 ≡ suc cost = omega arith in
         let returned : unless (have_kinds [] (results_of image routine)) WrongResults (returns [] [] effects) ≡ Ended effects = rw results refl in
-        ap (λ n. after image facts n (begin image routine before)) more
-        ∙ ap (λ o. next image facts (after image facts cost o)) start
+        ap (λ n. after_rows image facts n (begin image routine before)) more
+        ∙ ap (λ o. next image facts (after_rows image facts cost o)) start
         ∙ ap (next image facts) runs.runs
-        ∙ ap (row_at image facts (record { frame = record { routine = routine; place = place; values = [] }; callers = []; effects = effects })) here
+        ∙ ap (row_of image facts (record { frame = record { routine = routine; place = place; values = [] }; callers = []; effects = effects })) here
         ∙ returned
 
     init_runs : (block : Block) (before : Effects) → IsHandlerOf image coder routine (init_code coder block) block (length before.commands)

@@ -15,7 +15,7 @@ use Rattle.ifs_gen.specs.Trees.{Part, External, Policy}
 use Rattle.ifs_gen.specs.PlainCode.{plain_coder, body_code, init_code}
 use Rattle.ifs_gen.specs.PlainImage.{test_count, parts_of, states_from, routine_of_code, routines_of}
 use Rattle.ifs_gen.specs.PlainImage.{greatest, number_in, event_total, init_length, body_length}
-use Rattle.ifs_gen.specs.PlainImage.{part_height, plain_image, RoutinesFit as PartLengths, CodeFits}
+use Rattle.ifs_gen.specs.PlainImage.{part_height, plain_image, PartCodeFits as PartLengths, CodeFits}
 use Rattle.ifs_policy.specs.Fits.{PolicyFits}
 use Rattle.ifs_gen.proofs.GoodCode.{init_long, body_long}
 use Rattle.ifs_gen.proofs.Images.{routines_long, states_long, at_most_greatest, greatest_below}

@@ -16,10 +16,10 @@ use Rattle.ifs_parse.specs.declared.block.Statement.{Statement}
 use Rattle.ifs_parse.specs.declared.block.Statement.TheVariants.{Run, SetState, If}
 use Rattle.ifs_policy.specs.Meaning.{mentioned_in, mentioned}
 use Rattle.ifs_gen.specs.Trees.{Single, Condition, Block}
-use Rattle.ifs_gen.specs.inner.Marks.{marked, statement_tests, test_where}
+use Rattle.ifs_gen.specs.inner.Marks.{with_marks, statement_tests, test_where}
 use Rattle.ifs_gen.specs.PlainCode.{tests_below}
 
-pub marked_append : (marks : List Bool) (xs ys : List TestId) → marked marks (xs ++ ys) ≡ marked (marked marks xs) ys
+pub marked_append : (marks : List Bool) (xs ys : List TestId) → with_marks marks (xs ++ ys) ≡ with_marks (with_marks marks xs) ys
 marked_append marks [] ys = refl
 marked_append marks (x ∷ xs) ys = marked_append (slice_set marks x.0 true) xs ys
 
@@ -47,11 +47,11 @@ flat_last f [] x = append-nil (f x)
 flat_last f (y ∷ xs) x = ap (λ l. f y ++ l) (flat_last f xs x) ∙ sym (append_assoc (f y) (flat_map f xs) (f x))
 
 pub marked_more : {T : Type 0} (f : T → List TestId) (start now next : List Bool) (items : List T) (i : ℕ) (item : T) → i < length items → item ≡ get_or items i item
-    → now ≡ marked start (flat_map f (take i items)) → next ≡ marked now (f item) → next ≡ marked start (flat_map f (take (i + 1) items))
+    → now ≡ with_marks start (flat_map f (take i items)) → next ≡ with_marks now (f item) → next ≡ with_marks start (flat_map f (take (i + 1) items))
 marked_more f start now next items i item lt at now_is next_is =
     let more = take_more items i item lt ∙ ap (λ x. take i items ++ x ∷ []) (sym at) in
-    next_is ∙ ap (λ m. marked m (f item)) now_is ∙ sym (marked_append start (flat_map f (take i items)) (f item))
-    ∙ ap (marked start) (sym (flat_last f (take i items) item)) ∙ ap (λ xs. marked start (flat_map f xs)) (sym more)
+    next_is ∙ ap (λ m. with_marks m (f item)) now_is ∙ sym (marked_append start (flat_map f (take i items)) (f item))
+    ∙ ap (with_marks start) (sym (flat_last f (take i items) item)) ∙ ap (λ xs. with_marks start (flat_map f xs)) (sym more)
 
 take_past : {T : Type 0} (xs : List T) (i : ℕ) → length xs ≤ i → take i xs ≡ xs
 take_past [] zero le = refl
@@ -59,29 +59,29 @@ take_past [] (suc i) le = refl
 take_past (x ∷ xs) zero le = absurd (omega arith)
 take_past (x ∷ xs) (suc i) le = ap (λ l. x ∷ l) (take_past xs i (omega arith))
 
-pub marked_end : {T : Type 0} (f : T → List TestId) (start now : List Bool) (items : List T) (i : ℕ) → length items ≤ i → now ≡ marked start (flat_map f (take i items))
-    → now ≡ marked start (flat_map f items)
-marked_end f start now items i le e = e ∙ ap (λ xs. marked start (flat_map f xs)) (take_past items i le)
+pub marked_end : {T : Type 0} (f : T → List TestId) (start now : List Bool) (items : List T) (i : ℕ) → length items ≤ i → now ≡ with_marks start (flat_map f (take i items))
+    → now ≡ with_marks start (flat_map f items)
+marked_end f start now items i le e = e ∙ ap (λ xs. with_marks start (flat_map f xs)) (take_past items i le)
 
-pub chain_marked : (start one two now : List Bool) (c first second : Condition) (items : List Condition) (i : ℕ) → one ≡ marked start (mentioned_in first) → two ≡ marked one (mentioned_in second)
-    → length items ≤ i → now ≡ marked two (flat_map mentioned_in (take i items))
-    → (c ≡ all_of (tree.And first second) items) ⊎ (c ≡ any_of (tree.Or first second) items) → now ≡ marked start (mentioned_in c)
+pub chain_marked : (start one two now : List Bool) (c first second : Condition) (items : List Condition) (i : ℕ) → one ≡ with_marks start (mentioned_in first) → two ≡ with_marks one (mentioned_in second)
+    → length items ≤ i → now ≡ with_marks two (flat_map mentioned_in (take i items))
+    → (c ≡ all_of (tree.And first second) items) ⊎ (c ≡ any_of (tree.Or first second) items) → now ≡ with_marks start (mentioned_in c)
 chain_marked start one two now c first second items i one_is two_is le now_is is =
     let rest = flat_map mentioned_in items in
     let whole : mentioned_in c ≡ (mentioned_in first ++ mentioned_in second) ++ rest =
     ⊎_elim (λ e. ap mentioned_in e ∙ all_mentions (tree.And first second) items) (λ e. ap mentioned_in e ∙ any_mentions (tree.Or first second) items) is in
-    marked_end mentioned_in two now items i le now_is ∙ ap (λ m. marked m rest) two_is ∙ ap (λ m. marked (marked m (mentioned_in second)) rest) one_is
-    ∙ ap (λ m. marked m rest) (sym (marked_append start (mentioned_in first) (mentioned_in second)))
-    ∙ sym (marked_append start (mentioned_in first ++ mentioned_in second) rest) ∙ ap (marked start) (sym whole)
+    marked_end mentioned_in two now items i le now_is ∙ ap (λ m. with_marks m rest) two_is ∙ ap (λ m. with_marks (with_marks m (mentioned_in second)) rest) one_is
+    ∙ ap (λ m. with_marks m rest) (sym (marked_append start (mentioned_in first) (mentioned_in second)))
+    ∙ sym (marked_append start (mentioned_in first ++ mentioned_in second) rest) ∙ ap (with_marks start) (sym whole)
 
-pub if_marked : (start one two : List Bool) (s : Statement Single CommandId StateId) (c : Condition) (inner : Block) → s ≡ If c inner → one ≡ marked start (mentioned_in c) → two ≡ marked one (mentioned inner)
-    → two ≡ marked start (statement_tests s)
+pub if_marked : (start one two : List Bool) (s : Statement Single CommandId StateId) (c : Condition) (inner : Block) → s ≡ If c inner → one ≡ with_marks start (mentioned_in c) → two ≡ with_marks one (mentioned inner)
+    → two ≡ with_marks start (statement_tests s)
 if_marked start one two s c inner is one_is two_is =
-    two_is ∙ ap (λ m. marked m (mentioned inner)) one_is ∙ sym (marked_append start (mentioned_in c) (mentioned inner))
-    ∙ ap (λ xs. marked start (mentioned_in c ++ xs)) (sym (append-nil (mentioned inner))) ∙ ap (λ x. marked start (statement_tests x)) (sym is)
+    two_is ∙ ap (λ m. with_marks m (mentioned inner)) one_is ∙ sym (marked_append start (mentioned_in c) (mentioned inner))
+    ∙ ap (λ xs. with_marks start (mentioned_in c ++ xs)) (sym (append-nil (mentioned inner))) ∙ ap (λ x. with_marks start (statement_tests x)) (sym is)
 
 -- a mark stands where it stood, and where its test is of the list
-marks_long : (marks : List Bool) (xs : List TestId) → length (marked marks xs) ≡ length marks
+marks_long : (marks : List Bool) (xs : List TestId) → length (with_marks marks xs) ≡ length marks
 marks_long marks [] = refl
 marks_long marks (x ∷ xs) = marks_long (slice_set marks x.0 true) xs ∙ length-set marks x.0 true
 
@@ -109,7 +109,7 @@ or_assoc true true c = refl
 or_assoc true false c = refl
 or_assoc false b c = refl
 
-pub mark_at : (marks : List Bool) (xs : List TestId) (k : ℕ) (b : Bool) → slice_get marks k ≡ Some b → slice_get (marked marks xs) k ≡ Some (list_any (λ test. test.0 == k) xs || b)
+pub mark_at : (marks : List Bool) (xs : List TestId) (k : ℕ) (b : Bool) → slice_get marks k ≡ Some b → slice_get (with_marks marks xs) k ≡ Some (list_any (λ test. test.0 == k) xs || b)
 mark_at marks [] k b e = e
 mark_at marks (x ∷ xs) k b e =
     mark_at (slice_set marks x.0 true) xs k (x.0 == k || b) (set_same marks x.0 k b e)
@@ -137,8 +137,8 @@ or_false true = refl
 or_false false = refl
 
 -- among marks that began with none, the one at an index says whether its test is of the list
-pub mark_is : (n k : ℕ) (marks : List Bool) (xs : List TestId) → k < n → marks ≡ marked (replicate n false) xs → get_or marks k false ≡ list_any (λ test. test.0 == k) xs
+pub mark_is : (n k : ℕ) (marks : List Bool) (xs : List TestId) → k < n → marks ≡ with_marks (replicate n false) xs → get_or marks k false ≡ list_any (λ test. test.0 == k) xs
 mark_is n k marks xs lt e =
     let found = list_any (λ (test : TestId). test.0 == k) xs in
     ap (λ m. get_or m k false) e
-    ∙ get_or_from_slice_get (marked (replicate n false) xs) k (found || false) false (mark_at (replicate n false) xs k false (replicate_at n k lt)) ∙ or_false found
+    ∙ get_or_from_slice_get (with_marks (replicate n false) xs) k (found || false) false (mark_at (replicate n false) xs k false (replicate_at n k lt)) ∙ or_false found

@@ -13,7 +13,7 @@ use Rattle.ifs_gen.specs.declared.fault.GenFault.TheVariants.{StackTooHigh, TooM
 use Rattle.ifs_gen.specs.Trees.{Part, Policy}
 use Rattle.ifs_gen.specs.PlainCode.{plain_coder, block_height}
 use Rattle.ifs_gen.specs.PlainImage.{test_count, parts_of, init_length, body_length}
-use Rattle.ifs_gen.specs.PlainImage.{part_height, room_of, RoutinesFit, CodeFits}
+use Rattle.ifs_gen.specs.PlainImage.{part_height, room_of, PartCodeFits, CodeFits}
 use Rattle.ifs_gen.specs.Refused.{lengths_of, heights_of, lengths, heights, AreWithin}
 use Rattle.ifs_gen.specs.Refused.{IsFirstOver, PassesFirst, FitsOrIsRefused, OneLimitIsFirst}
 
@@ -40,11 +40,11 @@ first_over limit (x ∷ numbers) =
     (first_over limit numbers))
     (cases_lt limit x)
 
-pub each_fits : (count : ℕ) (parts : List Part) → AreWithin 1024 (lengths_of count parts) → All (RoutinesFit count) parts
-each_fits count [] h = All-nil (RoutinesFit count)
+pub each_fits : (count : ℕ) (parts : List Part) → AreWithin 1024 (lengths_of count parts) → All (PartCodeFits count) parts
+each_fits count [] h = All-nil (PartCodeFits count)
 each_fits count (x ∷ parts) h =
     let rest = All-tail (λ n. n ≤ 1024) (init_length x) (body_length count x ∷ lengths_of count parts) h in
-    All-cons (RoutinesFit count) x parts (record {
+    All-cons (PartCodeFits count) x parts (record {
       init = All-head (λ n. n ≤ 1024) (init_length x) (body_length count x ∷ lengths_of count parts) h;
       body = All-head (λ n. n ≤ 1024) (body_length count x) (lengths_of count parts) rest;
     }) (each_fits count parts (All-tail (λ n. n ≤ 1024) (body_length count x) (lengths_of count parts) rest))
@@ -105,12 +105,12 @@ none_over limit numbers index within first =
     let over = first.over in
     absurd (omega (arith, low, over))
 
-lengths_low : (count : ℕ) (parts : List Part) → All (RoutinesFit count) parts → AreWithin 1024 (lengths_of count parts)
+lengths_low : (count : ℕ) (parts : List Part) → All (PartCodeFits count) parts → AreWithin 1024 (lengths_of count parts)
 lengths_low count [] h = All-nil (λ n. n ≤ 1024)
 lengths_low count (x ∷ parts) h =
-    let fits = All-head (RoutinesFit count) x parts h in
+    let fits = All-head (PartCodeFits count) x parts h in
     All-cons (λ n. n ≤ 1024) (init_length x) (body_length count x ∷ lengths_of count parts) fits.init
-    (All-cons (λ n. n ≤ 1024) (body_length count x) (lengths_of count parts) fits.body (lengths_low count parts (All-tail (RoutinesFit count) x parts h)))
+    (All-cons (λ n. n ≤ 1024) (body_length count x) (lengths_of count parts) fits.body (lengths_low count parts (All-tail (PartCodeFits count) x parts h)))
 
 heights_low : (parts : List Part) → All (λ part. part_height part ≤ 32) parts → AreWithin 32 (heights_of parts)
 heights_low [] h = All-nil (λ n. n ≤ 32)

@@ -14,9 +14,9 @@ use Rattle.ifs_image.specs.declared.parts.ImageParts.{ImageParts}
 use Rattle.ifs_image.specs.Code.{op_at}
 use Rattle.ifs_machine.specs.declared.value.Value.{Value}
 use Rattle.ifs_machine.specs.declared.value.Value.TheVariants.{Truth, Command, StateName}
-use Rattle.ifs_machine.specs.Table.{Frame, Trap, StackFull, CommandsPassed, Outcome, unless, height, row, row_at}
-use Rattle.ifs_machine.specs.Run.{next, after}
-use Rattle.ifs_gen.specs.Runs.{HasAt, Point, point, stands, Leads, HasStack}
+use Rattle.ifs_machine.specs.Table.{Frame, Trap, StackFull, CommandsPassed, Outcome, unless, height, row, row_of}
+use Rattle.ifs_machine.specs.Run.{next, after_rows}
+use Rattle.ifs_gen.specs.Runs.{HasAt, Point, point, at_point, RowsLead, HasStack}
 
 -- an entry of a table, at an index that is one of its
 pub entry_at : {T : Type 0} (xs : List T) (i : ℕ) → i < length xs → (x : T) × (slice_get xs i ≡ Some x)
@@ -62,61 +62,61 @@ pub followed_nothing : (a : Effects) → followed a nothing_yet ≡ a
 followed_nothing a = effects_are _ _ _ _ (append-nil a.commands) refl
 
 module _ (image : ImageParts) (facts : Facts) where
-  after_add : (m n : ℕ) (start : Outcome) → after image facts (n + m) start ≡ after image facts m (after image facts n start)
-  after_add zero n start = let e : n + zero ≡ n = omega arith in ap (λ k. after image facts k start) e
-  after_add (suc m) n start = let e : n + suc m ≡ suc (n + m) = omega arith in ap (λ k. after image facts k start) e ∙ ap (next image facts) (after_add m n start)
+  after_add : (m n : ℕ) (start : Outcome) → after_rows image facts (n + m) start ≡ after_rows image facts m (after_rows image facts n start)
+  after_add zero n start = let e : n + zero ≡ n = omega arith in ap (λ k. after_rows image facts k start) e
+  after_add (suc m) n start = let e : n + suc m ≡ suc (n + m) = omega arith in ap (λ k. after_rows image facts k start) e ∙ ap (next image facts) (after_add m n start)
 
   module _ (routine : ℕ) (callers : List Frame) where
-    pub no_rows : (from : Point) → Leads image facts routine callers from 0 from
+    pub no_rows : (from : Point) → RowsLead image facts routine callers from 0 from
     no_rows from = record { runs = refl }
 
-    pub then_leads : (a b c : Point) (m n : ℕ) → Leads image facts routine callers a m b → Leads image facts routine callers b n c → Leads image facts routine callers a (m + n) c
-    then_leads a b c m n first second = record { runs = after_add n m (stands routine callers a) ∙ ap (after image facts n) first.runs ∙ second.runs }
+    pub then_leads : (a b c : Point) (m n : ℕ) → RowsLead image facts routine callers a m b → RowsLead image facts routine callers b n c → RowsLead image facts routine callers a (m + n) c
+    then_leads a b c m n first second = record { runs = after_add n m (at_point routine callers a) ∙ ap (after_rows image facts n) first.runs ∙ second.runs }
 
     -- the same run, told in other words
-    pub as_told : (a b c : Point) (m n : ℕ) → Leads image facts routine callers a m b → m ≡ n → b ≡ c → Leads image facts routine callers a n c
-    as_told a b c m n leads e f = subst (λ k. Leads image facts routine callers a k c) e (subst (λ p. Leads image facts routine callers a m p) f leads)
+    pub as_told : (a b c : Point) (m n : ℕ) → RowsLead image facts routine callers a m b → m ≡ n → b ≡ c → RowsLead image facts routine callers a n c
+    as_told a b c m n leads e f = subst (λ k. RowsLead image facts routine callers a k c) e (subst (λ p. RowsLead image facts routine callers a m p) f leads)
 
-    pub at_place : (a : Point) (m n p q : ℕ) (values : List Value) (effects : Effects) → Leads image facts routine callers a m (point p values effects) → m ≡ n → p ≡ q
-        → Leads image facts routine callers a n (point q values effects)
+    pub at_place : (a : Point) (m n p q : ℕ) (values : List Value) (effects : Effects) → RowsLead image facts routine callers a m (point p values effects) → m ≡ n → p ≡ q
+        → RowsLead image facts routine callers a n (point q values effects)
     at_place a m n p q values effects leads e f = as_told a (point p values effects) (point q values effects) m n leads e (ap (λ k. point k values effects) f)
 
     -- one row
     pub one_row : (a b : Point) (op : Op) → op_at image routine a.place ≡ Some op
-        → row image facts (record { frame = record { routine = routine; place = a.place; values = a.values }; callers = callers; effects = a.effects }) op ≡ stands routine callers b
-        → Leads image facts routine callers a 1 b
+        → row image facts (record { frame = record { routine = routine; place = a.place; values = a.values }; callers = callers; effects = a.effects }) op ≡ at_point routine callers b
+        → RowsLead image facts routine callers a 1 b
     one_row a b op here is =
-        record { runs = ap (row_at image facts (record { frame = record { routine = routine; place = a.place; values = a.values }; callers = callers; effects = a.effects })) here ∙ is }
+        record { runs = ap (row_of image facts (record { frame = record { routine = routine; place = a.place; values = a.values }; callers = callers; effects = a.effects })) here ∙ is }
 
     module _ (place : ℕ) (values : List Value) (effects : Effects) where
       -- a row that pushes a value
       pushed_row : (op : Op) (value : Value) → op_at image routine place ≡ Some op → HasStack image callers values 1
           → row image facts (record { frame = record { routine = routine; place = place; values = values }; callers = callers; effects = effects }) op
-          ≡ unless (nat_le (length (value ∷ values) + height callers) image.budgets.stack) StackFull (stands routine callers (point (place + 1) (value ∷ values) effects))
-          → Leads image facts routine callers (point place values effects) 1 (point (place + 1) (value ∷ values) effects)
+          ≡ unless (nat_le (length (value ∷ values) + height callers) image.budgets.stack) StackFull (at_point routine callers (point (place + 1) (value ∷ values) effects))
+          → RowsLead image facts routine callers (point place values effects) 1 (point (place + 1) (value ∷ values) effects)
       pushed_row op value here room is =
           one_row (point place values effects) (point (place + 1) (value ∷ values) effects) op here (is ∙ unless_fits (length (value ∷ values) + height callers) image.budgets.stack StackFull _ (omega (arith, room)))
 
       pub command_row : (n : CommandId) → op_at image routine place ≡ Some (PushCommand n) → n.0 < length image.commands → HasStack image callers values 1
-          → Leads image facts routine callers (point place values effects) 1 (point (place + 1) (Command n ∷ values) effects)
+          → RowsLead image facts routine callers (point place values effects) 1 (point (place + 1) (Command n ∷ values) effects)
       command_row n here known room =
           let there = entry_at image.commands n.0 known in
           pushed_row (PushCommand n) (Command n) here room (rw there.1 refl)
 
       pub state_row : (n : StateId) → op_at image routine place ≡ Some (PushState n) → n.0 < length image.states → HasStack image callers values 1
-          → Leads image facts routine callers (point place values effects) 1 (point (place + 1) (StateName n ∷ values) effects)
+          → RowsLead image facts routine callers (point place values effects) 1 (point (place + 1) (StateName n ∷ values) effects)
       state_row n here known room =
           let there = entry_at image.states n.0 known in
           pushed_row (PushState n) (StateName n) here room (rw there.1 refl)
 
       pub queue_row : (n : CommandId) → op_at image routine place ≡ Some Queue → length effects.commands + 1 ≤ image.budgets.commands
-          → Leads image facts routine callers (point place (Command n ∷ values) effects) 1 (point (place + 1) values (followed effects (record { commands = n ∷ []; wish = None })))
+          → RowsLead image facts routine callers (point place (Command n ∷ values) effects) 1 (point (place + 1) values (followed effects (record { commands = n ∷ []; wish = None })))
       queue_row n here room =
           one_row (point place (Command n ∷ values) effects) (point (place + 1) values (followed effects (record { commands = n ∷ []; wish = None }))) Queue here
           (unless_fits (length effects.commands + 1) image.budgets.commands CommandsPassed _ room)
 
       pub want_row : (n : StateId) → op_at image routine place ≡ Some Want
-          → Leads image facts routine callers (point place (StateName n ∷ values) effects) 1 (point (place + 1) values (followed effects (record { commands = []; wish = Some n })))
+          → RowsLead image facts routine callers (point place (StateName n ∷ values) effects) 1 (point (place + 1) values (followed effects (record { commands = []; wish = Some n })))
       want_row n here =
           as_told (point place (StateName n ∷ values) effects) (point (place + 1) values (record { commands = effects.commands; wish = Some n }))
           (point (place + 1) values (followed effects (record { commands = []; wish = Some n }))) 1 1
@@ -124,5 +124,5 @@ module _ (image : ImageParts) (facts : Facts) where
           refl (ap (λ e. point (place + 1) values e) (effects_are _ _ _ _ (sym (append-nil effects.commands)) refl))
 
       pub jump_row : (b : Bool) (target : ℕ) → op_at image routine place ≡ Some (JumpFalse target)
-          → Leads image facts routine callers (point place (Truth b ∷ values) effects) 1 (point (cond b (place + 1) target) values effects)
+          → RowsLead image facts routine callers (point place (Truth b ∷ values) effects) 1 (point (cond b (place + 1) target) values effects)
       jump_row b target here = one_row (point place (Truth b ∷ values) effects) (point (cond b (place + 1) target) values effects) (JumpFalse target) here refl

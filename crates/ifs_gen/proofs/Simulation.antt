@@ -17,7 +17,7 @@ use Rattle.ifs_parse.specs.Trees.{condition_size}
 use Rattle.ifs_gen.specs.PlainCode.{Coder, condition_code, condition_height}
 use Rattle.ifs_gen.specs.PlainCode.{block_code, code_size, block_height, block_runs}
 use Rattle.ifs_policy.specs.Fits.{ConditionFits, BlockFits}
-use Rattle.ifs_gen.specs.Runs.{image_sizes, HasAt, Point, point, stands, Leads}
+use Rattle.ifs_gen.specs.Runs.{image_sizes, HasAt, Point, point, at_point, RowsLead}
 use Rattle.ifs_gen.specs.Runs.{HasStack, Computes, TruthRuns, block_cost, BlockRuns}
 use Rattle.ifs_gen.proofs.Rows.{entry_at, unless_fits, has_left, has_right, followed_assoc}
 use Rattle.ifs_gen.proofs.Rows.{followed_nothing, no_rows, then_leads, as_told, at_place}
@@ -48,17 +48,17 @@ same_value (Some b) = refl
 
 module _ (image : ImageParts) (facts : Facts) (given : AreFactsOf image facts) (routine : ℕ) (callers : List Frame) where
   two_operands : (a b : Condition) (x y z : Bool) (place : ℕ) (values : List Value) (effects : Effects)
-      → Leads image facts routine callers (point place values effects) (condition_size a) (point (place + condition_size a) (Truth x ∷ values) effects)
-      → Leads image facts routine callers (point (place + condition_size a) (Truth x ∷ values) effects) (condition_size b) (point (place + condition_size a + condition_size b) (Truth y ∷ Truth x ∷ values) effects)
-      → Leads image facts routine callers (point (place + condition_size a + condition_size b) (Truth y ∷ Truth x ∷ values) effects) 1 (point (place + condition_size a + condition_size b + 1) (Truth z ∷ values) effects)
-      → Leads image facts routine callers (point place values effects) (condition_size a + condition_size b + 1) (point (place + (condition_size a + condition_size b + 1)) (Truth z ∷ values) effects)
+      → RowsLead image facts routine callers (point place values effects) (condition_size a) (point (place + condition_size a) (Truth x ∷ values) effects)
+      → RowsLead image facts routine callers (point (place + condition_size a) (Truth x ∷ values) effects) (condition_size b) (point (place + condition_size a + condition_size b) (Truth y ∷ Truth x ∷ values) effects)
+      → RowsLead image facts routine callers (point (place + condition_size a + condition_size b) (Truth y ∷ Truth x ∷ values) effects) 1 (point (place + condition_size a + condition_size b + 1) (Truth z ∷ values) effects)
+      → RowsLead image facts routine callers (point place values effects) (condition_size a + condition_size b + 1) (point (place + (condition_size a + condition_size b + 1)) (Truth z ∷ values) effects)
   two_operands a b x y z place values effects first second last =
       at_place image facts routine callers _ (condition_size a + condition_size b + 1) _ (place + condition_size a + condition_size b + 1) _ (Truth z ∷ values) effects
       (then_leads image facts routine callers _ _ _ _ _ (then_leads image facts routine callers _ _ _ _ _ first second) last) refl (omega arith)
 
   condition_leads : (c : Condition) (place : ℕ) (values : List Value) (effects : Effects) → ConditionFits (image_sizes image) c
       → HasAt (code_of image routine) place (condition_code c) → HasStack image callers values (condition_height c)
-      → Leads image facts routine callers (point place values effects) (condition_size c) (point (place + condition_size c) (Truth (truth facts c) ∷ values) effects)
+      → RowsLead image facts routine callers (point place values effects) (condition_size c) (point (place + condition_size c) (Truth (truth facts c) ∷ values) effects)
   condition_leads (Leaf (LinkIs n s)) place values effects fits has room =
       let there = entry_at facts.links n.0 (omega (arith, given.links, fits)) in
       one_row image facts routine callers _ _ (Link n s) has.0 (rw there.1 (unless_fits (length (Truth (is_link there.0 s) ∷ values) + height callers) image.budgets.stack StackFull _ (omega (arith, room))))
@@ -66,7 +66,7 @@ module _ (image : ImageParts) (facts : Facts) (given : AreFactsOf image facts) (
       let there = entry_at facts.tests n.0 (omega (arith, given.tests, fits)) in
       one_row image facts routine callers _ _ (Test n) has.0
       (rw there.1 (unless_fits (length (Truth (is_true there.0) ∷ values) + height callers) image.budgets.stack StackFull _ (omega (arith, room))
-      ∙ ap (λ b. stands routine callers (point (place + 1) (Truth b ∷ values) effects)) (same_value there.0)))
+      ∙ ap (λ b. at_point routine callers (point (place + 1) (Truth b ∷ values) effects)) (same_value there.0)))
   condition_leads (NotSo c) place values effects fits has room =
       let code = code_of image routine in
       let inner = condition_leads c place values effects fits (has_left code place (condition_code c) (Negate ∷ []) has) room in
@@ -135,8 +135,8 @@ module _ (image : ImageParts) (facts : Facts) (coder : Coder) where
   module _ (computes : Computes image facts coder) (routine : ℕ) (callers : List Frame) where
     -- a block under a condition's truth: it leads on where it is true, and is passed over where it is false
     chosen_leads : (b : Bool) (place past cost : ℕ) (values : List Value) (effects more : Effects) → op_at image routine place ≡ Some (JumpFalse past)
-        → Leads image facts routine callers (point (place + 1) values effects) cost (point past values (followed effects more))
-        → Leads image facts routine callers (point place (Truth b ∷ values) effects) (1 + (if b then cost else 0)) (point past values (followed effects (if b then more else nothing_yet)))
+        → RowsLead image facts routine callers (point (place + 1) values effects) cost (point past values (followed effects more))
+        → RowsLead image facts routine callers (point place (Truth b ∷ values) effects) (1 + (if b then cost else 0)) (point past values (followed effects (if b then more else nothing_yet)))
     chosen_leads true place past cost values effects more here inner =
         then_leads image facts routine callers _ _ _ _ _ (jump_row image facts routine callers place values effects true past here) inner
     chosen_leads false place past cost values effects more here inner =
@@ -145,18 +145,18 @@ module _ (image : ImageParts) (facts : Facts) (coder : Coder) where
 
     -- two statements, one after the other
     both_lead : (from : Point) (m n place to : ℕ) (values : List Value) (effects first second : Effects)
-        → Leads image facts routine callers from m (point place values (followed effects first))
-        → Leads image facts routine callers (point place values (followed effects first)) n (point to values (followed (followed effects first) second))
-        → Leads image facts routine callers from (m + n) (point to values (followed effects (followed first second)))
+        → RowsLead image facts routine callers from m (point place values (followed effects first))
+        → RowsLead image facts routine callers (point place values (followed effects first)) n (point to values (followed (followed effects first) second))
+        → RowsLead image facts routine callers from (m + n) (point to values (followed effects (followed first second)))
     both_lead from m n place to values effects first second one two =
         as_told image facts routine callers _ _ _ _ _ (then_leads image facts routine callers _ _ _ _ _ one two) refl
         (ap (λ e. point to values e) (followed_assoc effects first second))
 
     two_rows : (place : ℕ) (values : List Value) (effects first second : Effects) (value : Value) (cost size : ℕ)
-        → Leads image facts routine callers (point place values effects) 1 (point (place + 1) (value ∷ values) effects)
-        → Leads image facts routine callers (point (place + 1) (value ∷ values) effects) 1 (point (place + 1 + 1) values (followed effects first))
-        → Leads image facts routine callers (point (place + 2) values (followed effects first)) cost (point (place + 2 + size) values (followed (followed effects first) second))
-        → Leads image facts routine callers (point place values effects) (2 + cost) (point (place + (2 + size)) values (followed effects (followed first second)))
+        → RowsLead image facts routine callers (point place values effects) 1 (point (place + 1) (value ∷ values) effects)
+        → RowsLead image facts routine callers (point (place + 1) (value ∷ values) effects) 1 (point (place + 1 + 1) values (followed effects first))
+        → RowsLead image facts routine callers (point (place + 2) values (followed effects first)) cost (point (place + 2 + size) values (followed (followed effects first) second))
+        → RowsLead image facts routine callers (point place values effects) (2 + cost) (point (place + (2 + size)) values (followed effects (followed first second)))
     two_rows place values effects first second value cost size one two onward =
         let start = at_place image facts routine callers _ (1 + 1) 2 (place + 1 + 1) (place + 2) values (followed effects first)
         (then_leads image facts routine callers _ _ _ _ _ one two) refl (omega arith) in
@@ -166,7 +166,7 @@ module _ (image : ImageParts) (facts : Facts) (coder : Coder) where
     pub block_leads : (block : Block) (place : ℕ) (values : List Value) (effects : Effects) → BlockFits (image_sizes image) block
         → HasAt (code_of image routine) place (block_code coder place block) → HasStack image callers values (block_height coder block)
         → length effects.commands + block_runs block ≤ image.budgets.commands
-        → Leads image facts routine callers (point place values effects) (block_cost coder facts block) (point (place + code_size coder block) values (followed effects (reached facts block)))
+        → RowsLead image facts routine callers (point place values effects) (block_cost coder facts block) (point (place + code_size coder block) values (followed effects (reached facts block)))
     block_leads Done place values effects fits has room more =
         let same : place ≡ place + 0 = omega arith in
         as_told image facts routine callers _ _ _ _ _ (no_rows image facts routine callers (point place values effects)) refl

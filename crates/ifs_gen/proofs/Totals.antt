@@ -11,7 +11,7 @@ use Rattle.ifs_gen.specs.declared.fault.GenFault.TheVariants.{StackTooHigh, TooM
 use Rattle.ifs_gen.specs.declared.amounts.PartMeasure.{PartMeasure}
 use Rattle.ifs_gen.specs.declared.amounts.Amount.{Amount}
 use Rattle.ifs_gen.specs.declared.amounts.Amount.TheVariants.{Size, Height, Runs}
-use Rattle.ifs_gen.specs.inner.Amounts.{number_of, numbers_of, measured, most_of_inits}
+use Rattle.ifs_gen.specs.inner.Amounts.{amount_in, numbers_of, measured, most_of_inits}
 use Rattle.ifs_gen.specs.inner.Amounts.{most_of_bodies, event_in, budgets_in, AreFine}
 use Rattle.ifs_gen.specs.inner.Measures.{capped}
 use Rattle.ifs_image.specs.declared.parts.Budgets.{Budgets}
@@ -35,30 +35,30 @@ module _ (amount : Amount) (limit : ℕ) (all left rest : List PartMeasure) (m :
   here : IsFirstOver limit (numbers_of amount (m ∷ rest)) 0 → IsFirstOver limit (numbers_of amount all) (place + 0)
   here h = passes.first 0 (subst (λ l. IsFirstOver limit (numbers_of amount l) 0) (sym is) h)
 
-  pub init_over : limit < number_of amount m.init → IsFirstOver limit (numbers_of amount all) place
+  pub init_over : limit < amount_in amount m.init → IsFirstOver limit (numbers_of amount all) place
   init_over over =
       let e : place + 0 ≡ place = omega arith in
       subst (IsFirstOver limit (numbers_of amount all)) e
       (passes.first 0 (subst (λ l. IsFirstOver limit (numbers_of amount l) 0) (sym is)
-      (record { number = number_of amount m.init; at = refl; over = over; before = λ i n lt e. absurd (omega (arith, lt)) })))
+      (record { number = amount_in amount m.init; at = refl; over = over; before = λ i n lt e. absurd (omega (arith, lt)) })))
 
-  pub body_over : number_of amount m.init ≤ limit → limit < number_of amount m.body → IsFirstOver limit (numbers_of amount all) (place + 1)
+  pub body_over : amount_in amount m.init ≤ limit → limit < amount_in amount m.body → IsFirstOver limit (numbers_of amount all) (place + 1)
   body_over low over =
       passes.first 1 (subst (λ l. IsFirstOver limit (numbers_of amount l) 1) (sym is)
-      (one_later limit (number_of amount m.init) (number_of amount m.body ∷ numbers_of amount rest) 0 low
-      (record { number = number_of amount m.body; at = refl; over = over; before = λ i n lt e. absurd (omega (arith, lt)) })))
+      (one_later limit (amount_in amount m.init) (amount_in amount m.body ∷ numbers_of amount rest) 0 low
+      (record { number = amount_in amount m.body; at = refl; over = over; before = λ i n lt e. absurd (omega (arith, lt)) })))
 
-  pub none_over : number_of amount m.init ≤ limit → number_of amount m.body ≤ limit → Passes amount limit all rest (place + 2)
+  pub none_over : amount_in amount m.init ≤ limit → amount_in amount m.body ≤ limit → Passes amount limit all rest (place + 2)
   none_over low too = record {
     within = λ h. passes.within (subst (λ l. AreWithin limit (numbers_of amount l)) (sym is)
-        (All-cons (λ n. n ≤ limit) (number_of amount m.init) (number_of amount m.body ∷ numbers_of amount rest) low
-        (All-cons (λ n. n ≤ limit) (number_of amount m.body) (numbers_of amount rest) too h)));
+        (All-cons (λ n. n ≤ limit) (amount_in amount m.init) (amount_in amount m.body ∷ numbers_of amount rest) low
+        (All-cons (λ n. n ≤ limit) (amount_in amount m.body) (numbers_of amount rest) too h)));
     first = λ index h.
         let e : place + suc (suc index) ≡ place + 2 + index = omega arith in
         subst (IsFirstOver limit (numbers_of amount all)) e
         (passes.first (suc (suc index)) (subst (λ l. IsFirstOver limit (numbers_of amount l) (suc (suc index))) (sym is)
-        (one_later limit (number_of amount m.init) (number_of amount m.body ∷ numbers_of amount rest) (suc index) low
-        (one_later limit (number_of amount m.body) (numbers_of amount rest) index too h))));
+        (one_later limit (amount_in amount m.init) (amount_in amount m.body ∷ numbers_of amount rest) (suc index) low
+        (one_later limit (amount_in amount m.body) (numbers_of amount rest) index too h))));
   }
 
 pub all_within : (amount : Amount) (limit : ℕ) (all left : List PartMeasure) (place : ℕ) → left ≡ [] → Passes amount limit all left place → AreWithin limit (numbers_of amount all)
@@ -77,20 +77,20 @@ sum_next left rest m total next all is next_is before =
 pub inits_low : (amount : Amount) (limit : ℕ) (ms : List PartMeasure) → AreWithin limit (numbers_of amount ms) → most_of_inits amount ms ≤ limit
 inits_low amount limit [] h = omega arith
 inits_low amount limit (m ∷ ms) h =
-    let first = All-head (λ n. n ≤ limit) (number_of amount m.init) (number_of amount m.body ∷ numbers_of amount ms) h in
-    let more = All-tail (λ n. n ≤ limit) (number_of amount m.init) (number_of amount m.body ∷ numbers_of amount ms) h in
-    let rest = inits_low amount limit ms (All-tail (λ n. n ≤ limit) (number_of amount m.body) (numbers_of amount ms) more) in
+    let first = All-head (λ n. n ≤ limit) (amount_in amount m.init) (amount_in amount m.body ∷ numbers_of amount ms) h in
+    let more = All-tail (λ n. n ≤ limit) (amount_in amount m.init) (amount_in amount m.body ∷ numbers_of amount ms) h in
+    let rest = inits_low amount limit ms (All-tail (λ n. n ≤ limit) (amount_in amount m.body) (numbers_of amount ms) more) in
     omega (arith, first, rest)
 
 pub bodies_low : (amount : Amount) (limit : ℕ) (ms : List PartMeasure) → AreWithin limit (numbers_of amount ms) → most_of_bodies amount ms ≤ limit
 bodies_low amount limit [] h = omega arith
 bodies_low amount limit (m ∷ ms) h =
-    let more = All-tail (λ n. n ≤ limit) (number_of amount m.init) (number_of amount m.body ∷ numbers_of amount ms) h in
-    let first = All-head (λ n. n ≤ limit) (number_of amount m.body) (numbers_of amount ms) more in
-    let rest = bodies_low amount limit ms (All-tail (λ n. n ≤ limit) (number_of amount m.body) (numbers_of amount ms) more) in
+    let more = All-tail (λ n. n ≤ limit) (amount_in amount m.init) (amount_in amount m.body ∷ numbers_of amount ms) h in
+    let first = All-head (λ n. n ≤ limit) (amount_in amount m.body) (numbers_of amount ms) more in
+    let rest = bodies_low amount limit ms (All-tail (λ n. n ≤ limit) (amount_in amount m.body) (numbers_of amount ms) more) in
     omega (arith, first, rest)
 
-number_low : (amount : Amount) (ms : List PartMeasure) (i : ℕ) → number_in (λ (m : PartMeasure). number_of amount m.init) (slice_get ms i) ≤ most_of_inits amount ms
+number_low : (amount : Amount) (ms : List PartMeasure) (i : ℕ) → number_in (λ (m : PartMeasure). amount_in amount m.init) (slice_get ms i) ≤ most_of_inits amount ms
 number_low amount [] i = omega arith
 number_low amount (m ∷ ms) zero = omega arith
 number_low amount (m ∷ ms) (suc i) = let h = number_low amount ms i in omega (arith, h)
@@ -114,24 +114,24 @@ budgets_are s height cost costs runs commands same cost_is low runs_is few =
     ∙ ap (λ n. let x : Budgets = record { stack = height; frames = 1; cost = costs; commands = n } in x) two
 
 -- Measures of a policy's parts, and the policy.
-inits_are : (amount : Amount) (count : ℕ) (number : Part → ℕ) → ((part : Part) → number_of amount (measured count part).init ≡ capped (number part))
+inits_are : (amount : Amount) (count : ℕ) (number : Part → ℕ) → ((part : Part) → amount_in amount (measured count part).init ≡ capped (number part))
     → (parts : List Part) → most_of_inits amount (map (measured count) parts) ≡ capped (greatest number parts)
 inits_are amount count number is [] = omega arith
 inits_are amount count number is (x ∷ parts) = let e = is x in let h = inits_are amount count number is parts in omega (arith, e, h)
 
-bodies_are : (amount : Amount) (count : ℕ) (number : Part → ℕ) → ((part : Part) → number_of amount (measured count part).body ≡ capped (number part))
+bodies_are : (amount : Amount) (count : ℕ) (number : Part → ℕ) → ((part : Part) → amount_in amount (measured count part).body ≡ capped (number part))
     → (parts : List Part) → most_of_bodies amount (map (measured count) parts) ≡ capped (greatest number parts)
 bodies_are amount count number is [] = omega arith
 bodies_are amount count number is (x ∷ parts) = let e = is x in let h = bodies_are amount count number is parts in omega (arith, e, h)
 
-first_is : (amount : Amount) (count : ℕ) (number : Part → ℕ) → ((part : Part) → number_of amount (measured count part).init ≡ capped (number part))
-    → (parts : List Part) (i : ℕ) → number_in (λ (m : PartMeasure). number_of amount m.init) (slice_get (map (measured count) parts) i) ≡ capped (number_in number (slice_get parts i))
+first_is : (amount : Amount) (count : ℕ) (number : Part → ℕ) → ((part : Part) → amount_in amount (measured count part).init ≡ capped (number part))
+    → (parts : List Part) (i : ℕ) → number_in (λ (m : PartMeasure). amount_in amount m.init) (slice_get (map (measured count) parts) i) ≡ capped (number_in number (slice_get parts i))
 first_is amount count number is [] i = omega arith
 first_is amount count number is (x ∷ parts) zero = is x
 first_is amount count number is (x ∷ parts) (suc i) = first_is amount count number is parts i
 
 event_is : (amount : Amount) (policy : Policy) (init body : Part → ℕ)
-    → ((part : Part) → number_of amount (measured (test_count policy) part).init ≡ capped (init part)) → ((part : Part) → number_of amount (measured (test_count policy) part).body ≡ capped (body part))
+    → ((part : Part) → amount_in amount (measured (test_count policy) part).init ≡ capped (init part)) → ((part : Part) → amount_in amount (measured (test_count policy) part).body ≡ capped (body part))
     → capped (event_in amount (map (measured (test_count policy)) (parts_of policy)) policy.initial.0) ≡ capped (event_total init body policy)
 event_is amount policy init body init_is body_is =
     let a = init_is policy.always in

@@ -14,7 +14,7 @@ use Rattle.ifs_core.specs.Steps.{CoreState, replies, after_steps}
 use Rattle.ifs_gen.specs.Trees.{Part, Policy}
 use Rattle.ifs_policy.specs.Meaning.{Mentions, body_yield, init_yield}
 use Rattle.ifs_sched.specs.Schedule.{has_test}
-use Rattle.ifs_gen.specs.PlainImage.{test_count, mask_in, room_of, plain_image, CodeFits}
+use Rattle.ifs_gen.specs.PlainImage.{test_count, mask_of_part, room_of, plain_image, CodeFits}
 use Rattle.ifs_policy.specs.Fits.{PolicyFits}
 
 -- What a state's part yields; nothing where there is no such state.
@@ -32,14 +32,14 @@ yield_of policy (Body k) facts = yield_in (λ part. body_yield facts part.body) 
 -- The set of tests that a state's body mentions; none where there is no such state.
 abbrev pub mask_of_state : ℕ → Option Part → ℕ
 mask_of_state count None = 0
-mask_of_state count (Some part) = mask_in count part
+mask_of_state count (Some part) = mask_of_part count part
 
 -- The policy's own behaviour: its handlers answer by their yields and cost nothing, and the tests that a body mentions are active.
 abbrev pub behaviour_of : Policy → Behaviour
 behaviour_of policy = record {
   answer = yield_of policy;
   cost = λ handler facts. 0;
-  always = mask_in (test_count policy) policy.always;
+  always = mask_of_part (test_count policy) policy.always;
   active = λ k. mask_of_state (test_count policy) (slice_get policy.states k);
 }
 
@@ -76,4 +76,4 @@ ImageMeansPolicy = (policy : Policy) → PolicyFits policy → CodeFits policy �
 
 -- A part's set of active tests has exactly those that its body mentions.
 abbrev pub ActiveAreMentioned : Type 0
-ActiveAreMentioned = (count : ℕ) (part : Part) (test : ℕ) → test < count → IsTrue (has_test (mask_in count part) test) ↔ Mentions (record { 0 = test }) part.body
+ActiveAreMentioned = (count : ℕ) (part : Part) (test : ℕ) → test < count → IsTrue (has_test (mask_of_part count part) test) ↔ Mentions (record { 0 = test }) part.body

@@ -27,12 +27,12 @@ mask_of [] = 0
 mask_of (test ∷ tests) = 2 ^ test.0 + mask_of tests
 
 -- The set of the tests that a part's body mentions, of so many.
-abbrev pub mask_in : ℕ → Part → ℕ
-mask_in count part = mask_of (holding count part.body)
+abbrev pub mask_of_part : ℕ → Part → ℕ
+mask_of_part count part = mask_of (holding count part.body)
 
 -- Part k has the routines 2k and 2k + 1.
 abbrev pub handlers_of : ℕ → ℕ → Part → Handlers
-handlers_of count k part = record { init = record { 0 = 2 * k }; body = record { 0 = 2 * k + 1 }; mask = mask_in count part }
+handlers_of count k part = record { init = record { 0 = 2 * k }; body = record { 0 = 2 * k + 1 }; mask = mask_of_part count part }
 
 -- The states of these names and parts, from a number on, in order.
 abbrev pub states_from : ℕ → ℕ → List (List ℕ) → List Part → List StateSpec
@@ -123,13 +123,13 @@ abbrev pub most_of_event : ℕ
 most_of_event = 64
 
 -- The plain code of a part keeps the limits of one routine.
-pub record RoutinesFit (count : ℕ) (part : Part) : Type 0 where
+pub record PartCodeFits (count : ℕ) (part : Part) : Type 0 where
   pub init : init_length part ≤ most_of_routine
   pub body : body_length count part ≤ most_of_routine
 
 -- The plain code of a policy keeps the limits: instructions of each routine and of all, height, and the room.
 pub record CodeFits (policy : Policy) : Type 0 where
-  pub each : All (RoutinesFit (test_count policy)) (parts_of policy)
+  pub each : All (PartCodeFits (test_count policy)) (parts_of policy)
   pub together : sum_by (λ part. init_length part + body_length (test_count policy) part) (parts_of policy) ≤ most_of_all
   pub height : All (λ part. part_height part ≤ most_of_stack) (parts_of policy)
   pub room : room_of policy ≤ most_of_event

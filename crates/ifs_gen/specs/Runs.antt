@@ -9,7 +9,7 @@ use Rattle.ifs_image.specs.Code.{code_of, results_of}
 use Rattle.ifs_machine.specs.declared.value.Value.{Value}
 use Rattle.ifs_machine.specs.declared.value.Value.TheVariants.{Truth}
 use Rattle.ifs_machine.specs.Table.{Frame, Outcome, GoesOn, height}
-use Rattle.ifs_machine.specs.Run.{after, RunsTo, AreFactsOf}
+use Rattle.ifs_machine.specs.Run.{after_rows, RunsTo, AreFactsOf}
 use Rattle.ifs_policy.specs.Fits.{Sizes, ConditionFits, BlockFits}
 use Rattle.ifs_gen.specs.Trees.{Condition, Block, Done, RunThen, WantThen, IfThen}
 use Rattle.ifs_policy.specs.Meaning.{truth, is_open, is_held, reached, body_yield, init_yield}
@@ -35,12 +35,12 @@ abbrev pub point : ℕ → List Value → Effects → Point
 point place values effects = record { place = place; values = values; effects = effects }
 
 -- The machine stands there, above these callers.
-abbrev pub stands : ℕ → List Frame → Point → Outcome
-stands routine callers p = GoesOn (record { frame = record { routine = routine; place = p.place; values = p.values }; callers = callers; effects = p.effects })
+abbrev pub at_point : ℕ → List Frame → Point → Outcome
+at_point routine callers p = GoesOn (record { frame = record { routine = routine; place = p.place; values = p.values }; callers = callers; effects = p.effects })
 
 -- So many rows of the table lead from a point of a routine to another.
-pub record Leads (image : ImageParts) (facts : Facts) (routine : ℕ) (callers : List Frame) (from : Point) (rows : ℕ) (to : Point) : Type 0 where
-  pub runs : after image facts rows (stands routine callers from) ≡ stands routine callers to
+pub record RowsLead (image : ImageParts) (facts : Facts) (routine : ℕ) (callers : List Frame) (from : Point) (rows : ℕ) (to : Point) : Type 0 where
+  pub runs : after_rows image facts rows (at_point routine callers from) ≡ at_point routine callers to
 
 -- There are this many values of stack above those that stand, and above those of the callers.
 abbrev pub HasStack : ImageParts → List Frame → List Value → ℕ → Type 0
@@ -52,7 +52,7 @@ pub record Computes (image : ImageParts) (facts : Facts) (coder : Coder) : Type 
   pub high : (condition : Condition) → 1 ≤ coder.height condition
   pub leads : (condition : Condition) (routine : ℕ) (callers : List Frame) (place : ℕ) (values : List Value) (effects : Effects)
       → ConditionFits (image_sizes image) condition → HasAt (code_of image routine) place (coder.code condition) → HasStack image callers values (coder.height condition)
-      → Leads image facts routine callers (point place values effects) (coder.cost condition) (point (place + coder.size condition) (Truth (truth facts condition) ∷ values) effects)
+      → RowsLead image facts routine callers (point place values effects) (coder.cost condition) (point (place + coder.size condition) (Truth (truth facts condition) ∷ values) effects)
 
 -- The plain code of conditions computes their truth, on any image and under any facts for it.
 abbrev pub TruthRuns : Type 0
@@ -71,7 +71,7 @@ abbrev pub BlockRuns : Type 0
 BlockRuns = (image : ImageParts) (facts : Facts) (coder : Coder) (routine : ℕ) (callers : List Frame) (block : Block) (place : ℕ) (values : List Value) (effects : Effects)
     → Computes image facts coder → BlockFits (image_sizes image) block → HasAt (code_of image routine) place (block_code coder place block)
     → HasStack image callers values (block_height coder block) → length effects.commands + block_runs block ≤ image.budgets.commands
-    → Leads image facts routine callers (point place values effects) (block_cost coder facts block) (point (place + code_size coder block) values (followed effects (reached facts block)))
+    → RowsLead image facts routine callers (point place values effects) (block_cost coder facts block) (point (place + code_size coder block) values (followed effects (reached facts block)))
 
 -- How many instructions are executed to find whether a body is held back.
 abbrev pub held_cost : Facts → List TestId → ℕ

@@ -4,7 +4,7 @@ ghost use Rattle.std.specs.Prelude.{◌≡◌, ◌+◌, ◌<◌, ◌≤◌, ◌+
 ghost use Rattle.ifs_gen.specs.declared.amounts.Amount.TheVariants.{Size, Height, Runs};
 ghost use Rattle.ifs_gen.specs.Refused.{AreWithin, IsFirstOver, IsPassed};
 ghost use Rattle.ifs_gen.specs.inner.Amounts.{budgets_in, event_in, measured, most_of_bodies};
-ghost use Rattle.ifs_gen.specs.inner.Amounts.{most_of_inits, number_of, numbers_of, AreFine};
+ghost use Rattle.ifs_gen.specs.inner.Amounts.{most_of_inits, amount_in, numbers_of, AreFine};
 ghost use Rattle.ifs_gen.specs.inner.Measures.{capped};
 
 use crate::fault::GenFault;
@@ -30,7 +30,7 @@ pub(crate) enum Amount {
 impl Amount {
     /// That number of a routine.
     fn of(self, measure: &BlockMeasure) -> u64
-        ensures { result ≡ number_of self measure.now }
+        ensures { result ≡ amount_in self measure.now }
     {
         match self {
             Amount::Size => measure.size,

@@ -4,8 +4,8 @@ ghost use Rattle.std.specs.Prelude.{◌≡◌, ◌≢◌, ◌+◌, ◌≤◌, �
 ghost use Rattle.std.specs.Prelude.{◌∷◌, length, map, All, IfOk, IfErr, OnOk};
 ghost use Rattle.ifs_verify.specs.Accepted.{IsAccepted};
 ghost use Rattle.ifs_gen.specs.declared.fault.GenFault.TheVariants.{Memory};
-ghost use Rattle.ifs_gen.specs.PlainImage.{handlers_of, image_with, least_budgets, mask_in, mask_of, plain_image};
-ghost use Rattle.ifs_gen.specs.PlainImage.{routines_of, states_from, test_spec, CodeFits, RoutinesFit};
+ghost use Rattle.ifs_gen.specs.PlainImage.{handlers_of, image_with, least_budgets, mask_of_part, mask_of, plain_image};
+ghost use Rattle.ifs_gen.specs.PlainImage.{routines_of, states_from, test_spec, CodeFits, PartCodeFits};
 ghost use Rattle.ifs_policy.specs.Fits.{PolicyFits};
 ghost use Rattle.ifs_gen.specs.Refused.{PassesFirst};
 
@@ -142,8 +142,8 @@ fn put_routines(
     routines: &mut Vec<Routine>,
 ) -> Result<u64, AllocError>
     requires few { count ≤ 64 }
-    requires fits { RoutinesFit count part.now }
-    ensures mask { IfOk result (λ mask. mask ≡ mask_in count part.now) }
+    requires fits { PartCodeFits count part.now }
+    ensures mask { IfOk result (λ mask. mask ≡ mask_of_part count part.now) }
     ensures routines { OnOk result (routines.new.items ≡ routines.old.items ++ routines_of count (part.now ∷ [])) }
 {
     let tests = tests_of(alloc, &part.body, count)?;
@@ -164,7 +164,7 @@ fn put_states(
     requires few { count ≤ 64 }
     requires few_states { length parts.now ≤ 256 }
     requires named { length parts.now ≡ length names.now }
-    requires fits { All (RoutinesFit count) parts.now }
+    requires fits { All (PartCodeFits count) parts.now }
     ensures states { IfOk result (λ states. states ≡ states_from count 1 names.now parts.now) }
     ensures routines { OnOk result (routines.new.items ≡ routines.old.items ++ routines_of count parts.now) }
 {

@@ -2,7 +2,7 @@
 
 ghost use Rattle.std.specs.Prelude.{◌≡◌, ◌<◌, ◌≤◌, ◌^◌, ◌++◌, true, slice_set, IfOk, OnOk};
 ghost use Rattle.ifs_policy.specs.Meaning.{mentioned, mentioned_in};
-ghost use Rattle.ifs_gen.specs.inner.Marks.{marked, statement_tests, test_where};
+ghost use Rattle.ifs_gen.specs.inner.Marks.{with_marks, statement_tests, test_where};
 ghost use Rattle.ifs_gen.specs.PlainCode.{holding};
 
 use ifs_base::{CommandId, StateId, TestId, limits};
@@ -54,7 +54,7 @@ fn mark(test: TestId, marks: &mut [bool])
 
 /// Marks the tests that a condition mentions.
 fn mark_condition(condition: &Condition<Single>, marks: &mut [bool])
-    ensures { marks.new ≡ marked marks.old (mentioned_in condition.now) }
+    ensures { marks.new ≡ with_marks marks.old (mentioned_in condition.now) }
 {
     match condition.node() {
         Node::Leaf(Single::LinkIs(_, _)) => {}
@@ -73,7 +73,7 @@ fn mark_condition(condition: &Condition<Single>, marks: &mut [bool])
 /// Marks the tests that a block mentions.
 #[cycle(mark_block)]
 fn mark_block(block: &PolicyBlock, marks: &mut [bool])
-    ensures { marks.new ≡ marked marks.old (mentioned block.now) }
+    ensures { marks.new ≡ with_marks marks.old (mentioned block.now) }
 {
     for statement in block.statements() {
         mark_statement(statement, marks);
@@ -83,7 +83,7 @@ fn mark_block(block: &PolicyBlock, marks: &mut [bool])
 /// Marks the tests that a statement mentions.
 #[cycle(mark_block)]
 fn mark_statement(statement: &Statement<Single, CommandId, StateId>, marks: &mut [bool])
-    ensures { marks.new ≡ marked marks.old (statement_tests statement.now) }
+    ensures { marks.new ≡ with_marks marks.old (statement_tests statement.now) }
 {
     match statement {
         Statement::Run(_) | Statement::SetState(_) => {}
@@ -94,7 +94,7 @@ fn mark_statement(statement: &Statement<Single, CommandId, StateId>, marks: &mut
 /// Marks the tests that a condition mentions, and those of the block under it.
 #[cycle(mark_block)]
 fn mark_if(condition: &Condition<Single>, inner: &PolicyBlock, marks: &mut [bool])
-    ensures { marks.new ≡ marked (marked marks.old (mentioned_in condition.now)) (mentioned inner.now) }
+    ensures { marks.new ≡ with_marks (with_marks marks.old (mentioned_in condition.now)) (mentioned inner.now) }
 {
     mark_condition(condition, marks);
     mark_block(inner, marks);

@@ -13,10 +13,10 @@ use Rattle.ifs_gen.specs.Refused.{AreWithin}
 use Rattle.ifs_gen.specs.inner.Measures.{capped}
 
 -- One number of a routine's measure.
-abbrev pub number_of : Amount → BlockMeasure → ℕ
-number_of Size m = m.size
-number_of Height m = m.height
-number_of Runs m = m.runs
+abbrev pub amount_in : Amount → BlockMeasure → ℕ
+amount_in Size m = m.size
+amount_in Height m = m.height
+amount_in Runs m = m.runs
 
 -- What the routines of a part come to, in a policy of so many tests.
 abbrev pub measured : ℕ → Part → PartMeasure
@@ -28,20 +28,20 @@ measured count part = record {
 -- One number of all routines: of each part its init's, then its body's.
 abbrev pub numbers_of : Amount → List PartMeasure → List ℕ
 numbers_of amount [] = []
-numbers_of amount (m ∷ ms) = number_of amount m.init ∷ number_of amount m.body ∷ numbers_of amount ms
+numbers_of amount (m ∷ ms) = amount_in amount m.init ∷ amount_in amount m.body ∷ numbers_of amount ms
 
 -- The greatest number of inits, and of bodies.
 abbrev pub most_of_inits : Amount → List PartMeasure → ℕ
-most_of_inits amount ms = greatest (λ (m : PartMeasure). number_of amount m.init) ms
+most_of_inits amount ms = greatest (λ (m : PartMeasure). amount_in amount m.init) ms
 
 abbrev pub most_of_bodies : Amount → List PartMeasure → ℕ
-most_of_bodies amount ms = greatest (λ (m : PartMeasure). number_of amount m.body) ms
+most_of_bodies amount ms = greatest (λ (m : PartMeasure). amount_in amount m.body) ms
 
 -- What one event may come to, of the always part, the states' parts and the initial state.
 abbrev pub event_of : Amount → PartMeasure → List PartMeasure → ℕ → ℕ
 event_of amount always states initial =
-    max (number_of amount always.body + most_of_bodies amount states + most_of_inits amount states)
-    (number_of amount always.init + number_in (λ (m : PartMeasure). number_of amount m.init) (slice_get states initial))
+    max (amount_in amount always.body + most_of_bodies amount states + most_of_inits amount states)
+    (amount_in amount always.init + number_in (λ (m : PartMeasure). amount_in amount m.init) (slice_get states initial))
 
 -- That of the measures of all parts, the always part's first.
 abbrev pub event_in : Amount → List PartMeasure → ℕ → ℕ

@@ -9,9 +9,9 @@ use Rattle.ifs_policy.specs.Meaning.{mentioned}
 use Rattle.ifs_gen.specs.Trees.{Single, Done}
 
 -- The marks after these tests are marked; one that has no place changes nothing.
-abbrev pub marked : List Bool → List TestId → List Bool
-marked marks [] = marks
-marked marks (test ∷ tests) = marked (slice_set marks test.0 true) tests
+abbrev pub with_marks : List Bool → List TestId → List Bool
+with_marks marks [] = marks
+with_marks marks (test ∷ tests) = with_marks (slice_set marks test.0 true) tests
 
 -- The tests that a statement mentions.
 abbrev pub statement_tests : Statement Single CommandId StateId → List TestId

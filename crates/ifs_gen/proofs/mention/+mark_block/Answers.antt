@@ -1,7 +1,7 @@
 -- One statement more, and the block at its end.
 use Rattle.std.proofs.Common.{ap, sym, refl, ◌∙◌, arith}
 use Rattle.ifs_policy.specs.Meaning.{mentioned, mentioned_in}
-use Rattle.ifs_gen.specs.inner.Marks.{marked, statement_tests}
+use Rattle.ifs_gen.specs.inner.Marks.{with_marks, statement_tests}
 use Rattle.ifs_gen.proofs.Chains.{item_within}
 use Rattle.ifs_gen.proofs.Marking.{marked_more, marked_end, statements_mention, if_marked}
 use Rattle.ifs_gen.proofs.mention.+mark_block.Goals as goal
@@ -21,8 +21,8 @@ pub mark_block-returns : goal.mark_block-returns
 mark_block-returns t c =
     let items = c.statements-statement-items.result.now in
     marked_end statement_tests c.args.marks.now c.loop-statement.marks items c.loop-statement.statement-index c.loop-statement-test.false c.loop-statement.invariant
-    ∙ ap (marked c.args.marks.now) (sym (ap mentioned c.statements-statement-items.ensures.value ∙ statements_mention items))
+    ∙ ap (with_marks c.args.marks.now) (sym (ap mentioned c.statements-statement-items.ensures.value ∙ statements_mention items))
 
 pub mark_statement-returns-in-If : goal.mark_statement-returns-in-If
 mark_statement-returns-in-If t c =
-    if_marked c.args.marks.now (marked c.args.marks.now (mentioned_in c.in-If.condition)) c.mark_if.new.marks c.args.statement.now c.in-If.condition c.in-If.inner c.in-If.is refl c.mark_if.ensures
+    if_marked c.args.marks.now (with_marks c.args.marks.now (mentioned_in c.in-If.condition)) c.mark_if.new.marks c.args.statement.now c.in-If.condition c.in-If.inner c.in-If.is refl c.mark_if.ensures
