@@ -1,5 +1,5 @@
 -- Why a text has no policy, from what each step refuses.
-use Rattle.std.proofs.Common.{◌≡◌, ◌≢◌, ℕ, List, refl, sym, subst, ◌∙◌, Err}
+use Rattle.std.proofs.Common.{◌≡◌, ◌≢◌, ℕ, List, refl, sym, ap, subst, ◌∙◌, Result, Ok, Err}
 use Rattle.ifs_lex.specs.declared.token.Token.{Token}
 use Rattle.ifs_lex.specs.Expansion as lex
 use Rattle.ifs_lex.specs.declared.fault.LexFault.{LexFault}
@@ -27,6 +27,22 @@ OneTree = (tokens : List Token) (file other : File) → Says tokens file → Say
 -- What a refusal says, if it is for another cause than memory.
 abbrev pub Refuses : List ℕ → List (List ℕ × List ℕ) → PolicyFault → Type 0
 Refuses text defs fault = fault ≢ Memory → IsTextRefused text defs fault
+
+-- What a call answers: tokens,
+abbrev spelled : {A : Type 0} → A → Result A LexFault
+spelled tokens = Ok tokens
+
+-- or a fault.
+abbrev unspelled : (A : Type 0) → LexFault → Result A LexFault
+unspelled A fault = Err fault
+
+-- One fault is one refusal.
+pub same_refusal : {A : Type 0} (told fault : LexFault) → unspelled A told ≡ Err fault → of_text told ≡ of_text fault
+same_refusal told fault e = let same : told ≡ fault = cc in ap of_text same
+
+-- Where tokens are answered no fault was certain.
+pub not_certain : {A B : Type 0} (tokens : A) (fault : LexFault) → spelled tokens ≡ Err fault → B
+not_certain tokens fault e = absurd (cc)
 
 module _ (text : List ℕ) (defs : List (List ℕ × List ℕ)) where
   no_tokens : (fault : LexFault) → lex.tokens_of text defs ≡ Err fault → HasNoPolicy text defs

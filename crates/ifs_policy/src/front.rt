@@ -1,6 +1,8 @@
 //! From a text to its policy: its tokens, their tree and its names.
 
-ghost use Rattle.std.specs.Prelude.{◌≡◌, ◌≢◌, IfOk, IfErr, map};
+ghost use Rattle.std.specs.Prelude.{◌≡◌, ◌≢◌, Some, Err, IfOk, IfErr, map};
+ghost use Rattle.ifs_lex.specs.declared.fault.LexFault.{LexFault};
+ghost use Rattle.ifs_lex.specs.AtOnce.{certain_at_once};
 ghost use Rattle.ifs_policy.specs.Texts.{of_names, of_text, of_tokens, HasPolicy, IsTextRefused, SaysFile};
 ghost use Rattle.ifs_policy.specs.declared.front.PolicyFault.TheVariants.{Memory};
 
@@ -75,7 +77,8 @@ pub struct PolicyText {
 /// name the first holds.
 ///
 /// A refusal is the fault of the first step that refuses: of the tokens, of the grammar and of the names,
-/// each with its line. P0, for want of memory, may come in place of another answer.
+/// each with its line. P0, for want of memory, may come in place of another answer, but not of a fault of the text
+/// that is certain before anything is kept.
 pub fn policy_of<'a>(
     alloc: Global,
     text: &'a str,
@@ -87,6 +90,8 @@ pub fn policy_of<'a>(
     ensures tree { IfOk result (λ it. SaysFile text.now (map (λ d. (d.0.now, d.1.now)) defs.now) it.tree) }
     // A refusal but for memory comes only where the text has no policy, with the fault that stands first.
     ensures refused { IfErr result (λ fault. fault ≢ Memory → IsTextRefused text.now (map (λ d. (d.0.now, d.1.now)) defs.now) fault) }
+    // What is certain of the text before anything is kept is told, and no want of memory in its place.
+    ensures at_once { (fault : LexFault) → certain_at_once text.now (map (λ d. (d.0.now, d.1.now)) defs.now) ≡ Some fault → result ≡ Err (of_text fault) }
 {
     one_list();
     one_tree();

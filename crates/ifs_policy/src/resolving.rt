@@ -1,8 +1,8 @@
 //! From the tree of a text to its policy.
 
-ghost use Rattle.std.specs.Prelude.{◌≡◌, ◌≢◌, ◌↔◌, ℕ, IsTrue, IfOk, IfErr, map};
+ghost use Rattle.std.specs.Prelude.{◌≡◌, ◌≢◌, ◌↔◌, ℕ, IsTrue, IfOk, IfErr, false, Err, map};
 ghost use Rattle.std.specs.List.{list_any};
-ghost use Rattle.ifs_policy.specs.declared.fault.ResolveFault.TheVariants.{Memory};
+ghost use Rattle.ifs_policy.specs.declared.fault.ResolveFault.TheVariants.{Memory, NoState};
 ghost use Rattle.ifs_policy.specs.declared.policy.PolicyParts.{PolicyParts};
 ghost use Rattle.ifs_policy.specs.Mentions.{mentions_of};
 ghost use Rattle.ifs_policy.specs.Faults.{IsTreeRefused, is_state};
@@ -22,7 +22,8 @@ use std::alloc::{AllocError, Global};
 
 /// The policy of a tree, or the fault that stands first, with its line: that no state is defined;
 /// else the first mention that breaks a rule, with the lowest rule that it breaks; else the first
-/// mention of a state that is not defined. Want of memory has no place in this order.
+/// mention of a state that is not defined. Want of memory has no place in this order, but that no state is defined is told
+/// before anything is kept.
 pub fn resolve(alloc: Global, tree: &Tree) -> Result<Policy, ResolveFault>
     // What is answered is the tree's policy.
     ensures policy { IfOk result (λ policy. Resolves tree.now.items policy) }
@@ -30,6 +31,8 @@ pub fn resolve(alloc: Global, tree: &Tree) -> Result<Policy, ResolveFault>
     ensures refused { IfErr result (λ fault. fault ≢ Memory → IsTreeRefused tree.now.items fault) }
     // and comes only where the tree has no policy.
     ensures none { IfErr result (λ fault. fault ≢ Memory → (policy : PolicyParts) → ¬ Resolves tree.now.items policy) }
+    // That no state is defined is told, and no want of memory in its place.
+    ensures at_once { list_any is_state tree.now.items ≡ false → result ≡ Err (NoState 1) }
 {
     let items = tree.items();
     if !has_state(items) {

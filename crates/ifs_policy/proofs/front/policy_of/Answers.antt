@@ -1,5 +1,5 @@
 -- What each step refuses, said of the text.
-use Rattle.std.proofs.Common.{List, map, sym, subst}
+use Rattle.std.proofs.Common.{List, map, sym, subst, ap, ◌∙◌, Err}
 use Rattle.ifs_lex.specs.declared.token.Token.{Token}
 use Rattle.ifs_parse.specs.Grammar.{Says, StopsAt}
 use Rattle.ifs_policy.proofs.Unresolved as texts
@@ -25,3 +25,15 @@ returns-clause-refused c =
     (texts.refused_names c.args.text.now defs c.one_list.ensures c.in-Ok.tokens.items c.in-Ok.ensures.found c.one_tree.ensures c.in-Ok-parse.tree
     (subst (λ (ts : List Token). Says ts c.in-Ok-parse.tree) c.as_slice.ensures.value c.in-Ok-parse.ensures.found) c.in-Err-resolve.fault c.in-Err-resolve.ensures.refused
     c.in-Err-resolve.ensures.none)
+
+pub returns-in-Err-clause-at_once : goal.returns-in-Err-clause-at_once
+returns-in-Err-clause-at_once c = λ fault h. ap (λ f. Err f) (c.from.ensures ∙ texts.same_refusal c.in-Err.fault fault (c.in-Err.ensures.at_once fault h))
+
+pub returns-in-Err-parse-clause-at_once : goal.returns-in-Err-parse-clause-at_once
+returns-in-Err-parse-clause-at_once c = λ fault h. texts.not_certain c.in-Ok.tokens fault (c.in-Ok.ensures.at_once fault h)
+
+pub returns-in-Ok-resolve-clause-at_once : goal.returns-in-Ok-resolve-clause-at_once
+returns-in-Ok-resolve-clause-at_once c = λ fault h. texts.not_certain c.in-Ok.tokens fault (c.in-Ok.ensures.at_once fault h)
+
+pub returns-clause-at_once : goal.returns-clause-at_once
+returns-clause-at_once c = λ fault h. texts.not_certain c.in-Ok.tokens fault (c.in-Ok.ensures.at_once fault h)
