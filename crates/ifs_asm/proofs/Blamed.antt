@@ -17,7 +17,7 @@ use Rattle.ifs_asm.specs.declared.forms.Formed.{Formed}
 use Rattle.ifs_asm.specs.declared.line.Line.{Line}
 use Rattle.ifs_asm.specs.declared.line.Line.TheVariants as lines
 use Rattle.ifs_asm.specs.Texts.{front_lines, routine_lines}
-use Rattle.ifs_asm.specs.Refused.{EachBreaks, StandsIn, Repeats, IsLong, IsOver, IsOneTooMany, IsOutOfPlace}
+use Rattle.ifs_asm.specs.Refused.{EachBreaks, IsAmong, Repeats, IsLong, IsOver, IsOneTooMany, IsOutOfPlace}
 use Rattle.ifs_asm.specs.inner.Forms.{formed}
 use Rattle.ifs_asm.specs.inner.Building.{Built, listed_routine, current_len, parts_of}
 use Rattle.ifs_asm.specs.inner.Building.{lines_said, has_name, is_full, line_in}
@@ -30,28 +30,28 @@ use Rattle.ifs_asm.proofs.TextLaws.{line_in_found, line_in_again}
 
 -- ---- a line among others
 
-in_left : (xs ys : List Line) (l : Line) → StandsIn xs l → StandsIn (xs ++ ys) l
+in_left : (xs ys : List Line) (l : Line) → IsAmong xs l → IsAmong (xs ++ ys) l
 in_left xs ys l s = record { before = s.before; after = s.after ++ ys; whole = ap (λ (ls : List Line). ls ++ ys) s.whole ∙ append_assoc s.before (l ∷ s.after) ys }
 
-in_right : (xs ys : List Line) (l : Line) → StandsIn ys l → StandsIn (xs ++ ys) l
+in_right : (xs ys : List Line) (l : Line) → IsAmong ys l → IsAmong (xs ++ ys) l
 in_right xs ys l s = record { before = xs ++ s.before; after = s.after; whole = ap (λ (ls : List Line). xs ++ ls) s.whole ∙ sym (append_assoc xs s.before (l ∷ s.after)) }
 
-in_more : (x : Line) (xs : List Line) (l : Line) → StandsIn xs l → StandsIn (x ∷ xs) l
+in_more : (x : Line) (xs : List Line) (l : Line) → IsAmong xs l → IsAmong (x ∷ xs) l
 in_more x xs l s = record { before = x ∷ s.before; after = s.after; whole = ap (λ (ls : List Line). x ∷ ls) s.whole }
 
-name_case : (name x : List ℕ) (xs : List (List ℕ)) (b : Bool) → bytes_eq x name ≡ b → (b || stands_in name xs) ≡ true → (stands_in name xs ≡ true → StandsIn (map lines.Interface xs) (lines.Interface name))
-    → StandsIn (map lines.Interface (x ∷ xs)) (lines.Interface name)
+name_case : (name x : List ℕ) (xs : List (List ℕ)) (b : Bool) → bytes_eq x name ≡ b → (b || stands_in name xs) ≡ true → (stands_in name xs ≡ true → IsAmong (map lines.Interface xs) (lines.Interface name))
+    → IsAmong (map lines.Interface (x ∷ xs)) (lines.Interface name)
 name_case name x xs true same h ih = record { before = []; after = map lines.Interface xs; whole = ap (λ (n : List ℕ). lines.Interface n ∷ map lines.Interface xs) (same_word x name same) }
 name_case name x xs false same h ih = in_more (lines.Interface x) (map lines.Interface xs) (lines.Interface name) (ih h)
 
-interface_in : (name : List ℕ) (xs : List (List ℕ)) → stands_in name xs ≡ true → StandsIn (map lines.Interface xs) (lines.Interface name)
+interface_in : (name : List ℕ) (xs : List (List ℕ)) → stands_in name xs ≡ true → IsAmong (map lines.Interface xs) (lines.Interface name)
 interface_in name [] h = absurd cc
 interface_in name (x ∷ xs) h = name_case name x xs (bytes_eq x name) refl h (interface_in name xs)
 
 -- A state of a name.
 record Named (xs : List StateSpec) (name : List ℕ) : Type 0 where
   handlers : Handlers
-  stands : StandsIn (map lines.State xs) (lines.State (record { name = name; handlers = handlers }))
+  stands : IsAmong (map lines.State xs) (lines.State (record { name = name; handlers = handlers }))
 
 state_case : (name : List ℕ) (x : StateSpec) (xs : List StateSpec) (b : Bool) → bytes_eq x.name name ≡ b → (b || stands_in name (names_of xs)) ≡ true → (stands_in name (names_of xs) ≡ true → Named xs name) → Named (x ∷ xs) name
 state_case name x xs true same h ih = record {

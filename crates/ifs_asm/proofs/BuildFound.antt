@@ -15,7 +15,7 @@ use Rattle.ifs_image.specs.declared.parts.ImageParts.{ImageParts}
 use Rattle.ifs_asm.specs.declared.line.Line.{Line}
 use Rattle.ifs_asm.specs.declared.line.Line.TheVariants as lines
 use Rattle.ifs_asm.specs.Texts.{front_lines, routine_lines, lines_of}
-use Rattle.ifs_asm.specs.Spellings.{Says}
+use Rattle.ifs_asm.specs.Spellings.{SaysLine}
 use Rattle.ifs_asm.specs.inner.Building.{Built, listed_routine, parts_of, lines_said, has_name, is_full}
 use Rattle.ifs_asm.specs.inner.Building.{is_in_order, with_line, with_op, step, line_in, built_by, nothing, is_none}
 use Rattle.ifs_asm.specs.Refused.{LineFits}
@@ -212,7 +212,7 @@ step_said b c l s h =
 -- What lines said.
 pub record AreSaid (b c : Built) (spoken : List (List ℕ)) : Type 0 where
   pub more : List Line
-  pub says : AllZip Says spoken more
+  pub says : AllZip SaysLine spoken more
   pub fit : AllByRecursion LineFits more
   pub sound : Sound c
   pub lines : lines_said c ≡ lines_said b ++ more
@@ -235,7 +235,7 @@ built_said b c (bytes ∷ others) s h =
 
 -- An image that was built.
 pub record IsSpoken (p : ImageParts) (spoken : List (List ℕ)) : Type 0 where
-  pub says : AllZip Says spoken (lines_of p)
+  pub says : AllZip SaysLine spoken (lines_of p)
   pub fit : AllByRecursion LineFits (lines_of p)
 
 some_state : (s : List StateSpec) → s ≡ [] → 1 ≤ length s → ⊥
@@ -256,4 +256,4 @@ image_said c spoken h some =
     let a = built_said nothing c spoken nothing_sound h in
     let at : c.front ≡ 7 = front_is c a.sound some in
     let same : a.more ≡ lines_of (parts_of c) = sym a.lines ∙ full_front c at in
-    record { says = subst (AllZip Says spoken) same a.says; fit = subst (AllByRecursion LineFits) same a.fit }
+    record { says = subst (AllZip SaysLine spoken) same a.says; fit = subst (AllByRecursion LineFits) same a.fit }

@@ -12,7 +12,7 @@ use Rattle.ifs_image.specs.declared.parts.StateSpec.{StateSpec}
 use Rattle.ifs_image.specs.Limits.{HandlersInRange, RoutineFits}
 use Rattle.ifs_asm.specs.declared.line.Line.{Line}
 use Rattle.ifs_asm.specs.declared.line.Line.TheVariants as lines
-use Rattle.ifs_asm.specs.Refused.{GoOn, speaking}
+use Rattle.ifs_asm.specs.Refused.{LinesGoOn, speaking}
 use Rattle.ifs_asm.specs.inner.Building.{Built, parts_of, lines_said, with_line, step, built_by, built_of, nothing}
 use Rattle.ifs_asm.specs.Refused.{TextGood, LineFits}
 use Rattle.ifs_asm.proofs.TextLaws.{LineWritten, bare, lines_say}
@@ -123,7 +123,7 @@ more_said b c (l ∷ ls) s h =
 
 -- Lines go on from what they built.
 pub record GoesOn (done : List (List ℕ)) (b : Built) : Type 0 where
-  pub go_on : GoOn done
+  pub go_on : LinesGoOn done
   pub said_is : lines_said b ≡ go_on.said
 
 pub goes_on : (done : List (List ℕ)) (b : Built) → built_by nothing (speaking done) ≡ Some b → GoesOn done b
@@ -156,7 +156,7 @@ front_case : (o : Option Built) (after : Built) (ls : List Line) → option_and_
 front_case None after ls h e = none-some after h
 front_case (Some b) after ls h e = absurd cc
 
-pub never_goes_on : (lines : List (List ℕ)) → built_by nothing (speaking lines) ≡ None → GoOn lines → ⊥
+pub never_goes_on : (lines : List (List ℕ)) → built_by nothing (speaking lines) ≡ None → LinesGoOn lines → ⊥
 never_goes_on lines none g =
     let p = g.begin.image in
     let built = image_built p g.begin.fits (recursion_from_All RoutineFits p.routines g.begin.fits.routines.each) in

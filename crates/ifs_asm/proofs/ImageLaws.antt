@@ -21,7 +21,7 @@ use Rattle.ifs_asm.specs.declared.fault.AsmFault.TheVariants.{Unknown, OutOfRang
 use Rattle.ifs_asm.specs.declared.line.Line.{Line}
 use Rattle.ifs_asm.specs.declared.line.Line.TheVariants as lines
 use Rattle.ifs_asm.specs.Texts.{words_of, op_words, front_lines, routine_lines, lines_of, canonical}
-use Rattle.ifs_asm.specs.Spellings.{Says, spoken, Spells}
+use Rattle.ifs_asm.specs.Spellings.{SaysLine, spoken, TextSpells}
 use Rattle.ifs_asm.specs.inner.Building.{Built, parts_of, step, line_in, built_by, built_of, nothing}
 use Rattle.ifs_asm.proofs.Bytes.{each_append, each_weaker}
 use Rattle.ifs_asm.specs.Refused.{LineFits, TextGood}
@@ -223,7 +223,7 @@ same_case (Some next) others ls ih = ih next
 same_step : (b : Built) (bytes : List ℕ) (l : Line) (others : List (List ℕ)) (ls : List Line) → line_in bytes ≡ Some l → ((next : Built) → built_by next others ≡ built_of next ls) → built_by b (bytes ∷ others) ≡ built_of b (l ∷ ls)
 same_step b bytes l others ls is ih = rw is (same_case (step b l) others ls ih)
 
-pub built_same : (spoken : List (List ℕ)) (ls : List Line) (b : Built) → AllZip Says spoken ls → AllByRecursion LineFits ls → built_by b spoken ≡ built_of b ls
+pub built_same : (spoken : List (List ℕ)) (ls : List Line) (b : Built) → AllZip SaysLine spoken ls → AllByRecursion LineFits ls → built_by b spoken ≡ built_of b ls
 built_same [] [] b z fit = refl
 built_same [] (l ∷ ls) b z fit = absurd z
 built_same (x ∷ xs) [] b z fit = absurd z
@@ -235,24 +235,24 @@ pub record IsRead (text : List ℕ) (p : ImageParts) : Type 0 where
   pub built : built_by nothing (spoken text) ≡ Some after
   pub parts : parts_of after ≡ p
 
-pub read_again : (text : List ℕ) (p : ImageParts) → Spells text p → IsRead text p
+pub read_again : (text : List ℕ) (p : ImageParts) → TextSpells text p → IsRead text p
 read_again text p s =
     let b = image_built p s.fits (recursion_from_All RoutineFits p.routines s.fits.routines.each) in
     record { after = b.after; built = built_same (spoken text) (lines_of p) nothing s.says (lines_fit p s.fits s.in_range) ∙ b.built; parts = b.parts }
 
 -- What is built of a text, and fits, is spelled by it.
-pub read_found : (text : List ℕ) (b : Built) → built_by nothing (spoken text) ≡ Some b → Fits (parts_of b) → Spells text (parts_of b)
+pub read_found : (text : List ℕ) (b : Built) → built_by nothing (spoken text) ≡ Some b → Fits (parts_of b) → TextSpells text (parts_of b)
 read_found text b h f =
     let s = image_said b (spoken text) h f.counts.some_state in
     record { fits = f; in_range = range_of (parts_of b) s.fit; says = s.says }
 
 -- Nothing is spelled where nothing is built, nor where what is built does not fit.
-pub read_none : (text : List ℕ) (p : ImageParts) → built_by nothing (spoken text) ≡ None → Spells text p → ⊥
+pub read_none : (text : List ℕ) (p : ImageParts) → built_by nothing (spoken text) ≡ None → TextSpells text p → ⊥
 read_none text p h s =
     let r = read_again text p s in
     none-some r.after (sym h ∙ r.built)
 
-pub read_unfit : (text : List ℕ) (b : Built) (p : ImageParts) → built_by nothing (spoken text) ≡ Some b → (Fits (parts_of b) → ⊥) → Spells text p → ⊥
+pub read_unfit : (text : List ℕ) (b : Built) (p : ImageParts) → built_by nothing (spoken text) ≡ Some b → (Fits (parts_of b) → ⊥) → TextSpells text p → ⊥
 read_unfit text b p h unfit s =
     let r = read_again text p s in
     let same : b ≡ r.after = same_Some b r.after (sym h ∙ r.built) in
@@ -260,20 +260,20 @@ read_unfit text b p h unfit s =
 
 -- ---- the laws
 
-pub one_image : (text : List ℕ) (p q : ImageParts) → Spells text p → Spells text q → p ≡ q
+pub one_image : (text : List ℕ) (p q : ImageParts) → TextSpells text p → TextSpells text q → p ≡ q
 one_image text p q a b =
     let first = read_again text p a in
     let second = read_again text q b in
     sym first.parts ∙ ap parts_of (same_Some first.after second.after (sym first.built ∙ second.built)) ∙ second.parts
 
-pub canonical_spells : (p : ImageParts) → Fits p → InRange p → Spells (canonical p) p
+pub canonical_spells : (p : ImageParts) → Fits p → InRange p → TextSpells (canonical p) p
 unfolding canonical
 canonical_spells p f r =
     let w = lines_written p f r in
-    record { fits = f; in_range = r; says = subst (λ (t : List (List ℕ)). AllZip Says t (lines_of p)) (sym (spoken_lines (lines_of p) w)) (lines_say (lines_of p) w) }
+    record { fits = f; in_range = r; says = subst (λ (t : List (List ℕ)). AllZip SaysLine t (lines_of p)) (sym (spoken_lines (lines_of p) w)) (lines_say (lines_of p) w) }
 
 -- What is read of a text that spells an image is that image, or there is no memory.
-pub same_again : (r : Result ImageParts AsmFault) (text : List ℕ) (p : ImageParts) → Spells text p → IfOk r (λ image. Spells text image) → IfOk r (λ again. again ≡ p)
+pub same_again : (r : Result ImageParts AsmFault) (text : List ℕ) (p : ImageParts) → TextSpells text p → IfOk r (λ image. TextSpells text image) → IfOk r (λ again. again ≡ p)
 same_again (Ok q) text p s h = one_image text q p h s
 same_again (Err fault) text p s h = tt
 
@@ -283,6 +283,6 @@ only_memory (OutOfRange n) h = absurd (h (λ e. absurd cc))
 only_memory (OutOfOrder n) h = absurd (h (λ e. absurd cc))
 only_memory Memory h = refl
 
-pub only_want : (r : Result ImageParts AsmFault) (text : List ℕ) (p : ImageParts) → Spells text p → IfErr r (λ fault. fault ≢ Memory → (image : ImageParts) → Spells text image → ⊥) → IfErr r (λ fault. fault ≡ Memory)
+pub only_want : (r : Result ImageParts AsmFault) (text : List ℕ) (p : ImageParts) → TextSpells text p → IfErr r (λ fault. fault ≢ Memory → (image : ImageParts) → TextSpells text image → ⊥) → IfErr r (λ fault. fault ≡ Memory)
 only_want (Ok q) text p s h = tt
 only_want (Err fault) text p s h = only_memory fault (λ other. h other p s)

@@ -1,26 +1,25 @@
 -- A line that the code finds new and finds room for repeats no name and passes no count.
 use Rattle.std.proofs.Common.{◌≡◌, ℕ, zero, suc, ◌+◌, ◌<◌, ◌≤◌, Bool, true, false, List, [], ◌∷◌, ◌++◌}
-use Rattle.std.proofs.Common.{length, map, take, Option, Some, None, refl, sym, ap, subst, ◌∙◌, arith, append_assoc}
+use Rattle.std.proofs.Common.{length, map, take, Option, Some, None, refl, sym, ap, ◌∙◌, arith}
 use Rattle.std.proofs.Common.{length-append, inl, inr}
 use Rattle.std.specs.Prelude.{◌||◌, not, nat_lt}
 use Rattle.std.specs.List.{flat_map, AllByRecursion}
 use Rattle.std.specs.Str.{bytes_eq}
 use Rattle.std.proofs.lemmas.Bool.{or_parts}
 use Rattle.std.proofs.lemmas.Bool.Decides.{nat_tests}
-use Rattle.std.proofs.lemmas.List.{append-nil, map-append, length-map}
+use Rattle.std.proofs.lemmas.List.{append-nil, map-append}
 use Rattle.std.proofs.lemmas.List.Concat.{flat_map-append}
 use Rattle.std.proofs.lemmas.List.Sums.{sum_by-append}
 use Rattle.ifs_base.specs.declared.op.Op.{Op}
 use Rattle.ifs_image.specs.declared.parts.TestSpec.{TestSpec}
 use Rattle.ifs_image.specs.declared.parts.StateSpec.{StateSpec}
 use Rattle.ifs_image.specs.declared.parts.Routine.{Routine}
-use Rattle.ifs_image.specs.declared.parts.ImageParts.{ImageParts}
 use Rattle.ifs_image.specs.Limits.{names_of, instructions}
 use Rattle.ifs_image.specs.Reading.{stands_in}
 use Rattle.ifs_asm.specs.declared.line.Line.{Line}
 use Rattle.ifs_asm.specs.declared.line.Line.TheVariants as lines
 use Rattle.ifs_asm.specs.Texts.{front_lines, routine_lines}
-use Rattle.ifs_asm.specs.Refused.{StandsIn, Repeats, HasMany, EndsWith, IsLong, IsOver}
+use Rattle.ifs_asm.specs.Refused.{IsAmong, Repeats, HasMany, EndsWith, IsLong, IsOver}
 use Rattle.ifs_asm.specs.inner.Building.{Built, listed_routine, current_len, parts_of, lines_said, has_name, is_full}
 use Rattle.ifs_asm.proofs.Bytes.{same_itself}
 use Rattle.ifs_asm.proofs.BuildFits.{IsWithin}
@@ -172,7 +171,7 @@ there name [] ys = rw (same_itself name) refl
 there name (x ∷ xs) ys = there_case (bytes_eq x name) (stands_in name (xs ++ name ∷ ys)) (there name xs ys)
 
 -- What is picked of a line that stands among others.
-stands_picked : {A : Type 0} (pick : Line → List A) (said : List Line) (line : Line) (x : A) → pick line ≡ x ∷ [] → (s : StandsIn said line) → flat_map pick said ≡ flat_map pick s.before ++ x ∷ flat_map pick s.after
+stands_picked : {A : Type 0} (pick : Line → List A) (said : List Line) (line : Line) (x : A) → pick line ≡ x ∷ [] → (s : IsAmong said line) → flat_map pick said ≡ flat_map pick s.before ++ x ∷ flat_map pick s.after
 stands_picked {A} pick said line x one s =
     ap (flat_map pick) s.whole ∙ flat_map-append pick s.before (line ∷ s.after)
     ∙ ap (λ (zs : List A). flat_map pick s.before ++ (zs ++ flat_map pick s.after)) one

@@ -7,7 +7,7 @@ use Rattle.std.proofs.lemmas.Bool.{and_parts, cond_both, eqb-true, ltb-true}
 use Rattle.std.proofs.lemmas.Bool.Decides.{nat_tests}
 use Rattle.std.proofs.lemmas.List.Elements.{All-from_recursion}
 use Rattle.ifs_base.specs.Words.{hex_digit, quoted_byte, quoted}
-use Rattle.ifs_asm.specs.Spellings.{is_plain, StandsFor, itself, escaped, hexadecimal, StandFor, IsQuoted}
+use Rattle.ifs_asm.specs.Spellings.{is_plain, StandsForByte, itself, escaped, hexadecimal, StandFor, IsQuoted}
 use Rattle.ifs_asm.specs.inner.Words.{Inside, Quote, Start, Within, Backslash, High, Low, Done, Turn, Goes, Gives}
 use Rattle.ifs_asm.specs.inner.Words.{Stops, hex_value, high_turn, low_turn, turn, onto, after_turn, text_from}
 use Rattle.ifs_asm.proofs.Cutting.{runs, IsOneWord}
@@ -47,7 +47,7 @@ read_digits h l rest hh hl some =
     let over : nat_lt 0 (h + l) ≡ true = grind (arith, nat_tests) in
     rw (first, second, below, over) refl
 
-read_byte : (b : ℕ) (front rest : List ℕ) → StandsFor b front → text_from (front ++ rest) Within ≡ onto b (text_from rest Within)
+read_byte : (b : ℕ) (front rest : List ℕ) → StandsForByte b front → text_from (front ++ rest) Within ≡ onto b (text_from rest Within)
 read_byte b front rest (itself e whole) = rw whole (read_plain b rest e)
 read_byte b front rest (escaped e whole) = rw whole (read_escaped b rest e)
 read_byte b front rest (hexadecimal some below whole) =
@@ -72,7 +72,7 @@ pub record Ended (text bytes : List ℕ) : Type 0 where
   pub stand : StandFor text inside
   pub whole : bytes ≡ inside ++ 34 ∷ []
 
-one_more : (b : ℕ) (front rest text bytes : List ℕ) → StandsFor b front → bytes ≡ front ++ rest → Ended text rest → Ended (b ∷ text) bytes
+one_more : (b : ℕ) (front rest text bytes : List ℕ) → StandsForByte b front → bytes ≡ front ++ rest → Ended text rest → Ended (b ∷ text) bytes
 one_more b front rest text bytes stands whole e = record {
   inside = front ++ e.inside;
   stand = record { front = front; rest = e.inside; stands = stands; others = e.stand; whole = refl };
@@ -142,7 +142,7 @@ high_found b bs text (Some d) ih e =
     let v = value_digit b d e in
     λ h. subst (λ (x : ℕ). Ended text (92 ∷ 120 ∷ x ∷ bs)) (sym v.1) (ih (Low d) text h)
 
-low_stands : (high d b : ℕ) → high < 8 → d < 16 → b ≡ hex_digit d → 0 < high + d → StandsFor (16 * high + d) (92 ∷ 120 ∷ hex_digit high ∷ b ∷ [])
+low_stands : (high d b : ℕ) → high < 8 → d < 16 → b ≡ hex_digit d → 0 < high + d → StandsForByte (16 * high + d) (92 ∷ 120 ∷ hex_digit high ∷ b ∷ [])
 low_stands high d b hh hd is some =
     let first : (16 * high + d) / 16 ≡ high = omega arith in
     let second : (16 * high + d) % 16 ≡ d = omega arith in
@@ -179,7 +179,7 @@ text_found word text h = found_from word Start text h
 
 -- ---- a text in quotes is one word
 
-runs_byte : (b : ℕ) (front rest : List ℕ) → StandsFor b front → runs Inside (front ++ rest) ≡ runs Inside rest
+runs_byte : (b : ℕ) (front rest : List ℕ) → StandsForByte b front → runs Inside (front ++ rest) ≡ runs Inside rest
 runs_byte b front rest (itself e whole) =
     let p = plain_parts b e in
     rw (whole, p.0, p.1) refl
@@ -200,11 +200,11 @@ quoted_single text word q = subst IsOneWord (sym q.whole) (record { runs_on = ru
 
 -- ---- a text as it is written in quotes
 
-writes_case : (b : ℕ) → 0 < b → StandsFor b (quoted_byte b)
+writes_case : (b : ℕ) → 0 < b → StandsForByte b (quoted_byte b)
 writes_case b some =
-    cond_both ((b == 34) || (b == 92)) (92 ∷ b ∷ []) (cond (nat_lt b 32 || (b == 127)) (92 ∷ 120 ∷ hex_digit (b / 16) ∷ hex_digit (b % 16) ∷ []) (b ∷ [])) (StandsFor b)
+    cond_both ((b == 34) || (b == 92)) (92 ∷ b ∷ []) (cond (nat_lt b 32 || (b == 127)) (92 ∷ 120 ∷ hex_digit (b / 16) ∷ hex_digit (b % 16) ∷ []) (b ∷ [])) (StandsForByte b)
     (λ e. escaped e refl)
-    (λ no. cond_both (nat_lt b 32 || (b == 127)) (92 ∷ 120 ∷ hex_digit (b / 16) ∷ hex_digit (b % 16) ∷ []) (b ∷ []) (StandsFor b)
+    (λ no. cond_both (nat_lt b 32 || (b == 127)) (92 ∷ 120 ∷ hex_digit (b / 16) ∷ hex_digit (b % 16) ∷ []) (b ∷ []) (StandsForByte b)
     (λ e. hexadecimal (omega arith) (grind (arith, nat_tests)) refl)
     (λ other. itself (grind (arith, nat_tests)) refl))
 
@@ -223,7 +223,7 @@ plain_some b e z = grind (arith, nat_tests)
 escaped_some : (b : ℕ) → ((b == 34) || (b == 92)) ≡ true → b ≡ 0 → ⊥
 escaped_some b e z = grind (arith, nat_tests)
 
-stands_for_some : (b : ℕ) (front : List ℕ) → StandsFor b front → b ≢ 0
+stands_for_some : (b : ℕ) (front : List ℕ) → StandsForByte b front → b ≢ 0
 stands_for_some b front (itself e whole) = λ z. plain_some b e z
 stands_for_some b front (escaped e whole) = λ z. escaped_some b e z
 stands_for_some b front (hexadecimal some below whole) = λ z. absurd (omega (arith, some, z))

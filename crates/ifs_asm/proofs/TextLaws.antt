@@ -17,8 +17,8 @@ use Rattle.ifs_asm.specs.declared.line.Line.{Line}
 use Rattle.ifs_asm.specs.declared.line.Line.TheVariants as lines
 use Rattle.ifs_asm.specs.Texts.{Word, Key, Number, Quoted, Tests, written}
 use Rattle.ifs_asm.specs.Texts.{words_of, op_words, tests_of, spaced, line_text}
-use Rattle.ifs_asm.specs.Spellings.{is_blank, is_plain, is_silent, StandsFor, itself, escaped}
-use Rattle.ifs_asm.specs.Spellings.{hexadecimal, StandFor, IsSpelling, EndsWord, HaveWords, Says, spoken}
+use Rattle.ifs_asm.specs.Spellings.{is_blank, is_plain, is_silent, StandsForByte, itself, escaped}
+use Rattle.ifs_asm.specs.Spellings.{hexadecimal, StandFor, IsSpelling, EndsWord, HaveWords, SaysLine, spoken}
 use Rattle.ifs_asm.specs.inner.Words.{Bare, words_up_to}
 use Rattle.ifs_asm.specs.inner.Building.{line_in}
 use Rattle.ifs_asm.proofs.Bytes.{IsDigit, number_digits, number_decimal, digit_is_not, each_append, each_weaker}
@@ -126,13 +126,13 @@ singles (w ∷ ws) good =
 
 -- ---- which line bytes say
 
-pub line_in_found : (bytes : List ℕ) (line : Line) → line_in bytes ≡ Some line → Says bytes line × LineFits line
+pub line_in_found : (bytes : List ℕ) (line : Line) → line_in bytes ≡ Some line → SaysLine bytes line × LineFits line
 unfolding line_in
 line_in_found bytes line h =
     let f = line_found (words_up_to 9 bytes) line h in
     (cut_found 9 (words_of line) bytes (few line) f.0, f.1)
 
-pub line_in_again : (bytes : List ℕ) (line : Line) → Says bytes line → LineFits line → line_in bytes ≡ Some line
+pub line_in_again : (bytes : List ℕ) (line : Line) → SaysLine bytes line → LineFits line → line_in bytes ≡ Some line
 unfolding line_in
 line_in_again bytes line says fits =
     line_again line (words_up_to 9 bytes) fits (cut_again 9 (words_of line) bytes (singles (words_of line) (all_are_good line)) (few line) says)
@@ -207,7 +207,7 @@ quote_lines b e = grind (arith, nat_tests)
 hex_lines : (d : ℕ) → d < 16 → IsNoNewline (hex_digit d)
 hex_lines d h = grind (arith, nat_tests)
 
-byte_lines : (b : ℕ) (front : List ℕ) → StandsFor b front → AllByRecursion IsNoNewline front
+byte_lines : (b : ℕ) (front : List ℕ) → StandsForByte b front → AllByRecursion IsNoNewline front
 byte_lines b front (itself e whole) = subst (AllByRecursion IsNoNewline) (sym whole) (plain_lines b e, tt)
 byte_lines b front (escaped e whole) = subst (AllByRecursion IsNoNewline) (sym whole) (refl, (quote_lines b e, tt))
 byte_lines b front (hexadecimal some below whole) =
@@ -288,6 +288,6 @@ pub spoken_lines : (ls : List Line) → AllByRecursion LineWritten ls → spoken
 spoken_lines [] fits = spoken_none
 spoken_lines (l ∷ ls) fits = spoken_line l (flat_map line_text ls) fits.0 ∙ ap (λ (t : List (List ℕ)). bare l ∷ t) (spoken_lines ls fits.1)
 
-pub lines_say : (ls : List Line) → AllByRecursion LineWritten ls → AllZip Says (map bare ls) ls
+pub lines_say : (ls : List Line) → AllByRecursion LineWritten ls → AllZip SaysLine (map bare ls) ls
 lines_say [] fits = tt
 lines_say (l ∷ ls) fits = (spaced_says (words_of l) fits.0, lines_say ls fits.1)

@@ -11,9 +11,9 @@ use Rattle.ifs_asm.specs.declared.fault.LineFault.{LineFault}
 use Rattle.ifs_asm.specs.declared.fault.LineFault.TheVariants as faults
 use Rattle.ifs_asm.specs.declared.line.Line.{Line}
 use Rattle.ifs_asm.specs.Texts.{lines_of}
-use Rattle.ifs_asm.specs.Spellings.{Says, Spells, spoken, is_silent}
-use Rattle.ifs_asm.specs.Refused.{without_empty_last, text_lines, speaking, GoOn, EachBreaks}
-use Rattle.ifs_asm.specs.Refused.{Repeats, IsOneTooMany, IsOutOfPlace, StopsAt, EndsEarly, IsRefused}
+use Rattle.ifs_asm.specs.Spellings.{SaysLine, TextSpells, spoken, is_silent}
+use Rattle.ifs_asm.specs.Refused.{without_empty_last, text_lines, speaking, LinesGoOn, EachBreaks}
+use Rattle.ifs_asm.specs.Refused.{Repeats, IsOneTooMany, IsOutOfPlace, StopsAtLine, EndsEarly, IsAssemblyRefused}
 use Rattle.ifs_asm.specs.inner.Building.{Built, line_in, built_by, nothing, spoken_line}
 use Rattle.ifs_asm.specs.inner.Reading.{AreRead, Blames, fault_at}
 use Rattle.ifs_asm.proofs.Cuts.{cut_some, cut_none, line_case}
@@ -118,7 +118,7 @@ pub record Stopped (text : List ℕ) (n : ℕ) (b : Built) (line : List ℕ) : T
   pub goes_on : GoesOn before b
   pub within : IsWithin b
   pub sound : Sound b
-  pub stop : GoOn (before ++ line ∷ []) → ⊥
+  pub stop : LinesGoOn (before ++ line ∷ []) → ⊥
 
 pub stops_at : (text left line rest : List ℕ) (b : Built) (n : ℕ) → AreRead text left b n → text_lines left ≡ line ∷ text_lines rest → built_by b (spoken_line line) ≡ None → Stopped text n b line
 stops_at text left line rest b n r cut none = record {
@@ -132,7 +132,7 @@ stops_at text left line rest b n r cut none = record {
   stop = never_goes_on (r.done ++ line ∷ []) (with_last r.done line b None r.built none);
 }
 
-with_fault : (text : List ℕ) (n : ℕ) (b : Built) (line : List ℕ) (Fault : List Line → List ℕ → Type 0) (s : Stopped text n b line) → Fault s.goes_on.go_on.said line → StopsAt text n Fault
+with_fault : (text : List ℕ) (n : ℕ) (b : Built) (line : List ℕ) (Fault : List Line → List ℕ → Type 0) (s : Stopped text n b line) → Fault s.goes_on.go_on.said line → StopsAtLine text n Fault
 with_fault text n b line Fault s fault = record { before = s.before; line = line; after = s.after; whole = s.whole; number_is = s.number_is; go_on = s.goes_on.go_on; stop = s.stop; fault = fault }
 
 -- ---- the end of a text
@@ -143,11 +143,11 @@ all_done text left b n r done cut empty = cut ∙ ap (λ (t : List ℕ). done ++
 pub all_read : (text left : List ℕ) (b : Built) (n : ℕ) → AreRead text left b n → left ≡ [] → built_by nothing (spoken text) ≡ Some b
 all_read text left b n r empty = ap (built_by nothing) (speaking_is text ∙ ap speaking (all_done text left b n r r.done r.cut empty)) ∙ r.built
 
-pub ends_early : (text left : List ℕ) (b : Built) (n : ℕ) → AreRead text left b n → left ≡ [] → ((image : ImageParts) → Spells text image → ⊥) → EndsEarly text n
+pub ends_early : (text left : List ℕ) (b : Built) (n : ℕ) → AreRead text left b n → left ≡ [] → ((image : ImageParts) → TextSpells text image → ⊥) → EndsEarly text n
 ends_early text left b n r empty missing =
     let all = all_done text left b n r r.done r.cut empty in
     record {
-      go_on = subst GoOn (sym all) (goes_on r.done b r.built).go_on;
+      go_on = subst LinesGoOn (sym all) (goes_on r.done b r.built).go_on;
       missing = missing;
       number_is = r.number_is ∙ ap (λ (ls : List (List ℕ)). length ls + 1) (sym all);
     }
@@ -158,26 +158,26 @@ ends_early text left b n r empty missing =
 record FrontSaid (xs : List (List ℕ)) (ls : List Line) : Type 0 where
   said : List Line
   others : List Line
-  says : AllZip Says xs said
+  says : AllZip SaysLine xs said
   whole : ls ≡ said ++ others
 
-front_said : (xs ys : List (List ℕ)) (ls : List Line) → AllZip Says (xs ++ ys) ls → FrontSaid xs ls
+front_said : (xs ys : List (List ℕ)) (ls : List Line) → AllZip SaysLine (xs ++ ys) ls → FrontSaid xs ls
 front_said [] ys ls z = record { said = []; others = ls; says = tt; whole = refl }
 front_said (x ∷ xs) ys [] z = absurd z
 front_said (x ∷ xs) ys (l ∷ ls) z =
     let f = front_said xs ys ls z.1 in
     record { said = l ∷ f.said; others = f.others; says = (z.0, f.says); whole = ap (λ (ks : List Line). l ∷ ks) f.whole }
 
-pub stops_spell_none : (text : List ℕ) (n : ℕ) (b : Built) (line : List ℕ) (image : ImageParts) → Stopped text n b line → Spells text image → ⊥
+pub stops_spell_none : (text : List ℕ) (n : ℕ) (b : Built) (line : List ℕ) (image : ImageParts) → Stopped text n b line → TextSpells text image → ⊥
 stops_spell_none text n b line image s spells =
     let cut : spoken text ≡ speaking (s.before ++ line ∷ []) ++ speaking s.after =
     speaking_is text ∙ ap speaking (s.whole ∙ sym (append_assoc s.before (line ∷ []) s.after)) ∙ speaking_append (s.before ++ line ∷ []) s.after in
-    let f = front_said (speaking (s.before ++ line ∷ [])) (speaking s.after) (lines_of image) (subst (λ (ls : List (List ℕ)). AllZip Says ls (lines_of image)) cut spells.says) in
+    let f = front_said (speaking (s.before ++ line ∷ [])) (speaking s.after) (lines_of image) (subst (λ (ls : List (List ℕ)). AllZip SaysLine ls (lines_of image)) cut spells.says) in
     s.stop (record { said = f.said; says = f.says; begin = record { image = image; fits = spells.fits; in_range = spells.in_range; others = f.others; whole = f.whole } })
 
 -- ---- the fault of a line
 
-pub told_at : (text : List ℕ) (fault : LineFault) (n : ℕ) (b : Built) (line : List ℕ) → (fault ≢ faults.Memory → Stopped text n b line) → Blames b (line_in line) fault → fault_at fault n ≢ Memory → IsRefused text (fault_at fault n)
+pub told_at : (text : List ℕ) (fault : LineFault) (n : ℕ) (b : Built) (line : List ℕ) → (fault ≢ faults.Memory → Stopped text n b line) → Blames b (line_in line) fault → fault_at fault n ≢ Memory → IsAssemblyRefused text (fault_at fault n)
 told_at text faults.Unknown n b line stopped blames other =
     let s = stopped (λ e. absurd cc) in
     with_fault text n b line (λ said bytes. EachBreaks (Repeats said) bytes) s (blames_name b s.goes_on.go_on.said line s.goes_on.said_is blames)

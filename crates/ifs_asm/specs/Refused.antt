@@ -14,7 +14,7 @@ use Rattle.ifs_asm.specs.declared.fault.AsmFault.TheVariants.{Unknown, OutOfRang
 use Rattle.ifs_asm.specs.declared.line.Line.{Line}
 use Rattle.ifs_asm.specs.declared.line.Line.TheVariants as lines
 use Rattle.ifs_asm.specs.Texts.{routine_lines, lines_of}
-use Rattle.ifs_asm.specs.Spellings.{Says, Spells, is_silent}
+use Rattle.ifs_asm.specs.Spellings.{SaysLine, TextSpells, is_silent}
 
 -- Lines without the last one, where that is empty.
 abbrev pub without_empty_last : List (List ℕ) → List (List ℕ)
@@ -40,9 +40,9 @@ pub record Begin (said : List Line) : Type 0 where
   pub whole : lines_of image ≡ said ++ others
 
 -- Lines say the first lines of an image, so that a text that begins with them may spell one.
-pub record GoOn (lines : List (List ℕ)) : Type 0 where
+pub record LinesGoOn (lines : List (List ℕ)) : Type 0 where
   pub said : List Line
-  pub says : AllZip Says (speaking lines) said
+  pub says : AllZip SaysLine (speaking lines) said
   pub begin : Begin said
 
 -- A text of 1 to 1,024 bytes without a NUL, in UTF-8.
@@ -68,18 +68,18 @@ LineFits (lines.Instruction op) = HasSpelling op
 
 -- Whatever line in its ranges bytes say, it breaks a rule.
 abbrev pub EachBreaks : (Line → Type 0) → List ℕ → Type 0
-EachBreaks Breaks bytes = (line : Line) → Says bytes line → LineFits line → Breaks line
+EachBreaks Breaks bytes = (line : Line) → SaysLine bytes line → LineFits line → Breaks line
 
 -- A line stands among others.
-pub record StandsIn (said : List Line) (line : Line) : Type 0 where
+pub record IsAmong (said : List Line) (line : Line) : Type 0 where
   pub before : List Line
   pub after : List Line
   pub whole : said ≡ before ++ line ∷ after
 
 -- The name of an interface or of a state was said before.
 abbrev pub Repeats : List Line → Line → Type 0
-Repeats said (lines.Interface name) = StandsIn said (lines.Interface name)
-Repeats said (lines.State s) = (handlers : Handlers) × StandsIn said (lines.State (record { name = s.name; handlers = handlers }))
+Repeats said (lines.Interface name) = IsAmong said (lines.Interface name)
+Repeats said (lines.State s) = (handlers : Handlers) × IsAmong said (lines.State (record { name = s.name; handlers = handlers }))
 Repeats said _ = ⊥
 
 -- So many lines of one kind stand in a row.
@@ -121,33 +121,33 @@ IsOneTooMany said line = IsOver said line × (Repeats said line → ⊥)
 -- Bytes say a line in its ranges, which repeats no name and passes no count: only its place among the lines is wrong.
 pub record IsOutOfPlace (said : List Line) (bytes : List ℕ) : Type 0 where
   pub line : Line
-  pub says : Says bytes line
+  pub says : SaysLine bytes line
   pub fits : LineFits line
   pub new : Repeats said line → ⊥
   pub room : IsOver said line → ⊥
 
 -- A line of a text, counted from 1, is the first with which its lines do not go on; something holds of it, after what was said before.
-pub record StopsAt (text : List ℕ) (number : ℕ) (Fault : List Line → List ℕ → Type 0) : Type 0 where
+pub record StopsAtLine (text : List ℕ) (number : ℕ) (Fault : List Line → List ℕ → Type 0) : Type 0 where
   pub before : List (List ℕ)
   pub line : List ℕ
   pub after : List (List ℕ)
   pub whole : text_lines text ≡ before ++ line ∷ after
   pub number_is : number ≡ length before + 1
-  pub go_on : GoOn before
-  pub stop : GoOn (before ++ line ∷ []) → ⊥
+  pub go_on : LinesGoOn before
+  pub stop : LinesGoOn (before ++ line ∷ []) → ⊥
   pub fault : Fault go_on.said line
 
 -- All lines of a text go on, and something is missing behind them; the number is one over theirs.
 pub record EndsEarly (text : List ℕ) (number : ℕ) : Type 0 where
-  pub go_on : GoOn (text_lines text)
-  pub missing : (image : ImageParts) → Spells text image → ⊥
+  pub go_on : LinesGoOn (text_lines text)
+  pub missing : (image : ImageParts) → TextSpells text image → ⊥
   pub number_is : number ≡ length (text_lines text) + 1
 
 -- What a refusal says of a text, at the line that it tells. Unknown: what is said there in its ranges, if anything is, repeats a
 -- name. Out of range: it passes a count, and repeats no name. Out of order: something is said there in its ranges, which does
 -- neither and cannot follow; or something is missing at the end. Want of memory says nothing of a line.
-abbrev pub IsRefused : List ℕ → AsmFault → Type 0
-IsRefused text (Unknown line) = StopsAt text line (λ said bytes. EachBreaks (Repeats said) bytes)
-IsRefused text (OutOfRange line) = StopsAt text line (λ said bytes. EachBreaks (IsOneTooMany said) bytes)
-IsRefused text (OutOfOrder line) = StopsAt text line IsOutOfPlace ⊎ EndsEarly text line
-IsRefused text Memory = ⊥
+abbrev pub IsAssemblyRefused : List ℕ → AsmFault → Type 0
+IsAssemblyRefused text (Unknown line) = StopsAtLine text line (λ said bytes. EachBreaks (Repeats said) bytes)
+IsAssemblyRefused text (OutOfRange line) = StopsAtLine text line (λ said bytes. EachBreaks (IsOneTooMany said) bytes)
+IsAssemblyRefused text (OutOfOrder line) = StopsAtLine text line IsOutOfPlace ⊎ EndsEarly text line
+IsAssemblyRefused text Memory = ⊥

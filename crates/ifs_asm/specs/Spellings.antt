@@ -19,16 +19,16 @@ is_plain byte = not (nat_lt byte 32) && not (byte == 127) && not (byte == 34) &&
 
 -- A byte in quotes is written as it is; a quote or a backslash after a backslash; a character from 1 to 127 by its two
 -- hexadecimal digits, in lower case.
-pub data StandsFor (byte : ℕ) (bytes : List ℕ) : Type 0 where
-  itself : is_plain byte ≡ true → bytes ≡ byte ∷ [] → StandsFor byte bytes
-  escaped : ((byte == 34) || (byte == 92)) ≡ true → bytes ≡ 92 ∷ byte ∷ [] → StandsFor byte bytes
-  hexadecimal : 1 ≤ byte → byte < 128 → bytes ≡ 92 ∷ 120 ∷ hex_digit (byte / 16) ∷ hex_digit (byte % 16) ∷ [] → StandsFor byte bytes
+pub data StandsForByte (byte : ℕ) (bytes : List ℕ) : Type 0 where
+  itself : is_plain byte ≡ true → bytes ≡ byte ∷ [] → StandsForByte byte bytes
+  escaped : ((byte == 34) || (byte == 92)) ≡ true → bytes ≡ 92 ∷ byte ∷ [] → StandsForByte byte bytes
+  hexadecimal : 1 ≤ byte → byte < 128 → bytes ≡ 92 ∷ 120 ∷ hex_digit (byte / 16) ∷ hex_digit (byte % 16) ∷ [] → StandsForByte byte bytes
 
 -- Bytes begin with one that stands for a byte, and the others stand for what follows it.
 pub record BeginsWith (byte : ℕ) (Others : List ℕ → Type 0) (bytes : List ℕ) : Type 0 where
   pub front : List ℕ
   pub rest : List ℕ
-  pub stands : StandsFor byte front
+  pub stands : StandsForByte byte front
   pub others : Others rest
   pub whole : bytes ≡ front ++ rest
 
@@ -78,8 +78,8 @@ HaveWords [] bytes = AllByRecursion (λ byte. is_blank byte ≡ true) bytes
 HaveWords (word ∷ words) bytes = FirstWord word (HaveWords words) bytes
 
 -- Bytes without newline say a line.
-abbrev pub Says : List ℕ → Line → Type 0
-Says bytes line = HaveWords (words_of line) bytes
+abbrev pub SaysLine : List ℕ → Line → Type 0
+SaysLine bytes line = HaveWords (words_of line) bytes
 
 -- An empty line and a comment say nothing: after blanks or none nothing stands there, or a semicolon.
 abbrev pub is_silent : List ℕ → Bool
@@ -91,7 +91,7 @@ unfoldable pub spoken : List ℕ → List (List ℕ)
 spoken text = filter (λ bytes. not (is_silent bytes)) (slice_split (λ byte. byte == 10) text)
 
 -- A text spells an image that keeps to its limits: its lines that say something say the lines of the image.
-pub record Spells (text : List ℕ) (p : ImageParts) : Type 0 where
+pub record TextSpells (text : List ℕ) (p : ImageParts) : Type 0 where
   pub fits : Fits p
   pub in_range : InRange p
-  pub says : AllZip Says (spoken text) (lines_of p)
+  pub says : AllZip SaysLine (spoken text) (lines_of p)

@@ -5,7 +5,7 @@ ghost use Rattle.ifs_asm.specs.declared.fault.AsmFault.TheVariants.{Memory};
 ghost use Rattle.ifs_image.specs.declared.parts.ImageParts.{ImageParts};
 ghost use Rattle.ifs_image.specs.Limits.{Fits, InRange};
 ghost use Rattle.ifs_asm.specs.Texts.{canonical};
-ghost use Rattle.ifs_asm.specs.Spellings.{Spells};
+ghost use Rattle.ifs_asm.specs.Spellings.{TextSpells};
 
 use crate::fault::AsmFault;
 use crate::printing::disassemble;
@@ -15,12 +15,12 @@ use std::alloc::Global;
 
 /// The canonical text of an image spells it.
 pub fn canonical_text_spells_its_image()
-    ensures { (image : ImageParts) → Fits image → InRange image → Spells (canonical image) image }
+    ensures { (image : ImageParts) → Fits image → InRange image → TextSpells (canonical image) image }
 {}
 
 /// No text spells two images.
 pub fn one_image()
-    ensures { (text : List ℕ) (image other : ImageParts) → Spells text image → Spells text other → image ≡ other }
+    ensures { (text : List ℕ) (image other : ImageParts) → TextSpells text image → TextSpells text other → image ≡ other }
 {}
 
 /// What is written for an image is read back as that image; only want of memory, A0, can come between.

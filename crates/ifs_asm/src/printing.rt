@@ -9,7 +9,7 @@ ghost use Rattle.ifs_base.specs.Words.{link_word, listed, quoted};
 ghost use Rattle.ifs_image.specs.Limits.{HandlersInRange, StateInRange};
 ghost use Rattle.ifs_asm.specs.declared.line.Line.TheVariants as lines;
 ghost use Rattle.ifs_asm.specs.inner.Lists.{before_item, left_at};
-ghost use Rattle.ifs_asm.specs.Spellings.{Spells};
+ghost use Rattle.ifs_asm.specs.Spellings.{TextSpells};
 ghost use Rattle.ifs_asm.specs.Texts.{canonical, line_text, tests_of, written, handlers_words};
 ghost use Rattle.ifs_asm.specs.Texts.{op_words, spaced, routine_lines, front_lines};
 
@@ -22,7 +22,7 @@ use std::alloc::{AllocError, Global};
 /// The canonical text of an image: a line for each part, one space between words, decimal numbers. It spells the image.
 pub fn disassemble(alloc: Global, image: &Image) -> Result<String, AllocError>
     ensures canonical { IfOk result (λ text. string_bytes text ≡ canonical image.now) }
-    ensures spelled { IfOk result (λ text. Spells (string_bytes text) image.now) }
+    ensures spelled { IfOk result (λ text. TextSpells (string_bytes text) image.now) }
 {
     let parts = image.parts();
     let mut out = String::new(alloc);

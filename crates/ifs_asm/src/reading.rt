@@ -5,8 +5,8 @@ ghost use Rattle.std.specs.List.{position};
 ghost use Rattle.ifs_image.specs.declared.parts.ImageParts.{ImageParts};
 ghost use Rattle.ifs_asm.specs.declared.fault.AsmFault.TheVariants.{Memory};
 ghost use Rattle.ifs_asm.specs.declared.fault.LineFault.TheVariants as faults;
-ghost use Rattle.ifs_asm.specs.Refused.{IsRefused, text_lines};
-ghost use Rattle.ifs_asm.specs.Spellings.{Spells};
+ghost use Rattle.ifs_asm.specs.Refused.{IsAssemblyRefused, text_lines};
+ghost use Rattle.ifs_asm.specs.Spellings.{TextSpells};
 ghost use Rattle.ifs_asm.specs.inner.Building.{built_by, line_in, spoken_line};
 ghost use Rattle.ifs_asm.specs.inner.Reading.{Blames};
 
@@ -23,9 +23,9 @@ use std::alloc::Global;
 /// A1 to A3 name the first line with a fault, counted from 1; a part that is missing at the end is told at
 /// the number of lines plus 1. A0, for want of memory, may come in place of another answer.
 pub fn assemble(alloc: Global, text: &str) -> Result<Image, AsmFault>
-    ensures spelled { IfOk result (λ image. Spells text.now image) }
-    ensures refused { IfErr result (λ fault. fault ≢ Memory → (image : ImageParts) → Spells text.now image → ⊥) }
-    ensures told { IfErr result (λ fault. fault ≢ Memory → IsRefused text.now fault) }
+    ensures spelled { IfOk result (λ image. TextSpells text.now image) }
+    ensures refused { IfErr result (λ fault. fault ≢ Memory → (image : ImageParts) → TextSpells text.now image → ⊥) }
+    ensures told { IfErr result (λ fault. fault ≢ Memory → IsAssemblyRefused text.now fault) }
 {
     let mut building = Building::new(alloc);
     let mut left = text.as_bytes();

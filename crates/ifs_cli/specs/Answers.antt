@@ -2,8 +2,8 @@
 use Rattle.std.specs.Prelude.{ℕ, ◌≡◌, ◌≢◌, ◌+◌, ◌==◌, ◌++◌, ◌⊎◌, List, length, take, count_by}
 use Rattle.std.specs.Prelude.{Option, None, Err, IsSomeAnd}
 use Rattle.std.specs.Str.{IsUtf8, IsValidUpTo}
-use Rattle.ifs_asm.specs.Spellings as asm
-use Rattle.ifs_asm.specs.Refused as assembling
+use Rattle.ifs_asm.specs.Spellings.{TextSpells}
+use Rattle.ifs_asm.specs.Refused.{IsAssemblyRefused}
 use Rattle.ifs_asm.specs.declared.fault.AsmFault.TheVariants.{Unknown}
 use Rattle.ifs_asm.specs.Texts.{canonical}
 use Rattle.ifs_gen.specs.Compiled.{Compiles, IsCompiled, IsRefusal}
@@ -37,11 +37,11 @@ IsListing bytes text = (image : ImageParts) × Spells bytes image × (text ≡ c
 
 -- Bytes are a text that spells an image.
 abbrev pub AreAssembly : List ℕ → Type 0
-AreAssembly bytes = IsUtf8 bytes × ((image : ImageParts) × asm.Spells bytes image)
+AreAssembly bytes = IsUtf8 bytes × ((image : ImageParts) × TextSpells bytes image)
 
 -- Bytes spell the image that a text spells.
 abbrev pub IsAssembled : List ℕ → List ℕ → Type 0
-IsAssembled text bytes = (image : ImageParts) × asm.Spells text image × Spells bytes image
+IsAssembled text bytes = (image : ImageParts) × TextSpells text image × Spells bytes image
 
 -- Bytes are a text that has a policy under these definitions.
 abbrev pub ArePolicy : List ℕ → List (List ℕ × List ℕ) → Type 0
@@ -109,7 +109,7 @@ IsRefusedBy Check bytes defs text = TellsNoText bytes text ⊎ Tells policy_word
 IsRefusedBy Compile bytes defs text = TellsNoText bytes text ⊎ Tells compile_words (λ fault. (fault ≢ Memory) × IsRefusal bytes defs fault) text
 IsRefusedBy Verify bytes defs text = Tells verify_fault_words (λ fault. (fault ≢ OutOfMemory) × verifying.IsRefusal bytes fault) text
 IsRefusedBy Disasm bytes defs text = Tells image_fault_words (λ fault. image_of bytes ≡ Err fault) text
-IsRefusedBy Asm bytes defs text = TellsNoLine bytes text ⊎ Tells assembly_words (assembling.IsRefused bytes) text
+IsRefusedBy Asm bytes defs text = TellsNoLine bytes text ⊎ Tells assembly_words (IsAssemblyRefused bytes) text
 
 -- The file that is given for good bytes: of a text that is compiled the image that means its policy, of assembly text the image that it spells, and none of the other tasks.
 abbrev pub IsGiven : Task → List ℕ → List (List ℕ × List ℕ) → Option (List ℕ) → Type 0

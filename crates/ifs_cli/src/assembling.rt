@@ -3,7 +3,7 @@
 ghost use Rattle.std.specs.Prelude.{◌≡◌, ◌≢◌, ◌≤◌, ◌⊎◌, length, None, option_map, string_bytes, IsSomeAnd, IfOk};
 ghost use Rattle.ifs_image.specs.Spelling.{Spells};
 ghost use Rattle.ifs_cli.specs.Answers.{AreAssembly, IsAssembled, Tells, TellsNoLine};
-ghost use Rattle.ifs_asm.specs.Refused.{IsRefused};
+ghost use Rattle.ifs_asm.specs.Refused.{IsAssemblyRefused};
 ghost use Rattle.ifs_asm.specs.declared.fault.AsmFault.TheVariants.{Unknown};
 ghost use Rattle.ifs_cli.specs.Faults.{assembly_words};
 ghost use Rattle.ifs_cli.specs.Lines.{size_line};
@@ -23,7 +23,7 @@ pub fn asm(alloc: Global, bytes: &[u8]) -> Result<Answer, AllocError>
     ensures refused { IfOk result (λ answer. answer.status ≢ 0 → ¬ AreAssembly bytes.now) }
     ensures file { IfOk result (λ answer. answer.status ≡ 0 → IsSomeAnd (option_map (λ file. file.items) answer.file) (IsAssembled bytes.now)) }
     ensures text { IfOk result (λ answer. answer.status ≡ 0 → IsSomeAnd (option_map (λ file. file.items) answer.file) (λ file. string_bytes answer.text ≡ size_line (length file))) }
-    ensures told { IfOk result (λ answer. answer.status ≢ 0 → TellsNoLine bytes.now (string_bytes answer.text) ⊎ Tells assembly_words (IsRefused bytes.now) (string_bytes answer.text)) }
+    ensures told { IfOk result (λ answer. answer.status ≢ 0 → TellsNoLine bytes.now (string_bytes answer.text) ⊎ Tells assembly_words (IsAssemblyRefused bytes.now) (string_bytes answer.text)) }
     ensures no_file { IfOk result (λ answer. answer.status ≢ 0 → answer.file ≡ None) }
 {
     let text = match text_of(bytes) {

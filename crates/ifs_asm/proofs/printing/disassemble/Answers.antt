@@ -1,5 +1,5 @@
 use Rattle.std.proofs.Common.{sym, subst}
-use Rattle.ifs_asm.specs.Spellings.{Spells}
+use Rattle.ifs_asm.specs.Spellings.{TextSpells}
 use Rattle.ifs_asm.proofs.Puts.{whole_text}
 use Rattle.ifs_asm.proofs.ImageLaws.{canonical_spells}
 use Rattle.ifs_asm.proofs.printing.disassemble.Goals as goal
@@ -17,7 +17,7 @@ returns c =
     (rw (c.as_slice-5.ensures, same) at c.in_ok-put_routines.ensures.bytes) in
     record {
       canonical = is_canonical;
-      spelled = subst (λ text. Spells text c.args.image.now) (sym is_canonical) (canonical_spells c.args.image.now c.parts-parts.ensures.fits (record {
+      spelled = subst (λ text. TextSpells text c.args.image.now) (sym is_canonical) (canonical_spells c.args.image.now c.parts-parts.ensures.fits (record {
         initial = rw same at c.in_ok-put_front.ensures.initial;
         always = rw same at c.in_ok-put_front.ensures.always;
         interfaces = rw (c.as_slice.ensures, same) at c.in_ok-put_interfaces.ensures.in_range;

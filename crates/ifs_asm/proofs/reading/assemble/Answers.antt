@@ -1,7 +1,7 @@
 use Rattle.std.proofs.Common.{sym, refl, ap, subst, ◌∙◌, inr}
 use Rattle.ifs_image.specs.Limits.{Fits}
-use Rattle.ifs_asm.specs.Refused.{IsRefused}
-use Rattle.ifs_asm.specs.Spellings.{Spells, spoken}
+use Rattle.ifs_asm.specs.Refused.{IsAssemblyRefused}
+use Rattle.ifs_asm.specs.Spellings.{TextSpells, spoken}
 use Rattle.ifs_asm.specs.inner.Reading.{fault_at}
 use Rattle.ifs_asm.proofs.Cutting.{no_bytes}
 use Rattle.ifs_asm.proofs.BuildFits.{parts_fit, parts_unfit}
@@ -21,7 +21,7 @@ returns-in-Err-clause-refused c = λ other image spells.
 
 pub returns-in-Err-clause-told : goal.returns-in-Err-clause-told
 returns-in-Err-clause-told c = λ other.
-    subst (IsRefused c.args.text.now) (sym c.at.ensures)
+    subst (IsAssemblyRefused c.args.text.now) (sym c.at.ensures)
     (told_at c.args.text.now c.in-Err.fault c.loop-left.line c.loop-left.building c.split_line.result.0.now
     (λ known. stops_at c.args.text.now c.loop-left.left.now c.split_line.result.0.now c.split_line.result.1.now c.loop-left.building c.loop-left.line c.loop-left.invariant c.split_line.ensures.cut (c.in-Err.ensures.taken known))
     c.in-Err.ensures.blamed
@@ -51,4 +51,4 @@ returns-else-is_empty-clause-spelled c =
     let empty = no_bytes c.is_empty.result c.loop-left.left.now c.is_empty.ensures c.loop-left-test.false in
     let all = all_read c.args.text.now c.loop-left.left.now c.loop-left.building c.loop-left.line c.loop-left.invariant empty in
     let fits = parts_fit c.loop-left.building (spoken c.args.text.now) c.in_ok-parts.parts c.is_empty-2.result all c.in_ok-parts.ensures c.is_empty-2.ensures c.if-is_empty.false in
-    subst (Spells c.args.text.now) (sym (c.new.ensures ∙ c.in_ok-parts.ensures)) (read_found c.args.text.now c.loop-left.building all (subst Fits c.in_ok-parts.ensures fits))
+    subst (TextSpells c.args.text.now) (sym (c.new.ensures ∙ c.in_ok-parts.ensures)) (read_found c.args.text.now c.loop-left.building all (subst Fits c.in_ok-parts.ensures fits))
