@@ -228,10 +228,8 @@ fn certain_at_once<'a>(text: &'a str, defs: &[(&'a str, &'a str)]) -> Option<Lex
     ensures { result ≡ at_once.certain_at_once text.now (map (λ d. (d.0.now, d.1.now)) defs.now) }
 {
     match defs {
+        [] if text.len() > MAX_TEXT => Some(LexFault::OverLimit { line: 1 }),
         [] => {
-            if text.len() > MAX_TEXT {
-                return Some(LexFault::OverLimit { line: 1 });
-            }
             let mut place = Place::start(text);
             fault_without_macros(place.next())
         }
