@@ -21,7 +21,7 @@ use Rattle.ifs_verify.specs.declared.fault.VerifyFault.TheVariants.{CommandsOver
 use Rattle.ifs_verify.specs.Accepted.{IsAccepted}
 use Rattle.ifs_verify.specs.Refused.{refusal_of, Fails, IsRefusal}
 use Rattle.ifs_verify.specs.Laws.{RefusedAreNotAccepted}
-use Rattle.ifs_verify.specs.inner.Passes.{IsSized, IsRefused}
+use Rattle.ifs_verify.specs.inner.Passes.{IsSized, IsImageRefused}
 use Rattle.ifs_image.proofs.ImageLaws.{image_again}
 use Rattle.ifs_verify.proofs.Faults.{fails_of_accepted}
 
@@ -44,7 +44,7 @@ sized image fits = record {
 }
 
 -- A check that fails in the image that the bytes spell is a refusal of them.
-pub check_refuses : (bytes : List ℕ) (image : ImageParts) (fault : VerifyFault) → Spells bytes image → IsRefused image fault → IsRefusal bytes fault
+pub check_refuses : (bytes : List ℕ) (image : ImageParts) (fault : VerifyFault) → Spells bytes image → IsImageRefused image fault → IsRefusal bytes fault
 check_refuses bytes image (NoImage fault) spelled refused = absurd (refused (λ e. cc))
 check_refuses bytes image OutOfMemory spelled refused = tt
 check_refuses bytes image (NoEntry at) spelled refused = (image, spelled, refused (λ e. cc))
@@ -84,7 +84,7 @@ ok_same : (a b : ImageParts) → read_as a ≡ read_as b → a ≡ b
 ok_same a b e = cc
 
 -- A check that fails in the one image that the bytes spell is one that keeps it from being accepted.
-pub refused_once : (bytes : List ℕ) (image : ImageParts) (fault : VerifyFault) → IsRefused image fault
+pub refused_once : (bytes : List ℕ) (image : ImageParts) (fault : VerifyFault) → IsImageRefused image fault
     → ((other : ImageParts) → Spells bytes other → read_as image ≢ Err Memory → read_as image ≡ read_as other)
     → fault ≢ OutOfMemory → (other : ImageParts) → Spells bytes other → ¬ IsAccepted other
 refused_once bytes image fault refused only other_fault other spelled accepted =

@@ -5,7 +5,7 @@ ghost use Rattle.ifs_verify.specs.declared.fault.At.TheVariants.{Code};
 ghost use Rattle.ifs_verify.specs.Rules.{IsRoutine};
 ghost use Rattle.ifs_verify.specs.Refused.{StackIsOver};
 ghost use Rattle.ifs_verify.specs.Bounds.{cost_of, commands_of};
-ghost use Rattle.ifs_verify.specs.inner.Passes.{PlainRulesHold, IsRefused, LeastHeights};
+ghost use Rattle.ifs_verify.specs.inner.Passes.{PlainRulesHold, IsImageRefused, LeastHeights};
 ghost use Rattle.ifs_verify.specs.inner.Found.{AreFound, HaveRoom};
 
 use crate::amounts::{Rows, amounts_of};
@@ -39,7 +39,7 @@ pub fn check_bounds(
     requires plain { PlainRulesHold image.now }
     requires heights { LeastHeights image.now heights.now.items (length image.now.routines) }
     ensures found { IfOk result (λ bounds. AreFound image.now heights.now.items bounds (length image.now.routines)) }
-    ensures refused { IfErr result (IsRefused image.now) }
+    ensures refused { IfErr result (IsImageRefused image.now) }
 {
     let mut bounds = Bounds {
         depths: Vec::new(alloc),
@@ -68,7 +68,7 @@ fn find_bounds(
     requires room { HaveRoom image.now rows.old }
     ensures room { HaveRoom image.now rows.new }
     ensures found { OnOk result (AreFound image.now heights.now.items bounds.new (routine + 1)) }
-    ensures refused { IfErr result (IsRefused image.now) }
+    ensures refused { IfErr result (IsImageRefused image.now) }
 {
     let height = height_found(image, routine, heights);
     if height > u32::from(limits::STACK) {

@@ -8,7 +8,8 @@ ghost use Rattle.std.specs.Bool.{OnTrue, OnFalse};
 ghost use Rattle.ifs_verify.specs.declared.fault.At.TheVariants.{Head};
 ghost use Rattle.ifs_verify.specs.Rules.{IsRoutine, AreRoutines, IndexesFit};
 ghost use Rattle.ifs_verify.specs.Refused.{StackIsOver, FramesAreOver};
-ghost use Rattle.ifs_verify.specs.inner.Passes.{PlainRulesHold, IsRefused, LeastHeights, LeastDepths, LeastAmounts};
+ghost use Rattle.ifs_verify.specs.inner.Passes.{PlainRulesHold, IsImageRefused};
+ghost use Rattle.ifs_verify.specs.inner.Passes.{LeastHeights, LeastDepths, LeastAmounts};
 ghost use Rattle.ifs_verify.specs.inner.Passes.{AmountIsOver, Reaches, handler_in, weight_of, limit_of, stated_of};
 ghost use Rattle.ifs_verify.specs.inner.Found.{AreFound};
 
@@ -42,7 +43,7 @@ pub fn check_budgets(
     ensures frames { OnOk result (FitsHandlers image.now (slice_index bounds.now.depths.items) image.now.budgets.frames) }
     ensures cost { OnOk result (FitsEvents image.now (slice_index bounds.now.costs.items) image.now.budgets.cost) }
     ensures commands { OnOk result (FitsEvents image.now (slice_index bounds.now.commands.items) image.now.budgets.commands) }
-    ensures refused { IfErr result (IsRefused image.now) }
+    ensures refused { IfErr result (IsImageRefused image.now) }
 {
     if !stack_fits(image, heights) {
         return Err(VerifyFault::StackOver(At::Head));

@@ -5,7 +5,7 @@ ghost use Rattle.ifs_base.specs.declared.ids.RoutineId.{RoutineId};
 ghost use Rattle.ifs_base.specs.declared.op.Op.TheVariants.{Call};
 ghost use Rattle.ifs_image.specs.Code.{code_of};
 ghost use Rattle.ifs_verify.specs.Rules.{IsRoutine};
-ghost use Rattle.ifs_verify.specs.inner.Passes.{PlainRulesHold, IsRefused, IsTypable};
+ghost use Rattle.ifs_verify.specs.inner.Passes.{PlainRulesHold, IsImageRefused, IsTypable};
 ghost use Rattle.ifs_verify.specs.inner.Passes.{AllHold, IsHighEnough, AreLow, AreClear};
 
 use crate::fault::VerifyFault;
@@ -36,7 +36,7 @@ pub fn height_of(
     ensures typed { IfOk result (λ height. IsTypable image.now routine) }
     ensures holds { IfOk result (λ height. AllHold image.now routine (slice_index heights.now) (length (code_of image.now routine)) height) }
     ensures least { IfOk result (λ height. (bound : ℕ) → AllHold image.now routine (slice_index heights.now) (length (code_of image.now routine)) bound → height ≤ bound) }
-    ensures refused { IfErr result (IsRefused image.now) }
+    ensures refused { IfErr result (IsImageRefused image.now) }
 {
     let mut here = Stack::new();
     let mut height = 0;

@@ -3,7 +3,7 @@
 ghost use Rattle.std.specs.Prelude.{ℕ, ◌≡◌, ◌<◌, ◌⊎◌, ◌↔◌, Option, Some, IsTrue, length, OnOk, IfErr, IfOk};
 ghost use Rattle.ifs_image.specs.Code.{code_of};
 ghost use Rattle.ifs_verify.specs.Rules.{IsRoutine, IsReached, PlacesAreReached};
-ghost use Rattle.ifs_verify.specs.inner.Passes.{IsSized, IsRefused, IsMarked};
+ghost use Rattle.ifs_verify.specs.inner.Passes.{IsSized, IsImageRefused, IsMarked};
 
 use crate::fault::VerifyFault;
 use crate::places::{at, code, next, op_at, target};
@@ -14,7 +14,7 @@ use std::alloc::{AllocError, Global};
 pub fn check_reached(alloc: Global, image: &ImageParts) -> Result<(), VerifyFault>
     requires { IsSized image.now }
     ensures kept { OnOk result (PlacesAreReached image.now) }
-    ensures refused { IfErr result (IsRefused image.now) }
+    ensures refused { IfErr result (IsImageRefused image.now) }
 {
     for routine in 0..image.routines.len() {
         check_reached_in(alloc, image, routine)?;
@@ -27,7 +27,7 @@ fn check_reached_in(alloc: Global, image: &ImageParts, routine: usize) -> Result
     requires sized { IsSized image.now }
     requires routine { IsRoutine image.now routine }
     ensures kept { OnOk result ((to : ℕ) → 0 < to → to < length (code_of image.now routine) → IsReached image.now routine to) }
-    ensures refused { IfErr result (IsRefused image.now) }
+    ensures refused { IfErr result (IsImageRefused image.now) }
 {
     let code = code(image, routine);
     let mut marks = no_marks(alloc, code.len())?;

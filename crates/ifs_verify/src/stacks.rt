@@ -1,7 +1,7 @@
 //! The stacks of all routines: their kinds and heights.
 
 ghost use Rattle.std.specs.Prelude.{length, IfOk, IfErr};
-ghost use Rattle.ifs_verify.specs.inner.Passes.{PlainRulesHold, IsRefused, LeastHeights};
+ghost use Rattle.ifs_verify.specs.inner.Passes.{PlainRulesHold, IsImageRefused, LeastHeights};
 
 use crate::fault::VerifyFault;
 use crate::heights::height_of;
@@ -13,7 +13,7 @@ use std::alloc::Global;
 pub fn check_stacks(alloc: Global, image: &ImageParts) -> Result<Vec<u32>, VerifyFault>
     requires { PlainRulesHold image.now }
     ensures found { IfOk result (λ heights. LeastHeights image.now heights.items (length image.now.routines)) }
-    ensures refused { IfErr result (IsRefused image.now) }
+    ensures refused { IfErr result (IsImageRefused image.now) }
 {
     let mut heights: Vec<u32> = Vec::new(alloc);
     let mut brought = no_lists(alloc, image)?;

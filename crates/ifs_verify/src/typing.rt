@@ -13,7 +13,7 @@ ghost use Rattle.ifs_image.specs.Code.{op_at, code_of, results_of, target_of, ef
 ghost use Rattle.ifs_verify.specs.Rules.{IsRoutine, HasOperand};
 ghost use Rattle.ifs_verify.specs.Ways.{Leads};
 ghost use Rattle.ifs_verify.specs.Refused.{ReturnsOthers, LacksOperand, LeavesList, LeavesMany, Disagrees};
-ghost use Rattle.ifs_verify.specs.inner.Passes.{IsSized, PlainRulesHold, IsRefused, Yields, Stands};
+ghost use Rattle.ifs_verify.specs.inner.Passes.{IsSized, PlainRulesHold, IsImageRefused, Yields, Stands};
 ghost use Rattle.ifs_verify.specs.inner.Passes.{IsLeft, IsCleared, AreClear, NeedsHeight, AreLow, row_at};
 
 use crate::effects::{apply, keeps_results};
@@ -58,7 +58,7 @@ pub fn pass(
     requires stands { Stands image.now routine place here.old brought.old.items }
     ensures stands { OnOk result (Stands image.now routine (place + 1) here.new brought.new.items) }
     ensures needs { IfOk result (λ needed. NeedsHeight image.now routine (slice_index heights.now) place needed) }
-    ensures refused { IfErr result (IsRefused image.now) }
+    ensures refused { IfErr result (IsImageRefused image.now) }
 {
     let before = here.len();
     leave(image, routine, place, op, here)?;
@@ -85,7 +85,7 @@ fn leave(
     requires leads { Leads image.now routine place place kinds.old }
     requires within { length kinds.old ≤ 32 }
     ensures yields { OnOk result (Yields image.now routine op kinds.old kinds.new) }
-    ensures refused { IfErr result (IsRefused image.now) }
+    ensures refused { IfErr result (IsImageRefused image.now) }
 {
     if returns_others(image, routine, place, op, kinds) {
         return Err(VerifyFault::WrongResults(at(routine, place)));

@@ -1,11 +1,13 @@
 //! The verifier: every check, each over the whole image before the next begins.
 
-ghost use Rattle.std.specs.Prelude.{◌≡◌, ◌≢◌, IfOk, IfErr, OnOk};
+ghost use Rattle.std.specs.Prelude.{◌≡◌, ◌≢◌, Err, IfOk, IfErr, OnOk};
+ghost use Rattle.ifs_image.specs.declared.fault.ImageFault.{ImageFault};
 ghost use Rattle.ifs_image.specs.declared.parts.ImageParts.{ImageParts};
+ghost use Rattle.ifs_image.specs.Reading.{cursor, head_at};
 ghost use Rattle.ifs_image.specs.Spelling.{Spells};
-ghost use Rattle.ifs_verify.specs.declared.fault.VerifyFault.TheVariants.{OutOfMemory};
+ghost use Rattle.ifs_verify.specs.declared.fault.VerifyFault.TheVariants.{NoImage, OutOfMemory};
 ghost use Rattle.ifs_verify.specs.Accepted.{IsAccepted};
-ghost use Rattle.ifs_verify.specs.inner.Passes.{IsSized, IsRefused};
+ghost use Rattle.ifs_verify.specs.inner.Passes.{IsSized, IsImageRefused};
 ghost use Rattle.ifs_verify.specs.Refused.{IsRefusal};
 
 use crate::bounds::check_bounds;
@@ -24,7 +26,7 @@ use std::alloc::Global;
 /// of indexes and masks (V2), handlers (V14), jumps (V3), ends (V4), calls (V8), places reached (V5),
 /// stacks (V6, V7, V9, V10), and bounds (V10 to V13) of each routine and then against the stated budgets.
 /// V1 comes where the bytes spell no image. V0, for want of memory in reading or in verifying, may come in
-/// place of another answer.
+/// place of another answer, unless a field before the tables has a fault.
 pub fn verify(alloc: Global, bytes: &[u8]) -> Result<Verified, VerifyFault>
     // What is verified is the image that the bytes spell, and it is accepted.
     ensures spelled { IfOk result (λ image. Spells bytes.now image) }
@@ -33,6 +35,8 @@ pub fn verify(alloc: Global, bytes: &[u8]) -> Result<Verified, VerifyFault>
     ensures not_accepted { IfErr result (λ fault. fault ≢ OutOfMemory → (image : ImageParts) → Spells bytes.now image → ¬ IsAccepted image) }
     // and the check that it names fails: in reading, or at its place in the image that they spell.
     ensures refused { IfErr result (IsRefusal bytes.now) }
+    // Where a field before the tables has a fault, that is the refusal, and not want of memory.
+    ensures at_once { (fault : ImageFault) → head_at (cursor 0 bytes.now) ≡ Err fault → result ≡ Err (NoImage fault) }
 {
     let image = read(alloc, bytes)?;
     match check(alloc, image.parts()) {
@@ -45,7 +49,7 @@ pub fn verify(alloc: Global, bytes: &[u8]) -> Result<Verified, VerifyFault>
 fn check(alloc: Global, image: &ImageParts) -> Result<(), VerifyFault>
     requires { IsSized image.now }
     ensures accepted { OnOk result (IsAccepted image.now) }
-    ensures refused { IfErr result (IsRefused image.now) }
+    ensures refused { IfErr result (IsImageRefused image.now) }
 {
     check_indexes(image)?;
     check_handlers(image)?;

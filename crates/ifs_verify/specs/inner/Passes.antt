@@ -35,8 +35,8 @@ pub record IsSized (image : ImageParts) : Type 0 where
   pub results : (k : ℕ) (routine : Routine) → slice_get image.routines k ≡ Some routine → routine.results ≤ 1
 
 -- A fault names a check that fails, and where, unless it is want of memory.
-abbrev pub IsRefused : ImageParts → VerifyFault → Type 0
-IsRefused image fault = fault ≢ OutOfMemory → Fails fault image
+abbrev pub IsImageRefused : ImageParts → VerifyFault → Type 0
+IsImageRefused image fault = fault ≢ OutOfMemory → Fails fault image
 
 -- What a rule asks of the instruction at a place.
 abbrev pub Keeps : OpRule → ImageParts → ℕ → ℕ → Op → Type 0
