@@ -15,8 +15,8 @@ use Rattle.ifs_lex.specs.declared.token.What.TheVariants.{Quoted, And, Or}
 use Rattle.ifs_lex.specs.declared.scans.Gap.{Gap}
 use Rattle.ifs_lex.specs.declared.scans.Gap.TheVariants.{Blanks, Comment}
 use Rattle.ifs_lex.specs.Characters.{is_blank, is_quote, begins_word, continues_word, continues_name}
-use Rattle.ifs_lex.specs.Items.{gap_after, gap_len, inside_len, begins_with, begins_macro, Scan}
-use Rattle.ifs_lex.specs.Items.{scan, One, Open, quoted_value, use_here, twice, sign_here, item_here}
+use Rattle.ifs_lex.specs.Lexemes.{gap_after, gap_len, inside_len, begins_with, begins_macro, Scan}
+use Rattle.ifs_lex.specs.Lexemes.{scan, One, Unclosed, quoted_value, use_here, twice, sign_here, lexeme_here}
 
 word_ascii : (b : ℕ) → continues_word b ≡ true → b < 128
 word_ascii b h = grind (arith, nat_tests)
@@ -199,7 +199,7 @@ use_ends b rest u e =
     (λ _. IsCharBoundary-from_rest (b ∷ rest) 1 (prefix_len continues_name rest) (omega arith) (run_end continues_name name_ascii rest past _ refl))
     (λ _. IsCharBoundary-start _ u)
 
-quoted_ends : (b : ℕ) (rest : List ℕ) → IsUtf8 (b ∷ rest) → b < 128 → (m : Option ℕ) → inside_len b false rest ≡ m → Ends (b ∷ rest) (option_map_or (λ n. scan (One (Quoted (quoted_value b (take n rest)))) (n + 2)) m (scan Open 0))
+quoted_ends : (b : ℕ) (rest : List ℕ) → IsUtf8 (b ∷ rest) → b < 128 → (m : Option ℕ) → inside_len b false rest ≡ m → Ends (b ∷ rest) (option_map_or (λ n. scan (One (Quoted (quoted_value b (take n rest)))) (n + 2)) m (scan Unclosed 0))
 quoted_ends b rest u l None e = IsCharBoundary-start _ u
 quoted_ends b rest u l (Some n) e =
     let f = inside_at b false rest n e in
@@ -207,19 +207,19 @@ quoted_ends b rest u l (Some n) e =
     let P : ℕ → Type 0 = λ i. IsCharBoundary (b ∷ rest) i in
     subst P two (IsCharBoundary-after_ascii (b ∷ rest) (suc n) u (omega (arith, f.0)) (omega (arith, f.1)))
 
--- Each item ends where a text may be cut.
-pub item_ends : (bs : List ℕ) → IsUtf8 bs → IsCharBoundary bs (item_here bs).len
-unfolding item_here
-item_ends [] u = IsCharBoundary-start _ u
-item_ends (b ∷ rest) u =
+-- Each lexeme ends where a text may be cut.
+pub lexeme_ends : (bs : List ℕ) → IsUtf8 bs → IsCharBoundary bs (lexeme_here bs).len
+unfolding lexeme_here
+lexeme_ends [] u = IsCharBoundary-start _ u
+lexeme_ends (b ∷ rest) u =
     let E = Ends (b ∷ rest) in
     pick E (begins_word b) _ _ (λ _. run_end continues_word word_ascii (b ∷ rest) u _ refl) (λ _.
     pick E (is_quote b) _ _ (λ e. quoted_ends b rest u (quote_ascii b e) _ refl) (λ _.
     pick E (eqb b 36) _ _ (λ e. use_ends b rest u e) (λ _. sign_ends b rest u)))
 
--- After an item.
-pub item_boundary : (text : List ℕ) (n : ℕ) → IsUtf8 text → n ≡ (item_here text).len → IsCharBoundary text n
-item_boundary text n u e = let P : ℕ → Type 0 = λ i. IsCharBoundary text i in subst P (sym e) (item_ends text u)
+-- After a lexeme.
+pub lexeme_boundary : (text : List ℕ) (n : ℕ) → IsUtf8 text → n ≡ (lexeme_here text).len → IsCharBoundary text n
+lexeme_boundary text n u e = let P : ℕ → Type 0 = λ i. IsCharBoundary text i in subst P (sym e) (lexeme_ends text u)
 
 -- A text that begins where another is cut is one.
 pub rest_utf8 : (bytes rest text : List ℕ) (n : ℕ) → IsUtf8 bytes → bytes ≡ text → IsCharBoundary text n → rest ≡ drop n text → IsUtf8 rest

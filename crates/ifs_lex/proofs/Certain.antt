@@ -6,32 +6,32 @@ use Rattle.ifs_lex.specs.declared.token.What.{What}
 use Rattle.ifs_lex.specs.declared.fault.LexFault.{LexFault}
 use Rattle.ifs_lex.specs.declared.fault.LexFault.TheVariants.{BadMacro, OverLimit}
 use Rattle.ifs_lex.specs.Characters.{is_macro_name}
-use Rattle.ifs_lex.specs.Items.{Item, One, Uses, Astray, Open, Placed, item_at}
-use Rattle.ifs_lex.specs.Items.{after_item, is_last, items_at, items_of, start}
-use Rattle.ifs_lex.specs.Expansion.{no_macros, value_of, value_from, known_as, defined, state, with_part}
-use Rattle.ifs_lex.specs.Expansion.{tokens_after, parts_from, given_one, given_from, tokens_of, ◌>>=◌}
+use Rattle.ifs_lex.specs.Lexemes.{Lexeme, One, Uses, Stray, Unclosed, Spanned, lexeme_at}
+use Rattle.ifs_lex.specs.Lexemes.{after_lexeme, is_last, lexemes_at, lexemes_of, start}
+use Rattle.ifs_lex.specs.Expansion.{no_macros, value_of, value_from, known_as, defined, expanded, with_segment}
+use Rattle.ifs_lex.specs.Expansion.{tokens_after, segments_from, given_one, given_from, tokens_of, ◌>>=◌}
 use Rattle.ifs_lex.specs.AtOnce.{fault_without_macros, certain_at_once}
-use Rattle.ifs_lex.proofs.Unrolled.{items_unroll}
+use Rattle.ifs_lex.proofs.Unrolled.{lexemes_unroll}
 
 -- A fault, or else something.
 abbrev told : {X : Type 0} → X → Option LexFault → Result X LexFault
 told x None = Ok x
 told x (Some fault) = Err fault
 
-first_told : (i : Item) (span : Span) (more : List Placed) (fault : LexFault) → fault_without_macros span i ≡ Some fault
-    → tokens_after (state [] no_macros) (parts_from 0 (record { item = i; span = span } ∷ more)) ≡ Err fault
-unfolding with_part
+first_told : (i : Lexeme) (span : Span) (more : List Spanned) (fault : LexFault) → fault_without_macros span i ≡ Some fault
+    → tokens_after (expanded [] no_macros) (segments_from 0 (record { lexeme = i; span = span } ∷ more)) ≡ Err fault
+unfolding with_segment
 first_told (One what) span more fault h = absurd (cc)
 first_told (Uses name) span more fault h = ap (told []) h
-first_told Astray span more fault h = ap (told []) h
-first_told Open span more fault h = ap (told []) h
+first_told Stray span more fault h = ap (told []) h
+first_told Unclosed span more fault h = ap (told []) h
 
-text_told : (t : Bool) (text : List ℕ) (fault : LexFault) → cond t (Some (OverLimit 1)) (fault_without_macros (item_at (start text)).span (item_at (start text)).item) ≡ Some fault
-    → cond t (Err (OverLimit 1)) (tokens_after (state [] no_macros) (parts_from 0 (items_of text))) ≡ Err fault
+text_told : (t : Bool) (text : List ℕ) (fault : LexFault) → cond t (Some (OverLimit 1)) (fault_without_macros (lexeme_at (start text)).span (lexeme_at (start text)).lexeme) ≡ Some fault
+    → cond t (Err (OverLimit 1)) (tokens_after (expanded [] no_macros) (segments_from 0 (lexemes_of text))) ≡ Err fault
 text_told true text fault h = ap (told []) h
 text_told false text fault h =
-    ap (λ items. tokens_after (state [] no_macros) (parts_from 0 items)) (items_unroll (start text)) ∙
-    first_told (item_at (start text)).item (item_at (start text)).span (cond (is_last (item_at (start text)).item) [] (items_at (after_item (start text)))) fault h
+    ap (λ lexemes. tokens_after (expanded [] no_macros) (segments_from 0 lexemes)) (lexemes_unroll (start text)) ∙
+    first_told (lexeme_at (start text)).lexeme (lexeme_at (start text)).span (cond (is_last (lexeme_at (start text)).lexeme) [] (lexemes_at (after_lexeme (start text)))) fault h
 
 value_told : (u : Bool) (value : Option (List What)) (name : List ℕ) (fault : LexFault) → cond u (Some (BadMacro 0)) None ≡ Some fault
     → known_as 0 true name (cond u None value) no_macros ≡ Err fault
@@ -46,11 +46,11 @@ given_told false u value name fault h = ap (told no_macros) h
 one_told : (name value : List ℕ) (fault : LexFault) → cond (is_macro_name name) (cond (ltb 1048576 (length value)) (Some (BadMacro 0)) None) (Some (BadMacro 0)) ≡ Some fault
     → given_one name value no_macros ≡ Err fault
 unfolding value_of defined
-one_told name value fault h = given_told (is_macro_name name) (ltb 1048576 (length value)) (value_from no_macros (Some []) (items_of value)) name fault h
+one_told name value fault h = given_told (is_macro_name name) (ltb 1048576 (length value)) (value_from no_macros (Some []) (lexemes_of value)) name fault h
 
 pub certain_told : (text : List ℕ) (defs : List (List ℕ × List ℕ)) (fault : LexFault) → certain_at_once text defs ≡ Some fault → tokens_of text defs ≡ Err fault
 unfolding tokens_of
 certain_told text [] fault h = text_told (ltb 1048576 (length text)) text fault h
 certain_told text (def ∷ rest) fault h =
-    ap (λ r. (r >>= λ next. given_from next rest) >>= λ m. cond (ltb 1048576 (length text)) (Err (OverLimit 1)) (tokens_after (state [] m) (parts_from 0 (items_of text))))
+    ap (λ r. (r >>= λ next. given_from next rest) >>= λ m. cond (ltb 1048576 (length text)) (Err (OverLimit 1)) (tokens_after (expanded [] m) (segments_from 0 (lexemes_of text))))
     (one_told def.0 def.1 fault h)

@@ -12,14 +12,14 @@ use Rattle.ifs_lex.specs.declared.token.What.TheVariants.{ParenClose, Dot, Equal
 use Rattle.ifs_lex.specs.declared.token.Token.{Token}
 use Rattle.ifs_lex.specs.declared.fault.LexFault.{LexFault}
 use Rattle.ifs_lex.specs.declared.fault.LexFault.TheVariants.{OverLimit, BadMacro}
-use Rattle.ifs_lex.specs.Items.{Item, One, Uses, Astray, Open, Place, Placed, item_at}
-use Rattle.ifs_lex.specs.Items.{after_item, is_last, items_at, items_of, start}
+use Rattle.ifs_lex.specs.Lexemes.{Lexeme, One, Uses, Stray, Unclosed, Cursor, Spanned, lexeme_at}
+use Rattle.ifs_lex.specs.Lexemes.{after_lexeme, is_last, lexemes_at, lexemes_of, start}
 use Rattle.ifs_lex.specs.Expansion.{Macro, Macros, no_macros, with_macro, whats_of, joined, value_from}
-use Rattle.ifs_lex.specs.Expansion.{value_of, is_given, known_as, defined, name_of, State, state, token}
-use Rattle.ifs_lex.specs.Expansion.{with_whats, with_use, with_item, tokens_after, parts_from, given_one}
+use Rattle.ifs_lex.specs.Expansion.{value_of, is_given, known_as, defined, name_of, Expanded, expanded, token}
+use Rattle.ifs_lex.specs.Expansion.{with_whats, with_use, with_lexeme, tokens_after, segments_from, given_one}
 use Rattle.ifs_lex.specs.Expansion.{given_from, tokens_of, ◌>>=◌, is_end, Endless, EndsOnce, Spells}
-use Rattle.ifs_lex.specs.Turns.{text_here, definition_here, after_definition, with_turn}
-use Rattle.ifs_lex.proofs.Parts.{turn_is, ending, turn_smaller}
+use Rattle.ifs_lex.specs.inner.Turns.{text_here, definition_here, after_definition, with_turn}
+use Rattle.ifs_lex.proofs.Segments.{turn_is, ending, turn_smaller}
 
 -- A result without a fault.
 abbrev fine : {A : Type 0} → A → Result A LexFault
@@ -62,22 +62,22 @@ known_value (Some known) ws f h =
     let same : known.whats ≡ ws = cc in
     subst Values same (f known refl)
 
-item_value : (m : Macros) (i : Item) (ws : List What) → Sound m → whats_of m i ≡ Some ws → Values ws
-item_value m (One Equals) ws g h = absurd (cc)
-item_value m (One End) ws g h = no_value ws h
-item_value m (One (Word text)) ws g h = one_value _ ws refl h
-item_value m (One (Quoted text)) ws g h = one_value _ ws refl h
-item_value m (One BraceOpen) ws g h = one_value _ ws refl h
-item_value m (One BraceClose) ws g h = one_value _ ws refl h
-item_value m (One ParenOpen) ws g h = one_value _ ws refl h
-item_value m (One ParenClose) ws g h = one_value _ ws refl h
-item_value m (One Dot) ws g h = one_value _ ws refl h
-item_value m (One Bang) ws g h = one_value _ ws refl h
-item_value m (One And) ws g h = one_value _ ws refl h
-item_value m (One Or) ws g h = one_value _ ws refl h
-item_value m (Uses name) ws g h = known_value (m.known name) ws (g.values name) h
-item_value m Astray ws g h = absurd (cc)
-item_value m Open ws g h = absurd (cc)
+lexeme_value : (m : Macros) (i : Lexeme) (ws : List What) → Sound m → whats_of m i ≡ Some ws → Values ws
+lexeme_value m (One Equals) ws g h = absurd (cc)
+lexeme_value m (One End) ws g h = no_value ws h
+lexeme_value m (One (Word text)) ws g h = one_value _ ws refl h
+lexeme_value m (One (Quoted text)) ws g h = one_value _ ws refl h
+lexeme_value m (One BraceOpen) ws g h = one_value _ ws refl h
+lexeme_value m (One BraceClose) ws g h = one_value _ ws refl h
+lexeme_value m (One ParenOpen) ws g h = one_value _ ws refl h
+lexeme_value m (One ParenClose) ws g h = one_value _ ws refl h
+lexeme_value m (One Dot) ws g h = one_value _ ws refl h
+lexeme_value m (One Bang) ws g h = one_value _ ws refl h
+lexeme_value m (One And) ws g h = one_value _ ws refl h
+lexeme_value m (One Or) ws g h = one_value _ ws refl h
+lexeme_value m (Uses name) ws g h = known_value (m.known name) ws (g.values name) h
+lexeme_value m Stray ws g h = absurd (cc)
+lexeme_value m Unclosed ws g h = absurd (cc)
 
 cut_value : (t : Bool) (whole ws : List What) → Values whole → cond t None (Some whole) ≡ Some ws → Values ws
 cut_value true whole ws v h = absurd (cc)
@@ -87,11 +87,11 @@ joined_value : (before : List What) (o : Option (List What)) (ws : List What) �
 joined_value before None ws v f h = absurd (cc)
 joined_value before (Some more) ws v f h = cut_value _ (before ++ more) ws (Values-append before more v (f more refl)) h
 
-value_ends : (m : Macros) (o : Option (List What)) (items : List Placed) (ws : List What) → Sound m → ((before : List What) → o ≡ Some before → Values before) → value_from m o items ≡ Some ws → Values ws
+value_ends : (m : Macros) (o : Option (List What)) (lexemes : List Spanned) (ws : List What) → Sound m → ((before : List What) → o ≡ Some before → Values before) → value_from m o lexemes ≡ Some ws → Values ws
 value_ends m o [] ws g f h = f ws h
 value_ends m None (p ∷ rest) ws g f h = absurd (cc)
 value_ends m (Some before) (p ∷ rest) ws g f h =
-    value_ends m (joined before (whats_of m p.item)) rest ws g (λ more e. joined_value before (whats_of m p.item) more (f before refl) (λ x k. item_value m p.item x g k) e) h
+    value_ends m (joined before (whats_of m p.lexeme)) rest ws g (λ more e. joined_value before (whats_of m p.lexeme) more (f before refl) (λ x k. lexeme_value m p.lexeme x g k) e) h
 
 none_before : (before : List What) → Some [] ≡ Some before → Values before
 none_before before h = no_value before h
@@ -100,9 +100,9 @@ value_sound : (m : Macros) (text : List ℕ) (ws : List What) → Sound m → va
 unfolding value_of
 value_sound m text ws g h = by_size (ltb 1048576 (length text)) h
   where
-    by_size : (t : Bool) → cond t None (value_from m (Some []) (items_of text)) ≡ Some ws → Values ws
+    by_size : (t : Bool) → cond t None (value_from m (Some []) (lexemes_of text)) ≡ Some ws → Values ws
     by_size true k = absurd (cc)
-    by_size false k = value_ends m (Some []) (items_of text) ws g none_before k
+    by_size false k = value_ends m (Some []) (lexemes_of text) ws g none_before k
 
 new_value : (t : Bool) (new : Macro) (o : Option Macro) (known : Macro) → Values new.whats → (o ≡ Some known → Values known.whats) → cond t (Some new) o ≡ Some known → Values known.whats
 new_value true new o known v f h =
@@ -137,107 +137,107 @@ defined_sound line given name value m n g h = by_given (is_given m name) h
     by_given false k = known_sound line given name (value_of m value) m n g (λ ws e. value_sound m value ws g e) k
 
 -- Neither the tokens so far nor a macro has the end.
-record Going (s : State) : Type 0 where
+record Going (s : Expanded) : Type 0 where
   pub tokens : Endless s.tokens
   pub macros : Sound s.macros
 
-more_going : (t : Bool) (s made next : State) (fault : LexFault) → Going made → cond t (Err fault) (Ok made) ≡ Ok next → Going next
+more_going : (t : Bool) (s made next : Expanded) (fault : LexFault) → Going made → cond t (Err fault) (Ok made) ≡ Ok next → Going next
 more_going true s made next fault g h = absurd (cc)
-more_going false s made next fault g h = let same : made ≡ next = cc in let P : State → Type 0 = λ k. Going k in subst P same g
+more_going false s made next fault g h = let same : made ≡ next = cc in let P : Expanded → Type 0 = λ k. Going k in subst P same g
 
-whats_going : (span : Span) (ws : List What) (s next : State) → Going s → Values ws → with_whats span ws s ≡ Ok next → Going next
+whats_going : (span : Span) (ws : List What) (s next : Expanded) → Going s → Values ws → with_whats span ws s ≡ Ok next → Going next
 unfolding Values
 whats_going span ws s next g v h =
     more_going (ltb 16384 (length s.tokens + length ws)) s _ next (OverLimit span.line) (record { tokens = Endless-append s.tokens (map (token span) ws) g.tokens (v span); macros = g.macros }) h
 
-use_going : (span : Span) (o : Option Macro) (s next : State) → Going s → ((known : Macro) → o ≡ Some known → Values known.whats) → with_use span o s ≡ Ok next → Going next
+use_going : (span : Span) (o : Option Macro) (s next : Expanded) → Going s → ((known : Macro) → o ≡ Some known → Values known.whats) → with_use span o s ≡ Ok next → Going next
 use_going span None s next g f h = absurd (cc)
 use_going span (Some known) s next g f h = whats_going span known.whats s next g (f known refl) h
 
-one_going : (span : Span) (what : What) (s next : State) → Going s → is_end what ≡ false → with_whats span (what ∷ []) s ≡ Ok next → Going next
+one_going : (span : Span) (what : What) (s next : Expanded) → Going s → is_end what ≡ false → with_whats span (what ∷ []) s ≡ Ok next → Going next
 one_going span what s next g e h = whats_going span (what ∷ []) s next g (one_value what (what ∷ []) e refl) h
 
-item_going : (span : Span) (i : Item) (s next : State) → Going s → is_last i ≡ false → with_item span i s ≡ Ok next → Going next
-item_going span (One End) s next g l h = absurd (cc)
-item_going span (One (Word text)) s next g l h = one_going span _ s next g refl h
-item_going span (One (Quoted text)) s next g l h = one_going span _ s next g refl h
-item_going span (One BraceOpen) s next g l h = one_going span _ s next g refl h
-item_going span (One BraceClose) s next g l h = one_going span _ s next g refl h
-item_going span (One ParenOpen) s next g l h = one_going span _ s next g refl h
-item_going span (One ParenClose) s next g l h = one_going span _ s next g refl h
-item_going span (One Dot) s next g l h = one_going span _ s next g refl h
-item_going span (One Equals) s next g l h = one_going span _ s next g refl h
-item_going span (One Bang) s next g l h = one_going span _ s next g refl h
-item_going span (One And) s next g l h = one_going span _ s next g refl h
-item_going span (One Or) s next g l h = one_going span _ s next g refl h
-item_going span (Uses name) s next g l h = use_going span (s.macros.known name) s next g (g.macros.values name) h
-item_going span Astray s next g l h = absurd (cc)
-item_going span Open s next g l h = absurd (cc)
+lexeme_going : (span : Span) (i : Lexeme) (s next : Expanded) → Going s → is_last i ≡ false → with_lexeme span i s ≡ Ok next → Going next
+lexeme_going span (One End) s next g l h = absurd (cc)
+lexeme_going span (One (Word text)) s next g l h = one_going span _ s next g refl h
+lexeme_going span (One (Quoted text)) s next g l h = one_going span _ s next g refl h
+lexeme_going span (One BraceOpen) s next g l h = one_going span _ s next g refl h
+lexeme_going span (One BraceClose) s next g l h = one_going span _ s next g refl h
+lexeme_going span (One ParenOpen) s next g l h = one_going span _ s next g refl h
+lexeme_going span (One ParenClose) s next g l h = one_going span _ s next g refl h
+lexeme_going span (One Dot) s next g l h = one_going span _ s next g refl h
+lexeme_going span (One Equals) s next g l h = one_going span _ s next g refl h
+lexeme_going span (One Bang) s next g l h = one_going span _ s next g refl h
+lexeme_going span (One And) s next g l h = one_going span _ s next g refl h
+lexeme_going span (One Or) s next g l h = one_going span _ s next g refl h
+lexeme_going span (Uses name) s next g l h = use_going span (s.macros.known name) s next g (g.macros.values name) h
+lexeme_going span Stray s next g l h = absurd (cc)
+lexeme_going span Unclosed s next g l h = absurd (cc)
 
-macros_going : (s next : State) (r : Result Macros LexFault) → Going s → ((m : Macros) → r ≡ Ok m → Sound m) → (r >>= λ m. Ok (state s.tokens m)) ≡ Ok next → Going next
+macros_going : (s next : Expanded) (r : Result Macros LexFault) → Going s → ((m : Macros) → r ≡ Ok m → Sound m) → (r >>= λ m. Ok (expanded s.tokens m)) ≡ Ok next → Going next
 macros_going s next (Err fault) g f h = absurd (cc)
 macros_going s next (Ok m) g f h =
-    let same : state s.tokens m ≡ next = cc in
-    let P : State → Type 0 = λ k. Going k in
+    let same : expanded s.tokens m ≡ next = cc in
+    let P : Expanded → Type 0 = λ k. Going k in
     subst P same (record { tokens = g.tokens; macros = f m refl })
 
-turn_going : (x : Placed) (d : Option (List ℕ × List ℕ)) (s next : State) → Going s → is_last x.item ≡ false → with_turn x d s ≡ Ok next → Going next
-turn_going x None s next g l h = item_going x.span x.item s next g l h
+turn_going : (x : Spanned) (d : Option (List ℕ × List ℕ)) (s next : Expanded) → Going s → is_last x.lexeme ≡ false → with_turn x d s ≡ Ok next → Going next
+turn_going x None s next g l h = lexeme_going x.span x.lexeme s next g l h
 turn_going x (Some d) s next g l h =
     macros_going s next _ g (λ m e. defined_sound x.span.line false d.0 d.1 s.macros m g.macros e) h
 
-end_once : (span : Span) (s next : State) (ts : List Token) → Going s → fine (state (s.tokens ++ (token span End ∷ [])) s.macros) ≡ Ok next → fine next.tokens ≡ Ok ts → EndsOnce ts
+end_once : (span : Span) (s next : Expanded) (ts : List Token) → Going s → fine (expanded (s.tokens ++ (token span End ∷ [])) s.macros) ≡ Ok next → fine next.tokens ≡ Ok ts → EndsOnce ts
 end_once span s next ts g h k =
-    let one : state (s.tokens ++ (token span End ∷ [])) s.macros ≡ next = cc in
+    let one : expanded (s.tokens ++ (token span End ∷ [])) s.macros ≡ next = cc in
     let two : next.tokens ≡ ts = cc in
     record {
       front = s.tokens;
       last = token span End;
-      whole = sym two ∙ sym (ap (λ (n : State). n.tokens) one);
+      whole = sym two ∙ sym (ap (λ (n : Expanded). n.tokens) one);
       ends = refl;
       once = g.tokens;
     }
 
-pub no_definition : (i : Item) → is_last i ≡ true → name_of i ≡ None
+pub no_definition : (i : Lexeme) → is_last i ≡ true → name_of i ≡ None
 no_definition (One End) l = refl
 no_definition (One _) l = absurd (cc)
 no_definition (Uses _) l = absurd (cc)
-no_definition Astray l = refl
-no_definition Open l = refl
+no_definition Stray l = refl
+no_definition Unclosed l = refl
 
-last_once : (span : Span) (i : Item) (s next : State) (ts : List Token) → Going s → is_last i ≡ true → with_item span i s ≡ Ok next → fine next.tokens ≡ Ok ts → EndsOnce ts
+last_once : (span : Span) (i : Lexeme) (s next : Expanded) (ts : List Token) → Going s → is_last i ≡ true → with_lexeme span i s ≡ Ok next → fine next.tokens ≡ Ok ts → EndsOnce ts
 last_once span (One End) s next ts g l h k = end_once span s next ts g h k
 last_once span (One _) s next ts g l h k = absurd (cc)
 last_once span (Uses _) s next ts g l h k = absurd (cc)
-last_once span Astray s next ts g l h k = absurd (cc)
-last_once span Open s next ts g l h k = absurd (cc)
+last_once span Stray s next ts g l h k = absurd (cc)
+last_once span Unclosed s next ts g l h k = absurd (cc)
 
--- The place after the part that stands at a place.
-next_place : Place → Place
-next_place p = after_definition (after_item p) (is_some (definition_here (after_item p) (item_at p).item))
+-- The cursor after the segment that stands at a cursor.
+next_place : Cursor → Cursor
+next_place p = after_definition (after_lexeme p) (is_some (definition_here (after_lexeme p) (lexeme_at p).lexeme))
 
-ends_here : (s next : State) (p : Place) (ts : List Token) → Going s → is_last (item_at p).item ≡ true → with_turn (item_at p) (definition_here (after_item p) (item_at p).item) s ≡ Ok next → fine next.tokens ≡ Ok ts → EndsOnce ts
+ends_here : (s next : Expanded) (p : Cursor) (ts : List Token) → Going s → is_last (lexeme_at p).lexeme ≡ true → with_turn (lexeme_at p) (definition_here (after_lexeme p) (lexeme_at p).lexeme) s ≡ Ok next → fine next.tokens ≡ Ok ts → EndsOnce ts
 ends_here s next p ts g l e k =
-    let none = no_definition (item_at p).item l in
-    let found : Option (List ℕ) → Option (List ℕ × List ℕ) = λ o. option_map_or (λ name. option_map (λ text. (name, text)) (text_here (after_item p))) o None in
-    last_once (item_at p).span (item_at p).item s next ts g l (sym (ap (λ o. with_turn (item_at p) (found o) s) none) ∙ e) k
+    let none = no_definition (lexeme_at p).lexeme l in
+    let found : Option (List ℕ) → Option (List ℕ × List ℕ) = λ o. option_map_or (λ name. option_map (λ text. (name, text)) (text_here (after_lexeme p))) o None in
+    last_once (lexeme_at p).span (lexeme_at p).lexeme s next ts g l (sym (ap (λ o. with_turn (lexeme_at p) (found o) s) none) ∙ e) k
 
-goes_here : (last : Bool) (s next : State) (p : Place) (ts : List Token) → Going s → is_last (item_at p).item ≡ last → with_turn (item_at p) (definition_here (after_item p) (item_at p).item) s ≡ Ok next → ending last (next_place p) next ≡ Ok ts → (is_last (item_at p).item ≡ false → Going next → tokens_after next (parts_from 0 (items_at (next_place p))) ≡ Ok ts → EndsOnce ts) → EndsOnce ts
+goes_here : (last : Bool) (s next : Expanded) (p : Cursor) (ts : List Token) → Going s → is_last (lexeme_at p).lexeme ≡ last → with_turn (lexeme_at p) (definition_here (after_lexeme p) (lexeme_at p).lexeme) s ≡ Ok next → ending last (next_place p) next ≡ Ok ts → (is_last (lexeme_at p).lexeme ≡ false → Going next → tokens_after next (segments_from 0 (lexemes_at (next_place p))) ≡ Ok ts → EndsOnce ts) → EndsOnce ts
 unfolding ending
 goes_here true s next p ts g l e k rest = ends_here s next p ts g l e k
-goes_here false s next p ts g l e k rest = rest l (turn_going (item_at p) _ s next g l e) k
+goes_here false s next p ts g l e k rest = rest l (turn_going (lexeme_at p) _ s next g l e) k
 
-by_turn : (w : Result State LexFault) (s : State) (p : Place) (ts : List Token) → Going s → with_turn (item_at p) (definition_here (after_item p) (item_at p).item) s ≡ w → (w >>= ending (is_last (item_at p).item) (next_place p)) ≡ Ok ts → ((next : State) → is_last (item_at p).item ≡ false → Going next → tokens_after next (parts_from 0 (items_at (next_place p))) ≡ Ok ts → EndsOnce ts) → EndsOnce ts
+by_turn : (w : Result Expanded LexFault) (s : Expanded) (p : Cursor) (ts : List Token) → Going s → with_turn (lexeme_at p) (definition_here (after_lexeme p) (lexeme_at p).lexeme) s ≡ w → (w >>= ending (is_last (lexeme_at p).lexeme) (next_place p)) ≡ Ok ts → ((next : Expanded) → is_last (lexeme_at p).lexeme ≡ false → Going next → tokens_after next (segments_from 0 (lexemes_at (next_place p))) ≡ Ok ts → EndsOnce ts) → EndsOnce ts
 by_turn (Err fault) s p ts g e k rest = absurd (cc)
 by_turn (Ok next) s p ts g e k rest = goes_here _ s next p ts g refl e k (rest next)
 
-ends_from : (n : ℕ) (s : State) (p : Place) (ts : List Token) → length p.left < n → Going s → tokens_after s (parts_from 0 (items_at p)) ≡ Ok ts → EndsOnce ts
+ends_from : (n : ℕ) (s : Expanded) (p : Cursor) (ts : List Token) → length p.left < n → Going s → tokens_after s (segments_from 0 (lexemes_at p)) ≡ Ok ts → EndsOnce ts
 unfolding next_place
 ends_from zero s p ts l g h = absurd (omega arith)
 ends_from (suc n) s p ts l g h =
     by_turn _ s p ts g refl (sym (turn_is s p) ∙ h)
     (λ next last going k.
-    let less = turn_smaller p (after_item p) (next_place p) (item_at p).item _ refl refl refl last in
+    let less = turn_smaller p (after_lexeme p) (next_place p) (lexeme_at p).lexeme _ refl refl refl last in
     ends_from n next (next_place p) ts (omega arith) going k)
 
 given_case : (t : Bool) (name value : List ℕ) (m n : Macros) → Sound m → cond t (defined 0 true name value m) (Err (BadMacro 0)) ≡ Ok n → Sound n
@@ -256,12 +256,12 @@ given_sound (def ∷ rest) m n g h =
 none_sound : Sound no_macros
 none_sound = record { values = λ name known h. absurd (cc) }
 
-text_ends : (t : Bool) (m : Macros) (text : List ℕ) (ts : List Token) → Sound m → cond t (Err (OverLimit 1)) (tokens_after (state [] m) (parts_from 0 (items_of text))) ≡ Ok ts → EndsOnce ts
+text_ends : (t : Bool) (m : Macros) (text : List ℕ) (ts : List Token) → Sound m → cond t (Err (OverLimit 1)) (tokens_after (expanded [] m) (segments_from 0 (lexemes_of text))) ≡ Ok ts → EndsOnce ts
 text_ends true m text ts g h = absurd (cc)
 text_ends false m text ts g h =
-    ends_from (suc (length text)) (state [] m) (start text) ts (omega arith) (record { tokens = tt; macros = g }) h
+    ends_from (suc (length text)) (expanded [] m) (start text) ts (omega arith) (record { tokens = tt; macros = g }) h
 
-all_end : (r : Result Macros LexFault) (text : List ℕ) (ts : List Token) → ((m : Macros) → r ≡ Ok m → Sound m) → (r >>= λ m. cond (ltb 1048576 (length text)) (Err (OverLimit 1)) (tokens_after (state [] m) (parts_from 0 (items_of text)))) ≡ Ok ts → EndsOnce ts
+all_end : (r : Result Macros LexFault) (text : List ℕ) (ts : List Token) → ((m : Macros) → r ≡ Ok m → Sound m) → (r >>= λ m. cond (ltb 1048576 (length text)) (Err (OverLimit 1)) (tokens_after (expanded [] m) (segments_from 0 (lexemes_of text)))) ≡ Ok ts → EndsOnce ts
 all_end (Err fault) text ts f h = absurd (cc)
 all_end (Ok m) text ts f h = text_ends _ m text ts (f m refl) h
 

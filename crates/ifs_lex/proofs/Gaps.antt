@@ -7,7 +7,7 @@ use Rattle.std.proofs.lemmas.Bool.{eqb-true}
 use Rattle.std.proofs.lemmas.Bool.Decides.{nat_tests}
 use Rattle.ifs_lex.specs.declared.scans.Gap.TheVariants.{Blanks, Comment}
 use Rattle.ifs_lex.specs.Characters.{is_blank}
-use Rattle.ifs_lex.specs.Items.{begins_with, gap_len, inside_len}
+use Rattle.ifs_lex.specs.Lexemes.{begins_with, gap_len, inside_len}
 use Rattle.ifs_lex.specs.Spelling.{after_backslash, Unended, IsGap, empty, blank, joined, comment, last_comment}
 use Rattle.ifs_lex.proofs.Spelt.{true_false, shift, one_part, closes, closed}
 

@@ -4,7 +4,7 @@ pub mod RopeLaws
 pub mod Signs
 pub mod Tables
 pub mod Unrolled
-pub mod Parts
+pub mod Segments
 pub mod Endings
 pub mod Spelt
 pub mod Gaps

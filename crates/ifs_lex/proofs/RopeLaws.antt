@@ -9,8 +9,9 @@ use Rattle.ifs_lex.specs.declared.token.Token.{Token}
 use Rattle.ifs_lex.specs.Expansion.{token}
 use Rattle.ifs_lex.specs.declared.token.What.{What}
 use Rattle.ifs_lex.specs.declared.ropes.Cell.{Cell}
-use Rattle.ifs_lex.specs.declared.ropes.Cell.TheVariants.{Nothing, Leaf, Both}
-use Rattle.ifs_lex.specs.Ropes.{whats_at, whats_in, ropes_from, IsEarlier, AreEarlier, Keeps, stacked, weight, weights}
+use Rattle.ifs_lex.specs.declared.ropes.Cell.TheVariants.{Empty, Leaf, Both}
+use Rattle.ifs_lex.specs.inner.Ropes.{whats_at, whats_in, ropes_from, IsEarlier, AreEarlier, Keeps, stacked, weight}
+use Rattle.ifs_lex.specs.inner.Ropes.{weights}
 
 pub length-ropes_from : (before : List (List What)) (cells : List Cell) → length (ropes_from before cells) ≡ length before + length cells
 length-ropes_from before [] = omega arith
@@ -36,7 +37,7 @@ ropes-keep before (cell ∷ rest) n l =
     ropes-keep (before ++ (whats_in before cell ∷ [])) rest n (omega arith) ∙ before_end before (whats_in before cell ∷ []) n l
 
 in-keep : (before : List (List What)) (cells : List Cell) (cell : Cell) → IsEarlier (length before) cell → whats_in (ropes_from before cells) cell ≡ whats_in before cell
-in-keep before cells Nothing e = refl
+in-keep before cells Empty e = refl
 in-keep before cells (Leaf what) e = refl
 in-keep before cells (Both left right) e =
     let one = ropes-keep before cells left e.0 in
@@ -109,7 +110,7 @@ weight_two l r n h g =
     let a = weight_up l n h in let b = weight_up r n g in let c = weight_some n in omega arith
 
 -- One cell put for another, or two for the one that joins them.
-pub none_put : (cells : List Cell) (ropes : List (List What)) (n : ℕ) (x : Cell) → IsCell cells ropes n x → x ≡ Nothing → whats_at ropes n ≡ []
+pub none_put : (cells : List Cell) (ropes : List (List What)) (n : ℕ) (x : Cell) → IsCell cells ropes n x → x ≡ Empty → whats_at ropes n ≡ []
 none_put cells ropes n x f e = f.whats ∙ ap (whats_in ropes) e
 
 pub leaf_put : (cells : List Cell) (ropes : List (List What)) (n : ℕ) (x : Cell) (what : What) → IsCell cells ropes n x → x ≡ Leaf what → whats_at ropes n ≡ what ∷ []

@@ -1,4 +1,4 @@
--- The item that is read is the one that the relation says.
+-- The lexeme that is read is the one that the relation says.
 use Rattle.std.proofs.Common.{◌≡◌, ℕ, ◌+◌, ◌≤◌, Bool, true, false, cond, eqb, ◌&&◌, List, [], ◌∷◌, ◌++◌, length}
 use Rattle.std.proofs.Common.{take, Option, Some, None, refl, sym, ◌∙◌, ap, subst, arith, length-append}
 use Rattle.std.specs.List.{prefix_len}
@@ -10,10 +10,11 @@ use Rattle.ifs_lex.specs.declared.token.What.TheVariants.{Word, Quoted, BraceOpe
 use Rattle.ifs_lex.specs.declared.token.What.TheVariants.{ParenClose, Dot, Equals, Bang, And, Or, End}
 use Rattle.ifs_lex.specs.declared.scans.Gap.TheVariants.{Blanks}
 use Rattle.ifs_lex.specs.Characters.{is_blank, is_quote, begins_word, continues_word, begins_name, continues_name}
-use Rattle.ifs_lex.specs.Items.{Item, One, Uses, Astray, Open, Scan, scan, is_last, begins_with, gap_len, inside_len}
-use Rattle.ifs_lex.specs.Items.{quoted_value, word_here, quoted_here, use_here, twice, sign_here, item_here}
+use Rattle.ifs_lex.specs.Lexemes.{Lexeme, One, Uses, Stray, Unclosed, Scan, scan, is_last, begins_with, gap_len}
+use Rattle.ifs_lex.specs.Lexemes.{inside_len}
+use Rattle.ifs_lex.specs.Lexemes.{quoted_value, word_here, quoted_here, use_here, twice, sign_here, lexeme_here}
 use Rattle.ifs_lex.specs.Spelling.{IsSign, brace_open, brace_close, paren_open, paren_close, point, equals}
-use Rattle.ifs_lex.specs.Spelling.{bang, conjunction, disjunction, IsItem, word, quoted, uses, sign}
+use Rattle.ifs_lex.specs.Spelling.{bang, conjunction, disjunction, IsLexeme, word, quoted, uses, sign}
 use Rattle.ifs_lex.proofs.Spelt.{prefix_longest, longest_once, says, said, closes, closed}
 use Rattle.ifs_lex.proofs.Gaps.{no_gap}
 
@@ -49,21 +50,21 @@ sign_no_gap _ rest _ bang = refl
 sign_no_gap _ rest _ conjunction = refl
 sign_no_gap _ rest _ disjunction = refl
 
--- No gap comes where an item does.
-pub item_no_gap : (bs : List ℕ) (item : Item) (n : ℕ) → IsItem bs item n → gap_len Blanks bs ≡ 0
-item_no_gap _ _ _ (word b rest n e l) =
+-- No gap comes where a lexeme does.
+pub lexeme_no_gap : (bs : List ℕ) (lexeme : Lexeme) (n : ℕ) → IsLexeme bs lexeme n → gap_len Blanks bs ≡ 0
+lexeme_no_gap _ _ _ (word b rest n e l) =
     no_gap b rest (word_not_hash b e) (word_not_blank b e) (ap (λ t. t && begins_with 10 rest) (word_not_backslash b e))
-item_no_gap _ _ _ (quoted q rest value n e c s) =
+lexeme_no_gap _ _ _ (quoted q rest value n e c s) =
     no_gap q rest (quote_not_hash q e) (quote_not_blank q e) (ap (λ t. t && begins_with 10 rest) (quote_not_backslash q e))
-item_no_gap _ _ _ (uses b rest n e l) = refl
-item_no_gap _ _ _ (sign s rest what h) = sign_no_gap s rest what h
+lexeme_no_gap _ _ _ (uses b rest n e l) = refl
+lexeme_no_gap _ _ _ (sign s rest what h) = sign_no_gap s rest what h
 
--- An item is within its bytes.
-pub item_within : (bs : List ℕ) (item : Item) (n : ℕ) → IsItem bs item n → n ≤ length bs
-item_within _ _ _ (word b rest n e l) = l.within
-item_within _ _ _ (quoted q rest value n e c s) = omega (arith, c.within)
-item_within _ _ _ (uses b rest n e l) = omega (arith, l.within)
-item_within _ _ _ (sign s rest what h) = let l = length-append s rest in omega arith
+-- A lexeme is within its bytes.
+pub lexeme_within : (bs : List ℕ) (lexeme : Lexeme) (n : ℕ) → IsLexeme bs lexeme n → n ≤ length bs
+lexeme_within _ _ _ (word b rest n e l) = l.within
+lexeme_within _ _ _ (quoted q rest value n e c s) = omega (arith, c.within)
+lexeme_within _ _ _ (uses b rest n e l) = omega (arith, l.within)
+lexeme_within _ _ _ (sign s rest what h) = let l = length-append s rest in omega arith
 
 sign_not_last : (s : List ℕ) (what : What) → IsSign s what → is_last (One what) ≡ false
 sign_not_last _ _ brace_open = refl
@@ -76,31 +77,31 @@ sign_not_last _ _ bang = refl
 sign_not_last _ _ conjunction = refl
 sign_not_last _ _ disjunction = refl
 
--- Items come after an item.
-pub item_not_last : (bs : List ℕ) (item : Item) (n : ℕ) → IsItem bs item n → is_last item ≡ false
-item_not_last _ _ _ (word b rest n e l) = refl
-item_not_last _ _ _ (quoted q rest value n e c s) = refl
-item_not_last _ _ _ (uses b rest n e l) = refl
-item_not_last _ _ _ (sign s rest what h) = sign_not_last s what h
+-- Lexemes come after a lexeme.
+pub lexeme_not_last : (bs : List ℕ) (lexeme : Lexeme) (n : ℕ) → IsLexeme bs lexeme n → is_last lexeme ≡ false
+lexeme_not_last _ _ _ (word b rest n e l) = refl
+lexeme_not_last _ _ _ (quoted q rest value n e c s) = refl
+lexeme_not_last _ _ _ (uses b rest n e l) = refl
+lexeme_not_last _ _ _ (sign s rest what h) = sign_not_last s what h
 
-here_word : (b : ℕ) (rest : List ℕ) → begins_word b ≡ true → item_here (b ∷ rest) ≡ word_here (b ∷ rest)
-unfolding item_here
+here_word : (b : ℕ) (rest : List ℕ) → begins_word b ≡ true → lexeme_here (b ∷ rest) ≡ word_here (b ∷ rest)
+unfolding lexeme_here
 here_word b rest e =
     ap (λ t. cond t (word_here (b ∷ rest)) (cond (is_quote b) (quoted_here b rest) (cond (eqb b 36) (use_here rest) (sign_here b rest)))) e
 
-pub here_quoted : (b : ℕ) (rest : List ℕ) → is_quote b ≡ true → item_here (b ∷ rest) ≡ quoted_here b rest
-unfolding item_here
+pub here_quoted : (b : ℕ) (rest : List ℕ) → is_quote b ≡ true → lexeme_here (b ∷ rest) ≡ quoted_here b rest
+unfolding lexeme_here
 here_quoted b rest e =
     ap (λ t. cond t (word_here (b ∷ rest)) (cond (is_quote b) (quoted_here b rest) (cond (eqb b 36) (use_here rest) (sign_here b rest)))) (quote_not_word b e) ∙
     ap (λ t. cond t (quoted_here b rest) (cond (eqb b 36) (use_here rest) (sign_here b rest))) e
 
-here_use : (b : ℕ) (rest : List ℕ) → begins_name b ≡ true → item_here (36 ∷ b ∷ rest) ≡ scan (Uses (take (prefix_len continues_name (b ∷ rest)) (b ∷ rest))) (1 + prefix_len continues_name (b ∷ rest))
-unfolding item_here
+here_use : (b : ℕ) (rest : List ℕ) → begins_name b ≡ true → lexeme_here (36 ∷ b ∷ rest) ≡ scan (Uses (take (prefix_len continues_name (b ∷ rest)) (b ∷ rest))) (1 + prefix_len continues_name (b ∷ rest))
+unfolding lexeme_here
 here_use b rest e =
-    ap (λ t. cond t (scan (Uses (take (prefix_len continues_name (b ∷ rest)) (b ∷ rest))) (1 + prefix_len continues_name (b ∷ rest))) (scan Astray 0)) e
+    ap (λ t. cond t (scan (Uses (take (prefix_len continues_name (b ∷ rest)) (b ∷ rest))) (1 + prefix_len continues_name (b ∷ rest))) (scan Stray 0)) e
 
-here_sign : (s rest : List ℕ) (what : What) → IsSign s what → item_here (s ++ rest) ≡ scan (One what) (length s)
-unfolding item_here
+here_sign : (s rest : List ℕ) (what : What) → IsSign s what → lexeme_here (s ++ rest) ≡ scan (One what) (length s)
+unfolding lexeme_here
 here_sign _ rest _ brace_open = refl
 here_sign _ rest _ brace_close = refl
 here_sign _ rest _ paren_open = refl
@@ -111,58 +112,58 @@ here_sign _ rest _ bang = refl
 here_sign _ rest _ conjunction = refl
 here_sign _ rest _ disjunction = refl
 
--- An item that comes first is the one that is read.
-pub item_only : (bs : List ℕ) (item : Item) (n : ℕ) → IsItem bs item n → item_here bs ≡ scan item n
-item_only _ _ _ (word b rest n e l) =
+-- A lexeme that comes first is the one that is read.
+pub lexeme_only : (bs : List ℕ) (lexeme : Lexeme) (n : ℕ) → IsLexeme bs lexeme n → lexeme_here bs ≡ scan lexeme n
+lexeme_only _ _ _ (word b rest n e l) =
     here_word b rest e ∙
     ap (λ k. scan (One (Word (take k (b ∷ rest)))) k) (longest_once continues_word (b ∷ rest) _ n (prefix_longest continues_word (b ∷ rest)) l)
-item_only _ _ _ (quoted q rest value n e c s) =
+lexeme_only _ _ _ (quoted q rest value n e c s) =
     here_quoted q rest e ∙
-    ap (λ m. option_map_or (λ k. scan (One (Quoted (quoted_value q (take k rest)))) (k + 2)) m (scan Open 0)) (closed q false rest n c) ∙
+    ap (λ m. option_map_or (λ k. scan (One (Quoted (quoted_value q (take k rest)))) (k + 2)) m (scan Unclosed 0)) (closed q false rest n c) ∙
     ap (λ v. scan (One (Quoted v)) (n + 2)) (sym (said q (take n rest) value e s))
-item_only _ _ _ (uses b rest n e l) =
+lexeme_only _ _ _ (uses b rest n e l) =
     here_use b rest e ∙
     ap (λ k. scan (Uses (take k (b ∷ rest))) (1 + k)) (longest_once continues_name (b ∷ rest) _ n (prefix_longest continues_name (b ∷ rest)) l)
-item_only _ _ _ (sign s rest what h) = here_sign s rest what h
+lexeme_only _ _ _ (sign s rest what h) = here_sign s rest what h
 
--- The end, an item, or a place that no case fits.
+-- The end, a lexeme, or a place that no case fits.
 pub data Reads (bytes : List ℕ) (s : Scan) : Type 0 where
-  at_end : bytes ≡ [] → s.item ≡ One End → s.len ≡ 0 → Reads bytes s
-  an_item : IsItem bytes s.item s.len → Reads bytes s
-  no_item : (s.item ≡ One End → ⊥) → is_last s.item ≡ true → Reads bytes s
+  at_end : bytes ≡ [] → s.lexeme ≡ One End → s.len ≡ 0 → Reads bytes s
+  an_lexeme : IsLexeme bytes s.lexeme s.len → Reads bytes s
+  no_lexeme : (s.lexeme ≡ One End → ⊥) → is_last s.lexeme ≡ true → Reads bytes s
 
 pick : (P : Scan → Type 0) (t : Bool) (x y : Scan) → (t ≡ true → P x) → (t ≡ false → P y) → P (cond t x y)
 pick P true x y first second = first refl
 pick P false x y first second = second refl
 
-astray : (bs : List ℕ) → Reads bs (scan Astray 0)
-astray bs = no_item (λ h. cc) refl
+stray : (bs : List ℕ) → Reads bs (scan Stray 0)
+stray bs = no_lexeme (λ h. cc) refl
 
-quoted_reads : (q : ℕ) (rest : List ℕ) → is_quote q ≡ true → (m : Option ℕ) → inside_len q false rest ≡ m → Reads (q ∷ rest) (option_map_or (λ n. scan (One (Quoted (quoted_value q (take n rest)))) (n + 2)) m (scan Open 0))
-quoted_reads q rest u None e = no_item (λ h. cc) refl
+quoted_reads : (q : ℕ) (rest : List ℕ) → is_quote q ≡ true → (m : Option ℕ) → inside_len q false rest ≡ m → Reads (q ∷ rest) (option_map_or (λ n. scan (One (Quoted (quoted_value q (take n rest)))) (n + 2)) m (scan Unclosed 0))
+quoted_reads q rest u None e = no_lexeme (λ h. cc) refl
 quoted_reads q rest u (Some n) e =
-    an_item (quoted q rest (quoted_value q (take n rest)) n u (closes q false rest n e) (says q (take n rest) u))
+    an_lexeme (quoted q rest (quoted_value q (take n rest)) n u (closes q false rest n e) (says q (take n rest) u))
 
 use_reads : (rest : List ℕ) → Reads (36 ∷ rest) (use_here rest)
-use_reads [] = astray _
+use_reads [] = stray _
 use_reads (c ∷ more) =
     pick (Reads (36 ∷ c ∷ more)) (begins_name c) _ _
-    (λ e. an_item (uses c more (prefix_len continues_name (c ∷ more)) e (prefix_longest continues_name (c ∷ more))))
-    (λ _. astray _)
+    (λ e. an_lexeme (uses c more (prefix_len continues_name (c ∷ more)) e (prefix_longest continues_name (c ∷ more))))
+    (λ _. stray _)
 
 one_reads : (b k : ℕ) (what : What) (rest : List ℕ) → IsSign (k ∷ []) what → eqb b k ≡ true → Reads (b ∷ rest) (scan (One what) 1)
 one_reads b k what rest h e =
     let P : ℕ → Type 0 = λ x. Reads (x ∷ rest) (scan (One what) 1) in
-    subst P (sym (eqb-true b k e)) (an_item (sign (k ∷ []) rest what h))
+    subst P (sym (eqb-true b k e)) (an_lexeme (sign (k ∷ []) rest what h))
 
 two_reads : (b k : ℕ) (what : What) (rest : List ℕ) → IsSign (k ∷ k ∷ []) what → eqb b k ≡ true → Reads (b ∷ rest) (twice k what rest)
-two_reads b k what [] h e = astray _
+two_reads b k what [] h e = stray _
 two_reads b k what (c ∷ more) h e =
     let P : ℕ → Type 0 = λ x. Reads (x ∷ c ∷ more) (scan (One what) 2) in
     let Q : ℕ → Type 0 = λ y. Reads (k ∷ y ∷ more) (scan (One what) 2) in
     pick (Reads (b ∷ c ∷ more)) (eqb c k) _ _
-    (λ f. subst P (sym (eqb-true b k e)) (subst Q (sym (eqb-true c k f)) (an_item (sign (k ∷ k ∷ []) more what h))))
-    (λ _. astray _)
+    (λ f. subst P (sym (eqb-true b k e)) (subst Q (sym (eqb-true c k f)) (an_lexeme (sign (k ∷ k ∷ []) more what h))))
+    (λ _. stray _)
 
 sign_reads : (b : ℕ) (rest : List ℕ) → Reads (b ∷ rest) (sign_here b rest)
 sign_reads b rest =
@@ -175,21 +176,21 @@ sign_reads b rest =
     pick R (eqb b 61) _ _ (λ e. one_reads b 61 Equals rest equals e) (λ _.
     pick R (eqb b 33) _ _ (λ e. one_reads b 33 Bang rest bang e) (λ _.
     pick R (eqb b 38) _ _ (λ e. two_reads b 38 And rest conjunction e) (λ _.
-    pick R (eqb b 124) _ _ (λ e. two_reads b 124 Or rest disjunction e) (λ _. astray _)))))))))
+    pick R (eqb b 124) _ _ (λ e. two_reads b 124 Or rest disjunction e) (λ _. stray _)))))))))
 
--- What is read is the end, an item, or none.
-pub reads : (bs : List ℕ) → Reads bs (item_here bs)
-unfolding item_here
+-- What is read is the end, a lexeme, or none.
+pub reads : (bs : List ℕ) → Reads bs (lexeme_here bs)
+unfolding lexeme_here
 reads [] = at_end refl refl refl
 reads (b ∷ rest) =
     let R = Reads (b ∷ rest) in
     let P : ℕ → Type 0 = λ x. Reads (x ∷ rest) (use_here rest) in
     pick R (begins_word b) _ _
-    (λ e. an_item (word b rest (prefix_len continues_word (b ∷ rest)) e (prefix_longest continues_word (b ∷ rest)))) (λ _.
+    (λ e. an_lexeme (word b rest (prefix_len continues_word (b ∷ rest)) e (prefix_longest continues_word (b ∷ rest)))) (λ _.
     pick R (is_quote b) _ _ (λ e. quoted_reads b rest e _ refl) (λ _.
     pick R (eqb b 36) _ _ (λ e. subst P (sym (eqb-true b 36 e)) (use_reads rest)) (λ _. sign_reads b rest)))
 
 -- The end is read where nothing is left.
-pub none_left : (bs : List ℕ) → bs ≡ [] → item_here bs ≡ scan (One End) 0
-unfolding item_here
-none_left bs e = ap item_here e
+pub none_left : (bs : List ℕ) → bs ≡ [] → lexeme_here bs ≡ scan (One End) 0
+unfolding lexeme_here
+none_left bs e = ap lexeme_here e

@@ -4,9 +4,9 @@ use Rattle.ifs_base.specs.declared.span.Span.{Span}
 use Rattle.ifs_lex.specs.declared.pieces.Sign.{Sign}
 use Rattle.ifs_lex.specs.declared.pieces.Sign.TheVariants.{OpenBrace, CloseBrace, OpenParen}
 use Rattle.ifs_lex.specs.declared.pieces.Sign.TheVariants.{CloseParen, Point, Not, Both, Either}
-use Rattle.ifs_lex.specs.Items.{One, is_last}
-use Rattle.ifs_lex.specs.Expansion.{Macros, State, name_of, is_equals, text_of, whats_of, with_item, with_whats}
-use Rattle.ifs_lex.specs.Pieces.{what_of}
+use Rattle.ifs_lex.specs.Lexemes.{One, is_last}
+use Rattle.ifs_lex.specs.Expansion.{Macros, Expanded, name_of, is_equals, text_of, whats_of, with_lexeme, with_whats}
+use Rattle.ifs_lex.specs.inner.Pieces.{what_of}
 
 pub sign_name : (sign : Sign) → name_of (One (what_of sign)) ≡ None
 sign_name OpenBrace = refl
@@ -58,12 +58,12 @@ sign_whats m Not = refl
 sign_whats m Both = refl
 sign_whats m Either = refl
 
-pub sign_item : (span : Span) (s : State) (sign : Sign) → with_item span (One (what_of sign)) s ≡ with_whats span (what_of sign ∷ []) s
-sign_item span s OpenBrace = refl
-sign_item span s CloseBrace = refl
-sign_item span s OpenParen = refl
-sign_item span s CloseParen = refl
-sign_item span s Point = refl
-sign_item span s Not = refl
-sign_item span s Both = refl
-sign_item span s Either = refl
+pub sign_lexeme : (span : Span) (s : Expanded) (sign : Sign) → with_lexeme span (One (what_of sign)) s ≡ with_whats span (what_of sign ∷ []) s
+sign_lexeme span s OpenBrace = refl
+sign_lexeme span s CloseBrace = refl
+sign_lexeme span s OpenParen = refl
+sign_lexeme span s CloseParen = refl
+sign_lexeme span s Point = refl
+sign_lexeme span s Not = refl
+sign_lexeme span s Both = refl
+sign_lexeme span s Either = refl

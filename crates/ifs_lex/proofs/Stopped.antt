@@ -1,4 +1,4 @@
--- A text has a list of items, or is stuck in one place with one fault.
+-- A text has a list of lexemes, or is stuck in one place with one fault.
 use Rattle.std.proofs.Common.{◌≡◌, ℕ, zero, suc, ◌+◌, Bool, true, false, cond, eqb, ◌&&◌, not}
 use Rattle.std.proofs.Common.{List, [], ◌∷◌, ◌++◌, length, take, drop, Option, Some, None}
 use Rattle.std.proofs.Common.{refl, sym, ◌∙◌, ap, subst, arith, drop-drop, ◌⊎◌, inl, inr}
@@ -10,19 +10,19 @@ use Rattle.ifs_lex.specs.declared.token.What.TheVariants.{ParenClose, Dot, Equal
 use Rattle.ifs_lex.specs.declared.scans.Gap.{Gap}
 use Rattle.ifs_lex.specs.declared.scans.Gap.TheVariants.{Blanks, Comment}
 use Rattle.ifs_lex.specs.declared.fault.LexFault.{LexFault}
-use Rattle.ifs_lex.specs.declared.fault.LexFault.TheVariants.{Stray, Unclosed}
+use Rattle.ifs_lex.specs.declared.fault.LexFault.TheVariants as lexing
 use Rattle.ifs_lex.specs.Characters.{is_quote, begins_word, continues_word, continues_name}
-use Rattle.ifs_lex.specs.Items.{One, Uses, Astray, Open, Scan, scan, is_last, begins_with}
-use Rattle.ifs_lex.specs.Items.{begins_macro, gap_after, gap_len, inside_len, quoted_value, use_here}
-use Rattle.ifs_lex.specs.Items.{twice, sign_here, item_here, Placed, items_from, items_at, items_of}
+use Rattle.ifs_lex.specs.Lexemes.{One, Uses, Stray, Unclosed, Scan, scan, is_last, begins_with}
+use Rattle.ifs_lex.specs.Lexemes.{begins_macro, gap_after, gap_len, inside_len, quoted_value, use_here}
+use Rattle.ifs_lex.specs.Lexemes.{twice, sign_here, lexeme_here, Spanned, lexemes_from, lexemes_at, lexemes_of}
 use Rattle.ifs_lex.specs.Spelling.{Closes, IsGap, empty, blank, joined, comment}
-use Rattle.ifs_lex.specs.Spelling.{last_comment, IsItem, stands, Spelling, Ended}
-use Rattle.ifs_lex.specs.Stuck.{UpTo, gap_to, item_to, IsOpen, FitsNothing, IsFaultAt, IsStuck, StuckWith}
+use Rattle.ifs_lex.specs.Spelling.{last_comment, IsLexeme, stands, Spelling, Ended}
+use Rattle.ifs_lex.specs.Stuck.{UpTo, gap_to, lexeme_to, IsUnclosed, FitsNothing, IsFaultAt, IsStuck, StuckWith}
 use Rattle.ifs_lex.proofs.Spelt.{true_false, closes, closed}
 use Rattle.ifs_lex.proofs.Gaps.{blank_step, joined_step, comment_step, gap_only, gap_found}
-use Rattle.ifs_lex.proofs.Scanned.{item_no_gap, item_not_last, item_only, here_quoted}
-use Rattle.ifs_lex.proofs.Scanned.{Reads, at_end, an_item, no_item, reads, none_left}
-use Rattle.ifs_lex.proofs.Spellings.{place, turned, unrolled, spelling_only}
+use Rattle.ifs_lex.proofs.Scanned.{lexeme_no_gap, lexeme_not_last, lexeme_only, here_quoted}
+use Rattle.ifs_lex.proofs.Scanned.{Reads, at_end, an_lexeme, no_lexeme, reads, none_left}
+use Rattle.ifs_lex.proofs.Spellings.{cursor, turned, unrolled, spelling_only}
 
 -- After the blanks and comments that are read none come.
 after_gap : (o : Option Gap) (gap : Gap) (b : ℕ) (rest : List ℕ) → gap_after gap b rest ≡ o
@@ -61,21 +61,21 @@ not_closed : (q : ℕ) (rest : List ℕ) → ((n : ℕ) → ¬ Closes q false re
 not_closed q rest none None e = refl
 not_closed q rest none (Some n) e = absurd (none n (closes q false rest n e))
 
-pub open_read : (bytes : List ℕ) → IsOpen bytes → item_here bytes ≡ scan Open 0
+pub open_read : (bytes : List ℕ) → IsUnclosed bytes → lexeme_here bytes ≡ scan Unclosed 0
 open_read bytes h =
-    ap item_here h.begins ∙ here_quoted h.quote h.rest h.opens ∙
-    ap (λ m. option_map_or (λ n. scan (One (Quoted (quoted_value h.quote (take n h.rest)))) (n + 2)) m (scan Open 0)) (not_closed h.quote h.rest h.unclosed _ refl)
+    ap lexeme_here h.begins ∙ here_quoted h.quote h.rest h.opens ∙
+    ap (λ m. option_map_or (λ n. scan (One (Quoted (quoted_value h.quote (take n h.rest)))) (n + 2)) m (scan Unclosed 0)) (not_closed h.quote h.rest h.unclosed _ refl)
 
 -- And nowhere else.
 abbrev Opens : List ℕ → Scan → Type 0
-Opens bytes s = s.item ≡ Open → IsOpen bytes
+Opens bytes s = s.lexeme ≡ Unclosed → IsUnclosed bytes
 
 pick : (P : Scan → Type 0) (t : Bool) (x y : Scan) → (t ≡ true → P x) → (t ≡ false → P y) → P (cond t x y)
 pick P true x y first second = first refl
 pick P false x y first second = second refl
 
-astray_opens : (bytes : List ℕ) → Opens bytes (scan Astray 0)
-astray_opens bytes e = absurd (cc)
+stray_opens : (bytes : List ℕ) → Opens bytes (scan Stray 0)
+stray_opens bytes e = absurd (cc)
 
 one_opens : (bytes : List ℕ) (what : What) (n : ℕ) → Opens bytes (scan (One what) n)
 one_opens bytes what n e = absurd (cc)
@@ -87,17 +87,17 @@ none_closes : (q : ℕ) (rest : List ℕ) → inside_len q false rest ≡ None �
 none_closes q rest e n c = let h = sym e ∙ closed q false rest n c in absurd (cc)
 
 quoted_opens : (q : ℕ) (rest : List ℕ) → is_quote q ≡ true → (m : Option ℕ) → inside_len q false rest ≡ m
-    → Opens (q ∷ rest) (option_map_or (λ n. scan (One (Quoted (quoted_value q (take n rest)))) (n + 2)) m (scan Open 0))
+    → Opens (q ∷ rest) (option_map_or (λ n. scan (One (Quoted (quoted_value q (take n rest)))) (n + 2)) m (scan Unclosed 0))
 quoted_opens q rest u None e h = record { quote = q; rest = rest; begins = refl; opens = u; unclosed = none_closes q rest e }
 quoted_opens q rest u (Some n) e h = absurd (cc)
 
 use_opens : (bytes rest : List ℕ) → Opens bytes (use_here rest)
 use_opens bytes rest =
     let n = prefix_len continues_name rest in
-    pick (Opens bytes) (begins_macro rest) (scan (Uses (take n rest)) (1 + n)) (scan Astray 0) (λ _. uses_opens bytes (take n rest) (1 + n)) (λ _. astray_opens bytes)
+    pick (Opens bytes) (begins_macro rest) (scan (Uses (take n rest)) (1 + n)) (scan Stray 0) (λ _. uses_opens bytes (take n rest) (1 + n)) (λ _. stray_opens bytes)
 
 twice_opens : (bytes : List ℕ) (k : ℕ) (what : What) (rest : List ℕ) → Opens bytes (twice k what rest)
-twice_opens bytes k what rest = pick (Opens bytes) (begins_with k rest) _ _ (λ _. one_opens bytes what 2) (λ _. astray_opens bytes)
+twice_opens bytes k what rest = pick (Opens bytes) (begins_with k rest) _ _ (λ _. one_opens bytes what 2) (λ _. stray_opens bytes)
 
 sign_opens : (bytes : List ℕ) (b : ℕ) (rest : List ℕ) → Opens bytes (sign_here b rest)
 sign_opens bytes b rest =
@@ -110,10 +110,10 @@ sign_opens bytes b rest =
     pick O (eqb b 61) _ _ (λ _. one_opens bytes Equals 1) (λ _.
     pick O (eqb b 33) _ _ (λ _. one_opens bytes Bang 1) (λ _.
     pick O (eqb b 38) _ _ (λ _. twice_opens bytes 38 And rest) (λ _.
-    pick O (eqb b 124) _ _ (λ _. twice_opens bytes 124 Or rest) (λ _. astray_opens bytes)))))))))
+    pick O (eqb b 124) _ _ (λ _. twice_opens bytes 124 Or rest) (λ _. stray_opens bytes)))))))))
 
-pub read_open : (bytes : List ℕ) → Opens bytes (item_here bytes)
-unfolding item_here
+pub read_open : (bytes : List ℕ) → Opens bytes (lexeme_here bytes)
+unfolding lexeme_here
 read_open [] = one_opens [] End 0
 read_open (b ∷ rest) =
     let O = Opens (b ∷ rest) in
@@ -121,144 +121,144 @@ read_open (b ∷ rest) =
     pick O (is_quote b) _ _ (λ e. quoted_opens b rest e _ refl) (λ _.
     pick O (eqb b 36) _ _ (λ _. use_opens (b ∷ rest) rest) (λ _. sign_opens (b ∷ rest) b rest)))
 
--- Nothing fits where what is read is no item.
-pub fits_nothing : (bytes : List ℕ) → gap_len Blanks bytes ≡ 0 → ((item_here bytes).item ≡ One End → ⊥) → is_last (item_here bytes).item ≡ true → FitsNothing bytes
+-- Nothing fits where what is read is no lexeme.
+pub fits_nothing : (bytes : List ℕ) → gap_len Blanks bytes ≡ 0 → ((lexeme_here bytes).lexeme ≡ One End → ⊥) → is_last (lexeme_here bytes).lexeme ≡ true → FitsNothing bytes
 fits_nothing bytes gap none last = record {
-  goes_on = λ e. none (ap (λ (s : Scan). s.item) (none_left bytes e));
+  goes_on = λ e. none (ap (λ (s : Scan). s.lexeme) (none_left bytes e));
   no_gap = λ n g. no_gap_here bytes n g gap;
-  no_item = λ item n i. true_false _ _ last (ap (λ (s : Scan). is_last s.item) (item_only bytes item n i) ∙ item_not_last bytes item n i) refl;
+  no_lexeme = λ lexeme n i. true_false _ _ last (ap (λ (s : Scan). is_last s.lexeme) (lexeme_only bytes lexeme n i) ∙ lexeme_not_last bytes lexeme n i) refl;
 }
 
--- What is read where nothing fits is no item.
-pub nothing_read : (bytes : List ℕ) → FitsNothing bytes → (is_last (item_here bytes).item ≡ true) × ((item_here bytes).item ≡ One End → ⊥)
+-- What is read where nothing fits is no lexeme.
+pub nothing_read : (bytes : List ℕ) → FitsNothing bytes → (is_last (lexeme_here bytes).lexeme ≡ true) × ((lexeme_here bytes).lexeme ≡ One End → ⊥)
 nothing_read bytes h = by_reads (reads bytes)
   where
-    by_reads : Reads bytes (item_here bytes) → (is_last (item_here bytes).item ≡ true) × ((item_here bytes).item ≡ One End → ⊥)
-    by_reads (at_end none item len) = absurd (h.goes_on none)
-    by_reads (an_item i) = absurd (h.no_item _ _ i)
-    by_reads (no_item none last) = (last, none)
+    by_reads : Reads bytes (lexeme_here bytes) → (is_last (lexeme_here bytes).lexeme ≡ true) × ((lexeme_here bytes).lexeme ≡ One End → ⊥)
+    by_reads (at_end none lexeme len) = absurd (h.goes_on none)
+    by_reads (an_lexeme i) = absurd (h.no_lexeme _ _ i)
+    by_reads (no_lexeme none last) = (last, none)
 
 module _ (text : List ℕ) where
-  -- The items up to a place where nothing fits are all that are read but the last one.
-  abbrev Last : ℕ → Placed
-  Last end = let s = item_here (drop end text) in stands text s.item end (end + s.len)
+  -- The lexemes up to a place where nothing fits are all that are read but the last one.
+  abbrev Last : ℕ → Spanned
+  Last end = let s = lexeme_here (drop end text) in stands text s.lexeme end (end + s.len)
 
-  read_up_to : {at : ℕ} {items : List Placed} {end : ℕ} → UpTo text at items end → FitsNothing (drop end text) → items_at (place text at) ≡ items ++ Last end ∷ []
+  read_up_to : {at : ℕ} {lexemes : List Spanned} {end : ℕ} → UpTo text at lexemes end → FitsNothing (drop end text) → lexemes_at (cursor text at) ≡ lexemes ++ Last end ∷ []
   read_up_to (gap_to at gap g) h =
       let none = h.no_gap (gap_len Blanks (drop (at + gap) text)) (gap_found (drop (at + gap) text)) in
       let read = gap_only (drop at text) gap g (ap (gap_len Blanks) (drop-drop gap at text) ∙ none) in
       unrolled text at gap _ read refl ∙
-      ap (λ t. Last (at + gap) ∷ cond t [] (items_at (place text (at + gap + (item_here (drop (at + gap) text)).len)))) (nothing_read (drop (at + gap) text) h).0
-  read_up_to (item_to at gap own end item items g i rest) h =
-      let read = gap_only (drop at text) gap g (ap (gap_len Blanks) (drop-drop gap at text) ∙ item_no_gap (drop (at + gap) text) item own i) in
-      let first = stands text item (at + gap) (at + gap + own) in
-      unrolled text at gap (scan item own) read (item_only (drop (at + gap) text) item own i) ∙
-      ap (λ t. first ∷ cond t [] (items_at (place text (at + gap + own)))) (item_not_last (drop (at + gap) text) item own i) ∙
+      ap (λ t. Last (at + gap) ∷ cond t [] (lexemes_at (cursor text (at + gap + (lexeme_here (drop (at + gap) text)).len)))) (nothing_read (drop (at + gap) text) h).0
+  read_up_to (lexeme_to at gap own end lexeme lexemes g i rest) h =
+      let read = gap_only (drop at text) gap g (ap (gap_len Blanks) (drop-drop gap at text) ∙ lexeme_no_gap (drop (at + gap) text) lexeme own i) in
+      let first = stands text lexeme (at + gap) (at + gap + own) in
+      unrolled text at gap (scan lexeme own) read (lexeme_only (drop (at + gap) text) lexeme own i) ∙
+      ap (λ t. first ∷ cond t [] (lexemes_at (cursor text (at + gap + own)))) (lexeme_not_last (drop (at + gap) text) lexeme own i) ∙
       ap (λ xs. first ∷ xs) (read_up_to rest h)
 
--- The last of some items.
-last_of : List Placed → Placed → Placed
+-- The last of some lexemes.
+last_of : List Spanned → Spanned → Spanned
 last_of [] other = other
 last_of (p ∷ rest) other = last_of rest p
 
-last_pushed : (items : List Placed) (p other : Placed) → last_of (items ++ p ∷ []) other ≡ p
+last_pushed : (lexemes : List Spanned) (p other : Spanned) → last_of (lexemes ++ p ∷ []) other ≡ p
 unfolding last_of
 last_pushed [] p other = refl
 last_pushed (q ∷ rest) p other = last_pushed rest p q
 
-ended_last : (items : List Placed) (p : Placed) → Ended (items ++ p ∷ []) → p.item ≡ One End
+ended_last : (lexemes : List Spanned) (p : Spanned) → Ended (lexemes ++ p ∷ []) → p.lexeme ≡ One End
 ended_last [] p h = h
 ended_last (q ∷ []) p h = h
 ended_last (q ∷ r ∷ rest) p h = ended_last (r ∷ rest) p h
 
 one_fault_at : (text : List ℕ) (at : ℕ) (fault other : LexFault) → IsFaultAt text at fault → IsFaultAt text at other → fault ≡ other
-one_fault_at text at (Stray m) (Stray n) h k = ap (λ l. Stray l) (h.0 ∙ sym k.0)
-one_fault_at text at (Unclosed m) (Unclosed n) h k = ap (λ l. Unclosed l) (h.0 ∙ sym k.0)
-one_fault_at text at (Stray m) (Unclosed n) h k = absurd (h.1 k.1)
-one_fault_at text at (Unclosed m) (Stray n) h k = absurd (k.1 h.1)
-one_fault_at text at (Stray m) _ h k = absurd k
-one_fault_at text at (Unclosed m) _ h k = absurd k
+one_fault_at text at (lexing.Stray m) (lexing.Stray n) h k = ap (λ l. lexing.Stray l) (h.0 ∙ sym k.0)
+one_fault_at text at (lexing.Unclosed m) (lexing.Unclosed n) h k = ap (λ l. lexing.Unclosed l) (h.0 ∙ sym k.0)
+one_fault_at text at (lexing.Stray m) (lexing.Unclosed n) h k = absurd (h.1 k.1)
+one_fault_at text at (lexing.Unclosed m) (lexing.Stray n) h k = absurd (k.1 h.1)
+one_fault_at text at (lexing.Stray m) _ h k = absurd k
+one_fault_at text at (lexing.Unclosed m) _ h k = absurd k
 one_fault_at text at _ other h k = absurd h
 
 -- A text is stuck in one place, with one fault.
 pub stuck_once : (text : List ℕ) (at second : ℕ) (fault other : LexFault) → IsStuck text at fault → IsStuck text second other → (at ≡ second) × (fault ≡ other)
 stuck_once text at second fault other h k =
-    let start : ℕ → Placed = λ n. Last text n in
+    let start : ℕ → Spanned = λ n. Last text n in
     let a = read_up_to text h.before h.nothing in
     let b = read_up_to text k.before k.nothing in
     let same : Last text at ≡ Last text second =
-    sym (last_pushed h.items (Last text at) (Last text at)) ∙ ap (λ xs. last_of xs (Last text at)) (sym a ∙ b) ∙ last_pushed k.items (Last text second) (Last text at) in
-    let place_is : at ≡ second = ap (λ (p : Placed). p.span.start) same in
+    sym (last_pushed h.lexemes (Last text at) (Last text at)) ∙ ap (λ xs. last_of xs (Last text at)) (sym a ∙ b) ∙ last_pushed k.lexemes (Last text second) (Last text at) in
+    let place_is : at ≡ second = ap (λ (p : Spanned). p.span.start) same in
     (place_is, one_fault_at text second fault other (subst (λ n. IsFaultAt text n fault) place_is h.fault_is) k.fault_is)
 
--- A text that is stuck has no list of items.
-pub stuck_unspelled : (text : List ℕ) (items : List Placed) (at : ℕ) (fault : LexFault) → Spelling text 0 items → ¬ IsStuck text at fault
-stuck_unspelled text items at fault spelled h =
-    let only = spelling_only text items spelled in
-    let same : items ≡ h.items ++ Last text at ∷ [] = sym only.0 ∙ read_up_to text h.before h.nothing in
-    (nothing_read (drop at text) h.nothing).1 (ended_last h.items (Last text at) (subst Ended same only.1))
+-- A text that is stuck has no list of lexemes.
+pub stuck_unspelled : (text : List ℕ) (lexemes : List Spanned) (at : ℕ) (fault : LexFault) → Spelling text 0 lexemes → ¬ IsStuck text at fault
+stuck_unspelled text lexemes at fault spelled h =
+    let only = spelling_only text lexemes spelled in
+    let same : lexemes ≡ h.lexemes ++ Last text at ∷ [] = sym only.0 ∙ read_up_to text h.before h.nothing in
+    (nothing_read (drop at text) h.nothing).1 (ended_last h.lexemes (Last text at) (subst Ended same only.1))
 
--- An item that is none, and the fault that it is told as.
-pub data Told (p : Placed) : LexFault → Type 0 where
-  told_stray : p.item ≡ Astray → Told p (Stray p.span.line)
-  told_open : p.item ≡ Open → Told p (Unclosed p.span.line)
+-- A lexeme that is none, and the fault that it is told as.
+pub data Told (p : Spanned) : LexFault → Type 0 where
+  told_stray : p.lexeme ≡ Stray → Told p (lexing.Stray p.span.line)
+  told_open : p.lexeme ≡ Unclosed → Told p (lexing.Unclosed p.span.line)
 
--- Some item is told as a fault.
-abbrev pub Tells : LexFault → List Placed → Type 0
+-- Some lexeme is told as a fault.
+abbrev pub Tells : LexFault → List Spanned → Type 0
 Tells fault [] = ⊥
 Tells fault (p ∷ rest) = Told p fault ⊎ Tells fault rest
 
--- Items come up to a place.
+-- Lexemes come up to a place.
 abbrev Reaches : List ℕ → ℕ → ℕ → Type 0
-Reaches text at end = (items : List Placed) × UpTo text at items end
+Reaches text at end = (lexemes : List Spanned) × UpTo text at lexemes end
 
-told_at : (text : List ℕ) (m : ℕ) (s : Scan) (fault : LexFault) → item_here (drop m text) ≡ s → Told (stands text s.item m (m + s.len)) fault → IsFaultAt text m fault
+told_at : (text : List ℕ) (m : ℕ) (s : Scan) (fault : LexFault) → lexeme_here (drop m text) ≡ s → Told (stands text s.lexeme m (m + s.len)) fault → IsFaultAt text m fault
 told_at text m s _ e (told_stray a) =
-    (refl, λ o. let k : Astray ≡ Open = sym a ∙ ap (λ (s : Scan). s.item) (sym e ∙ open_read (drop m text) o) in absurd (cc))
-told_at text m s _ e (told_open a) = (refl, read_open (drop m text) (ap (λ (s : Scan). s.item) e ∙ a))
+    (refl, λ o. let k : Stray ≡ Unclosed = sym a ∙ ap (λ (s : Scan). s.lexeme) (sym e ∙ open_read (drop m text) o) in absurd (cc))
+told_at text m s _ e (told_open a) = (refl, read_open (drop m text) (ap (λ (s : Scan). s.lexeme) e ∙ a))
 
-told_last : (p : Placed) (fault : LexFault) → Told p fault → (is_last p.item ≡ true) × (p.item ≡ One End → ⊥)
+told_last : (p : Spanned) (fault : LexFault) → Told p fault → (is_last p.lexeme ≡ true) × (p.lexeme ≡ One End → ⊥)
 told_last p _ (told_stray a) = (ap is_last a, λ e. let k = sym a ∙ e in absurd (cc))
 told_last p _ (told_open a) = (ap is_last a, λ e. let k = sym a ∙ e in absurd (cc))
 
 module _ (text : List ℕ) (fault : LexFault) where
-  stuck_turn : (t : Bool) (more : List Placed) (at gap : ℕ) (s : Scan) → item_here (drop (at + gap) text) ≡ s → is_last s.item ≡ t → IsGap (drop at text) gap → gap_len Blanks (drop (at + gap) text) ≡ 0
+  stuck_turn : (t : Bool) (more : List Spanned) (at gap : ℕ) (s : Scan) → lexeme_here (drop (at + gap) text) ≡ s → is_last s.lexeme ≡ t → IsGap (drop at text) gap → gap_len Blanks (drop (at + gap) text) ≡ 0
       → ((end : ℕ) → Reaches text at end → Reaches text 0 end)
-      → (IsItem (drop (at + gap) text) s.item s.len → Tells fault more → StuckWith text fault)
-      → Tells fault (stands text s.item (at + gap) (at + gap + s.len) ∷ cond t [] more) → StuckWith text fault
+      → (IsLexeme (drop (at + gap) text) s.lexeme s.len → Tells fault more → StuckWith text fault)
+      → Tells fault (stands text s.lexeme (at + gap) (at + gap + s.len) ∷ cond t [] more) → StuckWith text fault
   stuck_turn t more at gap s e l g none reach next (inl told) =
       let r = reach (at + gap) ([], gap_to at gap g) in
-      let here = told_last (stands text s.item (at + gap) (at + gap + s.len)) fault told in
-      let item : (item_here (drop (at + gap) text)).item ≡ s.item = ap (λ (s : Scan). s.item) e in (
+      let here = told_last (stands text s.lexeme (at + gap) (at + gap + s.len)) fault told in
+      let lexeme : (lexeme_here (drop (at + gap) text)).lexeme ≡ s.lexeme = ap (λ (s : Scan). s.lexeme) e in (
         at + gap,
         record {
-          items = r.0;
+          lexemes = r.0;
           before = r.1;
-          nothing = fits_nothing (drop (at + gap) text) none (λ k. here.1 (sym item ∙ k)) (ap is_last item ∙ here.0);
+          nothing = fits_nothing (drop (at + gap) text) none (λ k. here.1 (sym lexeme ∙ k)) (ap is_last lexeme ∙ here.0);
           fault_is = told_at text (at + gap) s fault e told;
         },
       )
   stuck_turn true more at gap s e l g none reach next (inr rest) = absurd rest
   stuck_turn false more at gap s e l g none reach next (inr rest) = next (by_reads (subst (Reads (drop (at + gap) text)) e (reads (drop (at + gap) text)))) rest
     where
-      by_reads : Reads (drop (at + gap) text) s → IsItem (drop (at + gap) text) s.item s.len
-      by_reads (at_end k item len) = absurd (true_false _ _ (ap is_last item) l refl)
-      by_reads (an_item i) = i
-      by_reads (no_item k last) = absurd (true_false _ _ last l refl)
+      by_reads : Reads (drop (at + gap) text) s → IsLexeme (drop (at + gap) text) s.lexeme s.len
+      by_reads (at_end k lexeme len) = absurd (true_false _ _ (ap is_last lexeme) l refl)
+      by_reads (an_lexeme i) = i
+      by_reads (no_lexeme k last) = absurd (true_false _ _ last l refl)
 
-  stuck_from : (most at : ℕ) → ((end : ℕ) → Reaches text at end → Reaches text 0 end) → Tells fault (items_from most (place text at)) → StuckWith text fault
+  stuck_from : (most at : ℕ) → ((end : ℕ) → Reaches text at end → Reaches text 0 end) → Tells fault (lexemes_from most (cursor text at)) → StuckWith text fault
   stuck_from zero at reach h = absurd h
   stuck_from (suc most) at reach h =
       let gap = gap_len Blanks (drop at text) in
-      let s = item_here (drop (at + gap) text) in
+      let s = lexeme_here (drop (at + gap) text) in
       let g = gap_found (drop at text) in
       let none : gap_len Blanks (drop (at + gap) text) ≡ 0 = ap (gap_len Blanks) (sym (drop-drop gap at text)) ∙ gap_over Blanks (drop at text) in
-      stuck_turn (is_last s.item) (items_from most (place text (at + gap + s.len))) at gap s refl refl g none reach
+      stuck_turn (is_last s.lexeme) (lexemes_from most (cursor text (at + gap + s.len))) at gap s refl refl g none reach
       (λ i rest. stuck_from most (at + gap + s.len)
-      (λ end r. reach end (stands text s.item (at + gap) (at + gap + s.len) ∷ r.0, item_to at gap s.len end s.item r.0 g i r.1)) rest)
-      (subst (Tells fault) (turned text (items_from most) at) h)
+      (λ end r. reach end (stands text s.lexeme (at + gap) (at + gap + s.len) ∷ r.0, lexeme_to at gap s.len end s.lexeme r.0 g i r.1)) rest)
+      (subst (Tells fault) (turned text (lexemes_from most) at) h)
 
--- A text of which an item that is none is read is stuck.
-pub stuck_in : (text : List ℕ) (fault : LexFault) → Tells fault (items_of text) → StuckWith text fault
-unfolding items_at
+-- A text of which a lexeme that is none is read is stuck.
+pub stuck_in : (text : List ℕ) (fault : LexFault) → Tells fault (lexemes_of text) → StuckWith text fault
+unfolding lexemes_at
 stuck_in text fault h = stuck_from text fault (1 + length text) 0 (λ end r. r) h

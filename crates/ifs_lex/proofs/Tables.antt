@@ -15,8 +15,8 @@ use Rattle.ifs_lex.specs.declared.ropes.Rope.{Rope}
 use Rattle.ifs_lex.specs.declared.fault.LexFault.{LexFault}
 use Rattle.ifs_lex.specs.declared.fault.LexFault.TheVariants.{OverLimit}
 use Rattle.ifs_lex.specs.Expansion.{Macro, Macros, with_macro, known_as, is_given, value_of, defined}
-use Rattle.ifs_lex.specs.Ropes.{whats_at, Holds, Keeps}
-use Rattle.ifs_lex.specs.Kept.{IsValue, macro_of}
+use Rattle.ifs_lex.specs.inner.Ropes.{whats_at, Holds, Keeps}
+use Rattle.ifs_lex.specs.inner.Kept.{IsValue, macro_of}
 
 -- A value stays one while ropes are added.
 pub value_keeps : (before after : List (List What)) (rope : Rope) → Keeps before after → IsValue before rope → IsValue after rope

@@ -1,4 +1,4 @@
--- The items from a place on: the next one, and those after it.
+-- The lexemes from a cursor on: the next one, and those after it.
 use Rattle.std.proofs.Common.{◌≡◌, ℕ, zero, suc, ◌+◌, ◌<◌, ◌≤◌, Bool, true, false, cond, eqb, ltb, List, [], ◌∷◌}
 use Rattle.std.proofs.Common.{length, take, Option, Some, None, refl, sym, ◌∙◌, ap, arith, length-drop, rules, tests}
 use Rattle.std.specs.List.{prefix_len}
@@ -7,20 +7,20 @@ use Rattle.ifs_lex.specs.declared.token.What.{What}
 use Rattle.ifs_lex.specs.declared.token.What.TheVariants.{Quoted, And, Or, End}
 use Rattle.ifs_lex.specs.declared.scans.Gap.TheVariants.{Blanks}
 use Rattle.ifs_lex.specs.Characters.{begins_word, continues_word, is_quote}
-use Rattle.ifs_lex.specs.Items.{Item, One, Astray, Open, Scan, scan, begins_with, begins_macro}
-use Rattle.ifs_lex.specs.Items.{gap_len, quoted_value, twice, sign_here, item_here, Place, Placed}
-use Rattle.ifs_lex.specs.Items.{past_gap, item_at, after_item, is_last, items_from, items_at, items_of}
+use Rattle.ifs_lex.specs.Lexemes.{Lexeme, One, Stray, Unclosed, Scan, scan, begins_with, begins_macro}
+use Rattle.ifs_lex.specs.Lexemes.{gap_len, quoted_value, twice, sign_here, lexeme_here, Cursor, Spanned}
+use Rattle.ifs_lex.specs.Lexemes.{past_gap, lexeme_at, after_lexeme, is_last, lexemes_from, lexemes_at, lexemes_of}
 use Rattle.ifs_lex.specs.Expansion.{Macros, whats_of, joined, value_from, value_of}
 
 -- A scan that goes on has a byte at least.
 abbrev Moves : Scan → Type 0
-Moves s = is_last s.item ≡ false → 0 < s.len
+Moves s = is_last s.lexeme ≡ false → 0 < s.len
 
 pick : (P : Scan → Type 0) (t : Bool) (x y : Scan) → (t ≡ true → P x) → (t ≡ false → P y) → P (cond t x y)
 pick P true x y first second = first refl
 pick P false x y first second = second refl
 
-stays : (s : Scan) → is_last s.item ≡ true → Moves s
+stays : (s : Scan) → is_last s.lexeme ≡ true → Moves s
 stays s e = λ f. absurd (cc)
 
 some_bytes : (t : Bool) (n : ℕ) → t ≡ true → 0 < cond t (1 + n) 0
@@ -34,7 +34,7 @@ word_moves : (b : ℕ) (rest : List ℕ) → begins_word b ≡ true → 0 < pref
 word_moves b rest e = some_bytes (continues_word b) (prefix_len continues_word rest) (goes_on b e)
 
 twice_moves : (b : ℕ) (what : What) (rest : List ℕ) → Moves (twice b what rest)
-twice_moves b what rest = pick Moves (begins_with b rest) _ _ (λ _ _. omega arith) (λ _. stays (scan Astray 0) refl)
+twice_moves b what rest = pick Moves (begins_with b rest) _ _ (λ _ _. omega arith) (λ _. stays (scan Stray 0) refl)
 
 sign_moves : (b : ℕ) (rest : List ℕ) → Moves (sign_here b rest)
 sign_moves b rest =
@@ -46,107 +46,107 @@ sign_moves b rest =
     pick Moves (eqb b 61) _ _ (λ _ _. omega arith) (λ _.
     pick Moves (eqb b 33) _ _ (λ _ _. omega arith) (λ _.
     pick Moves (eqb b 38) _ _ (λ _. twice_moves 38 And rest) (λ _.
-    pick Moves (eqb b 124) _ _ (λ _. twice_moves 124 Or rest) (λ _. stays (scan Astray 0) refl)))))))))
+    pick Moves (eqb b 124) _ _ (λ _. twice_moves 124 Or rest) (λ _. stays (scan Stray 0) refl)))))))))
 
-quoted_moves : (q : ℕ) (rest : List ℕ) (m : Option ℕ) → Moves (option_map_or (λ n. scan (One (Quoted (quoted_value q (take n rest)))) (n + 2)) m (scan Open 0))
-quoted_moves q rest None = stays (scan Open 0) refl
+quoted_moves : (q : ℕ) (rest : List ℕ) (m : Option ℕ) → Moves (option_map_or (λ n. scan (One (Quoted (quoted_value q (take n rest)))) (n + 2)) m (scan Unclosed 0))
+quoted_moves q rest None = stays (scan Unclosed 0) refl
 quoted_moves q rest (Some n) = λ _. omega arith
 
-item_moves : (bs : List ℕ) → Moves (item_here bs)
-unfolding item_here
-item_moves [] = stays (scan (One End) 0) refl
-item_moves (b ∷ rest) =
+lexeme_moves : (bs : List ℕ) → Moves (lexeme_here bs)
+unfolding lexeme_here
+lexeme_moves [] = stays (scan (One End) 0) refl
+lexeme_moves (b ∷ rest) =
     pick Moves (begins_word b) _ _ (λ e _. word_moves b rest e) (λ _.
     pick Moves (is_quote b) _ _ (λ _. quoted_moves b rest _) (λ _.
-    pick Moves (eqb b 36) _ _ (λ _. pick Moves (begins_macro rest) _ _ (λ _ _. omega arith) (λ _. stays (scan Astray 0) refl)) (λ _. sign_moves b rest)))
+    pick Moves (eqb b 36) _ _ (λ _. pick Moves (begins_macro rest) _ _ (λ _ _. omega arith) (λ _. stays (scan Stray 0) refl)) (λ _. sign_moves b rest)))
 
-item_some : (bs : List ℕ) → is_last (item_here bs).item ≡ false → 0 < length bs
-unfolding item_here
-item_some [] e = absurd (cc)
-item_some (b ∷ rest) e = omega arith
+lexeme_some : (bs : List ℕ) → is_last (lexeme_here bs).lexeme ≡ false → 0 < length bs
+unfolding lexeme_here
+lexeme_some [] e = absurd (cc)
+lexeme_some (b ∷ rest) e = omega arith
 
 -- What is left gets less.
-pub fewer_left : (p : Place) → is_last (item_at p).item ≡ false → length (after_item p).left < length p.left
+pub fewer_left : (p : Cursor) → is_last (lexeme_at p).lexeme ≡ false → length (after_lexeme p).left < length p.left
 fewer_left p e =
     let q = past_gap p in
-    let len = (item_here q.left).len in
-    let moved = item_moves q.left e in
-    let some = item_some q.left e in
+    let len = (lexeme_here q.left).len in
+    let moved = lexeme_moves q.left e in
+    let some = lexeme_some q.left e in
     let first = length-drop (gap_len Blanks p.left) p.left in
     let second = length-drop len q.left in
     omega arith
 
-pub no_more_left : (p : Place) → length (after_item p).left ≤ length p.left
+pub no_more_left : (p : Cursor) → length (after_lexeme p).left ≤ length p.left
 no_more_left p =
     let q = past_gap p in
     let first = length-drop (gap_len Blanks p.left) p.left in
-    let second = length-drop (item_here q.left).len q.left in
+    let second = length-drop (lexeme_here q.left).len q.left in
     omega arith
 
-same_rest : (t : Bool) (a b : List Placed) → (t ≡ false → a ≡ b) → cond t [] a ≡ cond t [] b
+same_rest : (t : Bool) (a b : List Spanned) → (t ≡ false → a ≡ b) → cond t [] a ≡ cond t [] b
 same_rest true a b h = refl
 same_rest false a b h = h refl
 
-same_fuel : (n m : ℕ) (p : Place) → length p.left < n → length p.left < m → items_from n p ≡ items_from m p
+same_fuel : (n m : ℕ) (p : Cursor) → length p.left < n → length p.left < m → lexemes_from n p ≡ lexemes_from m p
 same_fuel zero m p l k = absurd (omega arith)
 same_fuel (suc n) zero p l k = absurd (omega arith)
 same_fuel (suc n) (suc m) p l k =
-    ap (λ rest. item_at p ∷ rest)
-    (same_rest (is_last (item_at p).item) _ _ (λ e. let less = fewer_left p e in same_fuel n m (after_item p) (omega arith) (omega arith)))
+    ap (λ rest. lexeme_at p ∷ rest)
+    (same_rest (is_last (lexeme_at p).lexeme) _ _ (λ e. let less = fewer_left p e in same_fuel n m (after_lexeme p) (omega arith) (omega arith)))
 
--- The next item, then those after it.
-pub items_unroll : (p : Place) → items_at p ≡ item_at p ∷ cond (is_last (item_at p).item) [] (items_at (after_item p))
-unfolding items_at
-items_unroll p =
+-- The next lexeme, then those after it.
+pub lexemes_unroll : (p : Cursor) → lexemes_at p ≡ lexeme_at p ∷ cond (is_last (lexeme_at p).lexeme) [] (lexemes_at (after_lexeme p))
+unfolding lexemes_at
+lexemes_unroll p =
     let one : 1 + length p.left ≡ suc (length p.left) = omega arith in
-    ap (λ n. items_from n p) one ∙
-    ap (λ rest. item_at p ∷ rest)
-    (same_rest (is_last (item_at p).item) _ _ (λ e. let less = fewer_left p e in same_fuel (length p.left) (1 + length (after_item p).left) (after_item p) less (omega arith)))
+    ap (λ n. lexemes_from n p) one ∙
+    ap (λ rest. lexeme_at p ∷ rest)
+    (same_rest (is_last (lexeme_at p).lexeme) _ _ (λ e. let less = fewer_left p e in same_fuel (length p.left) (1 + length (after_lexeme p).left) (after_lexeme p) less (omega arith)))
 
-pub value_none : (m : Macros) (items : List Placed) → value_from m None items ≡ None
+pub value_none : (m : Macros) (lexemes : List Spanned) → value_from m None lexemes ≡ None
 value_none m [] = refl
 value_none m (p ∷ rest) = refl
 
-pub value_turn : (m : Macros) (before : List What) (p : Place) → value_from m (Some before) (items_at p) ≡ value_from m (joined before (whats_of m (item_at p).item)) (cond (is_last (item_at p).item) [] (items_at (after_item p)))
-value_turn m before p = ap (value_from m (Some before)) (items_unroll p)
+pub value_turn : (m : Macros) (before : List What) (p : Cursor) → value_from m (Some before) (lexemes_at p) ≡ value_from m (joined before (whats_of m (lexeme_at p).lexeme)) (cond (is_last (lexeme_at p).lexeme) [] (lexemes_at (after_lexeme p)))
+value_turn m before p = ap (value_from m (Some before)) (lexemes_unroll p)
 
-step_by : (m : Macros) (a b : Item) (before : List What) (rest : List Placed) (o : Option (List What)) → a ≡ b → o ≡ joined before (whats_of m a) → value_from m (joined before (whats_of m b)) (cond (is_last b) [] rest) ≡ value_from m o (cond (is_last a) [] rest)
+step_by : (m : Macros) (a b : Lexeme) (before : List What) (rest : List Spanned) (o : Option (List What)) → a ≡ b → o ≡ joined before (whats_of m a) → value_from m (joined before (whats_of m b)) (cond (is_last b) [] rest) ≡ value_from m o (cond (is_last a) [] rest)
 step_by m a b before rest o e f = rw (← e, ← f) refl
 
--- A value goes on, ends or fails with the next item.
-moved : (m n : Macros) (a : Item) (before : List What) (o : Option (List What)) → n ≡ m → o ≡ joined before (whats_of n a) → o ≡ joined before (whats_of m a)
+-- A value goes on, ends or fails with the next lexeme.
+moved : (m n : Macros) (a : Lexeme) (before : List What) (o : Option (List What)) → n ≡ m → o ≡ joined before (whats_of n a) → o ≡ joined before (whats_of m a)
 moved m n a before o e f = f ∙ ap (λ k. joined before (whats_of k a)) e
 
-next_of : (m : Macros) (before : List What) (p : Place) (a : Item) (o target : Option (List What)) → a ≡ (item_at p).item → o ≡ joined before (whats_of m a) → value_from m (Some before) (items_at p) ≡ target → value_from m o (cond (is_last a) [] (items_at (after_item p))) ≡ target
+next_of : (m : Macros) (before : List What) (p : Cursor) (a : Lexeme) (o target : Option (List What)) → a ≡ (lexeme_at p).lexeme → o ≡ joined before (whats_of m a) → value_from m (Some before) (lexemes_at p) ≡ target → value_from m o (cond (is_last a) [] (lexemes_at (after_lexeme p))) ≡ target
 next_of m before p a o target e f h =
-    sym (step_by m a (item_at p).item before (items_at (after_item p)) o e f) ∙ sym (value_turn m before p) ∙ h
+    sym (step_by m a (lexeme_at p).lexeme before (lexemes_at (after_lexeme p)) o e f) ∙ sym (value_turn m before p) ∙ h
 
-pub value_goes : (m n : Macros) (before more : List What) (p q : Place) (a : Item) (target : Option (List What)) → n ≡ m → a ≡ (item_at p).item → q ≡ after_item p → Some more ≡ joined before (whats_of n a) → is_last a ≡ false → value_from m (Some before) (items_at p) ≡ target → value_from m (Some more) (items_at q) ≡ target
+pub value_goes : (m n : Macros) (before more : List What) (p q : Cursor) (a : Lexeme) (target : Option (List What)) → n ≡ m → a ≡ (lexeme_at p).lexeme → q ≡ after_lexeme p → Some more ≡ joined before (whats_of n a) → is_last a ≡ false → value_from m (Some before) (lexemes_at p) ≡ target → value_from m (Some more) (lexemes_at q) ≡ target
 value_goes m n before more p q a target k e r f l h =
-    ap (λ t. value_from m (Some more) (items_at t)) r ∙
-    sym (ap (λ t. value_from m (Some more) (cond t [] (items_at (after_item p)))) l) ∙
+    ap (λ t. value_from m (Some more) (lexemes_at t)) r ∙
+    sym (ap (λ t. value_from m (Some more) (cond t [] (lexemes_at (after_lexeme p)))) l) ∙
     next_of m before p a (Some more) target e (moved m n a before (Some more) k f) h
 
-pub value_ends : (m n : Macros) (before more : List What) (p : Place) (a : Item) (target : Option (List What)) → n ≡ m → a ≡ (item_at p).item → Some more ≡ joined before (whats_of n a) → is_last a ≡ true → value_from m (Some before) (items_at p) ≡ target → Some more ≡ target
+pub value_ends : (m n : Macros) (before more : List What) (p : Cursor) (a : Lexeme) (target : Option (List What)) → n ≡ m → a ≡ (lexeme_at p).lexeme → Some more ≡ joined before (whats_of n a) → is_last a ≡ true → value_from m (Some before) (lexemes_at p) ≡ target → Some more ≡ target
 value_ends m n before more p a target k e f l h =
-    sym (ap (λ t. value_from m (Some more) (cond t [] (items_at (after_item p)))) l) ∙
+    sym (ap (λ t. value_from m (Some more) (cond t [] (lexemes_at (after_lexeme p)))) l) ∙
     next_of m before p a (Some more) target e (moved m n a before (Some more) k f) h
 
-pub value_fails : (m n : Macros) (before : List What) (p : Place) (a : Item) (target : Option (List What)) → n ≡ m → a ≡ (item_at p).item → None ≡ joined before (whats_of n a) → value_from m (Some before) (items_at p) ≡ target → None ≡ target
+pub value_fails : (m n : Macros) (before : List What) (p : Cursor) (a : Lexeme) (target : Option (List What)) → n ≡ m → a ≡ (lexeme_at p).lexeme → None ≡ joined before (whats_of n a) → value_from m (Some before) (lexemes_at p) ≡ target → None ≡ target
 value_fails m n before p a target k e f h =
-    sym (value_none m (cond (is_last a) [] (items_at (after_item p)))) ∙
+    sym (value_none m (cond (is_last a) [] (lexemes_at (after_lexeme p)))) ∙
     next_of m before p a None target e (moved m n a before None k f) h
 
 -- A value that is not too long is read.
-pub value_whole : (m : Macros) (text : List ℕ) → length text ≤ 1048576 → value_of m text ≡ value_from m (Some []) (items_of text)
+pub value_whole : (m : Macros) (text : List ℕ) → length text ≤ 1048576 → value_of m text ≡ value_from m (Some []) (lexemes_of text)
 unfolding value_of
 value_whole m text l =
     let t : ltb 1048576 (length text) ≡ false = search (rules, tests) in
-    ap (λ b. cond b None (value_from m (Some []) (items_of text))) t
+    ap (λ b. cond b None (value_from m (Some []) (lexemes_of text))) t
 
--- Where nothing is left to read a place is not passed.
-pub last_moves : (p : Place) (a : Item) (q : Place) → a ≡ (item_at p).item → q ≡ after_item p → is_last a ≡ false → length q.left < length p.left
+-- Where nothing is left to read a cursor is not passed.
+pub last_moves : (p : Cursor) (a : Lexeme) (q : Cursor) → a ≡ (lexeme_at p).lexeme → q ≡ after_lexeme p → is_last a ≡ false → length q.left < length p.left
 last_moves p a q e r l =
     let less = fewer_left p (ap is_last (sym e) ∙ l) in
-    let same = ap (λ (t : Place). length t.left) r in
+    let same = ap (λ (t : Cursor). length t.left) r in
     omega arith

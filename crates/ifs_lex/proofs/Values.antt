@@ -5,8 +5,8 @@ use Rattle.std.proofs.Common.{None, option_map, refl, sym, ◌∙◌, ap, subst,
 use Rattle.std.specs.Str.{IsUtf8, IsCharBoundary}
 use Rattle.std.proofs.lemmas.Bool.Decides.{nat_tests}
 use Rattle.std.proofs.lemmas.Str.{IsCharBoundary-before_ascii, IsCharBoundary-after_ascii, IsUtf8-drop}
-use Rattle.ifs_lex.specs.Items.{is_dropped, quoted_value}
-use Rattle.ifs_lex.specs.Pieces.{kept_len}
+use Rattle.ifs_lex.specs.Lexemes.{is_dropped, quoted_value}
+use Rattle.ifs_lex.specs.inner.Pieces.{kept_len}
 
 -- The bytes before the first one dropped, then the value of what comes after it.
 pub record KeptTo (q : ℕ) (bs : List ℕ) (n : ℕ) : Type 0 where

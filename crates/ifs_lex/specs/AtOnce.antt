@@ -2,24 +2,25 @@
 use Rattle.std.specs.Prelude.{ℕ, nat_lt, if◌then◌else◌, List, [], ◌∷◌, length, Option, Some, None}
 use Rattle.ifs_base.specs.declared.span.Span.{Span}
 use Rattle.ifs_lex.specs.declared.fault.LexFault.{LexFault}
-use Rattle.ifs_lex.specs.declared.fault.LexFault.TheVariants.{Stray, Unclosed, UnknownMacro, BadMacro, OverLimit}
+use Rattle.ifs_lex.specs.declared.fault.LexFault.TheVariants as lexing
+use Rattle.ifs_lex.specs.declared.fault.LexFault.TheVariants.{UnknownMacro, BadMacro, OverLimit}
 use Rattle.ifs_lex.specs.Characters.{is_macro_name}
-use Rattle.ifs_lex.specs.Items.{Item, One, Uses, Astray, Open, Placed, item_at, start}
+use Rattle.ifs_lex.specs.Lexemes.{Lexeme, One, Uses, Stray, Unclosed, Spanned, lexeme_at, start}
 
--- What is wrong with an item where no macro is known.
-abbrev pub fault_without_macros : Span → Item → Option LexFault
+-- What is wrong with a lexeme where no macro is known.
+abbrev pub fault_without_macros : Span → Lexeme → Option LexFault
 fault_without_macros span (One _) = None
 fault_without_macros span (Uses name) = Some (UnknownMacro span.line)
-fault_without_macros span Astray = Some (Stray span.line)
-fault_without_macros span Open = Some (Unclosed span.line)
+fault_without_macros span Stray = Some (lexing.Stray span.line)
+fault_without_macros span Unclosed = Some (lexing.Unclosed span.line)
 
--- What is wrong with the first item of a text where no macro is known.
-abbrev pub fault_of_first : Placed → Option LexFault
-fault_of_first p = fault_without_macros p.span p.item
+-- What is wrong with the first lexeme of a text where no macro is known.
+abbrev pub fault_of_first : Spanned → Option LexFault
+fault_of_first p = fault_without_macros p.span p.lexeme
 
 -- What is certain at once of a text: with no definition beside it, that it is too long, or what is wrong with its first
--- item; with some, that the first of them has no macro name, or too long a value.
+-- lexeme; with some, that the first of them has no macro name, or too long a value.
 abbrev pub certain_at_once : List ℕ → List (List ℕ × List ℕ) → Option LexFault
-certain_at_once text [] = if nat_lt 1048576 (length text) then Some (OverLimit 1) else fault_of_first (item_at (start text))
+certain_at_once text [] = if nat_lt 1048576 (length text) then Some (OverLimit 1) else fault_of_first (lexeme_at (start text))
 certain_at_once text (def ∷ rest) =
     if is_macro_name def.0 then (if nat_lt 1048576 (length def.1) then Some (BadMacro 0) else None) else Some (BadMacro 0)

@@ -1,11 +1,7 @@
 pub mod Characters
-pub mod Items
+pub mod Lexemes
 pub mod Expansion
-pub mod Pieces
-pub mod Ropes
-pub mod Kept
-pub mod Known
-pub mod Turns
 pub mod Spelling
 pub mod Stuck
 pub mod AtOnce
+pub mod inner

@@ -1,11 +1,11 @@
--- The items of a text in words of their own, beside the functions that read them.
+-- The lexemes of a text in words of their own, beside the functions that read them.
 use Rattle.std.specs.Prelude.{◌≡◌, ◌≢◌, ℕ, zero, suc, ◌+◌, ◌<◌, ◌≤◌, Bool, true, false, ◌||◌, ◌==◌}
 use Rattle.std.specs.Prelude.{List, [], ◌∷◌, ◌++◌, length, take, drop, count_by, slice_index, codes}
 use Rattle.ifs_lex.specs.declared.token.What.{What}
 use Rattle.ifs_lex.specs.declared.token.What.TheVariants.{Word, Quoted, BraceOpen, BraceClose, ParenOpen}
 use Rattle.ifs_lex.specs.declared.token.What.TheVariants.{ParenClose, Dot, Equals, Bang, And, Or, End}
 use Rattle.ifs_lex.specs.Characters.{is_blank, is_quote, begins_name, continues_name, begins_word, continues_word}
-use Rattle.ifs_lex.specs.Items.{Item, One, Uses, Placed}
+use Rattle.ifs_lex.specs.Lexemes.{Lexeme, One, Uses, Spanned}
 
 -- So many bytes pass, and the next one, where there is one, does not.
 pub record Longest (passes : ℕ → Bool) (bytes : List ℕ) (n : ℕ) : Type 0 where
@@ -14,21 +14,21 @@ pub record Longest (passes : ℕ → Bool) (bytes : List ℕ) (n : ℕ) : Type 0
   pub stops : n < length bytes → passes (slice_index bytes n) ≡ false
 
 -- What a backslash gives: the same quote, a space or a tab.
-abbrev pub is_given : ℕ → ℕ → Bool
-is_given quote b = (b == quote) || (b == 32) || (b == 9)
+abbrev pub is_escaped : ℕ → ℕ → Bool
+is_escaped quote b = (b == quote) || (b == 32) || (b == 9)
 
 -- A backslash here has something to give, or takes a newline away.
 abbrev pub escapes : ℕ → List ℕ → Bool
 escapes quote [] = false
-escapes quote (b ∷ rest) = is_given quote b || (b == 10)
+escapes quote (b ∷ rest) = is_escaped quote b || (b == 10)
 
 -- What stands between two quotes, and its value.
-pub data Says (quote : ℕ) : List ℕ → List ℕ → Type 0 where
-  nothing : Says quote [] []
-  newline : (b : ℕ) (rest value : List ℕ) → b ≡ 10 → Says quote rest value → Says quote (b ∷ rest) value
-  continued : (b c : ℕ) (rest value : List ℕ) → b ≡ 92 → c ≡ 10 → Says quote rest value → Says quote (b ∷ c ∷ rest) value
-  escaped : (b c : ℕ) (rest value : List ℕ) → b ≡ 92 → is_given quote c ≡ true → Says quote rest value → Says quote (b ∷ c ∷ rest) (c ∷ value)
-  itself : (b : ℕ) (rest value : List ℕ) → b ≢ 10 → (b ≡ 92 → escapes quote rest ≡ false) → Says quote rest value → Says quote (b ∷ rest) (b ∷ value)
+pub data HasValue (quote : ℕ) : List ℕ → List ℕ → Type 0 where
+  nothing : HasValue quote [] []
+  newline : (b : ℕ) (rest value : List ℕ) → b ≡ 10 → HasValue quote rest value → HasValue quote (b ∷ rest) value
+  continued : (b c : ℕ) (rest value : List ℕ) → b ≡ 92 → c ≡ 10 → HasValue quote rest value → HasValue quote (b ∷ c ∷ rest) value
+  escaped : (b c : ℕ) (rest value : List ℕ) → b ≡ 92 → is_escaped quote c ≡ true → HasValue quote rest value → HasValue quote (b ∷ c ∷ rest) (c ∷ value)
+  itself : (b : ℕ) (rest value : List ℕ) → b ≢ 10 → (b ≡ 92 → escapes quote rest ≡ false) → HasValue quote rest value → HasValue quote (b ∷ rest) (b ∷ value)
 
 -- The byte before a place is a backslash; before the first one stands what is told.
 abbrev pub after_backslash : Bool → List ℕ → ℕ → Bool
@@ -71,34 +71,34 @@ pub data IsSign : List ℕ → What → Type 0 where
   conjunction : IsSign (codes "&&") And
   disjunction : IsSign (codes "||") Or
 
--- An item comes first, of so many bytes.
-pub data IsItem : List ℕ → Item → ℕ → Type 0 where
+-- A lexeme comes first, of so many bytes.
+pub data IsLexeme : List ℕ → Lexeme → ℕ → Type 0 where
   -- a word, as far as it can go on
-  word : (b : ℕ) (rest : List ℕ) (n : ℕ) → begins_word b ≡ true → Longest continues_word (b ∷ rest) n → IsItem (b ∷ rest) (One (Word (take n (b ∷ rest)))) n
+  word : (b : ℕ) (rest : List ℕ) (n : ℕ) → begins_word b ≡ true → Longest continues_word (b ∷ rest) n → IsLexeme (b ∷ rest) (One (Word (take n (b ∷ rest)))) n
   -- two quotes, and the value of what stands between
-  quoted : (quote : ℕ) (rest value : List ℕ) (n : ℕ) → is_quote quote ≡ true → Closes quote false rest n → Says quote (take n rest) value → IsItem (quote ∷ rest) (One (Quoted value)) (n + 2)
+  quoted : (quote : ℕ) (rest value : List ℕ) (n : ℕ) → is_quote quote ≡ true → Closes quote false rest n → HasValue quote (take n rest) value → IsLexeme (quote ∷ rest) (One (Quoted value)) (n + 2)
   -- `$` and a name, as far as it can go on
-  uses : (b : ℕ) (rest : List ℕ) (n : ℕ) → begins_name b ≡ true → Longest continues_name (b ∷ rest) n → IsItem (36 ∷ b ∷ rest) (Uses (take n (b ∷ rest))) (1 + n)
+  uses : (b : ℕ) (rest : List ℕ) (n : ℕ) → begins_name b ≡ true → Longest continues_name (b ∷ rest) n → IsLexeme (36 ∷ b ∷ rest) (Uses (take n (b ∷ rest))) (1 + n)
   -- a sign
-  sign : (own rest : List ℕ) (what : What) → IsSign own what → IsItem (own ++ rest) (One what) (length own)
+  sign : (own rest : List ℕ) (what : What) → IsSign own what → IsLexeme (own ++ rest) (One what) (length own)
 
 -- The line of a byte of a text: 1, or as many lines on as newlines come before it.
 abbrev pub line_at : List ℕ → ℕ → ℕ
 line_at text at = 1 + count_by (λ b. b == 10) (take at text)
 
--- An item that stands from one byte of a text to another.
-abbrev pub stands : List ℕ → Item → ℕ → ℕ → Placed
-stands text item first next = record { item = item; span = record { line = line_at text first; start = first; end = next } }
+-- A lexeme that stands from one byte of a text to another.
+abbrev pub stands : List ℕ → Lexeme → ℕ → ℕ → Spanned
+stands text lexeme first next = record { lexeme = lexeme; span = record { line = line_at text first; start = first; end = next } }
 
--- The items of a text from a place on.
-pub data Spelling (text : List ℕ) : ℕ → List Placed → Type 0 where
+-- The lexemes of a text from a place on.
+pub data Spelling (text : List ℕ) : ℕ → List Spanned → Type 0 where
   -- blanks and comments, and the end
   ends : (at gap : ℕ) → IsGap (drop at text) gap → at + gap ≡ length text → Spelling text at (stands text (One End) (at + gap) (at + gap) ∷ [])
-  -- blanks and comments, an item, and the items after it
-  goes_on : (at gap own : ℕ) (item : Item) (items : List Placed) → IsGap (drop at text) gap → IsItem (drop (at + gap) text) item own → Spelling text (at + gap + own) items → Spelling text at (stands text item (at + gap) (at + gap + own) ∷ items)
+  -- blanks and comments, a lexeme, and the lexemes after it
+  goes_on : (at gap own : ℕ) (lexeme : Lexeme) (lexemes : List Spanned) → IsGap (drop at text) gap → IsLexeme (drop (at + gap) text) lexeme own → Spelling text (at + gap + own) lexemes → Spelling text at (stands text lexeme (at + gap) (at + gap + own) ∷ lexemes)
 
--- The last item is the end of the text.
-abbrev pub Ended : List Placed → Type 0
+-- The last lexeme is the end of the text.
+abbrev pub Ended : List Spanned → Type 0
 Ended [] = ⊥
-Ended (p ∷ []) = p.item ≡ One End
+Ended (p ∷ []) = p.lexeme ≡ One End
 Ended (p ∷ q ∷ rest) = Ended (q ∷ rest)

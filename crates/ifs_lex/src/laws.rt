@@ -5,10 +5,10 @@ ghost use Rattle.ifs_lex.specs.declared.token.Token.{Token};
 ghost use Rattle.ifs_lex.specs.declared.token.What.{What};
 ghost use Rattle.ifs_lex.specs.Expansion.{EndsOnce, Macros, Spells, value_of};
 ghost use Rattle.ifs_lex.specs.Characters.{is_quote};
-ghost use Rattle.ifs_lex.specs.Items.{Placed, inside_len, items_of, quoted_value};
+ghost use Rattle.ifs_lex.specs.Lexemes.{Spanned, inside_len, lexemes_of, quoted_value};
 ghost use Rattle.ifs_lex.specs.Stuck.{IsStuck, StuckWith};
 ghost use Rattle.ifs_lex.specs.declared.fault.LexFault.{LexFault};
-ghost use Rattle.ifs_lex.specs.Spelling.{Closes, Ended, Longest, Says, Spelling};
+ghost use Rattle.ifs_lex.specs.Spelling.{Closes, Ended, Longest, HasValue, Spelling};
 ghost use Rattle.std.specs.List.{prefix_len};
 
 /// A text spells at most one list of tokens under what is given beside it.
@@ -31,8 +31,8 @@ pub fn longest_runs()
 
 /// A text between quotes has one value, the one that is read.
 pub fn one_value()
-    ensures some { (quote : ℕ) (inside : List ℕ) → is_quote quote ≡ true → Says quote inside (quoted_value quote inside) }
-    ensures only { (quote : ℕ) (inside value : List ℕ) → is_quote quote ≡ true → Says quote inside value → value ≡ quoted_value quote inside }
+    ensures some { (quote : ℕ) (inside : List ℕ) → is_quote quote ≡ true → HasValue quote inside (quoted_value quote inside) }
+    ensures only { (quote : ℕ) (inside value : List ℕ) → is_quote quote ≡ true → HasValue quote inside value → value ≡ quoted_value quote inside }
 {}
 
 /// The quote that closes a text is the first one that is not after a backslash.
@@ -41,22 +41,22 @@ pub fn one_closing_quote()
     ensures only { (quote : ℕ) (bytes : List ℕ) (n : ℕ) → Closes quote false bytes n → inside_len quote false bytes ≡ Some n }
 {}
 
-/// The items that are read are those of the text, where they come to its end; so it has at most one list of items.
+/// The lexemes that are read are those of the text, where they come to its end; so it has at most one list of lexemes.
 pub fn one_spelling()
-    ensures found { (text : List ℕ) (items : List Placed) → items_of text ≡ items → Ended items → Spelling text 0 items }
-    ensures only { (text : List ℕ) (items : List Placed) → Spelling text 0 items → (items_of text ≡ items) × Ended items }
+    ensures found { (text : List ℕ) (lexemes : List Spanned) → lexemes_of text ≡ lexemes → Ended lexemes → Spelling text 0 lexemes }
+    ensures only { (text : List ℕ) (lexemes : List Spanned) → Spelling text 0 lexemes → (lexemes_of text ≡ lexemes) × Ended lexemes }
 {}
 
-/// A text that spells tokens has a list of items, and so has one that is the value of a macro.
-pub fn spelled_items()
+/// A text that spells tokens has a list of lexemes, and so has one that is the value of a macro.
+pub fn spelled_lexemes()
     ensures text { (text : List ℕ) (defs : List (List ℕ × List ℕ)) (tokens : List Token)
-        → Spells text defs tokens → Spelling text 0 (items_of text) }
-    ensures value { (known : Macros) (text : List ℕ) (whats : List What) → value_of known text ≡ Some whats → Spelling text 0 (items_of text) }
+        → Spells text defs tokens → Spelling text 0 (lexemes_of text) }
+    ensures value { (known : Macros) (text : List ℕ) (whats : List What) → value_of known text ≡ Some whats → Spelling text 0 (lexemes_of text) }
 {}
 
-/// A text has a list of items, or is stuck; not both, and in one place with one fault.
+/// A text has a list of lexemes, or is stuck; not both, and in one place with one fault.
 pub fn one_stuck()
     ensures one { (text : List ℕ) (at other : ℕ) (fault second : LexFault) → IsStuck text at fault → IsStuck text other second → (at ≡ other) × (fault ≡ second) }
-    ensures none { (text : List ℕ) (items : List Placed) (at : ℕ) (fault : LexFault) → Spelling text 0 items → ¬ IsStuck text at fault }
-    ensures some { (text : List ℕ) → Spelling text 0 (items_of text) ⊎ ((fault : LexFault) × StuckWith text fault) }
+    ensures none { (text : List ℕ) (lexemes : List Spanned) (at : ℕ) (fault : LexFault) → Spelling text 0 lexemes → ¬ IsStuck text at fault }
+    ensures some { (text : List ℕ) → Spelling text 0 (lexemes_of text) ⊎ ((fault : LexFault) × StuckWith text fault) }
 {}

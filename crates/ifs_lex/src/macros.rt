@@ -4,12 +4,12 @@ ghost use Rattle.std.specs.Prelude.{◌≡◌, ℕ, List, Some};
 ghost use Rattle.std.specs.HashMap as hash;
 ghost use Rattle.std.specs.Str.{bytes_eq};
 ghost use Rattle.ifs_lex.specs.declared.macros.Entry.{Entry};
-ghost use Rattle.ifs_lex.specs.Kept.{IsValue};
+ghost use Rattle.ifs_lex.specs.inner.Kept.{IsValue};
 
+use crate::cursor::Cursor;
 use crate::fault::LexFault;
 use crate::limits::{MAX_MACROS, MAX_TEXT, MAX_TOKENS};
 use crate::pieces::{Piece, quoted_value, text_from, what_of};
-use crate::place::Place;
 use crate::ropes::{Rope, Ropes};
 use crate::token::{Token, What};
 use ifs_base::Span;
@@ -37,10 +37,10 @@ impl<'a> MacroTable<'a> {
     ghost use Rattle.std.specs.Prelude.{◌||◌, nat_lt, is_some, Ok, IfOk, IfSome, OnOk};
     ghost use Rattle.ifs_lex.specs.Expansion.{no_macros, with_macro, whats_of, joined};
     ghost use Rattle.ifs_lex.specs.Expansion.{value_of, defined, is_given, known_as, token};
-    ghost use Rattle.ifs_lex.specs.Pieces.{item_of};
-    ghost use Rattle.ifs_lex.specs.Ropes.{whats_at, Keeps};
-    ghost use Rattle.ifs_lex.specs.Kept.{macro_of, whats_of_rope, Answers};
-    ghost use Rattle.ifs_lex.specs.Known.{macros_of};
+    ghost use Rattle.ifs_lex.specs.inner.Pieces.{lexeme_of};
+    ghost use Rattle.ifs_lex.specs.inner.Ropes.{whats_at, Keeps};
+    ghost use Rattle.ifs_lex.specs.inner.Kept.{macro_of, whats_of_rope, Answers};
+    ghost use Rattle.ifs_lex.specs.inner.Known.{macros_of};
 
     /// No macro.
     pub fn new(alloc: Global) -> Result<Self, AllocError>
@@ -101,7 +101,7 @@ impl<'a> MacroTable<'a> {
     /// What a piece of a value stands for, where it has a part in one.
     #[tactic(auto, using(crate::proofs::Signs::sign_whats))]
     fn part(&mut self, alloc: Global, piece: Piece<'_>) -> Result<Option<Rope>, AllocError>
-        ensures whats { IfOk result (λ part. option_map (whats_of_rope self.new.ropes) part ≡ whats_of (macros_of self.old) (item_of piece.entry)) }
+        ensures whats { IfOk result (λ part. option_map (whats_of_rope self.new.ropes) part ≡ whats_of (macros_of self.old) (lexeme_of piece.entry)) }
         ensures value { IfOk result (λ part. IfSome part (λ rope. IsValue self.new.ropes rope)) }
         ensures keeps { Keeps self.old.ropes self.new.ropes }
         ensures same { macros_of self.new ≡ macros_of self.old }
@@ -125,7 +125,7 @@ impl<'a> MacroTable<'a> {
                 Ok(Some(rope))
             }
             Piece::Last => Ok(Some(Rope::EMPTY)),
-            Piece::Nothing => Ok(None),
+            Piece::Stray => Ok(None),
             Piece::Unclosed => Ok(None),
         }
     }
@@ -138,7 +138,7 @@ impl<'a> MacroTable<'a> {
         piece: Piece<'_>,
     ) -> Result<Option<Rope>, AllocError>
         requires { IsValue self.old.ropes before }
-        ensures whats { IfOk result (λ more. option_map (whats_of_rope self.new.ropes) more ≡ joined (whats_of_rope self.old.ropes before) (whats_of (macros_of self.old) (item_of piece.entry))) }
+        ensures whats { IfOk result (λ more. option_map (whats_of_rope self.new.ropes) more ≡ joined (whats_of_rope self.old.ropes before) (whats_of (macros_of self.old) (lexeme_of piece.entry))) }
         ensures value { IfOk result (λ more. IfSome more (λ rope. IsValue self.new.ropes rope)) }
         ensures keeps { Keeps self.old.ropes self.new.ropes }
         ensures same { macros_of self.new ≡ macros_of self.old }
@@ -166,10 +166,10 @@ impl<'a> MacroTable<'a> {
         if text.len() > MAX_TEXT {
             return Ok(None);
         }
-        let mut place = Place::start(text);
+        let mut cursor = Cursor::start(text);
         let mut rope = Rope::EMPTY;
-        'items: loop {
-            let piece = place.next().piece;
+        'lexemes: loop {
+            let piece = cursor.next().piece;
             match self.longer(alloc, rope, piece)? {
                 Some(more) => {
                     if piece.is_last() {

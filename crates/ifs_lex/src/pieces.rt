@@ -1,8 +1,8 @@
 //! The piece that comes first in a text.
 
 ghost use Rattle.std.specs.Prelude.{◌≡◌, ◌<◌, ◌≤◌, ◌+◌, ◌++◌, ◌∷◌, length, IfOk, IfSome, MatchOption};
-ghost use Rattle.ifs_lex.specs.Items as items;
-ghost use Rattle.ifs_lex.specs.Pieces.{item_of, kept_len, what_of};
+ghost use Rattle.ifs_lex.specs.Lexemes as lexemes;
+ghost use Rattle.ifs_lex.specs.inner.Pieces.{lexeme_of, kept_len, what_of};
 
 use crate::characters::{
     begins_name, begins_word, is_macro_name, is_quote, is_reserved, name_run, word_run,
@@ -41,7 +41,7 @@ pub enum Piece<'a> {
     /// The end of the text.
     Last,
     /// A character that begins nothing.
-    Nothing,
+    Stray,
     /// A quote that opens and is not closed.
     Unclosed,
 }
@@ -76,7 +76,7 @@ impl<'a> Piece<'a> {
     /// The name that the piece can give to a macro.
     #[tactic(auto, using(crate::proofs::Signs::sign_name))]
     pub fn name(&self) -> Option<&'a str>
-        ensures { option_map (λ name. name.now) result ≡ expansion.name_of (item_of self.now) }
+        ensures { option_map (λ name. name.now) result ≡ expansion.name_of (lexeme_of self.now) }
     {
         match *self {
             Piece::Bare(word) => {
@@ -90,7 +90,7 @@ impl<'a> Piece<'a> {
             Piece::Equal => None,
             Piece::Plain(_) => None,
             Piece::Last => None,
-            Piece::Nothing => None,
+            Piece::Stray => None,
             Piece::Unclosed => None,
         }
     }
@@ -98,7 +98,7 @@ impl<'a> Piece<'a> {
     /// Whether the piece is the sign `=`.
     #[tactic(auto, using(crate::proofs::Signs::sign_equals))]
     pub fn is_equals(&self) -> bool
-        ensures { result ≡ expansion.is_equals (item_of self.now) }
+        ensures { result ≡ expansion.is_equals (lexeme_of self.now) }
     {
         match *self {
             Piece::Bare(_) => false,
@@ -107,7 +107,7 @@ impl<'a> Piece<'a> {
             Piece::Equal => true,
             Piece::Plain(_) => false,
             Piece::Last => false,
-            Piece::Nothing => false,
+            Piece::Stray => false,
             Piece::Unclosed => false,
         }
     }
@@ -115,7 +115,7 @@ impl<'a> Piece<'a> {
     /// Whether nothing is read after the piece.
     #[tactic(auto, using(crate::proofs::Signs::sign_last))]
     pub fn is_last(&self) -> bool
-        ensures { result ≡ items.is_last (item_of self.now) }
+        ensures { result ≡ lexemes.is_last (lexeme_of self.now) }
     {
         match *self {
             Piece::Bare(_) => false,
@@ -124,7 +124,7 @@ impl<'a> Piece<'a> {
             Piece::Equal => false,
             Piece::Plain(_) => false,
             Piece::Last => true,
-            Piece::Nothing => true,
+            Piece::Stray => true,
             Piece::Unclosed => true,
         }
     }
@@ -132,7 +132,7 @@ impl<'a> Piece<'a> {
     /// The text that the piece can give to a macro.
     #[tactic(auto, using(crate::proofs::Signs::sign_text))]
     pub fn text(&self, alloc: Global) -> Result<Option<Text>, AllocError>
-        ensures { IfOk result (λ text. text ≡ expansion.text_of (item_of self.now)) }
+        ensures { IfOk result (λ text. text ≡ expansion.text_of (lexeme_of self.now)) }
     {
         match *self {
             Piece::Bare(word) => {
@@ -146,7 +146,7 @@ impl<'a> Piece<'a> {
             Piece::Equal => Ok(None),
             Piece::Plain(_) => Ok(None),
             Piece::Last => Ok(None),
-            Piece::Nothing => Ok(None),
+            Piece::Stray => Ok(None),
             Piece::Unclosed => Ok(None),
         }
     }
@@ -172,8 +172,8 @@ fn kept_len(quote: u8, bytes: &[u8]) -> Option<usize>
 fn split_kept(quote: u8, text: &str) -> Option<(&str, &str)>
     ensures value { MatchOption
         result
-        (items.quoted_value quote text.now ≡ text.now)
-        (λ parts. items.quoted_value quote text.now ≡ parts.0.now ++ items.quoted_value quote parts.1.now) }
+        (lexemes.quoted_value quote text.now ≡ text.now)
+        (λ parts. lexemes.quoted_value quote text.now ≡ parts.0.now ++ lexemes.quoted_value quote parts.1.now) }
     ensures shorter { IfSome result (λ parts. length parts.1.now < length text.now) }
 {
     match kept_len(quote, text.as_bytes()) {
@@ -187,7 +187,7 @@ fn split_kept(quote: u8, text: &str) -> Option<(&str, &str)>
 
 /// The value of what stands between two quotes.
 pub fn quoted_value(alloc: Global, quote: u8, inside: &str) -> Result<Text, AllocError>
-    ensures { IfOk result (λ value. value ≡ items.quoted_value quote inside.now) }
+    ensures { IfOk result (λ value. value ≡ lexemes.quoted_value quote inside.now) }
 {
     let mut value = String::new(alloc);
     let mut left = inside;
@@ -200,8 +200,8 @@ pub fn quoted_value(alloc: Global, quote: u8, inside: &str) -> Result<Text, Allo
 }
 
 fn word_here(text: &str) -> (Piece<'_>, usize)
-    ensures item { item_of result.0 ≡ (items.word_here text.now).item }
-    ensures len { result.1 ≡ (items.word_here text.now).len }
+    ensures lexeme { lexeme_of result.0 ≡ (lexemes.word_here text.now).lexeme }
+    ensures len { result.1 ≡ (lexemes.word_here text.now).len }
 {
     let len = word_run(text.as_bytes());
     (Piece::Bare(text.split_at(len).0), len)
@@ -209,8 +209,8 @@ fn word_here(text: &str) -> (Piece<'_>, usize)
 
 fn quoted_here(quote: u8, rest: &str) -> (Piece<'_>, usize)
     requires { quote < 128 }
-    ensures item { item_of result.0 ≡ (items.quoted_here quote rest.now).item }
-    ensures len { result.1 ≡ (items.quoted_here quote rest.now).len }
+    ensures lexeme { lexeme_of result.0 ≡ (lexemes.quoted_here quote rest.now).lexeme }
+    ensures len { result.1 ≡ (lexemes.quoted_here quote rest.now).len }
 {
     match inside_len(quote, rest.as_bytes()) {
         Some(len) => (Piece::Between(quote, rest.split_at(len).0), len + 2),
@@ -219,32 +219,32 @@ fn quoted_here(quote: u8, rest: &str) -> (Piece<'_>, usize)
 }
 
 fn use_here(rest: &str) -> (Piece<'_>, usize)
-    ensures item { item_of result.0 ≡ (items.use_here rest.now).item }
-    ensures len { result.1 ≡ (items.use_here rest.now).len }
+    ensures lexeme { lexeme_of result.0 ≡ (lexemes.use_here rest.now).lexeme }
+    ensures len { result.1 ≡ (lexemes.use_here rest.now).len }
 {
     match rest.as_bytes() {
         [first, ..] if begins_name(*first) => {
             let len = name_run(rest.as_bytes());
             (Piece::Named(rest.split_at(len).0), 1 + len)
         }
-        _ => (Piece::Nothing, 0),
+        _ => (Piece::Stray, 0),
     }
 }
 
 fn twice(byte: u8, sign: Sign, rest: &[u8]) -> (Piece<'static>, usize)
-    ensures item { item_of result.0 ≡ (items.twice byte (what_of sign) rest.now).item }
-    ensures len { result.1 ≡ (items.twice byte (what_of sign) rest.now).len }
+    ensures lexeme { lexeme_of result.0 ≡ (lexemes.twice byte (what_of sign) rest.now).lexeme }
+    ensures len { result.1 ≡ (lexemes.twice byte (what_of sign) rest.now).len }
 {
     if begins_with(byte, rest) {
         (Piece::Plain(sign), 2)
     } else {
-        (Piece::Nothing, 0)
+        (Piece::Stray, 0)
     }
 }
 
 fn sign_here(byte: u8, rest: &[u8]) -> (Piece<'static>, usize)
-    ensures item { item_of result.0 ≡ (items.sign_here byte rest.now).item }
-    ensures len { result.1 ≡ (items.sign_here byte rest.now).len }
+    ensures lexeme { lexeme_of result.0 ≡ (lexemes.sign_here byte rest.now).lexeme }
+    ensures len { result.1 ≡ (lexemes.sign_here byte rest.now).len }
 {
     match byte {
         b'{' => (Piece::Plain(Sign::OpenBrace), 1),
@@ -256,15 +256,15 @@ fn sign_here(byte: u8, rest: &[u8]) -> (Piece<'static>, usize)
         b'!' => (Piece::Plain(Sign::Not), 1),
         b'&' => twice(b'&', Sign::Both, rest),
         b'|' => twice(b'|', Sign::Either, rest),
-        _ => (Piece::Nothing, 0),
+        _ => (Piece::Stray, 0),
     }
 }
 
-#[tactic(auto, unfolding(crate::specs::Items::item_here), using(crate::proofs::Boundaries::quote_ascii))]
+#[tactic(auto, unfolding(crate::specs::Lexemes::lexeme_here), using(crate::proofs::Boundaries::quote_ascii))]
 /// The piece that comes first, where no blank and no comment does, and its number of bytes.
 pub fn piece_here(text: &str) -> (Piece<'_>, usize)
-    ensures item { item_of result.0 ≡ (items.item_here text.now).item }
-    ensures len { result.1 ≡ (items.item_here text.now).len }
+    ensures lexeme { lexeme_of result.0 ≡ (lexemes.lexeme_here text.now).lexeme }
+    ensures len { result.1 ≡ (lexemes.lexeme_here text.now).len }
 {
     match text.as_bytes() {
         [] => (Piece::Last, 0),

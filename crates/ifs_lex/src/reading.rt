@@ -6,35 +6,35 @@ ghost use Rattle.ifs_lex.specs.declared.fault.LexFault.{LexFault};
 ghost use Rattle.ifs_lex.specs.AtOnce as at_once;
 ghost use Rattle.ifs_lex.specs.declared.token.Token.{Token};
 ghost use Rattle.ifs_lex.specs.declared.fault.LexFault.TheVariants.{Memory};
-ghost use Rattle.ifs_lex.specs.Items.{items_of};
-ghost use Rattle.ifs_lex.specs.Expansion.{state, tokens_after, parts_from, given_one};
+ghost use Rattle.ifs_lex.specs.Lexemes.{lexemes_of};
+ghost use Rattle.ifs_lex.specs.Expansion.{expanded, tokens_after, segments_from, given_one};
 ghost use Rattle.ifs_lex.specs.Expansion.{given_from, tokens_of, Spells, EndsOnce};
-ghost use Rattle.ifs_lex.specs.Kept.{Answers};
-ghost use Rattle.ifs_lex.specs.Known.{macros_of};
-ghost use Rattle.ifs_lex.specs.Pieces.{item_of};
+ghost use Rattle.ifs_lex.specs.inner.Kept.{Answers};
+ghost use Rattle.ifs_lex.specs.inner.Known.{macros_of};
+ghost use Rattle.ifs_lex.specs.inner.Pieces.{lexeme_of};
 ghost use Rattle.ifs_lex.specs.Stuck.{SaysStuck};
-ghost use Rattle.ifs_lex.specs.Turns.{definition_here, after_definition};
+ghost use Rattle.ifs_lex.specs.inner.Turns.{definition_here, after_definition};
 
 use crate::characters::is_macro_name;
+use crate::cursor::{Cursor, Found};
 use crate::fault::LexFault;
 use crate::limits::{MAX_TEXT, MAX_TOKENS};
 use crate::macros::MacroTable;
 use crate::pieces::{Piece, quoted_value, text_from, what_of};
-use crate::place::{Found, Place};
 use crate::token::{Token, What};
 use ifs_base::{Span, Text};
 use std::alloc::{AllocError, Global};
 
-/// The name and the text of the definition that begins with a piece, where one does; the place goes on after it.
+/// The name and the text of the definition that begins with a piece, where one does; the cursor goes on after it.
 fn definition<'a>(
     alloc: Global,
-    place: &mut Place<'a>,
+    cursor: &mut Cursor<'a>,
     piece: &Piece<'a>,
 ) -> Result<Option<(&'a str, Text)>, AllocError>
-    ensures found { IfOk result (λ made. option_map (λ d. (d.0.now, d.1)) made ≡ definition_here place.old (item_of piece.now)) }
-    ensures after { IfOk result (λ made. place.new ≡ after_definition place.old (is_some made)) }
+    ensures found { IfOk result (λ made. option_map (λ d. (d.0.now, d.1)) made ≡ definition_here cursor.old (lexeme_of piece.now)) }
+    ensures after { IfOk result (λ made. cursor.new ≡ after_definition cursor.old (is_some made)) }
 {
-    let mut ahead = place.again();
+    let mut ahead = cursor.again();
     match piece.name() {
         Some(name) => {
             if !ahead.next().piece.is_equals() {
@@ -42,7 +42,7 @@ fn definition<'a>(
             }
             match ahead.next().piece.text(alloc)? {
                 Some(text) => {
-                    *place = ahead;
+                    *cursor = ahead;
                     Ok(Some((name, text)))
                 }
                 None => Ok(None),
@@ -60,9 +60,9 @@ pub struct Reading<'a> {
 }
 
 impl<'a> Reading<'a> {
-    ghost use Rattle.ifs_lex.specs.Items as items;
-    ghost use Rattle.ifs_lex.specs.Expansion.{with_whats, with_use, with_item};
-    ghost use Rattle.ifs_lex.specs.Turns.{state_of, with_turn};
+    ghost use Rattle.ifs_lex.specs.Lexemes as lexemes;
+    ghost use Rattle.ifs_lex.specs.Expansion.{with_whats, with_use, with_lexeme};
+    ghost use Rattle.ifs_lex.specs.inner.Turns.{expanded_of, with_turn};
 
     fn into_tokens(self) -> Vec<Token>
         ensures { result.items ≡ self.entry.tokens.items }
@@ -72,7 +72,7 @@ impl<'a> Reading<'a> {
     }
 
     fn put(&mut self, span: Span, what: What) -> Result<(), LexFault>
-        ensures { Answers (λ done. state_of self.new) result (with_whats span (what ∷ []) (state_of self.old)) }
+        ensures { Answers (λ done. expanded_of self.new) result (with_whats span (what ∷ []) (expanded_of self.old)) }
     {
         if self.tokens.len() >= MAX_TOKENS {
             return Err(LexFault::OverLimit { line: span.line });
@@ -82,7 +82,7 @@ impl<'a> Reading<'a> {
     }
 
     fn use_macro(&mut self, alloc: Global, span: Span, name: &str) -> Result<(), LexFault>
-        ensures { Answers (λ done. state_of self.new) result (with_use span ((state_of self.old).macros.known name.now) (state_of self.old)) }
+        ensures { Answers (λ done. expanded_of self.new) result (with_use span ((expanded_of self.old).macros.known name.now) (expanded_of self.old)) }
     {
         match self.macros.get(name) {
             Some(entry) => {
@@ -97,9 +97,9 @@ impl<'a> Reading<'a> {
         }
     }
 
-    #[tactic(auto, using(crate::proofs::Signs::sign_item))]
+    #[tactic(auto, using(crate::proofs::Signs::sign_lexeme))]
     fn stand(&mut self, alloc: Global, found: Found<'_>) -> Result<(), LexFault>
-        ensures { Answers (λ done. state_of self.new) result (with_item found.entry.span (item_of found.entry.piece) (state_of self.old)) }
+        ensures { Answers (λ done. expanded_of self.new) result (with_lexeme found.entry.span (lexeme_of found.entry.piece) (expanded_of self.old)) }
     {
         let span = found.span;
         match found.piece {
@@ -121,7 +121,7 @@ impl<'a> Reading<'a> {
                 })?;
                 Ok(())
             }
-            Piece::Nothing => Err(LexFault::Stray { line: span.line }),
+            Piece::Stray => Err(LexFault::Stray { line: span.line }),
             Piece::Unclosed => Err(LexFault::Unclosed { line: span.line }),
         }
     }
@@ -134,9 +134,9 @@ impl<'a> Reading<'a> {
         definition: Option<(&'a str, Text)>,
     ) -> Result<(), LexFault>
         ensures { Answers
-            (λ done. state_of self.new)
+            (λ done. expanded_of self.new)
             result
-            (with_turn (record { item = item_of found.entry.piece; span = found.entry.span }) (option_map (λ d. (d.0.now, d.1)) definition.entry) (state_of self.old)) }
+            (with_turn (record { lexeme = lexeme_of found.entry.piece; span = found.entry.span }) (option_map (λ d. (d.0.now, d.1)) definition.entry) (expanded_of self.old)) }
     {
         match definition {
             Some((name, text)) => self
@@ -148,22 +148,22 @@ impl<'a> Reading<'a> {
 }
 
 /// The tokens of a text under the macros that are given beside it.
-#[tactic(auto, using(crate::proofs::Parts::some_same))]
+#[tactic(auto, using(crate::proofs::Segments::some_same))]
 fn read<'a>(alloc: Global, text: &'a str, macros: MacroTable<'a>) -> Result<Vec<Token>, LexFault>
     requires { length text.now ≤ 1048576 }
     ensures { Answers
         (λ tokens. tokens.items)
         result
-        (tokens_after (state [] (macros_of macros.entry)) (parts_from 0 (items_of text.now))) }
+        (tokens_after (expanded [] (macros_of macros.entry)) (segments_from 0 (lexemes_of text.now))) }
 {
     let mut reading = Reading {
         tokens: Vec::new(alloc),
         macros,
     };
-    let mut place = Place::start(text);
-    'items: loop {
-        let found = place.next();
-        let made = definition(alloc, &mut place, &found.piece)?;
+    let mut cursor = Cursor::start(text);
+    'lexemes: loop {
+        let found = cursor.next();
+        let made = definition(alloc, &mut cursor, &found.piece)?;
         match reading.with(alloc, found, made) {
             Ok(()) => {}
             Err(fault) => return Err(fault),
@@ -208,7 +208,7 @@ fn read_given<'a>(
 
 /// What is wrong with a piece where no macro is known.
 fn fault_without_macros(found: Found<'_>) -> Option<LexFault>
-    ensures { result ≡ at_once.fault_without_macros found.entry.span (item_of found.entry.piece) }
+    ensures { result ≡ at_once.fault_without_macros found.entry.span (lexeme_of found.entry.piece) }
 {
     let line = found.span.line;
     match found.piece {
@@ -218,7 +218,7 @@ fn fault_without_macros(found: Found<'_>) -> Option<LexFault>
         Piece::Equal => None,
         Piece::Plain(_) => None,
         Piece::Last => None,
-        Piece::Nothing => Some(LexFault::Stray { line }),
+        Piece::Stray => Some(LexFault::Stray { line }),
         Piece::Unclosed => Some(LexFault::Unclosed { line }),
     }
 }
@@ -230,8 +230,8 @@ fn certain_at_once<'a>(text: &'a str, defs: &[(&'a str, &'a str)]) -> Option<Lex
     match defs {
         [] if text.len() > MAX_TEXT => Some(LexFault::OverLimit { line: 1 }),
         [] => {
-            let mut place = Place::start(text);
-            fault_without_macros(place.next())
+            let mut cursor = Cursor::start(text);
+            fault_without_macros(cursor.next())
         }
         [(name, value), ..] => {
             if is_macro_name(name) && value.len() <= MAX_TEXT {

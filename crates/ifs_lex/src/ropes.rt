@@ -3,7 +3,7 @@
 ghost use Rattle.std.specs.Prelude.{◌≡◌, ◌<◌, ◌+◌, ◌^◌, ◌++◌, ◌∷◌, [], map, length, IfOk, OnOk};
 ghost use Rattle.std.specs.List.{All};
 ghost use Rattle.ifs_lex.specs.Expansion.{token};
-ghost use Rattle.ifs_lex.specs.Ropes.{whats_at, stacked, weight, weights, Holds, Keeps};
+ghost use Rattle.ifs_lex.specs.inner.Ropes.{whats_at, stacked, weight, weights, Holds, Keeps};
 
 use crate::pieces::text_from;
 use crate::token::{Token, What};
@@ -14,7 +14,7 @@ use std::marker::Model;
 /// Nothing, one token, or two earlier cells one after the other.
 #[derive(Debug, Drop)]
 pub enum Cell {
-    Nothing,
+    Empty,
     Leaf(What),
     Both(usize, usize),
 }
@@ -55,7 +55,7 @@ pub struct Ropes {
 impl Model for Ropes {
     ghost use Rattle.std.specs.Prelude.{List, [], ◌<◌, length};
     ghost use Rattle.ifs_lex.specs.declared.token.What.{What};
-    ghost use Rattle.ifs_lex.specs.Ropes.{ropes_from, AreEarlier};
+    ghost use Rattle.ifs_lex.specs.inner.Ropes.{ropes_from, AreEarlier};
 
     ghost Value = { List (List What) };
 
@@ -75,7 +75,7 @@ impl Ropes {
         ensures { IfOk result (λ made. made ≡ [] ∷ []) }
     {
         let mut cells = Vec::new(alloc);
-        cells.push(Cell::Nothing)?;
+        cells.push(Cell::Empty)?;
         Ok(Ropes { cells })
     }
 
@@ -131,7 +131,7 @@ impl Ropes {
         ensures lighter { OnOk result (weights left.new.items < weight number + weights left.old.items) }
     {
         match &self.cells[number] {
-            Cell::Nothing => Ok(()),
+            Cell::Empty => Ok(()),
             Cell::Leaf(what) => {
                 let what = copied(alloc, what)?;
                 tokens.push(Token { what, span })?;

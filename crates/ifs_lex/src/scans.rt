@@ -2,11 +2,11 @@
 
 ghost use Rattle.std.specs.Prelude.{◌≡◌, option_map, false};
 ghost use Rattle.ifs_lex.specs.declared.scans.Gap.TheVariants.{Blanks};
-ghost use Rattle.ifs_lex.specs.Items as items;
+ghost use Rattle.ifs_lex.specs.Lexemes as lexemes;
 
 use crate::characters::is_blank;
 
-/// What a byte between items stands in.
+/// What a byte between lexemes stands in.
 #[derive(Clone, Copy, Debug, PartialEq, Eq)]
 pub enum Gap {
     /// Blanks.
@@ -17,7 +17,7 @@ pub enum Gap {
 
 /// Whether the first byte is this one.
 pub fn begins_with(byte: u8, bytes: &[u8]) -> bool
-    ensures { result ≡ items.begins_with byte bytes.now }
+    ensures { result ≡ lexemes.begins_with byte bytes.now }
 {
     match bytes {
         [] => false,
@@ -26,7 +26,7 @@ pub fn begins_with(byte: u8, bytes: &[u8]) -> bool
 }
 
 fn gap_after(gap: Gap, byte: u8, rest: &[u8]) -> Option<Gap>
-    ensures { result ≡ items.gap_after gap byte rest.now }
+    ensures { result ≡ lexemes.gap_after gap byte rest.now }
 {
     match gap {
         Gap::Blanks => {
@@ -49,7 +49,7 @@ fn gap_after(gap: Gap, byte: u8, rest: &[u8]) -> Option<Gap>
 
 /// How many bytes of blanks and comments come first.
 pub fn gap_len(bytes: &[u8]) -> usize
-    ensures { result ≡ items.gap_len Blanks bytes.now }
+    ensures { result ≡ lexemes.gap_len Blanks bytes.now }
 {
     let mut gap = Gap::Blanks;
     let mut len = 0;
@@ -67,7 +67,7 @@ pub fn gap_len(bytes: &[u8]) -> usize
 
 /// How many bytes stand before the quote that closes, where there is one.
 pub fn inside_len(quote: u8, bytes: &[u8]) -> Option<usize>
-    ensures { result ≡ items.inside_len quote false bytes.now }
+    ensures { result ≡ lexemes.inside_len quote false bytes.now }
 {
     let mut escaped = false;
     let mut len = 0;
@@ -83,10 +83,10 @@ pub fn inside_len(quote: u8, bytes: &[u8]) -> Option<usize>
     None
 }
 
-#[tactic(auto, unfolding(crate::specs::Items::is_dropped))]
+#[tactic(auto, unfolding(crate::specs::Lexemes::is_dropped))]
 /// Whether a byte between quotes has no part in the value.
 pub fn is_dropped(quote: u8, byte: u8, rest: &[u8]) -> bool
-    ensures { result ≡ items.is_dropped quote byte rest.now }
+    ensures { result ≡ lexemes.is_dropped quote byte rest.now }
 {
     byte == b'\n'
         || byte == b'\\'

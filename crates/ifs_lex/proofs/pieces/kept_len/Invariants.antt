@@ -1,5 +1,5 @@
 use Rattle.std.proofs.Common.{◌≡◌, option_map, ◌+◌, length}
-use Rattle.ifs_lex.specs.Pieces.{kept_len}
+use Rattle.ifs_lex.specs.inner.Pieces.{kept_len}
 use Rattle.ifs_lex.proofs.pieces.kept_len.Given as goal
 
 abbrev pub invariant-loop-left : goal.invariant-loop-left

@@ -1,6 +1,6 @@
 use Rattle.std.proofs.Common.{List, ℕ, sym, ◌∙◌, ap, subst}
 use Rattle.std.specs.Str.{IsCharBoundary}
-use Rattle.ifs_lex.specs.Items.{quoted_value}
+use Rattle.ifs_lex.specs.Lexemes.{quoted_value}
 use Rattle.ifs_lex.proofs.Values.{kept, kept_whole, kept_parts}
 use Rattle.ifs_lex.proofs.pieces.split_kept.Goals as goal
 

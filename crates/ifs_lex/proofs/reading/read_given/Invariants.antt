@@ -1,6 +1,6 @@
 use Rattle.std.proofs.Common.{◌≡◌, map, length}
 use Rattle.ifs_lex.specs.Expansion.{given_from}
-use Rattle.ifs_lex.specs.Known.{macros_of}
+use Rattle.ifs_lex.specs.inner.Known.{macros_of}
 use Rattle.ifs_lex.proofs.reading.read_given.Given as goal
 
 abbrev pub invariant-loop-left : goal.invariant-loop-left

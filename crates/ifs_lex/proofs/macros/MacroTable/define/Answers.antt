@@ -1,5 +1,5 @@
 use Rattle.std.proofs.Common.{sym, ◌∙◌, ap, option_map}
-use Rattle.ifs_lex.specs.Kept.{whats_of_rope}
+use Rattle.ifs_lex.specs.inner.Kept.{whats_of_rope}
 use Rattle.ifs_lex.proofs.Tables.{define_read}
 use Rattle.ifs_lex.proofs.macros.MacroTable.define.Goals as goal
 

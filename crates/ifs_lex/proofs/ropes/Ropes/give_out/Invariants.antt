@@ -1,7 +1,7 @@
 use Rattle.std.proofs.Common.{◌≡◌, ◌<◌, ◌++◌, map, length}
 use Rattle.std.specs.List.{All}
 use Rattle.ifs_lex.specs.Expansion.{token}
-use Rattle.ifs_lex.specs.Ropes.{whats_at, stacked, weights}
+use Rattle.ifs_lex.specs.inner.Ropes.{whats_at, stacked, weights}
 use Rattle.ifs_lex.proofs.ropes.Ropes.give_out.Given as goal
 
 abbrev pub invariant-loop-number : goal.invariant-loop-number

@@ -1,6 +1,6 @@
 use Rattle.std.proofs.Common.{arith, ap, ◌++◌, map, sym}
 use Rattle.ifs_lex.specs.Expansion.{token}
-use Rattle.ifs_lex.specs.Ropes.{stacked}
+use Rattle.ifs_lex.specs.inner.Ropes.{stacked}
 use Rattle.ifs_lex.proofs.RopeLaws.{cells_within, cell_at, none_put, leaf_put, both_put}
 use Rattle.ifs_lex.proofs.RopeLaws.{both_earlier, both_lighter, weight_some, leaf_out, all_two}
 use Rattle.ifs_lex.proofs.ropes.Ropes.put.Goals as goal
@@ -8,14 +8,14 @@ use Rattle.ifs_lex.proofs.ropes.Ropes.put.Goals as goal
 pub index-requires : goal.index-requires
 index-requires c = let h = cells_within c.self.inside.cells.items _ _ c.self.view_is c.requires.within in omega (arith, c.self.inside.cells.ok.0)
 
-pub returns-in-Nothing-clause-whole : goal.returns-in-Nothing-clause-whole
-returns-in-Nothing-clause-whole c =
+pub returns-in-Empty-clause-whole : goal.returns-in-Empty-clause-whole
+returns-in-Empty-clause-whole c =
     let f = cell_at _ _ _ _ c.self.view_is c.self.invariant c.requires.within c.index.ensures in
-    let e = none_put _ _ _ _ f c.in-Nothing.is in
+    let e = none_put _ _ _ _ f c.in-Empty.is in
     ap (λ ws. c.args.tokens.now.items ++ map (token c.args.span) (ws ++ stacked c.args.self.now c.args.left.now.items)) (sym e)
 
-pub returns-in-Nothing-clause-lighter : goal.returns-in-Nothing-clause-lighter
-returns-in-Nothing-clause-lighter c = let h = weight_some c.args.number in omega arith
+pub returns-in-Empty-clause-lighter : goal.returns-in-Empty-clause-lighter
+returns-in-Empty-clause-lighter c = let h = weight_some c.args.number in omega arith
 
 pub returns-in_ok-push-in-Leaf-clause-whole : goal.returns-in_ok-push-in-Leaf-clause-whole
 returns-in_ok-push-in-Leaf-clause-whole c =

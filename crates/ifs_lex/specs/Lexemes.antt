@@ -1,4 +1,4 @@
--- The items of a text, read from the left.
+-- The lexemes of a text, read from the left.
 use Rattle.std.specs.Prelude.{ℕ, zero, suc, ◌+◌, Bool, true, false, ◌&&◌, ◌||◌, not, ◌==◌, if◌then◌else◌}
 use Rattle.std.specs.Prelude.{List, [], ◌∷◌, length, take, drop, Option, Some, None, option_map, count_by}
 use Rattle.std.specs.Option.{option_map_or}
@@ -46,21 +46,21 @@ abbrev pub quoted_value : ℕ → List ℕ → List ℕ
 quoted_value quote [] = []
 quoted_value quote (b ∷ rest) = if is_dropped quote b rest then quoted_value quote rest else b ∷ quoted_value quote rest
 
--- An item: a token, a use of a macro by its name, a character that begins nothing, a quote that opens
+-- A lexeme: a token, a use of a macro by its name, a character that begins nothing, a quote that opens
 -- and is not closed.
-pub data Item : Type 0 where
-  One : What → Item
-  Uses : List ℕ → Item
-  Astray : Item
-  Open : Item
+pub data Lexeme : Type 0 where
+  One : What → Lexeme
+  Uses : List ℕ → Lexeme
+  Stray : Lexeme
+  Unclosed : Lexeme
 
--- An item and the number of its bytes.
+-- A lexeme and the number of its bytes.
 pub record Scan : Type 0 where
-  pub item : Item
+  pub lexeme : Lexeme
   pub len : ℕ
 
-abbrev pub scan : Item → ℕ → Scan
-scan item len = record { item = item; len = len }
+abbrev pub scan : Lexeme → ℕ → Scan
+scan lexeme len = record { lexeme = lexeme; len = len }
 
 -- A word, as far as it can go on.
 abbrev pub word_here : List ℕ → Scan
@@ -69,7 +69,7 @@ word_here bytes = let n = prefix_len continues_word bytes in scan (One (Word (ta
 -- A quoted text, by what comes after its quote.
 abbrev pub quoted_here : ℕ → List ℕ → Scan
 quoted_here quote rest =
-    option_map_or (λ n. scan (One (Quoted (quoted_value quote (take n rest)))) (n + 2)) (inside_len quote false rest) (scan Open 0)
+    option_map_or (λ n. scan (One (Quoted (quoted_value quote (take n rest)))) (n + 2)) (inside_len quote false rest) (scan Unclosed 0)
 
 -- A macro name begins here.
 abbrev pub begins_macro : List ℕ → Bool
@@ -79,11 +79,11 @@ begins_macro (b ∷ rest) = begins_name b
 -- A use, by what comes after its `$`: a macro name, as far as it can go on.
 abbrev pub use_here : List ℕ → Scan
 use_here rest =
-    let n = prefix_len continues_name rest in if begins_macro rest then scan (Uses (take n rest)) (1 + n) else scan Astray 0
+    let n = prefix_len continues_name rest in if begins_macro rest then scan (Uses (take n rest)) (1 + n) else scan Stray 0
 
 -- A sign of one character twice.
 abbrev pub twice : ℕ → What → List ℕ → Scan
-twice byte what rest = if begins_with byte rest then scan (One what) 2 else scan Astray 0
+twice byte what rest = if begins_with byte rest then scan (One what) 2 else scan Stray 0
 
 -- A sign.
 abbrev pub sign_here : ℕ → List ℕ → Scan
@@ -96,24 +96,24 @@ sign_here b rest =
     if b == 61 then scan (One Equals) 1 else
     if b == 33 then scan (One Bang) 1 else
     if b == 38 then twice 38 And rest else
-    if b == 124 then twice 124 Or rest else scan Astray 0
+    if b == 124 then twice 124 Or rest else scan Stray 0
 
--- The item that comes first where no gap does.
-unfoldable pub item_here : List ℕ → Scan
-item_here [] = scan (One End) 0
-item_here (b ∷ rest) =
+-- The lexeme that comes first where no gap does.
+unfoldable pub lexeme_here : List ℕ → Scan
+lexeme_here [] = scan (One End) 0
+lexeme_here (b ∷ rest) =
     if begins_word b then word_here (b ∷ rest) else
     if is_quote b then quoted_here b rest else
     if b == 36 then use_here rest else sign_here b rest
 
--- A place in a text: how many bytes stand before it, its line, and the bytes that are left.
-pub record Place : Type 0 where
+-- A cursor in a text: how many bytes stand before it, its line, and the bytes that are left.
+pub record Cursor : Type 0 where
   pub at : ℕ
   pub line : ℕ
   pub left : List ℕ
 
--- The place so many bytes on.
-abbrev pub past : ℕ → Place → Place
+-- The cursor so many bytes on.
+abbrev pub past : ℕ → Cursor → Cursor
 past n p = record {
   at = p.at + n;
   line = p.line + count_by (λ b. b == 10) (take n p.left);
@@ -121,46 +121,46 @@ past n p = record {
 }
 
 -- Past blanks and comments.
-abbrev pub past_gap : Place → Place
+abbrev pub past_gap : Cursor → Cursor
 past_gap p = past (gap_len Blanks p.left) p
 
--- An item and where it stands.
-pub record Placed : Type 0 where
-  pub item : Item
+-- A lexeme and where it stands.
+pub record Spanned : Type 0 where
+  pub lexeme : Lexeme
   pub span : Span
 
--- The next item.
-abbrev pub item_at : Place → Placed
-item_at p =
-    let q = past_gap p in let here = item_here q.left in
-    record { item = here.item; span = record { line = q.line; start = q.at; end = q.at + here.len } }
+-- The next lexeme.
+abbrev pub lexeme_at : Cursor → Spanned
+lexeme_at p =
+    let q = past_gap p in let here = lexeme_here q.left in
+    record { lexeme = here.lexeme; span = record { line = q.line; start = q.at; end = q.at + here.len } }
 
--- The place after it.
-abbrev pub after_item : Place → Place
-after_item p = let q = past_gap p in past (item_here q.left).len q
+-- The cursor after it.
+abbrev pub after_lexeme : Cursor → Cursor
+after_lexeme p = let q = past_gap p in past (lexeme_here q.left).len q
 
--- Nothing is read after the end of the text, nor after what begins no item.
-abbrev pub is_last : Item → Bool
+-- Nothing is read after the end of the text, nor after what begins no lexeme.
+abbrev pub is_last : Lexeme → Bool
 is_last (One End) = true
 is_last (One _) = false
 is_last (Uses _) = false
-is_last Astray = true
-is_last Open = true
+is_last Stray = true
+is_last Unclosed = true
 
--- The items from a place on, at most so many.
-abbrev pub items_from : ℕ → Place → List Placed
-items_from zero p = []
-items_from (suc most) p =
-    let found = item_at p in found ∷ (if is_last found.item then [] else items_from most (after_item p))
+-- The lexemes from a cursor on, at most so many.
+abbrev pub lexemes_from : ℕ → Cursor → List Spanned
+lexemes_from zero p = []
+lexemes_from (suc most) p =
+    let found = lexeme_at p in found ∷ (if is_last found.lexeme then [] else lexemes_from most (after_lexeme p))
 
--- The items from a place on; each has a byte at least.
-unfoldable pub items_at : Place → List Placed
-items_at p = items_from (1 + length p.left) p
+-- The lexemes from a cursor on; each has a byte at least.
+unfoldable pub lexemes_at : Cursor → List Spanned
+lexemes_at p = lexemes_from (1 + length p.left) p
 
--- The place at which a text begins.
-abbrev pub start : List ℕ → Place
+-- The cursor at which a text begins.
+abbrev pub start : List ℕ → Cursor
 start text = record { at = 0; line = 1; left = text }
 
--- The items of a text.
-abbrev pub items_of : List ℕ → List Placed
-items_of text = items_at (start text)
+-- The lexemes of a text.
+abbrev pub lexemes_of : List ℕ → List Spanned
+lexemes_of text = lexemes_at (start text)

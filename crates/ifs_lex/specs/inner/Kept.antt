@@ -5,7 +5,7 @@ use Rattle.ifs_lex.specs.declared.fault.LexFault.{LexFault}
 use Rattle.ifs_lex.specs.declared.fault.LexFault.TheVariants.{Memory}
 use Rattle.ifs_lex.specs.declared.ropes.Rope.{Rope}
 use Rattle.ifs_lex.specs.declared.macros.Entry.{Entry}
-use Rattle.ifs_lex.specs.Ropes.{whats_at, Holds}
+use Rattle.ifs_lex.specs.inner.Ropes.{whats_at, Holds}
 use Rattle.ifs_lex.specs.Expansion.{Macro}
 
 -- What a rope stands for.
@@ -21,6 +21,6 @@ pub record IsValue (ropes : List (List What)) (rope : Rope) : Type 0 where
   pub holds : Holds ropes rope
   pub within : rope.count ≤ 16384
 
--- A result is what is wanted, and a fault is the one wanted unless memory ran out.
+-- A result is what is wanted, and a fault is the one wanted unless want of memory is told.
 abbrev pub Answers : {X Y : Type 0} → (X → Y) → Result X LexFault → Result Y LexFault → Type 0
 Answers view result wanted = MatchResult result (λ x. wanted ≡ Ok (view x)) (λ fault. fault ≢ Memory → wanted ≡ Err fault)

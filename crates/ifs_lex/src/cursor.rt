@@ -1,8 +1,8 @@
-//! A place in a text, from which items are read.
+//! A cursor in a text, from which lexemes are read.
 
 ghost use Rattle.std.specs.Prelude.{◌≡◌, ◌==◌, ◌≤◌, count_by, length};
 ghost use Rattle.std.specs.Str.{IsCharBoundary};
-ghost use Rattle.ifs_lex.specs.Pieces.{placed_of};
+ghost use Rattle.ifs_lex.specs.inner.Pieces.{spanned_of};
 
 use crate::pieces::{Piece, piece_here};
 use crate::scans::gap_len;
@@ -23,45 +23,45 @@ fn newlines(bytes: &[u8]) -> usize
     bytes.iter().filter(|byte| **byte == b'\n').count()
 }
 
-/// A place in a text of at most 1,048,576 bytes: what is left of it, how many bytes stand before, and the line.
+/// A cursor in a text of at most 1,048,576 bytes: what is left of it, how many bytes stand before, and the line.
 #[derive(Drop)]
-pub struct Place<'a> {
+pub struct Cursor<'a> {
     left: &'a str,
     at: u32,
     line: u32,
 }
 
-impl<'a> Model for Place<'a> {
+impl<'a> Model for Cursor<'a> {
     ghost use Rattle.std.specs.Prelude.{◌+◌, ◌≤◌, length};
-    ghost use Rattle.ifs_lex.specs.Items as items;
+    ghost use Rattle.ifs_lex.specs.Lexemes as lexemes;
 
-    ghost Value = { items.Place };
+    ghost Value = { lexemes.Cursor };
 
     ghost view = { λ p. record { at = p.at; line = p.line; left = p.left.now } };
 
     ghost invariant = { λ p. (p.at + length p.left.now ≤ 1048576) × (p.line ≤ p.at + 1) };
 }
 
-impl<'a> Place<'a> {
-    ghost use Rattle.ifs_lex.specs.Items as items;
+impl<'a> Cursor<'a> {
+    ghost use Rattle.ifs_lex.specs.Lexemes as lexemes;
 
     /// Where a text begins.
     pub fn start(text: &'a str) -> Self
         requires { length text.now ≤ 1048576 }
-        ensures { result ≡ items.start text.now }
+        ensures { result ≡ lexemes.start text.now }
     {
-        Place {
+        Cursor {
             left: text,
             at: 0,
             line: 1,
         }
     }
 
-    /// The same place, to look ahead from.
+    /// The same cursor, to look ahead from.
     pub fn again(&self) -> Self
         ensures { result ≡ self.now }
     {
-        Place {
+        Cursor {
             left: self.left,
             at: self.at,
             line: self.line,
@@ -70,7 +70,7 @@ impl<'a> Place<'a> {
 
     fn skip(&mut self, count: usize)
         requires { IsCharBoundary self.old.left count }
-        ensures { self.new ≡ items.past count self.old }
+        ensures { self.new ≡ lexemes.past count self.old }
     {
         let (front, left) = self.left.split_at(count);
         self.line += newlines(front.as_bytes()) as u32;
@@ -78,10 +78,10 @@ impl<'a> Place<'a> {
         self.left = left;
     }
 
-    /// The next item, past blanks and comments, and goes on after it.
+    /// The next lexeme, past blanks and comments, and goes on after it.
     pub fn next(&mut self) -> Found<'a>
-        ensures found { placed_of result ≡ items.item_at self.old }
-        ensures after { self.new ≡ items.after_item self.old }
+        ensures found { spanned_of result ≡ lexemes.lexeme_at self.old }
+        ensures after { self.new ≡ lexemes.after_lexeme self.old }
     {
         let gap = gap_len(self.left.as_bytes());
         self.skip(gap);

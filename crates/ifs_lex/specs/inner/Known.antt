@@ -4,7 +4,7 @@ use Rattle.std.specs.HashMap as hash
 use Rattle.std.specs.Str.{bytes_eq}
 use Rattle.ifs_lex.specs.declared.macros.MacroTable.{MacroTable}
 use Rattle.ifs_lex.specs.Expansion.{Macros}
-use Rattle.ifs_lex.specs.Kept.{macro_of}
+use Rattle.ifs_lex.specs.inner.Kept.{macro_of}
 
 -- The macros of a table.
 abbrev pub macros_of : MacroTable → Macros

@@ -2,7 +2,7 @@
 use Rattle.std.specs.Prelude.{ℕ, zero, suc, ◌+◌, ◌*◌, ◌<◌, ◌≤◌, ◌≡◌, List, [], ◌∷◌, ◌++◌, length, slice_index_or}
 use Rattle.ifs_lex.specs.declared.token.What.{What}
 use Rattle.ifs_lex.specs.declared.ropes.Cell.{Cell}
-use Rattle.ifs_lex.specs.declared.ropes.Cell.TheVariants.{Nothing, Leaf, Both}
+use Rattle.ifs_lex.specs.declared.ropes.Cell.TheVariants.{Empty, Leaf, Both}
 use Rattle.ifs_lex.specs.declared.ropes.Rope.{Rope}
 
 -- What stands at a number.
@@ -11,7 +11,7 @@ whats_at ropes n = slice_index_or ropes n []
 
 -- What a cell stands for, by the ones before it.
 abbrev pub whats_in : List (List What) → Cell → List What
-whats_in before Nothing = []
+whats_in before Empty = []
 whats_in before (Leaf what) = what ∷ []
 whats_in before (Both left right) = whats_at before left ++ whats_at before right
 
@@ -22,7 +22,7 @@ ropes_from before (cell ∷ rest) = ropes_from (before ++ (whats_in before cell 
 
 -- A cell joins two that stand before it.
 abbrev pub IsEarlier : ℕ → Cell → Type 0
-IsEarlier n Nothing = Unit {0}
+IsEarlier n Empty = Unit {0}
 IsEarlier n (Leaf what) = Unit {0}
 IsEarlier n (Both left right) = (left < n) × (right < n)
 

@@ -3,13 +3,14 @@ use Rattle.std.specs.Prelude.{ℕ, ◌+◌, if◌then◌else◌, List, [], ◌�
 use Rattle.ifs_lex.specs.declared.token.What.TheVariants.{Word, Quoted, BraceOpen, BraceClose, ParenOpen}
 use Rattle.ifs_lex.specs.declared.token.What.TheVariants.{ParenClose, Dot, Equals, Bang, And, Or, End}
 use Rattle.ifs_lex.specs.declared.pieces.Piece.{Piece}
-use Rattle.ifs_lex.specs.declared.pieces.Piece.TheVariants.{Bare, Between, Named, Equal, Plain, Last, Nothing, Unclosed}
+use Rattle.ifs_lex.specs.declared.pieces.Piece.TheVariants as piece
+use Rattle.ifs_lex.specs.declared.pieces.Piece.TheVariants.{Bare, Between, Named, Equal, Plain, Last}
 use Rattle.ifs_lex.specs.declared.pieces.Sign.{Sign}
 use Rattle.ifs_lex.specs.declared.pieces.Sign.TheVariants.{OpenBrace, CloseBrace, OpenParen}
 use Rattle.ifs_lex.specs.declared.pieces.Sign.TheVariants.{CloseParen, Point, Not, Both, Either}
 use Rattle.ifs_lex.specs.declared.token.What.{What}
-use Rattle.ifs_lex.specs.declared.place.Found.{Found}
-use Rattle.ifs_lex.specs.Items.{Item, Placed, One, Uses, Astray, Open, is_dropped, quoted_value}
+use Rattle.ifs_lex.specs.declared.cursor.Found.{Found}
+use Rattle.ifs_lex.specs.Lexemes.{Lexeme, Spanned, One, Uses, Stray, Unclosed, is_dropped, quoted_value}
 
 -- How many bytes between quotes stand before the first one that has no part in the value.
 abbrev pub kept_len : ℕ → List ℕ → Option ℕ
@@ -27,17 +28,17 @@ what_of Not = Bang
 what_of Both = And
 what_of Either = Or
 
--- The item that a piece is.
-abbrev pub item_of : Piece → Item
-item_of (Bare word) = One (Word word.now)
-item_of (Between quote inside) = One (Quoted (quoted_value quote inside.now))
-item_of (Named name) = Uses name.now
-item_of Equal = One Equals
-item_of (Plain sign) = One (what_of sign)
-item_of Last = One End
-item_of Nothing = Astray
-item_of Unclosed = Open
+-- The lexeme that a piece is.
+abbrev pub lexeme_of : Piece → Lexeme
+lexeme_of (Bare word) = One (Word word.now)
+lexeme_of (Between quote inside) = One (Quoted (quoted_value quote inside.now))
+lexeme_of (Named name) = Uses name.now
+lexeme_of Equal = One Equals
+lexeme_of (Plain sign) = One (what_of sign)
+lexeme_of Last = One End
+lexeme_of piece.Stray = Stray
+lexeme_of piece.Unclosed = Unclosed
 
--- The item that was found, where it stands.
-abbrev pub placed_of : Found → Placed
-placed_of found = record { item = item_of found.piece; span = found.span }
+-- The lexeme that was found, where it stands.
+abbrev pub spanned_of : Found → Spanned
+spanned_of found = record { lexeme = lexeme_of found.piece; span = found.span }

@@ -1,0 +1,5 @@
+pub mod Pieces
+pub mod Ropes
+pub mod Kept
+pub mod Known
+pub mod Turns
