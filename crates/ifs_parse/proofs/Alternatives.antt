@@ -6,10 +6,10 @@ use Rattle.ifs_parse.specs.declared.mark.Mark.TheVariants as mark
 use Rattle.ifs_parse.specs.declared.parser.Operand.{Operand}
 use Rattle.ifs_parse.specs.Trees as tree
 use Rattle.ifs_parse.specs.Views.{any_of}
-use Rattle.ifs_parse.specs.Combined.{State, Parse, many}
-use Rattle.ifs_parse.specs.Reading.{Others, others, next_operand, with_operand, noted, noted_alternatives}
+use Rattle.ifs_parse.specs.inner.Combined.{Progress, Parse, many}
+use Rattle.ifs_parse.specs.inner.Reading.{Others, others, next_operand, with_operand, noted, noted_alternatives}
 
-pub alternatives_are : (all : Parse Operand) (first second : Operand) (span : Span) (place : ℕ) (s s1 s2 s3 : State) (begun more : Others) (c : tree.Condition Test)
+pub alternatives_are : (all : Parse Operand) (first second : Operand) (span : Span) (place : ℕ) (s s1 s2 s3 : Progress) (begun more : Others) (c : tree.Condition Test)
     → all s ≡ Ok (second, s1)
     → begun ≡ others [] (first.is_chain || second.is_chain)
     → many (next_operand mark.Or all) with_operand begun s1 ≡ Ok (more, s2)

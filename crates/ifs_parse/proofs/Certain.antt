@@ -18,15 +18,16 @@ use Rattle.ifs_parse.specs.declared.tree.Item.TheVariants.{InitState, Always}
 use Rattle.ifs_parse.specs.declared.block.Statement.{Statement}
 use Rattle.ifs_parse.specs.Files.{File, file}
 use Rattle.ifs_parse.specs.Marks.{mark_of, is}
-use Rattle.ifs_parse.specs.Combined.{State, state, past, Parse, ◌>>=◌, ◌▸◌, pure, either, begins}
-use Rattle.ifs_parse.specs.Combined.{no_more, unexpected, expected, accepted, many_from}
+use Rattle.ifs_parse.specs.inner.Combined.{Progress, progress, past, Parse, ◌>>=◌, ◌▸◌, pure, either, begins}
+use Rattle.ifs_parse.specs.inner.Combined.{no_more, unexpected, expected, accepted, many_from}
 use Rattle.ifs_parse.specs.Rules.{with_last}
-use Rattle.ifs_parse.specs.Reading.{string, run, set_state, deep, statement_over, conditional_over, condition, block}
-use Rattle.ifs_parse.specs.Reading.{statement, part, state_item, item, items, read_within}
+use Rattle.ifs_parse.specs.inner.Reading.{string, run, set_state, deep, statement_over, conditional_over, condition}
+use Rattle.ifs_parse.specs.inner.Reading.{block}
+use Rattle.ifs_parse.specs.inner.Reading.{statement, part, state_item, item, items, read_within}
 use Rattle.ifs_parse.specs.AtOnce.{may_come_first, certain_at_once}
 
 -- A mark that does not come is passed over.
-passed : {X : Type 0} (m : Mark) (yes_then : Span → Parse X) (else_then : Parse X) (s : State) → accepted m s.left ≡ None → either m yes_then else_then s ≡ else_then s
+passed : {X : Type 0} (m : Mark) (yes_then : Span → Parse X) (else_then : Parse X) (s : Progress) → accepted m s.left ≡ None → either m yes_then else_then s ≡ else_then s
 passed m yes_then else_then s e = ap (λ o. option_map_or (λ span. yes_then span (past s)) o (else_then s)) e
 
 -- None of the marks that a file can begin with.
@@ -66,46 +67,46 @@ none_first t rest h =
     }
 
 -- What may be missing is missing where its mark does not come.
-passed_optional : {X : Type 0} (m : Mark) (yes_then : Span → Parse X) (else_then : Parse (Option X)) (s : State) → accepted m s.left ≡ None → begins m yes_then else_then s ≡ else_then s
+passed_optional : {X : Type 0} (m : Mark) (yes_then : Span → Parse X) (else_then : Parse (Option X)) (s : Progress) → accepted m s.left ≡ None → begins m yes_then else_then s ≡ else_then s
 passed_optional m yes_then else_then s e = passed m (λ span. yes_then span ▸ λ x. pure (Some x)) else_then s e
 
 -- No statement, no part and no item begins there.
-no_statement_over : (conditional : Span → Parse (Statement Test Name Wish)) (s : State) → NoneFirst s.left → statement_over conditional s ≡ Ok (None, s)
+no_statement_over : (conditional : Span → Parse (Statement Test Name Wish)) (s : Progress) → NoneFirst s.left → statement_over conditional s ≡ Ok (None, s)
 no_statement_over conditional s h =
     passed_optional mark.If conditional (begins mark.Run (λ _. run) (begins mark.SetState set_state no_more)) s h.conditional ∙
     (passed_optional mark.Run (λ _. run) (begins mark.SetState set_state no_more) s h.run ∙ passed_optional mark.SetState set_state no_more s h.set_state)
 
 module _ (fits : ℕ → Bool) where
-  no_statement : (room : ℕ) (s : State) → NoneFirst s.left → statement fits room s ≡ Ok (None, s)
+  no_statement : (room : ℕ) (s : Progress) → NoneFirst s.left → statement fits room s ≡ Ok (None, s)
   no_statement zero s h = no_statement_over deep s h
   no_statement (suc room) s h = no_statement_over (λ _. conditional_over (condition fits room) (block (statement fits room))) s h
 
-  no_part : (room : ℕ) (s : State) → NoneFirst s.left → part (statement fits room) s ≡ Ok (None, s)
+  no_part : (room : ℕ) (s : Progress) → NoneFirst s.left → part (statement fits room) s ≡ Ok (None, s)
   no_part room s h =
       passed_optional mark.Init (λ span. block (statement fits room) ▸ λ inner. pure (Init span inner)) (statement fits room ▸ λ t. pure (option_map Do t)) s h.init ∙
-      ap (λ (r : Result (Option (Statement Test Name Wish) × State) ParseFault). r >>= λ r. Ok (option_map Do r.0, r.1)) (no_statement room s h)
+      ap (λ (r : Result (Option (Statement Test Name Wish) × Progress) ParseFault). r >>= λ r. Ok (option_map Do r.0, r.1)) (no_statement room s h)
 
-  no_item : (room : ℕ) (s : State) → NoneFirst s.left → item (part (statement fits room)) s ≡ Ok (None, s)
+  no_item : (room : ℕ) (s : Progress) → NoneFirst s.left → item (part (statement fits room)) s ≡ Ok (None, s)
   no_item room s h =
       passed_optional mark.InitState (λ span. string ▸ λ name. pure (InitState span name))
       (begins mark.State (λ _. state_item (part (statement fits room))) (part (statement fits room) ▸ λ p. pure (option_map Always p))) s h.init_state ∙
       (passed_optional mark.State (λ _. state_item (part (statement fits room))) (part (statement fits room) ▸ λ p. pure (option_map Always p)) s h.state_word ∙
-      ap (λ (r : Result (Option Part × State) ParseFault). r >>= λ r. Ok (option_map Always r.0, r.1)) (no_part room s h))
+      ap (λ (r : Result (Option Part × Progress) ParseFault). r >>= λ r. Ok (option_map Always r.0, r.1)) (no_part room s h))
 
-  many_none : (room n : ℕ) (s : State) → NoneFirst s.left → many_from (item (part (statement fits room))) with_last n [] s ≡ Ok ([], s)
+  many_none : (room n : ℕ) (s : Progress) → NoneFirst s.left → many_from (item (part (statement fits room))) with_last n [] s ≡ Ok ([], s)
   many_none room zero s h = refl
   many_none room (suc n) s h =
-      ap (λ (r : Result (Option Item × State) ParseFault). r >>= λ r. option_map_or (λ x. many_from (item (part (statement fits room))) with_last n (with_last [] x) r.1) r.0 (Ok ([], r.1))) (no_item room s h)
+      ap (λ (r : Result (Option Item × Progress) ParseFault). r >>= λ r. option_map_or (λ x. many_from (item (part (statement fits room))) with_last n (with_last [] x) r.1) r.0 (Ok ([], r.1))) (no_item room s h)
 
-  none_read : (room : ℕ) (s : State) → NoneFirst s.left → items (item (part (statement fits room))) s ≡ unexpected s
+  none_read : (room : ℕ) (s : Progress) → NoneFirst s.left → items (item (part (statement fits room))) s ≡ unexpected s
   none_read room s h =
-      ap (λ (r : Result (List Item × State) ParseFault). r >>= λ r. expected mark.End r.1 >>= λ q. Ok (r.0, q.1)) (many_none room (length s.left) s h) ∙
-      ap (λ (r : Result (Span × State) ParseFault). r >>= λ q. Ok ([], q.1)) (passed mark.End pure unexpected s h.end)
+      ap (λ (r : Result (List Item × Progress) ParseFault). r >>= λ r. expected mark.End r.1 >>= λ q. Ok (r.0, q.1)) (many_none room (length s.left) s h) ∙
+      ap (λ (r : Result (Span × Progress) ParseFault). r >>= λ q. Ok ([], q.1)) (passed mark.End pure unexpected s h.end)
 
   unexpected_first : (room : ℕ) (t : Token) (rest : List Token) → may_come_first (mark_of t.what) ≡ false → read_within fits room (t ∷ rest) ≡ Err (Unexpected t.span.line)
   unfolding read_within
   unexpected_first room t rest h =
-      ap (λ (r : Result (List Item × State) ParseFault). r >>= λ r. Ok (file r.0 r.1.notes)) (none_read room (state (t ∷ rest) []) (none_first t rest h))
+      ap (λ (r : Result (List Item × Progress) ParseFault). r >>= λ r. Ok (file r.0 r.1.notes)) (none_read room (progress (t ∷ rest) []) (none_first t rest h))
 
   -- A fault, or else a file.
   abbrev told : Option ParseFault → Result File ParseFault

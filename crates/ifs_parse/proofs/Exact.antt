@@ -8,9 +8,10 @@ use Rattle.ifs_base.specs.declared.span.Span.{Span}
 use Rattle.ifs_lex.specs.declared.token.Token.{Token}
 use Rattle.ifs_parse.specs.declared.fault.ParseFault.{ParseFault}
 use Rattle.ifs_parse.specs.declared.mark.Mark.{Mark}
-use Rattle.ifs_parse.specs.Reading.{with_note, noted}
-use Rattle.ifs_parse.specs.Combined.{State, state, Parse, past, ◌>>=◌, ◌▸◌, pure, found, accepted, one_token}
-use Rattle.ifs_parse.specs.Combined.{either, expected, unexpected, begins, no_more, required, many, many_from}
+use Rattle.ifs_parse.specs.inner.Reading.{with_note, noted}
+use Rattle.ifs_parse.specs.inner.Combined.{Progress, progress, Parse, past, ◌>>=◌, ◌▸◌, pure, found, accepted}
+use Rattle.ifs_parse.specs.inner.Combined.{one_token}
+use Rattle.ifs_parse.specs.inner.Combined.{either, expected, unexpected, begins, no_more, required, many, many_from}
 use Rattle.ifs_parse.specs.Words.{marked}
 use Rattle.ifs_parse.specs.Rules.{Rule, Gives, OneToken, TheMark, ◌⨟◌, ◌or◌, Never, Optional, Noted, Many, Enough, More}
 
@@ -26,7 +27,7 @@ abbrev pub Any : List Token → Type 0
 Any next = Unit {0}
 
 -- What was read is in the rule.
-pub record Found {X : Type 0} (rule : Rule X) (stop : Stop X) (s : State) (x : X) (t : State) : Type 0 where
+pub record Found {X : Type 0} (rule : Rule X) (stop : Stop X) (s : Progress) (x : X) (t : Progress) : Type 0 where
   pub tokens : List Token
   pub notes : List ℕ
   pub taken : s.left ≡ tokens ++ t.left
@@ -36,8 +37,8 @@ pub record Found {X : Type 0} (rule : Rule X) (stop : Stop X) (s : State) (x : X
 
 -- A parser reads a rule from where it starts: what is in it is read, and what is read is in it.
 pub record Reads {X : Type 0} (start : List Token → Type 0) (read : Parse X) (rule : Rule X) (stop : Stop X) : Type 0 where
-  pub again : (p : List Token) (x : X) (ns : List ℕ) (q : List Token) (m : List ℕ) → rule p x ns → stop x q → read (state (p ++ q) m) ≡ Ok (x, state q (m ++ ns))
-  pub reads : (s : State) (x : X) (t : State) → start s.left → read s ≡ Ok (x, t) → Found rule stop s x t
+  pub again : (p : List Token) (x : X) (ns : List ℕ) (q : List Token) (m : List ℕ) → rule p x ns → stop x q → read (progress (p ++ q) m) ≡ Ok (x, progress q (m ++ ns))
+  pub reads : (s : Progress) (x : X) (t : Progress) → start s.left → read s ≡ Ok (x, t) → Found rule stop s x t
 
 -- The same, wherever it starts.
 abbrev pub Exact : {X : Type 0} → Parse X → Rule X → Stop X → Type 0
@@ -62,8 +63,8 @@ abbrev good : {A : Type 0} → A → Result A ParseFault
 good a = Ok a
 
 -- What is found of a value is found of what equals it.
-pub told : {X : Type 0} (rule : Rule X) (stop : Stop X) (s : State) (a b : X × State) → good a ≡ good b → Found rule stop s a.0 a.1 → Found rule stop s b.0 b.1
-told rule stop s a b e h = subst (λ (p : _ × State). Found rule stop s p.0 p.1) (ap (inside a) e) h
+pub told : {X : Type 0} (rule : Rule X) (stop : Stop X) (s : Progress) (a b : X × Progress) → good a ≡ good b → Found rule stop s a.0 a.1 → Found rule stop s b.0 b.1
+told rule stop s a b e h = subst (λ (p : _ × Progress). Found rule stop s p.0 p.1) (ap (inside a) e) h
 
 -- A value and no token.
 pub exact_pure : {X : Type 0} (v : X) → Exact (pure v) (Gives v) Always
@@ -73,15 +74,15 @@ exact_pure v = record {
 }
 
 module _ {X : Type 0} (what : Token → Option X) where
-  token_again : (t : Token) (x : X) (q : List Token) (m : List ℕ) → what t ≡ Some x → one_token what (state (t ∷ q) m) ≡ Ok (x, state q (m ++ []))
+  token_again : (t : Token) (x : X) (q : List Token) (m : List ℕ) → what t ≡ Some x → one_token what (progress (t ∷ q) m) ≡ Ok (x, progress q (m ++ []))
   token_again t x q m h = rw (h, append-nil m)
 
-  token_found : (ts : List Token) (m : List ℕ) (o : Option X) → found what ts ≡ o → (x : X) (t : State)
-      → option_map_or (λ x. Ok (x, past (state ts m))) o (unexpected (state ts m)) ≡ Ok (x, t) → Found (OneToken what) Always (state ts m) x t
+  token_found : (ts : List Token) (m : List ℕ) (o : Option X) → found what ts ≡ o → (x : X) (t : Progress)
+      → option_map_or (λ x. Ok (x, past (progress ts m))) o (unexpected (progress ts m)) ≡ Ok (x, t) → Found (OneToken what) Always (progress ts m) x t
   token_found ts m None h x t e = absurd (cc)
   token_found [] m (Some y) h x t e = absurd (cc)
   token_found (u ∷ ts) m (Some y) h x t e =
-      told (OneToken what) Always (state (u ∷ ts) m) (y, state ts m) (x, t) e
+      told (OneToken what) Always (progress (u ∷ ts) m) (y, progress ts m) (x, t) e
       (record { tokens = u ∷ []; notes = []; taken = refl; noted = sym (append-nil m); said = record { token = u; only = refl; stands = h; unnoted = refl }; stops = tt })
 
   -- One token.
@@ -101,14 +102,14 @@ module _ {X Y : Type 0} (start : List Token → Type 0) (p : Parse X) (q : X →
     (between : (x : X) (next : List Token) → stop_p x next → start_q x next)
     (before : (x : X) (y : Y) (back : List Token) (ns : List ℕ) (next : List Token) → Q x back y ns → stop y next → stop_p x (back ++ next) × stop_q x y next)
     (after : (x : X) (y : Y) (back : List Token) (ns : List ℕ) (next : List Token) → Q x back y ns → stop_p x (back ++ next) → stop_q x y next → stop y next) where
-  then_again : (ts : List Token) (y : Y) (ns : List ℕ) (next : List Token) (m : List ℕ) → (P ⨟ Q) ts y ns → stop y next → (p ▸ q) (state (ts ++ next) m) ≡ Ok (y, state next (m ++ ns))
+  then_again : (ts : List Token) (y : Y) (ns : List ℕ) (next : List Token) (m : List ℕ) → (P ⨟ Q) ts y ns → stop y next → (p ▸ q) (progress (ts ++ next) m) ≡ Ok (y, progress next (m ++ ns))
   then_again ts y ns next m h stops =
       let both = before h.x y h.back h.after next h.second stops in
       let a = exact_p.again h.front h.x h.before (h.back ++ next) m h.first both.0 in
       let b = (exact_q h.x).again h.back y h.after next (m ++ h.before) h.second both.1 in
       rw (h.tokens_are, h.notes_are, append_assoc h.front h.back next, a, b, append_assoc m h.before h.after)
 
-  then_reads : (s : State) (y : Y) (t : State) → start s.left → (p ▸ q) s ≡ Ok (y, t) → Found (P ⨟ Q) stop s y t
+  then_reads : (s : Progress) (y : Y) (t : Progress) → start s.left → (p ▸ q) s ≡ Ok (y, t) → Found (P ⨟ Q) stop s y t
   then_reads s y t begun e =
       let w = went (p s) (λ r. q r.0 r.1) (y, t) e in
       let a = exact_p.reads s w.on.0 w.on.1 begun w.was in
@@ -142,22 +143,22 @@ module _ {X : Type 0} (start : List Token → Type 0) (mark : Mark) (q : Span �
     (r_before : (x : X) (p : List Token) (ns : List ℕ) (next : List Token) → R p x ns → stop x next → (accepted mark (p ++ next) ≡ None) × stop_r x next)
     (r_after : (x : X) (p : List Token) (ns : List ℕ) (next : List Token) → R p x ns → start (p ++ next) → accepted mark (p ++ next) ≡ None → stop_r x next → stop x next) where
   mark_again : (u : Token) (span : Span) (p : List Token) (x : X) (ns : List ℕ) (next : List Token) (m : List ℕ) → marked mark u ≡ Some span → Q span p x ns → stop x next
-      → either mark q r (state (u ∷ (p ++ next)) m) ≡ Ok (x, state next (m ++ ns))
+      → either mark q r (progress (u ∷ (p ++ next)) m) ≡ Ok (x, progress next (m ++ ns))
   mark_again u span p x ns next m is h stops =
       let a = (exact_q span).again p x ns next m h (q_before x next stops) in
       rw (is, a)
 
-  either_again : (p : List Token) (x : X) (ns : List ℕ) (next : List Token) (m : List ℕ) → ((TheMark mark ⨟ Q) or R) p x ns → stop x next → either mark q r (state (p ++ next) m) ≡ Ok (x, state next (m ++ ns))
+  either_again : (p : List Token) (x : X) (ns : List ℕ) (next : List Token) (m : List ℕ) → ((TheMark mark ⨟ Q) or R) p x ns → stop x next → either mark q r (progress (p ++ next) m) ≡ Ok (x, progress next (m ++ ns))
   either_again p x ns next m (inl h) stops =
       rw (h.tokens_are, h.notes_are, h.first.only, h.first.unnoted) (mark_again h.first.token h.x h.back x h.after next m h.first.stands h.second stops)
   either_again p x ns next m (inr h) stops =
       let a = r_before x p ns next h stops in
       rw (a.0, exact_r.again p x ns next m h a.1)
 
-  either_found : (ts : List Token) (m : List ℕ) → start ts → (o : Option Span) → accepted mark ts ≡ o → (x : X) (t : State)
-      → option_map_or (λ span. q span (past (state ts m))) o (r (state ts m)) ≡ Ok (x, t) → Found ((TheMark mark ⨟ Q) or R) stop (state ts m) x t
+  either_found : (ts : List Token) (m : List ℕ) → start ts → (o : Option Span) → accepted mark ts ≡ o → (x : X) (t : Progress)
+      → option_map_or (λ span. q span (past (progress ts m))) o (r (progress ts m)) ≡ Ok (x, t) → Found ((TheMark mark ⨟ Q) or R) stop (progress ts m) x t
   either_found ts m begun None h x t e =
-      let a = exact_r.reads (state ts m) x t tt e in
+      let a = exact_r.reads (progress ts m) x t tt e in
       record {
         tokens = a.tokens;
         notes = a.notes;
@@ -168,7 +169,7 @@ module _ {X : Type 0} (start : List Token → Type 0) (mark : Mark) (q : Span �
       }
   either_found [] m begun (Some span) h x t e = absurd (cc)
   either_found (u ∷ ts) m begun (Some span) h x t e =
-      let a = (exact_q span).reads (state ts m) x t tt e in
+      let a = (exact_q span).reads (progress ts m) x t tt e in
       record {
         tokens = u ∷ a.tokens;
         notes = a.notes;
@@ -211,7 +212,7 @@ Until none some (Some x) next = some next
 
 -- Nothing more.
 no_more_again : {X : Type 0} (some : List Token → Type 0) (p : List Token) (o : Option X) (ns : List ℕ) (q : List Token) (m : List ℕ)
-    → Optional {X = X} Never p o ns → Until {X = X} Any some o q → no_more {X = X} (state (p ++ q) m) ≡ Ok (o, state q (m ++ ns))
+    → Optional {X = X} Never p o ns → Until {X = X} Any some o q → no_more {X = X} (progress (p ++ q) m) ≡ Ok (o, progress q (m ++ ns))
 no_more_again some p None ns q m h stop = rw (h.0, h.1, append-nil m)
 no_more_again some p (Some x) ns q m h stop = absurd h
 
@@ -246,13 +247,13 @@ module _ {X : Type 0} (mark : Mark) (q : Span → Parse X) (r : Parse (Option X)
   begun next = (accepted mark next ≡ None) × none next
 
   some_again : (u : Token) (span : Span) (p : List Token) (x : X) (ns : List ℕ) (next : List Token) (m : List ℕ) → marked mark u ≡ Some span → Q span p x ns → some next
-      → begins mark q r (state (u ∷ (p ++ next)) m) ≡ Ok (Some x, state next (m ++ ns))
+      → begins mark q r (progress (u ∷ (p ++ next)) m) ≡ Ok (Some x, progress next (m ++ ns))
   some_again u span p x ns next m is h stops =
       let a = (exact_q span).again p x ns next m h stops in
       rw (is, a)
 
   begins_again : (p : List Token) (o : Option X) (ns : List ℕ) (next : List Token) (m : List ℕ) → Optional ((TheMark mark ⨟ Q) or R) p o ns → Until begun some o next
-      → begins mark q r (state (p ++ next) m) ≡ Ok (o, state next (m ++ ns))
+      → begins mark q r (progress (p ++ next) m) ≡ Ok (o, progress next (m ++ ns))
   begins_again p None ns next m h stops =
       let a = exact_r.again p None ns next m h stops.1 in
       let e : accepted mark (p ++ next) ≡ None = ap (λ (l : List Token). accepted mark (l ++ next)) h.0 ∙ stops.0 in
@@ -262,7 +263,7 @@ module _ {X : Type 0} (mark : Mark) (q : Span → Parse X) (r : Parse (Option X)
   begins_again p (Some x) ns next m (inr h) stops =
       rw (apart x p ns next h, exact_r.again p (Some x) ns next m h stops)
 
-  rest_found : (s : State) (o : Option X) (t : State) → accepted mark s.left ≡ None → Found (Optional R) (Until none some) s o t → Found (Optional ((TheMark mark ⨟ Q) or R)) (Until begun some) s o t
+  rest_found : (s : Progress) (o : Option X) (t : Progress) → accepted mark s.left ≡ None → Found (Optional R) (Until none some) s o t → Found (Optional ((TheMark mark ⨟ Q) or R)) (Until begun some) s o t
   rest_found s None t h a =
       record {
         tokens = a.tokens;
@@ -275,12 +276,12 @@ module _ {X : Type 0} (mark : Mark) (q : Span → Parse X) (r : Parse (Option X)
   rest_found s (Some x) t h a =
       record { tokens = a.tokens; notes = a.notes; taken = a.taken; noted = a.noted; said = inr a.said; stops = a.stops }
 
-  some_found : (u : Token) (ts : List Token) (m : List ℕ) (span : Span) (h : marked mark u ≡ Some span) (o : Option X) (t : State)
-      → (q span ▸ λ x. pure (Some x)) (state ts m) ≡ Ok (o, t) → Found (Optional ((TheMark mark ⨟ Q) or R)) (Until begun some) (state (u ∷ ts) m) o t
+  some_found : (u : Token) (ts : List Token) (m : List ℕ) (span : Span) (h : marked mark u ≡ Some span) (o : Option X) (t : Progress)
+      → (q span ▸ λ x. pure (Some x)) (progress ts m) ≡ Ok (o, t) → Found (Optional ((TheMark mark ⨟ Q) or R)) (Until begun some) (progress (u ∷ ts) m) o t
   some_found u ts m span h o t e =
-      let w = went (q span (state ts m)) (λ r. Ok (Some r.0, r.1)) (o, t) e in
-      let a = (exact_q span).reads (state ts m) w.on.0 w.on.1 tt w.was in
-      told (Optional ((TheMark mark ⨟ Q) or R)) (Until begun some) (state (u ∷ ts) m) (Some w.on.0, w.on.1) (o, t) w.then_is
+      let w = went (q span (progress ts m)) (λ r. Ok (Some r.0, r.1)) (o, t) e in
+      let a = (exact_q span).reads (progress ts m) w.on.0 w.on.1 tt w.was in
+      told (Optional ((TheMark mark ⨟ Q) or R)) (Until begun some) (progress (u ∷ ts) m) (Some w.on.0, w.on.1) (o, t) w.then_is
       (record {
         tokens = u ∷ a.tokens;
         notes = a.notes;
@@ -300,10 +301,10 @@ module _ {X : Type 0} (mark : Mark) (q : Span → Parse X) (r : Parse (Option X)
         stops = a.stops;
       })
 
-  begins_found : (ts : List Token) (m : List ℕ) (c : Option Span) → accepted mark ts ≡ c → (o : Option X) (t : State)
-      → option_map_or (λ span. (q span ▸ λ x. pure (Some x)) (past (state ts m))) c (r (state ts m)) ≡ Ok (o, t)
-      → Found (Optional ((TheMark mark ⨟ Q) or R)) (Until begun some) (state ts m) o t
-  begins_found ts m None h o t e = rest_found (state ts m) o t h (exact_r.reads (state ts m) o t tt e)
+  begins_found : (ts : List Token) (m : List ℕ) (c : Option Span) → accepted mark ts ≡ c → (o : Option X) (t : Progress)
+      → option_map_or (λ span. (q span ▸ λ x. pure (Some x)) (past (progress ts m))) c (r (progress ts m)) ≡ Ok (o, t)
+      → Found (Optional ((TheMark mark ⨟ Q) or R)) (Until begun some) (progress ts m) o t
+  begins_found ts m None h o t e = rest_found (progress ts m) o t h (exact_r.reads (progress ts m) o t tt e)
   begins_found [] m (Some span) h o t e = absurd (cc)
   begins_found (u ∷ ts) m (Some span) h o t e = some_found u ts m span h o t e
 
@@ -315,7 +316,7 @@ module _ {X : Type 0} (mark : Mark) (q : Span → Parse X) (r : Parse (Option X)
   }
 
 module _ {X : Type 0} (p : Parse (Option X)) (P : Rule X) (none some : List Token → Type 0) (exact_p : Exact p (Optional P) (Until none some)) where
-  required_found : (s : State) (o : Option X) (u : State) → Found (Optional P) (Until none some) s o u → (x : X) (t : State)
+  required_found : (s : Progress) (o : Option X) (u : Progress) → Found (Optional P) (Until none some) s o u → (x : X) (t : Progress)
       → option_map_or pure o unexpected u ≡ Ok (x, t) → Found P (λ x. some) s x t
   required_found s None u a x t e = absurd (cc)
   required_found s (Some y) u a x t e =
@@ -343,7 +344,7 @@ module _ {A X : Type 0} (part : Parse (Option X)) (add : A → X → A) (P : Rul
     (consumes : (x : X) (p : List Token) (ns : List ℕ) → P p x ns → 1 ≤ length p)
     (ended : none []) where
   many_again : (n : ℕ) {a b : A} {p : List Token} {ns : List ℕ} (next : List Token) (m : List ℕ) → Many P add a p b ns → length p ≤ n → none next → some next
-      → many_from part add n a (state (p ++ next) m) ≡ Ok (b, state next (m ++ ns))
+      → many_from part add n a (progress (p ++ next) m) ≡ Ok (b, progress next (m ++ ns))
   many_again zero next m Enough less stop s = rw (append-nil m)
   many_again zero next m (More {x = x} {front = front} {back = back} {before = before} h rest) less stop s =
       let c : 1 ≤ length front = consumes x front before h in absurd (omega (arith, length-append front back))
@@ -359,8 +360,8 @@ module _ {A X : Type 0} (part : Parse (Option X)) (add : A → X → A) (P : Rul
   abbrev Ends : Stop A
   Ends b next = none next × some next
 
-  many_turn : (n : ℕ) (a : A) (s : State) (o : Option X) (u : State) (b : A) (t : State) → length s.left ≤ suc n → Found (Optional P) (Until none some) s o u → some s.left
-      → ((a : A) (u : State) → length u.left ≤ n → some u.left → many_from part add n a u ≡ Ok (b, t) → Found (Many P add a) Ends u b t)
+  many_turn : (n : ℕ) (a : A) (s : Progress) (o : Option X) (u : Progress) (b : A) (t : Progress) → length s.left ≤ suc n → Found (Optional P) (Until none some) s o u → some s.left
+      → ((a : A) (u : Progress) → length u.left ≤ n → some u.left → many_from part add n a u ≡ Ok (b, t) → Found (Many P add a) Ends u b t)
       → option_map_or (λ x. many_from part add n (add a x) u) o (Ok (a, u)) ≡ Ok (b, t) → Found (Many P add a) Ends s b t
   many_turn n a s None u b t less f begun more e =
       let same : s.left ≡ u.left = f.taken ∙ ap (λ (l : List Token). l ++ u.left) f.said.0 in
@@ -379,15 +380,15 @@ module _ {A X : Type 0} (part : Parse (Option X)) (add : A → X → A) (P : Rul
         stops = g.stops;
       }
 
-  many_reads : (n : ℕ) (a : A) (ts : List Token) (m : List ℕ) (b : A) (t : State) → length ts ≤ n → some ts → many_from part add n a (state ts m) ≡ Ok (b, t)
-      → Found (Many P add a) Ends (state ts m) b t
+  many_reads : (n : ℕ) (a : A) (ts : List Token) (m : List ℕ) (b : A) (t : Progress) → length ts ≤ n → some ts → many_from part add n a (progress ts m) ≡ Ok (b, t)
+      → Found (Many P add a) Ends (progress ts m) b t
   many_reads zero a [] m b t less begun e =
-      told (Many P add a) Ends (state [] m) (a, state [] m) (b, t) e
+      told (Many P add a) Ends (progress [] m) (a, progress [] m) (b, t) e
       (record { tokens = []; notes = []; taken = refl; noted = sym (append-nil m); said = Enough; stops = (ended, begun) })
   many_reads zero a (u ∷ ts) m b t less begun e = absurd (omega (arith, less))
   many_reads (suc n) a ts m b t less begun e =
-      let w = went (part (state ts m)) (λ r. option_map_or (λ x. many_from part add n (add a x) r.1) r.0 (Ok (a, r.1))) (b, t) e in
-      many_turn n a (state ts m) w.on.0 w.on.1 b t less (exact_part.reads (state ts m) w.on.0 w.on.1 tt w.was) begun
+      let w = went (part (progress ts m)) (λ r. option_map_or (λ x. many_from part add n (add a x) r.1) r.0 (Ok (a, r.1))) (b, t) e in
+      many_turn n a (progress ts m) w.on.0 w.on.1 b t less (exact_part.reads (progress ts m) w.on.0 w.on.1 tt w.was) begun
       (λ a u l s e. many_reads n a u.left u.notes b t l s e) w.then_is
 
   -- As many things as come.
@@ -413,12 +414,12 @@ insert_after : (m w : List ℕ) (line : ℕ) → insert (m ++ w) (length m) line
 insert_after [] w line = refl
 insert_after (x ∷ m) w line = ap (λ l. x ∷ l) (insert_after m w line)
 
-noted_is : (line : ℕ) (b : Bool) (q : List Token) (m w : List ℕ) → noted (length m) line b (state q (m ++ w)) ≡ state q (m ++ (if b then line ∷ w else w))
-noted_is line true q m w = ap (state q) (insert_after m w line)
+noted_is : (line : ℕ) (b : Bool) (q : List Token) (m w : List ℕ) → noted (length m) line b (progress q (m ++ w)) ≡ progress q (m ++ (if b then line ∷ w else w))
+noted_is line true q m w = ap (progress q) (insert_after m w line)
 noted_is line false q m w = refl
 
 module _ {X : Type 0} (line : ℕ) (p : Parse (X × Bool)) (P : Rule (X × Bool)) (stop : List Token → Type 0) (exact_p : Exact p P (λ x. stop)) where
-  noted_again : (ts : List Token) (x : X) (ns : List ℕ) (q : List Token) (m : List ℕ) → Noted line P ts x ns → stop q → with_note line p (state (ts ++ q) m) ≡ Ok (x, state q (m ++ ns))
+  noted_again : (ts : List Token) (x : X) (ns : List ℕ) (q : List Token) (m : List ℕ) → Noted line P ts x ns → stop q → with_note line p (progress (ts ++ q) m) ≡ Ok (x, progress q (m ++ ns))
   noted_again ts x ns q m h stops =
       let e = exact_p.again ts (x, h.is_noted) h.within q m h.said stops in
       rw (e, noted_is line h.is_noted q m h.within, h.notes_are)
@@ -430,10 +431,10 @@ module _ {X : Type 0} (line : ℕ) (p : Parse (X × Bool)) (P : Rule (X × Bool)
     reads = λ s x t a e.
         let w = went (p s) (λ r. Ok (r.0.0, noted (length s.notes) line r.0.1 r.1)) (x, t) e in
         let f = exact_p.reads s w.on.0 w.on.1 tt w.was in
-        let same : noted (length s.notes) line w.on.0.1 w.on.1 ≡ state w.on.1.left (s.notes ++ (if w.on.0.1 then line ∷ f.notes else f.notes))
-        = ap (λ (ns : List ℕ). noted (length s.notes) line w.on.0.1 (state w.on.1.left ns)) f.noted ∙ noted_is line w.on.0.1 w.on.1.left s.notes f.notes in
-        told (Noted line P) (λ x. stop) s (w.on.0.0, state w.on.1.left (s.notes ++ (if w.on.0.1 then line ∷ f.notes else f.notes))) (x, t)
-        (ap (λ (u : State). good (w.on.0.0, u)) (sym same) ∙ w.then_is)
+        let same : noted (length s.notes) line w.on.0.1 w.on.1 ≡ progress w.on.1.left (s.notes ++ (if w.on.0.1 then line ∷ f.notes else f.notes))
+        = ap (λ (ns : List ℕ). noted (length s.notes) line w.on.0.1 (progress w.on.1.left ns)) f.noted ∙ noted_is line w.on.0.1 w.on.1.left s.notes f.notes in
+        told (Noted line P) (λ x. stop) s (w.on.0.0, progress w.on.1.left (s.notes ++ (if w.on.0.1 then line ∷ f.notes else f.notes))) (x, t)
+        (ap (λ (u : Progress). good (w.on.0.0, u)) (sym same) ∙ w.then_is)
         (record {
           tokens = f.tokens;
           notes = if w.on.0.1 then line ∷ f.notes else f.notes;

@@ -23,11 +23,11 @@ use Rattle.ifs_parse.specs.declared.block.Statement.TheVariants.{Run, SetState, 
 use Rattle.ifs_parse.specs.Trees as tree
 use Rattle.ifs_parse.specs.Views.{all_of, any_of, block_of}
 use Rattle.ifs_parse.specs.declared.fault.ParseFault.TheVariants.{Period}
-use Rattle.ifs_parse.specs.Combined.{State, state, Parse, line_of, past, found, unexpected}
-use Rattle.ifs_parse.specs.Combined.{◌▸◌, pure, begins, expected, no_more, required, many}
+use Rattle.ifs_parse.specs.inner.Combined.{Progress, progress, Parse, line_of, past, found, unexpected}
+use Rattle.ifs_parse.specs.inner.Combined.{◌▸◌, pure, begins, expected, no_more, required, many}
 use Rattle.ifs_parse.specs.Words.{marked}
 use Rattle.ifs_parse.specs.Rules.{Rule, Gives, TheMark, ◌⨟◌, ◌or◌, Never, Optional, Noted, Many}
-use Rattle.ifs_parse.specs.Reading as reading
+use Rattle.ifs_parse.specs.inner.Reading as reading
 use Rattle.ifs_parse.specs.Words as words
 use Rattle.ifs_parse.specs.Rules as rules
 use Rattle.ifs_parse.specs.Grammar as grammar
@@ -55,7 +55,7 @@ use Rattle.ifs_parse.proofs.Ends.{ends_there}
 use Rattle.ifs_lex.specs.Expansion.{EndsOnce}
 use Rattle.ifs_parse.specs.Files.{File, file}
 use Rattle.ifs_parse.specs.Grammar.{StopsAt}
-use Rattle.ifs_parse.specs.Combined.{◌>>=◌}
+use Rattle.ifs_parse.specs.inner.Combined.{◌>>=◌}
 
 abbrev nowhere : Span
 nowhere = record { line = 0; start = 0; end = 0 }
@@ -178,20 +178,20 @@ module _ (limit : Limit) where
       }
 
   period_kind : (ts : List Token) (m : List ℕ) (n : ℕ) → number_at ts ≡ Some n → (b : Bool) → fits n ≡ b → (fault : ParseFault)
-      → if◌then◌else◌ {A = Result (ℕ × State) ParseFault} b (Ok (n, past (state ts m))) (Err (Period (line_of ts))) ≡ Err fault
-      → Fails limit (reading.period fits) (grammar.IsPeriod fits) (grammar.IsPeriod (wide limit)) (state ts m) fault
+      → if◌then◌else◌ {A = Result (ℕ × Progress) ParseFault} b (Ok (n, past (progress ts m))) (Err (Period (line_of ts))) ≡ Err fault
+      → Fails limit (reading.period fits) (grammar.IsPeriod fits) (grammar.IsPeriod (wide limit)) (progress ts m) fault
   period_kind ts m n h true k fault e = absurd (cc)
   period_kind ts m n h false k fault e =
-      fails_as (reading.period fits) (grammar.IsPeriod fits) (grammar.IsPeriod (wide limit)) (state ts m) (Period (line_of ts)) fault e
+      fails_as (reading.period fits) (grammar.IsPeriod fits) (grammar.IsPeriod (wide limit)) (progress ts m) (Period (line_of ts)) fault e
       (fails_here (reading.period fits) (grammar.IsPeriod fits) (grammar.IsPeriod (wide limit)) ts m (Period (line_of ts)) sample_period
       (λ w q g. rw (found_by_next (λ t. words.number_of_what t.what) w ts g ∙ h, k, line_by_next w ts g)) (period_goes ts n h) (inr (inl refl)))
 
   period_stuck : (ts : List Token) (m : List ℕ) (o : Option ℕ) → number_at ts ≡ o → (fault : ParseFault)
-      → option_map_or (λ n. if fits n then Ok (n, past (state ts m)) else Err (Period (line_of ts))) o (unexpected (state ts m)) ≡ Err fault
-      → Fails limit (reading.period fits) (grammar.IsPeriod fits) (grammar.IsPeriod (wide limit)) (state ts m) fault
+      → option_map_or (λ n. if fits n then Ok (n, past (progress ts m)) else Err (Period (line_of ts))) o (unexpected (progress ts m)) ≡ Err fault
+      → Fails limit (reading.period fits) (grammar.IsPeriod fits) (grammar.IsPeriod (wide limit)) (progress ts m) fault
   period_stuck ts m (Some n) h fault e = period_kind ts m n h (fits n) refl fault e
   period_stuck ts m None h fault e =
-      fails_as (reading.period fits) (grammar.IsPeriod fits) (grammar.IsPeriod (wide limit)) (state ts m) (Unexpected (line_of ts)) fault e
+      fails_as (reading.period fits) (grammar.IsPeriod fits) (grammar.IsPeriod (wide limit)) (progress ts m) (Unexpected (line_of ts)) fault e
       (fails_here (reading.period fits) (grammar.IsPeriod fits) (grammar.IsPeriod (wide limit)) ts m (Unexpected (line_of ts)) sample_period
       (λ w q g. rw (found_by_next (λ t. words.number_of_what t.what) w ts g ∙ h, line_by_next w ts g)) (λ k. absurd k) (inl refl))
 
@@ -590,16 +590,16 @@ module _ (tokens : List Token) (fault : ParseFault) (ends : EndsOnce tokens) (e 
         helps = helps_at fault front token rest helped;
       }
 
-  broke_all : Broke {B = File} (read_all (state tokens [])) (λ r. Ok (file r.0 r.1.notes)) fault → StopsAt tokens fault
+  broke_all : Broke {B = File} (read_all (progress tokens [])) (λ r. Ok (file r.0 r.1.notes)) fault → StopsAt tokens fault
   unfolding grammar.SaysWithin reading.read_within
   broke_all (After r e k) = absurd (cc)
   broke_all (Before e) =
       let limit = limit_of fault in
-      let f = (stuck_items limit (reading.statement fits 32) (grammar.IsStatement fits 32) (grammar.IsStatement (wide limit) (more 32 limit)) (known fits 32) (fallible limit 32)).fails (state tokens []) fault tt e in
+      let f = (stuck_items limit (reading.statement fits 32) (grammar.IsStatement fits 32) (grammar.IsStatement (wide limit) (more 32 limit)) (known fits 32) (fallible limit 32)).fails (progress tokens []) fault tt e in
       stops_by f.front f.left f.can.tail (file f.can.x f.can.notes) f.whole f.line f.can.said f.helped
-      (λ w h. ap (λ (r : Result (List Item × State) ParseFault). r >>= λ r. Ok (file r.0 r.1.notes)) (f.same w [] h))
+      (λ w h. ap (λ (r : Result (List Item × Progress) ParseFault). r >>= λ r. Ok (file r.0 r.1.notes)) (f.same w [] h))
 
 -- A fault is where the tokens stop.
 pub stops_at : (tokens : List Token) (fault : ParseFault) → EndsOnce tokens → reading.read_within fits 32 tokens ≡ Err fault → StopsAt tokens fault
 unfolding reading.read_within
-stops_at tokens fault ends e = broke_all tokens fault ends e (broke (read_all (state tokens [])) (λ r. Ok (file r.0 r.1.notes)) fault e)
+stops_at tokens fault ends e = broke_all tokens fault ends e (broke (read_all (progress tokens [])) (λ r. Ok (file r.0 r.1.notes)) fault e)

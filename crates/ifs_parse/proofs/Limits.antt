@@ -6,7 +6,7 @@ use Rattle.ifs_parse.specs.declared.fault.ParseFault.{ParseFault}
 use Rattle.ifs_parse.specs.declared.fault.ParseFault.TheVariants.{Unexpected, Period, Nesting, Memory}
 use Rattle.ifs_parse.specs.Files.{File}
 use Rattle.ifs_parse.specs.Words.{fits_period}
-use Rattle.ifs_parse.specs.Reading.{read_within}
+use Rattle.ifs_parse.specs.inner.Reading.{read_within}
 use Rattle.ifs_parse.specs.Grammar.{NoneGoesOn, NoHelp, any_period}
 use Rattle.ifs_parse.proofs.Wider.{Alike, follows_read}
 use Rattle.ifs_parse.proofs.Whole.{says_read}

@@ -10,7 +10,7 @@ use Rattle.ifs_parse.specs.declared.tree.Test.{Test}
 use Rattle.ifs_parse.specs.declared.parser.Operand.{Operand}
 use Rattle.ifs_parse.specs.Trees as tree
 use Rattle.ifs_parse.specs.Views.{all_of, any_of}
-use Rattle.ifs_parse.specs.Reading.{Others, others, operand, with_operand}
+use Rattle.ifs_parse.specs.inner.Reading.{Others, others, operand, with_operand}
 use Rattle.ifs_parse.specs.Rules.{Rule, Gives, TheMark, ◌⨟◌, ◌or◌, Noted, Many, Enough, More, with_last}
 use Rattle.ifs_parse.specs.Grammar as grammar
 use Rattle.ifs_parse.specs.Grammar.{Operands, operands, whole, is_chain, conjunction, disjunction}

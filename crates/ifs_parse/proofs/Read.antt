@@ -27,11 +27,11 @@ use Rattle.ifs_parse.specs.declared.block.Statement.TheVariants.{Run, SetState, 
 use Rattle.ifs_parse.specs.Trees as tree
 use Rattle.ifs_parse.specs.Views.{all_of, any_of, block_of}
 use Rattle.ifs_parse.specs.declared.fault.ParseFault.TheVariants.{Period}
-use Rattle.ifs_parse.specs.Combined.{State, state, Parse, line_of, past, found, accepted, unexpected}
-use Rattle.ifs_parse.specs.Combined.{◌▸◌, pure, begins, either, expected, no_more, required, many}
+use Rattle.ifs_parse.specs.inner.Combined.{Progress, progress, Parse, line_of, past, found, accepted, unexpected}
+use Rattle.ifs_parse.specs.inner.Combined.{◌▸◌, pure, begins, either, expected, no_more, required, many}
 use Rattle.ifs_parse.specs.Words.{marked}
 use Rattle.ifs_parse.specs.Rules.{Rule, Gives, TheMark, ◌⨟◌, ◌or◌, Never, Optional, Noted, Many}
-use Rattle.ifs_parse.specs.Reading as reading
+use Rattle.ifs_parse.specs.inner.Reading as reading
 use Rattle.ifs_parse.specs.Words as words
 use Rattle.ifs_parse.specs.Rules as rules
 use Rattle.ifs_parse.specs.Grammar as grammar
@@ -130,15 +130,15 @@ module _ (fits : ℕ → Bool) where
   fitted (Some n) x e = fits_by n (fits n) x refl e
 
   period_again : (u : Token) (x : ℕ) (q : List Token) (m : List ℕ) → grammar.fitting fits (words.number_of_what u.what) ≡ Some x
-      → reading.period fits (state (u ∷ q) m) ≡ Ok (x, state q (m ++ []))
+      → reading.period fits (progress (u ∷ q) m) ≡ Ok (x, progress q (m ++ []))
   period_again u x q m h = let f = fitted (words.number_of_what u.what) x h in rw (f.0, f.1, append-nil m)
 
-  period_fits : (u : Token) (ts : List Token) (m : List ℕ) (n : ℕ) → words.number_of_what u.what ≡ Some n → (b : Bool) → fits n ≡ b → (x : ℕ) (t : State)
-      → if◌then◌else◌ {A = Result (ℕ × State) ParseFault} b (Ok (n, state ts m)) (Err (Period u.span.line)) ≡ Ok (x, t) → Found (grammar.IsPeriod fits) Always (state (u ∷ ts) m) x t
+  period_fits : (u : Token) (ts : List Token) (m : List ℕ) (n : ℕ) → words.number_of_what u.what ≡ Some n → (b : Bool) → fits n ≡ b → (x : ℕ) (t : Progress)
+      → if◌then◌else◌ {A = Result (ℕ × Progress) ParseFault} b (Ok (n, progress ts m)) (Err (Period u.span.line)) ≡ Ok (x, t) → Found (grammar.IsPeriod fits) Always (progress (u ∷ ts) m) x t
   period_fits u ts m n h false k x t e = absurd (cc)
   period_fits u ts m n h true k x t e =
-      let p : (n, state ts m) ≡ (x, t) = cc in
-      subst (λ (r : ℕ × State). Found (grammar.IsPeriod fits) Always (state (u ∷ ts) m) r.0 r.1) p
+      let p : (n, progress ts m) ≡ (x, t) = cc in
+      subst (λ (r : ℕ × Progress). Found (grammar.IsPeriod fits) Always (progress (u ∷ ts) m) r.0 r.1) p
       (record {
         tokens = u ∷ [];
         notes = [];
@@ -148,9 +148,9 @@ module _ (fits : ℕ → Bool) where
         stops = tt;
       })
 
-  period_found : (ts : List Token) (m : List ℕ) (o : Option ℕ) → found (λ t. words.number_of_what t.what) ts ≡ o → (x : ℕ) (t : State)
-      → option_map_or (λ n. if fits n then Ok (n, past (state ts m)) else Err (Period (line_of ts))) o (unexpected (state ts m)) ≡ Ok (x, t)
-      → Found (grammar.IsPeriod fits) Always (state ts m) x t
+  period_found : (ts : List Token) (m : List ℕ) (o : Option ℕ) → found (λ t. words.number_of_what t.what) ts ≡ o → (x : ℕ) (t : Progress)
+      → option_map_or (λ n. if fits n then Ok (n, past (progress ts m)) else Err (Period (line_of ts))) o (unexpected (progress ts m)) ≡ Ok (x, t)
+      → Found (grammar.IsPeriod fits) Always (progress ts m) x t
   period_found ts m None h x t e = absurd (cc)
   period_found [] m (Some n) h x t e = absurd (cc)
   period_found (u ∷ ts) m (Some n) h x t e = period_fits u ts m n h (fits n) refl x t e
@@ -348,7 +348,7 @@ exact_condition fits room =
     exact_operands (reading.one fits room) (grammar.IsOne fits room) (exact_one fits room)
 
 -- The notes before stay, and more come after them.
-pub notes_stay : (fits : ℕ → Bool) (room : ℕ) (begun more : reading.Others) (second : Operand) (s t u : State) → reading.all (reading.one fits room) s ≡ Ok (second, t)
+pub notes_stay : (fits : ℕ → Bool) (room : ℕ) (begun more : reading.Others) (second : Operand) (s t u : Progress) → reading.all (reading.one fits room) s ≡ Ok (second, t)
     → many (reading.next_operand mark.Or (reading.all (reading.one fits room))) reading.with_operand begun t ≡ Ok (more, u) → length s.notes ≤ length u.notes
 notes_stay fits room begun more second s t u reads goes =
     let exact_a = exact_all (reading.one fits room) (grammar.IsOne fits room) (exact_one fits room) in
@@ -555,13 +555,13 @@ known fits (suc room) = known_over (λ _. reading.conditional fits room) (gramma
 
 module _ {X Y : Type 0} (p : Parse (Option X)) (f : X → Y) (P : Rule X) (none : List Token → Type 0) (exact_p : Exact p (Optional P) (Until none Any)) where
   option_again : (ts : List Token) (o : Option Y) (ns : List ℕ) (q : List Token) (m : List ℕ) → Optional (P ⨟ λ x. Gives (f x)) ts o ns → Until none Any o q
-      → (p ▸ λ o. pure (option_map f o)) (state (ts ++ q) m) ≡ Ok (o, state q (m ++ ns))
+      → (p ▸ λ o. pure (option_map f o)) (progress (ts ++ q) m) ≡ Ok (o, progress q (m ++ ns))
   option_again ts None ns q m h s = rw (exact_p.again ts None ns q m h s)
   option_again ts (Some y) ns q m h s =
       let e = exact_p.again h.front (Some h.x) h.before q m h.first tt in
       rw (h.tokens_are, h.notes_are, h.second.none, h.second.unnoted, h.second.is_value, append-nil h.front, append-nil h.before, e)
 
-  option_found : (s : State) (o : Option X) (u : State) → Found (Optional P) (Until none Any) s o u → Found (Optional (P ⨟ λ x. Gives (f x))) (Until none Any) s (option_map f o) u
+  option_found : (s : Progress) (o : Option X) (u : Progress) → Found (Optional P) (Until none Any) s o u → Found (Optional (P ⨟ λ x. Gives (f x))) (Until none Any) s (option_map f o) u
   option_found s None u a = record { tokens = a.tokens; notes = a.notes; taken = a.taken; noted = a.noted; said = a.said; stops = a.stops }
   option_found s (Some x) u a =
       record {

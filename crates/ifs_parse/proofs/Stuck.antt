@@ -10,10 +10,10 @@ use Rattle.ifs_lex.specs.declared.token.Token.{Token}
 use Rattle.ifs_parse.specs.declared.fault.ParseFault.{ParseFault}
 use Rattle.ifs_parse.specs.declared.fault.ParseFault.TheVariants.{Unexpected, Period, Nesting, Memory}
 use Rattle.ifs_parse.specs.declared.mark.Mark.{Mark}
-use Rattle.ifs_parse.specs.Reading as reading
+use Rattle.ifs_parse.specs.inner.Reading as reading
 use Rattle.ifs_parse.specs.Grammar.{IsAt}
-use Rattle.ifs_parse.specs.Combined.{State, state, Parse, past, line_of, ◌>>=◌, ◌▸◌, pure, found, accepted}
-use Rattle.ifs_parse.specs.Combined.{one_token, either, unexpected, begins, no_more, required, many, many_from}
+use Rattle.ifs_parse.specs.inner.Combined.{Progress, progress, Parse, past, line_of, ◌>>=◌, ◌▸◌, pure, found, accepted}
+use Rattle.ifs_parse.specs.inner.Combined.{one_token, either, unexpected, begins, no_more, required, many, many_from}
 use Rattle.ifs_parse.specs.Words.{marked}
 use Rattle.ifs_parse.specs.Rules.{Rule, Gives, OneToken, TheMark, ◌⨟◌, ◌or◌, Never, Optional, Noted, Many, Enough, More}
 use Rattle.ifs_parse.proofs.Exact.{Always, Any, Until, Found, Reads, Exact}
@@ -59,13 +59,13 @@ pub record Goes {X : Type 0} (rule : Rule X) (front left : List Token) : Type 0 
   pub next : next_token left ≡ Some token
   pub begun : Begins rule (front ++ token ∷ [])
 
-pub record Fails (limit : Limit) {X : Type 0} (read : Parse X) (rule wide : Rule X) (s : State) (fault : ParseFault) : Type 0 where
+pub record Fails (limit : Limit) {X : Type 0} (read : Parse X) (rule wide : Rule X) (s : Progress) (fault : ParseFault) : Type 0 where
   pub front : List Token
   pub left : List Token
   pub whole : s.left ≡ front ++ left
   pub can : Begins rule front
   pub helped : IsOf limit fault → Goes wide front left
-  pub same : (w : List Token) (m : List ℕ) → next_token w ≡ next_token left → read (state (front ++ w) m) ≡ Err fault
+  pub same : (w : List Token) (m : List ℕ) → next_token w ≡ next_token left → read (progress (front ++ w) m) ≡ Err fault
   pub line : IsAt fault (line_of left)
 
 -- What a rule has, another has.
@@ -74,7 +74,7 @@ Within {X = X} P W = (p : List Token) (x : X) (ns : List ℕ) → P p x ns → W
 
 -- Each failure is of that kind, and the wider rule has what the rule has.
 pub record Stuck (limit : Limit) {X : Type 0} (start : List Token → Type 0) (read : Parse X) (rule wide : Rule X) : Type 0 where
-  pub fails : (s : State) (fault : ParseFault) → start s.left → read s ≡ Err fault → Fails limit read rule wide s fault
+  pub fails : (s : Progress) (fault : ParseFault) → start s.left → read s ≡ Err fault → Fails limit read rule wide s fault
   pub within : Within rule wide
 
 -- What follows from the next token alone.
@@ -106,7 +106,7 @@ abbrev bad : {A : Type 0} → ParseFault → Result A ParseFault
 bad fault = Err fault
 
 -- The same fault by an equation.
-pub fails_as : {limit : Limit} {X : Type 0} (read : Parse X) (P W : Rule X) (s : State) (f g : ParseFault) → bad {A = X × State} f ≡ bad g → Fails limit read P W s f → Fails limit read P W s g
+pub fails_as : {limit : Limit} {X : Type 0} (read : Parse X) (P W : Rule X) (s : Progress) (f g : ParseFault) → bad {A = X × Progress} f ≡ bad g → Fails limit read P W s f → Fails limit read P W s g
 fails_as {limit = limit} read P W s f g e h = subst (Fails limit read P W s) (ap (failed f) e) h
 
 -- What the rules that are made of wider ones have.
@@ -215,10 +215,10 @@ goes W V before to front left g =
     record { token = g.token; next = g.next; begun = subst (Begins V) (sym (append_assoc before front (g.token ∷ []))) (to (front ++ g.token ∷ []) g.begun) }
 
 -- A parser fails where one that it calls does, after what it took before.
-fails_after : {limit : Limit} {X Y : Type 0} (p : Parse X) (P W : Rule X) (s : State) (fault : ParseFault) (f : Fails limit p P W s fault)
-    (q : Parse Y) (R V : Rule Y) (before : List Token) (t : State) → t.left ≡ before ++ s.left
+fails_after : {limit : Limit} {X Y : Type 0} (p : Parse X) (P W : Rule X) (s : Progress) (fault : ParseFault) (f : Fails limit p P W s fault)
+    (q : Parse Y) (R V : Rule Y) (before : List Token) (t : Progress) → t.left ≡ before ++ s.left
     → ((front : List Token) → Begins P front → Begins R (before ++ front)) → ((front : List Token) → Begins W front → Begins V (before ++ front))
-    → ((w : List Token) (m : List ℕ) → next_token w ≡ next_token f.left → q (state ((before ++ f.front) ++ w) m) ≡ Err fault) → Fails limit q R V t fault
+    → ((w : List Token) (m : List ℕ) → next_token w ≡ next_token f.left → q (progress ((before ++ f.front) ++ w) m) ≡ Err fault) → Fails limit q R V t fault
 fails_after p P W s fault f q R V before t taken to wide_to same =
     record {
       front = before ++ f.front;
@@ -235,16 +235,16 @@ stuck_pure v = record { fails = λ s fault a e. absurd (cc); within = same_withi
 
 -- A parser fails at its first token.
 pub fails_here : {limit : Limit} {X : Type 0} (read : Parse X) (P W : Rule X) (ts : List Token) (m : List ℕ) (fault : ParseFault) → Sample P
-    → ((w : List Token) (n : List ℕ) → next_token w ≡ next_token ts → read (state w n) ≡ Err fault) → (IsOf limit fault → Goes W [] ts) → IsAt fault (line_of ts) → Fails limit read P W (state ts m) fault
+    → ((w : List Token) (n : List ℕ) → next_token w ≡ next_token ts → read (progress w n) ≡ Err fault) → (IsOf limit fault → Goes W [] ts) → IsAt fault (line_of ts) → Fails limit read P W (progress ts m) fault
 fails_here read P W ts m fault sample same helped line =
     record { front = []; left = ts; whole = refl; can = sample; helped = helped; same = same; line = line }
 
 module _ {limit : Limit} {X : Type 0} (what : Token → Option X) (sample : Sample (OneToken what)) where
   token_stuck : (ts : List Token) (m : List ℕ) (o : Option X) → found what ts ≡ o → (fault : ParseFault)
-      → option_map_or (λ x. Ok (x, past (state ts m))) o (unexpected (state ts m)) ≡ Err fault → Fails limit (one_token what) (OneToken what) (OneToken what) (state ts m) fault
+      → option_map_or (λ x. Ok (x, past (progress ts m))) o (unexpected (progress ts m)) ≡ Err fault → Fails limit (one_token what) (OneToken what) (OneToken what) (progress ts m) fault
   token_stuck ts m (Some x) h fault e = absurd (cc)
   token_stuck ts m None h fault e =
-      fails_as (one_token what) (OneToken what) (OneToken what) (state ts m) (Unexpected (line_of ts)) fault e
+      fails_as (one_token what) (OneToken what) (OneToken what) (progress ts m) (Unexpected (line_of ts)) fault e
       (fails_here (one_token what) (OneToken what) (OneToken what) ts m (Unexpected (line_of ts)) sample
       (λ w n k. rw (found_by_next what w ts k ∙ h, line_by_next w ts k)) (λ k. absurd k) (inl refl))
 
@@ -265,7 +265,7 @@ module _ {limit : Limit} {X Y : Type 0} {W : Rule X} {V : X → Rule Y} (start :
     (exact_p : Reads start p P stop_p) (stuck_p : Stuck limit start p P W) (stuck_q : (x : X) → Stuck limit (start_q x) (q x) (Q x) (V x))
     (between : (x : X) (next : List Token) → stop_p x next → start_q x next) (by_next : (x : X) → ByNext (stop_p x))
     (sample_q : (x : X) → Sample (Q x)) where
-  then_broke : (s : State) (fault : ParseFault) → start s.left → Broke (p s) (λ r. q r.0 r.1) fault → Fails limit (p ▸ q) (P ⨟ Q) (W ⨟ V) s fault
+  then_broke : (s : Progress) (fault : ParseFault) → start s.left → Broke (p s) (λ r. q r.0 r.1) fault → Fails limit (p ▸ q) (P ⨟ Q) (W ⨟ V) s fault
   then_broke s fault begun (Before e) =
       let h = stuck_p.fails s fault begun e in
       fails_after p P W s fault h (p ▸ q) (P ⨟ Q) (W ⨟ V) [] s refl
@@ -295,17 +295,17 @@ stuck_then p q P Q exact_p stuck_p stuck_q sample_q =
 module _ {limit : Limit} {X : Type 0} {V : Span → Rule X} {U : Rule X} (start : List Token → Type 0) (mark : Mark) (q : Span → Parse X) (r : Parse X) (Q : Span → Rule X) (R : Rule X)
     (stuck_q : (span : Span) → Stuck limit Any (q span) (Q span) (V span)) (stuck_r : Stuck limit start r R U) where
   either_stuck : (ts : List Token) (m : List ℕ) → start ts → (o : Option Span) → accepted mark ts ≡ o → (fault : ParseFault)
-      → option_map_or (λ span. q span (past (state ts m))) o (r (state ts m)) ≡ Err fault
-      → Fails limit (either mark q r) ((TheMark mark ⨟ Q) or R) ((TheMark mark ⨟ V) or U) (state ts m) fault
+      → option_map_or (λ span. q span (past (progress ts m))) o (r (progress ts m)) ≡ Err fault
+      → Fails limit (either mark q r) ((TheMark mark ⨟ Q) or R) ((TheMark mark ⨟ V) or U) (progress ts m) fault
   either_stuck ts m begun None h fault e =
-      let f = stuck_r.fails (state ts m) fault begun e in
-      fails_after r R U (state ts m) fault f (either mark q r) ((TheMark mark ⨟ Q) or R) ((TheMark mark ⨟ V) or U) [] (state ts m) refl
+      let f = stuck_r.fails (progress ts m) fault begun e in
+      fails_after r R U (progress ts m) fault f (either mark q r) ((TheMark mark ⨟ Q) or R) ((TheMark mark ⨟ V) or U) [] (progress ts m) refl
       (begins_right (TheMark mark ⨟ Q) R) (begins_right (TheMark mark ⨟ V) U)
       (λ w n k. rw (found_by_next (marked mark) (f.front ++ w) (f.front ++ f.left) (next_append f.front w f.left k) ∙ ap (accepted mark) (sym f.whole) ∙ h, f.same w n k))
   either_stuck [] m begun (Some span) h fault e = absurd (cc)
   either_stuck (u ∷ ts) m begun (Some span) h fault e =
-      let f = (stuck_q span).fails (state ts m) fault tt e in
-      fails_after (q span) (Q span) (V span) (state ts m) fault f (either mark q r) ((TheMark mark ⨟ Q) or R) ((TheMark mark ⨟ V) or U) (u ∷ []) (state (u ∷ ts) m) refl
+      let f = (stuck_q span).fails (progress ts m) fault tt e in
+      fails_after (q span) (Q span) (V span) (progress ts m) fault f (either mark q r) ((TheMark mark ⨟ Q) or R) ((TheMark mark ⨟ V) or U) (u ∷ []) (progress (u ∷ ts) m) refl
       (begins_marked mark Q R u span h) (begins_marked mark V U u span h) (λ w n k. rw (h, f.same w n k))
 
   pub stuck_either : Stuck limit start (either mark q r) ((TheMark mark ⨟ Q) or R) ((TheMark mark ⨟ V) or U)
@@ -319,22 +319,22 @@ span_is true a c e = cc
 span_is false a c e = absurd (cc)
 
 module _ {limit : Limit} {X : Type 0} {V : Span → Rule X} {U : Rule X} (mark : Mark) (q : Span → Parse X) (r : Parse X) (Q : Span → Rule X) (R : Rule X)
-    (deep : (span : Span) (s : State) → q span s ≡ Err (Nesting span.line)) (stuck_r : Stuck limit Any r R U) (sample_r : Sample R)
+    (deep : (span : Span) (s : Progress) → q span s ≡ Err (Nesting span.line)) (stuck_r : Stuck limit Any r R U) (sample_r : Sample R)
     (within : (span : Span) → Within (Q span) (V span)) (helped : OfDepth limit → (span : Span) → Sample (V span)) where
   deep_stuck : (ts : List Token) (m : List ℕ) (o : Option Span) → accepted mark ts ≡ o → (fault : ParseFault)
-      → option_map_or (λ span. q span (past (state ts m))) o (r (state ts m)) ≡ Err fault
-      → Fails limit (either mark q r) ((TheMark mark ⨟ Q) or R) ((TheMark mark ⨟ V) or U) (state ts m) fault
+      → option_map_or (λ span. q span (past (progress ts m))) o (r (progress ts m)) ≡ Err fault
+      → Fails limit (either mark q r) ((TheMark mark ⨟ Q) or R) ((TheMark mark ⨟ V) or U) (progress ts m) fault
   deep_stuck ts m None h fault e =
-      let f = stuck_r.fails (state ts m) fault tt e in
-      fails_after r R U (state ts m) fault f (either mark q r) ((TheMark mark ⨟ Q) or R) ((TheMark mark ⨟ V) or U) [] (state ts m) refl
+      let f = stuck_r.fails (progress ts m) fault tt e in
+      fails_after r R U (progress ts m) fault f (either mark q r) ((TheMark mark ⨟ Q) or R) ((TheMark mark ⨟ V) or U) [] (progress ts m) refl
       (begins_right (TheMark mark ⨟ Q) R) (begins_right (TheMark mark ⨟ V) U)
       (λ w n k. rw (found_by_next (marked mark) (f.front ++ w) (f.front ++ f.left) (next_append f.front w f.left k) ∙ ap (accepted mark) (sym f.whole) ∙ h, f.same w n k))
   deep_stuck [] m (Some span) h fault e = absurd (cc)
   deep_stuck (u ∷ ts) m (Some span) h fault e =
-      fails_as (either mark q r) ((TheMark mark ⨟ Q) or R) ((TheMark mark ⨟ V) or U) (state (u ∷ ts) m) (Nesting span.line) fault (sym (deep span (state ts m)) ∙ e)
+      fails_as (either mark q r) ((TheMark mark ⨟ Q) or R) ((TheMark mark ⨟ V) or U) (progress (u ∷ ts) m) (Nesting span.line) fault (sym (deep span (progress ts m)) ∙ e)
       (fails_here (either mark q r) ((TheMark mark ⨟ Q) or R) ((TheMark mark ⨟ V) or U) (u ∷ ts) m (Nesting span.line)
       (begins_right (TheMark mark ⨟ Q) R [] sample_r)
-      (λ w n k. rw (found_by_next (marked mark) w (u ∷ ts) k ∙ h, deep span (past (state w n))))
+      (λ w n k. rw (found_by_next (marked mark) w (u ∷ ts) k ∙ h, deep span (past (progress w n))))
       (λ k. record { token = u; next = refl; begun = begins_marked mark V U u span h [] (helped k span) })
       (inr (inr (ap (λ (s : Span). Nesting s.line) (sym (span_is _ u.span span h))))))
 
@@ -353,27 +353,27 @@ module _ {limit : Limit} {X : Type 0} {V : Span → Rule X} {U : Rule X} (mark :
   abbrev Wider : Rule (Option X)
   Wider = Optional ((TheMark mark ⨟ V) or U)
 
-  rest_stuck : (ts : List Token) (m : List ℕ) → accepted mark ts ≡ None → (fault : ParseFault) → Fails limit r (Optional R) (Optional U) (state ts m) fault
-      → Fails limit (begins mark q r) Narrow Wider (state ts m) fault
+  rest_stuck : (ts : List Token) (m : List ℕ) → accepted mark ts ≡ None → (fault : ParseFault) → Fails limit r (Optional R) (Optional U) (progress ts m) fault
+      → Fails limit (begins mark q r) Narrow Wider (progress ts m) fault
   rest_stuck ts m h fault f =
-      fails_after r (Optional R) (Optional U) (state ts m) fault f (begins mark q r) Narrow Wider [] (state ts m) refl
+      fails_after r (Optional R) (Optional U) (progress ts m) fault f (begins mark q r) Narrow Wider [] (progress ts m) refl
       (begins_as (Optional R) Narrow (optional_or (TheMark mark ⨟ Q) R)) (begins_as (Optional U) Wider (optional_or (TheMark mark ⨟ V) U))
       (λ w n k. rw (found_by_next (marked mark) (f.front ++ w) (f.front ++ f.left) (next_append f.front w f.left k) ∙ ap (accepted mark) (sym f.whole) ∙ h, f.same w n k))
 
   some_stuck : (u : Token) (ts : List Token) (m : List ℕ) (span : Span) → marked mark u ≡ Some span → (fault : ParseFault)
-      → Broke {B = Option X × State} (q span (state ts m)) (λ r. Ok (Some r.0, r.1)) fault → Fails limit (begins mark q r) Narrow Wider (state (u ∷ ts) m) fault
+      → Broke {B = Option X × Progress} (q span (progress ts m)) (λ r. Ok (Some r.0, r.1)) fault → Fails limit (begins mark q r) Narrow Wider (progress (u ∷ ts) m) fault
   some_stuck u ts m span h fault (After a e k) = absurd (cc)
   some_stuck u ts m span h fault (Before e) =
-      let f = (stuck_q span).fails (state ts m) fault tt e in
-      fails_after (q span) (Q span) (V span) (state ts m) fault f (begins mark q r) Narrow Wider (u ∷ []) (state (u ∷ ts) m) refl
+      let f = (stuck_q span).fails (progress ts m) fault tt e in
+      fails_after (q span) (Q span) (V span) (progress ts m) fault f (begins mark q r) Narrow Wider (u ∷ []) (progress (u ∷ ts) m) refl
       (λ front b. begins_some ((TheMark mark ⨟ Q) or R) (u ∷ front) (begins_marked mark Q R u span h front b))
       (λ front b. begins_some ((TheMark mark ⨟ V) or U) (u ∷ front) (begins_marked mark V U u span h front b)) (λ w n k. rw (h, f.same w n k))
 
   begins_stuck : (ts : List Token) (m : List ℕ) (c : Option Span) → accepted mark ts ≡ c → (fault : ParseFault)
-      → option_map_or (λ span. (q span ▸ λ x. pure (Some x)) (past (state ts m))) c (r (state ts m)) ≡ Err fault → Fails limit (begins mark q r) Narrow Wider (state ts m) fault
-  begins_stuck ts m None h fault e = rest_stuck ts m h fault (stuck_r.fails (state ts m) fault tt e)
+      → option_map_or (λ span. (q span ▸ λ x. pure (Some x)) (past (progress ts m))) c (r (progress ts m)) ≡ Err fault → Fails limit (begins mark q r) Narrow Wider (progress ts m) fault
+  begins_stuck ts m None h fault e = rest_stuck ts m h fault (stuck_r.fails (progress ts m) fault tt e)
   begins_stuck [] m (Some span) h fault e = absurd (cc)
-  begins_stuck (u ∷ ts) m (Some span) h fault e = some_stuck u ts m span h fault (broke (q span (state ts m)) (λ r. Ok (Some r.0, r.1)) fault e)
+  begins_stuck (u ∷ ts) m (Some span) h fault e = some_stuck u ts m span h fault (broke (q span (progress ts m)) (λ r. Ok (Some r.0, r.1)) fault e)
 
   pub stuck_begins : Stuck limit Any (begins mark q r) (Optional ((TheMark mark ⨟ Q) or R)) (Optional ((TheMark mark ⨟ V) or U))
   stuck_begins = record {
@@ -412,7 +412,7 @@ module _ {limit : Limit} {X : Type 0} {W : Rule X} (p : Parse (Option X)) (P : R
   required_within : Within P W
   required_within ts x ns h = stuck_p.within ts (Some x) ns h
 
-  none_stuck : (s : State) (o : Option X) (u : State) → p s ≡ Ok (o, u) → (fault : ParseFault) → option_map_or pure o unexpected u ≡ Err fault → Fails limit (required p) P W s fault
+  none_stuck : (s : Progress) (o : Option X) (u : Progress) → p s ≡ Ok (o, u) → (fault : ParseFault) → option_map_or pure o unexpected u ≡ Err fault → Fails limit (required p) P W s fault
   none_stuck s (Some x) u e fault k = absurd (cc)
   none_stuck s None u e fault k =
       let f = exact_p.reads s None u tt e in
@@ -422,7 +422,7 @@ module _ {limit : Limit} {X : Type 0} {W : Rule X} (p : Parse (Option X)) (P : R
       (λ w n h. rw (exact_p.again [] None [] w n (refl, refl) (by_next u.left w (ap next_token (sym same) ∙ sym h) f.stops), line_by_next w u.left (h ∙ ap next_token same)))
       (λ k. absurd k) (inl (ap (λ (l : List Token). Unexpected (line_of l)) (sym same))))
 
-  required_broke : (s : State) (fault : ParseFault) → Broke (p s) (λ r. option_map_or pure r.0 unexpected r.1) fault → Fails limit (required p) P W s fault
+  required_broke : (s : Progress) (fault : ParseFault) → Broke (p s) (λ r. option_map_or pure r.0 unexpected r.1) fault → Fails limit (required p) P W s fault
   required_broke s fault (After r e k) = none_stuck s r.0 r.1 e fault k
   required_broke s fault (Before e) =
       let f = stuck_p.fails s fault tt e in
@@ -452,7 +452,7 @@ begins_option : {X Y : Type 0} (f : X → Y) (P : Rule X) (front : List Token) �
 begins_option f P front b = record { tail = b.tail; x = option_map f b.x; notes = b.notes; said = option_can f P (front ++ b.tail) b.x b.notes b.said }
 
 module _ {limit : Limit} {X Y : Type 0} {W : Rule X} (p : Parse (Option X)) (f : X → Y) (P : Rule X) (stuck_p : Stuck limit Any p (Optional P) (Optional W)) where
-  option_broke : (s : State) (fault : ParseFault) → Broke {B = Option Y × State} (p s) (λ r. Ok (option_map f r.0, r.1)) fault
+  option_broke : (s : Progress) (fault : ParseFault) → Broke {B = Option Y × Progress} (p s) (λ r. Ok (option_map f r.0, r.1)) fault
       → Fails limit (p ▸ λ o. pure (option_map f o)) (Optional (P ⨟ λ x. Gives (f x))) (Optional (W ⨟ λ x. Gives (f x))) s fault
   option_broke s fault (After a e k) = absurd (cc)
   option_broke s fault (Before e) =
@@ -468,7 +468,7 @@ module _ {limit : Limit} {X Y : Type 0} {W : Rule X} (p : Parse (Option X)) (f :
   }
 
 module _ {limit : Limit} {X : Type 0} {W : Rule (X × Bool)} (line : ℕ) (p : Parse (X × Bool)) (P : Rule (X × Bool)) (stuck_p : Stuck limit Any p P W) where
-  note_broke : (s : State) (fault : ParseFault) → Broke {B = X × State} (p s) (λ r. Ok (r.0.0, reading.noted (length s.notes) line r.0.1 r.1)) fault
+  note_broke : (s : Progress) (fault : ParseFault) → Broke {B = X × Progress} (p s) (λ r. Ok (r.0.0, reading.noted (length s.notes) line r.0.1 r.1)) fault
       → Fails limit (reading.with_note line p) (Noted line P) (Noted line W) s fault
   note_broke s fault (After a e k) = absurd (cc)
   note_broke s fault (Before e) =
@@ -509,19 +509,19 @@ module _ {limit : Limit} {A X : Type 0} {W : Rule X} (part : Parse (Option X)) (
     whole : ts ≡ front ++ left
     can : Begins (Many P add a) front
     helped : IsOf limit fault → Goes (Many W add a) front left
-    same : (k : ℕ) (w : List Token) (m : List ℕ) (c : A) → length (front ++ w) ≤ k → next_token w ≡ next_token left → many_from part add k c (state (front ++ w) m) ≡ Err fault
+    same : (k : ℕ) (w : List Token) (m : List ℕ) (c : A) → length (front ++ w) ≤ k → next_token w ≡ next_token left → many_from part add k c (progress (front ++ w) m) ≡ Err fault
     line : IsAt fault (line_of left)
 
   part_within : Within P W
   part_within ts x ns h = stuck_part.within ts (Some x) ns h
 
-  same_at : (k : ℕ) (ts : List Token) (m : List ℕ) (c : A) (fault : ParseFault) → length ts ≤ k → part (state ts m) ≡ Err fault → many_from part add k c (state ts m) ≡ Err fault
+  same_at : (k : ℕ) (ts : List Token) (m : List ℕ) (c : A) (fault : ParseFault) → length ts ≤ k → part (progress ts m) ≡ Err fault → many_from part add k c (progress ts m) ≡ Err fault
   same_at zero [] m c fault less e = let g = sym (exact_part.again [] None [] [] m (refl, refl) ended) ∙ e in absurd (cc)
   same_at zero (t ∷ ts) m c fault less e = absurd (omega (arith, less))
   same_at (suc k) ts m c fault less e = rw e
 
   same_more : (k : ℕ) (front back : List Token) (x : X) (ns m : List ℕ) (c : A) (fault : ParseFault) → P front x ns → some back → length (front ++ back) ≤ k
-      → ((k : ℕ) (m : List ℕ) (c : A) → length back ≤ k → many_from part add k c (state back m) ≡ Err fault) → many_from part add k c (state (front ++ back) m) ≡ Err fault
+      → ((k : ℕ) (m : List ℕ) (c : A) → length back ≤ k → many_from part add k c (progress back m) ≡ Err fault) → many_from part add k c (progress (front ++ back) m) ≡ Err fault
   same_more zero front back x ns m c fault h s less more = let one : 1 ≤ length front = consumes x front ns h in absurd (omega (arith, length-append front back))
   same_more (suc k) front back x ns m c fault h s less more =
       let one : 1 ≤ length front = consumes x front ns h in
@@ -529,7 +529,7 @@ module _ {limit : Limit} {A X : Type 0} {W : Rule X} (part : Parse (Option X)) (
       let l : length back ≤ k = omega (arith, length-append front back) in
       rw (e, more k (m ++ ns) (add c x) l)
 
-  halts_more : (n : ℕ) (a : A) (ts : List Token) (m : List ℕ) (o : Option X) (u : State) (fault : ParseFault) → length ts ≤ suc n → Found (Optional P) (Until none some) (state ts m) o u
+  halts_more : (n : ℕ) (a : A) (ts : List Token) (m : List ℕ) (o : Option X) (u : Progress) (fault : ParseFault) → length ts ≤ suc n → Found (Optional P) (Until none some) (progress ts m) o u
       → ((a : A) → length u.left ≤ n → many_from part add n a u ≡ Err fault → Halts a u.left fault)
       → option_map_or (λ x. many_from part add n (add a x) u) o (Ok (a, u)) ≡ Err fault → Halts a ts fault
   halts_more n a ts m None u fault less f more e = absurd (cc)
@@ -545,7 +545,7 @@ module _ {limit : Limit} {A X : Type 0} {W : Rule X} (part : Parse (Option X)) (
         can = begins_more P add a f.tokens x f.notes f.said g.front g.can;
         helped = λ k. goes (Many W add (add a x)) (Many W add a) f.tokens (begins_more W add a f.tokens x f.notes (part_within f.tokens x f.notes f.said)) g.front g.left (g.helped k);
         same = λ k w m c less h.
-            subst (λ (l : List Token). many_from part add k c (state l m) ≡ Err fault) (sym (append_assoc f.tokens g.front w))
+            subst (λ (l : List Token). many_from part add k c (progress l m) ≡ Err fault) (sym (append_assoc f.tokens g.front w))
             (same_more k f.tokens (g.front ++ w) x f.notes m c fault f.said
             (by_next (g.front ++ g.left) (g.front ++ w) (next_append g.front g.left w (sym h)) (subst some g.whole f.stops))
             (subst (λ (l : List Token). length l ≤ k) (append_assoc f.tokens g.front w) less)
@@ -553,11 +553,11 @@ module _ {limit : Limit} {A X : Type 0} {W : Rule X} (part : Parse (Option X)) (
       }
 
   halts_by : (n : ℕ) (a : A) (ts : List Token) (m : List ℕ) (fault : ParseFault) → length ts ≤ suc n
-      → Broke {B = A × State} (part (state ts m)) (λ r. option_map_or (λ x. many_from part add n (add a x) r.1) r.0 (Ok (a, r.1))) fault
-      → ((a : A) (u : State) → length u.left ≤ n → many_from part add n a u ≡ Err fault → Halts a u.left fault) → Halts a ts fault
-  halts_by n a ts m fault less (After r e k) more = halts_more n a ts m r.0 r.1 fault less (exact_part.reads (state ts m) r.0 r.1 tt e) (λ a l e. more a r.1 l e) k
+      → Broke {B = A × Progress} (part (progress ts m)) (λ r. option_map_or (λ x. many_from part add n (add a x) r.1) r.0 (Ok (a, r.1))) fault
+      → ((a : A) (u : Progress) → length u.left ≤ n → many_from part add n a u ≡ Err fault → Halts a u.left fault) → Halts a ts fault
+  halts_by n a ts m fault less (After r e k) more = halts_more n a ts m r.0 r.1 fault less (exact_part.reads (progress ts m) r.0 r.1 tt e) (λ a l e. more a r.1 l e) k
   halts_by n a ts m fault less (Before e) more =
-      let f = stuck_part.fails (state ts m) fault tt e in
+      let f = stuck_part.fails (progress ts m) fault tt e in
       record {
         front = f.front;
         left = f.left;
@@ -568,10 +568,10 @@ module _ {limit : Limit} {A X : Type 0} {W : Rule X} (part : Parse (Option X)) (
         same = λ k w m c less h. same_at k (f.front ++ w) m c fault less (f.same w m h);
       }
 
-  many_halts : (n : ℕ) (a : A) (ts : List Token) (m : List ℕ) (fault : ParseFault) → length ts ≤ n → many_from part add n a (state ts m) ≡ Err fault → Halts a ts fault
+  many_halts : (n : ℕ) (a : A) (ts : List Token) (m : List ℕ) (fault : ParseFault) → length ts ≤ n → many_from part add n a (progress ts m) ≡ Err fault → Halts a ts fault
   many_halts zero a ts m fault less e = absurd (cc)
   many_halts (suc n) a ts m fault less e =
-      halts_by n a ts m fault less (broke (part (state ts m)) (λ r. option_map_or (λ x. many_from part add n (add a x) r.1) r.0 (Ok (a, r.1))) fault e)
+      halts_by n a ts m fault less (broke (part (progress ts m)) (λ r. option_map_or (λ x. many_from part add n (add a x) r.1) r.0 (Ok (a, r.1))) fault e)
       (λ a u l e. many_halts n a u.left u.notes fault l e)
 
   pub stuck_many : (a : A) → Stuck limit some (many part add a) (Many P add a) (Many W add a)

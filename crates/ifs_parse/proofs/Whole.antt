@@ -11,10 +11,10 @@ use Rattle.ifs_parse.specs.declared.mark.Mark.TheVariants as mark
 use Rattle.ifs_parse.specs.declared.tree.Item.{Item}
 use Rattle.ifs_parse.specs.Files.{File, file}
 use Rattle.ifs_parse.specs.Marks.{mark_of, is}
-use Rattle.ifs_parse.specs.Combined.{State, state, Parse, ◌>>=◌}
-use Rattle.ifs_parse.specs.Reading as reading
+use Rattle.ifs_parse.specs.inner.Combined.{Progress, progress, Parse, ◌>>=◌}
+use Rattle.ifs_parse.specs.inner.Reading as reading
 use Rattle.ifs_parse.specs.Words.{fits_period}
-use Rattle.ifs_parse.specs.Reading.{read_within}
+use Rattle.ifs_parse.specs.inner.Reading.{read_within}
 use Rattle.ifs_parse.specs.Grammar as grammar
 use Rattle.ifs_parse.specs.Grammar.{SaysWithin, Says}
 use Rattle.ifs_parse.proofs.Exact.{went, inside}
@@ -60,16 +60,16 @@ module _ (fits : ℕ → Bool) (room : ℕ) where
   pub says_read : (tokens : List Token) (f : File) → SaysWithin fits room tokens f → read_within fits room tokens ≡ Ok f
   unfolding SaysWithin read_within
   says_read tokens f h =
-      let e : read_all (state tokens []) ≡ Ok (f.items, state [] f.notes) =
-      ap (λ (l : List Token). read_all (state l [])) (sym (append-nil tokens)) ∙ (exact_items (reading.statement fits room) (grammar.IsStatement fits room) (known fits room)).again tokens f.items f.notes [] [] h tt in
-      ap (λ (r : Result (List Item × State) ParseFault). r >>= λ r. Ok (file r.0 r.1.notes)) e
+      let e : read_all (progress tokens []) ≡ Ok (f.items, progress [] f.notes) =
+      ap (λ (l : List Token). read_all (progress l [])) (sym (append-nil tokens)) ∙ (exact_items (reading.statement fits room) (grammar.IsStatement fits room) (known fits room)).again tokens f.items f.notes [] [] h tt in
+      ap (λ (r : Result (List Item × Progress) ParseFault). r >>= λ r. Ok (file r.0 r.1.notes)) e
 
   -- What is read of tokens whose one end stands last is what they say.
   pub read_says : (tokens : List Token) (f : File) → EndsOnce tokens → read_within fits room tokens ≡ Ok f → SaysWithin fits room tokens f
   unfolding SaysWithin read_within
   read_says tokens f ends e =
-      let w = went (read_all (state tokens [])) (λ r. Ok (file r.0 r.1.notes)) f e in
-      let g = (exact_items (reading.statement fits room) (grammar.IsStatement fits room) (known fits room)).reads (state tokens []) w.on.0 w.on.1 tt w.was in
+      let w = went (read_all (progress tokens [])) (λ r. Ok (file r.0 r.1.notes)) f e in
+      let g = (exact_items (reading.statement fits room) (grammar.IsStatement fits room) (known fits room)).reads (progress tokens []) w.on.0 w.on.1 tt w.was in
       let h = g.said in
       let last : tokens ≡ h.front ++ h.second.first.token ∷ w.on.1.left =
       g.taken ∙ ap (λ (l : List Token). l ++ w.on.1.left) (h.tokens_are ∙ ap (λ (l : List Token). h.front ++ l) (h.second.tokens_are ∙ rw (h.second.first.only, h.second.second.none)))

@@ -17,12 +17,12 @@ use Rattle.ifs_parse.specs.declared.block.Statement.{Statement}
 use Rattle.ifs_parse.specs.declared.parser.Operand.{Operand}
 use Rattle.ifs_parse.specs.Trees as tree
 use Rattle.ifs_parse.specs.Files.{file}
-use Rattle.ifs_parse.specs.Combined.{State, state, Parse, past, line_of, ◌>>=◌, ◌▸◌, pure, found, accepted}
-use Rattle.ifs_parse.specs.Combined.{either, begins, expected, unexpected, no_more, required, many, many_from}
-use Rattle.ifs_parse.specs.Reading as reading
+use Rattle.ifs_parse.specs.inner.Combined.{Progress, progress, Parse, past, line_of, ◌>>=◌, ◌▸◌, pure, found, accepted}
+use Rattle.ifs_parse.specs.inner.Combined.{either, begins, expected, unexpected, no_more, required, many, many_from}
+use Rattle.ifs_parse.specs.inner.Reading as reading
 use Rattle.ifs_parse.specs.Words as words
 use Rattle.ifs_parse.specs.Rules as rules
-use Rattle.ifs_parse.specs.Reading.{read_within}
+use Rattle.ifs_parse.specs.inner.Reading.{read_within}
 
 module _ (kept : ParseFault → Type 0) where
   -- The second result is the first one's value, or its fault where that is kept.
@@ -31,7 +31,7 @@ module _ (kept : ParseFault → Type 0) where
   Alike (Err fault) r = kept fault → r ≡ Err fault
 
   abbrev pub Follows : {X : Type 0} → Parse X → Parse X → Type 0
-  Follows p q = (s : State) → Alike (p s) (q s)
+  Follows p q = (s : Progress) → Alike (p s) (q s)
 
   alike_same : {A : Type 0} (r : Result A ParseFault) → Alike r r
   alike_same (Ok a) = refl
@@ -196,6 +196,6 @@ module _ (kept : ParseFault → Type 0) where
     pub follows_read : (room more : ℕ) → room ≤ more → ((line : ℕ) → kept (Nesting line) → more ≡ room) → (tokens : List Token) → Alike (read_within fits room tokens) (read_within wide more tokens)
     unfolding read_within
     follows_read room more less same tokens =
-        alike_bind (reading.items (reading.item (reading.part (reading.statement fits room))) (state tokens [])) (reading.items (reading.item (reading.part (reading.statement wide more))) (state tokens []))
+        alike_bind (reading.items (reading.item (reading.part (reading.statement fits room))) (progress tokens [])) (reading.items (reading.item (reading.part (reading.statement wide more))) (progress tokens []))
         (λ r. Ok (file r.0 r.1.notes)) (λ r. Ok (file r.0 r.1.notes))
-        (follows_items (reading.statement fits room) (reading.statement wide more) (follows_statement room more less same) (state tokens [])) (λ r. refl)
+        (follows_items (reading.statement fits room) (reading.statement wide more) (follows_statement room more less same) (progress tokens [])) (λ r. refl)

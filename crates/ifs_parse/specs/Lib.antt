@@ -4,9 +4,6 @@ pub mod Files
 pub mod Marks
 pub mod Words
 pub mod Rules
-pub mod Combined
-pub mod Reading
 pub mod Grammar
 pub mod AtOnce
-pub mod Parsers
 pub mod inner

@@ -1,2 +1,5 @@
 pub mod Codes
 pub mod Falls
+pub mod Combined
+pub mod Reading
+pub mod Parsers

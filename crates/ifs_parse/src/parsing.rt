@@ -3,11 +3,11 @@
 ghost use Rattle.std.specs.Prelude.{◌≡◌, ◌≢◌, Some, Err, IfOk, IfErr, IsOkAnd};
 ghost use Rattle.ifs_lex.specs.Expansion.{EndsOnce};
 ghost use Rattle.ifs_parse.specs.AtOnce as at_once;
-ghost use Rattle.ifs_parse.specs.Combined.{Answers};
+ghost use Rattle.ifs_parse.specs.inner.Combined.{Answers};
 ghost use Rattle.ifs_parse.specs.Files.{File, file};
 ghost use Rattle.ifs_parse.specs.Grammar.{Says, StopsAt};
 ghost use Rattle.ifs_parse.specs.Words.{fits_period};
-ghost use Rattle.ifs_parse.specs.Reading.{read_within};
+ghost use Rattle.ifs_parse.specs.inner.Reading.{read_within};
 ghost use Rattle.ifs_parse.specs.declared.fault.ParseFault.{ParseFault};
 ghost use Rattle.ifs_parse.specs.declared.fault.ParseFault.TheVariants.{Memory};
 
@@ -28,7 +28,7 @@ struct Parsed {
     notes: Vec<u32>,
 }
 
-#[tactic(auto, unfolding(crate::specs::Reading::read_within))]
+#[tactic(auto, unfolding(crate::specs::inner::Reading::read_within))]
 fn read(alloc: Global, tokens: &[Token]) -> Result<Parsed, ParseFault>
     ensures { Answers (λ parsed. file parsed.items.items parsed.notes.items) result (read_within fits_period 32 tokens.now) }
 {

@@ -1,7 +1,7 @@
 use Rattle.std.proofs.Common.{◌≤◌, ◌∙◌, sym, subst, length}
 use Rattle.ifs_parse.proofs.Read.{notes_stay}
-use Rattle.ifs_parse.specs.Parsers.{state_of, others_of}
-use Rattle.ifs_parse.specs.Reading as reading
+use Rattle.ifs_parse.specs.inner.Parsers.{progress_of, others_of}
+use Rattle.ifs_parse.specs.inner.Reading as reading
 use Rattle.ifs_parse.specs.Words as words
 use Rattle.ifs_parse.proofs.Alternatives.{alternatives_are}
 use Rattle.ifs_parse.proofs.Turns.{turn_goes, turn_ends, turn_fails}
@@ -33,12 +33,12 @@ pub alternatives-note-requires : goal.alternatives-note-requires
 alternatives-note-requires t c =
     subst (λ n. n ≤ length c.alls.new.self.notes.items) (sym (c.len-place.ensures ∙ c.args.self.now.notes.ok.0))
     (notes_stay words.fits_period c.args.room (others_of c.after.result) (others_of c.in_ok-others.others) c.in_ok-second.second
-    (state_of c.args.self.now) (state_of c.all.new.self) (state_of c.alls.new.self) c.in_ok-second.ensures c.in_ok-others.ensures)
+    (progress_of c.args.self.now) (progress_of c.all.new.self) (progress_of c.alls.new.self) c.in_ok-second.ensures c.in_ok-others.ensures)
 
 pub alternatives-returns : goal.alternatives-returns
 alternatives-returns t c =
     alternatives_are (reading.all (reading.one words.fits_period c.args.room)) c.args.first c.in_ok-second.second c.args.span c.len-place.result
-    (state_of c.args.self.now) (state_of c.all.new.self) (state_of c.alls.new.self) (state_of c.note.new.self)
+    (progress_of c.args.self.now) (progress_of c.all.new.self) (progress_of c.alls.new.self) (progress_of c.note.new.self)
     (others_of c.after.result) (others_of c.in_ok-others.others) c.new.result
     c.in_ok-second.ensures c.after.ensures c.in_ok-others.ensures (c.len-place.ensures ∙ c.args.self.now.notes.ok.0) c.in_ok-note.ensures
     (c.new.ensures ∙ rw (c.in_ok-first.ensures.0, c.in_ok-first.ensures.1))

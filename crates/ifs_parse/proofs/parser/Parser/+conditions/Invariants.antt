@@ -1,7 +1,7 @@
 use Rattle.std.proofs.Common.{◌≡◌, [], ◌+◌, ◌-◌, ◌*◌}
-use Rattle.ifs_parse.specs.Combined.{many, many_from}
-use Rattle.ifs_parse.specs.Parsers.{state_of, others_of}
-use Rattle.ifs_parse.specs.Reading as reading
+use Rattle.ifs_parse.specs.inner.Combined.{many, many_from}
+use Rattle.ifs_parse.specs.inner.Parsers.{progress_of, others_of}
+use Rattle.ifs_parse.specs.inner.Reading as reading
 use Rattle.ifs_parse.specs.Words as words
 use Rattle.ifs_parse.specs.Rules as rules
 use Rattle.ifs_parse.specs.declared.mark.Mark.TheVariants as mark
@@ -34,10 +34,10 @@ decreases-condition l = 8 * l.room + 7
 abbrev pub invariant-ones-loop-turn : goal.invariant-ones-loop-turn
 invariant-ones-loop-turn l =
     let part = reading.next_operand mark.And (reading.one words.fits_period l.room) in
-    many_from part rules.with_last (l._turn-end - l._turn) l.rest.items (state_of l.self) ≡ many part rules.with_last [] (state_of l.fn.self)
+    many_from part rules.with_last (l._turn-end - l._turn) l.rest.items (progress_of l.self) ≡ many part rules.with_last [] (progress_of l.fn.self)
 
 abbrev pub invariant-alls-loop-turn : goal.invariant-alls-loop-turn
 invariant-alls-loop-turn l =
     let part = reading.next_operand mark.Or (reading.all (reading.one words.fits_period l.room)) in
-    many_from part reading.with_operand (l._turn-end - l._turn) (others_of l.others) (state_of l.self)
-    ≡ many part reading.with_operand (others_of l.fn.before) (state_of l.fn.self)
+    many_from part reading.with_operand (l._turn-end - l._turn) (others_of l.others) (progress_of l.self)
+    ≡ many part reading.with_operand (others_of l.fn.before) (progress_of l.fn.self)

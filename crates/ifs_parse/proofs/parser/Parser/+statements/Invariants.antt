@@ -1,7 +1,7 @@
 use Rattle.std.proofs.Common.{◌≡◌, [], ◌+◌, ◌-◌, ◌*◌}
-use Rattle.ifs_parse.specs.Combined.{many, many_from}
-use Rattle.ifs_parse.specs.Parsers.{state_of}
-use Rattle.ifs_parse.specs.Reading as reading
+use Rattle.ifs_parse.specs.inner.Combined.{many, many_from}
+use Rattle.ifs_parse.specs.inner.Parsers.{progress_of}
+use Rattle.ifs_parse.specs.inner.Reading as reading
 use Rattle.ifs_parse.specs.Words as words
 use Rattle.ifs_parse.specs.Rules as rules
 use Rattle.ifs_parse.proofs.parser.Parser.+statements.Given as goal
@@ -21,4 +21,4 @@ decreases-conditional l = 4 * l.room + 3
 abbrev pub invariant-statements-loop-turn : goal.invariant-statements-loop-turn
 invariant-statements-loop-turn l =
     let part = reading.statement words.fits_period l.room in
-    many_from part rules.with_last (l._turn-end - l._turn) l.all.items (state_of l.self) ≡ many part rules.with_last [] (state_of l.fn.self)
+    many_from part rules.with_last (l._turn-end - l._turn) l.all.items (progress_of l.self) ≡ many part rules.with_last [] (progress_of l.fn.self)

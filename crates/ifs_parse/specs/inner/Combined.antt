@@ -10,20 +10,20 @@ use Rattle.ifs_parse.specs.declared.mark.Mark.{Mark}
 use Rattle.ifs_parse.specs.Words.{marked}
 
 -- The tokens that are left, and the lines of the notes so far.
-pub record State : Type 0 where
+pub record Progress : Type 0 where
   pub left : List Token
   pub notes : List ℕ
 
-abbrev pub state : List Token → List ℕ → State
-state left notes = record { left = left; notes = notes }
+abbrev pub progress : List Token → List ℕ → Progress
+progress left notes = record { left = left; notes = notes }
 
 -- After the first token.
-abbrev pub past : State → State
-past s = state (drop 1 s.left) s.notes
+abbrev pub past : Progress → Progress
+past s = progress (drop 1 s.left) s.notes
 
 -- What reads a value, or tells a fault.
 abbrev pub Parse : Type 0 → Type 0
-Parse X = State → Result (X × State) ParseFault
+Parse X = Progress → Result (X × Progress) ParseFault
 
 -- Goes on where nothing was wrong.
 infixl 10 ◌>>=◌
@@ -91,6 +91,6 @@ many_from part add (suc n) a s = part s >>= λ r. option_map_or (λ x. many_from
 abbrev pub many : {A X : Type 0} → Parse (Option X) → (A → X → A) → A → Parse A
 many part add a s = many_from part add (length s.left) a s
 
--- A result is what is wanted, and a fault is the one wanted unless memory ran out.
+-- A result is what is wanted, and a fault is the one wanted unless want of memory is told.
 abbrev pub Answers : {X Y : Type 0} → (X → Y) → Result X ParseFault → Result Y ParseFault → Type 0
 Answers view result wanted = MatchResult result (λ x. wanted ≡ Ok (view x)) (λ fault. fault ≢ Memory → wanted ≡ Err fault)

@@ -1,12 +1,12 @@
 -- What is kept of tokens while they are read.
 use Rattle.ifs_parse.specs.declared.parser.Parser.{Parser}
 use Rattle.ifs_parse.specs.declared.conditions.Others.{Others}
-use Rattle.ifs_parse.specs.Combined.{State, state}
-use Rattle.ifs_parse.specs.Reading as reading
+use Rattle.ifs_parse.specs.inner.Combined.{Progress, progress}
+use Rattle.ifs_parse.specs.inner.Reading as reading
 
 -- The tokens that are left, and the lines of the notes so far.
-abbrev pub state_of : Parser → State
-state_of p = state p.left.now p.notes.items
+abbrev pub progress_of : Parser → Progress
+progress_of p = progress p.left.now p.notes.items
 
 -- The operands after the first two, and whether one of the operands is a chain.
 abbrev pub others_of : Others → reading.Others

@@ -26,9 +26,9 @@ use Rattle.ifs_parse.specs.Files.{File, file}
 use Rattle.ifs_parse.specs.Marks.{mark_of}
 use Rattle.ifs_parse.specs.Words.{name_of, link_state_of, number_of_what}
 use Rattle.ifs_parse.specs.Rules.{with_last}
-use Rattle.ifs_parse.specs.Combined as combined
-use Rattle.ifs_parse.specs.Combined.{Parse, state, ◌>>=◌, ◌▸◌, pure, past, one_token, either, begins}
-use Rattle.ifs_parse.specs.Combined.{no_more, required, expected, unexpected, accepted, found, many, line_of}
+use Rattle.ifs_parse.specs.inner.Combined as combined
+use Rattle.ifs_parse.specs.inner.Combined.{Parse, progress, ◌>>=◌, ◌▸◌, pure, past, one_token, either, begins}
+use Rattle.ifs_parse.specs.inner.Combined.{no_more, required, expected, unexpected, accepted, found, many, line_of}
 
 -- string : a word that is not reserved | a quoted text
 abbrev pub string : Parse Name
@@ -83,8 +83,8 @@ abbrev pub with_operand : Others → Operand → Others
 with_operand o next = others (o.rest ++ next.condition ∷ []) (o.is_mixed || next.is_chain)
 
 -- With a note before those that stand from a place on, where operands are mixed.
-abbrev pub noted : ℕ → ℕ → Bool → combined.State → combined.State
-noted place line is_mixed s = if is_mixed then state s.left (insert s.notes place line) else s
+abbrev pub noted : ℕ → ℕ → Bool → combined.Progress → combined.Progress
+noted place line is_mixed s = if is_mixed then progress s.left (insert s.notes place line) else s
 
 -- What follows `all "||"` : all { "||" all }
 abbrev pub alternatives : Parse Operand → Operand → Parse (tree.Condition Test × Bool)
@@ -180,4 +180,4 @@ items item = many item with_last [] ▸ λ all. expected mark.End ▸ λ _. pure
 -- The file that tokens say, or the fault of the first token that cannot go on.
 unfoldable pub read_within : (ℕ → Bool) → ℕ → List Token → Result File ParseFault
 read_within fits room tokens =
-    items (item (part (statement fits room))) (state tokens []) >>= λ r. Ok (file r.0 r.1.notes)
+    items (item (part (statement fits room))) (progress tokens []) >>= λ r. Ok (file r.0 r.1.notes)
