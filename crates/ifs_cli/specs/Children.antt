@@ -1,20 +1,28 @@
 -- Starts of tests that wait to be answered.
-use Rattle.std.specs.Prelude.{◌≡◌, ◌-◌, ◌==◌, not, false, Bool, List, [], ◌∷◌}
-use Rattle.std.specs.Prelude.{◌++◌, length, filter, drop, Option, Some, None}
+use Rattle.std.specs.Prelude.{◌≡◌, ℕ, ◌-◌, ◌==◌, not, false, Bool, List, [], ◌∷◌}
+use Rattle.std.specs.Prelude.{◌++◌, length, map, filter, drop, Option, Some, None}
 use Rattle.ifs_sched.specs.declared.start.Start.{Start}
+use Rattle.ifs_cli.specs.declared.runner.Waited.{Waited}
+use Rattle.ifs_cli.specs.declared.runner.Waited.TheVariants.{Runs}
+use Rattle.ifs_cli.specs.declared.runner.RunnerEvent.TheVariants.{Asked}
+use Rattle.ifs_cli.specs.Runners.{RunnerLog, Tells, asked_once, test_value}
 
--- The starts whose program runs, and those that failed, each in the order in which they came.
+-- A program that was started for a test, by its number.
+abbrev pub Program : Type 0
+Program = Start × ℕ
+
+-- The programs that were started, and the starts that failed, each in the order in which they came.
 pub record Waiting : Type 0 where
-  pub running : List Start
+  pub running : List Program
   pub failed : List Start
 
 -- No start waits.
 abbrev pub none_waits : Waiting
 none_waits = record { running = []; failed = [] }
 
--- What waits after a start whose program runs.
-abbrev pub with_running : Start → Waiting → Waiting
-with_running start waiting = record { running = waiting.running ++ start ∷ []; failed = waiting.failed }
+-- What waits after a program was started.
+abbrev pub with_running : Program → Waiting → Waiting
+with_running program waiting = record { running = waiting.running ++ program ∷ []; failed = waiting.failed }
 
 -- The starts of other tests than that of a start.
 abbrev pub of_others : Start → List Start → List Start
@@ -29,20 +37,29 @@ abbrev pub with_failed : Start → Waiting → Waiting
 with_failed start waiting =
     record { running = waiting.running; failed = latest (of_others start waiting.failed) ++ start ∷ [] }
 
--- A start was taken out of others.
-pub record IsTakenOut (start : Start) (before after : List Start) : Type 0 where
-  pub front : List Start
-  pub rest : List Start
-  pub stood : before ≡ front ++ start ∷ rest
+-- The runner was asked of these programs in order, and answered of each that it still runs.
+abbrev pub all_run : List Program → RunnerLog
+all_run programs = map (λ it. Asked it.1 Runs) programs
+
+-- The first of the programs that has ended was taken out: the runner was asked of it and of those before it, in order, and the value is what it answered.
+pub record IsFirstEnded (ended : Start × Bool) (before after : List Program) (told told' : Option RunnerLog) : Type 0 where
+  pub front : List Program
+  pub number : ℕ
+  pub rest : List Program
+  pub answer : Waited
+  pub stood : before ≡ front ++ (ended.0, number) ∷ rest
   pub left : after ≡ front ++ rest
+  pub value : test_value answer ≡ Some ended.1
+  pub log : Tells (all_run front ++ asked_once number answer) told told'
 
--- A start ends, given those that failed: the first of them ends first, and its test found false; where none failed, one ends whose program ran.
-abbrev pub EndsOne : Start → Bool → List Start → Waiting → Waiting → Type 0
-EndsOne start value [] before after = IsTakenOut start before.running after.running × (after.failed ≡ [])
-EndsOne start value (first ∷ rest) before after =
-    (start ≡ first) × (value ≡ false) × (after ≡ record { running = before.running; failed = rest })
+-- A start ends, given those that failed: the first of them ends first, its test found false, and the runner is asked nothing; where none failed, the first ends whose program has.
+abbrev pub EndsOne : Start × Bool → List Start → Waiting → Waiting → Option RunnerLog → Option RunnerLog → Type 0
+EndsOne ended [] before after told told' =
+    IsFirstEnded ended before.running after.running told told' × (after.failed ≡ [])
+EndsOne ended (first ∷ rest) before after told told' =
+    (ended ≡ (first, false)) × (after ≡ record { running = before.running; failed = rest }) × (told' ≡ told)
 
--- What is answered of what waits, and what waits then.
-abbrev pub Ends : Option (Start × Bool) → Waiting → Waiting → Type 0
-Ends None before after = (before.failed ≡ []) × (after ≡ before)
-Ends (Some ended) before after = EndsOne ended.0 ended.1 before.failed before after
+-- What is answered of what waits, what waits then, and what the runner was asked: none has ended only where none failed and the runner answered of each that it still runs.
+abbrev pub Ends : Option (Start × Bool) → Waiting → Waiting → Option RunnerLog → Option RunnerLog → Type 0
+Ends None before after told told' = (before.failed ≡ []) × (after ≡ before) × Tells (all_run before.running) told told'
+Ends (Some ended) before after told told' = EndsOne ended before.failed before after told told'

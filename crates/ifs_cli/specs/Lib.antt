@@ -1,7 +1,9 @@
 pub mod Lines
 pub mod Faults
 pub mod Answers
+pub mod Runners
 pub mod Children
+pub mod RunnerHosts
 pub mod Definitions
 pub mod Files
 pub mod Shells

@@ -1,7 +1,9 @@
--- How texts are run, and what a host keeps of the tests that it was told to start.
-use Rattle.std.specs.Prelude.{◌≡◌, ◌⊎◌, ℕ, List, codes}
-use Rattle.ifs_sched.specs.declared.start.Start.{Start}
-use Rattle.ifs_cli.specs.Children.{Waiting, with_running, with_failed}
+-- How the shell runs texts, and what is told of the ends of its programs.
+use Rattle.std.specs.Prelude.{◌≡◌, ◌≢◌, ◌⊎◌, ℕ, ℤ, pos, ◌+ℤ◌, List, codes, Option, Some, None, unwrap_or}
+use Rattle.std.specs.Process.{exit_code, exit_signal}
+use Rattle.std.specs.declared.process.status.ExitStatus.{ExitStatus}
+use Rattle.ifs_cli.specs.declared.runner.Waited.{Waited}
+use Rattle.ifs_cli.specs.declared.runner.Waited.TheVariants.{Runs, Succeeded, Failed}
 
 -- The program that runs texts.
 abbrev pub shell : List ℕ
@@ -11,6 +13,12 @@ shell = codes "/bin/sh"
 abbrev pub dash_c : List ℕ
 dash_c = codes "-c"
 
--- What waits after a test was started: its program runs, or the start failed.
-abbrev pub Begins : Start → Waiting → Waiting → Type 0
-Begins start before after = (after ≡ with_running start before) ⊎ (after ≡ with_failed start before)
+-- What is answered of a program agrees with what is known of its end: it runs while nothing is known, and has ended with success exactly where its exit code is 0; a signal leaves no exit code.
+abbrev pub Agrees : Waited → Option ExitStatus → Type 0
+Agrees answer None = answer ≡ Runs
+Agrees answer (Some status) =
+    ((answer ≡ Succeeded) × (exit_code status ≡ Some (pos 0))) ⊎ ((answer ≡ Failed) × (exit_code status ≢ Some (pos 0)))
+
+-- The number that the shell gives for how a program ended: its exit code, or 128 and the signal.
+abbrev pub shell_code : ExitStatus → ℤ
+shell_code status = unwrap_or (exit_code status) (pos 128 +ℤ unwrap_or (exit_signal status) (pos 0))

@@ -2,46 +2,48 @@
 
 ghost use Rattle.std.specs.Prelude.{◌≡◌, ◌<◌, ◌↔◌, List, [], ◌∷◌, ◌++◌, length, map, IsTrue, IfOk, IfSome, MatchOption};
 ghost use Rattle.ifs_sched.specs.declared.start.Start.{Start};
+ghost use Rattle.std.specs.List.{remove};
 ghost use Rattle.std.specs.Vec.{vec_capacity};
-ghost use Rattle.ifs_cli.specs.Children.{Waiting, none_waits, with_running, with_failed};
-ghost use Rattle.ifs_cli.specs.Children.{of_others, latest, IsTakenOut, Ends};
+ghost use Rattle.ifs_cli.specs.Runners.{Tells};
+ghost use Rattle.ifs_cli.specs.Children.{Waiting, none_waits, with_running, with_failed, of_others, latest};
+ghost use Rattle.ifs_cli.specs.Children.{Program, all_run, IsFirstEnded, Ends};
 
+use crate::runner::Runner;
 use arrayvec::ArrayVec;
 use ifs_sched::Start;
 use std::alloc::{AllocError, Global};
 use std::marker::Model;
-use std::process::{Child, OpenProcess};
 
 /// How many programs may run at once.
 pub const PLACES: usize = 256;
 
 /// A program that was started for a test.
 #[derive(Drop)]
-struct Running<P: OpenProcess> {
+struct Running<Q: Runner> {
     start: Start,
-    child: Child<P>,
+    child: Q::Child,
 }
 
-/// What waits to be answered: starts whose program runs, and starts that failed, each in order.
+/// What waits to be answered: programs that were started for tests, and starts that failed, each in order.
 #[derive(Drop)]
-pub struct Children<P: OpenProcess> {
-    running: Vec<Running<P>>,
+pub struct Children<Q: Runner> {
+    running: Vec<Running<Q>>,
     failed: ArrayVec<Start, 64>,
 }
 
-impl<P: OpenProcess> Model for Children<P> {
+impl<Q: Runner> Model for Children<Q> {
     ghost use Rattle.std.specs.Prelude.{◌≤◌, map, length};
     ghost use Rattle.std.specs.Vec.{vec_capacity};
     ghost use Rattle.ifs_cli.specs.Children.{Waiting};
 
     ghost Value = { Waiting };
 
-    ghost view = { λ c. record { running = map (λ it. it.start) c.running.items; failed = c.failed.items } };
+    ghost view = { λ c. record { running = map (λ it. (it.start, Q.number it.child)) c.running.items; failed = c.failed.items } };
 
     ghost invariant = { λ c. 256 ≤ vec_capacity c.running };
 }
 
-impl<P: OpenProcess + Drop> Children<P> {
+impl<Q: Runner> Children<Q> {
     /// None that waits, and room for every program.
     pub fn new(alloc: Global) -> Result<Self, AllocError>
         ensures { IfOk result (λ children. children ≡ none_waits) }
@@ -60,9 +62,9 @@ impl<P: OpenProcess + Drop> Children<P> {
     }
 
     /// A start whose program runs.
-    pub fn run(&mut self, start: Start, child: Child<P>)
+    pub fn run(&mut self, start: Start, child: Q::Child)
         requires { length self.old.running < 256 }
-        ensures { self.new ≡ with_running start self.old }
+        ensures { self.new ≡ with_running (start, Q.number child) self.old }
     {
         let Ok(()) = self.running.push(Running { start, child }) else {
             unreachable!()
@@ -80,11 +82,11 @@ impl<P: OpenProcess + Drop> Children<P> {
 
     /// Takes out a start that has ended, with its value: the first that failed, and where none did the
     /// first whose program has ended.
-    pub fn ended(&mut self) -> Option<(Start, bool)>
-        ensures { Ends result self.old self.new }
+    pub fn ended(&mut self, runner: &mut Q) -> Option<(Start, bool)>
+        ensures { Ends result self.old self.new (Q.told runner.old) (Q.told runner.new) }
     {
         if self.failed.is_empty() {
-            take_ended(&mut self.running)
+            take_ended(runner, &mut self.running)
         } else {
             Some((self.failed.remove(0), false))
         }
@@ -109,38 +111,47 @@ fn make_room(failed: &mut ArrayVec<Start, 64>)
 }
 
 /// Takes out the first start whose program has ended, with its value.
-fn take_ended<P: OpenProcess + Drop>(running: &mut Vec<Running<P>>) -> Option<(Start, bool)>
+fn take_ended<Q: Runner>(runner: &mut Q, running: &mut Vec<Running<Q>>) -> Option<(Start, bool)>
+    ensures same { MatchOption result
+        (map {B = Program} (λ it. (it.start, Q.number it.child)) running.new.items ≡ map {B = Program} (λ it. (it.start, Q.number it.child)) running.old.items)
+        (λ _. Unit {0}) }
     ensures ends { MatchOption result
-        (map (λ it. it.start) running.new.items ≡ map (λ it. it.start) running.old.items)
-        (λ it. IsTakenOut it.0 (map (λ it. it.start) running.old.items) (map (λ it. it.start) running.new.items)) }
+        (Tells (all_run (map {B = Program} (λ it. (it.start, Q.number it.child)) running.old.items)) (Q.told runner.old) (Q.told runner.new))
+        (λ it. IsFirstEnded it (map {B = Program} (λ it. (it.start, Q.number it.child)) running.old.items) (map {B = Program} (λ it. (it.start, Q.number it.child)) running.new.items)
+            (Q.told runner.old) (Q.told runner.new)) }
     ensures capacity { vec_capacity running.new ≡ vec_capacity running.old }
 {
-    let (index, value) = first_ended(running)?;
-    let start = running[index].start;
+    let (index, ended) = first_ended(runner, running)?;
     running.remove(index);
-    Some((start, value))
+    Some(ended)
 }
 
-/// The first program that has ended, with its value.
-fn first_ended<P: OpenProcess>(running: &mut Vec<Running<P>>) -> Option<(usize, bool)>
-    ensures same { map (λ it. it.start) running.new.items ≡ map (λ it. it.start) running.old.items }
+/// The first program that has ended, with its start and value.
+fn first_ended<Q: Runner>(runner: &mut Q, running: &mut Vec<Running<Q>>) -> Option<(usize, (Start, bool))>
+    ensures same { map {B = Program} (λ it. (it.start, Q.number it.child)) running.new.items ≡ map {B = Program} (λ it. (it.start, Q.number it.child)) running.old.items }
+    ensures ends { MatchOption result
+        (Tells (all_run (map {B = Program} (λ it. (it.start, Q.number it.child)) running.old.items)) (Q.told runner.old) (Q.told runner.new))
+        (λ it. IsFirstEnded it.1 (map {B = Program} (λ it. (it.start, Q.number it.child)) running.old.items)
+            (remove (map {B = Program} (λ it. (it.start, Q.number it.child)) running.old.items) it.0) (Q.told runner.old) (Q.told runner.new)) }
     ensures inside { IfSome result (λ it. it.0 < length running.new.items) }
     ensures capacity { vec_capacity running.new ≡ vec_capacity running.old }
 {
-    first_ended_of(running.as_mut_slice())
+    first_ended_of(runner, running.as_mut_slice())
 }
 
-/// The first of these programs that has ended, with its value. One that cannot be waited for has ended and
-/// found false.
-fn first_ended_of<P: OpenProcess>(running: &mut [Running<P>]) -> Option<(usize, bool)>
-    ensures same { map (λ it. it.start) running.new ≡ map (λ it. it.start) running.old }
+/// The first of these programs that has ended, with its start and value. One that cannot be waited for has
+/// ended and found false.
+fn first_ended_of<Q: Runner>(runner: &mut Q, running: &mut [Running<Q>]) -> Option<(usize, (Start, bool))>
+    ensures same { map {B = Program} (λ it. (it.start, Q.number it.child)) running.new ≡ map {B = Program} (λ it. (it.start, Q.number it.child)) running.old }
+    ensures ends { MatchOption result
+        (Tells (all_run (map {B = Program} (λ it. (it.start, Q.number it.child)) running.old)) (Q.told runner.old) (Q.told runner.new))
+        (λ it. IsFirstEnded it.1 (map {B = Program} (λ it. (it.start, Q.number it.child)) running.old)
+            (remove (map {B = Program} (λ it. (it.start, Q.number it.child)) running.old) it.0) (Q.told runner.old) (Q.told runner.new)) }
     ensures inside { IfSome result (λ it. it.0 < length running.new) }
 {
     for (index, it) in running.iter_mut().enumerate() {
-        match it.child.try_wait() {
-            Ok(None) => {}
-            Ok(Some(status)) => return Some((index, status.success())),
-            Err(_) => return Some((index, false)),
+        if let Some(value) = runner.try_wait(&mut it.child).value() {
+            return Some((index, (it.start, value)));
         }
     }
     None

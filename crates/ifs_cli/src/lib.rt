@@ -3,8 +3,9 @@
 //! Contract: an answer on the bytes of a file has status 0 exactly where they are what its word asks for; its lines
 //! are then the budgets, counts, notes, lengths or text that they have, and else a fault that they have; its file is
 //! theirs. A file is read and an image written whole, as far as reader and writer tell their bytes; and a test that the
-//! host was told to start waits until its end is told, or a later start of it fails. The program itself, which has its
-//! command line and its sessions, stands over it.
+//! host was told to start waits until its end is told, or a later start of it fails. The host asks its runner once for
+//! each text, and tells what the runner answered, as far as the runner tells what it was asked. The program itself, which
+//! has its command line and its sessions, stands over it.
 #![tactic(auto)]
 
 pub mod answering;
@@ -19,5 +20,7 @@ pub mod files;
 pub mod images;
 mod lines;
 mod refusing;
+pub mod runner;
+pub mod runner_host;
 pub mod shell;
 pub mod task;
