@@ -1,8 +1,10 @@
 //! How the program ends.
 
 use crate::files::FileFault;
+use crate::refusing::Told;
 use crate::task::Task;
 use ifs_session::SessionFault;
+use ifs_verify::VerifyFault;
 use std::io;
 use std::process::ExitCode;
 
@@ -49,5 +51,11 @@ impl From<io::Error> for Ending {
 pub fn out_of_memory(rt: &impl Print, task: Task) -> Result<Ending, Ending> {
     let code = task.memory_code();
     println!(rt; "refused {code}")?;
+    Ok(Ending::Refused)
+}
+
+/// Prints the line that refuses an image, in the words that `verify` tells the fault in.
+pub fn refused_image(rt: &impl Print, fault: VerifyFault) -> Result<Ending, Ending> {
+    println!(rt; "refused {}", Told(fault))?;
     Ok(Ending::Refused)
 }

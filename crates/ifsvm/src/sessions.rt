@@ -1,7 +1,7 @@
 //! Sessions on standard input and output.
 
 use ifs_cli::answering::input_at;
-use ifs_cli::ending::{Ending, out_of_memory};
+use ifs_cli::ending::{Ending, out_of_memory, refused_image};
 use ifs_cli::task::Task;
 use ifs_core::Core;
 use ifs_session::{FromRead, RunFault, ToWrite, run_hex, simulate};
@@ -41,10 +41,7 @@ pub fn core_at<R: Files + Print + Alloc<A = Global>>(rt: &R, path: String) -> Re
     let image = input_at(rt, Task::Verify, path)?;
     match opened(rt.alloc(), image.as_slice()) {
         Ok(core) => Ok(core),
-        Err(fault) => {
-            println!(rt; "refused {fault}")?;
-            Err(Ending::Refused)
-        }
+        Err(fault) => Err(refused_image(rt, fault)?),
     }
 }
 
