@@ -27,10 +27,7 @@ fn main(rt: HostRuntime) -> ExitCode {
 }
 
 /// How the program ends once it has done what the command line asks for. An error is what keeps it from that.
-fn ending_of<R>(rt: &R) -> Result<Ending, Ending>
-where
-    R: Env + Files + Input + Print + Eprint + Net + Processes + Clock + Log + Alloc<A = Global>,
-{
+fn ending_of(rt: &HostRuntime) -> Result<Ending, Ending> {
     match command_line::read(rt)? {
         Asked::Session => sessions::by_hexadecimal(rt),
         Asked::Check { file, definitions } => {

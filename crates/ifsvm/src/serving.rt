@@ -28,11 +28,7 @@ const HELD: usize = 65_536;
 
 /// Serves the image of a file over a socket, until a client asks for the end. The socket's file is made
 /// here and removed at the end; one that is there already is a fault.
-pub fn serve<R: Files + Net + Processes + Clock + Log + Print + Alloc<A = Global>>(
-    rt: &R,
-    image: String,
-    socket: String,
-) -> Result<Ending, Ending> {
+pub fn serve(rt: &HostRuntime, image: String, socket: String) -> Result<Ending, Ending> {
     let mut core = core_at(rt, image)?;
     let Ok(mut host) = Shell::new(rt) else {
         return out_of_memory(rt, Task::Verify);
