@@ -85,9 +85,9 @@ one_more_runs f old now i d answer a b c same under none before last =
     let it = f (get_or now i d) in
     let stands : it ≡ get_or (map f old) i it = stands_at f old now i d same (under_now f old now i same under) in
     let more : all_run (take i (map f old)) ++ asked_once it.1 answer ≡ all_run (take (i + 1) (map f old)) =
-      ap (λ r. all_run (take i (map f old)) ++ asked_once it.1 r) (still_runs answer none)
-      ∙ ap (λ p. all_run (take i (map f old)) ++ asked_once p.1 Runs) stands
-      ∙ sym (map_more (λ p. Asked p.1 Runs) (map f old) i it (stands_under f old i under)) in
+    ap (λ r. all_run (take i (map f old)) ++ asked_once it.1 r) (still_runs answer none)
+    ∙ ap (λ p. all_run (take i (map f old)) ++ asked_once p.1 Runs) stands
+    ∙ sym (map_more (λ p. Asked p.1 Runs) (map f old) i it (stands_under f old i under)) in
     subst (λ log. Tells log a c) more (tells_both _ _ a b c before last)
 
 -- The first that has ended is taken out.
@@ -96,4 +96,4 @@ pub taken_by : {A : Type 0} (f : A → Program) (old now after : List A) (i : �
     → IsFirstEnded ended (map f old) (map f after) a c
 taken_by f old now after i ended a c same left found =
     subst (λ l. IsFirstEnded ended (map f old) l a c)
-      (ap (λ l. remove l i) (sym same) ∙ sym (map_removed f now i) ∙ ap (map f) (sym left)) found
+    (ap (λ l. remove l i) (sym same) ∙ sym (map_removed f now i) ∙ ap (map f) (sym left)) found

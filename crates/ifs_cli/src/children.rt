@@ -118,7 +118,7 @@ fn take_ended<Q: Runner>(runner: &mut Q, running: &mut Vec<Running<Q>>) -> Optio
     ensures ends { MatchOption result
         (Tells (all_run (map {B = Program} (λ it. (it.start, Q.number it.child)) running.old.items)) (Q.told runner.old) (Q.told runner.new))
         (λ it. IsFirstEnded it (map {B = Program} (λ it. (it.start, Q.number it.child)) running.old.items) (map {B = Program} (λ it. (it.start, Q.number it.child)) running.new.items)
-            (Q.told runner.old) (Q.told runner.new)) }
+        (Q.told runner.old) (Q.told runner.new)) }
     ensures capacity { vec_capacity running.new ≡ vec_capacity running.old }
 {
     let (index, ended) = first_ended(runner, running)?;
@@ -127,12 +127,15 @@ fn take_ended<Q: Runner>(runner: &mut Q, running: &mut Vec<Running<Q>>) -> Optio
 }
 
 /// The first program that has ended, with its start and value.
-fn first_ended<Q: Runner>(runner: &mut Q, running: &mut Vec<Running<Q>>) -> Option<(usize, (Start, bool))>
+fn first_ended<Q: Runner>(
+    runner: &mut Q,
+    running: &mut Vec<Running<Q>>,
+) -> Option<(usize, (Start, bool))>
     ensures same { map {B = Program} (λ it. (it.start, Q.number it.child)) running.new.items ≡ map {B = Program} (λ it. (it.start, Q.number it.child)) running.old.items }
     ensures ends { MatchOption result
         (Tells (all_run (map {B = Program} (λ it. (it.start, Q.number it.child)) running.old.items)) (Q.told runner.old) (Q.told runner.new))
         (λ it. IsFirstEnded it.1 (map {B = Program} (λ it. (it.start, Q.number it.child)) running.old.items)
-            (remove (map {B = Program} (λ it. (it.start, Q.number it.child)) running.old.items) it.0) (Q.told runner.old) (Q.told runner.new)) }
+        (remove (map {B = Program} (λ it. (it.start, Q.number it.child)) running.old.items) it.0) (Q.told runner.old) (Q.told runner.new)) }
     ensures inside { IfSome result (λ it. it.0 < length running.new.items) }
     ensures capacity { vec_capacity running.new ≡ vec_capacity running.old }
 {
@@ -141,12 +144,15 @@ fn first_ended<Q: Runner>(runner: &mut Q, running: &mut Vec<Running<Q>>) -> Opti
 
 /// The first of these programs that has ended, with its start and value. One that cannot be waited for has
 /// ended and found false.
-fn first_ended_of<Q: Runner>(runner: &mut Q, running: &mut [Running<Q>]) -> Option<(usize, (Start, bool))>
+fn first_ended_of<Q: Runner>(
+    runner: &mut Q,
+    running: &mut [Running<Q>],
+) -> Option<(usize, (Start, bool))>
     ensures same { map {B = Program} (λ it. (it.start, Q.number it.child)) running.new ≡ map {B = Program} (λ it. (it.start, Q.number it.child)) running.old }
     ensures ends { MatchOption result
         (Tells (all_run (map {B = Program} (λ it. (it.start, Q.number it.child)) running.old)) (Q.told runner.old) (Q.told runner.new))
         (λ it. IsFirstEnded it.1 (map {B = Program} (λ it. (it.start, Q.number it.child)) running.old)
-            (remove (map {B = Program} (λ it. (it.start, Q.number it.child)) running.old) it.0) (Q.told runner.old) (Q.told runner.new)) }
+        (remove (map {B = Program} (λ it. (it.start, Q.number it.child)) running.old) it.0) (Q.told runner.old) (Q.told runner.new)) }
     ensures inside { IfSome result (λ it. it.0 < length running.new) }
 {
     for (index, it) in running.iter_mut().enumerate() {
