@@ -123,6 +123,7 @@ const CHANGED: &str = "
 8 => iface \"x\"|iface \"x\"|state \"a\" init 0 body 0 tests - => A1 line 9
 8 => command \"x\"|command \"x\"|state \"a\" init 0 body 0 tests - => ok 67 bytes
 8 => command \"x\"|iface \"x\"|state \"a\" init 0 body 0 tests - => A3 line 9
+8 => iface \"x\"|command \"y\"|iface \"x\"|state \"a\" init 0 body 0 tests - => A1 line 10
 8 => command \"x\"|test 1 \"x\"|state \"a\" init 0 body 0 tests - => A3 line 9
 8 => test 0 \"x\"|state \"a\" init 0 body 0 tests - => A2 line 8
 8 => test 604801 \"x\"|state \"a\" init 0 body 0 tests - => A2 line 8
@@ -141,6 +142,7 @@ const CHANGED: &str = "
 10 => link 0 on => A1 line 10
 10 => link 65536 up => A2 line 10
 10 => ret|state \"b\" init 0 body 0 tests - => A3 line 11
+10 => ret|state \"a\" init 0 body 0 tests - => A1 line 11
 10 => ret ; back => A1 line 10
 ";
 
@@ -393,6 +395,44 @@ fn fills_each_table(rt: HostRuntime) -> Result<(), Fail> {
         let number = number.parse::<usize>()?;
         let count = count.parse::<usize>()?;
         check_table(&rt, rt.alloc(), number, line, count)?;
+    }
+    Ok(())
+}
+
+/// In each row: the line of the smallest image's text before which lines are put, such a line, how many of them, the lines
+/// that are put behind them, of which the last is out of its order, and the answer.
+const LATE: &str = "
+8 => iface \"#\" => 64 => command \"c\"|iface \"64\" => A2 line 73
+8 => iface \"#\" => 64 => command \"c\"|iface \"0\" => A1 line 73
+8 => iface \"#\" => 63 => command \"c\"|iface \"63\" => A3 line 72
+8 => iface \"#\" => 63 => command \"c\"|iface \"62\" => A1 line 72
+8 => test 1 \"#\" => 64 => command \"c\"|test 1 \"64\" => A2 line 73
+8 => test 1 \"#\" => 63 => command \"c\"|test 1 \"0\" => A3 line 72
+8 => command \"#\" => 1024 => state \"b\" init 0 body 0 tests -|command \"c\" => A2 line 1033
+8 => command \"#\" => 1023 => state \"b\" init 0 body 0 tests -|command \"0\" => A3 line 1032
+9 => state \"#\" init 0 body 0 tests - => 255 => routine results 0|state \"b\" init 0 body 0 tests - => A2 line 265
+9 => state \"#\" init 0 body 0 tests - => 255 => routine results 0|state \"a\" init 0 body 0 tests - => A1 line 265
+9 => state \"#\" init 0 body 0 tests - => 254 => routine results 0|state \"b\" init 0 body 0 tests - => A3 line 264
+9 => state \"#\" init 0 body 0 tests - => 254 => routine results 0|state \"253\" init 0 body 0 tests - => A1 line 264
+";
+
+/// Asserts what a row is answered with.
+fn check_late(rt: &impl Abort, alloc: Global, row: &str) -> Result<(), Fail> {
+    let (number, rest) = row.split_once(" => ").ok_or("a number")?;
+    let (line, rest) = rest.split_once(" => ").ok_or("a line")?;
+    let (count, rest) = rest.split_once(" => ").ok_or("a count")?;
+    let (late, wanted) = rest.split_once(" => ").ok_or("an answer")?;
+    let mut lines = many_lines(alloc, line, count.parse::<usize>()?)?;
+    let late = lines_of(alloc, late)?;
+    lines.push_str(late.as_str())?;
+    let text = with_lines(alloc, number.parse::<usize>()?, lines.as_str())?;
+    check_told(rt, alloc, text.as_str(), wanted, row)
+}
+
+#[test]
+fn an_order_comes_behind_names_and_counts(rt: HostRuntime) -> Result<(), Fail> {
+    for row in LATE.lines().filter(|row| !row.is_empty()) {
+        check_late(&rt, rt.alloc(), row)?;
     }
     Ok(())
 }
