@@ -4,6 +4,7 @@ use ifs_base::TestId;
 use ifs_cli::shell::Shell;
 use ifs_session::{Host, HostFault};
 use std::alloc::{Allocator, Global};
+use std::cell::Cell;
 use std::io::{self, Empty, ErrorKind, Sink};
 use std::ops::Range;
 use std::os::unix::process::ExitStatusExt;
@@ -53,10 +54,20 @@ impl OpenProcess for Actor {
     }
 }
 
-/// Starts a program for each text that it knows.
+/// Starts a program for each text that it knows, and counts how often it was asked.
 #[derive(Drop)]
 struct Stage {
     alloc: Global,
+    asked: Cell<u32>,
+}
+
+impl Stage {
+    fn new(alloc: Global) -> Stage {
+        Stage {
+            alloc,
+            asked: Cell::new(0),
+        }
+    }
 }
 
 impl Alloc for Stage {
@@ -77,6 +88,7 @@ impl Processes for Stage {
         _stdout: &Stdio,
         _stderr: &Stdio,
     ) -> io::Result<Child<Actor>> {
+        self.asked.set(self.asked.get().saturating_add(1));
         let fate = match command.get_args().last() {
             Some("exit 0") => Fate::Ended(0),
             Some("exit 3") => Fate::Ended(3 * 256),
@@ -114,7 +126,7 @@ fn check_polls(rt: &impl Abort, host: &mut Shell<'_, Stage>, ends: &[(u16, u64, 
 /// The first started that has ended is told first, each once; one that sleeps goes on.
 #[test]
 fn ended_tests_in_order(rt: HostRuntime) -> Result<(), Fail> {
-    let stage = Stage { alloc: rt.alloc() };
+    let stage = Stage::new(rt.alloc());
     let mut host = Shell::new(&stage)?;
     start_all(
         &mut host,
@@ -140,7 +152,7 @@ fn ended_tests_in_order(rt: HostRuntime) -> Result<(), Fail> {
 /// forgotten.
 #[test]
 fn failed_starts(rt: HostRuntime) -> Result<(), Fail> {
-    let stage = Stage { alloc: rt.alloc() };
+    let stage = Stage::new(rt.alloc());
     let mut host = Shell::new(&stage)?;
     start_all(
         &mut host,
@@ -167,7 +179,7 @@ fn check_runs(rt: &impl Abort, host: &mut Shell<'_, Stage>, runs: Range<u64>, va
 /// 256 programs run at once; a test beyond them is told as false.
 #[test]
 fn places(rt: HostRuntime) -> Result<(), Fail> {
-    let stage = Stage { alloc: rt.alloc() };
+    let stage = Stage::new(rt.alloc());
     let mut host = Shell::new(&stage)?;
     for run in 0..320 {
         host.start(TestId((run % 64) as u16), run, "exit 0");
@@ -195,8 +207,22 @@ fn check_commands(rt: &impl Abort, host: &mut Shell<'_, Stage>) {
 /// A command is waited for, and tells the number of its end.
 #[test]
 fn commands(rt: HostRuntime) -> Result<(), Fail> {
-    let stage = Stage { alloc: rt.alloc() };
+    let stage = Stage::new(rt.alloc());
     let mut host = Shell::new(&stage)?;
     check_commands(&rt, &mut host);
+    Ok(())
+}
+
+/// Each text is given to the shell once, also one that fails; a poll gives it none.
+#[test]
+fn each_text_once(rt: HostRuntime) -> Result<(), Fail> {
+    let stage = Stage::new(rt.alloc());
+    let mut host = Shell::new(&stage)?;
+    check_commands(&rt, &mut host);
+    assert_eq!(rt; stage.asked.get(), 5);
+    start_all(&mut host, &[(0, 1, "exit 3"), (1, 2, "no program")]);
+    assert_eq!(rt; stage.asked.get(), 7);
+    check_polls(&rt, &mut host, &[(1, 2, false), (0, 1, false)]);
+    assert_eq!(rt; stage.asked.get(), 7);
     Ok(())
 }
