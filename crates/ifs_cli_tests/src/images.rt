@@ -20,6 +20,7 @@ struct Folder {
     image: Cell<Option<usize>>,
     fresh: Cell<Option<usize>>,
     is_synced: Cell<bool>,
+    is_interrupted: Cell<bool>,
 }
 
 impl Folder {
@@ -30,6 +31,7 @@ impl Folder {
             image: Cell::new(image),
             fresh: Cell::new(None),
             is_synced: Cell::new(false),
+            is_interrupted: Cell::new(false),
         }
     }
 
@@ -65,9 +67,12 @@ impl Seek for Opened<'_> {
 }
 
 impl Write for Opened<'_> {
-    /// Takes two bytes at most.
+    /// Takes two bytes at most, once it was interrupted.
     fn write(&mut self, bytes: &[u8]) -> io::Result<usize> {
         self.0.called()?;
+        if !self.0.is_interrupted.replace(true) {
+            return Err(io::Error::from(ErrorKind::Interrupted));
+        }
         let count = bytes.len().min(2);
         let length = self.0.fresh.get().unwrap_or(0).saturating_add(count);
         self.0.fresh.set(Some(length));

@@ -10,6 +10,8 @@ mod assembly;
 #[cfg(test)]
 mod compiling;
 #[cfg(test)]
+mod devices;
+#[cfg(test)]
 mod hosts;
 #[cfg(test)]
 mod images;
