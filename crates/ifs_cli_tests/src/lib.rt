@@ -15,3 +15,5 @@ mod devices;
 mod hosts;
 #[cfg(test)]
 mod images;
+#[cfg(test)]
+mod largest;
