@@ -19,7 +19,7 @@ use Rattle.ifs_asm.specs.declared.line.Line.TheVariants as lines
 use Rattle.ifs_asm.specs.Texts.{front_lines, routine_lines}
 use Rattle.ifs_asm.specs.Refused.{EachBreaks, IsAmong, Repeats, IsLong, IsOver, IsOneTooMany, IsOutOfPlace}
 use Rattle.ifs_asm.specs.inner.Forms.{formed}
-use Rattle.ifs_asm.specs.inner.Building.{Built, listed_routine, current_len, parts_of}
+use Rattle.ifs_asm.specs.inner.Building.{Built, listed_routine, current_len, parts_said}
 use Rattle.ifs_asm.specs.inner.Building.{lines_said, has_name, is_full, line_in}
 use Rattle.ifs_asm.specs.inner.Reading.{Blames}
 use Rattle.ifs_asm.proofs.Bytes.{same_word}
@@ -68,7 +68,7 @@ state_in name (x ∷ xs) h = state_case name x xs (bytes_eq x.name name) refl h 
 
 repeats : (b : Built) (l : Line) → has_name b l ≡ true → Repeats (lines_said b) l
 repeats b (lines.Interface name) h =
-    let f = take b.front (front_lines (parts_of b)) in
+    let f = take b.front (front_lines (parts_said b)) in
     let i = f ++ map lines.Interface b.interfaces in
     let t = i ++ map lines.Test b.tests in
     let c = t ++ map lines.Command b.commands in
@@ -77,7 +77,7 @@ repeats b (lines.Interface name) h =
     in_left s (flat_map routine_lines (b.routines ++ listed_routine b.current)) l (in_left c (map lines.State b.states) l (in_left t (map lines.Command b.commands) l
     (in_left i (map lines.Test b.tests) l (in_right f (map lines.Interface b.interfaces) l (interface_in name b.interfaces h)))))
 repeats b (lines.State x) h =
-    let f = take b.front (front_lines (parts_of b)) in
+    let f = take b.front (front_lines (parts_said b)) in
     let c = f ++ map lines.Interface b.interfaces ++ map lines.Test b.tests ++ map lines.Command b.commands in
     let n = state_in x.name b.states h in
     let l = lines.State (record { name = x.name; handlers = n.handlers }) in
@@ -136,41 +136,41 @@ is_long before rs (Some r) h =
 
 over : (b : Built) (l : Line) → IsWithin b → is_full b l ≡ true → IsOver (lines_said b) l
 over b (lines.Interface name) w h = record {
-  before = take b.front (front_lines (parts_of b));
+  before = take b.front (front_lines (parts_said b));
   entries = b.interfaces;
   after = map lines.Test b.tests ++ (map lines.Command b.commands ++ (map lines.State b.states ++ flat_map routine_lines (b.routines ++ listed_routine b.current)));
-  whole = parted_two (take b.front (front_lines (parts_of b))) (map lines.Interface b.interfaces) (map lines.Test b.tests) (map lines.Command b.commands) (map lines.State b.states) (flat_map routine_lines (b.routines ++ listed_routine b.current));
+  whole = parted_two (take b.front (front_lines (parts_said b))) (map lines.Interface b.interfaces) (map lines.Test b.tests) (map lines.Command b.commands) (map lines.State b.states) (flat_map routine_lines (b.routines ++ listed_routine b.current));
   enough = no_room (length b.interfaces) 64 h;
 }
 over b (lines.Test t) w h = record {
-  before = take b.front (front_lines (parts_of b)) ++ map lines.Interface b.interfaces;
+  before = take b.front (front_lines (parts_said b)) ++ map lines.Interface b.interfaces;
   entries = b.tests;
   after = map lines.Command b.commands ++ (map lines.State b.states ++ flat_map routine_lines (b.routines ++ listed_routine b.current));
-  whole = parted_three (take b.front (front_lines (parts_of b))) (map lines.Interface b.interfaces) (map lines.Test b.tests) (map lines.Command b.commands) (map lines.State b.states) (flat_map routine_lines (b.routines ++ listed_routine b.current));
+  whole = parted_three (take b.front (front_lines (parts_said b))) (map lines.Interface b.interfaces) (map lines.Test b.tests) (map lines.Command b.commands) (map lines.State b.states) (flat_map routine_lines (b.routines ++ listed_routine b.current));
   enough = no_room (length b.tests) 64 h;
 }
 over b (lines.Command text) w h = record {
-  before = take b.front (front_lines (parts_of b)) ++ map lines.Interface b.interfaces ++ map lines.Test b.tests;
+  before = take b.front (front_lines (parts_said b)) ++ map lines.Interface b.interfaces ++ map lines.Test b.tests;
   entries = b.commands;
   after = map lines.State b.states ++ flat_map routine_lines (b.routines ++ listed_routine b.current);
-  whole = parted_four (take b.front (front_lines (parts_of b))) (map lines.Interface b.interfaces) (map lines.Test b.tests) (map lines.Command b.commands) (map lines.State b.states) (flat_map routine_lines (b.routines ++ listed_routine b.current));
+  whole = parted_four (take b.front (front_lines (parts_said b))) (map lines.Interface b.interfaces) (map lines.Test b.tests) (map lines.Command b.commands) (map lines.State b.states) (flat_map routine_lines (b.routines ++ listed_routine b.current));
   enough = no_room (length b.commands) 1024 h;
 }
 over b (lines.State x) w h = record {
-  before = take b.front (front_lines (parts_of b)) ++ map lines.Interface b.interfaces ++ map lines.Test b.tests ++ map lines.Command b.commands;
+  before = take b.front (front_lines (parts_said b)) ++ map lines.Interface b.interfaces ++ map lines.Test b.tests ++ map lines.Command b.commands;
   entries = b.states;
   after = flat_map routine_lines (b.routines ++ listed_routine b.current);
-  whole = parted_five (take b.front (front_lines (parts_of b))) (map lines.Interface b.interfaces) (map lines.Test b.tests) (map lines.Command b.commands) (map lines.State b.states) (flat_map routine_lines (b.routines ++ listed_routine b.current));
+  whole = parted_five (take b.front (front_lines (parts_said b))) (map lines.Interface b.interfaces) (map lines.Test b.tests) (map lines.Command b.commands) (map lines.State b.states) (flat_map routine_lines (b.routines ++ listed_routine b.current));
   enough = no_room (length b.states) 256 h;
 }
 over b (lines.Routine results) w h = record {
-  before = take b.front (front_lines (parts_of b)) ++ map lines.Interface b.interfaces ++ map lines.Test b.tests ++ map lines.Command b.commands ++ map lines.State b.states;
+  before = take b.front (front_lines (parts_said b)) ++ map lines.Interface b.interfaces ++ map lines.Test b.tests ++ map lines.Command b.commands ++ map lines.State b.states;
   routines = b.routines ++ listed_routine b.current;
   whole = refl;
   enough = no_room (length (b.routines ++ listed_routine b.current)) 1024 h;
 }
 over b (lines.Instruction op) w h =
-    let front = take b.front (front_lines (parts_of b)) ++ map lines.Interface b.interfaces ++ map lines.Test b.tests ++ map lines.Command b.commands ++ map lines.State b.states in
+    let front = take b.front (front_lines (parts_said b)) ++ map lines.Interface b.interfaces ++ map lines.Test b.tests ++ map lines.Command b.commands ++ map lines.State b.states in
     elim (either_true (not (nat_lt (current_len b.current) 1024)) (not (nat_lt b.count 8192)) h) [
       | inl p ↦ inl (is_long front b.routines b.current p)
       | inr p ↦ inr (record {

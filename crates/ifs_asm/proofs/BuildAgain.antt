@@ -21,8 +21,8 @@ use Rattle.ifs_image.specs.Reading.{stands_in}
 use Rattle.ifs_asm.specs.declared.line.Line.{Line}
 use Rattle.ifs_asm.specs.declared.line.Line.TheVariants as lines
 use Rattle.ifs_asm.specs.Texts.{front_lines, routine_lines, lines_of}
-use Rattle.ifs_asm.specs.inner.Building.{Built, listed_routine, parts_of, has_name, is_full}
-use Rattle.ifs_asm.specs.inner.Building.{is_in_order, with_line, step, built_of, nothing, is_none}
+use Rattle.ifs_asm.specs.inner.Building.{Built, listed_routine, parts_said, has_name, is_full}
+use Rattle.ifs_asm.specs.inner.Building.{is_in_order, with_line, one_line_more, built_of, nothing, is_none}
 
 -- ---- names
 
@@ -41,7 +41,7 @@ absent before name after apart = false_from_ne_true (stands_in name before) (λ 
 step_by : (x y z : Bool) (b : Built) → x ≡ false → y ≡ false → z ≡ true → cond (x || (y || not z)) None (Some b) ≡ Some b
 step_by x y z b ex ey ez = rw (ex, ey, ez) refl
 
-pub step_taken : (b : Built) (l : Line) → has_name b l ≡ false → is_full b l ≡ false → is_in_order b l ≡ true → step b l ≡ Some (with_line b l)
+pub step_taken : (b : Built) (l : Line) → has_name b l ≡ false → is_full b l ≡ false → is_in_order b l ≡ true → one_line_more b l ≡ Some (with_line b l)
 step_taken b l new room order = step_by (has_name b l) (is_full b l) (is_in_order b l) (with_line b l) new room order
 
 has_room : (n most : ℕ) → n < most → not (nat_lt n most) ≡ false
@@ -129,7 +129,7 @@ append_case (Some next) xs ys ih = ih next
 
 pub built_append : (b : Built) (xs ys : List Line) → built_of b (xs ++ ys) ≡ option_and_then (λ next. built_of next ys) (built_of b xs)
 built_append b [] ys = refl
-built_append b (x ∷ xs) ys = append_case (step b x) xs ys (λ next. built_append next xs ys)
+built_append b (x ∷ xs) ys = append_case (one_line_more b x) xs ys (λ next. built_append next xs ys)
 
 pub built_then : (b c : Built) (d : Option Built) (xs ys : List Line) → built_of b xs ≡ Some c → built_of c ys ≡ d → built_of b (xs ++ ys) ≡ d
 built_then b c d xs ys first second = built_append b xs ys ∙ ap (option_and_then (λ next. built_of next ys)) first ∙ second
@@ -170,7 +170,7 @@ routines_built p i t c s some (r ∷ more) rs current n fit few room =
 pub record IsBuilt (p : ImageParts) : Type 0 where
   pub after : Built
   pub built : built_of nothing (lines_of p) ≡ Some after
-  pub parts : parts_of after ≡ p
+  pub parts : parts_said after ≡ p
 
 some_states : (s : List StateSpec) → 1 ≤ length s → is_none s ≡ false
 some_states [] h = absurd (omega (arith, h))

@@ -20,8 +20,8 @@ use Rattle.ifs_image.proofs.Names.{AreDistinct-push}
 use Rattle.ifs_asm.specs.declared.line.Line.{Line}
 use Rattle.ifs_asm.specs.declared.line.Line.TheVariants as lines
 use Rattle.ifs_asm.specs.Texts.{routine_lines}
-use Rattle.ifs_asm.specs.inner.Building.{Built, listed_routine, current_len, parts_of, has_name, is_full}
-use Rattle.ifs_asm.specs.inner.Building.{is_in_order, with_line, with_op, step, line_in, built_by, nothing}
+use Rattle.ifs_asm.specs.inner.Building.{Built, listed_routine, current_len, parts_said, has_name, is_full}
+use Rattle.ifs_asm.specs.inner.Building.{is_in_order, with_line, with_op, one_line_more, line_in, built_by, nothing}
 use Rattle.ifs_asm.proofs.Bytes.{each_append, each_weaker}
 use Rattle.ifs_asm.specs.Refused.{LineFits, TextGood}
 use Rattle.ifs_asm.proofs.BuildFound.{image_said}
@@ -171,7 +171,7 @@ taken false false false b c h = absurd cc
 taken false true z b c h = absurd cc
 taken true y z b c h = absurd cc
 
-step_within : (b c : Built) (l : Line) → IsWithin b → step b l ≡ Some c → IsWithin c
+step_within : (b c : Built) (l : Line) → IsWithin b → one_line_more b l ≡ Some c → IsWithin c
 step_within b c l w h =
     let t = taken (has_name b l) (is_full b l) (is_in_order b l) (with_line b l) c h in
     subst IsWithin t.same (line_within b l w t.new t.room t.order)
@@ -179,8 +179,8 @@ step_within b c l w h =
 pub built_within : (b c : Built) (spoken : List (List ℕ)) → IsWithin b → built_by b spoken ≡ Some c → IsWithin c
 built_within b c [] w h = subst IsWithin (same_Some b c h) w
 built_within b c (bytes ∷ others) w h =
-    option_and_then_some (λ line. option_and_then (λ next. built_by next others) (step b line)) (line_in bytes) c h (λ line _ rest.
-    option_and_then_some (λ next. built_by next others) (step b line) c rest (λ next is_next last. built_within next c others (step_within b next line w is_next) last))
+    option_and_then_some (λ line. option_and_then (λ next. built_by next others) (one_line_more b line)) (line_in bytes) c h (λ line _ rest.
+    option_and_then_some (λ next. built_by next others) (one_line_more b line) c rest (λ next is_next last. built_within next c others (step_within b next line w is_next) last))
 
 -- ---- an image
 
@@ -188,9 +188,9 @@ routines_fit : (rs : List Routine) → AllByRecursion IsShort rs → AllByRecurs
 routines_fit rs code results = each_both IsShort (λ (r : Routine). r.results ≤ 1) RoutineFits (λ r short one. record { results = one; code = short }) rs code results
 
 -- What was built fits where it has a state.
-pub built_fits : (c : Built) (spoken : List (List ℕ)) → built_by nothing spoken ≡ Some c → 1 ≤ length c.states → Fits (parts_of c)
+pub built_fits : (c : Built) (spoken : List (List ℕ)) → built_by nothing spoken ≡ Some c → 1 ≤ length c.states → Fits (parts_said c)
 built_fits c spoken h some =
-    let p = parts_of c in
+    let p = parts_said c in
     let w = built_within nothing c spoken nothing_within h in
     let a = parted p (image_said c spoken h some).fit in
     record {
@@ -212,9 +212,9 @@ some_state : (states : List StateSpec) → (states ≡ [] → ⊥) → 1 ≤ len
 some_state [] never = absurd (never refl)
 some_state (s ∷ states) never = omega arith
 
-pub parts_fit : (c : Built) (spoken : List (List ℕ)) (p : ImageParts) (r : Bool) → built_by nothing spoken ≡ Some c → p ≡ parts_of c → (IsTrue r ↔ (p.states ≡ [])) → r ≡ false → Fits p
+pub parts_fit : (c : Built) (spoken : List (List ℕ)) (p : ImageParts) (r : Bool) → built_by nothing spoken ≡ Some c → p ≡ parts_said c → (IsTrue r ↔ (p.states ≡ [])) → r ≡ false → Fits p
 parts_fit c spoken p r h same tested is =
     subst Fits (sym same) (built_fits c spoken h (some_state c.states (λ none. iff_false tested is (ap (λ (q : ImageParts). q.states) same ∙ none))))
 
-pub parts_unfit : (c : Built) (p : ImageParts) (r : Bool) → p ≡ parts_of c → (IsTrue r ↔ (p.states ≡ [])) → r ≡ true → Fits (parts_of c) → ⊥
+pub parts_unfit : (c : Built) (p : ImageParts) (r : Bool) → p ≡ parts_said c → (IsTrue r ↔ (p.states ≡ [])) → r ≡ true → Fits (parts_said c) → ⊥
 parts_unfit c p r same tested is f = absurd (omega (arith, f.counts.some_state, ap length (sym (ap (λ (q : ImageParts). q.states) same) ∙ tested.0 is)))

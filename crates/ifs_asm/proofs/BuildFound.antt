@@ -16,8 +16,9 @@ use Rattle.ifs_asm.specs.declared.line.Line.{Line}
 use Rattle.ifs_asm.specs.declared.line.Line.TheVariants as lines
 use Rattle.ifs_asm.specs.Texts.{front_lines, routine_lines, lines_of}
 use Rattle.ifs_asm.specs.Spellings.{SaysLine}
-use Rattle.ifs_asm.specs.inner.Building.{Built, listed_routine, parts_of, lines_said, has_name, is_full}
-use Rattle.ifs_asm.specs.inner.Building.{is_in_order, with_line, with_op, step, line_in, built_by, nothing, is_none}
+use Rattle.ifs_asm.specs.inner.Building.{Built, listed_routine, parts_said, lines_said, has_name, is_full}
+use Rattle.ifs_asm.specs.inner.Building.{is_in_order, with_line, with_op, one_line_more, line_in, built_by}
+use Rattle.ifs_asm.specs.inner.Building.{nothing, is_none}
 use Rattle.ifs_asm.specs.Refused.{LineFits}
 use Rattle.ifs_asm.proofs.TextLaws.{line_in_found}
 
@@ -74,14 +75,14 @@ no_routines : (rs : List Routine) (o : Option Routine) → rs ≡ [] → o ≡ N
 no_routines rs o er eo = rw (er, none_listed o eo) refl
 
 -- Before the tables.
-before_tables : (b : Built) → Sound b → b.front < 7 → lines_said b ≡ take b.front (front_lines (parts_of b))
+before_tables : (b : Built) → Sound b → b.front < 7 → lines_said b ≡ take b.front (front_lines (parts_said b))
 before_tables b s lt =
     let none = s.current (s.states lt) in
-    said_front (take b.front (front_lines (parts_of b))) b.interfaces b.tests b.commands b.states (b.routines ++ listed_routine b.current) (s.interfaces lt) (s.tests lt) (s.commands lt) (s.states lt) (no_routines b.routines b.current (s.routines none) none)
+    said_front (take b.front (front_lines (parts_said b))) b.interfaces b.tests b.commands b.states (b.routines ++ listed_routine b.current) (s.interfaces lt) (s.tests lt) (s.commands lt) (s.states lt) (no_routines b.routines b.current (s.routines none) none)
 
 -- A line before the tables, of what was said and what is said with it.
 front_said : (b c : Built) (l : Line) (k : ℕ) → Sound b → b.front ≡ k → k < 7 → c.front ≡ suc k → c.interfaces ≡ b.interfaces → c.tests ≡ b.tests → c.commands ≡ b.commands → c.states ≡ b.states → c.routines ≡ b.routines → c.current ≡ b.current
-    → take (suc k) (front_lines (parts_of c)) ≡ take k (front_lines (parts_of b)) ++ l ∷ [] → IsSaid b c l
+    → take (suc k) (front_lines (parts_said c)) ≡ take k (front_lines (parts_said b)) ++ l ∷ [] → IsSaid b c l
 front_said b c l k s at lt next ei et ec es er eo more =
     let below : b.front < 7 = omega arith in
     let none = s.current (s.states below) in
@@ -94,10 +95,10 @@ front_said b c l k s at lt next ei et ec es er eo more =
       current = λ _. eo ∙ none;
       routines = λ _. er ∙ s.routines none;
     } in
-    let whole : lines_said c ≡ take c.front (front_lines (parts_of c)) = said_front (take c.front (front_lines (parts_of c))) c.interfaces c.tests c.commands c.states (c.routines ++ listed_routine c.current) (ei ∙ s.interfaces below) (et ∙ s.tests below) (ec ∙ s.commands below) (es ∙ s.states below) (no_routines c.routines c.current (er ∙ s.routines none) (eo ∙ none)) in
+    let whole : lines_said c ≡ take c.front (front_lines (parts_said c)) = said_front (take c.front (front_lines (parts_said c))) c.interfaces c.tests c.commands c.states (c.routines ++ listed_routine c.current) (ei ∙ s.interfaces below) (et ∙ s.tests below) (ec ∙ s.commands below) (es ∙ s.states below) (no_routines c.routines c.current (er ∙ s.routines none) (eo ∙ none)) in
     record {
       sound = now;
-      lines = whole ∙ ap (λ (n : ℕ). take n (front_lines (parts_of c))) next ∙ more ∙ ap (λ (n : ℕ). take n (front_lines (parts_of b)) ++ l ∷ []) (sym at) ∙ ap (λ (ls : List Line). ls ++ l ∷ []) (sym (before_tables b s below));
+      lines = whole ∙ ap (λ (n : ℕ). take n (front_lines (parts_said c))) next ∙ more ∙ ap (λ (n : ℕ). take n (front_lines (parts_said b)) ++ l ∷ []) (sym at) ∙ ap (λ (ls : List Line). ls ++ l ∷ []) (sym (before_tables b s below));
     }
 
 is_nil : {X : Type 0} (xs : List X) → is_none xs ≡ true → xs ≡ []
@@ -130,7 +131,7 @@ op_said : (b : Built) (op : Op) (o : Option Routine) → b.current ≡ o → Sou
 op_said b op None e s h = absurd cc
 op_said b op (Some r) e s h =
     let next : with_op op b.current ≡ Some (record r { code = r.code ++ op ∷ [] }) = ap (with_op op) e in
-    let front = take b.front (front_lines (parts_of b)) in
+    let front = take b.front (front_lines (parts_said b)) in
     record {
       sound = record {
         front = s.front;
@@ -163,7 +164,7 @@ line_said b (lines.Interface name) s o =
     let none = s.current (is_nil b.states r.1) in
     record {
       sound = record { front = s.front; interfaces = λ lt. absurd (omega arith); tests = s.tests; commands = s.commands; states = s.states; current = s.current; routines = s.routines };
-      lines = said_interface (take b.front (front_lines (parts_of b))) b.interfaces b.tests b.commands b.states (b.routines ++ listed_routine b.current) name (is_nil b.tests q.0) (is_nil b.commands r.0) (is_nil b.states r.1) (no_routines b.routines b.current (s.routines none) none);
+      lines = said_interface (take b.front (front_lines (parts_said b))) b.interfaces b.tests b.commands b.states (b.routines ++ listed_routine b.current) name (is_nil b.tests q.0) (is_nil b.commands r.0) (is_nil b.states r.1) (no_routines b.routines b.current (s.routines none) none);
     }
 line_said b (lines.Test t) s o =
     let p = and_parts (b.front == 7) (is_none b.commands && is_none b.states) o in
@@ -172,7 +173,7 @@ line_said b (lines.Test t) s o =
     let none = s.current (is_nil b.states r.1) in
     record {
       sound = record { front = s.front; interfaces = s.interfaces; tests = λ lt. absurd (omega arith); commands = s.commands; states = s.states; current = s.current; routines = s.routines };
-      lines = said_test (take b.front (front_lines (parts_of b))) b.interfaces b.tests b.commands b.states (b.routines ++ listed_routine b.current) t (is_nil b.commands r.0) (is_nil b.states r.1) (no_routines b.routines b.current (s.routines none) none);
+      lines = said_test (take b.front (front_lines (parts_said b))) b.interfaces b.tests b.commands b.states (b.routines ++ listed_routine b.current) t (is_nil b.commands r.0) (is_nil b.states r.1) (no_routines b.routines b.current (s.routines none) none);
     }
 line_said b (lines.Command text) s o =
     let p = and_parts (b.front == 7) (is_none b.states) o in
@@ -180,7 +181,7 @@ line_said b (lines.Command text) s o =
     let none = s.current (is_nil b.states p.1) in
     record {
       sound = record { front = s.front; interfaces = s.interfaces; tests = s.tests; commands = λ lt. absurd (omega arith); states = s.states; current = s.current; routines = s.routines };
-      lines = said_command (take b.front (front_lines (parts_of b))) b.interfaces b.tests b.commands b.states (b.routines ++ listed_routine b.current) text (is_nil b.states p.1) (no_routines b.routines b.current (s.routines none) none);
+      lines = said_command (take b.front (front_lines (parts_said b))) b.interfaces b.tests b.commands b.states (b.routines ++ listed_routine b.current) text (is_nil b.states p.1) (no_routines b.routines b.current (s.routines none) none);
     }
 line_said b (lines.State t) s o =
     let p = and_parts (b.front == 7) (not (is_some b.current)) o in
@@ -188,11 +189,11 @@ line_said b (lines.State t) s o =
     let none = no_current b.current p.1 in
     record {
       sound = record { front = s.front; interfaces = s.interfaces; tests = s.tests; commands = s.commands; states = λ lt. absurd (omega arith); current = λ _. none; routines = s.routines };
-      lines = said_state (take b.front (front_lines (parts_of b))) b.interfaces b.tests b.commands b.states (b.routines ++ listed_routine b.current) t (no_routines b.routines b.current (s.routines none) none);
+      lines = said_state (take b.front (front_lines (parts_said b))) b.interfaces b.tests b.commands b.states (b.routines ++ listed_routine b.current) t (no_routines b.routines b.current (s.routines none) none);
     }
 line_said b (lines.Routine results) s o = record {
   sound = record { front = s.front; interfaces = s.interfaces; tests = s.tests; commands = s.commands; states = s.states; current = λ e. absurd (nonempty b.states (not-true (is_none b.states) o) e); routines = λ e. absurd cc };
-  lines = said_routine (take b.front (front_lines (parts_of b))) b.interfaces b.tests b.commands b.states (b.routines ++ listed_routine b.current) (record { results = results; code = [] });
+  lines = said_routine (take b.front (front_lines (parts_said b))) b.interfaces b.tests b.commands b.states (b.routines ++ listed_routine b.current) (record { results = results; code = [] });
 }
 line_said b (lines.Instruction op) s o = op_said b op b.current refl s o
 
@@ -204,7 +205,7 @@ taken_case false false false b c h = absurd cc
 taken_case false true z b c h = absurd cc
 taken_case true y z b c h = absurd cc
 
-pub step_said : (b c : Built) (l : Line) → Sound b → step b l ≡ Some c → IsSaid b c l
+pub step_said : (b c : Built) (l : Line) → Sound b → one_line_more b l ≡ Some c → IsSaid b c l
 step_said b c l s h =
     let t = taken_case (has_name b l) (is_full b l) (is_in_order b l) (with_line b l) c h in
     subst (λ (d : Built). IsSaid b d l) t.1 (line_said b l s t.0)
@@ -220,8 +221,8 @@ pub record AreSaid (b c : Built) (spoken : List (List ℕ)) : Type 0 where
 pub built_said : (b c : Built) (spoken : List (List ℕ)) → Sound b → built_by b spoken ≡ Some c → AreSaid b c spoken
 built_said b c [] s h = record { more = []; says = tt; fit = tt; sound = subst Sound (same_Some b c h) s; lines = ap lines_said (sym (same_Some b c h)) ∙ sym (append-nil (lines_said b)) }
 built_said b c (bytes ∷ others) s h =
-    option_and_then_some (λ line. option_and_then (λ next. built_by next others) (step b line)) (line_in bytes) c h (λ line is_line rest.
-    option_and_then_some (λ next. built_by next others) (step b line) c rest (λ next is_next last.
+    option_and_then_some (λ line. option_and_then (λ next. built_by next others) (one_line_more b line)) (line_in bytes) c h (λ line is_line rest.
+    option_and_then_some (λ next. built_by next others) (one_line_more b line) c rest (λ next is_next last.
     let f = line_in_found bytes line is_line in
     let one = step_said b next line s is_next in
     let all = built_said next c others one.sound last in
@@ -242,8 +243,8 @@ some_state : (s : List StateSpec) → s ≡ [] → 1 ≤ length s → ⊥
 some_state [] e h = absurd (omega (arith, h))
 some_state (x ∷ xs) e h = absurd cc
 
-pub full_front : (b : Built) → b.front ≡ 7 → lines_said b ≡ lines_of (parts_of b)
-full_front b e = ap (λ (n : ℕ). said (take n (front_lines (parts_of b))) b.interfaces b.tests b.commands b.states (b.routines ++ listed_routine b.current)) e
+pub full_front : (b : Built) → b.front ≡ 7 → lines_said b ≡ lines_of (parts_said b)
+full_front b e = ap (λ (n : ℕ). said (take n (front_lines (parts_said b))) b.interfaces b.tests b.commands b.states (b.routines ++ listed_routine b.current)) e
 
 pub front_is : (c : Built) → Sound c → 1 ≤ length c.states → c.front ≡ 7
 front_is c s some = elim (cases_lt c.front 7) [
@@ -251,9 +252,9 @@ front_is c s some = elim (cases_lt c.front 7) [
   | inr le ↦ omega (arith, s.front)
 ]
 
-pub image_said : (c : Built) (spoken : List (List ℕ)) → built_by nothing spoken ≡ Some c → 1 ≤ length c.states → IsSpoken (parts_of c) spoken
+pub image_said : (c : Built) (spoken : List (List ℕ)) → built_by nothing spoken ≡ Some c → 1 ≤ length c.states → IsSpoken (parts_said c) spoken
 image_said c spoken h some =
     let a = built_said nothing c spoken nothing_sound h in
     let at : c.front ≡ 7 = front_is c a.sound some in
-    let same : a.more ≡ lines_of (parts_of c) = sym a.lines ∙ full_front c at in
+    let same : a.more ≡ lines_of (parts_said c) = sym a.lines ∙ full_front c at in
     record { says = subst (AllZip SaysLine spoken) same a.says; fit = subst (AllByRecursion LineFits) same a.fit }

@@ -13,7 +13,8 @@ use Rattle.ifs_image.specs.Limits.{HandlersInRange, RoutineFits}
 use Rattle.ifs_asm.specs.declared.line.Line.{Line}
 use Rattle.ifs_asm.specs.declared.line.Line.TheVariants as lines
 use Rattle.ifs_asm.specs.Refused.{LinesGoOn, speaking}
-use Rattle.ifs_asm.specs.inner.Building.{Built, parts_of, lines_said, with_line, step, built_by, built_of, nothing}
+use Rattle.ifs_asm.specs.inner.Building.{Built, parts_said, lines_said, with_line, one_line_more, built_by}
+use Rattle.ifs_asm.specs.inner.Building.{built_of, nothing}
 use Rattle.ifs_asm.specs.Refused.{TextGood, LineFits}
 use Rattle.ifs_asm.proofs.TextLaws.{LineWritten, bare, lines_say}
 use Rattle.ifs_asm.proofs.BuildAgain.{image_built, step_taken, built_append}
@@ -33,7 +34,7 @@ record Completes (b : Built) : Type 0 where
   built : built_of b others ≡ Some after
   some : 1 ≤ length after.states
 
-first_line : (b : Built) (l : Line) → step b l ≡ Some (with_line b l) → LineFits l → LineWritten l → Completes (with_line b l) → Completes b
+first_line : (b : Built) (l : Line) → one_line_more b l ≡ Some (with_line b l) → LineFits l → LineWritten l → Completes (with_line b l) → Completes b
 first_line b l one fits written c = record {
   others = l ∷ c.others;
   after = c.after;
@@ -116,7 +117,7 @@ record MoreSaid (b c : Built) (ls : List Line) : Type 0 where
 more_said : (b c : Built) (ls : List Line) → Sound b → built_of b ls ≡ Some c → MoreSaid b c ls
 more_said b c [] s h = record { sound = subst Sound (same_Some b c h) s; lines = ap lines_said (sym (same_Some b c h)) ∙ sym (append-nil (lines_said b)) }
 more_said b c (l ∷ ls) s h =
-    option_and_then_some (λ next. built_of next ls) (step b l) c h (λ next is_next rest.
+    option_and_then_some (λ next. built_of next ls) (one_line_more b l) c h (λ next is_next rest.
     let one = step_said b next l s is_next in
     let all = more_said next c ls one.sound rest in
     record { sound = all.sound; lines = all.lines ∙ ap (λ (k : List Line). k ++ ls) one.lines ∙ append_assoc (lines_said b) (l ∷ []) ls })
@@ -134,7 +135,7 @@ goes_on done b h =
     let bytes = speaking done ++ map bare c.others in
     let again : built_by b (map bare c.others) ≡ built_of b c.others = built_same (map bare c.others) c.others b (lines_say c.others c.written) c.fit in
     let all : built_by nothing bytes ≡ Some c.after = by_append (speaking done) (map bare c.others) nothing ∙ ap (option_and_then (λ next. built_by next (map bare c.others))) h ∙ again ∙ c.built in
-    let p = parts_of c.after in
+    let p = parts_said c.after in
     record {
       go_on = record {
         said = a.more;

@@ -6,7 +6,7 @@ use Rattle.std.specs.List.{prefix_len, AllByRecursion, AllZip}
 use Rattle.std.proofs.lemmas.Bool.{and_parts, both_ways, ne_eqb, not-true}
 use Rattle.std.proofs.lemmas.List.{append-nil, map-append, take_at, drop_at, take-append-drop}
 use Rattle.ifs_asm.specs.Texts.{Word}
-use Rattle.ifs_asm.specs.Spellings.{is_blank, IsSpelling, EndsWord, HaveWords}
+use Rattle.ifs_asm.specs.Spellings.{is_space_or_tab, IsSpelling, EndsWord, HaveWords}
 use Rattle.ifs_asm.specs.inner.Words.{Mode, Bare, Inside, Escaped, mode_after, ends_at, word_len}
 use Rattle.ifs_asm.specs.inner.Words.{after_blanks, word_of, after_word, first_then, words_up_to}
 
@@ -55,17 +55,17 @@ ends_behind mode (b ∷ bs) = ends_case mode b bs (ends_at mode b) refl (ends_be
 -- ---- blanks
 
 abbrev pub AreBlank : List ℕ → Type 0
-AreBlank bytes = AllByRecursion (λ byte. is_blank byte ≡ true) bytes
+AreBlank bytes = AllByRecursion (λ byte. is_space_or_tab byte ≡ true) bytes
 
-after_blank : (b : ℕ) (bs : List ℕ) → is_blank b ≡ true → after_blanks (b ∷ bs) ≡ after_blanks bs
+after_blank : (b : ℕ) (bs : List ℕ) → is_space_or_tab b ≡ true → after_blanks (b ∷ bs) ≡ after_blanks bs
 after_blank b bs e =
-    let k : 1 + prefix_len is_blank bs ≡ suc (prefix_len is_blank bs) = omega arith in
+    let k : 1 + prefix_len is_space_or_tab bs ≡ suc (prefix_len is_space_or_tab bs) = omega arith in
     rw e (rw k refl)
 
 -- Bytes that do not begin with a blank.
 abbrev pub IsTight : List ℕ → Type 0
 IsTight [] = Unit {0}
-IsTight (b ∷ bs) = is_blank b ≡ false
+IsTight (b ∷ bs) = is_space_or_tab b ≡ false
 
 tight : (bytes : List ℕ) → IsTight bytes → after_blanks bytes ≡ bytes
 tight [] e = refl
@@ -75,15 +75,15 @@ pub after_gap : (gap rest : List ℕ) → AreBlank gap → IsTight rest → afte
 after_gap [] rest blank e = tight rest e
 after_gap (b ∷ gap) rest blank e = after_blank b (gap ++ rest) blank.0 ∙ after_gap gap rest blank.1 e
 
-gap_case : (b : ℕ) (bs : List ℕ) (t : Bool) → is_blank b ≡ t → AreBlank (take (prefix_len is_blank bs) bs) → AreBlank (take (cond t (1 + prefix_len is_blank bs) 0) (b ∷ bs))
+gap_case : (b : ℕ) (bs : List ℕ) (t : Bool) → is_space_or_tab b ≡ t → AreBlank (take (prefix_len is_space_or_tab bs) bs) → AreBlank (take (cond t (1 + prefix_len is_space_or_tab bs) 0) (b ∷ bs))
 gap_case b bs true e ih =
-    let k : 1 + prefix_len is_blank bs ≡ suc (prefix_len is_blank bs) = omega arith in
+    let k : 1 + prefix_len is_space_or_tab bs ≡ suc (prefix_len is_space_or_tab bs) = omega arith in
     subst (λ (n : ℕ). AreBlank (take n (b ∷ bs))) (sym k) (e, ih)
 gap_case b bs false e ih = tt
 
-gap_is : (bytes : List ℕ) → AreBlank (take (prefix_len is_blank bytes) bytes)
+gap_is : (bytes : List ℕ) → AreBlank (take (prefix_len is_space_or_tab bytes) bytes)
 gap_is [] = tt
-gap_is (b ∷ bs) = gap_case b bs (is_blank b) refl (gap_is bs)
+gap_is (b ∷ bs) = gap_case b bs (is_space_or_tab b) refl (gap_is bs)
 
 -- ---- what is cut has these words
 
@@ -106,7 +106,7 @@ found_in n ih (w ∷ ws) bytes gap (b ∷ bs) lt blank whole z = record {
 pub cut_found : (n : ℕ) (words : List Word) (bytes : List ℕ) → length words < n → AllZip Spelled (words_up_to n bytes) words → HaveWords words bytes
 cut_found zero words bytes lt z = absurd (omega arith)
 cut_found (suc n) words bytes lt z =
-    found_in n (cut_found n) words bytes (take (prefix_len is_blank bytes) bytes) (after_blanks bytes) lt (gap_is bytes) (sym (take-append-drop (prefix_len is_blank bytes) bytes)) z
+    found_in n (cut_found n) words bytes (take (prefix_len is_space_or_tab bytes) bytes) (after_blanks bytes) lt (gap_is bytes) (sym (take-append-drop (prefix_len is_space_or_tab bytes) bytes)) z
 
 -- ---- what has these words is cut so
 
@@ -117,7 +117,7 @@ pub record IsOneWord (bytes : List ℕ) : Type 0 where
 
 starts_tight : (first rest : List ℕ) → IsOneWord first → IsTight (first ++ rest)
 starts_tight [] rest o = absurd (omega (arith, o.some))
-starts_tight (b ∷ bs) rest o = not-true (is_blank b) (and_parts (not (is_blank b)) (runs (mode_after Bare b) bs) o.runs_on).0
+starts_tight (b ∷ bs) rest o = not-true (is_space_or_tab b) (and_parts (not (is_space_or_tab b)) (runs (mode_after Bare b) bs) o.runs_on).0
 
 first_is : (others : List ℕ → List (List ℕ)) (first rest : List ℕ) → IsOneWord first → EndsWord rest → first_then others (first ++ rest) ≡ first ∷ others rest
 first_is others [] rest o ends = absurd (omega (arith, o.some))

@@ -20,9 +20,10 @@ use Rattle.ifs_asm.specs.declared.line.Line.TheVariants as lines
 use Rattle.ifs_asm.specs.Texts.{words_of, handlers_words}
 use Rattle.ifs_asm.specs.Spellings.{IsQuoted}
 use Rattle.ifs_asm.specs.inner.Words.{Start, text_from, in_utf8, mask_in}
-use Rattle.ifs_asm.specs.inner.Forms.{plain_op, indexed_op, link_state, up_to, number_up_to, sized, sized_text}
-use Rattle.ifs_asm.specs.inner.Forms.{period, period_in, number_line, two_words, routine_line, link_line, test_line}
-use Rattle.ifs_asm.specs.inner.Forms.{three_words, handlers_of, handlers_in, always_line, state_line, line_of}
+use Rattle.ifs_asm.specs.inner.Forms.{plain_op, indexed_op, link_state_in, up_to, number_up_to, text_within, sized_text}
+use Rattle.ifs_asm.specs.inner.Forms.{period_within, period_in, number_line, two_words, routine_line, link_line}
+use Rattle.ifs_asm.specs.inner.Forms.{test_line}
+use Rattle.ifs_asm.specs.inner.Forms.{three_words, numbered_handlers, handlers_in, always_line, state_line, line_of}
 use Rattle.ifs_asm.proofs.Bytes.{same_word}
 use Rattle.ifs_asm.proofs.Quotes.{text_found, no_nul}
 use Rattle.ifs_asm.proofs.MaskLists.{mask_found, mask_small}
@@ -42,7 +43,7 @@ up_cases : (most : ℕ) (word : List ℕ) (H : Option ℕ → Type 0) → H None
 up_cases most word H none some = cases_of (number_of word) (λ o. H (option_and_then (up_to most) o)) none (λ n e. up_case most n H none (some n e))
 
 period_cases : (word : List ℕ) (H : Option ℕ → Type 0) → H None → ((n : ℕ) → number_of word ≡ Some n → PeriodFits n → H (Some n)) → H (period_in word)
-period_cases word H none some = cases_of (number_of word) (λ o. H (option_and_then period o)) none (λ n e.
+period_cases word H none some = cases_of (number_of word) (λ o. H (option_and_then period_within o)) none (λ n e.
     cond_both (nat_lt 0 n && nat_lt n 604801) (Some n) None H
     (λ t.
     let p = and_parts (nat_lt 0 n) (nat_lt n 604801) t in
@@ -50,8 +51,8 @@ period_cases word H none some = cases_of (number_of word) (λ o. H (option_and_t
     (λ _. none))
 
 text_cases : (word : List ℕ) (H : Option (List ℕ) → Type 0) → H None → ((text : List ℕ) → IsQuoted text word → TextGood text → H (Some text)) → H (sized_text word)
-text_cases word H none some = cases_of (text_from word Start) (λ o. H (option_and_then sized (option_and_then in_utf8 o))) none (λ text e.
-    cond_both (is_utf8 text) (Some text) None (λ o. H (option_and_then sized o))
+text_cases word H none some = cases_of (text_from word Start) (λ o. H (option_and_then text_within (option_and_then in_utf8 o))) none (λ text e.
+    cond_both (is_utf8 text) (Some text) None (λ o. H (option_and_then text_within o))
     (λ u. cond_both (nat_lt 0 (length text) && nat_lt (length text) 1025) (Some text) None H
     (λ t.
     let p = and_parts (nat_lt 0 (length text)) (nat_lt (length text) 1025) t in
@@ -64,7 +65,7 @@ text_cases word H none some = cases_of (text_from word Start) (λ o. H (option_a
 handlers_cases : (a init b body c tests : List ℕ) (H : Option Handlers → Type 0) → H None
     → ((h : Handlers) → AllZip Spelled (a ∷ init ∷ b ∷ body ∷ c ∷ tests ∷ []) (handlers_words h) → HandlersInRange h → H (Some h)) → H (handlers_in a init b body c tests)
 handlers_cases a init b body c tests H none some =
-    cond_both (bytes_eq a (codes "init") && (bytes_eq b (codes "body") && bytes_eq c (codes "tests"))) (handlers_of init body tests) None H
+    cond_both (bytes_eq a (codes "init") && (bytes_eq b (codes "body") && bytes_eq c (codes "tests"))) (numbered_handlers init body tests) None H
     (λ t.
     let p = and_parts (bytes_eq a (codes "init")) (bytes_eq b (codes "body") && bytes_eq c (codes "tests")) t in
     let q = and_parts (bytes_eq b (codes "body")) (bytes_eq c (codes "tests")) p.1 in
@@ -139,7 +140,7 @@ two_found name word =
     pick (name ∷ word ∷ []) name (codes "command") _ _ (texted name (codes "command") word lines.Command (λ t e is good. ((e, (is, tt)), good)))
     (number_found name word)))
 
-state_cases : (word : List ℕ) (H : Option LinkState → Type 0) → H None → ((s : LinkState) → word ≡ link_word s → H (Some s)) → H (link_state word)
+state_cases : (word : List ℕ) (H : Option LinkState → Type 0) → H None → ((s : LinkState) → word ≡ link_word s → H (Some s)) → H (link_state_in word)
 state_cases word H none some =
     cond_both (bytes_eq word (codes "unknown")) _ _ H (λ e. some Unknown (same_word word (codes "unknown") e)) (λ _.
     cond_both (bytes_eq word (codes "down")) _ _ H (λ e. some Down (same_word word (codes "down") e)) (λ _.
@@ -147,7 +148,7 @@ state_cases word H none some =
 
 link_found : (name first second : List ℕ) → name ≡ codes "link" → Gives (name ∷ first ∷ second ∷ []) (link_line first second)
 link_found name first second e =
-    up_cases 65535 first (λ o. Gives (name ∷ first ∷ second ∷ []) (option_and_then (λ n. option_map (λ s. lines.Instruction (Link (record { 0 = n }) s)) (link_state second)) o)) tt (λ n is le.
+    up_cases 65535 first (λ o. Gives (name ∷ first ∷ second ∷ []) (option_and_then (λ n. option_map (λ s. lines.Instruction (Link (record { 0 = n }) s)) (link_state_in second)) o)) tt (λ n is le.
     state_cases second (λ o. Gives (name ∷ first ∷ second ∷ []) (option_map (λ s. lines.Instruction (Link (record { 0 = n }) s)) o)) tt (λ s at. ((e, (is, (at, tt))), omega (arith, le))))
 
 test_found : (name first second : List ℕ) → name ≡ codes "test" → Gives (name ∷ first ∷ second ∷ []) (test_line first second)

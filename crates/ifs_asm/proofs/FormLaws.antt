@@ -19,7 +19,7 @@ use Rattle.ifs_asm.specs.declared.line.Line.TheVariants as lines
 use Rattle.ifs_asm.specs.Texts.{Word, Key, Number, Quoted, Tests, words_of, op_words, handlers_words, tests_of}
 use Rattle.ifs_asm.specs.Spellings.{IsSpelling, IsQuoted, IsList}
 use Rattle.ifs_asm.specs.Refused.{TextGood, LineFits}
-use Rattle.ifs_asm.specs.inner.Forms.{number_up_to, sized_text, period_in, handlers_of, line_of}
+use Rattle.ifs_asm.specs.inner.Forms.{number_up_to, sized_text, period_in, numbered_handlers, line_of}
 use Rattle.ifs_asm.proofs.Quotes.{text_again}
 use Rattle.ifs_asm.proofs.MaskLists.{mask_again}
 use Rattle.ifs_asm.proofs.Cutting.{Spelled}
@@ -45,7 +45,7 @@ period_again n word is fits =
     let within : nat_lt n 604801 ≡ true = lt-ltb _ _ (omega (arith, fits.within)) in
     rw (is, some, within) refl
 
-handlers_again : (h : Handlers) (init body tests : List ℕ) → number_of init ≡ Some h.init.0 → number_of body ≡ Some h.body.0 → IsList (tests_of h.mask) tests → HandlersInRange h → handlers_of init body tests ≡ Some h
+handlers_again : (h : Handlers) (init body tests : List ℕ) → number_of init ≡ Some h.init.0 → number_of body ≡ Some h.body.0 → IsList (tests_of h.mask) tests → HandlersInRange h → numbered_handlers init body tests ≡ Some h
 handlers_again h init body tests i b m r =
     let first = number_again 65535 h.init.0 init i (omega (arith, r.init)) in
     let second = number_again 65535 h.body.0 body b (omega (arith, r.body)) in

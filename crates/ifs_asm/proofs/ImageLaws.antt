@@ -22,7 +22,7 @@ use Rattle.ifs_asm.specs.declared.line.Line.{Line}
 use Rattle.ifs_asm.specs.declared.line.Line.TheVariants as lines
 use Rattle.ifs_asm.specs.Texts.{words_of, op_words, front_lines, routine_lines, lines_of, canonical}
 use Rattle.ifs_asm.specs.Spellings.{SaysLine, spoken, TextSpells}
-use Rattle.ifs_asm.specs.inner.Building.{Built, parts_of, step, line_in, built_by, built_of, nothing}
+use Rattle.ifs_asm.specs.inner.Building.{Built, parts_said, one_line_more, line_in, built_by, built_of, nothing}
 use Rattle.ifs_asm.proofs.Bytes.{each_append, each_weaker}
 use Rattle.ifs_asm.specs.Refused.{LineFits, TextGood}
 use Rattle.ifs_asm.proofs.TextLaws.{WordFits, LineWritten, line_in_again, spoken_lines, lines_say}
@@ -221,7 +221,7 @@ same_case None others ls ih = refl
 same_case (Some next) others ls ih = ih next
 
 same_step : (b : Built) (bytes : List ℕ) (l : Line) (others : List (List ℕ)) (ls : List Line) → line_in bytes ≡ Some l → ((next : Built) → built_by next others ≡ built_of next ls) → built_by b (bytes ∷ others) ≡ built_of b (l ∷ ls)
-same_step b bytes l others ls is ih = rw is (same_case (step b l) others ls ih)
+same_step b bytes l others ls is ih = rw is (same_case (one_line_more b l) others ls ih)
 
 pub built_same : (spoken : List (List ℕ)) (ls : List Line) (b : Built) → AllZip SaysLine spoken ls → AllByRecursion LineFits ls → built_by b spoken ≡ built_of b ls
 built_same [] [] b z fit = refl
@@ -233,7 +233,7 @@ built_same (x ∷ xs) (l ∷ ls) b z fit = same_step b x l xs ls (line_in_again 
 pub record IsRead (text : List ℕ) (p : ImageParts) : Type 0 where
   pub after : Built
   pub built : built_by nothing (spoken text) ≡ Some after
-  pub parts : parts_of after ≡ p
+  pub parts : parts_said after ≡ p
 
 pub read_again : (text : List ℕ) (p : ImageParts) → TextSpells text p → IsRead text p
 read_again text p s =
@@ -241,10 +241,10 @@ read_again text p s =
     record { after = b.after; built = built_same (spoken text) (lines_of p) nothing s.says (lines_fit p s.fits s.in_range) ∙ b.built; parts = b.parts }
 
 -- What is built of a text, and fits, is spelled by it.
-pub read_found : (text : List ℕ) (b : Built) → built_by nothing (spoken text) ≡ Some b → Fits (parts_of b) → TextSpells text (parts_of b)
+pub read_found : (text : List ℕ) (b : Built) → built_by nothing (spoken text) ≡ Some b → Fits (parts_said b) → TextSpells text (parts_said b)
 read_found text b h f =
     let s = image_said b (spoken text) h f.counts.some_state in
-    record { fits = f; in_range = range_of (parts_of b) s.fit; says = s.says }
+    record { fits = f; in_range = range_of (parts_said b) s.fit; says = s.says }
 
 -- Nothing is spelled where nothing is built, nor where what is built does not fit.
 pub read_none : (text : List ℕ) (p : ImageParts) → built_by nothing (spoken text) ≡ None → TextSpells text p → ⊥
@@ -252,11 +252,11 @@ read_none text p h s =
     let r = read_again text p s in
     none-some r.after (sym h ∙ r.built)
 
-pub read_unfit : (text : List ℕ) (b : Built) (p : ImageParts) → built_by nothing (spoken text) ≡ Some b → (Fits (parts_of b) → ⊥) → TextSpells text p → ⊥
+pub read_unfit : (text : List ℕ) (b : Built) (p : ImageParts) → built_by nothing (spoken text) ≡ Some b → (Fits (parts_said b) → ⊥) → TextSpells text p → ⊥
 read_unfit text b p h unfit s =
     let r = read_again text p s in
     let same : b ≡ r.after = same_Some b r.after (sym h ∙ r.built) in
-    unfit (subst Fits (sym (ap parts_of same ∙ r.parts)) s.fits)
+    unfit (subst Fits (sym (ap parts_said same ∙ r.parts)) s.fits)
 
 -- ---- the laws
 
@@ -264,7 +264,7 @@ pub one_image : (text : List ℕ) (p q : ImageParts) → TextSpells text p → T
 one_image text p q a b =
     let first = read_again text p a in
     let second = read_again text q b in
-    sym first.parts ∙ ap parts_of (same_Some first.after second.after (sym first.built ∙ second.built)) ∙ second.parts
+    sym first.parts ∙ ap parts_said (same_Some first.after second.after (sym first.built ∙ second.built)) ∙ second.parts
 
 pub canonical_spells : (p : ImageParts) → Fits p → InRange p → TextSpells (canonical p) p
 unfolding canonical

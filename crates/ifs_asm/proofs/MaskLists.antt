@@ -18,7 +18,7 @@ use Rattle.std.proofs.Math.Nat.{pow-le-pow_right}
 use Rattle.ifs_base.specs.Words.{listed}
 use Rattle.ifs_base.specs.Numbers.{number_of}
 use Rattle.ifs_asm.specs.Texts.{tests_from, tests_of}
-use Rattle.ifs_asm.specs.Spellings.{is_blank, IsList}
+use Rattle.ifs_asm.specs.Spellings.{is_space_or_tab, IsList}
 use Rattle.ifs_asm.specs.inner.Words.{Bare, with_test, masked, mask_in}
 use Rattle.ifs_asm.proofs.Bytes.{IsDigit, number_digits, number_nonempty, number_decimal}
 use Rattle.ifs_asm.proofs.Bytes.{digit_is_not, each_append, each_weaker, same_word}
@@ -242,7 +242,7 @@ mask_again mask word small l = again_in mask l.parts word (tests_of mask) small 
 -- ---- a list is one word
 
 abbrev IsSolid : ℕ → Type 0
-IsSolid byte = (is_blank byte ≡ false) × ((byte == 34) ≡ false)
+IsSolid byte = (is_space_or_tab byte ≡ false) × ((byte == 34) ≡ false)
 
 digit_solid : (b : ℕ) → IsDigit b → IsSolid b
 digit_solid b d = (or_from (b == 32) (b == 9) (digit_is_not b 32 d (inl (omega arith))) (digit_is_not b 9 d (inl (omega arith))), digit_is_not b 34 d (inl (omega arith)))

@@ -20,7 +20,7 @@ use Rattle.ifs_asm.specs.declared.line.Line.{Line}
 use Rattle.ifs_asm.specs.declared.line.Line.TheVariants as lines
 use Rattle.ifs_asm.specs.Texts.{front_lines, routine_lines}
 use Rattle.ifs_asm.specs.Refused.{IsAmong, Repeats, HasMany, EndsWith, IsLong, IsOver}
-use Rattle.ifs_asm.specs.inner.Building.{Built, listed_routine, current_len, parts_of, lines_said, has_name, is_full}
+use Rattle.ifs_asm.specs.inner.Building.{Built, listed_routine, current_len, parts_said, lines_said, has_name, is_full}
 use Rattle.ifs_asm.proofs.Bytes.{same_itself}
 use Rattle.ifs_asm.proofs.BuildFits.{IsWithin}
 use Rattle.ifs_asm.proofs.BuildFound.{Sound}
@@ -84,12 +84,12 @@ picked_parts pick f i t c s r = simp flat_map-append
 
 -- What is picked of all that was said, table by table.
 picked_said : {A : Type 0} (pick : Line → List A) (b : Built) (i t c s r : List A)
-    → AllByRecursion (λ l. pick l ≡ []) (front_lines (parts_of b)) → flat_map pick (map lines.Interface b.interfaces) ≡ i → flat_map pick (map lines.Test b.tests) ≡ t → flat_map pick (map lines.Command b.commands) ≡ c
+    → AllByRecursion (λ l. pick l ≡ []) (front_lines (parts_said b)) → flat_map pick (map lines.Interface b.interfaces) ≡ i → flat_map pick (map lines.Test b.tests) ≡ t → flat_map pick (map lines.Command b.commands) ≡ c
     → flat_map pick (map lines.State b.states) ≡ s → flat_map pick (flat_map routine_lines (b.routines ++ listed_routine b.current)) ≡ r → flat_map pick (lines_said b) ≡ i ++ t ++ c ++ s ++ r
 picked_said pick b i t c s r front ei et ec es er =
-    let f = take b.front (front_lines (parts_of b)) in
+    let f = take b.front (front_lines (parts_said b)) in
     let whole = picked_parts pick f (map lines.Interface b.interfaces) (map lines.Test b.tests) (map lines.Command b.commands) (map lines.State b.states) (flat_map routine_lines (b.routines ++ listed_routine b.current)) in
-    whole ∙ (rw (picked_take pick b.front (front_lines (parts_of b)) front, ei, et, ec, es, er) refl)
+    whole ∙ (rw (picked_take pick b.front (front_lines (parts_said b)) front, ei, et, ec, es, er) refl)
 
 only_first : {A : Type 0} (xs : List A) → xs ++ [] ++ [] ++ [] ++ [] ≡ xs
 only_first xs = simp append-nil
@@ -274,7 +274,7 @@ over_none b (lines.Routine results) w s free h =
     absurd (omega (arith, has_room (length rs) 1024 free, h.enough, results_listed h.routines, results_said b, end_listed results_of (λ routines. 1024 ≤ length routines) (lines_said b) h))
 over_none b (lines.Instruction op) w s free h =
     let p = or_parts (not (nat_lt (current_len b.current) 1024)) (not (nat_lt b.count 8192)) free in
-    let front = take b.front (front_lines (parts_of b)) ++ map lines.Interface b.interfaces ++ map lines.Test b.tests ++ map lines.Command b.commands ++ map lines.State b.states in
+    let front = take b.front (front_lines (parts_said b)) ++ map lines.Interface b.interfaces ++ map lines.Test b.tests ++ map lines.Command b.commands ++ map lines.State b.states in
     elim h [
       | inl long ↦ long_none front b.routines b.current s.routines (ops_said b) (has_room (current_len b.current) 1024 p.0) long
       | inr e ↦ absurd (omega (arith, has_room b.count 8192 p.1, w.together, e.enough, ops_listed e.routines, ops_said b, end_listed op_of (λ routines. 8192 ≤ instructions routines) (lines_said b) e))

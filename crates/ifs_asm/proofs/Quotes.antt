@@ -8,8 +8,8 @@ use Rattle.std.proofs.lemmas.Bool.Decides.{nat_tests}
 use Rattle.std.proofs.lemmas.List.Elements.{All-from_recursion}
 use Rattle.ifs_base.specs.Words.{hex_digit, quoted_byte, quoted}
 use Rattle.ifs_asm.specs.Spellings.{is_plain, StandsForByte, itself, escaped, hexadecimal, StandFor, IsQuoted}
-use Rattle.ifs_asm.specs.inner.Words.{Inside, Quote, Start, Within, Backslash, High, Low, Done, Turn, Goes, Gives}
-use Rattle.ifs_asm.specs.inner.Words.{Stops, hex_value, high_turn, low_turn, turn, onto, after_turn, text_from}
+use Rattle.ifs_asm.specs.inner.Words.{Inside, Quote, Start, Within, Backslash, High, Low, Done, QuoteTurn, Goes, Gives}
+use Rattle.ifs_asm.specs.inner.Words.{Stops, hex_value, high_turn, low_turn, quote_turn, onto, after_turn, text_from}
 use Rattle.ifs_asm.proofs.Cutting.{runs, IsOneWord}
 
 -- ---- hexadecimal digits
@@ -99,18 +99,18 @@ FoundAt Done bytes text = (bytes ≡ []) × (text ≡ [])
 abbrev FoundFrom : List ℕ → Type 0
 FoundFrom bytes = (quote : Quote) (text : List ℕ) → text_from bytes quote ≡ Some text → FoundAt quote bytes text
 
--- A turn where an answer says what P says.
-abbrev After : List ℕ → List ℕ → Type 0 → Turn → Type 0
+-- A quote_turn where an answer says what P says.
+abbrev After : List ℕ → List ℕ → Type 0 → QuoteTurn → Type 0
 After bytes text P t = after_turn (text_from bytes) t ≡ Some text → P
 
-start_found : (b : ℕ) (bs text : List ℕ) → FoundFrom bs → After bs text (IsQuoted text (b ∷ bs)) (turn Start b)
+start_found : (b : ℕ) (bs text : List ℕ) → FoundFrom bs → After bs text (IsQuoted text (b ∷ bs)) (quote_turn Start b)
 start_found b bs text ih = cond_both (b == 34) (Goes Within) Stops (After bs text (IsQuoted text (b ∷ bs)))
     (λ e h.
     let f = ih Within text h in
     record { inside = f.inside; stand = f.stand; whole = ap (λ (x : ℕ). x ∷ bs) (eqb-true b 34 e) ∙ ap (λ (t : List ℕ). 34 ∷ t) f.whole })
     (λ e h. absurd cc)
 
-within_found : (b : ℕ) (bs text : List ℕ) → FoundFrom bs → After bs text (Ended text (b ∷ bs)) (turn Within b)
+within_found : (b : ℕ) (bs text : List ℕ) → FoundFrom bs → After bs text (Ended text (b ∷ bs)) (quote_turn Within b)
 within_found b bs text ih =
     let P = After bs text (Ended text (b ∷ bs)) in
     cond_both (b == 34) (Goes Done) (cond (b == 92) (Goes Backslash) (cond (is_plain b) (Gives b) Stops)) P
@@ -125,7 +125,7 @@ within_found b bs text ih =
     subst (λ (t : List ℕ). Ended t (b ∷ bs)) (sym o.2) (one_more b (b ∷ []) bs o.0 (b ∷ bs) (itself e refl) refl (ih Within o.0 o.1)))
     (λ _ h. absurd cc)))
 
-backslash_found : (b : ℕ) (bs text : List ℕ) → FoundFrom bs → After bs text (Ended text (92 ∷ b ∷ bs)) (turn Backslash b)
+backslash_found : (b : ℕ) (bs text : List ℕ) → FoundFrom bs → After bs text (Ended text (92 ∷ b ∷ bs)) (quote_turn Backslash b)
 backslash_found b bs text ih =
     let P = After bs text (Ended text (92 ∷ b ∷ bs)) in
     cond_both ((b == 34) || (b == 92)) (Gives b) (cond (b == 120) (Goes High) Stops) P

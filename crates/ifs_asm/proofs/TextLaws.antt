@@ -17,7 +17,7 @@ use Rattle.ifs_asm.specs.declared.line.Line.{Line}
 use Rattle.ifs_asm.specs.declared.line.Line.TheVariants as lines
 use Rattle.ifs_asm.specs.Texts.{Word, Key, Number, Quoted, Tests, written}
 use Rattle.ifs_asm.specs.Texts.{words_of, op_words, tests_of, spaced, line_text}
-use Rattle.ifs_asm.specs.Spellings.{is_blank, is_plain, is_silent, StandsForByte, itself, escaped}
+use Rattle.ifs_asm.specs.Spellings.{is_space_or_tab, is_plain, is_silent, StandsForByte, itself, escaped}
 use Rattle.ifs_asm.specs.Spellings.{hexadecimal, StandFor, IsSpelling, EndsWord, HaveWords, SaysLine, spoken}
 use Rattle.ifs_asm.specs.inner.Words.{Bare, words_up_to}
 use Rattle.ifs_asm.specs.inner.Building.{line_in}
@@ -52,7 +52,7 @@ all_good (w ∷ ws) = good_word w && all_good ws
 abbrev good_start : List Word → Bool
 good_start [] = false
 good_start (Key [] ∷ ws) = false
-good_start (Key (b ∷ k) ∷ ws) = not (is_blank b) && not (b == 59)
+good_start (Key (b ∷ k) ∷ ws) = not (is_space_or_tab b) && not (b == 59)
 good_start (Number n ∷ ws) = false
 good_start (Quoted text ∷ ws) = false
 good_start (Tests mask ∷ ws) = false
@@ -254,8 +254,8 @@ start_speaks : (ws : List Word) → good_start ws ≡ true → is_silent (spaced
 start_speaks [] good = absurd cc
 start_speaks (Key [] ∷ ws) good = absurd cc
 start_speaks (Key (b ∷ k) ∷ ws) good =
-    let p = and_parts (not (is_blank b)) (not (b == 59)) good in
-    let blank = not-true (is_blank b) p.0 in
+    let p = and_parts (not (is_space_or_tab b)) (not (b == 59)) good in
+    let blank = not-true (is_space_or_tab b) p.0 in
     let comment = not-true (b == 59) p.1 in
     rw (blank, comment) refl
 start_speaks (Number n ∷ ws) good = absurd cc

@@ -10,8 +10,8 @@ use Rattle.ifs_asm.specs.declared.line.Line.{Line}
 use Rattle.ifs_asm.specs.Texts.{Word, Key, Number, Quoted, Tests, tests_of, words_of, lines_of}
 
 -- A space or a tab.
-abbrev pub is_blank : ℕ → Bool
-is_blank byte = (byte == 32) || (byte == 9)
+abbrev pub is_space_or_tab : ℕ → Bool
+is_space_or_tab byte = (byte == 32) || (byte == 9)
 
 -- A byte that may stand in quotes as it is: no control character, no quote and no backslash.
 abbrev pub is_plain : ℕ → Bool
@@ -59,14 +59,14 @@ IsSpelling (Tests mask) bytes = IsList (tests_of mask) bytes
 -- Nothing follows a word, or a blank.
 abbrev pub EndsWord : List ℕ → Type 0
 EndsWord [] = Unit {0}
-EndsWord (byte ∷ bytes) = is_blank byte ≡ true
+EndsWord (byte ∷ bytes) = is_space_or_tab byte ≡ true
 
 -- Bytes begin, after blanks or none, with a spelling of a word that ends there, and the others have the words after it.
 pub record FirstWord (word : Word) (Others : List ℕ → Type 0) (bytes : List ℕ) : Type 0 where
   pub gap : List ℕ
   pub first : List ℕ
   pub rest : List ℕ
-  pub blank : AllByRecursion (λ byte. is_blank byte ≡ true) gap
+  pub blank : AllByRecursion (λ byte. is_space_or_tab byte ≡ true) gap
   pub spelling : IsSpelling word first
   pub ends : EndsWord rest
   pub others : Others rest
@@ -74,7 +74,7 @@ pub record FirstWord (word : Word) (Others : List ℕ → Type 0) (bytes : List 
 
 -- Bytes have these words, and blanks.
 abbrev pub HaveWords : List Word → List ℕ → Type 0
-HaveWords [] bytes = AllByRecursion (λ byte. is_blank byte ≡ true) bytes
+HaveWords [] bytes = AllByRecursion (λ byte. is_space_or_tab byte ≡ true) bytes
 HaveWords (word ∷ words) bytes = FirstWord word (HaveWords words) bytes
 
 -- Bytes without newline say a line.
@@ -84,7 +84,7 @@ SaysLine bytes line = HaveWords (words_of line) bytes
 -- An empty line and a comment say nothing: after blanks or none nothing stands there, or a semicolon.
 abbrev pub is_silent : List ℕ → Bool
 is_silent [] = true
-is_silent (byte ∷ bytes) = if is_blank byte then is_silent bytes else byte == 59
+is_silent (byte ∷ bytes) = if is_space_or_tab byte then is_silent bytes else byte == 59
 
 -- The lines of a text that say something. It is cut at newlines; what follows the last one may be a line, too.
 unfoldable pub spoken : List ℕ → List (List ℕ)

@@ -12,7 +12,7 @@ ghost use Rattle.ifs_asm.specs.declared.line.Line.TheVariants as lines;
 ghost use Rattle.ifs_asm.specs.inner.Forms.{formed};
 ghost use Rattle.ifs_asm.specs.inner.Reading.{Blames};
 ghost use Rattle.ifs_asm.specs.inner.Building.{Built, has_name, is_full, is_in_order};
-ghost use Rattle.ifs_asm.specs.inner.Building.{with_line, step, nothing, parts_of};
+ghost use Rattle.ifs_asm.specs.inner.Building.{with_line, one_line_more, nothing, parts_said};
 
 use crate::fault::LineFault;
 use crate::forms::Formed;
@@ -49,7 +49,7 @@ pub(crate) struct Building {
 
 impl Model for Building {
     ghost use Rattle.ifs_asm.specs.inner.Reading.{Blames};
-    ghost use Rattle.ifs_asm.specs.inner.Building.{Built, opened};
+    ghost use Rattle.ifs_asm.specs.inner.Building.{Built, current_routine};
 
     ghost Value = { Built };
 
@@ -63,7 +63,7 @@ impl Model for Building {
       commands = a.commands.items;
       states = a.states.items;
       routines = a.routines.items;
-      current = opened a.current a.code.items;
+      current = current_routine a.current a.code.items;
       count = a.count;
     } };
 }
@@ -102,8 +102,8 @@ impl Building {
     /// Takes a line that fits a form.
     pub(crate) fn take(&mut self, form: Formed) -> Result<(), LineFault>
         ensures taken { MatchResult result
-            (λ _. option_and_then (step self.old) (formed (Some form)) ≡ Some self.new)
-            (λ fault. fault ≢ faults.Memory → option_and_then (step self.old) (formed (Some form)) ≡ None) }
+            (λ _. option_and_then (one_line_more self.old) (formed (Some form)) ≡ Some self.new)
+            (λ fault. fault ≢ faults.Memory → option_and_then (one_line_more self.old) (formed (Some form)) ≡ None) }
         ensures blamed { IfErr result (λ fault. Blames self.old (formed (Some form)) fault) }
     {
         self.check(&form)?;
@@ -114,8 +114,8 @@ impl Building {
     /// Whether a line may be said now: its name is new, it is in its range, its table has room, and it is in order.
     fn check(&self, form: &Formed) -> Result<(), LineFault>
         ensures taken { MatchResult result
-            (λ _. option_and_then (step self.now) (formed (Some form.now)) ≡ Some (with_line self.now form.now.line))
-            (λ _. option_and_then (step self.now) (formed (Some form.now)) ≡ None) }
+            (λ _. option_and_then (one_line_more self.now) (formed (Some form.now)) ≡ Some (with_line self.now form.now.line))
+            (λ _. option_and_then (one_line_more self.now) (formed (Some form.now)) ≡ None) }
         ensures blamed { IfErr result (λ fault. Blames self.now (formed (Some form.now)) fault) }
     {
         if self.has_name(&form.line) {
@@ -302,7 +302,7 @@ impl Building {
 
     /// The parts that were said.
     pub(crate) fn finish(self) -> Result<ImageParts, AllocError>
-        ensures { IfOk result (λ parts. parts ≡ parts_of self) }
+        ensures { IfOk result (λ parts. parts ≡ parts_said self) }
     {
         let Building {
             budgets,

@@ -2,9 +2,9 @@
 
 ghost use Rattle.std.specs.Prelude.{◌≡◌, ◌≤◌, ◌&&◌, ℕ, IfOk, IfSome, length, map, nat_lt, option_map};
 ghost use Rattle.ifs_asm.specs.declared.line.Line.TheVariants as lines;
-ghost use Rattle.ifs_asm.specs.inner.Forms.{plain_op, indexed_op, link_state, number_up_to, sized_text, period_in};
+ghost use Rattle.ifs_asm.specs.inner.Forms.{plain_op, indexed_op, link_state_in, number_up_to, sized_text, period_in};
 ghost use Rattle.ifs_asm.specs.inner.Forms.{version, indexed_line, number_line, two_words, routine_line, link_line};
-ghost use Rattle.ifs_asm.specs.inner.Forms.{test_line, three_words, handlers_in, handlers_of, always_line};
+ghost use Rattle.ifs_asm.specs.inner.Forms.{test_line, three_words, handlers_in, numbered_handlers, always_line};
 ghost use Rattle.ifs_asm.specs.inner.Forms.{state_line, line_of, formed, bounded, sized_by, handlers_by};
 
 use crate::line::Line;
@@ -337,7 +337,7 @@ fn link_line(number: &[u8], state: &[u8]) -> Option<Formed>
 }
 
 fn link_state(word: &[u8]) -> Option<LinkState>
-    ensures { result ≡ link_state word.now }
+    ensures { result ≡ link_state_in word.now }
 {
     if word == b"unknown".as_slice() {
         Some(LinkState::Unknown)
@@ -395,7 +395,7 @@ fn handlers_in(words: HandlersWords<'_>) -> Option<HandlersForm>
 
 /// Handlers, by two numbers and a list.
 fn handlers_of(init: &[u8], body: &[u8], tests: &[u8]) -> Option<HandlersForm>
-    ensures { handlers_by result ≡ handlers_of init.now body.now tests.now }
+    ensures { handlers_by result ≡ numbered_handlers init.now body.now tests.now }
 {
     let init = number_up_to(init, INDEX)?;
     let body = number_up_to(body, INDEX)?;

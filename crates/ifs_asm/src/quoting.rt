@@ -6,7 +6,7 @@ ghost use Rattle.std.specs.Option.{option_map};
 ghost use Rattle.std.specs.List.{flat_map, prefix_len};
 ghost use Rattle.ifs_asm.specs.Spellings.{is_plain};
 ghost use Rattle.ifs_asm.specs.inner.Words.{Start, Within, Backslash, High, text_in, text_from};
-ghost use Rattle.ifs_asm.specs.inner.Words.{in_utf8, turn, after_turn, given, hex_value, onto, ending};
+ghost use Rattle.ifs_asm.specs.inner.Words.{in_utf8, quote_turn, after_turn, given, hex_value, onto, ending};
 ghost use Rattle.ifs_base.specs.Words.{quoted_byte, quoted};
 
 use crate::plain::{begins_plain, plain_run};
@@ -193,8 +193,8 @@ fn escape_at(bytes: &[u8]) -> Option<Escape<'_>>
 fn escape_by(kind: u8, rest: &[u8]) -> Option<Escape<'_>>
     ensures text { MatchOption
         result
-        (after_turn (text_from rest.now) (turn Backslash kind) ≡ None)
-        (λ escape. after_turn (text_from rest.now) (turn Backslash kind) ≡ onto escape.byte (text_from escape.rest.now Within)) }
+        (after_turn (text_from rest.now) (quote_turn Backslash kind) ≡ None)
+        (λ escape. after_turn (text_from rest.now) (quote_turn Backslash kind) ≡ onto escape.byte (text_from escape.rest.now Within)) }
     ensures shorter { IfSome result (λ escape. length escape.rest.now ≤ length rest.now) }
 {
     if kind == b'"' || kind == b'\\' {

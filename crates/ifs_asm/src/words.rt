@@ -2,7 +2,7 @@
 
 ghost use Rattle.std.specs.Prelude.{◌≡◌, ◌≤◌, ◌+◌, length, map};
 ghost use Rattle.std.specs.List.{prefix_len};
-ghost use Rattle.ifs_asm.specs.Spellings.{is_blank, is_silent};
+ghost use Rattle.ifs_asm.specs.Spellings.{is_space_or_tab, is_silent};
 ghost use Rattle.ifs_asm.specs.inner.Words.{Bare, Inside, mode_after, goes_on, word_len, after_blanks, words_up_to};
 
 use crate::plain::run_in_quotes;
@@ -53,14 +53,14 @@ fn after_blanks(bytes: &[u8]) -> &[u8]
 
 /// How many blanks stand at the front.
 fn blanks(bytes: &[u8]) -> usize
-    ensures value { result ≡ prefix_len is_blank bytes.now }
+    ensures value { result ≡ prefix_len is_space_or_tab bytes.now }
     ensures within { result ≤ length bytes.now }
 {
     bytes.iter().take_while(|byte| is_blank(**byte)).count()
 }
 
 fn is_blank(byte: u8) -> bool
-    ensures { result ≡ is_blank byte }
+    ensures { result ≡ is_space_or_tab byte }
 {
     byte == b' ' || byte == b'\t'
 }

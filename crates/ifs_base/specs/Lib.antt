@@ -4,4 +4,5 @@ pub mod Sizes
 pub mod Spelling
 pub mod Words
 pub mod Numbers
+pub mod Results
 pub mod inner

@@ -1,23 +1,24 @@
 -- What waits, where programs are asked about and taken out.
-use Rattle.std.proofs.Common.{◌≡◌, ℕ, zero, suc, ◌+◌, ◌<◌, Bool, List, [], ◌∷◌, ◌++◌, length, take, drop, Option, Some, None}
+use Rattle.std.proofs.Common.{◌≡◌, ℕ, zero, suc, ◌+◌, ◌<◌, Bool, List, [], ◌∷◌, ◌++◌, length, take, drop}
+use Rattle.std.proofs.Common.{Option, Some, None}
 use Rattle.std.proofs.Common.{map, remove, get_or, refl, ap, sym, subst, ◌∙◌, arith, rules, append_assoc, append-nil}
 use Rattle.std.proofs.lemmas.List.{length-map, map_more, get_or-map}
 use Rattle.ifs_sched.specs.declared.start.Start.{Start}
 use Rattle.ifs_cli.specs.declared.runner.Waited.{Waited}
 use Rattle.ifs_cli.specs.declared.runner.Waited.TheVariants.{Runs, Succeeded, Failed, Lost}
 use Rattle.ifs_cli.specs.declared.runner.RunnerEvent.TheVariants.{Asked}
-use Rattle.ifs_cli.specs.Runners.{RunnerLog, Tells, asked_once, test_value}
+use Rattle.ifs_cli.specs.Runners.{RunnerLog, RunnerTells, asked_once, test_value}
 use Rattle.ifs_cli.specs.Children.{Program, all_run, IsFirstEnded}
 
 -- What a runner tells, after one thing came to its log and then another.
-pub tells_both : (more last : RunnerLog) (a b c : Option RunnerLog) → Tells more a b → Tells last b c → Tells (more ++ last) a c
+pub tells_both : (more last : RunnerLog) (a b c : Option RunnerLog) → RunnerTells more a b → RunnerTells last b c → RunnerTells (more ++ last) a c
 tells_both more last a b None p q = tt
 tells_both more last a None (Some z) p q = absurd q
 tells_both more last None (Some y) (Some z) p q = absurd p
 tells_both more last (Some x) (Some y) (Some z) p q = q ∙ ap (λ log. log ++ last) p ∙ append_assoc x more last
 
 -- Nothing came to it.
-pub tells_nothing : (told : Option RunnerLog) → Tells [] told told
+pub tells_nothing : (told : Option RunnerLog) → RunnerTells [] told told
 tells_nothing None = tt
 tells_nothing (Some log) = sym (append-nil log)
 
@@ -60,7 +61,7 @@ under_now f old now i same under =
 -- The first that has ended is found.
 pub first_found : {A : Type 0} (f : A → Program) (old now : List A) (i : ℕ) (d : A) (value : Bool) (answer : Waited)
     (a b c : Option RunnerLog) → map f now ≡ map f old → i < length old → test_value answer ≡ Some value
-    → Tells (all_run (take i (map f old))) a b → Tells (asked_once (f (get_or now i d)).1 answer) b c
+    → RunnerTells (all_run (take i (map f old))) a b → RunnerTells (asked_once (f (get_or now i d)).1 answer) b c
     → IsFirstEnded ((f (get_or now i d)).0, value) (map f old) (remove (map f old) i) a c
 first_found f old now i d value answer a b c same under ended before last =
     let it = f (get_or now i d) in
@@ -79,8 +80,8 @@ first_found f old now i d value answer a b c same under ended before last =
 -- One more still runs.
 pub one_more_runs : {A : Type 0} (f : A → Program) (old now : List A) (i : ℕ) (d : A) (answer : Waited)
     (a b c : Option RunnerLog) → map f now ≡ map f old → i < length old → test_value answer ≡ None
-    → Tells (all_run (take i (map f old))) a b → Tells (asked_once (f (get_or now i d)).1 answer) b c
-    → Tells (all_run (take (i + 1) (map f old))) a c
+    → RunnerTells (all_run (take i (map f old))) a b → RunnerTells (asked_once (f (get_or now i d)).1 answer) b c
+    → RunnerTells (all_run (take (i + 1) (map f old))) a c
 one_more_runs f old now i d answer a b c same under none before last =
     let it = f (get_or now i d) in
     let stands : it ≡ get_or (map f old) i it = stands_at f old now i d same (under_now f old now i same under) in
@@ -88,7 +89,7 @@ one_more_runs f old now i d answer a b c same under none before last =
     ap (λ r. all_run (take i (map f old)) ++ asked_once it.1 r) (still_runs answer none)
     ∙ ap (λ p. all_run (take i (map f old)) ++ asked_once p.1 Runs) stands
     ∙ sym (map_more (λ p. Asked p.1 Runs) (map f old) i it (stands_under f old i under)) in
-    subst (λ log. Tells log a c) more (tells_both _ _ a b c before last)
+    subst (λ log. RunnerTells log a c) more (tells_both _ _ a b c before last)
 
 -- The first that has ended is taken out.
 pub taken_by : {A : Type 0} (f : A → Program) (old now after : List A) (i : ℕ) (ended : Start × Bool) (a c : Option RunnerLog)

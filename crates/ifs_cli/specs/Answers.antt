@@ -6,7 +6,7 @@ use Rattle.ifs_asm.specs.Spellings.{TextSpells}
 use Rattle.ifs_asm.specs.Refused.{IsAssemblyRefused}
 use Rattle.ifs_asm.specs.declared.fault.AsmFault.TheVariants.{Unknown}
 use Rattle.ifs_asm.specs.Texts.{canonical}
-use Rattle.ifs_gen.specs.Compiled.{Compiles, IsCompiled, IsRefusal}
+use Rattle.ifs_gen.specs.Compiled.{Compiles, IsCompiled, IsCompileRefusal}
 use Rattle.ifs_gen.specs.declared.compile_fault.CompileFault.TheVariants.{Memory}
 use Rattle.ifs_image.specs.declared.parts.ImageParts.{ImageParts}
 use Rattle.ifs_image.specs.Spelling.{Spells}
@@ -106,7 +106,7 @@ TellsNoLine bytes text = Tells (λ line. assembly_words (Unknown line)) (IsNoTex
 -- What is printed of refused bytes: a fault that they have, in its words.
 abbrev pub IsRefusedBy : Task → List ℕ → List (List ℕ × List ℕ) → List ℕ → Type 0
 IsRefusedBy Check bytes defs text = TellsNoText bytes text ⊎ Tells policy_words (IsTextRefused bytes defs) text
-IsRefusedBy Compile bytes defs text = TellsNoText bytes text ⊎ Tells compile_words (λ fault. (fault ≢ Memory) × IsRefusal bytes defs fault) text
+IsRefusedBy Compile bytes defs text = TellsNoText bytes text ⊎ Tells compile_words (λ fault. (fault ≢ Memory) × IsCompileRefusal bytes defs fault) text
 IsRefusedBy Verify bytes defs text = Tells verify_fault_words (λ fault. (fault ≢ OutOfMemory) × verifying.IsRefusal bytes fault) text
 IsRefusedBy Disasm bytes defs text = Tells image_fault_words (λ fault. image_of bytes ≡ Err fault) text
 IsRefusedBy Asm bytes defs text = TellsNoLine bytes text ⊎ Tells assembly_words (IsAssemblyRefused bytes) text

@@ -5,7 +5,7 @@ use Rattle.ifs_sched.specs.declared.start.Start.{Start}
 use Rattle.ifs_cli.specs.declared.runner.Waited.{Waited}
 use Rattle.ifs_cli.specs.declared.runner.Waited.TheVariants.{Runs}
 use Rattle.ifs_cli.specs.declared.runner.RunnerEvent.TheVariants.{Asked}
-use Rattle.ifs_cli.specs.Runners.{RunnerLog, Tells, asked_once, test_value}
+use Rattle.ifs_cli.specs.Runners.{RunnerLog, RunnerTells, asked_once, test_value}
 
 -- A program that was started for a test, by its number.
 abbrev pub Program : Type 0
@@ -50,7 +50,7 @@ pub record IsFirstEnded (ended : Start × Bool) (before after : List Program) (t
   pub stood : before ≡ front ++ (ended.0, number) ∷ rest
   pub left : after ≡ front ++ rest
   pub value : test_value answer ≡ Some ended.1
-  pub log : Tells (all_run front ++ asked_once number answer) told told'
+  pub log : RunnerTells (all_run front ++ asked_once number answer) told told'
 
 -- A start ends, given those that failed: the first of them ends first, its test found false, and the runner is asked nothing; where none failed, the first ends whose program has.
 abbrev pub EndsOne : Start × Bool → List Start → Waiting → Waiting → Option RunnerLog → Option RunnerLog → Type 0
@@ -61,5 +61,5 @@ EndsOne ended (first ∷ rest) before after told told' =
 
 -- What is answered of what waits, what waits then, and what the runner was asked: none has ended only where none failed and the runner answered of each that it still runs.
 abbrev pub Ends : Option (Start × Bool) → Waiting → Waiting → Option RunnerLog → Option RunnerLog → Type 0
-Ends None before after told told' = (before.failed ≡ []) × (after ≡ before) × Tells (all_run before.running) told told'
+Ends None before after told told' = (before.failed ≡ []) × (after ≡ before) × RunnerTells (all_run before.running) told told'
 Ends (Some ended) before after told told' = EndsOne ended before.failed before after told told'

@@ -3,7 +3,7 @@ use Rattle.std.specs.Prelude.{◌≡◌, ◌⊎◌, ◌<◌, ◌≤◌, ℕ, ℤ
 use Rattle.ifs_base.specs.declared.ids.TestId.{TestId}
 use Rattle.ifs_sched.specs.declared.start.Start.{Start}
 use Rattle.ifs_cli.specs.declared.runner.RunnerEvent.TheVariants.{Spawned}
-use Rattle.ifs_cli.specs.Runners.{RunnerLog, Tells, ran_once}
+use Rattle.ifs_cli.specs.Runners.{RunnerLog, RunnerTells, ran_once}
 use Rattle.ifs_cli.specs.Children.{Waiting, with_running, with_failed, Ends}
 
 -- A host over a runner: the starts that wait, and what the runner tells.
@@ -27,7 +27,7 @@ pub record FindsPlace (start : Start) (text : List ℕ) (before after : HostStat
   pub number : Option ℕ
   pub place : length before.waiting.running < 256
   pub waits : after.waiting ≡ after_spawn start number before.waiting
-  pub log : Tells (Spawned text number ∷ []) before.told after.told
+  pub log : RunnerTells (Spawned text number ∷ []) before.told after.told
 
 -- What a start of a test does, whose command has this text.
 abbrev pub StartsTest : Start → List ℕ → HostState → HostState → Type 0
@@ -41,4 +41,4 @@ Polls (Some it) before after =
 
 -- What a run of a text does that has this answer: the runner is asked once, and its exit status is answered.
 abbrev pub RunsOnce : {E : Type 0} → List ℕ → Result ℤ E → HostState → HostState → Type 0
-RunsOnce text result before after = (after.waiting ≡ before.waiting) × Tells (ran_once text result) before.told after.told
+RunsOnce text result before after = (after.waiting ≡ before.waiting) × RunnerTells (ran_once text result) before.told after.told

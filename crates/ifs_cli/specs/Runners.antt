@@ -24,10 +24,10 @@ abbrev pub ran_once : {E : Type 0} → List ℕ → Result ℤ E → RunnerLog
 ran_once text result = Ran text (result_ok result) ∷ []
 
 -- What a runner tells after this came to its log. It may cease to tell, and then says no more.
-abbrev pub Tells : RunnerLog → Option RunnerLog → Option RunnerLog → Type 0
-Tells more told None = Unit {0}
-Tells more None (Some after) = ⊥
-Tells more (Some before) (Some after) = after ≡ before ++ more
+abbrev pub RunnerTells : RunnerLog → Option RunnerLog → Option RunnerLog → Type 0
+RunnerTells more told None = Unit {0}
+RunnerTells more None (Some after) = ⊥
+RunnerTells more (Some before) (Some after) = after ≡ before ++ more
 
 -- The value of a test by what is answered of its program: none while that runs, and true only where it has ended with success.
 abbrev pub test_value : Waited → Option Bool

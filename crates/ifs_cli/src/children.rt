@@ -4,7 +4,7 @@ ghost use Rattle.std.specs.Prelude.{◌≡◌, ◌<◌, ◌↔◌, List, [], ◌
 ghost use Rattle.ifs_sched.specs.declared.start.Start.{Start};
 ghost use Rattle.std.specs.List.{remove};
 ghost use Rattle.std.specs.Vec.{vec_capacity};
-ghost use Rattle.ifs_cli.specs.Runners.{Tells};
+ghost use Rattle.ifs_cli.specs.Runners.{RunnerTells};
 ghost use Rattle.ifs_cli.specs.Children.{Waiting, none_waits, with_running, with_failed, of_others, latest};
 ghost use Rattle.ifs_cli.specs.Children.{Program, all_run, IsFirstEnded, Ends};
 
@@ -116,7 +116,7 @@ fn take_ended<Q: Runner>(runner: &mut Q, running: &mut Vec<Running<Q>>) -> Optio
         (map {B = Program} (λ it. (it.start, Q.number it.child)) running.new.items ≡ map {B = Program} (λ it. (it.start, Q.number it.child)) running.old.items)
         (λ _. Unit {0}) }
     ensures ends { MatchOption result
-        (Tells (all_run (map {B = Program} (λ it. (it.start, Q.number it.child)) running.old.items)) (Q.told runner.old) (Q.told runner.new))
+        (RunnerTells (all_run (map {B = Program} (λ it. (it.start, Q.number it.child)) running.old.items)) (Q.told runner.old) (Q.told runner.new))
         (λ it. IsFirstEnded it (map {B = Program} (λ it. (it.start, Q.number it.child)) running.old.items) (map {B = Program} (λ it. (it.start, Q.number it.child)) running.new.items)
         (Q.told runner.old) (Q.told runner.new)) }
     ensures capacity { vec_capacity running.new ≡ vec_capacity running.old }
@@ -133,7 +133,7 @@ fn first_ended<Q: Runner>(
 ) -> Option<(usize, (Start, bool))>
     ensures same { map {B = Program} (λ it. (it.start, Q.number it.child)) running.new.items ≡ map {B = Program} (λ it. (it.start, Q.number it.child)) running.old.items }
     ensures ends { MatchOption result
-        (Tells (all_run (map {B = Program} (λ it. (it.start, Q.number it.child)) running.old.items)) (Q.told runner.old) (Q.told runner.new))
+        (RunnerTells (all_run (map {B = Program} (λ it. (it.start, Q.number it.child)) running.old.items)) (Q.told runner.old) (Q.told runner.new))
         (λ it. IsFirstEnded it.1 (map {B = Program} (λ it. (it.start, Q.number it.child)) running.old.items)
         (remove (map {B = Program} (λ it. (it.start, Q.number it.child)) running.old.items) it.0) (Q.told runner.old) (Q.told runner.new)) }
     ensures inside { IfSome result (λ it. it.0 < length running.new.items) }
@@ -150,7 +150,7 @@ fn first_ended_of<Q: Runner>(
 ) -> Option<(usize, (Start, bool))>
     ensures same { map {B = Program} (λ it. (it.start, Q.number it.child)) running.new ≡ map {B = Program} (λ it. (it.start, Q.number it.child)) running.old }
     ensures ends { MatchOption result
-        (Tells (all_run (map {B = Program} (λ it. (it.start, Q.number it.child)) running.old)) (Q.told runner.old) (Q.told runner.new))
+        (RunnerTells (all_run (map {B = Program} (λ it. (it.start, Q.number it.child)) running.old)) (Q.told runner.old) (Q.told runner.new))
         (λ it. IsFirstEnded it.1 (map {B = Program} (λ it. (it.start, Q.number it.child)) running.old)
         (remove (map {B = Program} (λ it. (it.start, Q.number it.child)) running.old) it.0) (Q.told runner.old) (Q.told runner.new)) }
     ensures inside { IfSome result (λ it. it.0 < length running.new) }

@@ -2,7 +2,7 @@
 
 ghost use Rattle.std.specs.Prelude.{◌≡◌, ◌≢◌, ◌≤◌, ◌++◌, ◌⊎◌, length, None, map, option_map, string_bytes};
 ghost use Rattle.std.specs.Prelude.{IsSomeAnd, IfOk};
-ghost use Rattle.ifs_gen.specs.Compiled.{IsCompiled, IsRefusal};
+ghost use Rattle.ifs_gen.specs.Compiled.{IsCompiled, IsCompileRefusal};
 ghost use Rattle.ifs_gen.specs.declared.compile_fault.CompileFault.TheVariants.{Memory};
 ghost use Rattle.ifs_cli.specs.Answers.{AreCompiled, Tells, TellsCompiled, TellsNoText};
 ghost use Rattle.ifs_cli.specs.Faults.{compile_words};
@@ -26,7 +26,7 @@ pub fn compile(alloc: Global, bytes: &[u8], defs: &[(&str, &str)]) -> Result<Ans
     ensures text { IfOk result (λ answer. answer.status ≡ 0
         → IsSomeAnd (option_map (λ file. file.items) answer.file) (λ file. TellsCompiled bytes.now (map (λ d. (d.0.now, d.1.now)) defs.now) (string_bytes answer.text) (length file))) }
     ensures told { IfOk result (λ answer. answer.status ≢ 0 → TellsNoText bytes.now (string_bytes answer.text)
-        ⊎ Tells compile_words (λ fault. (fault ≢ Memory) × IsRefusal bytes.now (map (λ d. (d.0.now, d.1.now)) defs.now) fault) (string_bytes answer.text)) }
+        ⊎ Tells compile_words (λ fault. (fault ≢ Memory) × IsCompileRefusal bytes.now (map (λ d. (d.0.now, d.1.now)) defs.now) fault) (string_bytes answer.text)) }
     ensures no_file { IfOk result (λ answer. answer.status ≢ 0 → answer.file ≡ None) }
 {
     let text = match text_of(bytes) {

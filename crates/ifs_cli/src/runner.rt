@@ -1,7 +1,7 @@
 //! Runners: what starts programs for a host, waits for them, and runs texts to their ends.
 
 ghost use Rattle.std.specs.Prelude.{◌≡◌, ℕ, Option, None};
-ghost use Rattle.ifs_cli.specs.Runners.{RunnerLog, Tells, spawned_once, asked_once, ran_once, test_value};
+ghost use Rattle.ifs_cli.specs.Runners.{RunnerLog, RunnerTells, spawned_once, asked_once, ran_once, test_value};
 
 use thiserror::Error;
 
@@ -64,14 +64,14 @@ pub trait Runner {
 
     /// Starts the program of a text.
     fn spawn(&mut self, text: &str) -> Result<Self::Child, RunFault>
-        ensures log { Tells (spawned_once number text.now result) (told self.old) (told self.new) };
+        ensures log { RunnerTells (spawned_once number text.now result) (told self.old) (told self.new) };
 
     /// Whether a program still runs, and else how it ended.
     fn try_wait(&mut self, child: &mut Self::Child) -> Waited
-        ensures log { Tells (asked_once (number child.old) result) (told self.old) (told self.new) }
+        ensures log { RunnerTells (asked_once (number child.old) result) (told self.old) (told self.new) }
         ensures number { number child.new ≡ number child.old };
 
     /// Runs a text to its end, and answers its exit status.
     fn run(&mut self, text: &str) -> Result<i32, RunFault>
-        ensures log { Tells (ran_once text.now result) (told self.old) (told self.new) };
+        ensures log { RunnerTells (ran_once text.now result) (told self.old) (told self.new) };
 }

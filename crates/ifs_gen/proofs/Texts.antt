@@ -23,7 +23,7 @@ use Rattle.ifs_core.specs.Headline.{AcceptedIsKept}
 use Rattle.ifs_gen.specs.Trees.{Part, Policy, External}
 use Rattle.ifs_gen.specs.PlainImage.{test_count, states_from, plain_image, CodeFits}
 use Rattle.ifs_gen.specs.Compiled.{MeansPolicy, TextsMeanTheirPolicy, IsCompiled, Compiles}
-use Rattle.ifs_gen.specs.Compiled.{IsRefusal, IsWritten, IsCodeRefusal, of_policy, of_code}
+use Rattle.ifs_gen.specs.Compiled.{IsCompileRefusal, IsWritten, IsCodeRefusal, of_policy, of_code}
 use Rattle.ifs_gen.specs.Refused.{PassesFirst}
 use Rattle.ifs_gen.specs.declared.compile_fault.CompileFault.{CompileFault}
 use Rattle.ifs_gen.specs.declared.compile_fault.CompileFault.TheVariants as compiling
@@ -42,7 +42,7 @@ state_names count k (x ∷ names) (part ∷ parts) e = ap (λ (l : List (List �
 
 -- The laws of the crates below.
 abbrev pub OneList : Type 0
-OneList = (text : List ℕ) (defs : List (List ℕ × List ℕ)) (tokens other : List Token) → lex.Spells text defs tokens → lex.Spells text defs other → tokens ≡ other
+OneList = (text : List ℕ) (defs : List (List ℕ × List ℕ)) (tokens other : List Token) → lex.HasTokens text defs tokens → lex.HasTokens text defs other → tokens ≡ other
 
 abbrev pub OneTree : Type 0
 OneTree = (tokens : List Token) (file other : File) → Says tokens file → Says tokens other → file ≡ other
@@ -113,13 +113,13 @@ texts_mean one_list one_tree one_policy fit one_image kept text defs policy h = 
 
 -- What stops the compiler.
 module _ (text : List ℕ) (defs : List (List ℕ × List ℕ)) where
-  pub refused_policy : (fault : PolicyFault) → (fault ≢ fronting.Memory → IsTextRefused text defs fault) → IsRefusal text defs (of_policy fault)
+  pub refused_policy : (fault : PolicyFault) → (fault ≢ fronting.Memory → IsTextRefused text defs fault) → IsCompileRefusal text defs (of_policy fault)
   refused_policy (fronting.Text fault) e = e (λ k. absurd (cc))
   refused_policy (fronting.Tokens fault) e = e (λ k. absurd (cc))
   refused_policy (fronting.Names fault) e = e (λ k. absurd (cc))
   refused_policy fronting.Memory e = tt
 
-  pub refused_code : (policy : Policy) → HasPolicy text defs policy → (fault : GenFault) → (fault ≢ generating.Memory → PassesFirst policy fault) → IsRefusal text defs (of_code fault)
+  pub refused_code : (policy : Policy) → HasPolicy text defs policy → (fault : GenFault) → (fault ≢ generating.Memory → PassesFirst policy fault) → IsCompileRefusal text defs (of_code fault)
   refused_code policy h generating.Memory e = tt
   refused_code policy h (generating.RoutineTooLong routine) e = (policy, h, e (λ k. absurd (cc)))
   refused_code policy h generating.CodeTooLong e = (policy, h, e (λ k. absurd (cc)))
@@ -131,8 +131,8 @@ module _ (text : List ℕ) (defs : List (List ℕ × List ℕ)) where
       let m = law text defs policy h in
       record { policy = policy; of_text = h; one = m.one; code = w.code; spelled = w.spelled; means = m.means w.code bytes w.spelled }
 
-pub code_refusal : (policy : Policy) (text : List ℕ) (defs : List (List ℕ × List ℕ)) → HasPolicy text defs policy → (fault : CompileFault) → IsCodeRefusal policy fault → IsRefusal text defs fault
-code_refusal policy text defs h fault r = subst (IsRefusal text defs) (sym r.1) (refused_code text defs policy h r.0 r.2)
+pub code_refusal : (policy : Policy) (text : List ℕ) (defs : List (List ℕ × List ℕ)) → HasPolicy text defs policy → (fault : CompileFault) → IsCodeRefusal policy fault → IsCompileRefusal text defs fault
+code_refusal policy text defs h fault r = subst (IsCompileRefusal text defs) (sym r.1) (refused_code text defs policy h r.0 r.2)
 
 -- A text that is refused for another cause than memory does not compile.
 pub no_policy : (text : List ℕ) (defs : List (List ℕ × List ℕ)) (fault : PolicyFault) → IsTextRefused text defs fault → ¬ Compiles text defs
@@ -141,7 +141,7 @@ no_policy text defs (fronting.Tokens fault) h k = h.0 k.policy k.of_text
 no_policy text defs (fronting.Names fault) h k = h.0 k.policy k.of_text
 no_policy text defs fronting.Memory h k = h
 
-pub none_compiled : TextsMeanTheirPolicy → (text : List ℕ) (defs : List (List ℕ × List ℕ)) (fault : CompileFault) → IsRefusal text defs fault → fault ≢ Memory → ¬ Compiles text defs
+pub none_compiled : TextsMeanTheirPolicy → (text : List ℕ) (defs : List (List ℕ × List ℕ)) (fault : CompileFault) → IsCompileRefusal text defs fault → fault ≢ Memory → ¬ Compiles text defs
 none_compiled law text defs (compiling.Text fault) h other k = no_policy text defs fault h k
 none_compiled law text defs (compiling.Code fault) h other k =
     let same = (law text defs h.0 h.1).one k.policy k.of_text in

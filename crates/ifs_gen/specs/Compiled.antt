@@ -86,10 +86,10 @@ of_code generating.Memory = Memory
 of_code fault = Code fault
 
 -- What a refusal says of a text: it has no policy, since it has that fault first; or the code of its policy passes that limit first. Want of memory says nothing of it.
-abbrev pub IsRefusal : List ℕ → List (List ℕ × List ℕ) → CompileFault → Type 0
-IsRefusal text defs (Text fault) = IsTextRefused text defs fault
-IsRefusal text defs (Code fault) = (policy : Policy) × HasPolicy text defs policy × PassesFirst policy fault
-IsRefusal text defs Memory = Unit {0}
+abbrev pub IsCompileRefusal : List ℕ → List (List ℕ × List ℕ) → CompileFault → Type 0
+IsCompileRefusal text defs (Text fault) = IsTextRefused text defs fault
+IsCompileRefusal text defs (Code fault) = (policy : Policy) × HasPolicy text defs policy × PassesFirst policy fault
+IsCompileRefusal text defs Memory = Unit {0}
 
 -- A refusal of a policy: for a limit that its code passes first, or want of memory.
 abbrev pub IsCodeRefusal : Policy → CompileFault → Type 0

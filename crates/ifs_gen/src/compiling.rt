@@ -2,7 +2,7 @@
 
 ghost use Rattle.std.specs.Prelude.{◌≢◌, IfOk, IfErr, map};
 ghost use Rattle.ifs_gen.specs.declared.compile_fault.CompileFault.TheVariants.{Memory};
-ghost use Rattle.ifs_gen.specs.Compiled.{Compiles, IsCodeRefusal, IsCompiled, IsRefusal, IsWritten};
+ghost use Rattle.ifs_gen.specs.Compiled.{Compiles, IsCodeRefusal, IsCompiled, IsCompileRefusal, IsWritten};
 ghost use Rattle.ifs_policy.specs.Texts.{SaysFile};
 
 use crate::compile_fault::CompileFault;
@@ -50,7 +50,7 @@ pub fn compile<'a>(
     ensures compiled { IfOk result (λ bytes. IsCompiled text.now (map (λ d. (d.0.now, d.1.now)) defs.now) bytes.items) }
     // A refusal but for memory comes only where the text has no policy, or where the code of the policy
     // passes the limit that it names,
-    ensures refused { IfErr result (λ fault. IsRefusal text.now (map (λ d. (d.0.now, d.1.now)) defs.now) fault) }
+    ensures refused { IfErr result (λ fault. IsCompileRefusal text.now (map (λ d. (d.0.now, d.1.now)) defs.now) fault) }
     // so that nothing is refused that compiles.
     ensures none { IfErr result (λ fault. fault ≢ Memory → ¬ Compiles text.now (map (λ d. (d.0.now, d.1.now)) defs.now)) }
 {
@@ -68,7 +68,7 @@ pub fn compile_with_notes<'a>(
 ) -> Result<CompiledText, CompileFault>
     ensures compiled { IfOk result (λ it. IsCompiled text.now (map (λ d. (d.0.now, d.1.now)) defs.now) it.bytes.items) }
     ensures tree { IfOk result (λ it. SaysFile text.now (map (λ d. (d.0.now, d.1.now)) defs.now) it.tree) }
-    ensures refused { IfErr result (λ fault. IsRefusal text.now (map (λ d. (d.0.now, d.1.now)) defs.now) fault) }
+    ensures refused { IfErr result (λ fault. IsCompileRefusal text.now (map (λ d. (d.0.now, d.1.now)) defs.now) fault) }
     ensures none { IfErr result (λ fault. fault ≢ Memory → ¬ Compiles text.now (map (λ d. (d.0.now, d.1.now)) defs.now)) }
 {
     means_the_policy();

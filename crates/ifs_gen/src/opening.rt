@@ -2,7 +2,7 @@
 
 ghost use Rattle.std.specs.Prelude.{◌≢◌, IfOk, IfErr, map};
 ghost use Rattle.ifs_gen.specs.declared.compile_fault.CompileFault.TheVariants.{Memory};
-ghost use Rattle.ifs_gen.specs.Compiled.{Compiles, IsRefusal};
+ghost use Rattle.ifs_gen.specs.Compiled.{Compiles, IsCompileRefusal};
 ghost use Rattle.ifs_gen.specs.CompiledCore.{RunsText};
 
 use crate::compile_fault::CompileFault;
@@ -24,7 +24,7 @@ pub fn compiled_core<'a>(
     // The core runs the one policy of the text: names, texts, and for every list of steps the replies.
     ensures runs { IfOk result (λ core. RunsText text.now (map (λ d. (d.0.now, d.1.now)) defs.now) core) }
     // A refusal but for memory says that the text has no policy, or that the code of the policy passes a limit,
-    ensures refused { IfErr result (λ fault. IsRefusal text.now (map (λ d. (d.0.now, d.1.now)) defs.now) fault) }
+    ensures refused { IfErr result (λ fault. IsCompileRefusal text.now (map (λ d. (d.0.now, d.1.now)) defs.now) fault) }
     // so that nothing is refused that compiles.
     ensures none { IfErr result (λ fault. fault ≢ Memory → ¬ Compiles text.now (map (λ d. (d.0.now, d.1.now)) defs.now)) }
 {

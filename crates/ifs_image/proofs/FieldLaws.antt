@@ -10,9 +10,10 @@ use Rattle.std.proofs.lemmas.List.{take_at, drop_at, take-append-drop, length-ap
 use Rattle.std.proofs.lemmas.List.{get_or-drop, get_or-take, get_or_past, append-nil, nil_from_length}
 use Rattle.std.proofs.lemmas.Nat.{be_bytes_2, be_bytes_4, be_bytes_8, from_be_bytes-to_be_bytes_2}
 use Rattle.std.proofs.lemmas.Nat.{from_be_bytes-to_be_bytes_4, from_be_bytes-to_be_bytes_8}
+use Rattle.ifs_base.specs.Results.{◌>>=◌}
 use Rattle.ifs_image.specs.declared.fault.ImageFault.{ImageFault}
 use Rattle.ifs_image.specs.declared.fault.ImageFault.TheVariants.{Truncated, OutOfLimit}
-use Rattle.ifs_image.specs.Reading.{Cursor, cursor, Read, ◌>>=◌, bytes_at, byte_at, number_at, number_within, items_at}
+use Rattle.ifs_image.specs.Reading.{Cursor, cursor, Read, bytes_at, byte_at, number_at, number_within, items_at}
 
 -- numbers that are bytes
 abbrev pub IsBytes : List ℕ → Type 0

@@ -22,11 +22,12 @@ use Rattle.ifs_image.specs.declared.parts.StateSpec.{StateSpec}
 use Rattle.ifs_image.specs.declared.parts.Routine.{Routine}
 use Rattle.ifs_image.specs.declared.parts.ImageParts.{ImageParts}
 use Rattle.ifs_base.specs.Sizes.{TextFits}
+use Rattle.ifs_base.specs.Results.{◌>>=◌}
 use Rattle.ifs_image.specs.Limits.{BudgetsFit, CountsFit, TestFits, RoutineFits, AreDistinct}
 use Rattle.ifs_image.specs.Limits.{HandlersInRange, StateInRange, names_of, instructions, Fits, InRange}
 use Rattle.ifs_image.specs.Spelling.{front_bytes, budgets_bytes, counts_bytes, handlers_bytes, text_bytes}
 use Rattle.ifs_image.specs.Spelling.{test_bytes, state_bytes, routine_bytes, counts, image_bytes, Spells}
-use Rattle.ifs_image.specs.Reading.{Cursor, cursor, ◌>>=◌, bytes_at, byte_at, number_at, number_within, magic_at}
+use Rattle.ifs_image.specs.Reading.{Cursor, cursor, bytes_at, byte_at, number_at, number_within, magic_at}
 use Rattle.ifs_image.specs.Reading.{version_at, budgets_at, counts_at, handlers_at, text_at, stands_in, name_at}
 use Rattle.ifs_image.specs.Reading.{test_at, state_at, items_at, routine_at, room_after, parts_at, image_of}
 use Rattle.ifs_image.specs.Answers.{Answers}

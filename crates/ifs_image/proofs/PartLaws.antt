@@ -24,9 +24,10 @@ use Rattle.ifs_image.specs.declared.parts.TestSpec.{TestSpec}
 use Rattle.ifs_image.specs.declared.parts.StateSpec.{StateSpec}
 use Rattle.ifs_image.specs.declared.parts.Routine.{Routine}
 use Rattle.ifs_base.specs.Sizes.{TextFits}
+use Rattle.ifs_base.specs.Results.{◌>>=◌}
 use Rattle.ifs_image.specs.Limits.{TestFits, HandlersInRange, StateInRange, RoutineFits, names_of}
 use Rattle.ifs_image.specs.Spelling.{handlers_bytes, text_bytes, test_bytes, state_bytes, routine_bytes}
-use Rattle.ifs_image.specs.Reading.{Cursor, cursor, ◌>>=◌, bytes_at, byte_at, number_at, number_within}
+use Rattle.ifs_image.specs.Reading.{Cursor, cursor, bytes_at, byte_at, number_at, number_within}
 use Rattle.ifs_image.specs.Reading.{handlers_at, length_at, is_text, text_sized, text_at, stands_in, name_at}
 use Rattle.ifs_image.specs.Reading.{test_at, state_at, instruction_at, items_at, results_at, routine_at}
 use Rattle.ifs_image.proofs.FieldLaws.{IsBytes, bind_ok, again_bind, guard_ok, passed_ok, ok_is, or_false, Took}

@@ -7,6 +7,7 @@ use Rattle.std.specs.Option.{ok_or}
 use Rattle.std.specs.Str.{bytes_eq, is_utf8}
 use Rattle.ifs_base.specs.declared.op.Op.{Op}
 use Rattle.ifs_base.specs.Spelling.{op_of}
+use Rattle.ifs_base.specs.Results.{◌>>=◌}
 use Rattle.ifs_image.specs.declared.fault.ImageFault.{ImageFault}
 use Rattle.ifs_image.specs.declared.fault.ImageFault.TheVariants.{Truncated, WrongMagic, WrongVersion, OutOfLimit}
 use Rattle.ifs_image.specs.declared.fault.ImageFault.TheVariants.{BadText, RepeatedName, Trailing, NoInstruction}
@@ -30,12 +31,6 @@ cursor at left = record { at = at; left = left }
 -- Reading at a place gives a value and the place after it, or the first fault.
 abbrev pub Read : Type 0 → Type 0
 Read X = Result (X × Cursor) ImageFault
-
--- Goes on where nothing was wrong.
-infixl 10 ◌>>=◌
-abbrev pub ◌>>=◌ : {A B : Type 0} → Result A ImageFault → (A → Result B ImageFault) → Result B ImageFault
-(Ok x) >>= f = f x
-(Err fault) >>= f = Err fault
 
 -- The next bytes, so many.
 unfoldable pub bytes_at : ℕ → Cursor → Read (List ℕ)

@@ -2,6 +2,7 @@
 use Rattle.std.proofs.Common.{◌≡◌, ℕ, Bool, true, false, cond, ltb, List, [], ◌∷◌, length}
 use Rattle.std.proofs.Common.{Option, Some, None, Result, Ok, Err, ap, ◌∙◌}
 use Rattle.ifs_base.specs.declared.span.Span.{Span}
+use Rattle.ifs_base.specs.Results.{◌>>=◌}
 use Rattle.ifs_lex.specs.declared.token.What.{What}
 use Rattle.ifs_lex.specs.declared.fault.LexFault.{LexFault}
 use Rattle.ifs_lex.specs.declared.fault.LexFault.TheVariants.{BadMacro, OverLimit}
@@ -9,7 +10,7 @@ use Rattle.ifs_lex.specs.Characters.{is_macro_name}
 use Rattle.ifs_lex.specs.Lexemes.{Lexeme, One, Uses, Stray, Unclosed, Spanned, lexeme_at}
 use Rattle.ifs_lex.specs.Lexemes.{after_lexeme, is_last, lexemes_at, lexemes_of, start}
 use Rattle.ifs_lex.specs.Expansion.{no_macros, value_of, value_from, known_as, defined, expanded, with_segment}
-use Rattle.ifs_lex.specs.Expansion.{tokens_after, segments_from, given_one, given_from, tokens_of, ◌>>=◌}
+use Rattle.ifs_lex.specs.Expansion.{tokens_after, segments_from, given_one, given_from, tokens_of}
 use Rattle.ifs_lex.specs.AtOnce.{fault_without_macros, certain_at_once}
 use Rattle.ifs_lex.proofs.Unrolled.{lexemes_unroll}
 

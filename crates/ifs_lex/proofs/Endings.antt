@@ -6,18 +6,19 @@ use Rattle.std.specs.Prelude.{is_some}
 use Rattle.std.specs.Option.{option_map_or}
 use Rattle.std.specs.Str.{bytes_eq}
 use Rattle.ifs_base.specs.declared.span.Span.{Span}
+use Rattle.ifs_base.specs.Results.{◌>>=◌}
 use Rattle.ifs_lex.specs.declared.token.What.{What}
 use Rattle.ifs_lex.specs.declared.token.What.TheVariants.{Word, Quoted, BraceOpen, BraceClose, ParenOpen}
 use Rattle.ifs_lex.specs.declared.token.What.TheVariants.{ParenClose, Dot, Equals, Bang, And, Or, End}
 use Rattle.ifs_lex.specs.declared.token.Token.{Token}
 use Rattle.ifs_lex.specs.declared.fault.LexFault.{LexFault}
 use Rattle.ifs_lex.specs.declared.fault.LexFault.TheVariants.{OverLimit, BadMacro}
-use Rattle.ifs_lex.specs.Lexemes.{Lexeme, One, Uses, Stray, Unclosed, Cursor, Spanned, lexeme_at}
+use Rattle.ifs_lex.specs.Lexemes.{Lexeme, One, Uses, Stray, Unclosed, TextCursor, Spanned, lexeme_at}
 use Rattle.ifs_lex.specs.Lexemes.{after_lexeme, is_last, lexemes_at, lexemes_of, start}
 use Rattle.ifs_lex.specs.Expansion.{Macro, Macros, no_macros, with_macro, whats_of, joined, value_from}
-use Rattle.ifs_lex.specs.Expansion.{value_of, is_given, known_as, defined, name_of, Expanded, expanded, token}
+use Rattle.ifs_lex.specs.Expansion.{value_of, is_given, known_as, defined, macro_name_of, Expanded, expanded, token}
 use Rattle.ifs_lex.specs.Expansion.{with_whats, with_use, with_lexeme, tokens_after, segments_from, given_one}
-use Rattle.ifs_lex.specs.Expansion.{given_from, tokens_of, ◌>>=◌, is_end, Endless, EndsOnce, Spells}
+use Rattle.ifs_lex.specs.Expansion.{given_from, tokens_of, is_end, Endless, EndsOnce, HasTokens}
 use Rattle.ifs_lex.specs.inner.Turns.{text_here, definition_here, after_definition, with_turn}
 use Rattle.ifs_lex.proofs.Segments.{turn_is, ending, turn_smaller}
 
@@ -198,7 +199,7 @@ end_once span s next ts g h k =
       once = g.tokens;
     }
 
-pub no_definition : (i : Lexeme) → is_last i ≡ true → name_of i ≡ None
+pub no_definition : (i : Lexeme) → is_last i ≡ true → macro_name_of i ≡ None
 no_definition (One End) l = refl
 no_definition (One _) l = absurd (cc)
 no_definition (Uses _) l = absurd (cc)
@@ -213,25 +214,25 @@ last_once span Stray s next ts g l h k = absurd (cc)
 last_once span Unclosed s next ts g l h k = absurd (cc)
 
 -- The cursor after the segment that stands at a cursor.
-next_place : Cursor → Cursor
+next_place : TextCursor → TextCursor
 next_place p = after_definition (after_lexeme p) (is_some (definition_here (after_lexeme p) (lexeme_at p).lexeme))
 
-ends_here : (s next : Expanded) (p : Cursor) (ts : List Token) → Going s → is_last (lexeme_at p).lexeme ≡ true → with_turn (lexeme_at p) (definition_here (after_lexeme p) (lexeme_at p).lexeme) s ≡ Ok next → fine next.tokens ≡ Ok ts → EndsOnce ts
+ends_here : (s next : Expanded) (p : TextCursor) (ts : List Token) → Going s → is_last (lexeme_at p).lexeme ≡ true → with_turn (lexeme_at p) (definition_here (after_lexeme p) (lexeme_at p).lexeme) s ≡ Ok next → fine next.tokens ≡ Ok ts → EndsOnce ts
 ends_here s next p ts g l e k =
     let none = no_definition (lexeme_at p).lexeme l in
     let found : Option (List ℕ) → Option (List ℕ × List ℕ) = λ o. option_map_or (λ name. option_map (λ text. (name, text)) (text_here (after_lexeme p))) o None in
     last_once (lexeme_at p).span (lexeme_at p).lexeme s next ts g l (sym (ap (λ o. with_turn (lexeme_at p) (found o) s) none) ∙ e) k
 
-goes_here : (last : Bool) (s next : Expanded) (p : Cursor) (ts : List Token) → Going s → is_last (lexeme_at p).lexeme ≡ last → with_turn (lexeme_at p) (definition_here (after_lexeme p) (lexeme_at p).lexeme) s ≡ Ok next → ending last (next_place p) next ≡ Ok ts → (is_last (lexeme_at p).lexeme ≡ false → Going next → tokens_after next (segments_from 0 (lexemes_at (next_place p))) ≡ Ok ts → EndsOnce ts) → EndsOnce ts
+goes_here : (last : Bool) (s next : Expanded) (p : TextCursor) (ts : List Token) → Going s → is_last (lexeme_at p).lexeme ≡ last → with_turn (lexeme_at p) (definition_here (after_lexeme p) (lexeme_at p).lexeme) s ≡ Ok next → ending last (next_place p) next ≡ Ok ts → (is_last (lexeme_at p).lexeme ≡ false → Going next → tokens_after next (segments_from 0 (lexemes_at (next_place p))) ≡ Ok ts → EndsOnce ts) → EndsOnce ts
 unfolding ending
 goes_here true s next p ts g l e k rest = ends_here s next p ts g l e k
 goes_here false s next p ts g l e k rest = rest l (turn_going (lexeme_at p) _ s next g l e) k
 
-by_turn : (w : Result Expanded LexFault) (s : Expanded) (p : Cursor) (ts : List Token) → Going s → with_turn (lexeme_at p) (definition_here (after_lexeme p) (lexeme_at p).lexeme) s ≡ w → (w >>= ending (is_last (lexeme_at p).lexeme) (next_place p)) ≡ Ok ts → ((next : Expanded) → is_last (lexeme_at p).lexeme ≡ false → Going next → tokens_after next (segments_from 0 (lexemes_at (next_place p))) ≡ Ok ts → EndsOnce ts) → EndsOnce ts
+by_turn : (w : Result Expanded LexFault) (s : Expanded) (p : TextCursor) (ts : List Token) → Going s → with_turn (lexeme_at p) (definition_here (after_lexeme p) (lexeme_at p).lexeme) s ≡ w → (w >>= ending (is_last (lexeme_at p).lexeme) (next_place p)) ≡ Ok ts → ((next : Expanded) → is_last (lexeme_at p).lexeme ≡ false → Going next → tokens_after next (segments_from 0 (lexemes_at (next_place p))) ≡ Ok ts → EndsOnce ts) → EndsOnce ts
 by_turn (Err fault) s p ts g e k rest = absurd (cc)
 by_turn (Ok next) s p ts g e k rest = goes_here _ s next p ts g refl e k (rest next)
 
-ends_from : (n : ℕ) (s : Expanded) (p : Cursor) (ts : List Token) → length p.left < n → Going s → tokens_after s (segments_from 0 (lexemes_at p)) ≡ Ok ts → EndsOnce ts
+ends_from : (n : ℕ) (s : Expanded) (p : TextCursor) (ts : List Token) → length p.left < n → Going s → tokens_after s (segments_from 0 (lexemes_at p)) ≡ Ok ts → EndsOnce ts
 unfolding next_place
 ends_from zero s p ts l g h = absurd (omega arith)
 ends_from (suc n) s p ts l g h =
@@ -266,14 +267,14 @@ all_end (Err fault) text ts f h = absurd (cc)
 all_end (Ok m) text ts f h = text_ends _ m text ts (f m refl) h
 
 -- The tokens of a text end once.
-pub spelled_ends_once : (text : List ℕ) (defs : List (List ℕ × List ℕ)) (ts : List Token) → Spells text defs ts → EndsOnce ts
+pub spelled_ends_once : (text : List ℕ) (defs : List (List ℕ × List ℕ)) (ts : List Token) → HasTokens text defs ts → EndsOnce ts
 unfolding tokens_of
 spelled_ends_once text defs ts h = all_end _ text ts (λ m e. given_sound defs no_macros m none_sound e) h
 
 -- A text spells one list of tokens.
-pub spelled_once : (text : List ℕ) (defs : List (List ℕ × List ℕ)) (ts us : List Token) → Spells text defs ts → Spells text defs us → ts ≡ us
+pub spelled_once : (text : List ℕ) (defs : List (List ℕ × List ℕ)) (ts us : List Token) → HasTokens text defs ts → HasTokens text defs us → ts ≡ us
 spelled_once text defs ts us h k = let same = sym h ∙ k in cc
 
 -- A refused text spells none.
-pub spelled_none : (text : List ℕ) (defs : List (List ℕ × List ℕ)) (ts : List Token) (fault : LexFault) → Spells text defs ts → tokens_of text defs ≡ Err fault → ⊥
+pub spelled_none : (text : List ℕ) (defs : List (List ℕ × List ℕ)) (ts : List Token) (fault : LexFault) → HasTokens text defs ts → tokens_of text defs ≡ Err fault → ⊥
 spelled_none text defs ts fault h k = let same = sym h ∙ k in cc

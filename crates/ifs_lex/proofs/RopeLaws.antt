@@ -10,7 +10,8 @@ use Rattle.ifs_lex.specs.Expansion.{token}
 use Rattle.ifs_lex.specs.declared.token.What.{What}
 use Rattle.ifs_lex.specs.declared.ropes.Cell.{Cell}
 use Rattle.ifs_lex.specs.declared.ropes.Cell.TheVariants.{Empty, Leaf, Both}
-use Rattle.ifs_lex.specs.inner.Ropes.{whats_at, whats_in, ropes_from, IsEarlier, AreEarlier, Keeps, stacked, weight}
+use Rattle.ifs_lex.specs.inner.Ropes.{whats_at, whats_in, ropes_from, IsEarlier, AreEarlier, KeepsRopes}
+use Rattle.ifs_lex.specs.inner.Ropes.{stacked, weight}
 use Rattle.ifs_lex.specs.inner.Ropes.{weights}
 
 pub length-ropes_from : (before : List (List What)) (cells : List Cell) → length (ropes_from before cells) ≡ length before + length cells
@@ -146,7 +147,7 @@ all_two m l r left one two all a b g h = grind (arith, elements)
 pub record Pushed (old new : List (List What)) (root : ℕ) (ws : List What) : Type 0 where
   pub within : root < length new
   pub whats : whats_at new root ≡ ws
-  pub keeps : Keeps old new
+  pub keeps : KeepsRopes old new
 
 pub pushed : (cells after : List Cell) (old : List (List What)) (root : ℕ) (cell : Cell) → ropes_from [] cells ≡ old → after ≡ cells ++ cell ∷ [] → root ≡ length cells → Pushed old (ropes_from [] after) root (whats_in old cell)
 pushed cells after old root cell e a r =
@@ -202,7 +203,7 @@ turn_lighter before popped after n b l =
     let same = ap weights b ∙ weights-push popped n in
     omega arith
 
-pub kept_same : (cells after : List Cell) (old : List (List What)) → ropes_from [] cells ≡ old → after ≡ cells → Keeps old (ropes_from [] after)
+pub kept_same : (cells after : List Cell) (old : List (List What)) → ropes_from [] cells ≡ old → after ≡ cells → KeepsRopes old (ropes_from [] after)
 kept_same cells after old e a =
     let all = ap (ropes_from []) a ∙ e in
     let size = ap length all in

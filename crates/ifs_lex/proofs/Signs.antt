@@ -5,10 +5,11 @@ use Rattle.ifs_lex.specs.declared.pieces.Sign.{Sign}
 use Rattle.ifs_lex.specs.declared.pieces.Sign.TheVariants.{OpenBrace, CloseBrace, OpenParen}
 use Rattle.ifs_lex.specs.declared.pieces.Sign.TheVariants.{CloseParen, Point, Not, Both, Either}
 use Rattle.ifs_lex.specs.Lexemes.{One, is_last}
-use Rattle.ifs_lex.specs.Expansion.{Macros, Expanded, name_of, is_equals, text_of, whats_of, with_lexeme, with_whats}
+use Rattle.ifs_lex.specs.Expansion.{Macros, Expanded, macro_name_of, is_equals, macro_text_of, whats_of}
+use Rattle.ifs_lex.specs.Expansion.{with_lexeme, with_whats}
 use Rattle.ifs_lex.specs.inner.Pieces.{what_of}
 
-pub sign_name : (sign : Sign) → name_of (One (what_of sign)) ≡ None
+pub sign_name : (sign : Sign) → macro_name_of (One (what_of sign)) ≡ None
 sign_name OpenBrace = refl
 sign_name CloseBrace = refl
 sign_name OpenParen = refl
@@ -28,7 +29,7 @@ sign_equals Not = refl
 sign_equals Both = refl
 sign_equals Either = refl
 
-pub sign_text : (sign : Sign) → text_of (One (what_of sign)) ≡ None
+pub sign_text : (sign : Sign) → macro_text_of (One (what_of sign)) ≡ None
 sign_text OpenBrace = refl
 sign_text CloseBrace = refl
 sign_text OpenParen = refl

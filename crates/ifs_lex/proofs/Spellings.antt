@@ -5,7 +5,7 @@ use Rattle.std.proofs.lemmas.List.{drop_all}
 use Rattle.std.proofs.lemmas.List.Sums.{sum_by-append}
 use Rattle.ifs_lex.specs.declared.token.What.TheVariants.{End}
 use Rattle.ifs_lex.specs.declared.scans.Gap.TheVariants.{Blanks}
-use Rattle.ifs_lex.specs.Lexemes.{Lexeme, One, Scan, scan, is_last, gap_len, lexeme_here, Cursor, Spanned}
+use Rattle.ifs_lex.specs.Lexemes.{Lexeme, One, Scan, scan, is_last, gap_len, lexeme_here, TextCursor, Spanned}
 use Rattle.ifs_lex.specs.Lexemes.{past, lexeme_at, after_lexeme, lexemes_from, lexemes_at, lexemes_of}
 use Rattle.ifs_lex.specs.Spelling.{IsGap, IsLexeme, stands, Spelling, ends, goes_on, Ended}
 use Rattle.ifs_lex.proofs.Spelt.{true_false}
@@ -18,27 +18,27 @@ abbrev newlines : List ℕ → ℕ
 newlines bs = count_by (λ b. eqb b 10) bs
 
 -- The cursor before a byte of a text.
-abbrev pub cursor : List ℕ → ℕ → Cursor
+abbrev pub cursor : List ℕ → ℕ → TextCursor
 cursor text at = record { at = at; line = 1 + newlines (take at text); left = drop at text }
 
 past_is : (text : List ℕ) (at n : ℕ) → past n (cursor text at) ≡ cursor text (at + n)
 past_is text at n =
-    let made : ℕ → List ℕ → Cursor = λ line left. record { at = at + n; line = line; left = left } in
+    let made : ℕ → List ℕ → TextCursor = λ line left. record { at = at + n; line = line; left = left } in
     let parts = ap newlines (take-add at n text) ∙ sum_by-append (λ b. cond (eqb b 10) 1 0) (take at text) (take n (drop at text)) in
     let lines : 1 + newlines (take at text) + newlines (take n (drop at text)) ≡ 1 + newlines (take (at + n) text) = omega arith in
     ap (λ l. made l (drop n (drop at text))) lines ∙ ap (λ xs. made (1 + newlines (take (at + n) text)) xs) (drop-drop n at text)
 
 -- A lexeme from a byte on, and the lexemes after it.
-abbrev pub turn : List ℕ → (Cursor → List Spanned) → ℕ → Scan → List Spanned
+abbrev pub turn : List ℕ → (TextCursor → List Spanned) → ℕ → Scan → List Spanned
 turn text after m s = stands text s.lexeme m (m + s.len) ∷ cond (is_last s.lexeme) [] (after (cursor text (m + s.len)))
 
-abbrev turn_at : (Cursor → List Spanned) → Cursor → List Spanned
+abbrev turn_at : (TextCursor → List Spanned) → TextCursor → List Spanned
 turn_at after q =
     let here = lexeme_here q.left in
     let found : Spanned = record { lexeme = here.lexeme; span = record { line = q.line; start = q.at; end = q.at + here.len } } in
     found ∷ cond (is_last here.lexeme) [] (after (past here.len q))
 
-pub turned : (text : List ℕ) (after : Cursor → List Spanned) (at : ℕ) → lexeme_at (cursor text at) ∷ cond (is_last (lexeme_at (cursor text at)).lexeme) [] (after (after_lexeme (cursor text at))) ≡ turn text after (at + gap_len Blanks (drop at text)) (lexeme_here (drop (at + gap_len Blanks (drop at text)) text))
+pub turned : (text : List ℕ) (after : TextCursor → List Spanned) (at : ℕ) → lexeme_at (cursor text at) ∷ cond (is_last (lexeme_at (cursor text at)).lexeme) [] (after (after_lexeme (cursor text at))) ≡ turn text after (at + gap_len Blanks (drop at text)) (lexeme_here (drop (at + gap_len Blanks (drop at text)) text))
 turned text after at =
     let m = at + gap_len Blanks (drop at text) in
     let s = lexeme_here (drop m text) in

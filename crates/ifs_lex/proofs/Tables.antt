@@ -15,11 +15,11 @@ use Rattle.ifs_lex.specs.declared.ropes.Rope.{Rope}
 use Rattle.ifs_lex.specs.declared.fault.LexFault.{LexFault}
 use Rattle.ifs_lex.specs.declared.fault.LexFault.TheVariants.{OverLimit}
 use Rattle.ifs_lex.specs.Expansion.{Macro, Macros, with_macro, known_as, is_given, value_of, defined}
-use Rattle.ifs_lex.specs.inner.Ropes.{whats_at, Holds, Keeps}
+use Rattle.ifs_lex.specs.inner.Ropes.{whats_at, Holds, KeepsRopes}
 use Rattle.ifs_lex.specs.inner.Kept.{IsValue, macro_of}
 
 -- A value stays one while ropes are added.
-pub value_keeps : (before after : List (List What)) (rope : Rope) → Keeps before after → IsValue before rope → IsValue after rope
+pub value_keeps : (before after : List (List What)) (rope : Rope) → KeepsRopes before after → IsValue before rope → IsValue after rope
 value_keeps before after rope k v = record {
   holds = (omega (arith, k.room, v.holds.0), ap length (k.same rope.root v.holds.0) ∙ v.holds.1);
   within = v.within;
@@ -30,7 +30,7 @@ pub value_found : (ropes : List (List What)) (found : Option Entry) (o : Option 
 value_found ropes None o values e = tt
 value_found ropes (Some entry) o values e = values entry (sym e)
 
-macro_keeps : (before after : List (List What)) (o : Option Entry) → Keeps before after → ((entry : Entry) → o ≡ Some entry → IsValue before entry.rope) → option_map (macro_of after) o ≡ option_map (macro_of before) o
+macro_keeps : (before after : List (List What)) (o : Option Entry) → KeepsRopes before after → ((entry : Entry) → o ≡ Some entry → IsValue before entry.rope) → option_map (macro_of after) o ≡ option_map (macro_of before) o
 macro_keeps before after None k values = refl
 macro_keeps before after (Some entry) k values =
     let v = values entry refl in
@@ -42,7 +42,7 @@ abbrev known_by : List (List What) → (List ℕ → Option Entry) → ℕ → M
 known_by ropes find count = record { known = λ name. option_map (macro_of ropes) (find name); count = count }
 
 -- What a table knows stays the same while ropes are added.
-pub macros_keep : (before after : List (List What)) (find : List ℕ → Option Entry) (count : ℕ) → Keeps before after → ((name : List ℕ) (entry : Entry) → find name ≡ Some entry → IsValue before entry.rope) → known_by after find count ≡ known_by before find count
+pub macros_keep : (before after : List (List What)) (find : List ℕ → Option Entry) (count : ℕ) → KeepsRopes before after → ((name : List ℕ) (entry : Entry) → find name ≡ Some entry → IsValue before entry.rope) → known_by after find count ≡ known_by before find count
 macros_keep before after find count k values =
     let known : List (List What) → List ℕ → Option Macro = λ ropes name. option_map (macro_of ropes) (find name) in
     let same : known after ≡ known before = fun_ext (λ name. macro_keeps before after (find name) k (values name)) in
@@ -107,7 +107,7 @@ unfolding defined
 define_read line given name value m n whats wanted g v e h =
     ap (λ t. cond t (Ok m) (known_as line given name (value_of m value) m)) g ∙ ap (λ o. known_as line given name o m) (sym v) ∙ ap (λ k. known_as line given name (Some whats) k) (sym e) ∙ h
 
-pub keeps_on : (a b c : List (List What)) → Keeps a b → Keeps b c → Keeps a c
+pub keeps_on : (a b c : List (List What)) → KeepsRopes a b → KeepsRopes b c → KeepsRopes a c
 keeps_on a b c first second = record {
   room = omega (arith, first.room, second.room);
   same = λ n l. second.same n (omega (arith, first.room)) ∙ first.same n l;

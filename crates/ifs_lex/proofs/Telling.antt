@@ -5,6 +5,7 @@ use Rattle.std.proofs.Common.{Result, Ok, Err, refl, sym, ◌∙◌, ap, subst, 
 use Rattle.std.specs.Prelude.{is_some}
 use Rattle.std.specs.Option.{option_map_or}
 use Rattle.ifs_base.specs.declared.span.Span.{Span}
+use Rattle.ifs_base.specs.Results.{◌>>=◌}
 use Rattle.ifs_lex.specs.declared.token.What.{What}
 use Rattle.ifs_lex.specs.declared.token.What.TheVariants.{Word, Quoted, BraceOpen, BraceClose, ParenOpen}
 use Rattle.ifs_lex.specs.declared.token.What.TheVariants.{ParenClose, Dot, Equals, Bang, And, Or, End}
@@ -13,12 +14,12 @@ use Rattle.ifs_lex.specs.declared.fault.LexFault.TheVariants as lexing
 use Rattle.ifs_lex.specs.declared.fault.LexFault.TheVariants.{UnknownMacro}
 use Rattle.ifs_lex.specs.declared.fault.LexFault.TheVariants.{BadMacro, OverLimit, Memory}
 use Rattle.ifs_lex.specs.Characters.{is_macro_name}
-use Rattle.ifs_lex.specs.Lexemes.{Lexeme, One, Uses, Stray, Unclosed, Cursor, Spanned, lexeme_at}
+use Rattle.ifs_lex.specs.Lexemes.{Lexeme, One, Uses, Stray, Unclosed, TextCursor, Spanned, lexeme_at}
 use Rattle.ifs_lex.specs.Lexemes.{after_lexeme, is_last, lexemes_from, lexemes_at, lexemes_of, start}
 use Rattle.ifs_lex.specs.Expansion.{Macro, Macros, no_macros, value_of, is_given, known_as, defined, Defines}
-use Rattle.ifs_lex.specs.Expansion.{Stands, name_of, given_text, segments_from, Expanded, expanded, with_whats}
+use Rattle.ifs_lex.specs.Expansion.{Stands, macro_name_of, given_text, segments_from, Expanded, expanded, with_whats}
 use Rattle.ifs_lex.specs.Expansion.{with_use}
-use Rattle.ifs_lex.specs.Expansion.{with_lexeme, with_segment, tokens_after, given_one, given_from, tokens_of, ◌>>=◌}
+use Rattle.ifs_lex.specs.Expansion.{with_lexeme, with_segment, tokens_after, given_one, given_from, tokens_of}
 use Rattle.ifs_lex.specs.Spelling.{Spelling, Ended}
 use Rattle.ifs_lex.specs.Stuck.{StuckWith, SaysStuck}
 use Rattle.ifs_lex.proofs.Unrolled.{fewer_left}
@@ -121,7 +122,7 @@ module _ (fault : LexFault) (h : OfLexemes fault) where
   segments_fault [] zero s k = absurd (cc)
   segments_fault [] (suc n) s k = absurd (cc)
   segments_fault (p ∷ rest) (suc n) s k = inr (segments_fault rest n s k)
-  segments_fault (p ∷ rest) zero s k = segment_fault p rest s (name_of p.lexeme) (given_text rest) (λ n next e. segments_fault rest n next e) k
+  segments_fault (p ∷ rest) zero s k = segment_fault p rest s (macro_name_of p.lexeme) (given_text rest) (λ n next e. segments_fault rest n next e) k
 
   given_one_fault : {B : Type 0} (t : Bool) (name value : List ℕ) (m : Macros) → cond t (defined 0 true name value m) (Err (BadMacro 0)) ≡ Err fault → B
   given_one_fault true name value m k = defined_fault 0 true name value m fault h k
@@ -177,7 +178,7 @@ by_last : (p : Spanned) (t : Bool) (rest : List Spanned) → is_last p.lexeme �
 by_last p true rest e h = last_known p p.lexeme refl e
 by_last p false rest e h = more_known p rest (h e)
 
-known_from : (most : ℕ) (p : Cursor) → length p.left < most → Known (lexemes_from most p)
+known_from : (most : ℕ) (p : TextCursor) → length p.left < most → Known (lexemes_from most p)
 known_from zero p l = absurd (omega (arith, l))
 known_from (suc most) p l =
     by_last (lexeme_at p) (is_last (lexeme_at p).lexeme) (lexemes_from most (after_lexeme p)) refl

@@ -8,7 +8,7 @@ use Rattle.ifs_lex.specs.declared.token.What.TheVariants.{Quoted, And, Or, End}
 use Rattle.ifs_lex.specs.declared.scans.Gap.TheVariants.{Blanks}
 use Rattle.ifs_lex.specs.Characters.{begins_word, continues_word, is_quote}
 use Rattle.ifs_lex.specs.Lexemes.{Lexeme, One, Stray, Unclosed, Scan, scan, begins_with, begins_macro}
-use Rattle.ifs_lex.specs.Lexemes.{gap_len, quoted_value, twice, sign_here, lexeme_here, Cursor, Spanned}
+use Rattle.ifs_lex.specs.Lexemes.{gap_len, quoted_value, twice, sign_here, lexeme_here, TextCursor, Spanned}
 use Rattle.ifs_lex.specs.Lexemes.{past_gap, lexeme_at, after_lexeme, is_last, lexemes_from, lexemes_at, lexemes_of}
 use Rattle.ifs_lex.specs.Expansion.{Macros, whats_of, joined, value_from, value_of}
 
@@ -66,7 +66,7 @@ lexeme_some [] e = absurd (cc)
 lexeme_some (b ∷ rest) e = omega arith
 
 -- What is left gets less.
-pub fewer_left : (p : Cursor) → is_last (lexeme_at p).lexeme ≡ false → length (after_lexeme p).left < length p.left
+pub fewer_left : (p : TextCursor) → is_last (lexeme_at p).lexeme ≡ false → length (after_lexeme p).left < length p.left
 fewer_left p e =
     let q = past_gap p in
     let len = (lexeme_here q.left).len in
@@ -76,7 +76,7 @@ fewer_left p e =
     let second = length-drop len q.left in
     omega arith
 
-pub no_more_left : (p : Cursor) → length (after_lexeme p).left ≤ length p.left
+pub no_more_left : (p : TextCursor) → length (after_lexeme p).left ≤ length p.left
 no_more_left p =
     let q = past_gap p in
     let first = length-drop (gap_len Blanks p.left) p.left in
@@ -87,7 +87,7 @@ same_rest : (t : Bool) (a b : List Spanned) → (t ≡ false → a ≡ b) → co
 same_rest true a b h = refl
 same_rest false a b h = h refl
 
-same_fuel : (n m : ℕ) (p : Cursor) → length p.left < n → length p.left < m → lexemes_from n p ≡ lexemes_from m p
+same_fuel : (n m : ℕ) (p : TextCursor) → length p.left < n → length p.left < m → lexemes_from n p ≡ lexemes_from m p
 same_fuel zero m p l k = absurd (omega arith)
 same_fuel (suc n) zero p l k = absurd (omega arith)
 same_fuel (suc n) (suc m) p l k =
@@ -95,7 +95,7 @@ same_fuel (suc n) (suc m) p l k =
     (same_rest (is_last (lexeme_at p).lexeme) _ _ (λ e. let less = fewer_left p e in same_fuel n m (after_lexeme p) (omega arith) (omega arith)))
 
 -- The next lexeme, then those after it.
-pub lexemes_unroll : (p : Cursor) → lexemes_at p ≡ lexeme_at p ∷ cond (is_last (lexeme_at p).lexeme) [] (lexemes_at (after_lexeme p))
+pub lexemes_unroll : (p : TextCursor) → lexemes_at p ≡ lexeme_at p ∷ cond (is_last (lexeme_at p).lexeme) [] (lexemes_at (after_lexeme p))
 unfolding lexemes_at
 lexemes_unroll p =
     let one : 1 + length p.left ≡ suc (length p.left) = omega arith in
@@ -107,7 +107,7 @@ pub value_none : (m : Macros) (lexemes : List Spanned) → value_from m None lex
 value_none m [] = refl
 value_none m (p ∷ rest) = refl
 
-pub value_turn : (m : Macros) (before : List What) (p : Cursor) → value_from m (Some before) (lexemes_at p) ≡ value_from m (joined before (whats_of m (lexeme_at p).lexeme)) (cond (is_last (lexeme_at p).lexeme) [] (lexemes_at (after_lexeme p)))
+pub value_turn : (m : Macros) (before : List What) (p : TextCursor) → value_from m (Some before) (lexemes_at p) ≡ value_from m (joined before (whats_of m (lexeme_at p).lexeme)) (cond (is_last (lexeme_at p).lexeme) [] (lexemes_at (after_lexeme p)))
 value_turn m before p = ap (value_from m (Some before)) (lexemes_unroll p)
 
 step_by : (m : Macros) (a b : Lexeme) (before : List What) (rest : List Spanned) (o : Option (List What)) → a ≡ b → o ≡ joined before (whats_of m a) → value_from m (joined before (whats_of m b)) (cond (is_last b) [] rest) ≡ value_from m o (cond (is_last a) [] rest)
@@ -117,22 +117,22 @@ step_by m a b before rest o e f = rw (← e, ← f) refl
 moved : (m n : Macros) (a : Lexeme) (before : List What) (o : Option (List What)) → n ≡ m → o ≡ joined before (whats_of n a) → o ≡ joined before (whats_of m a)
 moved m n a before o e f = f ∙ ap (λ k. joined before (whats_of k a)) e
 
-next_of : (m : Macros) (before : List What) (p : Cursor) (a : Lexeme) (o target : Option (List What)) → a ≡ (lexeme_at p).lexeme → o ≡ joined before (whats_of m a) → value_from m (Some before) (lexemes_at p) ≡ target → value_from m o (cond (is_last a) [] (lexemes_at (after_lexeme p))) ≡ target
+next_of : (m : Macros) (before : List What) (p : TextCursor) (a : Lexeme) (o target : Option (List What)) → a ≡ (lexeme_at p).lexeme → o ≡ joined before (whats_of m a) → value_from m (Some before) (lexemes_at p) ≡ target → value_from m o (cond (is_last a) [] (lexemes_at (after_lexeme p))) ≡ target
 next_of m before p a o target e f h =
     sym (step_by m a (lexeme_at p).lexeme before (lexemes_at (after_lexeme p)) o e f) ∙ sym (value_turn m before p) ∙ h
 
-pub value_goes : (m n : Macros) (before more : List What) (p q : Cursor) (a : Lexeme) (target : Option (List What)) → n ≡ m → a ≡ (lexeme_at p).lexeme → q ≡ after_lexeme p → Some more ≡ joined before (whats_of n a) → is_last a ≡ false → value_from m (Some before) (lexemes_at p) ≡ target → value_from m (Some more) (lexemes_at q) ≡ target
+pub value_goes : (m n : Macros) (before more : List What) (p q : TextCursor) (a : Lexeme) (target : Option (List What)) → n ≡ m → a ≡ (lexeme_at p).lexeme → q ≡ after_lexeme p → Some more ≡ joined before (whats_of n a) → is_last a ≡ false → value_from m (Some before) (lexemes_at p) ≡ target → value_from m (Some more) (lexemes_at q) ≡ target
 value_goes m n before more p q a target k e r f l h =
     ap (λ t. value_from m (Some more) (lexemes_at t)) r ∙
     sym (ap (λ t. value_from m (Some more) (cond t [] (lexemes_at (after_lexeme p)))) l) ∙
     next_of m before p a (Some more) target e (moved m n a before (Some more) k f) h
 
-pub value_ends : (m n : Macros) (before more : List What) (p : Cursor) (a : Lexeme) (target : Option (List What)) → n ≡ m → a ≡ (lexeme_at p).lexeme → Some more ≡ joined before (whats_of n a) → is_last a ≡ true → value_from m (Some before) (lexemes_at p) ≡ target → Some more ≡ target
+pub value_ends : (m n : Macros) (before more : List What) (p : TextCursor) (a : Lexeme) (target : Option (List What)) → n ≡ m → a ≡ (lexeme_at p).lexeme → Some more ≡ joined before (whats_of n a) → is_last a ≡ true → value_from m (Some before) (lexemes_at p) ≡ target → Some more ≡ target
 value_ends m n before more p a target k e f l h =
     sym (ap (λ t. value_from m (Some more) (cond t [] (lexemes_at (after_lexeme p)))) l) ∙
     next_of m before p a (Some more) target e (moved m n a before (Some more) k f) h
 
-pub value_fails : (m n : Macros) (before : List What) (p : Cursor) (a : Lexeme) (target : Option (List What)) → n ≡ m → a ≡ (lexeme_at p).lexeme → None ≡ joined before (whats_of n a) → value_from m (Some before) (lexemes_at p) ≡ target → None ≡ target
+pub value_fails : (m n : Macros) (before : List What) (p : TextCursor) (a : Lexeme) (target : Option (List What)) → n ≡ m → a ≡ (lexeme_at p).lexeme → None ≡ joined before (whats_of n a) → value_from m (Some before) (lexemes_at p) ≡ target → None ≡ target
 value_fails m n before p a target k e f h =
     sym (value_none m (cond (is_last a) [] (lexemes_at (after_lexeme p)))) ∙
     next_of m before p a None target e (moved m n a before None k f) h
@@ -145,8 +145,8 @@ value_whole m text l =
     ap (λ b. cond b None (value_from m (Some []) (lexemes_of text))) t
 
 -- Where nothing is left to read a cursor is not passed.
-pub last_moves : (p : Cursor) (a : Lexeme) (q : Cursor) → a ≡ (lexeme_at p).lexeme → q ≡ after_lexeme p → is_last a ≡ false → length q.left < length p.left
+pub last_moves : (p : TextCursor) (a : Lexeme) (q : TextCursor) → a ≡ (lexeme_at p).lexeme → q ≡ after_lexeme p → is_last a ≡ false → length q.left < length p.left
 last_moves p a q e r l =
     let less = fewer_left p (ap is_last (sym e) ∙ l) in
-    let same = ap (λ (t : Cursor). length t.left) r in
+    let same = ap (λ (t : TextCursor). length t.left) r in
     omega arith

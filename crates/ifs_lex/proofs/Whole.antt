@@ -4,16 +4,17 @@ use Rattle.std.proofs.Common.{Option, Some, None, option_map, Result, Ok, Err, r
 use Rattle.std.specs.Prelude.{is_some}
 use Rattle.std.specs.Option.{option_map_or}
 use Rattle.ifs_base.specs.declared.span.Span.{Span}
+use Rattle.ifs_base.specs.Results.{◌>>=◌}
 use Rattle.ifs_lex.specs.declared.token.What.{What}
 use Rattle.ifs_lex.specs.declared.token.What.TheVariants.{End}
 use Rattle.ifs_lex.specs.declared.token.Token.{Token}
 use Rattle.ifs_lex.specs.declared.fault.LexFault.{LexFault}
 use Rattle.ifs_lex.specs.declared.fault.LexFault.TheVariants.{OverLimit}
-use Rattle.ifs_lex.specs.Lexemes.{Lexeme, One, Uses, Stray, Unclosed, Cursor, Spanned, lexeme_at}
+use Rattle.ifs_lex.specs.Lexemes.{Lexeme, One, Uses, Stray, Unclosed, TextCursor, Spanned, lexeme_at}
 use Rattle.ifs_lex.specs.Lexemes.{after_lexeme, is_last, lexemes_at, lexemes_of, start}
 use Rattle.ifs_lex.specs.Expansion.{Macros, no_macros, whats_of, joined, value_from, value_of}
-use Rattle.ifs_lex.specs.Expansion.{name_of, is_equals, text_of, Expanded, expanded, with_lexeme}
-use Rattle.ifs_lex.specs.Expansion.{tokens_after, segments_from, given_from, tokens_of, ◌>>=◌, Spells}
+use Rattle.ifs_lex.specs.Expansion.{macro_name_of, is_equals, macro_text_of, Expanded, expanded, with_lexeme}
+use Rattle.ifs_lex.specs.Expansion.{tokens_after, segments_from, given_from, tokens_of, HasTokens}
 use Rattle.ifs_lex.specs.Spelling.{Spelling, Ended}
 use Rattle.ifs_lex.specs.inner.Turns.{text_here, definition_here, after_definition, with_turn}
 use Rattle.ifs_lex.proofs.Unrolled.{lexemes_unroll, fewer_left, value_none, value_turn}
@@ -21,12 +22,12 @@ use Rattle.ifs_lex.proofs.Segments.{equals_last, text_last, turn_is, ending, tur
 use Rattle.ifs_lex.proofs.Endings.{no_definition}
 use Rattle.ifs_lex.proofs.Spellings.{ended_more, spelling_found}
 
-ended_here : (p : Cursor) → is_last (lexeme_at p).lexeme ≡ true → (lexeme_at p).lexeme ≡ One End → Ended (lexemes_at p)
+ended_here : (p : TextCursor) → is_last (lexeme_at p).lexeme ≡ true → (lexeme_at p).lexeme ≡ One End → Ended (lexemes_at p)
 ended_here p l e =
     let P : List Spanned → Type 0 = λ xs. Ended xs in
     subst P (sym (lexemes_unroll p ∙ ap (λ t. lexeme_at p ∷ cond t [] (lexemes_at (after_lexeme p))) l)) e
 
-ended_before : (p : Cursor) → is_last (lexeme_at p).lexeme ≡ false → Ended (lexemes_at (after_lexeme p)) → Ended (lexemes_at p)
+ended_before : (p : TextCursor) → is_last (lexeme_at p).lexeme ≡ false → Ended (lexemes_at (after_lexeme p)) → Ended (lexemes_at p)
 ended_before p l h =
     let P : List Spanned → Type 0 = λ xs. Ended xs in
     subst P (sym (lexemes_unroll p ∙ ap (λ t. lexeme_at p ∷ cond t [] (lexemes_at (after_lexeme p))) l)) (ended_more (lexeme_at p) (lexemes_at (after_lexeme p)) h)
@@ -35,16 +36,16 @@ ended_before p l h =
 abbrev given : Option (List ℕ) → Option (List ℕ) → Option (List ℕ × List ℕ)
 given name text = option_map_or (λ n. option_map (λ t. (n, t)) text) name None
 
-definition_case : (q : Cursor) (name : Option (List ℕ)) (t : Bool) (o : Option (List ℕ)) → is_equals (lexeme_at q).lexeme ≡ t → text_of (lexeme_at (after_lexeme q)).lexeme ≡ o → is_some (given name (cond t o None)) ≡ true → (is_last (lexeme_at q).lexeme ≡ false) × (is_last (lexeme_at (after_lexeme q)).lexeme ≡ false)
+definition_case : (q : TextCursor) (name : Option (List ℕ)) (t : Bool) (o : Option (List ℕ)) → is_equals (lexeme_at q).lexeme ≡ t → macro_text_of (lexeme_at (after_lexeme q)).lexeme ≡ o → is_some (given name (cond t o None)) ≡ true → (is_last (lexeme_at q).lexeme ≡ false) × (is_last (lexeme_at (after_lexeme q)).lexeme ≡ false)
 definition_case q None t o e f h = absurd (cc)
 definition_case q (Some n) false o e f h = absurd (cc)
 definition_case q (Some n) true None e f h = absurd (cc)
 definition_case q (Some n) true (Some x) e f h = (equals_last (lexeme_at q).lexeme e, text_last (lexeme_at (after_lexeme q)).lexeme x f)
 
-after_part : (q : Cursor) (i : Lexeme) (t : Bool) → is_some (definition_here q i) ≡ t → Ended (lexemes_at (after_definition q t)) → Ended (lexemes_at q)
+after_part : (q : TextCursor) (i : Lexeme) (t : Bool) → is_some (definition_here q i) ≡ t → Ended (lexemes_at (after_definition q t)) → Ended (lexemes_at q)
 after_part q i false e h = h
 after_part q i true e h =
-    let f = definition_case q (name_of i) _ _ refl refl e in
+    let f = definition_case q (macro_name_of i) _ _ refl refl e in
     ended_before q f.0 (ended_before (after_lexeme q) f.1 h)
 
 lexeme_end : (span : Span) (i : Lexeme) (s next : Expanded) → is_last i ≡ true → with_lexeme span i s ≡ Ok next → i ≡ One End
@@ -54,26 +55,26 @@ lexeme_end span (Uses _) s next l h = absurd (cc)
 lexeme_end span Stray s next l h = absurd (cc)
 lexeme_end span Unclosed s next l h = absurd (cc)
 
-turn_end : (p : Cursor) (s next : Expanded) → is_last (lexeme_at p).lexeme ≡ true → with_turn (lexeme_at p) (definition_here (after_lexeme p) (lexeme_at p).lexeme) s ≡ Ok next → (lexeme_at p).lexeme ≡ One End
+turn_end : (p : TextCursor) (s next : Expanded) → is_last (lexeme_at p).lexeme ≡ true → with_turn (lexeme_at p) (definition_here (after_lexeme p) (lexeme_at p).lexeme) s ≡ Ok next → (lexeme_at p).lexeme ≡ One End
 turn_end p s next l e =
     let none = no_definition (lexeme_at p).lexeme l in
     lexeme_end (lexeme_at p).span (lexeme_at p).lexeme s next l
     (sym (ap (λ o. with_turn (lexeme_at p) (given o (text_here (after_lexeme p))) s) none) ∙ e)
 
 -- The cursor after the segment that stands at a cursor.
-abbrev next_place : Cursor → Cursor
+abbrev next_place : TextCursor → TextCursor
 next_place p = after_definition (after_lexeme p) (is_some (definition_here (after_lexeme p) (lexeme_at p).lexeme))
 
-by_last : (last : Bool) (s next : Expanded) (p : Cursor) (ts : List Token) → is_last (lexeme_at p).lexeme ≡ last → with_turn (lexeme_at p) (definition_here (after_lexeme p) (lexeme_at p).lexeme) s ≡ Ok next → ending last (next_place p) next ≡ Ok ts → (is_last (lexeme_at p).lexeme ≡ false → tokens_after next (segments_from 0 (lexemes_at (next_place p))) ≡ Ok ts → Ended (lexemes_at (next_place p))) → Ended (lexemes_at p)
+by_last : (last : Bool) (s next : Expanded) (p : TextCursor) (ts : List Token) → is_last (lexeme_at p).lexeme ≡ last → with_turn (lexeme_at p) (definition_here (after_lexeme p) (lexeme_at p).lexeme) s ≡ Ok next → ending last (next_place p) next ≡ Ok ts → (is_last (lexeme_at p).lexeme ≡ false → tokens_after next (segments_from 0 (lexemes_at (next_place p))) ≡ Ok ts → Ended (lexemes_at (next_place p))) → Ended (lexemes_at p)
 unfolding ending
 by_last true s next p ts l e k rest = ended_here p l (turn_end p s next l e)
 by_last false s next p ts l e k rest = ended_before p l (after_part (after_lexeme p) (lexeme_at p).lexeme _ refl (rest l k))
 
-by_turn : (w : Result Expanded LexFault) (s : Expanded) (p : Cursor) (ts : List Token) → with_turn (lexeme_at p) (definition_here (after_lexeme p) (lexeme_at p).lexeme) s ≡ w → (w >>= ending (is_last (lexeme_at p).lexeme) (next_place p)) ≡ Ok ts → ((next : Expanded) → is_last (lexeme_at p).lexeme ≡ false → tokens_after next (segments_from 0 (lexemes_at (next_place p))) ≡ Ok ts → Ended (lexemes_at (next_place p))) → Ended (lexemes_at p)
+by_turn : (w : Result Expanded LexFault) (s : Expanded) (p : TextCursor) (ts : List Token) → with_turn (lexeme_at p) (definition_here (after_lexeme p) (lexeme_at p).lexeme) s ≡ w → (w >>= ending (is_last (lexeme_at p).lexeme) (next_place p)) ≡ Ok ts → ((next : Expanded) → is_last (lexeme_at p).lexeme ≡ false → tokens_after next (segments_from 0 (lexemes_at (next_place p))) ≡ Ok ts → Ended (lexemes_at (next_place p))) → Ended (lexemes_at p)
 by_turn (Err fault) s p ts e k rest = absurd (cc)
 by_turn (Ok next) s p ts e k rest = by_last _ s next p ts refl e k (rest next)
 
-ended_from : (n : ℕ) (s : Expanded) (p : Cursor) (ts : List Token) → length p.left < n → tokens_after s (segments_from 0 (lexemes_at p)) ≡ Ok ts → Ended (lexemes_at p)
+ended_from : (n : ℕ) (s : Expanded) (p : TextCursor) (ts : List Token) → length p.left < n → tokens_after s (segments_from 0 (lexemes_at p)) ≡ Ok ts → Ended (lexemes_at p)
 ended_from zero s p ts l h = absurd (omega arith)
 ended_from (suc n) s p ts l h =
     by_turn _ s p ts refl (sym (turn_is s p) ∙ h)
@@ -90,7 +91,7 @@ macros_case (Err fault) text ts h = absurd (cc)
 macros_case (Ok m) text ts h = text_case _ m text ts h
 
 -- A text that spells tokens has a list of lexemes.
-pub spelled_lexemes : (text : List ℕ) (defs : List (List ℕ × List ℕ)) (ts : List Token) → Spells text defs ts → Spelling text 0 (lexemes_of text)
+pub spelled_lexemes : (text : List ℕ) (defs : List (List ℕ × List ℕ)) (ts : List Token) → HasTokens text defs ts → Spelling text 0 (lexemes_of text)
 unfolding tokens_of
 spelled_lexemes text defs ts h = spelling_found text (lexemes_of text) refl (macros_case (given_from no_macros defs) text ts h)
 
@@ -101,17 +102,17 @@ value_end m before more (Uses _) l h = absurd (cc)
 value_end m before more Stray l h = absurd (cc)
 value_end m before more Unclosed l h = absurd (cc)
 
-value_last : (m : Macros) (before more ws : List What) (p : Cursor) (last : Bool) → is_last (lexeme_at p).lexeme ≡ last → joined before (whats_of m (lexeme_at p).lexeme) ≡ Some more → value_from m (Some more) (cond last [] (lexemes_at (after_lexeme p))) ≡ Some ws → (is_last (lexeme_at p).lexeme ≡ false → value_from m (Some more) (lexemes_at (after_lexeme p)) ≡ Some ws → Ended (lexemes_at (after_lexeme p))) → Ended (lexemes_at p)
+value_last : (m : Macros) (before more ws : List What) (p : TextCursor) (last : Bool) → is_last (lexeme_at p).lexeme ≡ last → joined before (whats_of m (lexeme_at p).lexeme) ≡ Some more → value_from m (Some more) (cond last [] (lexemes_at (after_lexeme p))) ≡ Some ws → (is_last (lexeme_at p).lexeme ≡ false → value_from m (Some more) (lexemes_at (after_lexeme p)) ≡ Some ws → Ended (lexemes_at (after_lexeme p))) → Ended (lexemes_at p)
 value_last m before more ws p true l e h rest = ended_here p l (value_end m before more (lexeme_at p).lexeme l e)
 value_last m before more ws p false l e h rest = ended_before p l (rest l h)
 
-value_case : (m : Macros) (before ws : List What) (p : Cursor) (o : Option (List What)) → joined before (whats_of m (lexeme_at p).lexeme) ≡ o → value_from m o (cond (is_last (lexeme_at p).lexeme) [] (lexemes_at (after_lexeme p))) ≡ Some ws → ((more : List What) → is_last (lexeme_at p).lexeme ≡ false → value_from m (Some more) (lexemes_at (after_lexeme p)) ≡ Some ws → Ended (lexemes_at (after_lexeme p))) → Ended (lexemes_at p)
+value_case : (m : Macros) (before ws : List What) (p : TextCursor) (o : Option (List What)) → joined before (whats_of m (lexeme_at p).lexeme) ≡ o → value_from m o (cond (is_last (lexeme_at p).lexeme) [] (lexemes_at (after_lexeme p))) ≡ Some ws → ((more : List What) → is_last (lexeme_at p).lexeme ≡ false → value_from m (Some more) (lexemes_at (after_lexeme p)) ≡ Some ws → Ended (lexemes_at (after_lexeme p))) → Ended (lexemes_at p)
 value_case m before ws p None e h rest =
     let none = value_none m (cond (is_last (lexeme_at p).lexeme) [] (lexemes_at (after_lexeme p))) in
     let same = sym none ∙ h in absurd (cc)
 value_case m before ws p (Some more) e h rest = value_last m before more ws p _ refl e h (rest more)
 
-value_ended : (n : ℕ) (m : Macros) (before ws : List What) (p : Cursor) → length p.left < n → value_from m (Some before) (lexemes_at p) ≡ Some ws → Ended (lexemes_at p)
+value_ended : (n : ℕ) (m : Macros) (before ws : List What) (p : TextCursor) → length p.left < n → value_from m (Some before) (lexemes_at p) ≡ Some ws → Ended (lexemes_at p)
 value_ended zero m before ws p l h = absurd (omega arith)
 value_ended (suc n) m before ws p l h =
     value_case m before ws p _ refl (sym (value_turn m before p) ∙ h)

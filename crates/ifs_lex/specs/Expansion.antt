@@ -4,6 +4,7 @@ use Rattle.std.specs.Prelude.{[], ◌∷◌, ◌++◌, length, map, Option, Some
 use Rattle.std.specs.Option.{option_map_or}
 use Rattle.std.specs.Str.{bytes_eq}
 use Rattle.ifs_base.specs.declared.span.Span.{Span}
+use Rattle.ifs_base.specs.Results.{◌>>=◌}
 use Rattle.ifs_lex.specs.declared.token.What.{What}
 use Rattle.ifs_lex.specs.declared.token.What.TheVariants.{Word, Quoted, Equals, End}
 use Rattle.ifs_lex.specs.declared.token.Token.{Token}
@@ -79,12 +80,12 @@ pub data Segment : Type 0 where
   Stands : Spanned → Segment
 
 -- The name that a lexeme can give to a macro.
-abbrev pub name_of : Lexeme → Option (List ℕ)
-name_of (One (Word name)) = if is_macro_name name && not (is_reserved name) then Some name else None
-name_of (One _) = None
-name_of (Uses _) = None
-name_of Stray = None
-name_of Unclosed = None
+abbrev pub macro_name_of : Lexeme → Option (List ℕ)
+macro_name_of (One (Word name)) = if is_macro_name name && not (is_reserved name) then Some name else None
+macro_name_of (One _) = None
+macro_name_of (Uses _) = None
+macro_name_of Stray = None
+macro_name_of Unclosed = None
 
 -- The sign `=`.
 abbrev pub is_equals : Lexeme → Bool
@@ -95,24 +96,24 @@ is_equals Stray = false
 is_equals Unclosed = false
 
 -- The text that a lexeme can give to a macro: a word that is not reserved, or a quoted text.
-abbrev pub text_of : Lexeme → Option (List ℕ)
-text_of (One (Word word)) = if is_reserved word then None else Some word
-text_of (One (Quoted text)) = Some text
-text_of (One _) = None
-text_of (Uses _) = None
-text_of Stray = None
-text_of Unclosed = None
+abbrev pub macro_text_of : Lexeme → Option (List ℕ)
+macro_text_of (One (Word word)) = if is_reserved word then None else Some word
+macro_text_of (One (Quoted text)) = Some text
+macro_text_of (One _) = None
+macro_text_of (Uses _) = None
+macro_text_of Stray = None
+macro_text_of Unclosed = None
 
 -- The text that the next two lexemes give to a name: the sign `=` and a string.
 abbrev pub given_text : List Spanned → Option (List ℕ)
 given_text [] = None
 given_text (e ∷ []) = None
-given_text (e ∷ v ∷ rest) = if is_equals e.lexeme then text_of v.lexeme else None
+given_text (e ∷ v ∷ rest) = if is_equals e.lexeme then macro_text_of v.lexeme else None
 
 -- The definition that begins with a lexeme, by the lexemes after it.
 abbrev pub definition_at : Spanned → List Spanned → Option Segment
 definition_at p rest =
-    option_map_or (λ name. option_map (λ text. Defines name text p.span) (given_text rest)) (name_of p.lexeme) None
+    option_map_or (λ name. option_map (λ text. Defines name text p.span) (given_text rest)) (macro_name_of p.lexeme) None
 
 -- The segments of a text, so many lexemes left out; a definition is three lexemes.
 abbrev pub segments_from : ℕ → List Spanned → List Segment
@@ -152,12 +153,6 @@ with_lexeme span (Uses name) s = with_use span (s.macros.known name) s
 with_lexeme span Stray s = Err (lexing.Stray span.line)
 with_lexeme span Unclosed s = Err (lexing.Unclosed span.line)
 
--- Goes on where nothing was wrong.
-infixl 10 ◌>>=◌
-abbrev pub ◌>>=◌ : {A B : Type 0} → Result A LexFault → (A → Result B LexFault) → Result B LexFault
-(Ok x) >>= f = f x
-(Err fault) >>= f = Err fault
-
 -- With what a segment gives.
 unfoldable pub with_segment : Segment → Expanded → Result Expanded LexFault
 with_segment (Defines name value span) s = defined span.line false name value s.macros >>= λ m. Ok (expanded s.tokens m)
@@ -184,8 +179,8 @@ tokens_of text defs =
     if nat_lt 1048576 (length text) then Err (OverLimit 1) else tokens_after (expanded [] m) (segments_from 0 (lexemes_of text))
 
 -- The tokens that a text spells under what is given beside it.
-abbrev pub Spells : List ℕ → List (List ℕ × List ℕ) → List Token → Type 0
-Spells text defs tokens = tokens_of text defs ≡ Ok tokens
+abbrev pub HasTokens : List ℕ → List (List ℕ × List ℕ) → List Token → Type 0
+HasTokens text defs tokens = tokens_of text defs ≡ Ok tokens
 
 -- The end of a text.
 abbrev pub is_end : What → Bool

@@ -107,13 +107,13 @@ lexeme_here (b ∷ rest) =
     if b == 36 then use_here rest else sign_here b rest
 
 -- A cursor in a text: how many bytes stand before it, its line, and the bytes that are left.
-pub record Cursor : Type 0 where
+pub record TextCursor : Type 0 where
   pub at : ℕ
   pub line : ℕ
   pub left : List ℕ
 
 -- The cursor so many bytes on.
-abbrev pub past : ℕ → Cursor → Cursor
+abbrev pub past : ℕ → TextCursor → TextCursor
 past n p = record {
   at = p.at + n;
   line = p.line + count_by (λ b. b == 10) (take n p.left);
@@ -121,7 +121,7 @@ past n p = record {
 }
 
 -- Past blanks and comments.
-abbrev pub past_gap : Cursor → Cursor
+abbrev pub past_gap : TextCursor → TextCursor
 past_gap p = past (gap_len Blanks p.left) p
 
 -- A lexeme and where it stands.
@@ -130,13 +130,13 @@ pub record Spanned : Type 0 where
   pub span : Span
 
 -- The next lexeme.
-abbrev pub lexeme_at : Cursor → Spanned
+abbrev pub lexeme_at : TextCursor → Spanned
 lexeme_at p =
     let q = past_gap p in let here = lexeme_here q.left in
     record { lexeme = here.lexeme; span = record { line = q.line; start = q.at; end = q.at + here.len } }
 
 -- The cursor after it.
-abbrev pub after_lexeme : Cursor → Cursor
+abbrev pub after_lexeme : TextCursor → TextCursor
 after_lexeme p = let q = past_gap p in past (lexeme_here q.left).len q
 
 -- Nothing is read after the end of the text, nor after what begins no lexeme.
@@ -148,17 +148,17 @@ is_last Stray = true
 is_last Unclosed = true
 
 -- The lexemes from a cursor on, at most so many.
-abbrev pub lexemes_from : ℕ → Cursor → List Spanned
+abbrev pub lexemes_from : ℕ → TextCursor → List Spanned
 lexemes_from zero p = []
 lexemes_from (suc most) p =
     let found = lexeme_at p in found ∷ (if is_last found.lexeme then [] else lexemes_from most (after_lexeme p))
 
 -- The lexemes from a cursor on; each has a byte at least.
-unfoldable pub lexemes_at : Cursor → List Spanned
+unfoldable pub lexemes_at : TextCursor → List Spanned
 lexemes_at p = lexemes_from (1 + length p.left) p
 
 -- The cursor at which a text begins.
-abbrev pub start : List ℕ → Cursor
+abbrev pub start : List ℕ → TextCursor
 start text = record { at = 0; line = 1; left = text }
 
 -- The lexemes of a text.

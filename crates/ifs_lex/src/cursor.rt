@@ -35,7 +35,7 @@ impl<'a> Model for Cursor<'a> {
     ghost use Rattle.std.specs.Prelude.{◌+◌, ◌≤◌, length};
     ghost use Rattle.ifs_lex.specs.Lexemes as lexemes;
 
-    ghost Value = { lexemes.Cursor };
+    ghost Value = { lexemes.TextCursor };
 
     ghost view = { λ p. record { at = p.at; line = p.line; left = p.left.now } };
 

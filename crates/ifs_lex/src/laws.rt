@@ -3,7 +3,7 @@
 ghost use Rattle.std.specs.Prelude.{◌≡◌, ◌⊎◌, ℕ, Bool, true, false, Some, List};
 ghost use Rattle.ifs_lex.specs.declared.token.Token.{Token};
 ghost use Rattle.ifs_lex.specs.declared.token.What.{What};
-ghost use Rattle.ifs_lex.specs.Expansion.{EndsOnce, Macros, Spells, value_of};
+ghost use Rattle.ifs_lex.specs.Expansion.{EndsOnce, Macros, HasTokens, value_of};
 ghost use Rattle.ifs_lex.specs.Characters.{is_quote};
 ghost use Rattle.ifs_lex.specs.Lexemes.{Spanned, inside_len, lexemes_of, quoted_value};
 ghost use Rattle.ifs_lex.specs.Stuck.{IsStuck, StuckWith};
@@ -14,13 +14,13 @@ ghost use Rattle.std.specs.List.{prefix_len};
 /// A text spells at most one list of tokens under what is given beside it.
 pub fn one_list()
     ensures { (text : List ℕ) (defs : List (List ℕ × List ℕ)) (tokens other : List Token)
-        → Spells text defs tokens → Spells text defs other → tokens ≡ other }
+        → HasTokens text defs tokens → HasTokens text defs other → tokens ≡ other }
 {}
 
 /// The one end stands last.
 pub fn ends_once()
     ensures { (text : List ℕ) (defs : List (List ℕ × List ℕ)) (tokens : List Token)
-        → Spells text defs tokens → EndsOnce tokens }
+        → HasTokens text defs tokens → EndsOnce tokens }
 {}
 
 /// A run of bytes that is as long as it can be is the one that is read, of words and of names.
@@ -50,7 +50,7 @@ pub fn one_spelling()
 /// A text that spells tokens has a list of lexemes, and so has one that is the value of a macro.
 pub fn spelled_lexemes()
     ensures text { (text : List ℕ) (defs : List (List ℕ × List ℕ)) (tokens : List Token)
-        → Spells text defs tokens → Spelling text 0 (lexemes_of text) }
+        → HasTokens text defs tokens → Spelling text 0 (lexemes_of text) }
     ensures value { (known : Macros) (text : List ℕ) (whats : List What) → value_of known text ≡ Some whats → Spelling text 0 (lexemes_of text) }
 {}
 

@@ -38,8 +38,8 @@ impl<'a> MacroTable<'a> {
     ghost use Rattle.ifs_lex.specs.Expansion.{no_macros, with_macro, whats_of, joined};
     ghost use Rattle.ifs_lex.specs.Expansion.{value_of, defined, is_given, known_as, token};
     ghost use Rattle.ifs_lex.specs.inner.Pieces.{lexeme_of};
-    ghost use Rattle.ifs_lex.specs.inner.Ropes.{whats_at, Keeps};
-    ghost use Rattle.ifs_lex.specs.inner.Kept.{macro_of, whats_of_rope, Answers};
+    ghost use Rattle.ifs_lex.specs.inner.Ropes.{whats_at, KeepsRopes};
+    ghost use Rattle.ifs_lex.specs.inner.Kept.{macro_of, whats_of_rope, IsAsWanted};
     ghost use Rattle.ifs_lex.specs.inner.Known.{macros_of};
 
     /// No macro.
@@ -78,7 +78,7 @@ impl<'a> MacroTable<'a> {
     fn leaf(&mut self, what: What) -> Result<Rope, AllocError>
         ensures whats { IfOk result (λ rope. whats_at self.new.ropes rope.root ≡ what ∷ []) }
         ensures value { IfOk result (λ rope. IsValue self.new.ropes rope) }
-        ensures keeps { Keeps self.old.ropes self.new.ropes }
+        ensures keeps { KeepsRopes self.old.ropes self.new.ropes }
         ensures same { macros_of self.new ≡ macros_of self.old }
     {
         let rope = self.ropes.leaf(what)?;
@@ -91,7 +91,7 @@ impl<'a> MacroTable<'a> {
         requires within { left.count + right.count ≤ 16384 }
         ensures whats { IfOk result (λ rope. whats_at self.new.ropes rope.root ≡ whats_at self.old.ropes left.root ++ whats_at self.old.ropes right.root) }
         ensures value { IfOk result (λ rope. IsValue self.new.ropes rope) }
-        ensures keeps { Keeps self.old.ropes self.new.ropes }
+        ensures keeps { KeepsRopes self.old.ropes self.new.ropes }
         ensures same { macros_of self.new ≡ macros_of self.old }
     {
         let rope = self.ropes.both(left, right)?;
@@ -103,7 +103,7 @@ impl<'a> MacroTable<'a> {
     fn part(&mut self, alloc: Global, piece: Piece<'_>) -> Result<Option<Rope>, AllocError>
         ensures whats { IfOk result (λ part. option_map (whats_of_rope self.new.ropes) part ≡ whats_of (macros_of self.old) (lexeme_of piece.entry)) }
         ensures value { IfOk result (λ part. IfSome part (λ rope. IsValue self.new.ropes rope)) }
-        ensures keeps { Keeps self.old.ropes self.new.ropes }
+        ensures keeps { KeepsRopes self.old.ropes self.new.ropes }
         ensures same { macros_of self.new ≡ macros_of self.old }
     {
         match piece {
@@ -140,7 +140,7 @@ impl<'a> MacroTable<'a> {
         requires { IsValue self.old.ropes before }
         ensures whats { IfOk result (λ more. option_map (whats_of_rope self.new.ropes) more ≡ joined (whats_of_rope self.old.ropes before) (whats_of (macros_of self.old) (lexeme_of piece.entry))) }
         ensures value { IfOk result (λ more. IfSome more (λ rope. IsValue self.new.ropes rope)) }
-        ensures keeps { Keeps self.old.ropes self.new.ropes }
+        ensures keeps { KeepsRopes self.old.ropes self.new.ropes }
         ensures same { macros_of self.new ≡ macros_of self.old }
     {
         match self.part(alloc, piece)? {
@@ -160,7 +160,7 @@ impl<'a> MacroTable<'a> {
     fn value_of(&mut self, alloc: Global, text: &str) -> Result<Option<Rope>, AllocError>
         ensures whats { IfOk result (λ value. option_map (whats_of_rope self.new.ropes) value ≡ value_of (macros_of self.old) text.now) }
         ensures value { IfOk result (λ value. IfSome value (λ rope. IsValue self.new.ropes rope)) }
-        ensures keeps { Keeps self.old.ropes self.new.ropes }
+        ensures keeps { KeepsRopes self.old.ropes self.new.ropes }
         ensures same { macros_of self.new ≡ macros_of self.old }
     {
         if text.len() > MAX_TEXT {
@@ -201,7 +201,7 @@ impl<'a> MacroTable<'a> {
 
     fn put(&mut self, line: u32, name: &'a str, entry: Entry) -> Result<(), LexFault>
         requires { IsValue self.old.ropes entry.rope }
-        ensures { Answers
+        ensures { IsAsWanted
             (λ done. macros_of self.new)
             result
             (known_as line entry.given name.now (Some (whats_of_rope self.old.ropes entry.rope)) (macros_of self.old)) }
@@ -223,7 +223,7 @@ impl<'a> MacroTable<'a> {
         name: &'a str,
         value: &str,
     ) -> Result<(), LexFault>
-        ensures { Answers (λ done. macros_of self.new) result (defined line given name.now value.now (macros_of self.old)) }
+        ensures { IsAsWanted (λ done. macros_of self.new) result (defined line given name.now value.now (macros_of self.old)) }
     {
         if self.is_given(name) {
             return Ok(());

@@ -76,7 +76,7 @@ impl<'a> Piece<'a> {
     /// The name that the piece can give to a macro.
     #[tactic(auto, using(crate::proofs::Signs::sign_name))]
     pub fn name(&self) -> Option<&'a str>
-        ensures { option_map (λ name. name.now) result ≡ expansion.name_of (lexeme_of self.now) }
+        ensures { option_map (λ name. name.now) result ≡ expansion.macro_name_of (lexeme_of self.now) }
     {
         match *self {
             Piece::Bare(word) => {
@@ -132,7 +132,7 @@ impl<'a> Piece<'a> {
     /// The text that the piece can give to a macro.
     #[tactic(auto, using(crate::proofs::Signs::sign_text))]
     pub fn text(&self, alloc: Global) -> Result<Option<Text>, AllocError>
-        ensures { IfOk result (λ text. text ≡ expansion.text_of (lexeme_of self.now)) }
+        ensures { IfOk result (λ text. text ≡ expansion.macro_text_of (lexeme_of self.now)) }
     {
         match *self {
             Piece::Bare(word) => {

@@ -8,8 +8,8 @@ ghost use Rattle.ifs_lex.specs.declared.token.Token.{Token};
 ghost use Rattle.ifs_lex.specs.declared.fault.LexFault.TheVariants.{Memory};
 ghost use Rattle.ifs_lex.specs.Lexemes.{lexemes_of};
 ghost use Rattle.ifs_lex.specs.Expansion.{expanded, tokens_after, segments_from, given_one};
-ghost use Rattle.ifs_lex.specs.Expansion.{given_from, tokens_of, Spells, EndsOnce};
-ghost use Rattle.ifs_lex.specs.inner.Kept.{Answers};
+ghost use Rattle.ifs_lex.specs.Expansion.{given_from, tokens_of, HasTokens, EndsOnce};
+ghost use Rattle.ifs_lex.specs.inner.Kept.{IsAsWanted};
 ghost use Rattle.ifs_lex.specs.inner.Known.{macros_of};
 ghost use Rattle.ifs_lex.specs.inner.Pieces.{lexeme_of};
 ghost use Rattle.ifs_lex.specs.Stuck.{SaysStuck};
@@ -72,7 +72,7 @@ impl<'a> Reading<'a> {
     }
 
     fn put(&mut self, span: Span, what: What) -> Result<(), LexFault>
-        ensures { Answers (λ done. expanded_of self.new) result (with_whats span (what ∷ []) (expanded_of self.old)) }
+        ensures { IsAsWanted (λ done. expanded_of self.new) result (with_whats span (what ∷ []) (expanded_of self.old)) }
     {
         if self.tokens.len() >= MAX_TOKENS {
             return Err(LexFault::OverLimit { line: span.line });
@@ -82,7 +82,7 @@ impl<'a> Reading<'a> {
     }
 
     fn use_macro(&mut self, alloc: Global, span: Span, name: &str) -> Result<(), LexFault>
-        ensures { Answers (λ done. expanded_of self.new) result (with_use span ((expanded_of self.old).macros.known name.now) (expanded_of self.old)) }
+        ensures { IsAsWanted (λ done. expanded_of self.new) result (with_use span ((expanded_of self.old).macros.known name.now) (expanded_of self.old)) }
     {
         match self.macros.get(name) {
             Some(entry) => {
@@ -99,7 +99,7 @@ impl<'a> Reading<'a> {
 
     #[tactic(auto, using(crate::proofs::Signs::sign_lexeme))]
     fn stand(&mut self, alloc: Global, found: Found<'_>) -> Result<(), LexFault>
-        ensures { Answers (λ done. expanded_of self.new) result (with_lexeme found.entry.span (lexeme_of found.entry.piece) (expanded_of self.old)) }
+        ensures { IsAsWanted (λ done. expanded_of self.new) result (with_lexeme found.entry.span (lexeme_of found.entry.piece) (expanded_of self.old)) }
     {
         let span = found.span;
         match found.piece {
@@ -133,7 +133,7 @@ impl<'a> Reading<'a> {
         found: Found<'_>,
         definition: Option<(&'a str, Text)>,
     ) -> Result<(), LexFault>
-        ensures { Answers
+        ensures { IsAsWanted
             (λ done. expanded_of self.new)
             result
             (with_turn (record { lexeme = lexeme_of found.entry.piece; span = found.entry.span }) (option_map (λ d. (d.0.now, d.1)) definition.entry) (expanded_of self.old)) }
@@ -151,7 +151,7 @@ impl<'a> Reading<'a> {
 #[tactic(auto, using(crate::proofs::Segments::some_same))]
 fn read<'a>(alloc: Global, text: &'a str, macros: MacroTable<'a>) -> Result<Vec<Token>, LexFault>
     requires { length text.now ≤ 1048576 }
-    ensures { Answers
+    ensures { IsAsWanted
         (λ tokens. tokens.items)
         result
         (tokens_after (expanded [] (macros_of macros.entry)) (segments_from 0 (lexemes_of text.now))) }
@@ -180,7 +180,7 @@ fn define_given<'a>(
     name: &'a str,
     value: &str,
 ) -> Result<(), LexFault>
-    ensures { Answers (λ done. macros_of macros.new) result (given_one name.now value.now (macros_of macros.old)) }
+    ensures { IsAsWanted (λ done. macros_of macros.new) result (given_one name.now value.now (macros_of macros.old)) }
 {
     if is_macro_name(name) {
         return macros.define(alloc, 0, true, name, value);
@@ -194,7 +194,7 @@ fn read_given<'a>(
     macros: &mut MacroTable<'a>,
     defs: &[(&'a str, &'a str)],
 ) -> Result<(), LexFault>
-    ensures { Answers (λ done. macros_of macros.new) result (given_from (macros_of macros.old) (map (λ d. (d.0.now, d.1.now)) defs.now)) }
+    ensures { IsAsWanted (λ done. macros_of macros.new) result (given_from (macros_of macros.old) (map (λ d. (d.0.now, d.1.now)) defs.now)) }
 {
     let mut left = defs;
     while let [(name, value), rest @ ..] = left {
@@ -248,7 +248,7 @@ fn read_all<'a>(
     text: &'a str,
     defs: &'a [(&'a str, &'a str)],
 ) -> Result<Vec<Token>, LexFault>
-    ensures { Answers (λ tokens. tokens.items) result (tokens_of text.now (map (λ d. (d.0.now, d.1.now)) defs.now)) }
+    ensures { IsAsWanted (λ tokens. tokens.items) result (tokens_of text.now (map (λ d. (d.0.now, d.1.now)) defs.now)) }
 {
     let mut macros = MacroTable::new(alloc)?;
     match read_given(alloc, &mut macros, defs) {
@@ -270,7 +270,7 @@ fn answer<'a>(
     text: &'a str,
     defs: &'a [(&'a str, &'a str)],
 ) -> Result<Vec<Token>, LexFault>
-    ensures wanted { Answers (λ tokens. tokens.items) result (tokens_of text.now (map (λ d. (d.0.now, d.1.now)) defs.now)) }
+    ensures wanted { IsAsWanted (λ tokens. tokens.items) result (tokens_of text.now (map (λ d. (d.0.now, d.1.now)) defs.now)) }
     ensures at_once { (fault : LexFault) → at_once.certain_at_once text.now (map (λ d. (d.0.now, d.1.now)) defs.now) ≡ Some fault → result ≡ Err fault }
 {
     match certain_at_once(text, defs) {
@@ -291,11 +291,11 @@ pub fn tokens<'a>(
     defs: &'a [(&'a str, &'a str)],
 ) -> Result<Vec<Token>, LexFault>
     // What is answered are the tokens that the text spells.
-    ensures found { IfOk result (λ tokens. Spells text.now (map (λ d. (d.0.now, d.1.now)) defs.now) tokens.items) }
+    ensures found { IfOk result (λ tokens. HasTokens text.now (map (λ d. (d.0.now, d.1.now)) defs.now) tokens.items) }
     // The one end stands last.
     ensures ended { IfOk result (λ tokens. EndsOnce tokens.items) }
     // Tokens that the text spells are answered, unless want of memory is told.
-    ensures only { (spelled : List Token) → Spells text.now (map (λ d. (d.0.now, d.1.now)) defs.now) spelled
+    ensures only { (spelled : List Token) → HasTokens text.now (map (λ d. (d.0.now, d.1.now)) defs.now) spelled
         → result ≢ Err Memory → IsOkAnd result (λ tokens. tokens.items ≡ spelled) }
     // Any other refusal is the first fault.
     ensures first_fault { IfErr result (λ fault. fault ≢ Memory → tokens_of text.now (map (λ d. (d.0.now, d.1.now)) defs.now) ≡ Err fault) }

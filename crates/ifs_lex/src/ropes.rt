@@ -3,7 +3,7 @@
 ghost use Rattle.std.specs.Prelude.{◌≡◌, ◌<◌, ◌+◌, ◌^◌, ◌++◌, ◌∷◌, [], map, length, IfOk, OnOk};
 ghost use Rattle.std.specs.List.{All};
 ghost use Rattle.ifs_lex.specs.Expansion.{token};
-ghost use Rattle.ifs_lex.specs.inner.Ropes.{whats_at, stacked, weight, weights, Holds, Keeps};
+ghost use Rattle.ifs_lex.specs.inner.Ropes.{whats_at, stacked, weight, weights, Holds, KeepsRopes};
 
 use crate::pieces::text_from;
 use crate::token::{Token, What};
@@ -83,7 +83,7 @@ impl Ropes {
     pub fn leaf(&mut self, what: What) -> Result<Rope, AllocError>
         ensures made { IfOk result (λ rope. Holds self.new rope) }
         ensures whats { IfOk result (λ rope. whats_at self.new rope.root ≡ what ∷ []) }
-        ensures keeps { Keeps self.old self.new }
+        ensures keeps { KeepsRopes self.old self.new }
     {
         let root = self.cells.len();
         self.cells.push(Cell::Leaf(what))?;
@@ -97,7 +97,7 @@ impl Ropes {
         requires fits { left.count + right.count < 2 ^ 64 }
         ensures made { IfOk result (λ rope. Holds self.new rope) }
         ensures whats { IfOk result (λ rope. whats_at self.new rope.root ≡ whats_at self.old left.root ++ whats_at self.old right.root) }
-        ensures keeps { Keeps self.old self.new }
+        ensures keeps { KeepsRopes self.old self.new }
     {
         if left.count == 0 {
             return Ok(right);

@@ -3,6 +3,7 @@ use Rattle.std.proofs.Common.{◌≡◌, ℕ, zero, suc, Bool, true, false, ◌|
 use Rattle.std.proofs.Common.{Option, Some, None, Result, Ok, Err, refl, ap, ◌∙◌, option_map}
 use Rattle.std.specs.Option.{option_map_or}
 use Rattle.ifs_base.specs.declared.span.Span.{Span}
+use Rattle.ifs_base.specs.Results.{◌>>=◌}
 use Rattle.ifs_lex.specs.declared.token.Token.{Token}
 use Rattle.ifs_parse.specs.declared.mark.Mark.{Mark}
 use Rattle.ifs_parse.specs.declared.mark.Mark.TheVariants as mark
@@ -18,17 +19,17 @@ use Rattle.ifs_parse.specs.declared.tree.Item.TheVariants.{InitState, Always}
 use Rattle.ifs_parse.specs.declared.block.Statement.{Statement}
 use Rattle.ifs_parse.specs.Files.{File, file}
 use Rattle.ifs_parse.specs.Marks.{mark_of, is}
-use Rattle.ifs_parse.specs.inner.Combined.{Progress, progress, past, Parse, ◌>>=◌, ◌▸◌, pure, either, begins}
+use Rattle.ifs_parse.specs.inner.Combined.{Progress, progress, after_token, Parse, ◌▸◌, pure, either, begins}
 use Rattle.ifs_parse.specs.inner.Combined.{no_more, unexpected, expected, accepted, many_from}
 use Rattle.ifs_parse.specs.Rules.{with_last}
 use Rattle.ifs_parse.specs.inner.Reading.{string, run, set_state, deep, statement_over, conditional_over, condition}
 use Rattle.ifs_parse.specs.inner.Reading.{block}
 use Rattle.ifs_parse.specs.inner.Reading.{statement, part, state_item, item, items, read_within}
-use Rattle.ifs_parse.specs.AtOnce.{may_come_first, certain_at_once}
+use Rattle.ifs_parse.specs.AtOnce.{may_come_first, certain_of_tokens}
 
 -- A mark that does not come is passed over.
 passed : {X : Type 0} (m : Mark) (yes_then : Span → Parse X) (else_then : Parse X) (s : Progress) → accepted m s.left ≡ None → either m yes_then else_then s ≡ else_then s
-passed m yes_then else_then s e = ap (λ o. option_map_or (λ span. yes_then span (past s)) o (else_then s)) e
+passed m yes_then else_then s e = ap (λ o. option_map_or (λ span. yes_then span (after_token s)) o (else_then s)) e
 
 -- None of the marks that a file can begin with.
 record NoneFirst (ts : List Token) : Type 0 where
@@ -118,6 +119,6 @@ module _ (fits : ℕ → Bool) where
   by_first true room t rest fault e h = absurd (cc)
   by_first false room t rest fault e h = unexpected_first room t rest e ∙ ap told h
 
-  pub certain_told : (room : ℕ) (tokens : List Token) (fault : ParseFault) → certain_at_once tokens ≡ Some fault → read_within fits room tokens ≡ Err fault
+  pub certain_told : (room : ℕ) (tokens : List Token) (fault : ParseFault) → certain_of_tokens tokens ≡ Some fault → read_within fits room tokens ≡ Err fault
   certain_told room [] fault h = absurd (cc)
   certain_told room (t ∷ rest) fault h = by_first (may_come_first (mark_of t.what)) room t rest fault refl h

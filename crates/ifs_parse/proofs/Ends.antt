@@ -14,7 +14,7 @@ use Rattle.ifs_parse.specs.declared.tree.Wish.{Wish}
 use Rattle.ifs_parse.specs.declared.block.Statement.{Statement}
 use Rattle.ifs_parse.specs.Trees as tree
 use Rattle.ifs_parse.specs.Files.{File}
-use Rattle.ifs_parse.specs.Rules.{Rule, Gives, OneToken, TheMark, ◌⨟◌, ◌or◌, Never, Many, Enough, More}
+use Rattle.ifs_parse.specs.Rules.{Rule, GivesValue, OneToken, TheMark, ◌⨟◌, ◌or◌, Never, Many, Enough, More}
 use Rattle.ifs_parse.specs.inner.Combined.{}
 use Rattle.ifs_parse.specs.Words.{marked}
 use Rattle.ifs_parse.specs.inner.Reading as reading
@@ -33,7 +33,7 @@ endless_both : (a b : List Token) → Endless a → Endless b → Endless (a ++ 
 endless_both [] b h k = k
 endless_both (t ∷ a) b h k = (h.0, endless_both a b h.1 k)
 
-free_gives : {X : Type 0} (v : X) → Free (Gives v)
+free_gives : {X : Type 0} (v : X) → Free (GivesValue v)
 free_gives v p x ns h = subst Endless (sym h.none) tt
 
 free_token : {X : Type 0} (of : Token → Option X) → ((t : Token) (x : X) → of t ≡ Some x → is_end t.what ≡ false) → Free (OneToken of)
@@ -42,8 +42,8 @@ free_token of apart p x ns h = subst Endless (sym h.only) (apart h.token x h.sta
 free_then : {X Y : Type 0} (P : Rule X) (Q : X → Rule Y) → Free P → ((x : X) → Free (Q x)) → Free (P ⨟ Q)
 free_then P Q free_p free_q p y ns h = subst Endless (sym h.tokens_are) (endless_both h.front h.back (free_p h.front h.x h.before h.first) (free_q h.x h.back y h.after h.second))
 
-free_map : {X Y : Type 0} (P : Rule X) (f : X → Y) → Free P → Free (P ⨟ λ x. Gives (f x))
-free_map P f free_p = free_then P (λ x. Gives (f x)) free_p (λ x. free_gives (f x))
+free_map : {X Y : Type 0} (P : Rule X) (f : X → Y) → Free P → Free (P ⨟ λ x. GivesValue (f x))
+free_map P f free_p = free_then P (λ x. GivesValue (f x)) free_p (λ x. free_gives (f x))
 
 free_or : {X : Type 0} (P Q : Rule X) → Free P → Free Q → Free (P or Q)
 free_or P Q free_p free_q p x ns (inl h) = free_p p x ns h

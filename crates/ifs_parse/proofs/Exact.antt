@@ -5,15 +5,17 @@ use Rattle.std.proofs.Common.{List, [], ◌∷◌, ◌++◌, length, append_asso
 use Rattle.std.specs.Prelude.{Result, insert, if◌then◌else◌}
 use Rattle.std.specs.Option.{option_map_or}
 use Rattle.ifs_base.specs.declared.span.Span.{Span}
+use Rattle.ifs_base.specs.Results.{◌>>=◌}
 use Rattle.ifs_lex.specs.declared.token.Token.{Token}
 use Rattle.ifs_parse.specs.declared.fault.ParseFault.{ParseFault}
 use Rattle.ifs_parse.specs.declared.mark.Mark.{Mark}
 use Rattle.ifs_parse.specs.inner.Reading.{with_note, noted}
-use Rattle.ifs_parse.specs.inner.Combined.{Progress, progress, Parse, past, ◌>>=◌, ◌▸◌, pure, found, accepted}
+use Rattle.ifs_parse.specs.inner.Combined.{Progress, progress, Parse, after_token, ◌▸◌, pure, found, accepted}
 use Rattle.ifs_parse.specs.inner.Combined.{one_token}
 use Rattle.ifs_parse.specs.inner.Combined.{either, expected, unexpected, begins, no_more, required, many, many_from}
 use Rattle.ifs_parse.specs.Words.{marked}
-use Rattle.ifs_parse.specs.Rules.{Rule, Gives, OneToken, TheMark, ◌⨟◌, ◌or◌, Never, Optional, Noted, Many, Enough, More}
+use Rattle.ifs_parse.specs.Rules.{Rule, GivesValue, OneToken, TheMark, ◌⨟◌, ◌or◌, Never, Optional, Noted, Many}
+use Rattle.ifs_parse.specs.Rules.{Enough, More}
 
 -- What must or must not be next, by the value that was read.
 abbrev pub Stop : Type 0 → Type 1
@@ -67,10 +69,10 @@ pub told : {X : Type 0} (rule : Rule X) (stop : Stop X) (s : Progress) (a b : X 
 told rule stop s a b e h = subst (λ (p : _ × Progress). Found rule stop s p.0 p.1) (ap (inside a) e) h
 
 -- A value and no token.
-pub exact_pure : {X : Type 0} (v : X) → Exact (pure v) (Gives v) Always
+pub exact_pure : {X : Type 0} (v : X) → Exact (pure v) (GivesValue v) Always
 exact_pure v = record {
   again = λ p x ns q m h stop. rw (h.none, h.is_value, h.unnoted, append-nil m);
-  reads = λ s x t a e. told (Gives v) Always s (v, s) (x, t) e (record { tokens = []; notes = []; taken = refl; noted = sym (append-nil s.notes); said = record { none = refl; is_value = refl; unnoted = refl }; stops = tt });
+  reads = λ s x t a e. told (GivesValue v) Always s (v, s) (x, t) e (record { tokens = []; notes = []; taken = refl; noted = sym (append-nil s.notes); said = record { none = refl; is_value = refl; unnoted = refl }; stops = tt });
 }
 
 module _ {X : Type 0} (what : Token → Option X) where
@@ -78,7 +80,7 @@ module _ {X : Type 0} (what : Token → Option X) where
   token_again t x q m h = rw (h, append-nil m)
 
   token_found : (ts : List Token) (m : List ℕ) (o : Option X) → found what ts ≡ o → (x : X) (t : Progress)
-      → option_map_or (λ x. Ok (x, past (progress ts m))) o (unexpected (progress ts m)) ≡ Ok (x, t) → Found (OneToken what) Always (progress ts m) x t
+      → option_map_or (λ x. Ok (x, after_token (progress ts m))) o (unexpected (progress ts m)) ≡ Ok (x, t) → Found (OneToken what) Always (progress ts m) x t
   token_found ts m None h x t e = absurd (cc)
   token_found [] m (Some y) h x t e = absurd (cc)
   token_found (u ∷ ts) m (Some y) h x t e =
@@ -133,8 +135,8 @@ exact_then p q P Q stop exact_p exact_q =
     reads_then Any p q P Q Always (λ x. Any) (λ x. stop) stop exact_p exact_q (λ x next a. tt) (λ x y back ns next h s. (tt, s)) (λ x y back ns next h a s. s)
 
 -- The same with what is made of the first alone.
-pub exact_map : {X Y : Type 0} (p : Parse X) (f : X → Y) (P : Rule X) → Exact p P Always → Exact (p ▸ λ x. pure (f x)) (P ⨟ λ x. Gives (f x)) Always
-exact_map p f P exact_p = exact_then p (λ x. pure (f x)) P (λ x. Gives (f x)) Always exact_p (λ x. exact_pure (f x))
+pub exact_map : {X Y : Type 0} (p : Parse X) (f : X → Y) (P : Rule X) → Exact p P Always → Exact (p ▸ λ x. pure (f x)) (P ⨟ λ x. GivesValue (f x)) Always
+exact_map p f P exact_p = exact_then p (λ x. pure (f x)) P (λ x. GivesValue (f x)) Always exact_p (λ x. exact_pure (f x))
 
 module _ {X : Type 0} (start : List Token → Type 0) (mark : Mark) (q : Span → Parse X) (r : Parse X) (Q : Span → Rule X) (R : Rule X) (stop_q stop_r stop : Stop X)
     (exact_q : (span : Span) → Exact (q span) (Q span) stop_q) (exact_r : Exact r R stop_r)
@@ -156,7 +158,7 @@ module _ {X : Type 0} (start : List Token → Type 0) (mark : Mark) (q : Span �
       rw (a.0, exact_r.again p x ns next m h a.1)
 
   either_found : (ts : List Token) (m : List ℕ) → start ts → (o : Option Span) → accepted mark ts ≡ o → (x : X) (t : Progress)
-      → option_map_or (λ span. q span (past (progress ts m))) o (r (progress ts m)) ≡ Ok (x, t) → Found ((TheMark mark ⨟ Q) or R) stop (progress ts m) x t
+      → option_map_or (λ span. q span (after_token (progress ts m))) o (r (progress ts m)) ≡ Ok (x, t) → Found ((TheMark mark ⨟ Q) or R) stop (progress ts m) x t
   either_found ts m begun None h x t e =
       let a = exact_r.reads (progress ts m) x t tt e in
       record {
@@ -302,7 +304,7 @@ module _ {X : Type 0} (mark : Mark) (q : Span → Parse X) (r : Parse (Option X)
       })
 
   begins_found : (ts : List Token) (m : List ℕ) (c : Option Span) → accepted mark ts ≡ c → (o : Option X) (t : Progress)
-      → option_map_or (λ span. (q span ▸ λ x. pure (Some x)) (past (progress ts m))) c (r (progress ts m)) ≡ Ok (o, t)
+      → option_map_or (λ span. (q span ▸ λ x. pure (Some x)) (after_token (progress ts m))) c (r (progress ts m)) ≡ Ok (o, t)
       → Found (Optional ((TheMark mark ⨟ Q) or R)) (Until begun some) (progress ts m) o t
   begins_found ts m None h o t e = rest_found (progress ts m) o t h (exact_r.reads (progress ts m) o t tt e)
   begins_found [] m (Some span) h o t e = absurd (cc)

@@ -23,10 +23,10 @@ use Rattle.ifs_parse.specs.declared.block.Statement.TheVariants.{Run, SetState, 
 use Rattle.ifs_parse.specs.Trees as tree
 use Rattle.ifs_parse.specs.Views.{all_of, any_of, block_of}
 use Rattle.ifs_parse.specs.declared.fault.ParseFault.TheVariants.{Period}
-use Rattle.ifs_parse.specs.inner.Combined.{Progress, progress, Parse, line_of, past, found, unexpected}
+use Rattle.ifs_parse.specs.inner.Combined.{Progress, progress, Parse, line_of_first, after_token, found, unexpected}
 use Rattle.ifs_parse.specs.inner.Combined.{◌▸◌, pure, begins, expected, no_more, required, many}
 use Rattle.ifs_parse.specs.Words.{marked}
-use Rattle.ifs_parse.specs.Rules.{Rule, Gives, TheMark, ◌⨟◌, ◌or◌, Never, Optional, Noted, Many}
+use Rattle.ifs_parse.specs.Rules.{Rule, GivesValue, TheMark, ◌⨟◌, ◌or◌, Never, Optional, Noted, Many}
 use Rattle.ifs_parse.specs.inner.Reading as reading
 use Rattle.ifs_parse.specs.Words as words
 use Rattle.ifs_parse.specs.Rules as rules
@@ -34,6 +34,7 @@ use Rattle.ifs_parse.specs.Grammar as grammar
 use Rattle.ifs_parse.proofs.Exact.{Always, Any, Until, Reads, Exact, exact_token}
 use Rattle.ifs_parse.proofs.Exact.{exact_mark, exact_required, exact_many}
 use Rattle.ifs_base.specs.declared.op.LinkState.TheVariants as link
+use Rattle.ifs_base.specs.Results.{◌>>=◌}
 use Rattle.std.specs.Prelude.{codes}
 use Rattle.ifs_parse.specs.Rules.{Enough, OneToken}
 use Rattle.ifs_parse.specs.declared.fault.ParseFault.TheVariants.{Unexpected, Nesting, Memory}
@@ -55,7 +56,6 @@ use Rattle.ifs_parse.proofs.Ends.{ends_there}
 use Rattle.ifs_lex.specs.Expansion.{EndsOnce}
 use Rattle.ifs_parse.specs.Files.{File, file}
 use Rattle.ifs_parse.specs.Grammar.{StopsAt}
-use Rattle.ifs_parse.specs.inner.Combined.{◌>>=◌}
 
 abbrev nowhere : Span
 nowhere = record { line = 0; start = 0; end = 0 }
@@ -63,7 +63,7 @@ nowhere = record { line = 0; start = 0; end = 0 }
 abbrev token_of : What → Token
 token_of w = record { what = w; span = nowhere }
 
-sample_gives : {X : Type 0} (v : X) → Sample (Gives v)
+sample_gives : {X : Type 0} (v : X) → Sample (GivesValue v)
 sample_gives v = record { tail = []; x = v; notes = []; said = record { none = refl; is_value = refl; unnoted = refl } }
 
 sample_then : {X Y : Type 0} (P : Rule X) (Q : X → Rule Y) → Sample P → ((x : X) → Sample (Q x)) → Sample (P ⨟ Q)
@@ -123,13 +123,13 @@ stuck_mark : {limit : Limit} (m : Mark) → Sample (TheMark m) → Stuck limit A
 stuck_mark m s = stuck_token (marked m) s
 
 stuck_map : {limit : Limit} {X Y : Type 0} {W : Rule X} (p : Parse X) (f : X → Y) (P : Rule X) → Exact p P Always → Stuck limit Any p P W
-    → Stuck limit Any (p ▸ λ x. pure (f x)) (P ⨟ λ x. Gives (f x)) (W ⨟ λ x. Gives (f x))
-stuck_map p f P exact_p stuck_p = stuck_then p (λ x. pure (f x)) P (λ x. Gives (f x)) exact_p stuck_p (λ x. stuck_pure (f x)) (λ x. sample_gives (f x))
+    → Stuck limit Any (p ▸ λ x. pure (f x)) (P ⨟ λ x. GivesValue (f x)) (W ⨟ λ x. GivesValue (f x))
+stuck_map p f P exact_p stuck_p = stuck_then p (λ x. pure (f x)) P (λ x. GivesValue (f x)) exact_p stuck_p (λ x. stuck_pure (f x)) (λ x. sample_gives (f x))
 
 stuck_map_at : {limit : Limit} {X Y : Type 0} {W : Rule X} (start stop : List Token → Type 0) (p : Parse X) (f : X → Y) (P : Rule X) → Reads start p P (λ x. stop) → Stuck limit start p P W
-    → ByNext stop → Stuck limit start (p ▸ λ x. pure (f x)) (P ⨟ λ x. Gives (f x)) (W ⨟ λ x. Gives (f x))
+    → ByNext stop → Stuck limit start (p ▸ λ x. pure (f x)) (P ⨟ λ x. GivesValue (f x)) (W ⨟ λ x. GivesValue (f x))
 stuck_map_at start stop p f P exact_p stuck_p by_next =
-    stuck_then_at start p (λ x. pure (f x)) P (λ x. Gives (f x)) (λ x. stop) (λ x. Any) exact_p stuck_p (λ x. stuck_pure (f x)) (λ x next s. tt) (λ x. by_next) (λ x. sample_gives (f x))
+    stuck_then_at start p (λ x. pure (f x)) P (λ x. GivesValue (f x)) (λ x. stop) (λ x. Any) exact_p stuck_p (λ x. stuck_pure (f x)) (λ x next s. tt) (λ x. by_next) (λ x. sample_gives (f x))
 
 no_by_next : (m : Mark) → ByNext (No m)
 no_by_next m a b h s = (sym (found_by_next (marked m) a b h) ∙ s.0, tt)
@@ -178,21 +178,21 @@ module _ (limit : Limit) where
       }
 
   period_kind : (ts : List Token) (m : List ℕ) (n : ℕ) → number_at ts ≡ Some n → (b : Bool) → fits n ≡ b → (fault : ParseFault)
-      → if◌then◌else◌ {A = Result (ℕ × Progress) ParseFault} b (Ok (n, past (progress ts m))) (Err (Period (line_of ts))) ≡ Err fault
+      → if◌then◌else◌ {A = Result (ℕ × Progress) ParseFault} b (Ok (n, after_token (progress ts m))) (Err (Period (line_of_first ts))) ≡ Err fault
       → Fails limit (reading.period fits) (grammar.IsPeriod fits) (grammar.IsPeriod (wide limit)) (progress ts m) fault
   period_kind ts m n h true k fault e = absurd (cc)
   period_kind ts m n h false k fault e =
-      fails_as (reading.period fits) (grammar.IsPeriod fits) (grammar.IsPeriod (wide limit)) (progress ts m) (Period (line_of ts)) fault e
-      (fails_here (reading.period fits) (grammar.IsPeriod fits) (grammar.IsPeriod (wide limit)) ts m (Period (line_of ts)) sample_period
+      fails_as (reading.period fits) (grammar.IsPeriod fits) (grammar.IsPeriod (wide limit)) (progress ts m) (Period (line_of_first ts)) fault e
+      (fails_here (reading.period fits) (grammar.IsPeriod fits) (grammar.IsPeriod (wide limit)) ts m (Period (line_of_first ts)) sample_period
       (λ w q g. rw (found_by_next (λ t. words.number_of_what t.what) w ts g ∙ h, k, line_by_next w ts g)) (period_goes ts n h) (inr (inl refl)))
 
   period_stuck : (ts : List Token) (m : List ℕ) (o : Option ℕ) → number_at ts ≡ o → (fault : ParseFault)
-      → option_map_or (λ n. if fits n then Ok (n, past (progress ts m)) else Err (Period (line_of ts))) o (unexpected (progress ts m)) ≡ Err fault
+      → option_map_or (λ n. if fits n then Ok (n, after_token (progress ts m)) else Err (Period (line_of_first ts))) o (unexpected (progress ts m)) ≡ Err fault
       → Fails limit (reading.period fits) (grammar.IsPeriod fits) (grammar.IsPeriod (wide limit)) (progress ts m) fault
   period_stuck ts m (Some n) h fault e = period_kind ts m n h (fits n) refl fault e
   period_stuck ts m None h fault e =
-      fails_as (reading.period fits) (grammar.IsPeriod fits) (grammar.IsPeriod (wide limit)) (progress ts m) (Unexpected (line_of ts)) fault e
-      (fails_here (reading.period fits) (grammar.IsPeriod fits) (grammar.IsPeriod (wide limit)) ts m (Unexpected (line_of ts)) sample_period
+      fails_as (reading.period fits) (grammar.IsPeriod fits) (grammar.IsPeriod (wide limit)) (progress ts m) (Unexpected (line_of_first ts)) fault e
+      (fails_here (reading.period fits) (grammar.IsPeriod fits) (grammar.IsPeriod (wide limit)) ts m (Unexpected (line_of_first ts)) sample_period
       (λ w q g. rw (found_by_next (λ t. words.number_of_what t.what) w ts g ∙ h, line_by_next w ts g)) (λ k. absurd k) (inl refl))
 
   fitting_wide : (n x : ℕ) (b : Bool) → fits n ≡ b → (if b then Some n else None) ≡ Some x → (if wide limit n then Some n else None) ≡ Some x
@@ -271,7 +271,7 @@ module _ {limit : Limit} (one : Parse (tree.Condition Test)) (One W : Rule (tree
   stuck_all : Stuck limit Any (reading.all one) (operands.IsAll One) (operands.IsAll W)
   stuck_all =
       stuck_then one _ One _ exact_o stuck_o
-      (λ first. stuck_either Any mark.And (λ _. reading.chain one first) (pure (reading.operand first false)) (λ _. operands.IsChain One first) (Gives (reading.operand first false))
+      (λ first. stuck_either Any mark.And (λ _. reading.chain one first) (pure (reading.operand first false)) (λ _. operands.IsChain One first) (GivesValue (reading.operand first false))
       (λ _. stuck_chain first) (stuck_pure (reading.operand first false)))
       (λ first. sample_right _ _ (sample_gives _))
 
@@ -292,7 +292,7 @@ module _ {limit : Limit} (all : Parse Operand) (All W : Rule Operand) (exact_a :
   pub stuck_any : Sample All → Stuck limit Any (reading.any all) (operands.IsAny All) (operands.IsAny W)
   stuck_any sample_a =
       stuck_then_at Any all _ All _ (λ o. No mark.And) (λ first. No mark.And) exact_a stuck_a
-      (λ first. stuck_either (No mark.And) mark.Or (reading.noted_alternatives all first) (pure first.condition) (λ span. Noted span.line (operands.AreAlternatives All first)) (Gives first.condition)
+      (λ first. stuck_either (No mark.And) mark.Or (reading.noted_alternatives all first) (pure first.condition) (λ span. Noted span.line (operands.AreAlternatives All first)) (GivesValue first.condition)
       (λ span. stuck_noted span.line (reading.alternatives all first) (operands.AreAlternatives All first) (stuck_alternatives first sample_a))
       (stuck_pure first.condition))
       (λ first next s. s) (λ first. no_by_next mark.And) (λ first. sample_right _ _ (sample_gives _))
@@ -303,7 +303,7 @@ sample_all One sample_o = sample_then _ _ sample_o (λ first. sample_right _ _ (
 sample_any : (All : Rule Operand) → Sample All → Sample (operands.IsAny All)
 sample_any All sample_a = sample_then _ _ sample_a (λ first. sample_right _ _ (sample_gives _))
 
-sample_leaf : Sample (grammar.IsTest fits ⨟ λ t. Gives (tree.Leaf t))
+sample_leaf : Sample (grammar.IsTest fits ⨟ λ t. GivesValue (tree.Leaf t))
 sample_leaf = sample_then _ _ sample_test (λ t. sample_gives _)
 
 sample_one : (room : ℕ) → Sample (grammar.IsOne fits room)
@@ -318,7 +318,7 @@ sample_condition room =
 abbrev exact_all_at : (room : ℕ) → Exact (reading.all (reading.one fits room)) (operands.IsAll (grammar.IsOne fits room)) (λ o. No mark.And)
 exact_all_at room = exact_all (reading.one fits room) (grammar.IsOne fits room) (exact_one fits room)
 
-stuck_leaf : (limit : Limit) → Stuck limit Any (reading.test fits ▸ λ t. pure (tree.Leaf t)) (grammar.IsTest fits ⨟ λ t. Gives (tree.Leaf t)) (grammar.IsTest (wide limit) ⨟ λ t. Gives (tree.Leaf t))
+stuck_leaf : (limit : Limit) → Stuck limit Any (reading.test fits ▸ λ t. pure (tree.Leaf t)) (grammar.IsTest fits ⨟ λ t. GivesValue (tree.Leaf t)) (grammar.IsTest (wide limit) ⨟ λ t. GivesValue (tree.Leaf t))
 stuck_leaf limit = stuck_map (reading.test fits) tree.Leaf (grammar.IsTest fits) (exact_test fits) (stuck_test limit)
 
 -- How many more may be open by the wider rule is any number here.
@@ -332,8 +332,8 @@ module _ (limit : Limit) (room wide_room : ℕ) (stuck_o : Stuck limit Any (read
       (grammar.IsCondition fits room) (grammar.IsCondition (wide limit) wide_room) (kept_condition (grammar.IsOne fits room)) (kept_condition (grammar.IsOne (wide limit) wide_room))
       (λ p c ns h. kept_condition (grammar.IsOne (wide limit) wide_room) p c ns (kept.within p c ns (condition_kept (grammar.IsOne fits room) p c ns h))) kept
 
-  stuck_group : Stuck limit Any (reading.condition fits room ▸ λ c. expected mark.ParenClose ▸ λ _. pure c) (grammar.IsCondition fits room ⨟ λ c. TheMark mark.ParenClose ⨟ λ _. Gives c)
-      (grammar.IsCondition (wide limit) wide_room ⨟ λ c. TheMark mark.ParenClose ⨟ λ _. Gives c)
+  stuck_group : Stuck limit Any (reading.condition fits room ▸ λ c. expected mark.ParenClose ▸ λ _. pure c) (grammar.IsCondition fits room ⨟ λ c. TheMark mark.ParenClose ⨟ λ _. GivesValue c)
+      (grammar.IsCondition (wide limit) wide_room ⨟ λ c. TheMark mark.ParenClose ⨟ λ _. GivesValue c)
   stuck_group =
       stuck_then_at Any (reading.condition fits room) _ (grammar.IsCondition fits room) _ (λ c. Over) (λ c. Any) (exact_condition fits room) stuck_any_over
       (λ c. stuck_map (expected mark.ParenClose) (λ _. c) (TheMark mark.ParenClose) (exact_mark mark.ParenClose) (stuck_mark mark.ParenClose sample_close))
@@ -343,8 +343,8 @@ module _ (limit : Limit) (room wide_room : ℕ) (stuck_o : Stuck limit Any (read
 stuck_one_deep : (limit : Limit) (Negated Grouped : Rule (tree.Condition Test)) → (OfDepth limit → Sample Negated) → (OfDepth limit → Sample Grouped)
     → Stuck limit Any (reading.one fits zero) (grammar.IsOne fits zero) (grammar.IsOneOver Negated Grouped (grammar.IsTest (wide limit)))
 stuck_one_deep limit Negated Grouped negated grouped =
-    stuck_deep mark.Bang (λ span. reading.deep span ▸ λ c. pure (tree.NotSo c)) _ (λ _. Never ⨟ λ c. Gives (tree.NotSo c)) _ (λ span s. refl)
-    (stuck_deep mark.ParenOpen (λ span. reading.deep span ▸ λ c. expected mark.ParenClose ▸ λ _. pure c) _ (λ _. Never ⨟ λ c. TheMark mark.ParenClose ⨟ λ _. Gives c) _ (λ span s. refl)
+    stuck_deep mark.Bang (λ span. reading.deep span ▸ λ c. pure (tree.NotSo c)) _ (λ _. Never ⨟ λ c. GivesValue (tree.NotSo c)) _ (λ span s. refl)
+    (stuck_deep mark.ParenOpen (λ span. reading.deep span ▸ λ c. expected mark.ParenClose ▸ λ _. pure c) _ (λ _. Never ⨟ λ c. TheMark mark.ParenClose ⨟ λ _. GivesValue c) _ (λ span s. refl)
     (stuck_leaf limit) sample_leaf (λ span p x ns h. absurd h.first) (λ k span. sample_then _ _ (grouped k) (λ c. sample_then _ _ sample_close (λ _. sample_gives _))))
     (sample_right _ _ sample_leaf) (λ span p x ns h. absurd h.first) (λ k span. sample_then _ _ (negated k) (λ c. sample_gives _))
 
@@ -353,19 +353,19 @@ stuck_one Periods zero = stuck_one_deep Periods Never Never (λ k. absurd k) (λ
 stuck_one Depth zero = stuck_one_deep Depth (grammar.IsOne fits zero) (grammar.IsCondition fits zero) (λ k. sample_one zero) (λ k. sample_condition zero)
 stuck_one limit (suc room) =
     let below = stuck_one limit room in
-    stuck_either Any mark.Bang (λ _. reading.one fits room ▸ λ c. pure (tree.NotSo c)) _ (λ _. grammar.IsOne fits room ⨟ λ c. Gives (tree.NotSo c)) _
+    stuck_either Any mark.Bang (λ _. reading.one fits room ▸ λ c. pure (tree.NotSo c)) _ (λ _. grammar.IsOne fits room ⨟ λ c. GivesValue (tree.NotSo c)) _
     (λ _. stuck_map (reading.one fits room) tree.NotSo (grammar.IsOne fits room) (exact_one fits room) below)
     (stuck_either Any mark.ParenOpen (λ _. reading.condition fits room ▸ λ c. expected mark.ParenClose ▸ λ _. pure c) _
-    (λ _. grammar.IsCondition fits room ⨟ λ c. TheMark mark.ParenClose ⨟ λ _. Gives c) _ (λ _. stuck_group limit room (more room limit) below) (stuck_leaf limit))
+    (λ _. grammar.IsCondition fits room ⨟ λ c. TheMark mark.ParenClose ⨟ λ _. GivesValue c) _ (λ _. stuck_group limit room (more room limit) below) (stuck_leaf limit))
 
 pub stuck_condition : (limit : Limit) (room : ℕ) → Stuck limit Any (reading.condition fits room) (grammar.IsCondition fits room) (grammar.IsCondition (wide limit) (more room limit))
 stuck_condition limit room = stuck_any_over limit room (more room limit) (stuck_one limit room)
 
 abbrev RunRule : Rule (Statement Test Name Wish)
-RunRule = TheMark mark.Run ⨟ λ _. grammar.IsString ⨟ λ command. Gives (Run command)
+RunRule = TheMark mark.Run ⨟ λ _. grammar.IsString ⨟ λ command. GivesValue (Run command)
 
 abbrev SetRule : Rule (Statement Test Name Wish)
-SetRule = TheMark mark.SetState ⨟ λ span. grammar.IsString ⨟ λ name. Gives (SetState (record { span = span; state = name }))
+SetRule = TheMark mark.SetState ⨟ λ span. grammar.IsString ⨟ λ name. GivesValue (SetState (record { span = span; state = name }))
 
 sample_statement_over : (Cond : Rule (Statement Test Name Wish)) → Sample (grammar.IsStatementOver Cond)
 sample_statement_over Cond = sample_right _ _ (sample_left _ _ (sample_then _ _ sample_run (λ _. sample_then _ _ sample_string (λ command. sample_gives _))))
@@ -373,9 +373,9 @@ sample_statement_over Cond = sample_right _ _ (sample_left _ _ (sample_then _ _ 
 -- The statements that need no `if`.
 stuck_simple : {limit : Limit} → Stuck limit Any (begins mark.Run (λ _. reading.run) (begins mark.SetState reading.set_state no_more)) (Optional (RunRule or (SetRule or Never))) (Optional (RunRule or (SetRule or Never)))
 stuck_simple =
-    stuck_begins mark.Run (λ _. reading.run) (begins mark.SetState reading.set_state no_more) (λ _. grammar.IsString ⨟ λ command. Gives (Run command)) (SetRule or Never)
+    stuck_begins mark.Run (λ _. reading.run) (begins mark.SetState reading.set_state no_more) (λ _. grammar.IsString ⨟ λ command. GivesValue (Run command)) (SetRule or Never)
     (λ _. stuck_map reading.string Run grammar.IsString exact_string stuck_string)
-    (stuck_begins mark.SetState reading.set_state no_more (λ span. grammar.IsString ⨟ λ name. Gives (SetState (record { span = span; state = name }))) Never
+    (stuck_begins mark.SetState reading.set_state no_more (λ span. grammar.IsString ⨟ λ name. GivesValue (SetState (record { span = span; state = name }))) Never
     (λ span. stuck_map reading.string (λ name. SetState (record { span = span; state = name })) grammar.IsString exact_string stuck_string) stuck_no_more)
 
 without_never : (Cond : Rule (Statement Test Name Wish)) (p : List Token) (o : Option (Statement Test Name Wish)) (ns : List ℕ) → Optional ((TheMark mark.If ⨟ λ _. Cond) or (RunRule or (SetRule or Never))) p o ns
@@ -400,7 +400,7 @@ stuck_statement_over conditional Cond W stuck_c within =
 module _ (W : Rule (Statement Test Name Wish)) where
   -- After `if`, or with none.
   abbrev IfOr : Rule (Option (Statement Test Name Wish))
-  IfOr = (TheMark mark.If ⨟ λ _. W ⨟ λ s. Gives (Some s)) or Optional (RunRule or (SetRule or Never))
+  IfOr = (TheMark mark.If ⨟ λ _. W ⨟ λ s. GivesValue (Some s)) or Optional (RunRule or (SetRule or Never))
 
   deep_to : (p : List Token) (o : Option (Statement Test Name Wish)) (ns : List ℕ) → IfOr p o ns → Optional (grammar.IsStatementOver W) p o ns
   deep_to p o ns (inr h) = without_never W p o ns (optional_or (TheMark mark.If ⨟ λ _. W) (RunRule or (SetRule or Never)) p o ns h)
@@ -425,7 +425,7 @@ stuck_statement_deep limit W sample_w =
     stuck_as Any (reading.statement_over reading.deep) (IfOr Never) (IfOr W) (Optional (grammar.IsStatementOver Never)) (Optional (grammar.IsStatementOver W)) (deep_to Never) (deep_to W)
     (statement_within Never W (λ p x ns h. absurd h))
     (stuck_deep mark.If (λ span. reading.deep span ▸ λ x. pure (Some x)) (begins mark.Run (λ _. reading.run) (begins mark.SetState reading.set_state no_more))
-    (λ _. Never ⨟ λ s. Gives (Some s)) (Optional (RunRule or (SetRule or Never)))
+    (λ _. Never ⨟ λ s. GivesValue (Some s)) (Optional (RunRule or (SetRule or Never)))
     (λ span s. refl) stuck_simple (record { tail = []; x = None; notes = []; said = (refl, refl) }) (λ span p x ns h. absurd h.first) (λ k span. sample_then _ _ (sample_w k) (λ s. sample_gives _)))
 
 statement_by_next : ByNext NoStatement
@@ -457,7 +457,7 @@ fallible_over limit statement S W k stuck_s sample_s =
       stuck = stuck_s;
       sample = sample_s;
       block = stuck_either Any mark.BraceOpen (λ _. reading.braced statement ▸ λ xs. pure (block_of xs)) (required statement ▸ λ x. pure (block_of (x ∷ [])))
-          (λ _. grammar.AreBraced S ⨟ λ xs. Gives (block_of xs)) (S ⨟ λ x. Gives (block_of (x ∷ [])))
+          (λ _. grammar.AreBraced S ⨟ λ xs. GivesValue (block_of xs)) (S ⨟ λ x. GivesValue (block_of (x ∷ [])))
           (λ _. stuck_map (reading.braced statement) block_of (grammar.AreBraced S) (exact_braced statement S NoStatement k.exact k.longer (refl, (refl, (refl, tt))) (not_statement mark.BraceClose close_if close_run close_set))
           (stuck_braced statement S W NoStatement k.exact stuck_s statement_by_next k.longer (refl, (refl, (refl, tt)))))
           (stuck_map {W = W} (required statement) (λ x. block_of (x ∷ [])) S (exact_required statement S NoStatement Any k.exact)
@@ -501,11 +501,11 @@ module _ (limit : Limit) (statement : Parse (Option (Statement Test Name Wish)))
   stuck_part : Stuck limit Any (reading.part statement) (Optional (grammar.IsPart S)) (Optional (grammar.IsPart W))
   stuck_part =
       stuck_begins mark.Init (λ span. reading.block statement ▸ λ inner. pure (Init span inner)) (statement ▸ λ s. pure (option_map Do s))
-      (λ span. grammar.IsBlock S ⨟ λ inner. Gives (Init span inner)) (S ⨟ λ s. Gives (Do s))
+      (λ span. grammar.IsBlock S ⨟ λ inner. GivesValue (Init span inner)) (S ⨟ λ s. GivesValue (Do s))
       (λ span. stuck_map (reading.block statement) (λ inner. Init span inner) (grammar.IsBlock S) k.block b.block) (stuck_option {W = W} statement Do S b.stuck)
 
-  stuck_state : Stuck limit Any (reading.state_item (reading.part statement)) (grammar.IsString ⨟ λ name. TheMark mark.BraceOpen ⨟ λ _. grammar.AreBraced (grammar.IsPart S) ⨟ λ parts. Gives (StateItem name parts))
-      (grammar.IsString ⨟ λ name. TheMark mark.BraceOpen ⨟ λ _. grammar.AreBraced (grammar.IsPart W) ⨟ λ parts. Gives (StateItem name parts))
+  stuck_state : Stuck limit Any (reading.state_item (reading.part statement)) (grammar.IsString ⨟ λ name. TheMark mark.BraceOpen ⨟ λ _. grammar.AreBraced (grammar.IsPart S) ⨟ λ parts. GivesValue (StateItem name parts))
+      (grammar.IsString ⨟ λ name. TheMark mark.BraceOpen ⨟ λ _. grammar.AreBraced (grammar.IsPart W) ⨟ λ parts. GivesValue (StateItem name parts))
   stuck_state =
       stuck_then reading.string _ grammar.IsString _ exact_string stuck_string
       (λ name. stuck_then (expected mark.BraceOpen) _ (TheMark mark.BraceOpen) _ (exact_mark mark.BraceOpen) (stuck_mark mark.BraceOpen sample_open_brace)
@@ -519,9 +519,9 @@ module _ (limit : Limit) (statement : Parse (Option (Statement Test Name Wish)))
   stuck_item =
       stuck_begins mark.InitState (λ span. reading.string ▸ λ name. pure (InitState span name))
       (begins mark.State (λ _. reading.state_item (reading.part statement)) (reading.part statement ▸ λ p. pure (option_map AlwaysItem p)))
-      (λ span. grammar.IsString ⨟ λ name. Gives (InitState span name)) _
+      (λ span. grammar.IsString ⨟ λ name. GivesValue (InitState span name)) _
       (λ span. stuck_map reading.string (λ name. InitState span name) grammar.IsString exact_string stuck_string)
-      (stuck_begins mark.State (λ _. reading.state_item (reading.part statement)) (reading.part statement ▸ λ p. pure (option_map AlwaysItem p)) (λ _. _) (grammar.IsPart S ⨟ λ p. Gives (AlwaysItem p))
+      (stuck_begins mark.State (λ _. reading.state_item (reading.part statement)) (reading.part statement ▸ λ p. pure (option_map AlwaysItem p)) (λ _. _) (grammar.IsPart S ⨟ λ p. GivesValue (AlwaysItem p))
       (λ _. stuck_state) (stuck_option {W = grammar.IsPart W} (reading.part statement) AlwaysItem (grammar.IsPart S) stuck_part))
 
   stuck_items : Stuck limit Any (reading.items (reading.item (reading.part statement))) (grammar.AreItems (grammar.IsItem (grammar.IsPart S))) (grammar.AreItems (grammar.IsItem (grammar.IsPart W)))
@@ -569,7 +569,7 @@ not_whole tokens tail f fault ends said e =
     says_no_fault fits 32 tokens f fault (subst (λ (l : List Token). grammar.Says l f) (ap (λ (l : List Token). tokens ++ l) none ∙ append-nil tokens) said) e
 
 module _ (tokens : List Token) (fault : ParseFault) (ends : EndsOnce tokens) (e : reading.read_within fits 32 tokens ≡ Err fault) where
-  stops_by : (front left tail : List Token) (f : File) → tokens ≡ front ++ left → grammar.IsAt fault (line_of left) → grammar.Says (front ++ tail) f
+  stops_by : (front left tail : List Token) (f : File) → tokens ≡ front ++ left → grammar.IsAt fault (line_of_first left) → grammar.Says (front ++ tail) f
       → (IsOf (limit_of fault) fault → Goes (AllWithin (wide (limit_of fault)) (more 32 (limit_of fault))) front left)
       → ((w : List Token) → next_token w ≡ next_token left → reading.read_within fits 32 (front ++ w) ≡ Err fault) → StopsAt tokens fault
   stops_by front [] tail f whole line can helped same =

@@ -11,24 +11,24 @@ use Rattle.ifs_parse.specs.declared.parser.Operand.{Operand}
 use Rattle.ifs_parse.specs.Trees as tree
 use Rattle.ifs_parse.specs.Views.{all_of, any_of}
 use Rattle.ifs_parse.specs.inner.Reading.{Others, others, operand, with_operand}
-use Rattle.ifs_parse.specs.Rules.{Rule, Gives, TheMark, ◌⨟◌, ◌or◌, Noted, Many, Enough, More, with_last}
+use Rattle.ifs_parse.specs.Rules.{Rule, GivesValue, TheMark, ◌⨟◌, ◌or◌, Noted, Many, Enough, More, with_last}
 use Rattle.ifs_parse.specs.Grammar as grammar
 use Rattle.ifs_parse.specs.Grammar.{Operands, operands, whole, is_chain, conjunction, disjunction}
 
 -- The rules by what is kept while operands are read: the condition so far, and whether one of them is a chain.
 abbrev pub IsChain : Rule (tree.Condition Test) → tree.Condition Test → Rule Operand
-IsChain one first = one ⨟ λ second. Many (TheMark mark.And ⨟ λ _. one) with_last [] ⨟ λ rest. Gives (operand (all_of (tree.And first second) rest) true)
+IsChain one first = one ⨟ λ second. Many (TheMark mark.And ⨟ λ _. one) with_last [] ⨟ λ rest. GivesValue (operand (all_of (tree.And first second) rest) true)
 
 abbrev pub IsAll : Rule (tree.Condition Test) → Rule Operand
-IsAll one = one ⨟ λ first. (TheMark mark.And ⨟ λ _. IsChain one first) or Gives (operand first false)
+IsAll one = one ⨟ λ first. (TheMark mark.And ⨟ λ _. IsChain one first) or GivesValue (operand first false)
 
 abbrev pub AreAlternatives : Rule Operand → Operand → Rule (tree.Condition Test × Bool)
 AreAlternatives all first =
     all ⨟ λ second. Many (TheMark mark.Or ⨟ λ _. all) with_operand (others [] (first.is_chain || second.is_chain)) ⨟ λ more.
-    Gives (any_of (tree.Or first.condition second.condition) more.rest, more.is_mixed)
+    GivesValue (any_of (tree.Or first.condition second.condition) more.rest, more.is_mixed)
 
 abbrev pub IsAny : Rule Operand → Rule (tree.Condition Test)
-IsAny all = all ⨟ λ first. (TheMark mark.Or ⨟ λ span. Noted span.line (AreAlternatives all first)) or Gives first.condition
+IsAny all = all ⨟ λ first. (TheMark mark.Or ⨟ λ span. Noted span.line (AreAlternatives all first)) or GivesValue first.condition
 
 -- What is kept of the operands of `&&`.
 abbrev pub kept : Operands (tree.Condition Test) → Operand
@@ -44,7 +44,7 @@ pub record Made {X Y : Type 0} (P : Rule X) (f : X → Y) (p : List Token) (y : 
   pub said : P p x ns
   pub made : y ≡ f x
 
-made_of : {X Y : Type 0} {P : Rule X} {f : X → Y} {p : List Token} {y : Y} {ns : List ℕ} → (P ⨟ λ x. Gives (f x)) p y ns → Made P f p y ns
+made_of : {X Y : Type 0} {P : Rule X} {f : X → Y} {p : List Token} {y : Y} {ns : List ℕ} → (P ⨟ λ x. GivesValue (f x)) p y ns → Made P f p y ns
 made_of {P = P} {p = p} {ns = ns} h = record {
   x = h.x;
   said =
@@ -54,7 +54,7 @@ made_of {P = P} {p = p} {ns = ns} h = record {
   made = h.second.is_value;
 }
 
-gives_made : {X Y : Type 0} {P : Rule X} {f : X → Y} {p : List Token} {y : Y} {ns : List ℕ} (x : X) → P p x ns → y ≡ f x → (P ⨟ λ x. Gives (f x)) p y ns
+gives_made : {X Y : Type 0} {P : Rule X} {f : X → Y} {p : List Token} {y : Y} {ns : List ℕ} (x : X) → P p x ns → y ≡ f x → (P ⨟ λ x. GivesValue (f x)) p y ns
 gives_made {p = p} {ns = ns} x h e = record {
   x = x;
   front = p;
@@ -94,7 +94,7 @@ module _ (one : Rule (tree.Condition Test)) where
   AndOne = TheMark mark.And ⨟ λ _. one
 
   abbrev Conjoined : tree.Condition Test → Rule Operand
-  Conjoined first = (TheMark mark.And ⨟ λ _. IsChain one first) or Gives (operand first false)
+  Conjoined first = (TheMark mark.And ⨟ λ _. IsChain one first) or GivesValue (operand first false)
 
   kept_chain : (first : tree.Condition Test) {c : List (tree.Condition Test)} {p : List Token} {ns : List ℕ} → Many AndOne with_last [] p c ns → Conjoined first p (kept (operands first c)) ns
   kept_chain first Enough = inr (record { none = refl; is_value = refl; unnoted = refl })
@@ -213,7 +213,7 @@ module _ (all : Rule (Operands (tree.Condition Test))) (All : Rule Operand)
   same_said first second ys = ap (λ t. (any_of (tree.Or (conjunction first) (conjunction second)) (map conjunction ys), t)) (or_or (is_chain first) (is_chain second) (list_any is_chain ys))
 
   abbrev Whole : Operands (tree.Condition Test) → Rule (tree.Condition Test × Bool)
-  Whole first = grammar.Joined mark.Or all ⨟ λ more. Gives (grammar.said_by (operands first (whole more)))
+  Whole first = grammar.Joined mark.Or all ⨟ λ more. GivesValue (grammar.said_by (operands first (whole more)))
 
   alternatives_kept : (first : Operands (tree.Condition Test)) (p : List Token) (r : tree.Condition Test × Bool) (ns : List ℕ) → Whole first p r ns → AreAlternatives All (kept first) p r ns
   alternatives_kept first p r ns h =
@@ -239,10 +239,10 @@ module _ (all : Rule (Operands (tree.Condition Test))) (All : Rule Operand)
       (gives_made (operands s.x g.x) (in_turn _ _ _ _ s.x (operands s.x g.x) s.said (gives_made g.x g.said refl)) value)
 
   abbrev Disjoined : Operands (tree.Condition Test) → Rule (tree.Condition Test)
-  Disjoined first = (TheMark mark.Or ⨟ λ span. Noted span.line (Whole first)) or Gives (conjunction first)
+  Disjoined first = (TheMark mark.Or ⨟ λ span. Noted span.line (Whole first)) or GivesValue (conjunction first)
 
   abbrev KeptDisjoined : Operand → Rule (tree.Condition Test)
-  KeptDisjoined first = (TheMark mark.Or ⨟ λ span. Noted span.line (AreAlternatives All first)) or Gives first.condition
+  KeptDisjoined first = (TheMark mark.Or ⨟ λ span. Noted span.line (AreAlternatives All first)) or GivesValue first.condition
 
   rest_kept : (first : Operands (tree.Condition Test)) (p : List Token) (c : tree.Condition Test) (ns : List ℕ) → Disjoined first p c ns → KeptDisjoined (kept first) p c ns
   rest_kept first p c ns (inr h) = inr h

@@ -27,10 +27,11 @@ use Rattle.ifs_parse.specs.declared.block.Statement.TheVariants.{Run, SetState, 
 use Rattle.ifs_parse.specs.Trees as tree
 use Rattle.ifs_parse.specs.Views.{all_of, any_of, block_of}
 use Rattle.ifs_parse.specs.declared.fault.ParseFault.TheVariants.{Period}
-use Rattle.ifs_parse.specs.inner.Combined.{Progress, progress, Parse, line_of, past, found, accepted, unexpected}
+use Rattle.ifs_parse.specs.inner.Combined.{Progress, progress, Parse, line_of_first, after_token, found}
+use Rattle.ifs_parse.specs.inner.Combined.{accepted, unexpected}
 use Rattle.ifs_parse.specs.inner.Combined.{◌▸◌, pure, begins, either, expected, no_more, required, many}
 use Rattle.ifs_parse.specs.Words.{marked}
-use Rattle.ifs_parse.specs.Rules.{Rule, Gives, TheMark, ◌⨟◌, ◌or◌, Never, Optional, Noted, Many}
+use Rattle.ifs_parse.specs.Rules.{Rule, GivesValue, TheMark, ◌⨟◌, ◌or◌, Never, Optional, Noted, Many}
 use Rattle.ifs_parse.specs.inner.Reading as reading
 use Rattle.ifs_parse.specs.Words as words
 use Rattle.ifs_parse.specs.Rules as rules
@@ -149,7 +150,7 @@ module _ (fits : ℕ → Bool) where
       })
 
   period_found : (ts : List Token) (m : List ℕ) (o : Option ℕ) → found (λ t. words.number_of_what t.what) ts ≡ o → (x : ℕ) (t : Progress)
-      → option_map_or (λ n. if fits n then Ok (n, past (progress ts m)) else Err (Period (line_of ts))) o (unexpected (progress ts m)) ≡ Ok (x, t)
+      → option_map_or (λ n. if fits n then Ok (n, after_token (progress ts m)) else Err (Period (line_of_first ts))) o (unexpected (progress ts m)) ≡ Ok (x, t)
       → Found (grammar.IsPeriod fits) Always (progress ts m) x t
   period_found ts m None h x t e = absurd (cc)
   period_found [] m (Some n) h x t e = absurd (cc)
@@ -183,9 +184,9 @@ No m next = (accepted m next ≡ None) × Unit {0}
 
 -- What is made of the first thing alone.
 reads_map : {X Y : Type 0} (start stop : List Token → Type 0) (p : Parse X) (f : X → Y) (P : Rule X) → Reads start p P (λ x. stop)
-    → Reads start (p ▸ λ x. pure (f x)) (P ⨟ λ x. Gives (f x)) (λ y. stop)
+    → Reads start (p ▸ λ x. pure (f x)) (P ⨟ λ x. GivesValue (f x)) (λ y. stop)
 reads_map start stop p f P exact_p =
-    reads_then start p (λ x. pure (f x)) P (λ x. Gives (f x)) (λ x. stop) (λ x. Any) (λ x. Always) (λ y. stop) exact_p (λ x. exact_pure (f x)) (λ x next a. tt)
+    reads_then start p (λ x. pure (f x)) P (λ x. GivesValue (f x)) (λ x. stop) (λ x. Any) (λ x. Always) (λ y. stop) exact_p (λ x. exact_pure (f x)) (λ x next a. tt)
     (λ x y back ns next h s. (subst (λ (l : List Token). stop (l ++ next)) (sym h.none) s, tt))
     (λ x y back ns next h a b. subst (λ (l : List Token). stop (l ++ next)) h.none a)
 
@@ -212,7 +213,7 @@ module _ (one : Parse (tree.Condition Test)) (One : Rule (tree.Condition Test)) 
   pub exact_all : Exact (reading.all one) (operands.IsAll One) (λ o. No mark.And)
   exact_all =
       exact_then one _ One _ (λ o. No mark.And) exact_o (λ first.
-      reads_either Any mark.And (λ _. reading.chain one first) (pure (reading.operand first false)) (λ _. operands.IsChain One first) (Gives (reading.operand first false))
+      reads_either Any mark.And (λ _. reading.chain one first) (pure (reading.operand first false)) (λ _. operands.IsChain One first) (GivesValue (reading.operand first false))
       (λ o. No mark.And) Always (λ o. No mark.And) (λ _. exact_chain first) (exact_pure (reading.operand first false))
       (λ x next s. s) (λ x next s. s)
       (λ x p ns next h s. (ap (λ (l : List Token). accepted mark.And (l ++ next)) h.none ∙ s.0, tt))
@@ -249,7 +250,7 @@ module _ (all : Parse Operand) (All : Rule Operand) (exact_a : Exact all All (λ
       (λ second r back ns next h a b. b)
 
   any_next : (first : Operand) (c : tree.Condition Test) (back : List Token) (ns : List ℕ) (next : List Token)
-      → ((TheMark mark.Or ⨟ λ span. Noted span.line (operands.AreAlternatives All first)) or Gives first.condition) back c ns → Over next → No mark.And (back ++ next)
+      → ((TheMark mark.Or ⨟ λ span. Noted span.line (operands.AreAlternatives All first)) or GivesValue first.condition) back c ns → Over next → No mark.And (back ++ next)
   any_next first c back ns next (inl h) s = no_and (λ span. Noted span.line (operands.AreAlternatives All first)) c back ns next h
   any_next first c back ns next (inr h) s = subst (λ (l : List Token). No mark.And (l ++ next)) (sym h.none) s.1
 
@@ -258,7 +259,7 @@ module _ (all : Parse Operand) (All : Rule Operand) (exact_a : Exact all All (λ
       reads_then Any all _ All _ (λ o. No mark.And) (λ first. No mark.And) (λ first c. Over) (λ c. Over) exact_a
       (λ first.
       reads_either (No mark.And) mark.Or (reading.noted_alternatives all first) (pure first.condition)
-      (λ span. Noted span.line (operands.AreAlternatives All first)) (Gives first.condition)
+      (λ span. Noted span.line (operands.AreAlternatives All first)) (GivesValue first.condition)
       (λ c. Over) Always (λ c. Over)
       (λ span. exact_noted span.line (reading.alternatives all first) (operands.AreAlternatives All first) Over (exact_alternatives first)) (exact_pure first.condition)
       (λ x next s. s) (λ x next s. s)
@@ -314,25 +315,25 @@ or_apart m P Q a b x p ns next (inr h) = b x p ns next h
 
 module _ (fits : ℕ → Bool) (negated grouped : Span → Parse (tree.Condition Test)) (Negated Grouped : Rule (tree.Condition Test))
     (exact_n : (span : Span) → Exact (negated span) Negated Always) (exact_g : (span : Span) → Exact (grouped span) Grouped (λ c. Over)) where
-  exact_group : (span : Span) → Exact (grouped span ▸ λ c. expected mark.ParenClose ▸ λ _. pure c) (Grouped ⨟ λ c. TheMark mark.ParenClose ⨟ λ _. Gives c) Always
+  exact_group : (span : Span) → Exact (grouped span ▸ λ c. expected mark.ParenClose ▸ λ _. pure c) (Grouped ⨟ λ c. TheMark mark.ParenClose ⨟ λ _. GivesValue c) Always
   exact_group span =
       reads_then Any (grouped span) _ Grouped _ (λ c. Over) (λ c. Any) (λ c. Always) Always (exact_g span)
       (λ c. exact_map (expected mark.ParenClose) (λ _. c) (TheMark mark.ParenClose) (exact_mark mark.ParenClose)) (λ c next s. tt)
-      (λ c x back ns next h s. (close_ends (λ _. Gives c) x back ns next h, tt)) (λ c x back ns next h a b. tt)
+      (λ c x back ns next h s. (close_ends (λ _. GivesValue c) x back ns next h, tt)) (λ c x back ns next h a b. tt)
 
   test_apart : (m : Mark) → ((w : What) (text : List ℕ) → words.text_of w ≡ Some text → is (mark_of w) m ≡ false)
-      → (c : tree.Condition Test) (p : List Token) (ns : List ℕ) (next : List Token) → (grammar.IsTest fits ⨟ λ t. Gives (tree.Leaf t)) p c ns → accepted m (p ++ next) ≡ None
-  test_apart m differ = then_apart m (grammar.IsTest fits) (λ t. Gives (tree.Leaf t)) (string_apart m differ _)
+      → (c : tree.Condition Test) (p : List Token) (ns : List ℕ) (next : List Token) → (grammar.IsTest fits ⨟ λ t. GivesValue (tree.Leaf t)) p c ns → accepted m (p ++ next) ≡ None
+  test_apart m differ = then_apart m (grammar.IsTest fits) (λ t. GivesValue (tree.Leaf t)) (string_apart m differ _)
 
   pub exact_one_over : Exact (reading.one_over negated grouped (reading.test fits)) (grammar.IsOneOver Negated Grouped (grammar.IsTest fits)) Always
   exact_one_over =
       exact_either mark.Bang (λ span. negated span ▸ λ c. pure (tree.NotSo c))
       (either mark.ParenOpen (λ span. grouped span ▸ λ c. expected mark.ParenClose ▸ λ _. pure c) (reading.test fits ▸ λ t. pure (tree.Leaf t)))
-      (λ span. Negated ⨟ λ c. Gives (tree.NotSo c))
-      ((TheMark mark.ParenOpen ⨟ λ _. Grouped ⨟ λ c. TheMark mark.ParenClose ⨟ λ _. Gives c) or (grammar.IsTest fits ⨟ λ t. Gives (tree.Leaf t)))
+      (λ span. Negated ⨟ λ c. GivesValue (tree.NotSo c))
+      ((TheMark mark.ParenOpen ⨟ λ _. Grouped ⨟ λ c. TheMark mark.ParenClose ⨟ λ _. GivesValue c) or (grammar.IsTest fits ⨟ λ t. GivesValue (tree.Leaf t)))
       (λ span. exact_map (negated span) tree.NotSo Negated (exact_n span))
       (exact_either mark.ParenOpen (λ span. grouped span ▸ λ c. expected mark.ParenClose ▸ λ _. pure c) (reading.test fits ▸ λ t. pure (tree.Leaf t))
-      (λ _. Grouped ⨟ λ c. TheMark mark.ParenClose ⨟ λ _. Gives c) (grammar.IsTest fits ⨟ λ t. Gives (tree.Leaf t))
+      (λ _. Grouped ⨟ λ c. TheMark mark.ParenClose ⨟ λ _. GivesValue c) (grammar.IsTest fits ⨟ λ t. GivesValue (tree.Leaf t))
       exact_group (exact_map (reading.test fits) tree.Leaf (grammar.IsTest fits) (exact_test fits)) (test_apart mark.ParenOpen string_is_no_paren))
       (or_apart mark.Bang _ _ (begins_apart mark.ParenOpen mark.Bang _ paren_bang) (test_apart mark.Bang string_is_no_bang))
 
@@ -380,10 +381,10 @@ not_statement m a b c Q x p ns next h =
 
 module _ (conditional : Span → Parse (Statement Test Name Wish)) (Cond : Rule (Statement Test Name Wish)) (exact_c : (span : Span) → Exact (conditional span) Cond Always) where
   abbrev RunRule : Rule (Statement Test Name Wish)
-  RunRule = TheMark mark.Run ⨟ λ _. grammar.IsString ⨟ λ command. Gives (Run command)
+  RunRule = TheMark mark.Run ⨟ λ _. grammar.IsString ⨟ λ command. GivesValue (Run command)
 
   abbrev SetRule : Rule (Statement Test Name Wish)
-  SetRule = TheMark mark.SetState ⨟ λ span. grammar.IsString ⨟ λ name. Gives (SetState (record { span = span; state = name }))
+  SetRule = TheMark mark.SetState ⨟ λ span. grammar.IsString ⨟ λ name. GivesValue (SetState (record { span = span; state = name }))
 
   never_to : (p : List Token) (x : Statement Test Name Wish) (ns : List ℕ) → ((TheMark mark.If ⨟ λ _. Cond) or (RunRule or (SetRule or Never))) p x ns → grammar.IsStatementOver Cond p x ns
   never_to p x ns (inl h) = inl h
@@ -403,9 +404,9 @@ module _ (conditional : Span → Parse (Statement Test Name Wish)) (Cond : Rule 
   exact_statement_over =
       exact_optional_as (reading.statement_over conditional) ((TheMark mark.If ⨟ λ _. Cond) or (RunRule or (SetRule or Never))) (grammar.IsStatementOver Cond) (Until NoStatement Any) never_to never_from
       (exact_begins mark.If conditional (begins mark.Run (λ _. reading.run) (begins mark.SetState reading.set_state no_more)) (λ _. Cond) (RunRule or (SetRule or Never)) _ Any exact_c
-      (exact_begins mark.Run (λ _. reading.run) (begins mark.SetState reading.set_state no_more) (λ _. grammar.IsString ⨟ λ command. Gives (Run command)) (SetRule or Never) _ Any
+      (exact_begins mark.Run (λ _. reading.run) (begins mark.SetState reading.set_state no_more) (λ _. grammar.IsString ⨟ λ command. GivesValue (Run command)) (SetRule or Never) _ Any
       (λ _. exact_map reading.string Run grammar.IsString exact_string)
-      (exact_begins mark.SetState reading.set_state no_more (λ span. grammar.IsString ⨟ λ name. Gives (SetState (record { span = span; state = name }))) Never Any Any
+      (exact_begins mark.SetState reading.set_state no_more (λ span. grammar.IsString ⨟ λ name. GivesValue (SetState (record { span = span; state = name }))) Never Any Any
       (λ span. exact_map reading.string (λ name. SetState (record { span = span; state = name })) grammar.IsString exact_string) (exact_no_more Any) (never_apart mark.SetState))
       (or_apart mark.Run SetRule Never (begins_apart mark.SetState mark.Run _ differ_set_run) (never_apart mark.Run)))
       (or_apart mark.If RunRule (SetRule or Never) (begins_apart mark.Run mark.If _ differ_run_if)
@@ -432,7 +433,7 @@ exact_braced part P none exact_p longer ended closes =
     reads_then Any (many part rules.with_last []) _ (Many P rules.with_last []) _ (λ xs. none) (λ xs. Any) (λ xs. Always) Always
     (exact_many part rules.with_last P none exact_p longer ended [])
     (λ xs. exact_map (expected mark.BraceClose) (λ _. xs) (TheMark mark.BraceClose) (exact_mark mark.BraceClose)) (λ xs next s. tt)
-    (λ xs x back ns next h s. (closes (λ _. Gives xs) x back ns next h, tt)) (λ xs x back ns next h a b. tt)
+    (λ xs x back ns next h s. (closes (λ _. GivesValue xs) x back ns next h, tt)) (λ xs x back ns next h a b. tt)
 
 pub close_if : is mark.BraceClose mark.If ≡ false
 unfolding is
@@ -464,12 +465,12 @@ module _ (statement : Parse (Option (Statement Test Name Wish))) (Cond : Rule (S
   pub exact_block : Exact (reading.block statement) (grammar.IsBlock (grammar.IsStatementOver Cond)) Always
   exact_block =
       exact_either mark.BraceOpen (λ _. reading.braced statement ▸ λ xs. pure (block_of xs)) (required statement ▸ λ x. pure (block_of (x ∷ [])))
-      (λ _. grammar.AreBraced (grammar.IsStatementOver Cond) ⨟ λ xs. Gives (block_of xs)) (grammar.IsStatementOver Cond ⨟ λ x. Gives (block_of (x ∷ [])))
+      (λ _. grammar.AreBraced (grammar.IsStatementOver Cond) ⨟ λ xs. GivesValue (block_of xs)) (grammar.IsStatementOver Cond ⨟ λ x. GivesValue (block_of (x ∷ [])))
       (λ _. exact_map (reading.braced statement) block_of (grammar.AreBraced (grammar.IsStatementOver Cond))
       (exact_braced statement (grammar.IsStatementOver Cond) NoStatement exact_s (statement_longer conditional Cond exact_c) (refl, (refl, (refl, tt)))
       (not_statement mark.BraceClose close_if close_run close_set)))
       (exact_map (required statement) (λ x. block_of (x ∷ [])) (grammar.IsStatementOver Cond) (exact_required statement (grammar.IsStatementOver Cond) NoStatement Any exact_s))
-      (then_apart mark.BraceOpen (grammar.IsStatementOver Cond) (λ x. Gives (block_of (x ∷ []))) (statement_apart conditional Cond exact_c mark.BraceOpen if_open run_open set_open))
+      (then_apart mark.BraceOpen (grammar.IsStatementOver Cond) (λ x. GivesValue (block_of (x ∷ []))) (statement_apart conditional Cond exact_c mark.BraceOpen if_open run_open set_open))
 
 open_or : is mark.BraceOpen mark.Or ≡ false
 unfolding is
@@ -507,15 +508,15 @@ module _ (Cond : Rule (Statement Test Name Wish)) (conditional : Span → Parse 
   block_apart : (m : Mark) → is mark.BraceOpen m ≡ false → is mark.If m ≡ false → is mark.Run m ≡ false → is mark.SetState m ≡ false → (x : tree.Block Test Name Wish) (p : List Token) (ns : List ℕ) (next : List Token)
       → grammar.IsBlock (grammar.IsStatementOver Cond) p x ns → accepted m (p ++ next) ≡ None
   block_apart m a b c d =
-      or_apart m (TheMark mark.BraceOpen ⨟ λ _. grammar.AreBraced (grammar.IsStatementOver Cond) ⨟ λ xs. Gives (block_of xs)) (grammar.IsStatementOver Cond ⨟ λ x. Gives (block_of (x ∷ [])))
-      (begins_apart mark.BraceOpen m _ a) (then_apart m (grammar.IsStatementOver Cond) (λ x. Gives (block_of (x ∷ []))) (statement_apart conditional Cond exact_c m b c d))
+      or_apart m (TheMark mark.BraceOpen ⨟ λ _. grammar.AreBraced (grammar.IsStatementOver Cond) ⨟ λ xs. GivesValue (block_of xs)) (grammar.IsStatementOver Cond ⨟ λ x. GivesValue (block_of (x ∷ [])))
+      (begins_apart mark.BraceOpen m _ a) (then_apart m (grammar.IsStatementOver Cond) (λ x. GivesValue (block_of (x ∷ []))) (statement_apart conditional Cond exact_c m b c d))
 
   -- A block ends a condition.
   block_over : (f : tree.Block Test Name Wish → Statement Test Name Wish) (x : Statement Test Name Wish) (p : List Token) (ns : List ℕ) (next : List Token)
-      → (grammar.IsBlock (grammar.IsStatementOver Cond) ⨟ λ inner. Gives (f inner)) p x ns → Over (p ++ next)
+      → (grammar.IsBlock (grammar.IsStatementOver Cond) ⨟ λ inner. GivesValue (f inner)) p x ns → Over (p ++ next)
   block_over f x p ns next h = (
-    (then_apart mark.Or (grammar.IsBlock (grammar.IsStatementOver Cond)) (λ inner. Gives (f inner)) (block_apart mark.Or open_or if_or run_or set_or) x p ns next h, tt),
-    (then_apart mark.And (grammar.IsBlock (grammar.IsStatementOver Cond)) (λ inner. Gives (f inner)) (block_apart mark.And open_and if_and run_and set_and) x p ns next h, tt),
+    (then_apart mark.Or (grammar.IsBlock (grammar.IsStatementOver Cond)) (λ inner. GivesValue (f inner)) (block_apart mark.Or open_or if_or run_or set_or) x p ns next h, tt),
+    (then_apart mark.And (grammar.IsBlock (grammar.IsStatementOver Cond)) (λ inner. GivesValue (f inner)) (block_apart mark.And open_and if_and run_and set_and) x p ns next h, tt),
   )
 
   exact_conditional : (condition : Parse (tree.Condition Test)) (C : Rule (tree.Condition Test)) → Exact condition C (λ c. Over)
@@ -554,14 +555,14 @@ known fits zero = known_over reading.deep Never (λ span. exact_deep span Always
 known fits (suc room) = known_over (λ _. reading.conditional fits room) (grammar.IsConditional (grammar.IsCondition fits room) (grammar.IsBlock (grammar.IsStatement fits room))) (exact_if fits room)
 
 module _ {X Y : Type 0} (p : Parse (Option X)) (f : X → Y) (P : Rule X) (none : List Token → Type 0) (exact_p : Exact p (Optional P) (Until none Any)) where
-  option_again : (ts : List Token) (o : Option Y) (ns : List ℕ) (q : List Token) (m : List ℕ) → Optional (P ⨟ λ x. Gives (f x)) ts o ns → Until none Any o q
+  option_again : (ts : List Token) (o : Option Y) (ns : List ℕ) (q : List Token) (m : List ℕ) → Optional (P ⨟ λ x. GivesValue (f x)) ts o ns → Until none Any o q
       → (p ▸ λ o. pure (option_map f o)) (progress (ts ++ q) m) ≡ Ok (o, progress q (m ++ ns))
   option_again ts None ns q m h s = rw (exact_p.again ts None ns q m h s)
   option_again ts (Some y) ns q m h s =
       let e = exact_p.again h.front (Some h.x) h.before q m h.first tt in
       rw (h.tokens_are, h.notes_are, h.second.none, h.second.unnoted, h.second.is_value, append-nil h.front, append-nil h.before, e)
 
-  option_found : (s : Progress) (o : Option X) (u : Progress) → Found (Optional P) (Until none Any) s o u → Found (Optional (P ⨟ λ x. Gives (f x))) (Until none Any) s (option_map f o) u
+  option_found : (s : Progress) (o : Option X) (u : Progress) → Found (Optional P) (Until none Any) s o u → Found (Optional (P ⨟ λ x. GivesValue (f x))) (Until none Any) s (option_map f o) u
   option_found s None u a = record { tokens = a.tokens; notes = a.notes; taken = a.taken; noted = a.noted; said = a.said; stops = a.stops }
   option_found s (Some x) u a =
       record {
@@ -584,12 +585,12 @@ module _ {X Y : Type 0} (p : Parse (Option X)) (f : X → Y) (P : Rule X) (none 
       }
 
   -- What is made of what may come.
-  pub exact_option : Exact (p ▸ λ o. pure (option_map f o)) (Optional (P ⨟ λ x. Gives (f x))) (Until none Any)
+  pub exact_option : Exact (p ▸ λ o. pure (option_map f o)) (Optional (P ⨟ λ x. GivesValue (f x))) (Until none Any)
   exact_option = record {
     again = option_again;
     reads = λ s o t a e.
         let w = went (p s) (λ r. Ok (option_map f r.0, r.1)) (o, t) e in
-        told (Optional (P ⨟ λ x. Gives (f x))) (Until none Any) s (option_map f w.on.0, w.on.1) (o, t) w.then_is (option_found s w.on.0 w.on.1 (exact_p.reads s w.on.0 w.on.1 tt w.was));
+        told (Optional (P ⨟ λ x. GivesValue (f x))) (Until none Any) s (option_map f w.on.0, w.on.1) (o, t) w.then_is (option_found s w.on.0 w.on.1 (exact_p.reads s w.on.0 w.on.1 tt w.was));
   }
 
 -- No part is next.
@@ -622,17 +623,17 @@ apart_end = (refl, refl, refl, refl, refl, refl)
 
 module _ (statement : Parse (Option (Statement Test Name Wish))) (S : Rule (Statement Test Name Wish)) (k : Known statement S) where
   abbrev InitRule : Span → Rule Part
-  InitRule span = grammar.IsBlock S ⨟ λ inner. Gives (Init span inner)
+  InitRule span = grammar.IsBlock S ⨟ λ inner. GivesValue (Init span inner)
 
   abbrev DoRule : Rule Part
-  DoRule = S ⨟ λ s. Gives (Do s)
+  DoRule = S ⨟ λ s. GivesValue (Do s)
 
   pub exact_part : Exact (reading.part statement) (Optional (grammar.IsPart S)) (Until NoPart Any)
   exact_part =
       exact_begins mark.Init (λ span. reading.block statement ▸ λ inner. pure (Init span inner)) (statement ▸ λ s. pure (option_map Do s)) InitRule DoRule NoStatement Any
       (λ span. exact_map (reading.block statement) (λ inner. Init span inner) (grammar.IsBlock S) k.block)
       (exact_option statement Do S NoStatement k.exact)
-      (then_apart mark.Init S (λ s. Gives (Do s)) (k.apart mark.Init apart_if_init.0 apart_if_init.1 apart_if_init.2))
+      (then_apart mark.Init S (λ s. GivesValue (Do s)) (k.apart mark.Init apart_if_init.0 apart_if_init.1 apart_if_init.2))
 
   pub part_longer : (x : Part) (p : List Token) (ns : List ℕ) → grammar.IsPart S p x ns → 1 ≤ length p
   part_longer x p ns (inl h) = begins_longer mark.Init InitRule p x ns h
@@ -640,19 +641,19 @@ module _ (statement : Parse (Option (Statement Test Name Wish))) (S : Rule (Stat
 
   part_apart : (m : Mark) → is mark.Init m ≡ false → is mark.If m ≡ false → is mark.Run m ≡ false → is mark.SetState m ≡ false → (x : Part) (p : List Token) (ns : List ℕ) (next : List Token)
       → grammar.IsPart S p x ns → accepted m (p ++ next) ≡ None
-  part_apart m a b c d = or_apart m (TheMark mark.Init ⨟ InitRule) DoRule (begins_apart mark.Init m InitRule a) (then_apart m S (λ s. Gives (Do s)) (k.apart m b c d))
+  part_apart m a b c d = or_apart m (TheMark mark.Init ⨟ InitRule) DoRule (begins_apart mark.Init m InitRule a) (then_apart m S (λ s. GivesValue (Do s)) (k.apart m b c d))
 
   pub closes_part : {X : Type 0} (Q : Span → Rule X) (x : X) (p : List Token) (ns : List ℕ) (next : List Token) → (TheMark mark.BraceClose ⨟ Q) p x ns → NoPart (p ++ next)
   closes_part Q x p ns next h = (begins_apart mark.BraceClose mark.Init Q apart_close x p ns next h, not_statement mark.BraceClose close_if close_run close_set Q x p ns next h)
 
   abbrev InitStateRule : Span → Rule Item
-  InitStateRule span = grammar.IsString ⨟ λ name. Gives (InitState span name)
+  InitStateRule span = grammar.IsString ⨟ λ name. GivesValue (InitState span name)
 
   abbrev StateRule : Rule Item
-  StateRule = grammar.IsString ⨟ λ name. TheMark mark.BraceOpen ⨟ λ _. grammar.AreBraced (grammar.IsPart S) ⨟ λ parts. Gives (StateItem name parts)
+  StateRule = grammar.IsString ⨟ λ name. TheMark mark.BraceOpen ⨟ λ _. grammar.AreBraced (grammar.IsPart S) ⨟ λ parts. GivesValue (StateItem name parts)
 
   abbrev AlwaysRule : Rule Item
-  AlwaysRule = grammar.IsPart S ⨟ λ p. Gives (AlwaysItem p)
+  AlwaysRule = grammar.IsPart S ⨟ λ p. GivesValue (AlwaysItem p)
 
   exact_state : Exact (reading.state_item (reading.part statement)) StateRule Always
   exact_state =
@@ -668,9 +669,9 @@ module _ (statement : Parse (Option (Statement Test Name Wish))) (S : Rule (Stat
       (λ span. exact_map reading.string (λ name. InitState span name) grammar.IsString exact_string)
       (exact_begins mark.State (λ _. reading.state_item (reading.part statement)) (reading.part statement ▸ λ p. pure (option_map AlwaysItem p)) (λ _. StateRule) AlwaysRule NoPart Any
       (λ _. exact_state) (exact_option (reading.part statement) AlwaysItem (grammar.IsPart S) NoPart exact_part)
-      (then_apart mark.State (grammar.IsPart S) (λ p. Gives (AlwaysItem p)) (part_apart mark.State apart_state.0 apart_state.1 apart_state.2 apart_state.3)))
+      (then_apart mark.State (grammar.IsPart S) (λ p. GivesValue (AlwaysItem p)) (part_apart mark.State apart_state.0 apart_state.1 apart_state.2 apart_state.3)))
       (or_apart mark.InitState (TheMark mark.State ⨟ λ _. StateRule) AlwaysRule (begins_apart mark.State mark.InitState (λ _. StateRule) apart_init_state.4)
-      (then_apart mark.InitState (grammar.IsPart S) (λ p. Gives (AlwaysItem p)) (part_apart mark.InitState apart_init_state.0 apart_init_state.1 apart_init_state.2 apart_init_state.3)))
+      (then_apart mark.InitState (grammar.IsPart S) (λ p. GivesValue (AlwaysItem p)) (part_apart mark.InitState apart_init_state.0 apart_init_state.1 apart_init_state.2 apart_init_state.3)))
 
   pub item_longer : (x : Item) (p : List Token) (ns : List ℕ) → grammar.IsItem (grammar.IsPart S) p x ns → 1 ≤ length p
   item_longer x p ns (inl h) = begins_longer mark.InitState InitStateRule p x ns h
@@ -691,4 +692,4 @@ module _ (statement : Parse (Option (Statement Test Name Wish))) (S : Rule (Stat
       reads_then Any (many (reading.item (reading.part statement)) rules.with_last []) _ (Many (grammar.IsItem (grammar.IsPart S)) rules.with_last []) _ (λ all. NoItem) (λ all. Any) (λ all. Always) Always
       (exact_many (reading.item (reading.part statement)) rules.with_last (grammar.IsItem (grammar.IsPart S)) NoItem exact_item item_longer (refl, (refl, (refl, (refl, (refl, (refl, tt)))))) [])
       (λ all. exact_map (expected mark.End) (λ _. all) (TheMark mark.End) (exact_mark mark.End)) (λ all next s. tt)
-      (λ all x back ns next h s. (ends_items (λ _. Gives all) x back ns next h, tt)) (λ all x back ns next h a b. tt)
+      (λ all x back ns next h s. (ends_items (λ _. GivesValue all) x back ns next h, tt)) (λ all x back ns next h a b. tt)

@@ -6,16 +6,19 @@ use Rattle.std.proofs.Common.{◌++◌, length, length-append, append_assoc, app
 use Rattle.std.specs.Prelude.{Result, if◌then◌else◌, option_map}
 use Rattle.std.specs.Option.{option_map_or}
 use Rattle.ifs_base.specs.declared.span.Span.{Span}
+use Rattle.ifs_base.specs.Results.{◌>>=◌}
 use Rattle.ifs_lex.specs.declared.token.Token.{Token}
 use Rattle.ifs_parse.specs.declared.fault.ParseFault.{ParseFault}
 use Rattle.ifs_parse.specs.declared.fault.ParseFault.TheVariants.{Unexpected, Period, Nesting, Memory}
 use Rattle.ifs_parse.specs.declared.mark.Mark.{Mark}
 use Rattle.ifs_parse.specs.inner.Reading as reading
 use Rattle.ifs_parse.specs.Grammar.{IsAt}
-use Rattle.ifs_parse.specs.inner.Combined.{Progress, progress, Parse, past, line_of, ◌>>=◌, ◌▸◌, pure, found, accepted}
+use Rattle.ifs_parse.specs.inner.Combined.{Progress, progress, Parse, after_token, line_of_first, ◌▸◌}
+use Rattle.ifs_parse.specs.inner.Combined.{pure, found, accepted}
 use Rattle.ifs_parse.specs.inner.Combined.{one_token, either, unexpected, begins, no_more, required, many, many_from}
 use Rattle.ifs_parse.specs.Words.{marked}
-use Rattle.ifs_parse.specs.Rules.{Rule, Gives, OneToken, TheMark, ◌⨟◌, ◌or◌, Never, Optional, Noted, Many, Enough, More}
+use Rattle.ifs_parse.specs.Rules.{Rule, GivesValue, OneToken, TheMark, ◌⨟◌, ◌or◌, Never, Optional, Noted, Many}
+use Rattle.ifs_parse.specs.Rules.{Enough, More}
 use Rattle.ifs_parse.proofs.Exact.{Always, Any, Until, Found, Reads, Exact}
 
 -- The next token, where there is one.
@@ -66,7 +69,7 @@ pub record Fails (limit : Limit) {X : Type 0} (read : Parse X) (rule wide : Rule
   pub can : Begins rule front
   pub helped : IsOf limit fault → Goes wide front left
   pub same : (w : List Token) (m : List ℕ) → next_token w ≡ next_token left → read (progress (front ++ w) m) ≡ Err fault
-  pub line : IsAt fault (line_of left)
+  pub line : IsAt fault (line_of_first left)
 
 -- What a rule has, another has.
 abbrev pub Within : {X : Type 0} → Rule X → Rule X → Type 0
@@ -84,7 +87,7 @@ found_by_next what [] (t ∷ b) h = absurd (cc)
 found_by_next what (t ∷ a) [] h = absurd (cc)
 found_by_next what (t ∷ a) (u ∷ b) h = let e : t ≡ u = cc in ap what e
 
-pub line_by_next : (a b : List Token) → next_token a ≡ next_token b → line_of a ≡ line_of b
+pub line_by_next : (a b : List Token) → next_token a ≡ next_token b → line_of_first a ≡ line_of_first b
 line_by_next [] [] h = refl
 line_by_next [] (t ∷ b) h = absurd (cc)
 line_by_next (t ∷ a) [] h = absurd (cc)
@@ -230,22 +233,22 @@ fails_after p P W s fault f q R V before t taken to wide_to same =
       line = f.line;
     }
 
-pub stuck_pure : {limit : Limit} {X : Type 0} {start : List Token → Type 0} (v : X) → Stuck limit start (pure v) (Gives v) (Gives v)
-stuck_pure v = record { fails = λ s fault a e. absurd (cc); within = same_within (Gives v) }
+pub stuck_pure : {limit : Limit} {X : Type 0} {start : List Token → Type 0} (v : X) → Stuck limit start (pure v) (GivesValue v) (GivesValue v)
+stuck_pure v = record { fails = λ s fault a e. absurd (cc); within = same_within (GivesValue v) }
 
 -- A parser fails at its first token.
 pub fails_here : {limit : Limit} {X : Type 0} (read : Parse X) (P W : Rule X) (ts : List Token) (m : List ℕ) (fault : ParseFault) → Sample P
-    → ((w : List Token) (n : List ℕ) → next_token w ≡ next_token ts → read (progress w n) ≡ Err fault) → (IsOf limit fault → Goes W [] ts) → IsAt fault (line_of ts) → Fails limit read P W (progress ts m) fault
+    → ((w : List Token) (n : List ℕ) → next_token w ≡ next_token ts → read (progress w n) ≡ Err fault) → (IsOf limit fault → Goes W [] ts) → IsAt fault (line_of_first ts) → Fails limit read P W (progress ts m) fault
 fails_here read P W ts m fault sample same helped line =
     record { front = []; left = ts; whole = refl; can = sample; helped = helped; same = same; line = line }
 
 module _ {limit : Limit} {X : Type 0} (what : Token → Option X) (sample : Sample (OneToken what)) where
   token_stuck : (ts : List Token) (m : List ℕ) (o : Option X) → found what ts ≡ o → (fault : ParseFault)
-      → option_map_or (λ x. Ok (x, past (progress ts m))) o (unexpected (progress ts m)) ≡ Err fault → Fails limit (one_token what) (OneToken what) (OneToken what) (progress ts m) fault
+      → option_map_or (λ x. Ok (x, after_token (progress ts m))) o (unexpected (progress ts m)) ≡ Err fault → Fails limit (one_token what) (OneToken what) (OneToken what) (progress ts m) fault
   token_stuck ts m (Some x) h fault e = absurd (cc)
   token_stuck ts m None h fault e =
-      fails_as (one_token what) (OneToken what) (OneToken what) (progress ts m) (Unexpected (line_of ts)) fault e
-      (fails_here (one_token what) (OneToken what) (OneToken what) ts m (Unexpected (line_of ts)) sample
+      fails_as (one_token what) (OneToken what) (OneToken what) (progress ts m) (Unexpected (line_of_first ts)) fault e
+      (fails_here (one_token what) (OneToken what) (OneToken what) ts m (Unexpected (line_of_first ts)) sample
       (λ w n k. rw (found_by_next what w ts k ∙ h, line_by_next w ts k)) (λ k. absurd k) (inl refl))
 
   pub stuck_token : Stuck limit Any (one_token what) (OneToken what) (OneToken what)
@@ -295,7 +298,7 @@ stuck_then p q P Q exact_p stuck_p stuck_q sample_q =
 module _ {limit : Limit} {X : Type 0} {V : Span → Rule X} {U : Rule X} (start : List Token → Type 0) (mark : Mark) (q : Span → Parse X) (r : Parse X) (Q : Span → Rule X) (R : Rule X)
     (stuck_q : (span : Span) → Stuck limit Any (q span) (Q span) (V span)) (stuck_r : Stuck limit start r R U) where
   either_stuck : (ts : List Token) (m : List ℕ) → start ts → (o : Option Span) → accepted mark ts ≡ o → (fault : ParseFault)
-      → option_map_or (λ span. q span (past (progress ts m))) o (r (progress ts m)) ≡ Err fault
+      → option_map_or (λ span. q span (after_token (progress ts m))) o (r (progress ts m)) ≡ Err fault
       → Fails limit (either mark q r) ((TheMark mark ⨟ Q) or R) ((TheMark mark ⨟ V) or U) (progress ts m) fault
   either_stuck ts m begun None h fault e =
       let f = stuck_r.fails (progress ts m) fault begun e in
@@ -322,7 +325,7 @@ module _ {limit : Limit} {X : Type 0} {V : Span → Rule X} {U : Rule X} (mark :
     (deep : (span : Span) (s : Progress) → q span s ≡ Err (Nesting span.line)) (stuck_r : Stuck limit Any r R U) (sample_r : Sample R)
     (within : (span : Span) → Within (Q span) (V span)) (helped : OfDepth limit → (span : Span) → Sample (V span)) where
   deep_stuck : (ts : List Token) (m : List ℕ) (o : Option Span) → accepted mark ts ≡ o → (fault : ParseFault)
-      → option_map_or (λ span. q span (past (progress ts m))) o (r (progress ts m)) ≡ Err fault
+      → option_map_or (λ span. q span (after_token (progress ts m))) o (r (progress ts m)) ≡ Err fault
       → Fails limit (either mark q r) ((TheMark mark ⨟ Q) or R) ((TheMark mark ⨟ V) or U) (progress ts m) fault
   deep_stuck ts m None h fault e =
       let f = stuck_r.fails (progress ts m) fault tt e in
@@ -334,7 +337,7 @@ module _ {limit : Limit} {X : Type 0} {V : Span → Rule X} {U : Rule X} (mark :
       fails_as (either mark q r) ((TheMark mark ⨟ Q) or R) ((TheMark mark ⨟ V) or U) (progress (u ∷ ts) m) (Nesting span.line) fault (sym (deep span (progress ts m)) ∙ e)
       (fails_here (either mark q r) ((TheMark mark ⨟ Q) or R) ((TheMark mark ⨟ V) or U) (u ∷ ts) m (Nesting span.line)
       (begins_right (TheMark mark ⨟ Q) R [] sample_r)
-      (λ w n k. rw (found_by_next (marked mark) w (u ∷ ts) k ∙ h, deep span (past (progress w n))))
+      (λ w n k. rw (found_by_next (marked mark) w (u ∷ ts) k ∙ h, deep span (after_token (progress w n))))
       (λ k. record { token = u; next = refl; begun = begins_marked mark V U u span h [] (helped k span) })
       (inr (inr (ap (λ (s : Span). Nesting s.line) (sym (span_is _ u.span span h))))))
 
@@ -370,7 +373,7 @@ module _ {limit : Limit} {X : Type 0} {V : Span → Rule X} {U : Rule X} (mark :
       (λ front b. begins_some ((TheMark mark ⨟ V) or U) (u ∷ front) (begins_marked mark V U u span h front b)) (λ w n k. rw (h, f.same w n k))
 
   begins_stuck : (ts : List Token) (m : List ℕ) (c : Option Span) → accepted mark ts ≡ c → (fault : ParseFault)
-      → option_map_or (λ span. (q span ▸ λ x. pure (Some x)) (past (progress ts m))) c (r (progress ts m)) ≡ Err fault → Fails limit (begins mark q r) Narrow Wider (progress ts m) fault
+      → option_map_or (λ span. (q span ▸ λ x. pure (Some x)) (after_token (progress ts m))) c (r (progress ts m)) ≡ Err fault → Fails limit (begins mark q r) Narrow Wider (progress ts m) fault
   begins_stuck ts m None h fault e = rest_stuck ts m h fault (stuck_r.fails (progress ts m) fault tt e)
   begins_stuck [] m (Some span) h fault e = absurd (cc)
   begins_stuck (u ∷ ts) m (Some span) h fault e = some_stuck u ts m span h fault (broke (q span (progress ts m)) (λ r. Ok (Some r.0, r.1)) fault e)
@@ -417,10 +420,10 @@ module _ {limit : Limit} {X : Type 0} {W : Rule X} (p : Parse (Option X)) (P : R
   none_stuck s None u e fault k =
       let f = exact_p.reads s None u tt e in
       let same : s.left ≡ u.left = f.taken ∙ ap (λ (l : List Token). l ++ u.left) f.said.0 in
-      fails_as (required p) P W s (Unexpected (line_of u.left)) fault k
-      (fails_here (required p) P W s.left s.notes (Unexpected (line_of u.left)) sample
+      fails_as (required p) P W s (Unexpected (line_of_first u.left)) fault k
+      (fails_here (required p) P W s.left s.notes (Unexpected (line_of_first u.left)) sample
       (λ w n h. rw (exact_p.again [] None [] w n (refl, refl) (by_next u.left w (ap next_token (sym same) ∙ sym h) f.stops), line_by_next w u.left (h ∙ ap next_token same)))
-      (λ k. absurd k) (inl (ap (λ (l : List Token). Unexpected (line_of l)) (sym same))))
+      (λ k. absurd k) (inl (ap (λ (l : List Token). Unexpected (line_of_first l)) (sym same))))
 
   required_broke : (s : Progress) (fault : ParseFault) → Broke (p s) (λ r. option_map_or pure r.0 unexpected r.1) fault → Fails limit (required p) P W s fault
   required_broke s fault (After r e k) = none_stuck s r.0 r.1 e fault k
@@ -433,7 +436,7 @@ module _ {limit : Limit} {X : Type 0} {W : Rule X} (p : Parse (Option X)) (P : R
   stuck_required = record { fails = λ s fault a e. required_broke s fault (broke (p s) (λ r. option_map_or pure r.0 unexpected r.1) fault e); within = required_within }
 
 -- What is made of what may come.
-option_can : {X Y : Type 0} (f : X → Y) (P : Rule X) (ts : List Token) (o : Option X) (ns : List ℕ) → Optional P ts o ns → Optional (P ⨟ λ x. Gives (f x)) ts (option_map f o) ns
+option_can : {X Y : Type 0} (f : X → Y) (P : Rule X) (ts : List Token) (o : Option X) (ns : List ℕ) → Optional P ts o ns → Optional (P ⨟ λ x. GivesValue (f x)) ts (option_map f o) ns
 option_can f P ts None ns h = h
 option_can f P ts (Some x) ns h =
     record {
@@ -448,23 +451,23 @@ option_can f P ts (Some x) ns h =
       second = record { none = refl; is_value = refl; unnoted = refl };
     }
 
-begins_option : {X Y : Type 0} (f : X → Y) (P : Rule X) (front : List Token) → Begins (Optional P) front → Begins (Optional (P ⨟ λ x. Gives (f x))) front
+begins_option : {X Y : Type 0} (f : X → Y) (P : Rule X) (front : List Token) → Begins (Optional P) front → Begins (Optional (P ⨟ λ x. GivesValue (f x))) front
 begins_option f P front b = record { tail = b.tail; x = option_map f b.x; notes = b.notes; said = option_can f P (front ++ b.tail) b.x b.notes b.said }
 
 module _ {limit : Limit} {X Y : Type 0} {W : Rule X} (p : Parse (Option X)) (f : X → Y) (P : Rule X) (stuck_p : Stuck limit Any p (Optional P) (Optional W)) where
   option_broke : (s : Progress) (fault : ParseFault) → Broke {B = Option Y × Progress} (p s) (λ r. Ok (option_map f r.0, r.1)) fault
-      → Fails limit (p ▸ λ o. pure (option_map f o)) (Optional (P ⨟ λ x. Gives (f x))) (Optional (W ⨟ λ x. Gives (f x))) s fault
+      → Fails limit (p ▸ λ o. pure (option_map f o)) (Optional (P ⨟ λ x. GivesValue (f x))) (Optional (W ⨟ λ x. GivesValue (f x))) s fault
   option_broke s fault (After a e k) = absurd (cc)
   option_broke s fault (Before e) =
       let h = stuck_p.fails s fault tt e in
-      fails_after p (Optional P) (Optional W) s fault h (p ▸ λ o. pure (option_map f o)) (Optional (P ⨟ λ x. Gives (f x))) (Optional (W ⨟ λ x. Gives (f x))) [] s refl
+      fails_after p (Optional P) (Optional W) s fault h (p ▸ λ o. pure (option_map f o)) (Optional (P ⨟ λ x. GivesValue (f x))) (Optional (W ⨟ λ x. GivesValue (f x))) [] s refl
       (begins_option f P) (begins_option f W) (λ w n k. rw (h.same w n k))
 
-  pub stuck_option : Stuck limit Any (p ▸ λ o. pure (option_map f o)) (Optional (P ⨟ λ x. Gives (f x))) (Optional (W ⨟ λ x. Gives (f x)))
+  pub stuck_option : Stuck limit Any (p ▸ λ o. pure (option_map f o)) (Optional (P ⨟ λ x. GivesValue (f x))) (Optional (W ⨟ λ x. GivesValue (f x)))
   stuck_option = record {
     fails = λ s fault a e. option_broke s fault (broke (p s) (λ r. Ok (option_map f r.0, r.1)) fault e);
-    within = optional_within (P ⨟ λ x. Gives (f x)) (W ⨟ λ x. Gives (f x))
-        (then_within P W (λ x. Gives (f x)) (λ x. Gives (f x)) (λ ts x ns h. stuck_p.within ts (Some x) ns h) (λ x. same_within (Gives (f x))));
+    within = optional_within (P ⨟ λ x. GivesValue (f x)) (W ⨟ λ x. GivesValue (f x))
+        (then_within P W (λ x. GivesValue (f x)) (λ x. GivesValue (f x)) (λ ts x ns h. stuck_p.within ts (Some x) ns h) (λ x. same_within (GivesValue (f x))));
   }
 
 module _ {limit : Limit} {X : Type 0} {W : Rule (X × Bool)} (line : ℕ) (p : Parse (X × Bool)) (P : Rule (X × Bool)) (stuck_p : Stuck limit Any p P W) where
@@ -510,7 +513,7 @@ module _ {limit : Limit} {A X : Type 0} {W : Rule X} (part : Parse (Option X)) (
     can : Begins (Many P add a) front
     helped : IsOf limit fault → Goes (Many W add a) front left
     same : (k : ℕ) (w : List Token) (m : List ℕ) (c : A) → length (front ++ w) ≤ k → next_token w ≡ next_token left → many_from part add k c (progress (front ++ w) m) ≡ Err fault
-    line : IsAt fault (line_of left)
+    line : IsAt fault (line_of_first left)
 
   part_within : Within P W
   part_within ts x ns h = stuck_part.within ts (Some x) ns h

@@ -2,8 +2,9 @@
 use Rattle.std.proofs.Common.{◌≡◌, ℕ, suc, ◌+◌, ◌-◌, ◌<◌, sym, ap, ◌∙◌, arith, Ok, Err, Option, Some, None}
 use Rattle.std.specs.Option.{option_map_or}
 use Rattle.std.specs.Prelude.{Result}
+use Rattle.ifs_base.specs.Results.{◌>>=◌}
 use Rattle.ifs_parse.specs.declared.fault.ParseFault.{ParseFault}
-use Rattle.ifs_parse.specs.inner.Combined.{Progress, Parse, ◌>>=◌, many_from}
+use Rattle.ifs_parse.specs.inner.Combined.{Progress, Parse, many_from}
 
 module _ {A X : Type 0} (part : Parse (Option X)) (add : A → X → A) where
   -- What one more turn makes.

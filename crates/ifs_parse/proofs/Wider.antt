@@ -4,6 +4,7 @@ use Rattle.std.proofs.Common.{◌||◌, Option, Some, None, Ok, Err, List, [], l
 use Rattle.std.specs.Prelude.{Result, if◌then◌else◌, option_map}
 use Rattle.std.specs.Option.{option_map_or}
 use Rattle.ifs_base.specs.declared.span.Span.{Span}
+use Rattle.ifs_base.specs.Results.{◌>>=◌}
 use Rattle.ifs_lex.specs.declared.token.Token.{Token}
 use Rattle.ifs_parse.specs.declared.fault.ParseFault.{ParseFault}
 use Rattle.ifs_parse.specs.declared.fault.ParseFault.TheVariants.{Period, Nesting}
@@ -17,7 +18,8 @@ use Rattle.ifs_parse.specs.declared.block.Statement.{Statement}
 use Rattle.ifs_parse.specs.declared.parser.Operand.{Operand}
 use Rattle.ifs_parse.specs.Trees as tree
 use Rattle.ifs_parse.specs.Files.{file}
-use Rattle.ifs_parse.specs.inner.Combined.{Progress, progress, Parse, past, line_of, ◌>>=◌, ◌▸◌, pure, found, accepted}
+use Rattle.ifs_parse.specs.inner.Combined.{Progress, progress, Parse, after_token, line_of_first, ◌▸◌}
+use Rattle.ifs_parse.specs.inner.Combined.{pure, found, accepted}
 use Rattle.ifs_parse.specs.inner.Combined.{either, begins, expected, unexpected, no_more, required, many, many_from}
 use Rattle.ifs_parse.specs.inner.Reading as reading
 use Rattle.ifs_parse.specs.Words as words
@@ -58,7 +60,7 @@ module _ (kept : ParseFault → Type 0) where
   alike_option (Some x) f g r u h k = h x
 
   follows_either : {X : Type 0} (m : Mark) (q v : Span → Parse X) (r u : Parse X) → ((span : Span) → Follows (q span) (v span)) → Follows r u → Follows (either m q r) (either m v u)
-  follows_either m q v r u h k s = alike_option (accepted m s.left) (λ span. q span (past s)) (λ span. v span (past s)) (r s) (u s) (λ span. h span (past s)) (k s)
+  follows_either m q v r u h k s = alike_option (accepted m s.left) (λ span. q span (after_token s)) (λ span. v span (after_token s)) (r s) (u s) (λ span. h span (after_token s)) (k s)
 
   follows_begins : {X : Type 0} (m : Mark) (q v : Span → Parse X) (r u : Parse (Option X)) → ((span : Span) → Follows (q span) (v span)) → Follows r u → Follows (begins m q r) (begins m v u)
   follows_begins m q v r u h k = follows_either m _ _ r u (λ span. follows_map (q span) (v span) (λ x. pure (Some x)) (h span)) k
@@ -143,7 +145,7 @@ module _ (kept : ParseFault → Type 0) where
     follows_period : Follows (reading.period fits) (reading.period wide)
     follows_period s =
         alike_option (found (λ t. words.number_of_what t.what) s.left) _ _ _ _
-        (λ n. alike_if (fits n) (wide n) (Ok (n, past s)) (line_of s.left) (wider n) (kept_period (line_of s.left) n) (n, past s)) (alike_same (unexpected s))
+        (λ n. alike_if (fits n) (wide n) (Ok (n, after_token s)) (line_of_first s.left) (wider n) (kept_period (line_of_first s.left) n) (n, after_token s)) (alike_same (unexpected s))
 
     follows_test : Follows (reading.test fits) (reading.test wide)
     follows_test =

@@ -13,6 +13,6 @@ may_come_first m =
     is m mark.InitState || (is m mark.State || (is m mark.Init || (is m mark.If || (is m mark.Run || (is m mark.SetState || is m mark.End)))))
 
 -- What is certain at once of tokens: that no file begins with the first of them.
-abbrev pub certain_at_once : List Token → Option ParseFault
-certain_at_once [] = None
-certain_at_once (t ∷ rest) = if may_come_first (mark_of t.what) then None else Some (Unexpected t.span.line)
+abbrev pub certain_of_tokens : List Token → Option ParseFault
+certain_of_tokens [] = None
+certain_of_tokens (t ∷ rest) = if may_come_first (mark_of t.what) then None else Some (Unexpected t.span.line)

@@ -23,7 +23,7 @@ use Rattle.ifs_parse.specs.Marks.{mark_of}
 use Rattle.ifs_parse.specs.Words.{fits_period, name_of, link_state_of, number_of_what}
 use Rattle.ifs_parse.specs.declared.fault.ParseFault.{ParseFault}
 use Rattle.ifs_parse.specs.declared.fault.ParseFault.TheVariants.{Unexpected, Period, Nesting, Memory}
-use Rattle.ifs_parse.specs.Rules.{Rule, Gives, OneToken, TheMark, ◌⨟◌, ◌or◌, Never, Noted, Many, with_last}
+use Rattle.ifs_parse.specs.Rules.{Rule, GivesValue, OneToken, TheMark, ◌⨟◌, ◌or◌, Never, Noted, Many, with_last}
 
 -- string : a word that is not reserved | a quoted text
 abbrev pub IsString : Rule Name
@@ -44,11 +44,11 @@ IsPeriod fits = OneToken (λ t. fitting fits (number_of_what t.what))
 
 -- link "." ( up | down | unknown )
 abbrev pub IsLinkTest : Name → Rule Test
-IsLinkTest name = TheMark mark.Link ⨟ λ _. TheMark mark.Dot ⨟ λ _. IsLinkState ⨟ λ l. Gives (Link name l)
+IsLinkTest name = TheMark mark.Link ⨟ λ _. TheMark mark.Dot ⨟ λ _. IsLinkState ⨟ λ l. GivesValue (Link name l)
 
 -- test : string ( "." link "." ( up | down | unknown ) | every number )
 abbrev pub IsTest : (ℕ → Bool) → Rule Test
-IsTest fits = IsString ⨟ λ name. (TheMark mark.Dot ⨟ λ _. IsLinkTest name) or (TheMark mark.Every ⨟ λ _. IsPeriod fits ⨟ λ n. Gives (External name n))
+IsTest fits = IsString ⨟ λ name. (TheMark mark.Dot ⨟ λ _. IsLinkTest name) or (TheMark mark.Every ⨟ λ _. IsPeriod fits ⨟ λ n. GivesValue (External name n))
 
 -- Operands that a sign joins: the first, and the others in order.
 pub record Operands (X : Type 0) : Type 0 where
@@ -86,7 +86,7 @@ disjunction o = any_of (conjunction o.first) (map conjunction o.others)
 
 -- one { sign one }
 abbrev pub Joined : {X : Type 0} → Mark → Rule X → Rule (Operands X)
-Joined sign one = one ⨟ λ first. Many (TheMark sign ⨟ λ _. one) with_last [] ⨟ λ others. Gives (operands first others)
+Joined sign one = one ⨟ λ first. Many (TheMark sign ⨟ λ _. one) with_last [] ⨟ λ others. GivesValue (operands first others)
 
 -- all : one { "&&" one }
 abbrev pub IsAll : Rule (tree.Condition Test) → Rule (Operands (tree.Condition Test))
@@ -99,14 +99,14 @@ said_by o = (disjunction o, is_noted o)
 -- any : all { "||" all }, with a note on the line of its first `||` where its operands get one
 abbrev pub IsAny : Rule (Operands (tree.Condition Test)) → Rule (tree.Condition Test)
 IsAny all =
-    all ⨟ λ first. (TheMark mark.Or ⨟ λ span. Noted span.line (Joined mark.Or all ⨟ λ more. Gives (said_by (operands first (whole more))))) or Gives (conjunction first)
+    all ⨟ λ first. (TheMark mark.Or ⨟ λ span. Noted span.line (Joined mark.Or all ⨟ λ more. GivesValue (said_by (operands first (whole more))))) or GivesValue (conjunction first)
 
 -- one, by what stands after "!" and within "(" and ")"
 abbrev pub IsOneOver : Rule (tree.Condition Test) → Rule (tree.Condition Test) → Rule Test → Rule (tree.Condition Test)
 IsOneOver negated grouped test =
-    (TheMark mark.Bang ⨟ λ _. negated ⨟ λ c. Gives (tree.NotSo c))
-    or (TheMark mark.ParenOpen ⨟ λ _. grouped ⨟ λ c. TheMark mark.ParenClose ⨟ λ _. Gives c)
-    or (test ⨟ λ t. Gives (tree.Leaf t))
+    (TheMark mark.Bang ⨟ λ _. negated ⨟ λ c. GivesValue (tree.NotSo c))
+    or (TheMark mark.ParenOpen ⨟ λ _. grouped ⨟ λ c. TheMark mark.ParenClose ⨟ λ _. GivesValue c)
+    or (test ⨟ λ t. GivesValue (tree.Leaf t))
 
 -- one : "!" one | "(" any ")" | test, by how many more may be open
 abbrev pub IsOne : (ℕ → Bool) → ℕ → Rule (tree.Condition Test)
@@ -119,23 +119,23 @@ IsCondition fits room = IsAny (IsAll (IsOne fits room))
 
 -- { part } "}"
 abbrev pub AreBraced : {X : Type 0} → Rule X → Rule (List X)
-AreBraced part = Many part with_last [] ⨟ λ xs. TheMark mark.BraceClose ⨟ λ _. Gives xs
+AreBraced part = Many part with_last [] ⨟ λ xs. TheMark mark.BraceClose ⨟ λ _. GivesValue xs
 
 -- block : stmt | "{" { stmt } "}"
 abbrev pub IsBlock : Rule (Statement Test Name Wish) → Rule (tree.Block Test Name Wish)
 IsBlock statement =
-    (TheMark mark.BraceOpen ⨟ λ _. AreBraced statement ⨟ λ xs. Gives (block_of xs)) or (statement ⨟ λ x. Gives (block_of (x ∷ [])))
+    (TheMark mark.BraceOpen ⨟ λ _. AreBraced statement ⨟ λ xs. GivesValue (block_of xs)) or (statement ⨟ λ x. GivesValue (block_of (x ∷ [])))
 
 -- stmt, by what stands after `if`
 abbrev pub IsStatementOver : Rule (Statement Test Name Wish) → Rule (Statement Test Name Wish)
 IsStatementOver conditional =
     (TheMark mark.If ⨟ λ _. conditional)
-    or (TheMark mark.Run ⨟ λ _. IsString ⨟ λ command. Gives (Run command))
-    or (TheMark mark.SetState ⨟ λ span. IsString ⨟ λ name. Gives (SetState (record { span = span; state = name })))
+    or (TheMark mark.Run ⨟ λ _. IsString ⨟ λ command. GivesValue (Run command))
+    or (TheMark mark.SetState ⨟ λ span. IsString ⨟ λ name. GivesValue (SetState (record { span = span; state = name })))
 
 -- What stands after `if` : any block
 abbrev pub IsConditional : Rule (tree.Condition Test) → Rule (tree.Block Test Name Wish) → Rule (Statement Test Name Wish)
-IsConditional condition block = condition ⨟ λ c. block ⨟ λ inner. Gives (If c inner)
+IsConditional condition block = condition ⨟ λ c. block ⨟ λ inner. GivesValue (If c inner)
 
 -- stmt : if any block | run string | set-state string, by how many more may be open
 abbrev pub IsStatement : (ℕ → Bool) → ℕ → Rule (Statement Test Name Wish)
@@ -144,18 +144,18 @@ IsStatement fits (suc room) = IsStatementOver (IsConditional (IsCondition fits r
 
 -- init block | stmt
 abbrev pub IsPart : Rule (Statement Test Name Wish) → Rule Part
-IsPart statement = (TheMark mark.Init ⨟ λ span. IsBlock statement ⨟ λ inner. Gives (Init span inner)) or (statement ⨟ λ s. Gives (Do s))
+IsPart statement = (TheMark mark.Init ⨟ λ span. IsBlock statement ⨟ λ inner. GivesValue (Init span inner)) or (statement ⨟ λ s. GivesValue (Do s))
 
 -- init-state string | state string "{" { init block | stmt } "}" | init block | stmt
 abbrev pub IsItem : Rule Part → Rule Item
 IsItem part =
-    (TheMark mark.InitState ⨟ λ span. IsString ⨟ λ name. Gives (InitState span name))
-    or (TheMark mark.State ⨟ λ _. IsString ⨟ λ name. TheMark mark.BraceOpen ⨟ λ _. AreBraced part ⨟ λ parts. Gives (State name parts))
-    or (part ⨟ λ p. Gives (Always p))
+    (TheMark mark.InitState ⨟ λ span. IsString ⨟ λ name. GivesValue (InitState span name))
+    or (TheMark mark.State ⨟ λ _. IsString ⨟ λ name. TheMark mark.BraceOpen ⨟ λ _. AreBraced part ⨟ λ parts. GivesValue (State name parts))
+    or (part ⨟ λ p. GivesValue (Always p))
 
 -- file : { init-state string | state string "{" { init block | stmt } "}" | init block | stmt }, and the end
 abbrev pub AreItems : Rule Item → Rule (List Item)
-AreItems item = Many item with_last [] ⨟ λ all. TheMark mark.End ⨟ λ _. Gives all
+AreItems item = Many item with_last [] ⨟ λ all. TheMark mark.End ⨟ λ _. GivesValue all
 
 -- Tokens say a file, with periods that fit and so many `if`, `!` and `(` open at once.
 unfoldable pub SaysWithin : (ℕ → Bool) → ℕ → List Token → File → Type 0

@@ -10,7 +10,7 @@ abbrev pub Rule : Type 0 → Type 1
 Rule X = List Token → X → List ℕ → Type 0
 
 -- No token, and a value.
-pub record Gives {X : Type 0} (value : X) (tokens : List Token) (x : X) (notes : List ℕ) : Type 0 where
+pub record GivesValue {X : Type 0} (value : X) (tokens : List Token) (x : X) (notes : List ℕ) : Type 0 where
   pub none : tokens ≡ []
   pub is_value : x ≡ value
   pub unnoted : notes ≡ []

@@ -1,7 +1,7 @@
 //! The productions of conditions.
 
 ghost use Rattle.std.specs.Prelude.{◌≡◌, ◌≤◌, ◌||◌, [], suc, zero, length, MatchResult};
-ghost use Rattle.ifs_parse.specs.inner.Combined.{Answers, many};
+ghost use Rattle.ifs_parse.specs.inner.Combined.{IsAsRead, many};
 ghost use Rattle.ifs_parse.specs.inner.Parsers.{progress_of, others_of};
 ghost use Rattle.ifs_parse.specs.inner.Reading as reading;
 ghost use Rattle.ifs_parse.specs.Words as words;
@@ -77,7 +77,7 @@ impl<'a> Parser<'a> {
     /// one : "!" one | "(" any ")" | test
     #[cycle(conditions)]
     fn one(&mut self, room: u32) -> Result<Condition<Test>, ParseFault>
-        ensures { Answers (λ c. (c, progress_of self.new)) result (reading.one words.fits_period room (progress_of self.old)) }
+        ensures { IsAsRead (λ c. (c, progress_of self.new)) result (reading.one words.fits_period room (progress_of self.old)) }
     {
         if let Some(span) = self.accept(Mark::Bang) {
             let inner = self.one(within(room, span)?)?;
@@ -95,7 +95,7 @@ impl<'a> Parser<'a> {
     /// `"&&" one`, where it comes.
     #[cycle(conditions)]
     fn next_one(&mut self, room: u32) -> Result<Option<Condition<Test>>, ParseFault>
-        ensures { Answers (λ c. (c, progress_of self.new)) result (reading.next_operand mark.And (reading.one words.fits_period room) (progress_of self.old)) }
+        ensures { IsAsRead (λ c. (c, progress_of self.new)) result (reading.next_operand mark.And (reading.one words.fits_period room) (progress_of self.old)) }
     {
         match self.accept(Mark::And) {
             Some(_) => Ok(Some(self.one(room)?)),
@@ -106,7 +106,7 @@ impl<'a> Parser<'a> {
     /// The operands of `{ "&&" one }`.
     #[cycle(conditions)]
     fn ones(&mut self, room: u32) -> Result<Vec<Condition<Test>>, ParseFault>
-        ensures { Answers
+        ensures { IsAsRead
             (λ rest. (rest.items, progress_of self.new))
             result
             (many (reading.next_operand mark.And (reading.one words.fits_period room)) rules.with_last [] (progress_of self.old)) }
@@ -125,7 +125,7 @@ impl<'a> Parser<'a> {
     /// all : one { "&&" one }
     #[cycle(conditions)]
     fn all(&mut self, room: u32) -> Result<Operand, ParseFault>
-        ensures { Answers (λ o. (o, progress_of self.new)) result (reading.all (reading.one words.fits_period room) (progress_of self.old)) }
+        ensures { IsAsRead (λ o. (o, progress_of self.new)) result (reading.all (reading.one words.fits_period room) (progress_of self.old)) }
     {
         let first = self.one(room)?;
         if self.accept(Mark::And).is_none() {
@@ -146,7 +146,7 @@ impl<'a> Parser<'a> {
     /// `"||" all`, where it comes.
     #[cycle(conditions)]
     fn next_all(&mut self, room: u32) -> Result<Option<Operand>, ParseFault>
-        ensures { Answers (λ o. (o, progress_of self.new)) result (reading.next_operand mark.Or (reading.all (reading.one words.fits_period room)) (progress_of self.old)) }
+        ensures { IsAsRead (λ o. (o, progress_of self.new)) result (reading.next_operand mark.Or (reading.all (reading.one words.fits_period room)) (progress_of self.old)) }
     {
         match self.accept(Mark::Or) {
             Some(_) => Ok(Some(self.all(room)?)),
@@ -157,7 +157,7 @@ impl<'a> Parser<'a> {
     /// The operands of `{ "||" all }`.
     #[cycle(conditions)]
     fn alls(&mut self, room: u32, before: Others) -> Result<Others, ParseFault>
-        ensures { Answers
+        ensures { IsAsRead
             (λ o. (others_of o, progress_of self.new))
             result
             (many (reading.next_operand mark.Or (reading.all (reading.one words.fits_period room))) reading.with_operand (others_of before) (progress_of self.old)) }
@@ -195,7 +195,7 @@ impl<'a> Parser<'a> {
         first: Operand,
         span: Span,
     ) -> Result<Condition<Test>, ParseFault>
-        ensures { Answers
+        ensures { IsAsRead
             (λ c. (c, progress_of self.new))
             result
             (reading.noted_alternatives (reading.all (reading.one words.fits_period room)) first span (progress_of self.old)) }
@@ -211,7 +211,7 @@ impl<'a> Parser<'a> {
     /// any : all { "||" all }
     #[cycle(conditions)]
     pub fn condition(&mut self, room: u32) -> Result<Condition<Test>, ParseFault>
-        ensures { Answers (λ c. (c, progress_of self.new)) result (reading.condition words.fits_period room (progress_of self.old)) }
+        ensures { IsAsRead (λ c. (c, progress_of self.new)) result (reading.condition words.fits_period room (progress_of self.old)) }
     {
         let first = self.all(room)?;
         match self.accept(Mark::Or) {

@@ -3,7 +3,7 @@
 ghost use Rattle.std.specs.Prelude.{◌≡◌, ℕ, option_map, if◌then◌else◌, Ok, Err};
 ghost use Rattle.std.specs.Option.{option_map_or};
 ghost use Rattle.ifs_parse.specs.inner.Combined as combined;
-ghost use Rattle.ifs_parse.specs.inner.Combined.{Answers, accepted, expected, line_of, past, found};
+ghost use Rattle.ifs_parse.specs.inner.Combined.{IsAsRead, accepted, expected, line_of_first, after_token, found};
 ghost use Rattle.ifs_parse.specs.inner.Reading as reading;
 ghost use Rattle.ifs_parse.specs.Words as words;
 ghost use Rattle.ifs_parse.specs.inner.Parsers.{progress_of};
@@ -91,7 +91,7 @@ fn period_of(number: Number, span: Span) -> Result<Period, ParseFault>
 impl<'a> Parser<'a> {
     /// The line of the first token.
     fn line(&self) -> u32
-        ensures { result ≡ line_of self.now.left.now }
+        ensures { result ≡ line_of_first self.now.left.now }
     {
         match self.left {
             [token, ..] => token.span.line,
@@ -101,7 +101,7 @@ impl<'a> Parser<'a> {
 
     /// That nothing goes on with the first token.
     pub fn unexpected(&self) -> ParseFault
-        ensures { result ≡ fault.Unexpected (line_of self.now.left.now) }
+        ensures { result ≡ fault.Unexpected (line_of_first self.now.left.now) }
     {
         ParseFault::Unexpected { line: self.line() }
     }
@@ -109,7 +109,7 @@ impl<'a> Parser<'a> {
     /// Takes the first token where it is a mark, and tells its span.
     pub fn accept(&mut self, mark: Mark) -> Option<Span>
         ensures taken { result ≡ accepted mark self.old.left.now }
-        ensures after { progress_of self.new ≡ option_map_or (λ _. past (progress_of self.old)) result (progress_of self.old) }
+        ensures after { progress_of self.new ≡ option_map_or (λ _. after_token (progress_of self.old)) result (progress_of self.old) }
     {
         match self.left {
             [token, rest @ ..] => {
@@ -125,7 +125,7 @@ impl<'a> Parser<'a> {
 
     /// Takes the first token, which must be a mark, and tells its span.
     pub fn expect(&mut self, mark: Mark) -> Result<Span, ParseFault>
-        ensures { Answers (λ span. (span, progress_of self.new)) result (expected mark (progress_of self.old)) }
+        ensures { IsAsRead (λ span. (span, progress_of self.new)) result (expected mark (progress_of self.old)) }
     {
         match self.accept(mark) {
             Some(span) => Ok(span),
@@ -135,7 +135,7 @@ impl<'a> Parser<'a> {
 
     /// string : a word that is not reserved | a quoted text
     pub fn string(&mut self) -> Result<Name, ParseFault>
-        ensures { Answers (λ name. (name, progress_of self.new)) result (reading.string (progress_of self.old)) }
+        ensures { IsAsRead (λ name. (name, progress_of self.new)) result (reading.string (progress_of self.old)) }
     {
         if let [token, rest @ ..] = self.left {
             if let Some(text) = text_of(&token.what) {
@@ -152,7 +152,7 @@ impl<'a> Parser<'a> {
 
     /// up | down | unknown
     pub fn link_state(&mut self) -> Result<LinkState, ParseFault>
-        ensures { Answers (λ l. (l, progress_of self.new)) result (reading.link_state (progress_of self.old)) }
+        ensures { IsAsRead (λ l. (l, progress_of self.new)) result (reading.link_state (progress_of self.old)) }
     {
         if let [token, rest @ ..] = self.left {
             if let Some(link_state) = link_state_of(mark_of(&token.what)) {
@@ -165,7 +165,7 @@ impl<'a> Parser<'a> {
 
     /// number : an unquoted word of digits, from 1 to 604,800
     pub fn period(&mut self) -> Result<Period, ParseFault>
-        ensures { Answers (λ n. (n, progress_of self.new)) result (reading.period words.fits_period (progress_of self.old)) }
+        ensures { IsAsRead (λ n. (n, progress_of self.new)) result (reading.period words.fits_period (progress_of self.old)) }
     {
         if let [token, rest @ ..] = self.left {
             if let Some(number) = number_of(&token.what) {
@@ -179,7 +179,7 @@ impl<'a> Parser<'a> {
 
     /// test : string "." link "." ( up | down | unknown ) | string every number
     pub fn test(&mut self) -> Result<Test, ParseFault>
-        ensures { Answers (λ t. (t, progress_of self.new)) result (reading.test words.fits_period (progress_of self.old)) }
+        ensures { IsAsRead (λ t. (t, progress_of self.new)) result (reading.test words.fits_period (progress_of self.old)) }
     {
         let name = self.string()?;
         if self.accept(Mark::Dot).is_some() {

@@ -3,7 +3,7 @@
 ghost use Rattle.std.specs.Prelude.{◌≡◌, ◌≢◌, Some, Err, IfOk, IfErr, IsOkAnd};
 ghost use Rattle.ifs_lex.specs.Expansion.{EndsOnce};
 ghost use Rattle.ifs_parse.specs.AtOnce as at_once;
-ghost use Rattle.ifs_parse.specs.inner.Combined.{Answers};
+ghost use Rattle.ifs_parse.specs.inner.Combined.{IsAsRead};
 ghost use Rattle.ifs_parse.specs.Files.{File, file};
 ghost use Rattle.ifs_parse.specs.Grammar.{Says, StopsAt};
 ghost use Rattle.ifs_parse.specs.Words.{fits_period};
@@ -30,7 +30,7 @@ struct Parsed {
 
 #[tactic(auto, unfolding(crate::specs::inner::Reading::read_within))]
 fn read(alloc: Global, tokens: &[Token]) -> Result<Parsed, ParseFault>
-    ensures { Answers (λ parsed. file parsed.items.items parsed.notes.items) result (read_within fits_period 32 tokens.now) }
+    ensures { IsAsRead (λ parsed. file parsed.items.items parsed.notes.items) result (read_within fits_period 32 tokens.now) }
 {
     let mut parser = Parser {
         alloc,
@@ -44,7 +44,7 @@ fn read(alloc: Global, tokens: &[Token]) -> Result<Parsed, ParseFault>
 
 /// The fault that is certain before anything is kept, where there is one.
 fn certain_at_once(tokens: &[Token]) -> Option<ParseFault>
-    ensures { result ≡ at_once.certain_at_once tokens.now }
+    ensures { result ≡ at_once.certain_of_tokens tokens.now }
 {
     match tokens {
         [] => None,
@@ -61,8 +61,8 @@ fn certain_at_once(tokens: &[Token]) -> Option<ParseFault>
 
 /// The fault that is certain at once, or else what is read.
 fn answer(alloc: Global, tokens: &[Token]) -> Result<Parsed, ParseFault>
-    ensures wanted { Answers (λ parsed. file parsed.items.items parsed.notes.items) result (read_within fits_period 32 tokens.now) }
-    ensures at_once { (fault : ParseFault) → at_once.certain_at_once tokens.now ≡ Some fault → result ≡ Err fault }
+    ensures wanted { IsAsRead (λ parsed. file parsed.items.items parsed.notes.items) result (read_within fits_period 32 tokens.now) }
+    ensures at_once { (fault : ParseFault) → at_once.certain_of_tokens tokens.now ≡ Some fault → result ≡ Err fault }
 {
     match certain_at_once(tokens) {
         Some(fault) => Err(fault),
@@ -84,7 +84,7 @@ pub fn parse(alloc: Global, tokens: &[Token]) -> Result<Tree, ParseFault>
     // it is P7 or P8 where the token could go on without that limit, and P6 where it could within no limits.
     ensures stops { IfErr result (λ fault. fault ≢ Memory → StopsAt tokens.now fault) }
     // What is certain before anything is kept is told, and no want of memory in its place.
-    ensures at_once { (fault : ParseFault) → at_once.certain_at_once tokens.now ≡ Some fault → result ≡ Err fault }
+    ensures at_once { (fault : ParseFault) → at_once.certain_of_tokens tokens.now ≡ Some fault → result ≡ Err fault }
 {
     match answer(alloc, tokens) {
         Ok(parsed) => Ok(Tree::new(parsed.items, parsed.notes)),

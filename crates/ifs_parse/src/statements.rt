@@ -1,7 +1,7 @@
 //! The productions of statements, states and files.
 
 ghost use Rattle.std.specs.Prelude.{◌≡◌, []};
-ghost use Rattle.ifs_parse.specs.inner.Combined.{Answers, many};
+ghost use Rattle.ifs_parse.specs.inner.Combined.{IsAsRead, many};
 ghost use Rattle.ifs_parse.specs.inner.Parsers.{progress_of};
 ghost use Rattle.ifs_parse.specs.inner.Reading as reading;
 ghost use Rattle.ifs_parse.specs.Words as words;
@@ -19,7 +19,7 @@ impl<'a> Parser<'a> {
     /// What follows `if` : any block
     #[cycle(statements)]
     fn conditional(&mut self, room: u32) -> Result<Action, ParseFault>
-        ensures { Answers (λ s. (s, progress_of self.new)) result (reading.conditional words.fits_period room (progress_of self.old)) }
+        ensures { IsAsRead (λ s. (s, progress_of self.new)) result (reading.conditional words.fits_period room (progress_of self.old)) }
     {
         let condition = self.condition(room)?;
         let inner = self.block(room)?;
@@ -29,7 +29,7 @@ impl<'a> Parser<'a> {
     /// stmt : if any block | run string | set-state string, where one begins
     #[cycle(statements)]
     fn statement(&mut self, room: u32) -> Result<Option<Action>, ParseFault>
-        ensures { Answers (λ s. (s, progress_of self.new)) result (reading.statement words.fits_period room (progress_of self.old)) }
+        ensures { IsAsRead (λ s. (s, progress_of self.new)) result (reading.statement words.fits_period room (progress_of self.old)) }
     {
         if let Some(span) = self.accept(Mark::If) {
             return Ok(Some(self.conditional(within(room, span)?)?));
@@ -49,7 +49,7 @@ impl<'a> Parser<'a> {
     /// The statements of `{ stmt }`.
     #[cycle(statements)]
     fn statements(&mut self, room: u32) -> Result<Vec<Action>, ParseFault>
-        ensures { Answers
+        ensures { IsAsRead
             (λ all. (all.items, progress_of self.new))
             result
             (many (reading.statement words.fits_period room) rules.with_last [] (progress_of self.old)) }
@@ -68,7 +68,7 @@ impl<'a> Parser<'a> {
     /// block : stmt | "{" { stmt } "}"
     #[cycle(statements)]
     fn block(&mut self, room: u32) -> Result<Actions, ParseFault>
-        ensures { Answers (λ b. (b, progress_of self.new)) result (reading.block (reading.statement words.fits_period room) (progress_of self.old)) }
+        ensures { IsAsRead (λ b. (b, progress_of self.new)) result (reading.block (reading.statement words.fits_period room) (progress_of self.old)) }
     {
         if self.accept(Mark::BraceOpen).is_some() {
             let statements = self.statements(room)?;
@@ -87,7 +87,7 @@ impl<'a> Parser<'a> {
 
     /// init block | stmt, where one begins
     fn part(&mut self, room: u32) -> Result<Option<Part>, ParseFault>
-        ensures { Answers (λ p. (p, progress_of self.new)) result (reading.part (reading.statement words.fits_period room) (progress_of self.old)) }
+        ensures { IsAsRead (λ p. (p, progress_of self.new)) result (reading.part (reading.statement words.fits_period room) (progress_of self.old)) }
     {
         if let Some(span) = self.accept(Mark::Init) {
             return Ok(Some(Part::Init(span, self.block(room)?)));
@@ -97,7 +97,7 @@ impl<'a> Parser<'a> {
 
     /// The parts of `{ init block | stmt }`.
     fn parts(&mut self, room: u32) -> Result<Vec<Part>, ParseFault>
-        ensures { Answers
+        ensures { IsAsRead
             (λ all. (all.items, progress_of self.new))
             result
             (many (reading.part (reading.statement words.fits_period room)) rules.with_last [] (progress_of self.old)) }
@@ -115,7 +115,7 @@ impl<'a> Parser<'a> {
 
     /// What follows `state` : string "{" { init block | stmt } "}"
     fn state(&mut self, room: u32) -> Result<Item, ParseFault>
-        ensures { Answers
+        ensures { IsAsRead
             (λ i. (i, progress_of self.new))
             result
             (reading.state_item (reading.part (reading.statement words.fits_period room)) (progress_of self.old)) }
@@ -129,7 +129,7 @@ impl<'a> Parser<'a> {
 
     /// init-state string | state string "{" { init block | stmt } "}" | init block | stmt, where one begins
     fn item(&mut self, room: u32) -> Result<Option<Item>, ParseFault>
-        ensures { Answers
+        ensures { IsAsRead
             (λ i. (i, progress_of self.new))
             result
             (reading.item (reading.part (reading.statement words.fits_period room)) (progress_of self.old)) }
@@ -145,7 +145,7 @@ impl<'a> Parser<'a> {
 
     /// The items of a file.
     fn items(&mut self, room: u32) -> Result<Vec<Item>, ParseFault>
-        ensures { Answers
+        ensures { IsAsRead
             (λ all. (all.items, progress_of self.new))
             result
             (many (reading.item (reading.part (reading.statement words.fits_period room))) rules.with_last [] (progress_of self.old)) }
@@ -163,7 +163,7 @@ impl<'a> Parser<'a> {
 
     /// file : { init-state string | state string "{" { init block | stmt } "}" | init block | stmt }, and the end
     pub fn file(&mut self, room: u32) -> Result<Vec<Item>, ParseFault>
-        ensures { Answers
+        ensures { IsAsRead
             (λ all. (all.items, progress_of self.new))
             result
             (reading.items (reading.item (reading.part (reading.statement words.fits_period room))) (progress_of self.old)) }

@@ -33,7 +33,7 @@ use Rattle.ifs_policy.specs.Faults.{AreSound, is_state}
 use Rattle.ifs_policy.specs.Resolution.{place_condition, place_block, place_part, init_in, body_in}
 use Rattle.ifs_policy.specs.Resolution.{always_of, place_states, initial_of, place_items, Resolves}
 use Rattle.ifs_policy.specs.Fits.{TablesFit, Sizes, sizes_of, ConditionFits, BlockFits, HandlersFit, PolicyFits}
-use Rattle.ifs_policy.specs.inner.Sized.{IsSized}
+use Rattle.ifs_policy.specs.inner.Sized.{HasTableSizes}
 use Rattle.ifs_policy.proofs.Filled.{AreStanding, stand_left, stand_right, all_stand}
 use Rattle.ifs_policy.proofs.Filled.{tables_fit, no_tables_fit, defined, count_states}
 
@@ -182,7 +182,7 @@ some_state tables (State name parts ∷ rest) h = omega arith
 some_state tables (Always part ∷ rest) h = some_state tables rest h
 
 -- Filled tables have places that are numbers of 16 bits.
-pub filled_sized : (names : Names) (mentions : List Mentioned) → AreSound no_names mentions → names ≡ names_after no_names mentions → IsSized names.tables
+pub filled_sized : (names : Names) (mentions : List Mentioned) → AreSound no_names mentions → names ≡ names_after no_names mentions → HasTableSizes names.tables
 filled_sized names mentions sound filled =
     let fits = subst (λ (n : Names). TablesFit n.tables) (sym filled) (tables_fit no_names mentions sound no_tables_fit) in
     record {

@@ -12,11 +12,11 @@ use Rattle.ifs_policy.specs.declared.mention.Mention.TheVariants.{Wanted, Init, 
 use Rattle.ifs_policy.specs.declared.names.Names.{Names}
 use Rattle.ifs_policy.specs.Mentions.{Mentioned, mentions_of}
 use Rattle.ifs_policy.specs.Tables.{after, no_names, tables_of}
-use Rattle.ifs_policy.specs.Faults.{IsString, Breaks, number, IsLowest, FirstBroken}
+use Rattle.ifs_policy.specs.Faults.{IsStringWith, Breaks, fault_number, IsLowest, FirstBroken}
 use Rattle.ifs_policy.specs.Faults.{FirstUnknown, IsTreeRefused, no_state, broken, unknown}
 use Rattle.ifs_policy.proofs.Refusals.{broken_not_sound}
 
--- The line that a fault tells, and the fault of a number and a line.
+-- The line that a fault tells, and the fault of a fault_number and a line.
 abbrev told_line : ResolveFault → ℕ
 told_line Memory = 0
 told_line (NoState line) = line
@@ -39,7 +39,7 @@ fault_of n line =
     if n == 15 then TableFull line else
     if n == 16 then BadText line else Memory
 
-told_whole : (fault : ResolveFault) → fault_of (number fault) (told_line fault) ≡ fault
+told_whole : (fault : ResolveFault) → fault_of (fault_number fault) (told_line fault) ≡ fault
 told_whole Memory = refl
 told_whole (NoState line) = refl
 told_whole (StateTwice line) = refl
@@ -50,8 +50,8 @@ told_whole (TestInInit line) = refl
 told_whole (TableFull line) = refl
 told_whole (BadText line) = refl
 
-same_fault : (fault other : ResolveFault) → number fault ≡ number other → told_line fault ≡ told_line other → fault ≡ other
-same_fault fault other n l = sym (told_whole fault) ∙ ap (λ m. fault_of m (told_line fault)) n ∙ ap (fault_of (number other)) l ∙ told_whole other
+same_fault : (fault other : ResolveFault) → fault_number fault ≡ fault_number other → told_line fault ≡ told_line other → fault ≡ other
+same_fault fault other n l = sym (told_whole fault) ∙ ap (λ m. fault_of m (told_line fault)) n ∙ ap (fault_of (fault_number other)) l ∙ told_whole other
 
 -- The line of a mention.
 abbrev line_of : Mentioned → ℕ
@@ -100,7 +100,7 @@ one_number m n not_below not_above =
 one_lowest : (names : Names) (mention : Mentioned) (fault other : ResolveFault) → IsLowest names mention fault → IsLowest names mention other → fault ≡ other
 one_lowest names mention fault other h k =
     same_fault fault other
-    (one_number (number fault) (number other) (λ below. k.lowest fault below h.broken) (λ below. h.lowest other below k.broken))
+    (one_number (fault_number fault) (fault_number other) (λ below. k.lowest fault below h.broken) (λ below. h.lowest other below k.broken))
     (broken_here names mention fault h.broken ∙ sym (broken_here names mention other k.broken))
 
 one_broken : (names : Names) (mentions : List Mentioned) (fault other : ResolveFault) → FirstBroken names mentions fault → FirstBroken names mentions other → fault ≡ other
@@ -110,7 +110,7 @@ one_broken names (mention ∷ rest) fault other (inl h) (inr k) = absurd (k.0 fa
 one_broken names (mention ∷ rest) fault other (inr h) (inl k) = absurd (h.0 other k.broken)
 one_broken names (mention ∷ rest) fault other (inr h) (inr k) = one_broken (after names mention) rest fault other h.1 k.1
 
-string_here : (mention : Mentioned) (line other : ℕ) → IsString (λ text. Unit {0}) line mention → IsString (λ text. Unit {0}) other mention → line ≡ other
+string_here : (mention : Mentioned) (line other : ℕ) → IsStringWith (λ text. Unit {0}) line mention → IsStringWith (λ text. Unit {0}) other mention → line ≡ other
 string_here (Interface name) line other h k = h.0 ∙ sym k.0
 string_here (External half command period) line other h k = h.0 ∙ sym k.0
 string_here (Command text) line other h k = h.0 ∙ sym k.0

@@ -12,7 +12,7 @@ use Rattle.ifs_lex.specs.declared.token.Token.{Token}
 use Rattle.ifs_parse.specs.Trees as tree
 use Rattle.ifs_parse.specs.Views.{all_of, any_of, block_of, statement_then}
 use Rattle.ifs_parse.specs.Files.{File}
-use Rattle.ifs_parse.specs.Rules.{Rule, Gives, ◌⨟◌, ◌or◌, Never, Noted, Many, Enough, More, with_last}
+use Rattle.ifs_parse.specs.Rules.{Rule, GivesValue, ◌⨟◌, ◌or◌, Never, Noted, Many, Enough, More, with_last}
 use Rattle.ifs_parse.specs.Words.{fits_period, number_of_what}
 use Rattle.ifs_parse.specs.Grammar as grammar
 use Rattle.ifs_parse.specs.Grammar.{SaysWithin, Says, IsSaid, Operands, whole, conjunction, disjunction}
@@ -93,7 +93,7 @@ block_timed (statement ∷ rest) h = then_timed statement (block_of rest) (All-h
 abbrev Keeps : {X : Type 0} → Rule X → (X → Type 0) → Type 0
 Keeps {X} P G = (tokens : List Token) (x : X) (notes : List ℕ) → P tokens x notes → G x
 
-keeps_gives : {X : Type 0} (G : X → Type 0) (value : X) → G value → Keeps (Gives value) G
+keeps_gives : {X : Type 0} (G : X → Type 0) (value : X) → G value → Keeps (GivesValue value) G
 keeps_gives G value g tokens x notes h = subst G (sym h.is_value) g
 
 keeps_then : {X Y : Type 0} (P : Rule X) (Q : X → Rule Y) (F : X → Type 0) (G : Y → Type 0) → Keeps P F → ((x : X) → F x → Keeps (Q x) G) → Keeps (P ⨟ Q) G

@@ -19,7 +19,7 @@ use Rattle.ifs_policy.specs.Texts.{HasPolicy, HasNoPolicy, IsTextRefused, of_tex
 
 -- The laws of the crates below.
 abbrev pub OneList : Type 0
-OneList = (text : List ℕ) (defs : List (List ℕ × List ℕ)) (tokens other : List Token) → lex.Spells text defs tokens → lex.Spells text defs other → tokens ≡ other
+OneList = (text : List ℕ) (defs : List (List ℕ × List ℕ)) (tokens other : List Token) → lex.HasTokens text defs tokens → lex.HasTokens text defs other → tokens ≡ other
 
 abbrev pub OneTree : Type 0
 OneTree = (tokens : List Token) (file other : File) → Says tokens file → Says tokens other → file ≡ other
@@ -57,7 +57,7 @@ module _ (text : List ℕ) (defs : List (List ℕ × List ℕ)) where
   refused_text (lexing.OverLimit line) e other = (no_tokens (lexing.OverLimit line) (e (λ k. absurd (cc))), e (λ k. absurd (cc)))
 
   -- Tokens that the text spells.
-  module _ (one_list : OneList) (tokens : List Token) (spelled : lex.Spells text defs tokens) where
+  module _ (one_list : OneList) (tokens : List Token) (spelled : lex.HasTokens text defs tokens) where
     said_by : (policy : PolicyParts) (h : HasPolicy text defs policy) → Says tokens h.file
     said_by policy h = subst (λ (ts : List Token). Says ts h.file) (one_list text defs h.tokens tokens h.spelled spelled) h.said
 

@@ -30,13 +30,13 @@ HasNoRoom names (Defined name) = IsFull text_eq 256 names.tables.states name.tex
 HasNoRoom names _ = ⊥
 
 -- What is mentioned is a string on this line, and the string has this property.
-abbrev pub IsString : (List ℕ → Type 0) → ℕ → Mentioned → Type 0
-IsString P line (Interface name) = (line ≡ name.span.line) × P name.text
-IsString P line (External half command period) = (line ≡ command.span.line) × P command.text
-IsString P line (Command text) = (line ≡ text.span.line) × P text.text
-IsString P line (Defined name) = (line ≡ name.span.line) × P name.text
-IsString P line (Wanted name) = (line ≡ name.span.line) × P name.text
-IsString P line _ = ⊥
+abbrev pub IsStringWith : (List ℕ → Type 0) → ℕ → Mentioned → Type 0
+IsStringWith P line (Interface name) = (line ≡ name.span.line) × P name.text
+IsStringWith P line (External half command period) = (line ≡ command.span.line) × P command.text
+IsStringWith P line (Command text) = (line ≡ text.span.line) × P text.text
+IsStringWith P line (Defined name) = (line ≡ name.span.line) × P name.text
+IsStringWith P line (Wanted name) = (line ≡ name.span.line) × P name.text
+IsStringWith P line _ = ⊥
 
 -- The part at hand has an `init`.
 abbrev pub has_init : Names → Owner → Bool
@@ -54,32 +54,32 @@ Breaks names (InitState span) (SecondInit line) = (line ≡ span.line) × IsTrue
 Breaks names (SetState half span) (SetStateInInit line) = (line ≡ span.line) × (half ≡ at.Init)
 Breaks names (External half command period) (TestInInit line) = (line ≡ command.span.line) × (half ≡ at.Init)
 -- a table's limit is passed
-Breaks names mention (TableFull line) = IsString (λ text. HasNoRoom names mention) line mention
+Breaks names mention (TableFull line) = IsStringWith (λ text. HasNoRoom names mention) line mention
 -- a name or a command is empty, too long or has a NUL
-Breaks names mention (BadText line) = IsString (λ text. ¬ TextFits text) line mention
+Breaks names mention (BadText line) = IsStringWith (λ text. ¬ TextFits text) line mention
 -- and nothing else is
 Breaks names mention _ = ⊥
 
--- The number by which a fault is told.
-abbrev pub number : ResolveFault → ℕ
-number Memory = 0
-number (NoState line) = 9
-number (StateTwice line) = 10
-number (UnknownState line) = 11
-number (SecondInit line) = 12
-number (SetStateInInit line) = 13
-number (TestInInit line) = 14
-number (TableFull line) = 15
-number (BadText line) = 16
+-- The fault_number by which a fault is told.
+abbrev pub fault_number : ResolveFault → ℕ
+fault_number Memory = 0
+fault_number (NoState line) = 9
+fault_number (StateTwice line) = 10
+fault_number (UnknownState line) = 11
+fault_number (SecondInit line) = 12
+fault_number (SetStateInInit line) = 13
+fault_number (TestInInit line) = 14
+fault_number (TableFull line) = 15
+fault_number (BadText line) = 16
 
 -- A mention breaks no rule.
 abbrev pub IsSound : Names → Mentioned → Type 0
 IsSound names mention = (fault : ResolveFault) → ¬ Breaks names mention fault
 
--- Of the rules that a mention breaks it is the one of the lowest number.
+-- Of the rules that a mention breaks it is the one of the lowest fault_number.
 pub record IsLowest (names : Names) (mention : Mentioned) (fault : ResolveFault) : Type 0 where
   pub broken : Breaks names mention fault
-  pub lowest : (other : ResolveFault) → number other < number fault → ¬ Breaks names mention other
+  pub lowest : (other : ResolveFault) → fault_number other < fault_number fault → ¬ Breaks names mention other
 
 -- No mention breaks a rule, with the tables as they stand at its place.
 abbrev pub AreSound : Names → List Mentioned → Type 0
@@ -105,7 +105,7 @@ AreKnown states (mention ∷ rest) = IsKnown states mention × AreKnown states r
 abbrev pub FirstUnknown : List (List ℕ) → List Mentioned → ℕ → Type 0
 FirstUnknown states [] line = ⊥
 FirstUnknown states (mention ∷ rest) line =
-    (IsString (λ text. Unit {0}) line mention × (¬ IsKnown states mention)) ⊎ (IsKnown states mention × FirstUnknown states rest line)
+    (IsStringWith (λ text. Unit {0}) line mention × (¬ IsKnown states mention)) ⊎ (IsKnown states mention × FirstUnknown states rest line)
 
 -- An item defines a state.
 abbrev pub is_state : Item → Bool

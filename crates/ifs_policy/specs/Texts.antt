@@ -19,14 +19,14 @@ use Rattle.ifs_policy.specs.Resolution.{Resolves}
 -- A text says a file under the definitions that are given beside it: it spells tokens, which say the file.
 pub record SaysFile (text : List ℕ) (defs : List (List ℕ × List ℕ)) (file : File) : Type 0 where
   pub tokens : List Token
-  pub spelled : lex.Spells text defs tokens
+  pub spelled : lex.HasTokens text defs tokens
   pub said : Says tokens file
 
 -- A text has a policy under the definitions that are given beside it: it spells tokens, which say a file, whose names resolve to the policy.
 pub record HasPolicy (text : List ℕ) (defs : List (List ℕ × List ℕ)) (policy : PolicyParts) : Type 0 where
   pub tokens : List Token
   pub file : File
-  pub spelled : lex.Spells text defs tokens
+  pub spelled : lex.HasTokens text defs tokens
   pub said : Says tokens file
   pub resolved : Resolves file.items policy
 
@@ -50,6 +50,6 @@ of_names fault = Names fault
 -- A text has no policy, and this is the fault that the first step which refuses it finds first. Want of memory is no such fault.
 abbrev pub IsTextRefused : List ℕ → List (List ℕ × List ℕ) → PolicyFault → Type 0
 IsTextRefused text defs (Text fault) = HasNoPolicy text defs × (lex.tokens_of text defs ≡ Err fault)
-IsTextRefused text defs (Tokens fault) = HasNoPolicy text defs × ((tokens : List Token) × lex.Spells text defs tokens × StopsAt tokens fault)
-IsTextRefused text defs (Names fault) = HasNoPolicy text defs × ((tokens : List Token) × (file : File) × lex.Spells text defs tokens × Says tokens file × names.IsTreeRefused file.items fault)
+IsTextRefused text defs (Tokens fault) = HasNoPolicy text defs × ((tokens : List Token) × lex.HasTokens text defs tokens × StopsAt tokens fault)
+IsTextRefused text defs (Names fault) = HasNoPolicy text defs × ((tokens : List Token) × (file : File) × lex.HasTokens text defs tokens × Says tokens file × names.IsTreeRefused file.items fault)
 IsTextRefused text defs Memory = ⊥

@@ -5,7 +5,7 @@ ghost use Rattle.ifs_base.specs.Sizes.{TextFits};
 ghost use Rattle.ifs_policy.specs.declared.fault.ResolveFault.TheVariants.{BadText, SecondInit};
 ghost use Rattle.ifs_policy.specs.Tables.{no_names, test_eq, test_of, text_eq};
 ghost use Rattle.ifs_policy.specs.declared.mention.Mention.TheVariants.{Defined, External};
-ghost use Rattle.ifs_policy.specs.inner.Entries.{AllNoted, Enters, Filled, Noted, StatesChecked};
+ghost use Rattle.ifs_policy.specs.inner.Entries.{AllNoted, Enters, Filled, MentionNoted, StatesChecked};
 ghost use Rattle.ifs_policy.specs.inner.Seen.{seen};
 
 use crate::fault::ResolveFault;
@@ -68,7 +68,7 @@ impl Names {
 
     /// Enters a mention, or tells the first rule that it breaks.
     fn note(&mut self, mention: &Mention<&Name, &Period>) -> Result<(), ResolveFault>
-        ensures { Noted self.old (seen mention.now) result self.new }
+        ensures { MentionNoted self.old (seen mention.now) result self.new }
     {
         match mention {
             Mention::Interface(name) => {
@@ -94,7 +94,7 @@ impl Names {
 
     /// Enters an external test, which stands in a body alone.
     fn note_test(&mut self, half: Half, command: &Name, period: Period) -> Result<(), ResolveFault>
-        ensures { Noted self.old (External half command.now period) result self.new }
+        ensures { MentionNoted self.old (External half command.now period) result self.new }
     {
         match half {
             Half::Init => Err(ResolveFault::TestInInit {
@@ -106,7 +106,7 @@ impl Names {
 
     /// Enters the name of a state, which begins without an `init`.
     fn note_state(&mut self, name: &Name) -> Result<(), ResolveFault>
-        ensures { Noted self.old (Defined name.now) result self.new }
+        ensures { MentionNoted self.old (Defined name.now) result self.new }
     {
         if self.tables.states.has(&name.text) {
             return Err(ResolveFault::StateTwice {

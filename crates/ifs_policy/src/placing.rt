@@ -4,7 +4,7 @@ ghost use Rattle.std.specs.Prelude.{◌≡◌, ◌≤◌, IfOk, length, map};
 ghost use Rattle.ifs_parse.specs.Views.{block_of, statement_then};
 ghost use Rattle.ifs_policy.specs.Resolution.{always_of, body_in, init_in, initial_of, place_block};
 ghost use Rattle.ifs_policy.specs.Resolution.{place_condition, place_in, place_part, place_single, place_states};
-ghost use Rattle.ifs_policy.specs.inner.Sized.{IsSized, lent, place_statement};
+ghost use Rattle.ifs_policy.specs.inner.Sized.{HasTableSizes, lent, place_statement};
 
 use crate::policy::{Handlers, PolicyBlock, Single};
 use crate::table::Table;
@@ -23,7 +23,7 @@ fn place_in(table: &Table<Text>, name: &Name) -> u16
 
 /// A single test, by the place of its interface or of the test.
 fn place_single(tables: &Tables, test: &Test) -> Result<Single, AllocError>
-    requires { IsSized tables.now }
+    requires { HasTableSizes tables.now }
     ensures { IfOk result (λ single. single ≡ place_single tables.now test.now) }
 {
     match test {
@@ -46,7 +46,7 @@ fn place_condition(
     tables: &Tables,
     condition: &Condition<Test>,
 ) -> Result<Condition<Single>, AllocError>
-    requires { IsSized tables.now }
+    requires { HasTableSizes tables.now }
     ensures { IfOk result (λ placed. placed ≡ place_condition tables.now condition.now) }
 {
     match condition.node() {
@@ -80,7 +80,7 @@ fn place_operands(
     tables: &Tables,
     operands: &[Condition<Test>],
 ) -> Result<Vec<Condition<Single>>, AllocError>
-    requires { IsSized tables.now }
+    requires { HasTableSizes tables.now }
     ensures { IfOk result (λ placed. placed.items ≡ map (place_condition tables.now) operands.now) }
 {
     let mut placed = Vec::new(alloc);
@@ -93,7 +93,7 @@ fn place_operands(
 /// Statements by places, in order.
 #[cycle(place_block)]
 fn place_block(alloc: Global, tables: &Tables, block: &Actions) -> Result<PolicyBlock, AllocError>
-    requires { IsSized tables.now }
+    requires { HasTableSizes tables.now }
     ensures { IfOk result (λ placed. placed ≡ place_block tables.now block.now) }
 {
     let mut placed = Vec::new(alloc);
@@ -110,7 +110,7 @@ fn place_statement(
     tables: &Tables,
     statement: &Action,
 ) -> Result<Statement<Single, CommandId, StateId>, AllocError>
-    requires { IsSized tables.now }
+    requires { HasTableSizes tables.now }
     ensures { IfOk result (λ placed. placed ≡ place_statement tables.now statement.now) }
 {
     match statement {
@@ -132,7 +132,7 @@ fn place_statement(
 
 /// The block of a part's `init` by places.
 fn place_init(alloc: Global, tables: &Tables, parts: &[&Part]) -> Result<PolicyBlock, AllocError>
-    requires { IsSized tables.now }
+    requires { HasTableSizes tables.now }
     ensures { IfOk result (λ placed. placed ≡ place_block tables.now (init_in (lent parts.now))) }
 {
     for part in parts {
@@ -145,7 +145,7 @@ fn place_init(alloc: Global, tables: &Tables, parts: &[&Part]) -> Result<PolicyB
 
 /// The statements of a part by places.
 fn place_body(alloc: Global, tables: &Tables, parts: &[&Part]) -> Result<PolicyBlock, AllocError>
-    requires { IsSized tables.now }
+    requires { HasTableSizes tables.now }
     ensures { IfOk result (λ placed. placed ≡ place_block tables.now (body_in (lent parts.now))) }
 {
     let mut placed = Vec::new(alloc);
@@ -159,7 +159,7 @@ fn place_body(alloc: Global, tables: &Tables, parts: &[&Part]) -> Result<PolicyB
 
 /// What a part does, by places.
 fn place_part(alloc: Global, tables: &Tables, parts: &[&Part]) -> Result<Handlers, AllocError>
-    requires { IsSized tables.now }
+    requires { HasTableSizes tables.now }
     ensures { IfOk result (λ placed. placed ≡ place_part tables.now (lent parts.now)) }
 {
     let init = place_init(alloc, tables, parts)?;
@@ -193,7 +193,7 @@ fn always_of<'a>(alloc: Global, items: &'a [Item]) -> Result<Vec<&'a Part>, Allo
 
 /// What the states do, by places, in the order of their definitions.
 fn place_states(alloc: Global, tables: &Tables, items: &[Item]) -> Result<Vec<Handlers>, AllocError>
-    requires { IsSized tables.now }
+    requires { HasTableSizes tables.now }
     ensures { IfOk result (λ placed. placed.items ≡ place_states tables.now items.now) }
 {
     let mut placed = Vec::new(alloc);
@@ -208,7 +208,7 @@ fn place_states(alloc: Global, tables: &Tables, items: &[Item]) -> Result<Vec<Ha
 
 /// The place of the state that `init-state` names; without one it is the first.
 fn initial_of(tables: &Tables, items: &[Item]) -> StateId
-    requires { IsSized tables.now }
+    requires { HasTableSizes tables.now }
     ensures { result ≡ initial_of tables.now items.now }
 {
     for item in items {
@@ -236,7 +236,7 @@ pub fn place_items(
     tables: &Tables,
     items: &[Item],
 ) -> Result<PolicyTrees, AllocError>
-    requires { IsSized tables.now }
+    requires { HasTableSizes tables.now }
     ensures initial { IfOk result (λ placed. placed.initial ≡ initial_of tables.now items.now) }
     ensures always { IfOk result (λ placed. placed.always ≡ place_part tables.now (always_of items.now)) }
     ensures states { IfOk result (λ placed. placed.states ≡ place_states tables.now items.now) }

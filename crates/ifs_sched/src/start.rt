@@ -3,10 +3,10 @@
 ghost use Rattle.std.specs.Prelude.{◌≡◌};
 
 use arrayvec::ArrayVec;
-use ifs_base::TestId;
+use ifs_base::{TestId, limits};
 
-/// The most tests of a schedule.
-pub const MAX_TESTS: usize = 64;
+/// The most tests of a schedule: as many as a policy may have.
+pub const MAX_TESTS: usize = limits::TESTS as usize;
 
 /// A test that starts, and the number of its run.
 #[derive(Clone, Copy, Debug, PartialEq, Eq)]

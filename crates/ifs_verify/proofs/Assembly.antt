@@ -17,7 +17,7 @@ use Rattle.ifs_verify.specs.Bounds.{AreDepths, AreAmounts, callee_amount, FitsEv
 use Rattle.ifs_verify.specs.Accepted.{EachWithin, StackFits, FramesFit}
 use Rattle.ifs_verify.specs.Refused.{AreOver, AreTypedHeights, AreTotals}
 use Rattle.ifs_verify.specs.declared.fault.At.TheVariants.{Head, Code}
-use Rattle.ifs_verify.specs.inner.Passes.{PlainRulesHold, HoldsHeight, IsHeld, IsCounted}
+use Rattle.ifs_verify.specs.inner.Passes.{PlainRulesHold, HoldsHeight, IsTypingHeld, IsCounted}
 use Rattle.ifs_verify.specs.inner.Passes.{LeastHeights, LeastDepths, LeastAmounts, Reaches}
 use Rattle.ifs_verify.proofs.Instructions.{op_at-routine}
 
@@ -61,10 +61,10 @@ FitsEvents-lower image high low stated indexes le fits = record {
 
 -- The typings and heights that were found.
 abbrev Chosen : ImageParts → List ℕ → Type 0
-Chosen image heights = (kinds : ℕ → ℕ → List Kind) × ((routine : ℕ) → IsRoutine image routine → IsHeld image (slice_index heights) routine (kinds routine))
+Chosen image heights = (kinds : ℕ → ℕ → List Kind) × ((routine : ℕ) → IsRoutine image routine → IsTypingHeld image (slice_index heights) routine (kinds routine))
 
 chosen : (image : ImageParts) (heights : List ℕ) → LeastHeights image heights (length image.routines) → Chosen image heights
-chosen image heights found = choose (λ place. []) (λ routine kinds. IsHeld image (slice_index heights) routine kinds) (length image.routines) found.held
+chosen image heights found = choose (λ place. []) (λ routine kinds. IsTypingHeld image (slice_index heights) routine kinds) (length image.routines) found.held
 
 pub typed : (image : ImageParts) (heights : List ℕ) → LeastHeights image heights (length image.routines) → IsTyped image
 typed image heights found = let all = chosen image heights found in (all.0, λ routine is_routine. (all.1 routine is_routine).0)

@@ -15,7 +15,7 @@ use Rattle.ifs_verify.specs.Rules.{IsRoutine}
 use Rattle.ifs_verify.specs.Typing.{IsTyping}
 use Rattle.ifs_verify.specs.Bounds.{AreDepths, AreAmounts, callee_amount}
 use Rattle.ifs_verify.specs.inner.Passes.{PlainRulesHold, IsTypedUpTo, row_at, HoldsHeight, AllHold, HoldsDepth}
-use Rattle.ifs_verify.specs.inner.Passes.{HoldsRow, IsHeld, IsCounted, LeastHeights, LeastDepths, LeastAmounts}
+use Rattle.ifs_verify.specs.inner.Passes.{HoldsRow, IsTypingHeld, IsCounted, LeastHeights, LeastDepths, LeastAmounts}
 use Rattle.ifs_verify.proofs.Flow.{led_row}
 use Rattle.ifs_verify.proofs.Holding.{passed_at}
 use Rattle.ifs_verify.proofs.Instructions.{op_at-routine}
@@ -130,7 +130,7 @@ heights_more image heights routine height rows plain found typed holds least =
       held = λ k below.
           elim (cases_eq k routine) [
             | inl e ↦
-                let h : IsHeld image (slice_index (heights ++ height ∷ [])) routine (kinds_in rows) = (
+                let h : IsTypingHeld image (slice_index (heights ++ height ∷ [])) routine (kinds_in rows) = (
                   typing_found image routine rows typed,
                   λ place op is.
                       HoldsHeight-heights image (slice_index heights) (slice_index (heights ++ height ∷ [])) op (kinds_in rows place) height
@@ -138,7 +138,7 @@ heights_more image heights routine height rows plain found typed holds least =
                       (holds place (slice_get_within (code_of image routine) place op is) op (kinds_in rows place) is
                       (typed.leads place (kinds_in rows place) (row_known image routine rows place op typed is))),
                 ) in
-                subst (λ (n : ℕ). (kinds : ℕ → List Kind) × IsHeld image (slice_index (heights ++ height ∷ [])) n kinds) (sym e) (kinds_in rows, h)
+                subst (λ (n : ℕ). (kinds : ℕ → List Kind) × IsTypingHeld image (slice_index (heights ++ height ∷ [])) n kinds) (sym e) (kinds_in rows, h)
             | inr ne ↦
                 let before : k < routine = omega arith in
                 let h = found.held k before in (

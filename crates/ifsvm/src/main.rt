@@ -15,11 +15,9 @@ use ifs_cli::answering::on_file;
 use ifs_cli::definitions::Definition;
 use ifs_cli::ending::{Ending, out_of_memory};
 use ifs_cli::task::Task;
-use log::Log;
 use std::alloc::{AllocError, Global};
-use std::net::Net;
-use std::process::{ExitCode, Processes};
-use std::rt::{Clock, Env, Files};
+use std::process::ExitCode;
+use std::rt::Files;
 
 fn main(rt: HostRuntime) -> ExitCode {
     let (Ok(ending) | Err(ending)) = ending_of(&rt);

@@ -40,18 +40,18 @@ listed_routine None = []
 listed_routine (Some r) = r ∷ []
 
 -- The current routine, by its results and its instructions.
-abbrev pub opened : Option ℕ → List Op → Option Routine
-opened None code = None
-opened (Some results) code = Some (record { results = results; code = code })
+abbrev pub current_routine : Option ℕ → List Op → Option Routine
+current_routine None code = None
+current_routine (Some results) code = Some (record { results = results; code = code })
 
 -- The parts of what was said.
-abbrev pub parts_of : Built → ImageParts
-parts_of b = record { budgets = b.budgets; initial = b.initial; always = b.always; interfaces = b.interfaces; tests = b.tests; commands = b.commands; states = b.states; routines = b.routines ++ listed_routine b.current }
+abbrev pub parts_said : Built → ImageParts
+parts_said b = record { budgets = b.budgets; initial = b.initial; always = b.always; interfaces = b.interfaces; tests = b.tests; commands = b.commands; states = b.states; routines = b.routines ++ listed_routine b.current }
 
 -- The lines that were said.
 abbrev pub lines_said : Built → List Line
 lines_said b =
-    take b.front (front_lines (parts_of b)) ++ map lines.Interface b.interfaces ++ map lines.Test b.tests ++ map lines.Command b.commands
+    take b.front (front_lines (parts_said b)) ++ map lines.Interface b.interfaces ++ map lines.Test b.tests ++ map lines.Command b.commands
     ++ map lines.State b.states ++ flat_map routine_lines (b.routines ++ listed_routine b.current)
 
 abbrev pub is_none : {A : Type 0} → List A → Bool
@@ -121,8 +121,8 @@ with_line b (lines.Routine results) = record b { routines = b.routines ++ listed
 with_line b (lines.Instruction op) = record b { current = with_op op b.current; count = min (b.count + 1) 65535 }
 
 -- One line more, where it may stand here.
-abbrev pub step : Built → Line → Option Built
-step b line = if has_name b line || (is_full b line || not (is_in_order b line)) then None else Some (with_line b line)
+abbrev pub one_line_more : Built → Line → Option Built
+one_line_more b line = if has_name b line || (is_full b line || not (is_in_order b line)) then None else Some (with_line b line)
 
 -- The line of bytes without newline.
 unfoldable pub line_in : List ℕ → Option Line
@@ -131,12 +131,12 @@ line_in bytes = line_of (words_up_to 9 bytes)
 -- What is said after lines, each by its bytes.
 abbrev pub built_by : Built → List (List ℕ) → Option Built
 built_by b [] = Some b
-built_by b (bytes ∷ others) = option_and_then (λ line. option_and_then (λ next. built_by next others) (step b line)) (line_in bytes)
+built_by b (bytes ∷ others) = option_and_then (λ line. option_and_then (λ next. built_by next others) (one_line_more b line)) (line_in bytes)
 
 -- What is said after lines.
 abbrev pub built_of : Built → List Line → Option Built
 built_of b [] = Some b
-built_of b (line ∷ others) = option_and_then (λ next. built_of next others) (step b line)
+built_of b (line ∷ others) = option_and_then (λ next. built_of next others) (one_line_more b line)
 
 -- What a line adds to the lines that say something.
 abbrev pub spoken_line : List ℕ → List (List ℕ)

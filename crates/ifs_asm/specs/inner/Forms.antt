@@ -48,8 +48,8 @@ indexed_op name n =
     if bytes_eq name (codes "call") then Some (Call (record { 0 = n })) else None
 
 -- The link state of a word.
-abbrev pub link_state : List ℕ → Option LinkState
-link_state word =
+abbrev pub link_state_in : List ℕ → Option LinkState
+link_state_in word =
     if bytes_eq word (codes "unknown") then Some Unknown else
     if bytes_eq word (codes "down") then Some Down else
     if bytes_eq word (codes "up") then Some Up else None
@@ -62,18 +62,18 @@ abbrev pub number_up_to : ℕ → List ℕ → Option ℕ
 number_up_to most word = option_and_then (up_to most) (number_of word)
 
 -- A text of 1 to 1,024 bytes.
-abbrev pub sized : List ℕ → Option (List ℕ)
-sized text = if nat_lt 0 (length text) && nat_lt (length text) 1025 then Some text else None
+abbrev pub text_within : List ℕ → Option (List ℕ)
+text_within text = if nat_lt 0 (length text) && nat_lt (length text) 1025 then Some text else None
 
 abbrev pub sized_text : List ℕ → Option (List ℕ)
-sized_text word = option_and_then sized (text_in word)
+sized_text word = option_and_then text_within (text_in word)
 
--- A period.
-abbrev pub period : ℕ → Option ℕ
-period n = if nat_lt 0 n && nat_lt n 604801 then Some n else None
+-- A period_within.
+abbrev pub period_within : ℕ → Option ℕ
+period_within n = if nat_lt 0 n && nat_lt n 604801 then Some n else None
 
 abbrev pub period_in : List ℕ → Option ℕ
-period_in word = option_and_then period (number_of word)
+period_in word = option_and_then period_within (number_of word)
 
 -- The version, which is written in one way.
 abbrev pub version : List ℕ → Option Line
@@ -107,7 +107,7 @@ routine_line word number = if bytes_eq word (codes "results") then option_map li
 
 -- The instruction on a link.
 abbrev pub link_line : List ℕ → List ℕ → Option Line
-link_line number state = option_and_then (λ n. option_map (λ s. lines.Instruction (Link (record { 0 = n }) s)) (link_state state)) (number_up_to 65535 number)
+link_line number state = option_and_then (λ n. option_map (λ s. lines.Instruction (Link (record { 0 = n }) s)) (link_state_in state)) (number_up_to 65535 number)
 
 -- An external test.
 abbrev pub test_line : List ℕ → List ℕ → Option Line
@@ -121,14 +121,14 @@ three_words name first second =
     if bytes_eq name (codes "test") then test_line first second else None
 
 -- Handlers, by two numbers and a list.
-abbrev pub handlers_of : List ℕ → List ℕ → List ℕ → Option Handlers
-handlers_of init body tests =
+abbrev pub numbered_handlers : List ℕ → List ℕ → List ℕ → Option Handlers
+numbered_handlers init body tests =
     option_and_then (λ i. option_and_then (λ b. option_map (λ m. record { init = record { 0 = i }; body = record { 0 = b }; mask = m }) (mask_in tests)) (number_up_to 65535 body)) (number_up_to 65535 init)
 
 -- The words of handlers, of which every other stands as it is.
 abbrev pub handlers_in : List ℕ → List ℕ → List ℕ → List ℕ → List ℕ → List ℕ → Option Handlers
 handlers_in a init b body c tests =
-    if bytes_eq a (codes "init") && (bytes_eq b (codes "body") && bytes_eq c (codes "tests")) then handlers_of init body tests else None
+    if bytes_eq a (codes "init") && (bytes_eq b (codes "body") && bytes_eq c (codes "tests")) then numbered_handlers init body tests else None
 
 -- The always part.
 abbrev pub always_line : List ℕ → Option Handlers → Option Line

@@ -4,7 +4,7 @@ use Rattle.std.specs.Prelude.{if◌then◌else◌, List, [], ◌∷◌, codes, t
 use Rattle.std.specs.List.{slice_split, prefix_len}
 use Rattle.std.specs.Str.{bytes_eq, is_utf8}
 use Rattle.ifs_base.specs.Numbers.{number_of}
-use Rattle.ifs_asm.specs.Spellings.{is_blank, is_plain}
+use Rattle.ifs_asm.specs.Spellings.{is_space_or_tab, is_plain}
 
 -- Where a byte of a word stands: outside of quotes, inside quotes, or after a backslash inside quotes.
 pub data Mode : Type 0 where
@@ -20,7 +20,7 @@ mode_after Escaped byte = Inside
 
 -- A word ends before a blank that stands outside quotes.
 abbrev pub ends_at : Mode → ℕ → Bool
-ends_at Bare byte = is_blank byte
+ends_at Bare byte = is_space_or_tab byte
 ends_at Inside byte = false
 ends_at Escaped byte = false
 
@@ -35,7 +35,7 @@ word_len mode (byte ∷ bytes) = if ends_at mode byte then 0 else 1 + word_len (
 
 -- What stands after blanks.
 abbrev pub after_blanks : List ℕ → List ℕ
-after_blanks bytes = drop (prefix_len is_blank bytes) bytes
+after_blanks bytes = drop (prefix_len is_space_or_tab bytes) bytes
 
 -- The word at the front, and what stands after it.
 abbrev pub word_of : List ℕ → List ℕ
@@ -73,36 +73,36 @@ pub data Quote : Type 0 where
   Done : Quote
 
 -- What a byte of a quoted text does: the next byte stands there, or a byte of the text is given, or it cannot stand here.
-pub data Turn : Type 0 where
-  Goes : (quote : Quote) → Turn
-  Gives : (byte : ℕ) → Turn
-  Stops : Turn
+pub data QuoteTurn : Type 0 where
+  Goes : (quote : Quote) → QuoteTurn
+  Gives : (byte : ℕ) → QuoteTurn
+  Stops : QuoteTurn
 
 -- After the first hexadecimal digit of a character.
-abbrev pub high_turn : Option ℕ → Turn
+abbrev pub high_turn : Option ℕ → QuoteTurn
 high_turn None = Stops
 high_turn (Some digit) = Goes (Low digit)
 
 -- After its second one; it is a character from 1 to 127.
-abbrev pub low_turn : ℕ → Option ℕ → Turn
+abbrev pub low_turn : ℕ → Option ℕ → QuoteTurn
 low_turn high None = Stops
 low_turn high (Some digit) = if nat_lt high 8 && nat_lt 0 (high + digit) then Gives (16 * high + digit) else Stops
 
-abbrev pub turn : Quote → ℕ → Turn
-turn Start byte = if byte == 34 then Goes Within else Stops
-turn Within byte =
+abbrev pub quote_turn : Quote → ℕ → QuoteTurn
+quote_turn Start byte = if byte == 34 then Goes Within else Stops
+quote_turn Within byte =
     if byte == 34 then Goes Done else
     if byte == 92 then Goes Backslash else
     if is_plain byte then Gives byte else Stops
-turn Backslash byte =
+quote_turn Backslash byte =
     if (byte == 34) || (byte == 92) then Gives byte else
     if byte == 120 then Goes High else Stops
-turn High byte = high_turn (hex_value byte)
-turn (Low high) byte = low_turn high (hex_value byte)
-turn Done byte = Stops
+quote_turn High byte = high_turn (hex_value byte)
+quote_turn (Low high) byte = low_turn high (hex_value byte)
+quote_turn Done byte = Stops
 
--- The turn of an escape that stands for a byte, or for none.
-abbrev pub given : Option ℕ → Turn
+-- The quote_turn of an escape that stands for a byte, or for none.
+abbrev pub given : Option ℕ → QuoteTurn
 given None = Stops
 given (Some byte) = Gives byte
 
@@ -111,8 +111,8 @@ abbrev pub onto : ℕ → Option (List ℕ) → Option (List ℕ)
 onto byte None = None
 onto byte (Some text) = Some (byte ∷ text)
 
--- The text after a turn, by what the bytes after it give from where they stand.
-abbrev pub after_turn : (Quote → Option (List ℕ)) → Turn → Option (List ℕ)
+-- The text after a quote_turn, by what the bytes after it give from where they stand.
+abbrev pub after_turn : (Quote → Option (List ℕ)) → QuoteTurn → Option (List ℕ)
 after_turn others (Goes quote) = others quote
 after_turn others (Gives byte) = onto byte (others Within)
 after_turn others Stops = None
@@ -129,7 +129,7 @@ at_end (Low high) = None
 -- The text that bytes from a place on stand for.
 abbrev pub text_from : List ℕ → Quote → Option (List ℕ)
 text_from [] quote = at_end quote
-text_from (byte ∷ bytes) quote = after_turn (text_from bytes) (turn quote byte)
+text_from (byte ∷ bytes) quote = after_turn (text_from bytes) (quote_turn quote byte)
 
 -- The text of what is left inside quotes where no byte of it is given: only the second quote may stand there.
 abbrev pub ending : List ℕ → Option (List ℕ)

@@ -22,5 +22,5 @@ pub record IsValue (ropes : List (List What)) (rope : Rope) : Type 0 where
   pub within : rope.count ≤ 16384
 
 -- A result is what is wanted, and a fault is the one wanted unless want of memory is told.
-abbrev pub Answers : {X Y : Type 0} → (X → Y) → Result X LexFault → Result Y LexFault → Type 0
-Answers view result wanted = MatchResult result (λ x. wanted ≡ Ok (view x)) (λ fault. fault ≢ Memory → wanted ≡ Err fault)
+abbrev pub IsAsWanted : {X Y : Type 0} → (X → Y) → Result X LexFault → Result Y LexFault → Type 0
+IsAsWanted view result wanted = MatchResult result (λ x. wanted ≡ Ok (view x)) (λ fault. fault ≢ Memory → wanted ≡ Err fault)

@@ -35,7 +35,7 @@ abbrev pub Holds : List (List What) → Rope → Type 0
 Holds ropes rope = (rope.root < length ropes) × (length (whats_at ropes rope.root) ≡ rope.count)
 
 -- The ropes of before stand where they stood.
-pub record Keeps (before after : List (List What)) : Type 0 where
+pub record KeepsRopes (before after : List (List What)) : Type 0 where
   pub room : length before ≤ length after
   pub same : (n : ℕ) → n < length before → whats_at after n ≡ whats_at before n
 

@@ -3,6 +3,7 @@ use Rattle.std.specs.Prelude.{◌≡◌, ◌≢◌, ℕ, zero, suc, List, [], �
 use Rattle.std.specs.Prelude.{Option, Some, None, Result, Ok, Err, MatchResult}
 use Rattle.std.specs.Option.{option_map_or}
 use Rattle.ifs_base.specs.declared.span.Span.{Span}
+use Rattle.ifs_base.specs.Results.{◌>>=◌}
 use Rattle.ifs_lex.specs.declared.token.Token.{Token}
 use Rattle.ifs_parse.specs.declared.fault.ParseFault.{ParseFault}
 use Rattle.ifs_parse.specs.declared.fault.ParseFault.TheVariants.{Unexpected, Memory}
@@ -18,27 +19,21 @@ abbrev pub progress : List Token → List ℕ → Progress
 progress left notes = record { left = left; notes = notes }
 
 -- After the first token.
-abbrev pub past : Progress → Progress
-past s = progress (drop 1 s.left) s.notes
+abbrev pub after_token : Progress → Progress
+after_token s = progress (drop 1 s.left) s.notes
 
 -- What reads a value, or tells a fault.
 abbrev pub Parse : Type 0 → Type 0
 Parse X = Progress → Result (X × Progress) ParseFault
 
--- Goes on where nothing was wrong.
-infixl 10 ◌>>=◌
-abbrev pub ◌>>=◌ : {A B : Type 0} → Result A ParseFault → (A → Result B ParseFault) → Result B ParseFault
-(Ok x) >>= f = f x
-(Err fault) >>= f = Err fault
-
 -- The line of the first token.
-abbrev pub line_of : List Token → ℕ
-line_of [] = 0
-line_of (t ∷ ts) = t.span.line
+abbrev pub line_of_first : List Token → ℕ
+line_of_first [] = 0
+line_of_first (t ∷ ts) = t.span.line
 
 -- Nothing goes on with the first token.
 abbrev pub unexpected : {X : Type 0} → Parse X
-unexpected s = Err (Unexpected (line_of s.left))
+unexpected s = Err (Unexpected (line_of_first s.left))
 
 -- What the first token stands for.
 abbrev pub found : {X : Type 0} → (Token → Option X) → List Token → Option X
@@ -60,11 +55,11 @@ abbrev pub ◌▸◌ : {X Y : Type 0} → Parse X → (X → Parse Y) → Parse 
 
 -- One token that stands for a value.
 abbrev pub one_token : {X : Type 0} → (Token → Option X) → Parse X
-one_token what s = option_map_or (λ x. Ok (x, past s)) (found what s.left) (unexpected s)
+one_token what s = option_map_or (λ x. Ok (x, after_token s)) (found what s.left) (unexpected s)
 
 -- What goes on after a mark, or else what has no mark before it.
 abbrev pub either : {X : Type 0} → Mark → (Span → Parse X) → Parse X → Parse X
-either mark yes_then else_then s = option_map_or (λ span. yes_then span (past s)) (accepted mark s.left) (else_then s)
+either mark yes_then else_then s = option_map_or (λ span. yes_then span (after_token s)) (accepted mark s.left) (else_then s)
 
 -- What comes after a mark, where the mark does; or else something else that may be missing.
 abbrev pub begins : {X : Type 0} → Mark → (Span → Parse X) → Parse (Option X) → Parse (Option X)
@@ -92,5 +87,5 @@ abbrev pub many : {A X : Type 0} → Parse (Option X) → (A → X → A) → A 
 many part add a s = many_from part add (length s.left) a s
 
 -- A result is what is wanted, and a fault is the one wanted unless want of memory is told.
-abbrev pub Answers : {X Y : Type 0} → (X → Y) → Result X ParseFault → Result Y ParseFault → Type 0
-Answers view result wanted = MatchResult result (λ x. wanted ≡ Ok (view x)) (λ fault. fault ≢ Memory → wanted ≡ Err fault)
+abbrev pub IsAsRead : {X Y : Type 0} → (X → Y) → Result X ParseFault → Result Y ParseFault → Type 0
+IsAsRead view result wanted = MatchResult result (λ x. wanted ≡ Ok (view x)) (λ fault. fault ≢ Memory → wanted ≡ Err fault)

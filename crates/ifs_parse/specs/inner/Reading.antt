@@ -4,6 +4,7 @@ use Rattle.std.specs.Prelude.{◌++◌, length, insert, Option, Some, None, opti
 use Rattle.std.specs.Option.{option_map_or}
 use Rattle.ifs_base.specs.declared.op.LinkState.{LinkState}
 use Rattle.ifs_base.specs.declared.span.Span.{Span}
+use Rattle.ifs_base.specs.Results.{◌>>=◌}
 use Rattle.ifs_lex.specs.declared.token.Token.{Token}
 use Rattle.ifs_parse.specs.declared.fault.ParseFault.{ParseFault}
 use Rattle.ifs_parse.specs.declared.fault.ParseFault.TheVariants.{Period, Nesting}
@@ -27,8 +28,9 @@ use Rattle.ifs_parse.specs.Marks.{mark_of}
 use Rattle.ifs_parse.specs.Words.{name_of, link_state_of, number_of_what}
 use Rattle.ifs_parse.specs.Rules.{with_last}
 use Rattle.ifs_parse.specs.inner.Combined as combined
-use Rattle.ifs_parse.specs.inner.Combined.{Parse, progress, ◌>>=◌, ◌▸◌, pure, past, one_token, either, begins}
-use Rattle.ifs_parse.specs.inner.Combined.{no_more, required, expected, unexpected, accepted, found, many, line_of}
+use Rattle.ifs_parse.specs.inner.Combined.{Parse, progress, ◌▸◌, pure, after_token, one_token, either, begins}
+use Rattle.ifs_parse.specs.inner.Combined.{no_more, required, expected, unexpected, accepted, found, many}
+use Rattle.ifs_parse.specs.inner.Combined.{line_of_first}
 
 -- string : a word that is not reserved | a quoted text
 abbrev pub string : Parse Name
@@ -40,7 +42,7 @@ link_state = one_token (λ t. link_state_of (mark_of t.what))
 
 -- number : a period that fits
 abbrev pub period : (ℕ → Bool) → Parse ℕ
-period fits s = option_map_or (λ n. if fits n then Ok (n, past s) else Err (Period (line_of s.left))) (found (λ t. number_of_what t.what) s.left) (unexpected s)
+period fits s = option_map_or (λ n. if fits n then Ok (n, after_token s) else Err (Period (line_of_first s.left))) (found (λ t. number_of_what t.what) s.left) (unexpected s)
 
 -- What follows `string .` : link "." ( up | down | unknown )
 abbrev pub link_test : Name → Parse Test

@@ -28,8 +28,8 @@ Enters eq limit entry name old result new =
     MatchResult result (λ _. Entered eq limit entry name old new) (λ fault. fault ≢ Memory → NotEntered eq limit entry name old fault)
 
 -- A mention that breaks no rule is noted; of one that does the lowest is told, unless memory ran out.
-abbrev pub Noted : Names → Mentioned → Result (Unit {0}) ResolveFault → Names → Type 0
-Noted old mention result new =
+abbrev pub MentionNoted : Names → Mentioned → Result (Unit {0}) ResolveFault → Names → Type 0
+MentionNoted old mention result new =
     MatchResult result (λ _. IsSound old mention × (new ≡ after old mention)) (λ fault. fault ≢ Memory → IsLowest old mention fault)
 
 -- Mentions that break no rule are noted in order; else the first fault is told, unless memory ran out.

@@ -13,7 +13,7 @@ use Rattle.ifs_policy.specs.declared.policy.Single.{Single}
 use Rattle.ifs_policy.specs.declared.tables.Tables.{Tables}
 use Rattle.ifs_policy.specs.Resolution.{place_command, place_state, place_condition, place_block}
 
-pub record IsSized (tables : Tables) : Type 0 where
+pub record HasTableSizes (tables : Tables) : Type 0 where
   pub interfaces : length tables.interfaces ≤ 64
   pub tests : length tables.tests ≤ 64
   pub commands : length tables.commands ≤ 1024

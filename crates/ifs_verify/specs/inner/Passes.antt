@@ -235,15 +235,15 @@ pub record IsCountedFrom (weight : Op → ℕ) (image : ImageParts) (lower : ℕ
       → (k : ℕ) → k < length (code_of image routine) → place ≤ k → slice_index amounts k ≤ all routine k
 
 -- A routine's typing whose heights a height holds.
-abbrev pub IsHeld : ImageParts → (ℕ → ℕ) → ℕ → (ℕ → List Kind) → Type 0
-IsHeld image heights routine kinds = IsTyping image routine kinds
+abbrev pub IsTypingHeld : ImageParts → (ℕ → ℕ) → ℕ → (ℕ → List Kind) → Type 0
+IsTypingHeld image heights routine kinds = IsTyping image routine kinds
     × ((place : ℕ) (op : Op) → op_at image routine place ≡ Some op → HoldsHeight image heights op (kinds place) (heights routine))
 
 -- The heights of the routines below one, each a bound and below every bound.
 pub record LeastHeights (image : ImageParts) (heights : List ℕ) (done : ℕ) : Type 0 where
   pub long : length heights ≡ done
   pub low : AreLow heights
-  pub held : (routine : ℕ) → routine < done → (kinds : ℕ → List Kind) × IsHeld image (slice_index heights) routine kinds
+  pub held : (routine : ℕ) → routine < done → (kinds : ℕ → List Kind) × IsTypingHeld image (slice_index heights) routine kinds
   pub least : (kinds : ℕ → ℕ → List Kind) (all : ℕ → ℕ) → AreTypings image kinds → AreHeights image kinds all
       → (routine : ℕ) → routine < done → slice_index heights routine ≤ all routine
 

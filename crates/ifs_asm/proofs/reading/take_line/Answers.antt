@@ -5,7 +5,7 @@ use Rattle.ifs_asm.specs.declared.forms.Formed.{Formed}
 use Rattle.ifs_asm.specs.declared.fault.LineFault.TheVariants as faults
 use Rattle.ifs_asm.specs.inner.Forms.{formed}
 use Rattle.ifs_asm.specs.declared.line.Line.{Line}
-use Rattle.ifs_asm.specs.inner.Building.{Built, step}
+use Rattle.ifs_asm.specs.inner.Building.{Built, one_line_more}
 use Rattle.ifs_asm.specs.inner.Reading.{Blames}
 use Rattle.ifs_asm.proofs.Steps.{read_form, one_line}
 use Rattle.ifs_asm.proofs.reading.take_line.Goals as goal
@@ -13,7 +13,7 @@ use Rattle.ifs_asm.proofs.reading.take_line.Goals as goal
 pub returns-in_default-clause-taken : goal.returns-in_default-clause-taken
 returns-in_default-clause-taken c = λ _.
     one_line c.args.building.now c.args.line.now (map (λ word. word.now) c.as_slice.result.now) c.in_ok-form.field-0 (sym c.is_silent.ensures ∙ c.if-is_silent.false) (ap (map (λ word. word.now)) c.as_slice.ensures.value ∙ c.words_of-words.ensures) c.in_ok-form.ensures
-    ∙ ap (λ (form : Option Formed). option_and_then (step c.args.building.now) (formed form)) c.in_default.is
+    ∙ ap (λ (form : Option Formed). option_and_then (one_line_more c.args.building.now) (formed form)) c.in_default.is
 
 pub returns-clause-taken : goal.returns-clause-taken
 returns-clause-taken c =

@@ -1,19 +1,19 @@
 -- What the steps found, said of the text.
 use Rattle.std.proofs.Common.{map, sym, subst}
-use Rattle.ifs_gen.specs.Compiled.{IsRefusal}
+use Rattle.ifs_gen.specs.Compiled.{IsCompileRefusal}
 use Rattle.ifs_gen.proofs.Texts as texts
 use Rattle.ifs_gen.proofs.compiling.compile_with_notes.Goals as goal
 
 pub returns-in-Err-clause-refused : goal.returns-in-Err-clause-refused
 returns-in-Err-clause-refused c =
     let defs = map (λ d. (d.0.now, d.1.now)) c.args.defs.now in
-    subst (IsRefusal c.args.text.now defs) (sym c.from.ensures) (texts.refused_policy c.args.text.now defs c.in-Err.fault c.in-Err.ensures.refused)
+    subst (IsCompileRefusal c.args.text.now defs) (sym c.from.ensures) (texts.refused_policy c.args.text.now defs c.in-Err.fault c.in-Err.ensures.refused)
 
 pub returns-in-Err-clause-none : goal.returns-in-Err-clause-none
 returns-in-Err-clause-none c =
     let defs = map (λ d. (d.0.now, d.1.now)) c.args.defs.now in
     texts.none_compiled c.means_the_policy.ensures c.args.text.now defs c.from.result
-    (subst (IsRefusal c.args.text.now defs) (sym c.from.ensures) (texts.refused_policy c.args.text.now defs c.in-Err.fault c.in-Err.ensures.refused))
+    (subst (IsCompileRefusal c.args.text.now defs) (sym c.from.ensures) (texts.refused_policy c.args.text.now defs c.in-Err.fault c.in-Err.ensures.refused))
 
 pub returns-in-Ok-bytes_of-clause-compiled : goal.returns-in-Ok-bytes_of-clause-compiled
 returns-in-Ok-bytes_of-clause-compiled c =

@@ -1,6 +1,6 @@
 use Rattle.std.proofs.Common.{[], ◌∷◌, Some, ap, subst, ◌∙◌}
 use Rattle.ifs_cli.specs.declared.runner.RunnerEvent.TheVariants.{Spawned}
-use Rattle.ifs_cli.specs.Runners.{Tells}
+use Rattle.ifs_cli.specs.Runners.{RunnerTells}
 use Rattle.ifs_cli.specs.Children.{with_running}
 use Rattle.ifs_cli.proofs.runner_host.RunnerHost.spawn.Goals as goal
 
@@ -11,5 +11,5 @@ returns-in-Ok g c =
       number = Some number;
       place = c.requires;
       waits = c.run.ensures ∙ ap (λ h. with_running (c.args.start, number) h.waiting) c.self.view_is;
-      log = subst (λ h. Tells (Spawned c.args.text.now (Some number) ∷ []) h.told (g.Q.Runner.told c.spawn.new.self)) c.self.view_is c.in-Ok.ensures.log;
+      log = subst (λ h. RunnerTells (Spawned c.args.text.now (Some number) ∷ []) h.told (g.Q.Runner.told c.spawn.new.self)) c.self.view_is c.in-Ok.ensures.log;
     }
