@@ -1,5 +1,5 @@
 -- What a text means through the image of its policy.
-use Rattle.std.proofs.Common.{◌≡◌, ◌≢◌, ℕ, ◌+◌, List, [], ◌∷◌, length, refl, sym, ap, subst, arith}
+use Rattle.std.proofs.Common.{◌≡◌, ◌≢◌, ℕ, ◌+◌, List, [], ◌∷◌, length, refl, sym, ap, subst, arith, Result, Ok, Err}
 use Rattle.std.proofs.lemmas.Simd.{map-map}
 use Rattle.ifs_lex.specs.declared.token.Token.{Token}
 use Rattle.ifs_lex.specs.Expansion as lex
@@ -33,6 +33,22 @@ use Rattle.ifs_gen.specs.declared.fault.GenFault.TheVariants as generating
 use Rattle.ifs_gen.proofs.Accepting.{plain_is_accepted}
 use Rattle.ifs_gen.proofs.Lifting as lifting
 use Rattle.ifs_gen.proofs.Refusing.{does_not_fit}
+
+-- What a call answers: a policy,
+abbrev answered : {A : Type 0} → A → Result A PolicyFault
+answered it = Ok it
+
+-- or a refusal.
+abbrev unanswered : (A : Type 0) → PolicyFault → Result A PolicyFault
+unanswered A fault = Err fault
+
+-- One fault is one refusal.
+pub same_refusal : {A : Type 0} (told fault : PolicyFault) → unanswered A told ≡ Err fault → of_policy told ≡ of_policy fault
+same_refusal told fault e = let same : told ≡ fault = cc in ap of_policy same
+
+-- Where a policy is answered no fault was certain.
+pub not_certain : {A B : Type 0} (it : A) (fault : PolicyFault) → answered it ≡ Err fault → B
+not_certain it fault e = absurd (cc)
 
 -- the names of states stand in the image as in the policy
 state_names : (count k : ℕ) (names : List (List ℕ)) (parts : List Part) → length parts ≡ length names → names_of (states_from count k names parts) ≡ names

@@ -1,9 +1,11 @@
 //! From a text to the bytes of its image.
 
-ghost use Rattle.std.specs.Prelude.{◌≢◌, IfOk, IfErr, map};
+ghost use Rattle.std.specs.Prelude.{◌≡◌, ◌≢◌, Some, Err, IfOk, IfErr, map};
+ghost use Rattle.ifs_lex.specs.declared.fault.LexFault.{LexFault};
+ghost use Rattle.ifs_lex.specs.AtOnce.{certain_at_once};
 ghost use Rattle.ifs_gen.specs.declared.compile_fault.CompileFault.TheVariants.{Memory};
-ghost use Rattle.ifs_gen.specs.Compiled.{Compiles, IsCodeRefusal, IsCompiled, IsCompileRefusal, IsWritten};
-ghost use Rattle.ifs_policy.specs.Texts.{SaysFile};
+ghost use Rattle.ifs_gen.specs.Compiled.{Compiles, IsCodeRefusal, IsCompiled, IsCompileRefusal, IsWritten, of_policy};
+ghost use Rattle.ifs_policy.specs.Texts.{of_text, SaysFile};
 
 use crate::compile_fault::CompileFault;
 use crate::generating::generate;
@@ -40,7 +42,7 @@ fn bytes_of(alloc: Global, policy: &Policy) -> Result<Vec<u8>, CompileFault>
 ///
 /// A refusal is the fault of the first step that refuses: of the tokens, of the grammar and of the names,
 /// each with its line, and then of the limits of code. P0, for want of memory, may come in place of
-/// another answer.
+/// another answer, but not of a fault of the text that is certain before anything is kept.
 pub fn compile<'a>(
     alloc: Global,
     text: &'a str,
@@ -53,6 +55,8 @@ pub fn compile<'a>(
     ensures refused { IfErr result (λ fault. IsCompileRefusal text.now (map (λ d. (d.0.now, d.1.now)) defs.now) fault) }
     // so that nothing is refused that compiles.
     ensures none { IfErr result (λ fault. fault ≢ Memory → ¬ Compiles text.now (map (λ d. (d.0.now, d.1.now)) defs.now)) }
+    // What is certain of the text before anything is kept is told, and no want of memory in its place.
+    ensures at_once { (fault : LexFault) → certain_at_once text.now (map (λ d. (d.0.now, d.1.now)) defs.now) ≡ Some fault → result ≡ Err (of_policy (of_text fault)) }
 {
     match compile_with_notes(alloc, text, defs) {
         Ok(CompiledText { tree: _, bytes }) => Ok(bytes),
@@ -70,6 +74,7 @@ pub fn compile_with_notes<'a>(
     ensures tree { IfOk result (λ it. SaysFile text.now (map (λ d. (d.0.now, d.1.now)) defs.now) it.tree) }
     ensures refused { IfErr result (λ fault. IsCompileRefusal text.now (map (λ d. (d.0.now, d.1.now)) defs.now) fault) }
     ensures none { IfErr result (λ fault. fault ≢ Memory → ¬ Compiles text.now (map (λ d. (d.0.now, d.1.now)) defs.now)) }
+    ensures at_once { (fault : LexFault) → certain_at_once text.now (map (λ d. (d.0.now, d.1.now)) defs.now) ≡ Some fault → result ≡ Err (of_policy (of_text fault)) }
 {
     means_the_policy();
     let PolicyText { tree, policy } = match policy_of(alloc, text, defs) {

@@ -1,8 +1,11 @@
 //! From a text to a core at work.
 
-ghost use Rattle.std.specs.Prelude.{◌≢◌, IfOk, IfErr, map};
+ghost use Rattle.std.specs.Prelude.{◌≡◌, ◌≢◌, Some, Err, IfOk, IfErr, map};
+ghost use Rattle.ifs_lex.specs.declared.fault.LexFault.{LexFault};
+ghost use Rattle.ifs_lex.specs.AtOnce.{certain_at_once};
+ghost use Rattle.ifs_policy.specs.Texts.{of_text};
 ghost use Rattle.ifs_gen.specs.declared.compile_fault.CompileFault.TheVariants.{Memory};
-ghost use Rattle.ifs_gen.specs.Compiled.{Compiles, IsCompileRefusal};
+ghost use Rattle.ifs_gen.specs.Compiled.{Compiles, IsCompileRefusal, of_policy};
 ghost use Rattle.ifs_gen.specs.CompiledCore.{RunsText};
 
 use crate::compile_fault::CompileFault;
@@ -15,7 +18,8 @@ use std::alloc::Global;
 /// definitions that win over the text's.
 ///
 /// The text is refused as `compile` refuses it, and nothing that compiles is refused by the verifier. P0,
-/// for want of memory, may come in place of another answer.
+/// for want of memory, may come in place of another answer, but not of a fault of the text that is certain before
+/// anything is kept.
 pub fn compiled_core<'a>(
     alloc: Global,
     text: &'a str,
@@ -27,6 +31,8 @@ pub fn compiled_core<'a>(
     ensures refused { IfErr result (λ fault. IsCompileRefusal text.now (map (λ d. (d.0.now, d.1.now)) defs.now) fault) }
     // so that nothing is refused that compiles.
     ensures none { IfErr result (λ fault. fault ≢ Memory → ¬ Compiles text.now (map (λ d. (d.0.now, d.1.now)) defs.now)) }
+    // What is certain of the text before anything is kept is told, and no want of memory in its place.
+    ensures at_once { (fault : LexFault) → certain_at_once text.now (map (λ d. (d.0.now, d.1.now)) defs.now) ≡ Some fault → result ≡ Err (of_policy (of_text fault)) }
 {
     let bytes = match compile(alloc, text, defs) {
         Ok(bytes) => bytes,

@@ -1,5 +1,6 @@
 -- What the steps found, said of the text.
-use Rattle.std.proofs.Common.{map, sym, subst}
+use Rattle.std.proofs.Common.{map, sym, subst, ap, ◌∙◌, Err}
+use Rattle.ifs_policy.specs.Texts.{of_text}
 use Rattle.ifs_gen.specs.Compiled.{IsCompileRefusal}
 use Rattle.ifs_gen.proofs.Texts as texts
 use Rattle.ifs_gen.proofs.compiling.compile_with_notes.Goals as goal
@@ -30,3 +31,12 @@ returns-in-Err-bytes_of-clause-none c =
     let defs = map (λ d. (d.0.now, d.1.now)) c.args.defs.now in
     texts.none_compiled c.means_the_policy.ensures c.args.text.now defs c.in-Err-bytes_of.fault
     (texts.code_refusal c.in-Ok.it.policy c.args.text.now defs c.in-Ok.ensures.policy c.in-Err-bytes_of.fault c.in-Err-bytes_of.ensures.refused)
+
+pub returns-in-Err-clause-at_once : goal.returns-in-Err-clause-at_once
+returns-in-Err-clause-at_once c = λ fault h. ap (λ f. Err f) (c.from.ensures ∙ texts.same_refusal c.in-Err.fault (of_text fault) (c.in-Err.ensures.at_once fault h))
+
+pub returns-in-Ok-bytes_of-clause-at_once : goal.returns-in-Ok-bytes_of-clause-at_once
+returns-in-Ok-bytes_of-clause-at_once c = λ fault h. texts.not_certain c.in-Ok.it (of_text fault) (c.in-Ok.ensures.at_once fault h)
+
+pub returns-in-Err-bytes_of-clause-at_once : goal.returns-in-Err-bytes_of-clause-at_once
+returns-in-Err-bytes_of-clause-at_once c = λ fault h. texts.not_certain c.in-Ok.it (of_text fault) (c.in-Ok.ensures.at_once fault h)
