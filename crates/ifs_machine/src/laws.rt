@@ -7,8 +7,8 @@ pub fn runs_are_unique()
     ensures { RunsAreUnique }
 {}
 
-/// A handler run does not depend on what the event brought about before it: its commands follow, and
-/// its wish holds where it has one.
+/// A handler run that ends from nothing brought about, and from what the event brought about before it, does
+/// the same in both: its commands follow, and its wish holds where it has one.
 pub fn runs_follow()
     ensures { RunsFollow }
 {}
