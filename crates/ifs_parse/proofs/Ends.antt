@@ -17,7 +17,6 @@ use Rattle.ifs_parse.specs.Files.{File}
 use Rattle.ifs_parse.specs.Rules.{Rule, GivesValue, OneToken, TheMark, ◌⨟◌, ◌or◌, Never, Many, Enough, More}
 use Rattle.ifs_parse.specs.inner.Combined.{}
 use Rattle.ifs_parse.specs.Words.{marked}
-use Rattle.ifs_parse.specs.inner.Reading as reading
 use Rattle.ifs_parse.specs.Words as words
 use Rattle.ifs_parse.specs.Rules as rules
 use Rattle.ifs_parse.specs.Grammar as grammar

@@ -14,7 +14,6 @@ use Rattle.ifs_parse.specs.Files.{File, file}
 use Rattle.ifs_parse.specs.Marks.{mark_of, is}
 use Rattle.ifs_parse.specs.inner.Combined.{Progress, progress, Parse}
 use Rattle.ifs_parse.specs.inner.Reading as reading
-use Rattle.ifs_parse.specs.Words.{fits_period}
 use Rattle.ifs_parse.specs.inner.Reading.{read_within}
 use Rattle.ifs_parse.specs.Grammar as grammar
 use Rattle.ifs_parse.specs.Grammar.{SaysWithin, Says}

@@ -1,6 +1,6 @@
 -- What tokens say, read from the left: one parser a line of the grammar.
 use Rattle.std.specs.Prelude.{ℕ, zero, suc, Bool, true, false, ◌||◌, if◌then◌else◌, List, [], ◌∷◌}
-use Rattle.std.specs.Prelude.{◌++◌, length, insert, Option, Some, None, option_map, Result, Ok, Err}
+use Rattle.std.specs.Prelude.{◌++◌, length, insert, Option, option_map, Result, Ok, Err}
 use Rattle.std.specs.Option.{option_map_or}
 use Rattle.ifs_base.specs.declared.op.LinkState.{LinkState}
 use Rattle.ifs_base.specs.declared.span.Span.{Span}
