@@ -99,7 +99,7 @@ FoundAt Done bytes text = (bytes ≡ []) × (text ≡ [])
 abbrev FoundFrom : List ℕ → Type 0
 FoundFrom bytes = (quote : Quote) (text : List ℕ) → text_from bytes quote ≡ Some text → FoundAt quote bytes text
 
--- A quote_turn where an answer says what P says.
+-- A turn where an answer says what P says.
 abbrev After : List ℕ → List ℕ → Type 0 → QuoteTurn → Type 0
 After bytes text P t = after_turn (text_from bytes) t ≡ Some text → P
 

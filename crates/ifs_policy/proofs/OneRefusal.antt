@@ -16,7 +16,7 @@ use Rattle.ifs_policy.specs.Faults.{IsStringWith, Breaks, fault_number, IsLowest
 use Rattle.ifs_policy.specs.Faults.{FirstUnknown, IsTreeRefused, no_state, broken, unknown}
 use Rattle.ifs_policy.proofs.Refusals.{broken_not_sound}
 
--- The line that a fault tells, and the fault of a fault_number and a line.
+-- The line that a fault tells, and the fault of a number and a line.
 abbrev told_line : ResolveFault → ℕ
 told_line Memory = 0
 told_line (NoState line) = line

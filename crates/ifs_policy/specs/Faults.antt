@@ -60,7 +60,7 @@ Breaks names mention (BadText line) = IsStringWith (λ text. ¬ TextFits text) l
 -- and nothing else is
 Breaks names mention _ = ⊥
 
--- The fault_number by which a fault is told.
+-- The number by which a fault is told.
 abbrev pub fault_number : ResolveFault → ℕ
 fault_number Memory = 0
 fault_number (NoState line) = 9
@@ -76,7 +76,7 @@ fault_number (BadText line) = 16
 abbrev pub IsSound : Names → Mentioned → Type 0
 IsSound names mention = (fault : ResolveFault) → ¬ Breaks names mention fault
 
--- Of the rules that a mention breaks it is the one of the lowest fault_number.
+-- Of the rules that a mention breaks it is the one of the lowest number.
 pub record IsLowest (names : Names) (mention : Mentioned) (fault : ResolveFault) : Type 0 where
   pub broken : Breaks names mention fault
   pub lowest : (other : ResolveFault) → fault_number other < fault_number fault → ¬ Breaks names mention other

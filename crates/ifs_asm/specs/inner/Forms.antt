@@ -68,7 +68,7 @@ text_within text = if nat_lt 0 (length text) && nat_lt (length text) 1025 then S
 abbrev pub sized_text : List ℕ → Option (List ℕ)
 sized_text word = option_and_then text_within (text_in word)
 
--- A period_within.
+-- A period.
 abbrev pub period_within : ℕ → Option ℕ
 period_within n = if nat_lt 0 n && nat_lt n 604801 then Some n else None
 

@@ -101,7 +101,7 @@ quote_turn High byte = high_turn (hex_value byte)
 quote_turn (Low high) byte = low_turn high (hex_value byte)
 quote_turn Done byte = Stops
 
--- The quote_turn of an escape that stands for a byte, or for none.
+-- The turn of an escape that stands for a byte, or for none.
 abbrev pub given : Option ℕ → QuoteTurn
 given None = Stops
 given (Some byte) = Gives byte
@@ -111,7 +111,7 @@ abbrev pub onto : ℕ → Option (List ℕ) → Option (List ℕ)
 onto byte None = None
 onto byte (Some text) = Some (byte ∷ text)
 
--- The text after a quote_turn, by what the bytes after it give from where they stand.
+-- The text after a turn, by what the bytes after it give from where they stand.
 abbrev pub after_turn : (Quote → Option (List ℕ)) → QuoteTurn → Option (List ℕ)
 after_turn others (Goes quote) = others quote
 after_turn others (Gives byte) = onto byte (others Within)
