@@ -5,7 +5,7 @@ import subprocess
 
 from daemons import SOON, Daemon, holds, same, until
 
-SYSTEM = os.path.join(os.path.dirname(os.path.abspath(__file__)), "..", "examples", "daemon")
+SYSTEM = os.path.join(os.path.dirname(os.path.abspath(__file__)), "..", "system")
 
 IP = """\
 #!/bin/sh
