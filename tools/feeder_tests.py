@@ -1,55 +1,341 @@
 """Tests of what feeds the daemon: the scripts that an operator installs, on built programs."""
+import contextlib
 import os
 import re
+import signal
 import subprocess
+import threading
+import time
 
 from daemons import SOON, Daemon, holds, same, until
 
 SYSTEM = os.path.join(os.path.dirname(os.path.abspath(__file__)), "..", "system")
 
+POLICY = """\
+state a { if carp0.link.up { } if em0.link.up { } if em1.link.up { } if em2.link.up { } if tun0.link.up { }
+	if "br/0 %".link.up { } if ".em".link.up { } }
+"""
+
+# the command runs once: the state that it belongs to is left at once
+SLOW = """\
+state a { if slow.link.up set-state b if carp0.link.up { } }
+state b { init run "sleep 5" if carp0.link.up { } }
+"""
+
+LOGGER = """\
+#!/bin/sh
+printf '%s\\n' "$*" >> "${0%/*}/../logged"
+"""
+
 IP = """\
 #!/bin/sh
 case $* in
 "-o monitor link")
-	sleep 2
+	sleep 1.5
 	echo '3: em1@if2: <NO-CARRIER,BROADCAST,MULTICAST,UP> mtu 1500 qdisc fq state DOWN group default qlen 1000'
-	echo 'Deleted 4: em2: <BROADCAST,MULTICAST> mtu 1500 qdisc noop group default' ;;
+	echo 'Deleted 4: em2: <BROADCAST,MULTICAST,UP,LOWER_UP> mtu 1500 qdisc noop state UP group default'
+	echo 'Deleted 2: em0: <BROADCAST,MULTICAST,UP,LOWER_UP> mtu 1500 master br0 state DOWN'
+	exec sleep 60 ;;
 "-o link show")
 	echo '2: em0: <BROADCAST,MULTICAST,UP,LOWER_UP> mtu 1500 qdisc fq state UP mode DEFAULT group default qlen 1000'
-	echo '3: em1@if2: <BROADCAST,MULTICAST,UP,LOWER_UP> mtu 1500 qdisc fq state UP mode DEFAULT group default' ;;
+	echo '3: em1@if2: <BROADCAST,MULTICAST,UP,LOWER_UP> mtu 1500 qdisc fq state UP mode DEFAULT group default'
+	echo '4: em2: <BROADCAST,MULTICAST,UP,LOWER_UP> mtu 1500 qdisc fq state UP mode DEFAULT group default'
+	echo '5: tun0: <POINTOPOINT,UP,LOWER_UP> mtu 1420 qdisc noqueue state UNKNOWN mode DEFAULT group default'
+	echo '6: em9: <BROADCAST,MULTICAST,UP,LOWER_UP> mtu 1500 qdisc fq state UP mode DEFAULT group default' ;;
+"-o link show dev em0")
+	echo '2: em0: <BROADCAST,MULTICAST,UP,LOWER_UP> mtu 1500 qdisc fq state UP mode DEFAULT group default qlen 1000' ;;
+*) exit 1 ;;
 esac
 """
 
 
-def test_scripts(program):
-    policy = "state a { if em0.link.up { } if em1.link.up { } if carp0.link.up { } }\n"
-    with Daemon(program, policy) as daemon:
+class Feeders:
+    """The scripts beside a daemon, with words of their own on their path."""
+
+    def __init__(self, daemon):
+        self.daemon = daemon
         words = daemon.file("words")
         os.mkdir(words)
-        os.symlink(program, os.path.join(words, "ifsvm"))
-        with open(os.path.join(words, "ip"), "w") as file:
-            file.write(IP)
-        os.chmod(file.name, 0o755)
-        given = {"PATH": f"{words}:{os.environ['PATH']}", "IFSVM_SOCKET": os.path.abspath(daemon.socket)}
+        os.symlink(daemon.program, os.path.join(words, "ifsvm"))
+        for name, text in (("logger", LOGGER), ("ip", IP)):
+            with open(os.path.join(words, name), "w") as file:
+                file.write(text)
+            os.chmod(file.name, 0o755)
+        self.marked = f"IFSVM_SOCKET={os.path.abspath(daemon.socket)}"
+        self.environment = os.environ | {
+            "PATH": f"{words}:{os.environ['PATH']}",
+            "IFSVM_SOCKET": os.path.abspath(daemon.socket),
+            "IFSVM_LINKS": daemon.file("links"),
+        }
 
-        def call(*script):
-            words = [os.path.join(SYSTEM, script[0]), *script[1:]]
-            return subprocess.run(words, env=given, capture_output=True, timeout=SOON, text=True)
+    def start(self, *script, **given):
+        return subprocess.Popen([os.path.join(SYSTEM, script[0]), *script[1:]], env=self.environment, **given)
 
-        def links():
-            return re.findall(r"^link (\d) (\w+) ->", daemon.send("trace"), re.M)
+    @contextlib.contextmanager
+    def running(self, *script, **given):
+        process = self.start(*script, **given)
+        try:
+            yield process
+        finally:
+            process.terminate()
+            process.wait()
+            for stream in filter(None, (process.stdout, process.stderr)):
+                stream.close()
 
-        for state in ("MASTER", "BACKUP", "FAULT"):
-            call("keepalived_notify", "INSTANCE", "carp0", state, "100")
-        call("ucarp_up", "em0", "203.0.113.1", "carp0")
-        call("ucarp_down", "em0", "203.0.113.1", "carp0")
-        same("links of notify scripts", links(), [("2", to) for to in ("up", "down", "unknown", "up", "down")])
-        same("what watch_links was told", call("watch_links").stdout.count("\n"), 4)
-        same("links of the system", links()[5:], [("0", "up"), ("1", "up"), ("1", "down")])
-        ticks = subprocess.Popen(
-            [os.path.join(SYSTEM, "ticks")], env=given, stdout=subprocess.PIPE, stderr=subprocess.DEVNULL
-        )
-        until("two ticks", lambda: daemon.send("trace").count("\ntick ") >= 2)
+    def call(self, *script):
+        """The seconds that a script takes, which has to end with status 0."""
+        start = time.monotonic()
+        with self.start(*script, stderr=subprocess.PIPE) as process:
+            _, told = process.communicate(timeout=2 * SOON)
+        same(f"status and standard error of {script}", (process.returncode, told), (0, b""))
+        return time.monotonic() - start
+
+    def links(self):
+        """The links that the daemon was told, in order."""
+        return re.findall(r"^link (\d) (\w+) ->", self.daemon.send("trace"), re.M)
+
+    def logged(self):
+        with contextlib.suppress(FileNotFoundError), open(self.daemon.file("logged")) as file:
+            return file.read().splitlines()
+        return []
+
+    def processes(self):
+        """The processes that the scripts started, their own among them, and that have not ended."""
+        found = []
+        for number in filter(str.isdigit, os.listdir("/proc")):
+            with contextlib.suppress(OSError):
+                with open(f"/proc/{number}/environ") as file:
+                    mine = self.marked in file.read().split("\0")
+                with open(f"/proc/{number}/stat") as file:
+                    ended = file.read().rsplit(")", 1)[1].split()[0] == "Z"
+                if mine and not ended:
+                    found.append(int(number))
+        return found
+
+    def kill_daemon(self):
+        self.daemon.process.kill()
+        self.daemon.process.wait()
+
+    def start_daemon(self):
+        """Starts a killed daemon anew, on its image and its socket."""
+        daemon = self.daemon
+        daemon.process.stdout.close()
+        os.remove(daemon.socket)
+        words = [daemon.program, "serve", daemon.image, daemon.socket]
+        with open(daemon.told, "ab") as told:
+            daemon.process = subprocess.Popen(words, stdout=subprocess.PIPE, stderr=told)
+        same("first line of a new start", daemon.process.stdout.readline(), b"ready\n")
+
+
+@contextlib.contextmanager
+def feeders(program, policy=POLICY):
+    with Daemon(program, policy) as daemon:
+        yield Feeders(daemon)
+
+
+def test_ucarp_scripts(program):
+    with feeders(program) as those:
+        for state, to in (("up", "up"), ("down", "down"), ("up", "up")):
+            those.call(f"ucarp_{state}", "em0", "203.0.113.1", "carp0")
+            same("the last link of ucarp's scripts", those.links()[-1:], [("0", to)])
+        same("what is odd in that", those.logged(), [])
+
+
+def test_kept_while_the_daemon_is_away(program):
+    with feeders(program) as those:
+        those.call("ucarp_down", "em0", "203.0.113.1", "carp0")
+        those.kill_daemon()
+        those.call("ucarp_up", "em0", "203.0.113.1", "carp0")
+        same("notes while the daemon is away", len(those.logged()), 1)
+        holds(f"what they say: {those.logged()}", "link carp0 up: status 3 " in those.logged()[0])
+        those.call("tell_link", "no interface", "down")
+        those.start_daemon()
+        those.call("tell_link", "--kept")
+        same("links that the new daemon knows", those.links(), [("0", "up")])
+        same("a name that the policy lacks", those.logged()[2:], ["-t ifsvm -- link no interface down: status 1 fault C4"])
+        those.call("tell_link", "--kept")
+        same("told twice", those.links(), [("0", "up")] * 2)
+
+
+def test_kept_waits_for_a_daemon(program):
+    with feeders(program) as those:
+        those.kill_daemon()
+        those.call("tell_link", "carp0", "up")
+        teller = those.start("tell_link", "--kept")
+        time.sleep(0.5)
+        those.start_daemon()
+        same("status of tell_link --kept", teller.wait(SOON), 0)
+        same("links that the new daemon knows", those.links(), [("0", "up")])
+
+
+def test_names_that_are_kept(program):
+    with feeders(program) as those:
+        names = ["carp0", "br/0 %", ".em"]
+        for name in names:
+            those.call("tell_link", name, "up")
+        for name in ("", "a\nb", "x" * 244, "/" * 100):
+            those.call("tell_link", name, "up")
+        wanted = [(number, "up") for number in "056"]
+        same("links of odd names", those.links(), wanted)
+        same("names that are not kept", sum("no request can hold" in line for line in those.logged()), 4)
+        those.kill_daemon()
+        those.start_daemon()
+        those.call("tell_link", "--kept")
+        same("links of odd names, told again", sorted(those.links()), wanted)
+        with those.start("tell_link", "carp0", "sideways") as process:
+            same("status where the state is none", process.wait(SOON), 2)
+
+
+def test_tellers_at_once(program):
+    """What was kept last is what the daemon knows in the end, however many tell at once."""
+    with feeders(program) as those:
+        for turn in range(5):
+            states = ["up", "down", "unknown"][turn % 3 :] + ["up", "down", "unknown"] * 4
+            tellers = [those.start("tell_link", "carp0", state) for state in states] + [those.start("tell_link", "--kept")]
+            same("statuses", {teller.wait(SOON) for teller in tellers}, {0})
+            until("the end of all tellers", lambda: not those.processes())
+            with open(os.path.join(those.environment["IFSVM_LINKS"], "carp0.link")) as file:
+                kept = file.read()
+            same("the last link and what is kept", "link carp0 {}\n".format(those.links()[-1][1]), kept)
+        same("what is odd in that", those.logged(), [])
+
+
+def test_no_script_waits_for_a_command(program):
+    with feeders(program, SLOW) as those:
+        those.call("tell_link", "slow", "up")
+        taken = [those.call("ucarp_up", "em0", "203.0.113.1", "carp0"), those.call("tell_link", "carp0", "unknown")]
+        # one that waits for replies has its turn now
+        kept = those.start("tell_link", "--kept")
+        taken.append(those.call("ucarp_down", "em0", "203.0.113.1", "carp0"))
+        holds(f"a script waited for a command of 5 seconds: {taken}", max(taken) < 3)
+        same("status of tell_link --kept", kept.wait(SOON), 0)
+        until("the end of all tellers", lambda: not those.processes())
+        same("the last link", [to for number, to in those.links() if number == "1"][-1], "down")
+
+
+def test_kept_is_told_without_holding_others_up(program):
+    """Who tells what is kept waits for replies; who has another state meanwhile does not wait, and is told last."""
+    with feeders(program, SLOW) as those:
+        those.kill_daemon()
+        for name in ("slow", "carp0"):
+            those.call("tell_link", name, "up")
+        those.start_daemon()
+        # the files are gone through by their names: carp0, then slow
+        kept = those.start("tell_link", "--kept")
+        until("the slow command", lambda: those.daemon.children())
+        taken = [those.call("ucarp_down", "em0", "203.0.113.1", "carp0"), those.call("tell_link", "slow", "down")]
+        holds(f"a script waited for one that tells what is kept: {taken}", max(taken) < 3)
+        same("status of tell_link --kept", kept.wait(SOON), 0)
+        until("the end of all tellers", lambda: not those.processes())
+        same("links", sorted(those.links()), [("0", "down"), ("0", "up"), ("1", "down"), ("1", "up")])
+        same("the last links", {number: to for number, to in those.links()}, {"0": "down", "1": "down"})
+
+
+def test_keepalived_fifo(program):
+    with feeders(program) as those:
+        path = those.daemon.file("fifo")
+        os.mkfifo(path)
+        reader = those.start("keepalived_fifo", path)
+        given = ["BACKUP", "MASTER", "FAULT", "MASTER", "MASTER_RX_LOWER_PRI", "BACKUP", "STOP"]
+        with open(path, "w") as fifo:
+            for state in given:
+                fifo.write(f'GROUP "carp0" MASTER 0\nINSTANCE "carp0" {state} 100\n')
+                fifo.flush()
+                # keepalived sends TERM before its last lines
+                reader.send_signal(signal.SIGTERM) if state == "BACKUP" else None
+            fifo.write('INSTANCE "br/0 %" MASTER 100\nodd\n')
+        same("status of keepalived_fifo", reader.wait(2 * SOON), 0)
+        until("the end of all tellers", lambda: not those.processes())
+        wanted = ["down", "up", "unknown", "up", "up", "down", "unknown"]
+        same("links of keepalived", [to for number, to in those.links() if number == "0"], wanted)
+        same("a name with a slash", those.links()[-1], ("5", "up"))
+        same("what is odd in that", those.logged(), [])
+
+
+def test_watch_links(program):
+    with feeders(program) as those, those.running("watch_links", stdout=subprocess.PIPE, text=True) as watch:
+        shown = [f"link {name} up" for name in ("em0", "em1", "em2", "tun0", "em9")]
+        told = [watch.stdout.readline().split(": ")[0] for _ in range(13)]
+        same("what watch_links told", told, shown * 2 + ["link em1 down", "link em2 unknown", "link em0 up"])
+        known = {number: to for number, to in those.links()}
+        same("what the daemon knows", known, {"1": "up", "2": "down", "3": "unknown", "4": "up"})
+        same("interfaces that the policy lacks are odd", those.logged(), [])
+        those.kill_daemon()
+        start = time.monotonic()
+        same("its status at the end", watch.wait(SOON), 0)
+        # two seconds, and one for a machine that is busy
+        holds("watch_links goes on for over 2 seconds without a daemon", time.monotonic() - start < 3)
+        until("the end of what watch_links started", lambda: not those.processes())
+
+
+def test_watch_links_after_a_new_start(program):
+    with feeders(program) as those, those.running("watch_links", stdout=subprocess.DEVNULL) as watch:
+        until("all links", lambda: len(those.links()) == 11)
+        # from the end to the start is less than a second: whoever asks each second need not notice it
+        those.kill_daemon()
+        those.start_daemon()
+        until("all links again, or the end", lambda: len(those.links()) >= 4 or watch.poll() is not None)
+        if watch.poll() is not None:
+            # it asked between the two: its unit starts it again
+            same("its status", watch.returncode, 0)
+            with those.running("watch_links", stdout=subprocess.DEVNULL):
+                until("all links again", lambda: len(those.links()) >= 4)
+        same("links that the new daemon knows", those.links()[:4], [(number, "up") for number in "1234"])
+
+
+def test_watch_links_leaves_nothing_behind(program):
+    def ended_by(end):
+        with feeders(program) as those, those.running("watch_links", stdout=subprocess.PIPE) as watch:
+            watch.stdout.readline()
+            end(watch)
+            watch.wait(SOON)
+            until(f"the end of what watch_links started, after {end.__name__}", lambda: not those.processes())
+
+    def term(watch):
+        watch.terminate()
+
+    def interrupt(watch):
+        watch.send_signal(signal.SIGINT)
+
+    def hang_up(watch):
+        watch.send_signal(signal.SIGHUP)
+
+    def end_of_its_reader(watch):
+        watch.stdout.close()
+
+    def kill(watch):
+        watch.kill()
+
+    failed = []
+
+    def run(end):
+        try:
+            ended_by(end)
+        except Exception as cause:
+            failed.append(f"{end.__name__}: {cause}")
+
+    threads = [threading.Thread(target=run, args=(end,)) for end in (term, interrupt, hang_up, end_of_its_reader, kill)]
+    for thread in threads:
+        thread.start()
+    for thread in threads:
+        thread.join()
+    same("ends that leave something behind", failed, [])
+
+
+def moment():
+    with open("/proc/uptime") as file:
+        return int(file.read().split(".")[0])
+
+
+def test_ticks(program):
+    with feeders(program) as those:
+        daemon = those.daemon
+        daemon.send(f"tick {moment() + 3}")
+        ticks = those.start("ticks", stdout=subprocess.DEVNULL, stderr=subprocess.DEVNULL)
+        until("two ticks after those that went backwards", lambda: daemon.send("trace").count("\ntick ") >= 2)
+        same("notes of a moment that was too late", [line.split(": ")[1] for line in those.logged()], ["backwards"])
+        daemon.send(f"tick {moment() + 3}")
+        until("a note of the next one", lambda: len(those.logged()) == 2)
         daemon.stop()
         same("the end of ticks without a daemon", ticks.wait(SOON), 0)
-        ticks.stdout.close()
+        same("notes", [line.split(": ")[1] for line in those.logged()], ["backwards"] * 2)
