@@ -254,12 +254,18 @@ def test_keepalived_fifo(program):
 
 def test_watch_links(program):
     with feeders(program) as those, those.running("watch_links", stdout=subprocess.PIPE, text=True) as watch:
+        known = {"1": "up", "2": "down", "3": "unknown", "4": "up"}
+        until(f"what the daemon is to know, {known}", lambda: dict(those.links()) == known)
         shown = [f"link {name} up" for name in ("em0", "em1", "em2", "tun0", "em9")]
         told = [watch.stdout.readline().split(": ")[0] for _ in range(13)]
         same("what watch_links told", told, shown * 2 + ["link em1 down", "link em2 unknown", "link em0 up"])
-        known = {number: to for number, to in those.links()}
-        same("what the daemon knows", known, {"1": "up", "2": "down", "3": "unknown", "4": "up"})
         same("interfaces that the policy lacks are odd", those.logged(), [])
+
+
+def test_watch_links_ends_with_the_daemon(program):
+    with feeders(program) as those, those.running("watch_links", stdout=subprocess.DEVNULL) as watch:
+        # from here on no link changes
+        until("the last change", lambda: dict(those.links()).get("2") == "down")
         those.kill_daemon()
         start = time.monotonic()
         same("its status at the end", watch.wait(SOON), 0)
