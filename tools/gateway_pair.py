@@ -72,7 +72,7 @@ vrrp_instance carp0 {{
 	}}
 	track_file {{
 		broken weight -100
-		aside weight -100
+		aside weight 0
 	}}
 {notify}
 }}
@@ -184,7 +184,7 @@ class Gateway:
         for name, lines in scripts.items():
             self.write(name, "\n".join(["#!/bin/sh", *lines, ""]), 0o755)
         self.write("words/logger", LOGGER, 0o755)
-        # what demotes keepalived: the first is the policy's, the second the operator's
+        # what keepalived looks at: the first demotes it, by the policy; the second is the operator's, and its fault
         self.write("broken", "0\n")
         self.write("aside", "0\n")
 
@@ -267,6 +267,16 @@ class Gateway:
             self.election.send_signal(signal.SIGUSR2)
         else:
             self.write("aside", "1\n")
+
+    def change_quickly(self):
+        """The cable is out and in at once; for keepalived, which may not notice that, a fault comes and goes thrice."""
+        if self.pair.election == "ucarp":
+            self.cable("down")
+            self.cable("up")
+        else:
+            for fault in "101010":
+                self.write("aside", f"{fault}\n")
+                pause(0.001)
 
     def cable(self, state):
         ip("-n", self.pair.namespace("switch"), "link", "set", f"{self.name}0", state)
