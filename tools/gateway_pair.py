@@ -299,9 +299,11 @@ def kill_all(namespace):
         found = subprocess.run(["ip", "netns", "pids", namespace], capture_output=True, text=True).stdout.split()
         if not found:
             return
-        for process in found:
-            with contextlib.suppress(ProcessLookupError):
-                os.kill(int(process), signal.SIGKILL)
+        # all stand still first: none is to do anything about the end of another
+        for number in (signal.SIGSTOP, signal.SIGKILL):
+            for process in found:
+                with contextlib.suppress(ProcessLookupError):
+                    os.kill(int(process), number)
         time.sleep(0.02)
 
 
