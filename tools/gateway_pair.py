@@ -268,6 +268,17 @@ class Gateway:
         else:
             self.write("aside", "1\n")
 
+    def state(self):
+        """The state of the policy, as the daemon says."""
+        ran = subprocess.run([self.pair.program, "send", self.socket, "status"], capture_output=True, text=True, timeout=30)
+        return "".join(re.findall(r'^status "(\w+)"', ran.stdout))
+
+    def use_one_processor(self):
+        """All of the gateway runs on one processor, which it has to share, as a small gateway does."""
+        for process in processes(self.namespace):
+            with contextlib.suppress(ProcessLookupError):
+                os.sched_setaffinity(process, {min(os.sched_getaffinity(0))})
+
     def change_quickly(self):
         """The cable is out and in at once; for keepalived, which may not notice that, a fault comes and goes thrice."""
         if self.pair.election == "ucarp":
@@ -293,17 +304,23 @@ class Gateway:
             ip("-n", self.pair.namespace("switch"), "link", "set", f"{self.name}{link}", "down")
 
 
+def processes(namespace):
+    """The processes that run in a namespace."""
+    found = subprocess.run(["ip", "netns", "pids", namespace], capture_output=True, text=True).stdout
+    return [int(process) for process in found.split()]
+
+
 def kill_all(namespace):
     """Kills what runs in a namespace."""
     for _ in range(50):
-        found = subprocess.run(["ip", "netns", "pids", namespace], capture_output=True, text=True).stdout.split()
+        found = processes(namespace)
         if not found:
             return
         # all stand still first: none is to do anything about the end of another
         for number in (signal.SIGSTOP, signal.SIGKILL):
             for process in found:
                 with contextlib.suppress(ProcessLookupError):
-                    os.kill(int(process), number)
+                    os.kill(process, number)
         time.sleep(0.02)
 
 
