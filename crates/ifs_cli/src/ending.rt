@@ -2,6 +2,7 @@
 
 use crate::files::FileFault;
 use crate::refusing::Told;
+use crate::shell::SHELL;
 use crate::task::Task;
 use ifs_session::SessionFault;
 use ifs_verify::VerifyFault;
@@ -19,6 +20,10 @@ pub enum Ending {
     CommandLine,
     /// The bytes of a file could not be had: status 3.
     File { path: String, fault: FileFault },
+    /// Nothing came back over a socket, or not in time: status 3.
+    NoReply { socket: String },
+    /// The shell cannot be run: status 3, with the system's words.
+    Shell(io::Error),
     /// Standard output failed: status 3, with the system's words.
     Output(io::Error),
     /// A session ended by a fault: status 3, with its code.
@@ -34,6 +39,8 @@ impl Ending {
             Ending::Refused => (1, Ok(())),
             Ending::CommandLine => (2, Ok(())),
             Ending::File { path, fault } => (3, eprintln!(rt; "device {path}: {fault}")),
+            Ending::NoReply { socket } => (3, eprintln!(rt; "device {socket}: no reply")),
+            Ending::Shell(error) => (3, eprintln!(rt; "device {SHELL}: {error}")),
             Ending::Output(error) => (3, eprintln!(rt; "device standard output: {error}")),
             Ending::Session(fault) => (3, eprintln!(rt; "device {fault}")),
         };

@@ -19,6 +19,7 @@ pub mod ending;
 pub mod files;
 pub mod images;
 mod lines;
+pub mod quoting;
 mod refusing;
 pub mod runner;
 pub mod runner_host;

@@ -1,45 +1,213 @@
-//! The daemon's host: commands and tests run by the shell.
+//! The daemon's host: commands and tests run by the shell, with notes of what they did.
 
 ghost use Rattle.std.specs.Prelude.{◌≡◌, ◌⊎◌, [], ◌∷◌, Some, IfOk, IfSome};
 ghost use Rattle.std.specs.Process.{child_status, command_args, command_program};
 ghost use Rattle.ifs_cli.specs.declared.runner.Waited.TheVariants.{Lost};
 ghost use Rattle.ifs_cli.specs.Shells.{shell, dash_c, Agrees, shell_code};
 
+use crate::children::PLACES;
+use crate::quoting::Quoted;
 use crate::runner::{RunFault, Runner, Waited};
 use crate::runner_host::RunnerHost;
+use log::{Log, error, info, warn};
 use std::alloc::{AllocError, Global};
-use std::io;
+use std::marker::Model;
 use std::os::unix::process::ExitStatusExt;
-use std::process::{Child, Command, ExitStatus, Processes, Stdio};
+use std::process::{Child, Command, ExitStatus, OpenProcess, Processes, Stdio};
+use std::rt::Clock;
+use std::time::{Duration, Instant};
+use std::{io, thread};
 
-/// Runs each text by `/bin/sh -c`, with empty standard input and both outputs dropped.
+/// The program that runs texts.
+pub const SHELL: &str = "/bin/sh";
+
+/// How long the daemon waits at first before it looks again whether a command has ended, in milliseconds.
+const SHORTEST_PAUSE: u64 = 1;
+
+/// How long it waits at most, in milliseconds.
+const LONGEST_PAUSE: u64 = 64;
+
+/// How long the shell may run a text before it is killed; for ever where nothing is said.
+#[derive(Clone, Copy, Debug, Default)]
+pub struct Limits {
+    /// How long a command may run.
+    pub command: Option<Duration>,
+    /// How long a test may run, which then has found false.
+    pub test: Option<Duration>,
+}
+
+/// Runs each text by `/bin/sh -c`, with empty standard input and both outputs dropped, and notes each command
+/// with its end, what could not be started or waited for, what was killed, and that no place is left.
 ///
 /// It tells nothing of what it was asked, since what is started tells nothing of it.
 #[derive(Drop)]
-pub struct ShellRunner<'a, R: Processes> {
+pub struct ShellRunner<'a, R: Processes, L> {
     runtime: &'a R,
+    notes: &'a L,
+    limits: Limits,
+    /// How many tests run.
+    running: usize,
+}
+
+/// A test that was started, seen as the status of its program.
+#[derive(Drop)]
+pub struct ShellTest<P: OpenProcess> {
+    child: Child<P>,
+    text: String,
+    /// When it was started, where the clock told that.
+    began: Option<Instant>,
+    killed: bool,
+}
+
+impl<P: OpenProcess> Model for ShellTest<P> {
+    ghost use Rattle.std.specs.Prelude.{Option};
+    ghost use Rattle.std.specs.Process.{child_status};
+    ghost use Rattle.std.specs.declared.process.status.ExitStatus.{ExitStatus};
+
+    ghost Value = { Option ExitStatus };
+
+    ghost view = { λ t. child_status t.child };
+}
+
+/// How a command ended.
+#[derive(Clone, Copy)]
+struct Ended {
+    status: ExitStatus,
+    /// Whether it was killed at its limit.
+    killed: bool,
 }
 
 /// The host of the daemon: commands and tests run by the shell.
-pub type Shell<'a, R> = RunnerHost<ShellRunner<'a, R>>;
+pub type Shell<'a, R, L> = RunnerHost<ShellRunner<'a, R, L>>;
 
-impl<'a, R: Processes + Alloc<A = Global>> RunnerHost<ShellRunner<'a, R>> {
-    /// A host for which nothing runs.
-    pub fn new(runtime: &'a R) -> Result<Self, AllocError> {
-        RunnerHost::over(runtime.alloc(), ShellRunner { runtime })
+impl<'a, R: Processes + Clock + Alloc<A = Global>, L: Log> RunnerHost<ShellRunner<'a, R, L>> {
+    /// A host for which nothing runs, with these limits, which writes notes.
+    pub fn new(runtime: &'a R, notes: &'a L, limits: Limits) -> Result<Self, AllocError> {
+        let runner = ShellRunner {
+            runtime,
+            notes,
+            limits,
+            running: 0,
+        };
+        RunnerHost::over(runtime.alloc(), runner)
     }
 }
 
-impl<'a, R: Processes + Alloc<A = Global>> ShellRunner<'a, R> {
-    /// Starts the program of a text.
-    fn spawned(&self, text: &str) -> io::Result<Child<R::Started>> {
-        command_of(self.runtime.alloc(), text)?.spawn(self.runtime)
+/// Starts the shell and waits for its end. An error is why commands and tests would not run here.
+pub fn try_shell<R: Processes + Alloc<A = Global>>(rt: &R) -> io::Result<()> {
+    let status = command_of(rt.alloc(), ":")?.status(rt)?;
+    if status.success() {
+        Ok(())
+    } else {
+        Err(io::Error::other("it did not end with success"))
+    }
+}
+
+impl<'a, R: Processes + Clock + Alloc<A = Global>, L: Log> ShellRunner<'a, R, L> {
+    /// Starts the program of a test.
+    fn started(&self, text: &str) -> io::Result<ShellTest<R::Started>> {
+        let alloc = self.runtime.alloc();
+        Ok(ShellTest {
+            text: String::from_str(alloc, text)?,
+            began: Instant::now(self.runtime).ok(),
+            child: command_of(alloc, text)?.spawn(self.runtime)?,
+            killed: false,
+        })
     }
 
-    /// Runs a text to its end.
-    fn ended(&self, text: &str) -> io::Result<ExitStatus> {
-        command_of(self.runtime.alloc(), text)?.status(self.runtime)
+    /// Runs a command to its end.
+    fn ended(&self, text: &str) -> io::Result<Ended> {
+        let mut command = command_of(self.runtime.alloc(), text)?;
+        match self.limits.command {
+            Some(limit) => ended_within(self.runtime, command.spawn(self.runtime)?, limit),
+            None => Ok(Ended {
+                status: command.status(self.runtime)?,
+                killed: false,
+            }),
+        }
     }
+
+    /// Counts a test that runs, and notes when the last place is taken.
+    fn take_place(&mut self) {
+        self.running = self.running.saturating_add(1);
+        if self.running == PLACES {
+            warn!(self.notes; "{PLACES} tests run: no place is left for another one");
+        }
+    }
+
+    /// Counts a test that runs no more.
+    fn free_place(&mut self) {
+        self.running = self.running.saturating_sub(1);
+    }
+
+    /// Kills a test that runs longer than it may.
+    fn kill_if_late(&self, test: &mut ShellTest<R::Started>)
+        ensures { test.new ≡ test.old }
+    {
+        if test.killed || !is_late(self.runtime, test.began, self.limits.test) {
+            return;
+        }
+        test.killed = true;
+        match test.child.kill() {
+            Ok(()) => warn!(self.notes; "test {}: killed at its limit", Quoted(test.text.as_str())),
+            Err(error) => {
+                warn!(self.notes; "test {}: not killed at its limit: {error}", Quoted(test.text.as_str()))
+            }
+        }
+    }
+
+    /// Notes how a command ended, which was started at this moment.
+    fn note_end(&self, text: &str, ended: Ended, began: Option<Instant>) {
+        let text = Quoted(text);
+        let code = code_of(ended.status);
+        let millis = began
+            .and_then(|began| began.elapsed(self.runtime).ok())
+            .unwrap_or_default()
+            .as_millis();
+        if ended.killed {
+            warn!(self.notes; "command {text}: killed at its limit, exit {code} after {millis} ms");
+        } else if code == 0 {
+            info!(self.notes; "command {text}: exit 0 after {millis} ms");
+        } else {
+            warn!(self.notes; "command {text}: exit {code} after {millis} ms");
+        }
+    }
+}
+
+/// Whether what was started at this moment has run as long as it may.
+fn is_late(clock: &impl Clock, began: Option<Instant>, limit: Option<Duration>) -> bool {
+    let (Some(began), Some(limit)) = (began, limit) else {
+        return false;
+    };
+    began.elapsed(clock).is_ok_and(|elapsed| elapsed >= limit)
+}
+
+/// Waits for the end of a program, and kills it where it runs longer than this.
+fn ended_within<P: OpenProcess + Drop>(
+    clock: &impl Clock,
+    mut child: Child<P>,
+    limit: Duration,
+) -> io::Result<Ended> {
+    let began = Instant::now(clock)?;
+    let mut pause = SHORTEST_PAUSE;
+    for _ in 0..u64::MAX {
+        if let Some(status) = child.try_wait()? {
+            return Ok(Ended {
+                status,
+                killed: false,
+            });
+        }
+        if began.elapsed(clock)? >= limit {
+            break;
+        }
+        thread::sleep(clock, Duration::from_millis(pause));
+        pause = pause.saturating_mul(2).min(LONGEST_PAUSE);
+    }
+    child.kill()?;
+    Ok(Ended {
+        status: child.wait()?,
+        killed: true,
+    })
 }
 
 /// The shell's call that runs a text.
@@ -47,7 +215,7 @@ fn command_of(alloc: Global, text: &str) -> Result<Command, AllocError>
     ensures program { IfOk result (λ c. command_program c ≡ shell) }
     ensures arguments { IfOk result (λ c. command_args c ≡ dash_c ∷ text.now ∷ []) }
 {
-    let mut command = Command::new(alloc, "/bin/sh")?;
+    let mut command = Command::new(alloc, SHELL)?;
     command.arg("-c")?.arg(text)?;
     command
         .stdin(Stdio::null())
@@ -76,28 +244,55 @@ fn code_of(status: ExitStatus) -> i32
         .unwrap_or_else(|| 128 + status.signal().unwrap_or_default())
 }
 
-impl<'a, R: Processes + Alloc<A = Global>> Runner for ShellRunner<'a, R> {
-    type Child = Child<R::Started>;
+impl<'a, R: Processes + Clock + Alloc<A = Global>, L: Log> Runner for ShellRunner<'a, R, L> {
+    type Child = ShellTest<R::Started>;
 
-    fn spawn(&mut self, text: &str) -> Result<Child<R::Started>, RunFault> {
-        self.spawned(text).map_err(|_| RunFault)
+    fn spawn(&mut self, text: &str) -> Result<ShellTest<R::Started>, RunFault> {
+        match self.started(text) {
+            Ok(test) => {
+                self.take_place();
+                Ok(test)
+            }
+            Err(error) => {
+                warn!(self.notes; "test {}: not started: {error}", Quoted(text));
+                Err(RunFault)
+            }
+        }
     }
 
-    fn try_wait(&mut self, child: &mut Child<R::Started>) -> Waited
+    fn try_wait(&mut self, test: &mut ShellTest<R::Started>) -> Waited
         ensures log { Unit {0} }
-        ensures known { (result ≡ Lost) ⊎ Agrees result (child_status child.new) }
-        ensures again { IfSome (child_status child.old) (λ status. Agrees result (Some status)) }
+        ensures known { (result ≡ Lost) ⊎ Agrees result test.new }
+        ensures again { IfSome test.old (λ status. Agrees result (Some status)) }
     {
-        match child.try_wait() {
-            Ok(status) => waited(status),
-            Err(_) => Waited::Lost,
+        match test.child.try_wait() {
+            Ok(None) => {
+                self.kill_if_late(test);
+                Waited::Runs
+            }
+            Ok(status) => {
+                self.free_place();
+                waited(status)
+            }
+            Err(error) => {
+                self.free_place();
+                warn!(self.notes; "test {}: its end is not known: {error}", Quoted(test.text.as_str()));
+                Waited::Lost
+            }
         }
     }
 
     fn run(&mut self, text: &str) -> Result<i32, RunFault> {
+        let began = Instant::now(self.runtime).ok();
         match self.ended(text) {
-            Ok(status) => Ok(code_of(status)),
-            Err(_) => Err(RunFault),
+            Ok(ended) => {
+                self.note_end(text, ended, began);
+                Ok(code_of(ended.status))
+            }
+            Err(error) => {
+                error!(self.notes; "command {}: not run: {error}", Quoted(text));
+                Err(RunFault)
+            }
         }
     }
 }

@@ -1,15 +1,18 @@
 //! The real host over programs that only seem to run.
 
 use ifs_base::TestId;
-use ifs_cli::shell::Shell;
+use ifs_cli::shell::{Limits, Shell};
 use ifs_session::{Host, HostFault};
+use log::sink::{Lines, Memory};
 use std::alloc::{Allocator, Global};
 use std::cell::Cell;
 use std::io::{self, Empty, ErrorKind, Sink};
 use std::ops::Range;
 use std::os::unix::process::ExitStatusExt;
 use std::process::{Abort, Child, Command, ExitStatus, OpenProcess, Processes, Stdio};
+use std::rt::Clock;
 use std::test::Fail;
+use std::time::Duration;
 
 /// How a program ends, by its text.
 #[derive(Clone, Copy, Debug, PartialEq, Eq)]
@@ -52,13 +55,20 @@ impl OpenProcess for Actor {
             Fate::Lost => Err(io::Error::from(ErrorKind::NotFound)),
         }
     }
+
+    fn kill(&mut self) -> io::Result<()> {
+        self.fate = Fate::Ended(9);
+        Ok(())
+    }
 }
 
-/// Starts a program for each text that it knows, and counts how often it was asked.
+/// Starts a program for each text that it knows, and counts how often it was asked. A second goes by each time
+/// that its clock is looked at.
 #[derive(Drop)]
 struct Stage {
     alloc: Global,
     asked: Cell<u32>,
+    seconds: Cell<u64>,
 }
 
 impl Stage {
@@ -66,7 +76,19 @@ impl Stage {
         Stage {
             alloc,
             asked: Cell::new(0),
+            seconds: Cell::new(0),
         }
+    }
+}
+
+impl Clock for Stage {
+    fn monotonic(&self) -> io::Result<Duration> {
+        self.seconds.set(self.seconds.get().saturating_add(1));
+        Ok(Duration::from_secs(self.seconds.get()))
+    }
+
+    fn since_1970(&self) -> io::Result<Duration> {
+        Err(io::Error::from(ErrorKind::Unsupported))
     }
 }
 
@@ -104,15 +126,18 @@ impl Processes for Stage {
 /// A test, the number of its run, and the text that is started.
 type Started = (u16, u64, &'static str);
 
+/// A host over programs that only seem to run, whose notes are kept.
+type Staged<'a> = Shell<'a, Stage, Memory>;
+
 /// Starts these tests, in order.
-fn start_all(host: &mut Shell<'_, Stage>, starts: &[Started]) {
+fn start_all(host: &mut Staged<'_>, starts: &[Started]) {
     for (test, run, text) in starts {
         host.start(TestId(*test), *run, text);
     }
 }
 
 /// Asserts that these ends are told, in order, and then none.
-fn check_polls(rt: &impl Abort, host: &mut Shell<'_, Stage>, ends: &[(u16, u64, bool)]) {
+fn check_polls(rt: &impl Abort, host: &mut Staged<'_>, ends: &[(u16, u64, bool)]) {
     for (test, run, value) in ends {
         assert_eq!(rt;
             host.poll(),
@@ -127,7 +152,8 @@ fn check_polls(rt: &impl Abort, host: &mut Shell<'_, Stage>, ends: &[(u16, u64, 
 #[test]
 fn ended_tests_in_order(rt: HostRuntime) -> Result<(), Fail> {
     let stage = Stage::new(rt.alloc());
-    let mut host = Shell::new(&stage)?;
+    let notes = Memory::new(rt.alloc());
+    let mut host = Shell::new(&stage, &notes, Limits::default())?;
     start_all(
         &mut host,
         &[
@@ -153,7 +179,8 @@ fn ended_tests_in_order(rt: HostRuntime) -> Result<(), Fail> {
 #[test]
 fn failed_starts(rt: HostRuntime) -> Result<(), Fail> {
     let stage = Stage::new(rt.alloc());
-    let mut host = Shell::new(&stage)?;
+    let notes = Memory::new(rt.alloc());
+    let mut host = Shell::new(&stage, &notes, Limits::default())?;
     start_all(
         &mut host,
         &[
@@ -169,7 +196,7 @@ fn failed_starts(rt: HostRuntime) -> Result<(), Fail> {
 }
 
 /// Asserts that the ends of these runs are told, in order.
-fn check_runs(rt: &impl Abort, host: &mut Shell<'_, Stage>, runs: Range<u64>, value: bool) {
+fn check_runs(rt: &impl Abort, host: &mut Staged<'_>, runs: Range<u64>, value: bool) {
     for run in runs {
         let end = (TestId((run % 64) as u16), run, value);
         assert_eq!(rt; host.poll(), Some(end));
@@ -180,7 +207,8 @@ fn check_runs(rt: &impl Abort, host: &mut Shell<'_, Stage>, runs: Range<u64>, va
 #[test]
 fn places(rt: HostRuntime) -> Result<(), Fail> {
     let stage = Stage::new(rt.alloc());
-    let mut host = Shell::new(&stage)?;
+    let notes = Memory::new(rt.alloc());
+    let mut host = Shell::new(&stage, &notes, Limits::default())?;
     for run in 0..320 {
         host.start(TestId((run % 64) as u16), run, "exit 0");
     }
@@ -192,7 +220,7 @@ fn places(rt: HostRuntime) -> Result<(), Fail> {
     Ok(())
 }
 
-fn check_commands(rt: &impl Abort, host: &mut Shell<'_, Stage>) {
+fn check_commands(rt: &impl Abort, host: &mut Staged<'_>) {
     for (text, wanted) in [
         ("exit 0", Ok(0)),
         ("exit 3", Ok(3)),
@@ -208,7 +236,8 @@ fn check_commands(rt: &impl Abort, host: &mut Shell<'_, Stage>) {
 #[test]
 fn commands(rt: HostRuntime) -> Result<(), Fail> {
     let stage = Stage::new(rt.alloc());
-    let mut host = Shell::new(&stage)?;
+    let notes = Memory::new(rt.alloc());
+    let mut host = Shell::new(&stage, &notes, Limits::default())?;
     check_commands(&rt, &mut host);
     Ok(())
 }
@@ -217,12 +246,104 @@ fn commands(rt: HostRuntime) -> Result<(), Fail> {
 #[test]
 fn each_text_once(rt: HostRuntime) -> Result<(), Fail> {
     let stage = Stage::new(rt.alloc());
-    let mut host = Shell::new(&stage)?;
+    let notes = Memory::new(rt.alloc());
+    let mut host = Shell::new(&stage, &notes, Limits::default())?;
     check_commands(&rt, &mut host);
     assert_eq!(rt; stage.asked.get(), 5);
     start_all(&mut host, &[(0, 1, "exit 3"), (1, 2, "no program")]);
     assert_eq!(rt; stage.asked.get(), 7);
     check_polls(&rt, &mut host, &[(1, 2, false), (0, 1, false)]);
     assert_eq!(rt; stage.asked.get(), 7);
+    Ok(())
+}
+
+/// Asserts that these notes were written, in order.
+fn check_notes(rt: &impl Abort, lines: &Lines, wanted: &[&str]) {
+    let notes = lines.as_slice();
+    assert_eq!(rt; notes.len(), wanted.len());
+    for (note, wanted) in notes.iter().zip(wanted) {
+        assert_eq!(rt; note.as_str(), *wanted);
+    }
+}
+
+/// Each command has a note with its end and the time that it took; a test has one where it failed to start or to be
+/// waited for.
+#[test]
+fn notes_of_ends(rt: HostRuntime) -> Result<(), Fail> {
+    let stage = Stage::new(rt.alloc());
+    let notes = Memory::new(rt.alloc());
+    let mut host = Shell::new(&stage, &notes, Limits::default())?;
+    check_commands(&rt, &mut host);
+    start_all(
+        &mut host,
+        &[(0, 1, "exit 3"), (1, 2, "no program"), (2, 3, "lost")],
+    );
+    check_polls(
+        &rt,
+        &mut host,
+        &[(1, 2, false), (0, 1, false), (2, 3, false)],
+    );
+    drop(host);
+    check_notes(
+        &rt,
+        &notes.into_lines(),
+        &[
+            "[INFO  ifs_cli::shell] command \"exit 0\": exit 0 after 1000 ms",
+            "[WARN  ifs_cli::shell] command \"exit 3\": exit 3 after 1000 ms",
+            "[WARN  ifs_cli::shell] command \"kill -9 $$\": exit 137 after 1000 ms",
+            "[ERROR ifs_cli::shell] command \"no program\": not run: entity not found",
+            "[ERROR ifs_cli::shell] command \"lost\": not run: entity not found",
+            "[WARN  ifs_cli::shell] test \"no program\": not started: entity not found",
+            "[WARN  ifs_cli::shell] test \"lost\": its end is not known: entity not found",
+        ],
+    );
+    Ok(())
+}
+
+/// That all places are taken is noted when the last one is, and again only after one was free.
+#[test]
+fn notes_of_places(rt: HostRuntime) -> Result<(), Fail> {
+    let stage = Stage::new(rt.alloc());
+    let notes = Memory::new(rt.alloc());
+    let mut host = Shell::new(&stage, &notes, Limits::default())?;
+    for run in 0..300 {
+        host.start(TestId((run % 64) as u16), run, "exit 0");
+    }
+    check_runs(&rt, &mut host, 256..300, false);
+    check_runs(&rt, &mut host, 0..1, true);
+    host.start(TestId(0), 300, "exit 0");
+    drop(host);
+    let full = "[WARN  ifs_cli::shell] 256 tests run: no place is left for another one";
+    check_notes(&rt, &notes.into_lines(), &[full, full]);
+    Ok(())
+}
+
+/// A command or a test that runs longer than its limit is killed, the test at the first poll after it, and is noted.
+#[test]
+fn limits(rt: HostRuntime) -> Result<(), Fail> {
+    let stage = Stage::new(rt.alloc());
+    let notes = Memory::new(rt.alloc());
+    let limits = Limits {
+        command: Some(Duration::from_secs(5)),
+        test: Some(Duration::from_secs(3)),
+    };
+    let mut host = Shell::new(&stage, &notes, limits)?;
+    assert_eq!(rt; host.run("sleep 60"), Ok(137));
+    assert_eq!(rt; host.run("exit 0"), Ok(0));
+    start_all(&mut host, &[(0, 1, "sleep 60")]);
+    for _early in 0..3 {
+        assert_eq!(rt; host.poll(), None);
+    }
+    check_polls(&rt, &mut host, &[(0, 1, false)]);
+    drop(host);
+    check_notes(
+        &rt,
+        &notes.into_lines(),
+        &[
+            "[WARN  ifs_cli::shell] command \"sleep 60\": killed at its limit, exit 137 after 7000 ms",
+            "[INFO  ifs_cli::shell] command \"exit 0\": exit 0 after 2000 ms",
+            "[WARN  ifs_cli::shell] test \"sleep 60\": killed at its limit",
+        ],
+    );
     Ok(())
 }

@@ -1,13 +1,19 @@
 //! The words of the command line.
 
+use crate::noting::Notes;
+use crate::sending::{Manner, Sending};
+use crate::serving::Serving;
+use clap::builder::ValueParser;
 use clap::error::ErrorKind;
 use clap::{Arg, ArgAction, ArgMatches, Command, Error};
 use ifs_cli::definitions::{Definition, definition_of};
 use ifs_cli::ending::Ending;
+use ifs_cli::shell::Limits;
 use std::alloc::{AllocError, Global};
 use std::env::{self, Args};
 use std::io;
 use std::rt::Env;
+use std::time::Duration;
 
 /// What the program is, as its help says.
 const ABOUT: &str =
@@ -24,6 +30,27 @@ const SOCKET: &str = "socket";
 
 /// The operand that is a request line.
 const REQUEST: &str = "request";
+
+/// The option that says which notes a daemon writes.
+const NOTES: &str = "notes";
+
+/// The option that says how long a command may run.
+const COMMAND_LIMIT: &str = "command-limit";
+
+/// The option that says how long a test may run.
+const TEST_LIMIT: &str = "test-limit";
+
+/// The option that says how long a client waits for the reply.
+const WAIT: &str = "wait";
+
+/// The flag of a client that does not wait for the reply.
+const NO_WAIT: &str = "no-wait";
+
+/// The flag of a client that looks at the reply.
+const CHECK: &str = "check";
+
+/// How many seconds an option may say at most: a week.
+const LONGEST: u64 = 604_800;
 
 /// What help calls a definition.
 const DEFINITION: &str = "NAME=VALUE";
@@ -62,15 +89,9 @@ pub enum Asked {
         image: String,
     },
     /// A daemon on the image of a file, for the clients of a socket.
-    Serve {
-        image: String,
-        socket: String,
-    },
+    Serve(Serving),
     /// A request to the daemon of a socket.
-    Send {
-        socket: String,
-        request: String,
-    },
+    Send(Sending),
 }
 
 /// Reads the words that the program was called with. The program ends where they ask for help or the
@@ -156,14 +177,8 @@ fn asked_with(
             file: operand_of(alloc, operands, FILE)?,
             image: operand_of(alloc, operands, IMAGE)?,
         }),
-        "serve" => Ok(Asked::Serve {
-            image: operand_of(alloc, operands, FILE)?,
-            socket: operand_of(alloc, operands, SOCKET)?,
-        }),
-        "send" => Ok(Asked::Send {
-            socket: operand_of(alloc, operands, SOCKET)?,
-            request: operand_of(alloc, operands, REQUEST)?,
-        }),
+        "serve" => serve_asked(alloc, operands),
+        "send" => send_asked(alloc, command, operands),
         _ => Ok(Asked::Sim {
             image: operand_of(alloc, operands, FILE)?,
         }),
@@ -193,6 +208,64 @@ fn compile_asked(
         image: operand_of(alloc, operands, IMAGE)?,
         definitions,
     })
+}
+
+fn serve_asked(alloc: Global, operands: &ArgMatches<'_>) -> Result<Asked, Error> {
+    Ok(Asked::Serve(Serving {
+        image: operand_of(alloc, operands, FILE)?,
+        socket: operand_of(alloc, operands, SOCKET)?,
+        notes: notes_of(operands.get_str(NOTES).unwrap_or_default()),
+        limits: Limits {
+            command: seconds_of(operands, COMMAND_LIMIT),
+            test: seconds_of(operands, TEST_LIMIT),
+        },
+    }))
+}
+
+fn send_asked(
+    alloc: Global,
+    command: &mut Command<'_>,
+    operands: &ArgMatches<'_>,
+) -> Result<Asked, Error> {
+    let request = operand_of(alloc, operands, REQUEST)?;
+    if request.contains('\n') {
+        return Err(command.error(
+            ErrorKind::ValueValidation,
+            "invalid value for '<REQUEST>': a request is one line",
+        )?);
+    }
+    Ok(Asked::Send(Sending {
+        socket: operand_of(alloc, operands, SOCKET)?,
+        request,
+        manner: manner_of(operands),
+    }))
+}
+
+/// What a client does once its request is written.
+fn manner_of(operands: &ArgMatches<'_>) -> Manner {
+    if operands.get_flag(NO_WAIT) {
+        Manner::NoWait
+    } else {
+        Manner::Wait {
+            limit: seconds_of(operands, WAIT),
+            check: operands.get_flag(CHECK),
+        }
+    }
+}
+
+/// Which notes a word asks for; all where there is none.
+fn notes_of(word: &str) -> Notes {
+    match word {
+        "changes" => Notes::Changes,
+        "faults" => Notes::Faults,
+        "off" => Notes::Off,
+        _ => Notes::All,
+    }
+}
+
+/// The time that an option says, in seconds.
+fn seconds_of(operands: &ArgMatches<'_>, name: &str) -> Option<Duration> {
+    operands.get_one::<u64>(name).map(Duration::from_secs)
 }
 
 /// What stands for an operand of a word.
@@ -330,6 +403,13 @@ fn serve<'a>(alloc: Global) -> Result<Command<'a>, AllocError> {
         .arg(socket(
             alloc,
             "the socket's file, which is made here and removed at the end",
+        ))?
+        .arg(notes(alloc))?
+        .arg(seconds(alloc, COMMAND_LIMIT, "kill a command that runs longer"))?
+        .arg(seconds(
+            alloc,
+            TEST_LIMIT,
+            "kill a test that runs longer, which then has found false",
         ))
 }
 
@@ -337,7 +417,14 @@ fn send<'a>(alloc: Global) -> Result<Command<'a>, AllocError> {
     Command::new(alloc, "send")
         .about("Send a request line to the daemon of a Unix socket, and print what comes back")
         .arg(socket(alloc, "the socket's file"))?
-        .arg(request(alloc))
+        .arg(request(alloc))?
+        .arg(seconds(
+            alloc,
+            WAIT,
+            "end with status 3 where the reply does not come whole in this time",
+        ))?
+        .arg(no_wait(alloc)?)?
+        .arg(check_reply(alloc))
 }
 
 /// The operand that names the file that is read, and what help calls it.
@@ -363,7 +450,47 @@ fn socket<'a>(alloc: Global, help: &'a str) -> Arg<'a> {
     Arg::new(alloc, SOCKET)
         .value_name("SOCKET")
         .help(help)
+        .value_parser(ValueParser::NonEmptyString)
         .required(true)
+}
+
+/// The option that says which notes a daemon writes.
+fn notes<'a>(alloc: Global) -> Arg<'a> {
+    Arg::new(alloc, NOTES)
+        .long(NOTES)
+        .value_name("WHICH")
+        .help(
+            "what stands on standard error: all, no ends of connections but faults, only what went wrong, or nothing",
+        )
+        .value_parser(ValueParser::Names(&["all", "changes", "faults", "off"]))
+        .default_value("all")
+}
+
+/// An option of this name that says how long something may take.
+fn seconds<'a>(alloc: Global, name: &'a str, help: &'a str) -> Arg<'a> {
+    Arg::new(alloc, name)
+        .long(name)
+        .value_name("SECONDS")
+        .help(help)
+        .value_parser(ValueParser::Unsigned(1, LONGEST))
+}
+
+/// The flag of a client that does not wait for the reply.
+fn no_wait<'a>(alloc: Global) -> Result<Arg<'a>, AllocError> {
+    Arg::new(alloc, NO_WAIT)
+        .long(NO_WAIT)
+        .help("end once the request is written")
+        .action(ArgAction::SetTrue)
+        .conflicts_with(WAIT)?
+        .conflicts_with(CHECK)
+}
+
+/// The flag of a client that looks at the reply.
+fn check_reply<'a>(alloc: Global) -> Arg<'a> {
+    Arg::new(alloc, CHECK)
+        .long(CHECK)
+        .help("end with status 1 where the reply says that the request was not done")
+        .action(ArgAction::SetTrue)
 }
 
 /// The operand that is a request line.

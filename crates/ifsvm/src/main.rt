@@ -6,6 +6,8 @@
 #![tactic(auto)]
 
 mod command_line;
+mod noting;
+mod patience;
 mod sending;
 mod serving;
 mod sessions;
@@ -40,8 +42,8 @@ fn ending_of(rt: &HostRuntime) -> Result<Ending, Ending> {
         Asked::Disasm { image } => on_file(rt, Task::Disasm, image, None, &[]),
         Asked::Asm { file, image } => on_file(rt, Task::Asm, file, Some(image), &[]),
         Asked::Sim { image } => sessions::on_file(rt, image),
-        Asked::Serve { image, socket } => serving::serve(rt, image, socket),
-        Asked::Send { socket, request } => sending::send(rt, socket, request.as_str()),
+        Asked::Serve(serving) => serving::serve(rt, serving),
+        Asked::Send(sending) => sending::send(rt, sending),
     }
 }
 

@@ -1,0 +1,204 @@
+//! What the daemon's notes say beside those of its commands and tests.
+
+use ifs_base::{LinkState, StateId};
+use ifs_cli::quoting::Quoted;
+use ifs_core::{Core, Record, Step};
+use ifs_session::End;
+use log::kv::Source;
+use log::sink::Console;
+use log::span::Spans;
+use log::{LevelFilter, Log, Metadata, info, warn};
+use std::fmt::{self, Display, Formatter, Write};
+
+/// Which notes are written.
+#[derive(Clone, Copy, Debug, PartialEq, Eq)]
+pub enum Notes {
+    /// All, with the end of each connection.
+    All,
+    /// Changes of state, commands and faults.
+    Changes,
+    /// Only warnings and errors.
+    Faults,
+    /// None.
+    Off,
+}
+
+impl Notes {
+    /// The level up to which notes are written.
+    pub fn level(self) -> LevelFilter {
+        match self {
+            Notes::All | Notes::Changes => LevelFilter::Info,
+            Notes::Faults => LevelFilter::Warn,
+            Notes::Off => LevelFilter::Off,
+        }
+    }
+
+    /// Notes how a connection ended.
+    pub fn note_end(self, notes: &impl Log, end: End) {
+        match end {
+            End::Fault(fault) => info!(notes; "fault {fault}"),
+            _ if self != Notes::All => {}
+            End::Closed => info!(notes; "closed"),
+            End::Stop => info!(notes; "stop"),
+            End::Full => info!(notes; "full"),
+        }
+    }
+}
+
+/// Standard error, where the program's name stands before each note.
+#[derive(Drop)]
+pub struct StandardError(Console<HostRuntime>);
+
+impl StandardError {
+    /// That of this runtime.
+    pub fn new(rt: HostRuntime) -> Self {
+        StandardError(Console(rt))
+    }
+}
+
+impl Log for StandardError {
+    fn enabled(&self, metadata: &Metadata<'_>) -> bool {
+        self.0.enabled(metadata)
+    }
+
+    fn log<D: Display, K: Source, S: Spans>(&self, record: &log::Record<'_, D, K, S>) {
+        self.0.log(record);
+    }
+
+    fn flush(&self) {
+        self.0.flush();
+    }
+
+    fn target(&self) -> &str {
+        "ifsvm"
+    }
+}
+
+/// Where a core stood before a connection.
+#[derive(Clone, Copy)]
+pub struct Standing {
+    state: StateId,
+    moment: u64,
+}
+
+impl Standing {
+    /// Where a core stands.
+    pub fn of(core: &Core) -> Self {
+        Standing {
+            state: core.state(),
+            moment: core.now(),
+        }
+    }
+}
+
+/// Notes that a tick goes backwards, once for each moment before which one came.
+#[derive(Drop)]
+pub struct Backwards {
+    /// The moment for which it was noted last.
+    noted: Option<u64>,
+}
+
+impl Backwards {
+    /// Nothing was noted yet.
+    pub fn new() -> Self {
+        Backwards { noted: None }
+    }
+
+    /// Notes the ticks among these steps that go backwards, the first of which was made at this moment.
+    pub fn note(&mut self, notes: &impl Log, before: Standing, steps: &[Step]) {
+        let mut now = before.moment;
+        for step in steps {
+            let Step::Tick(moment) = *step else {
+                continue;
+            };
+            if moment >= now {
+                now = moment;
+            } else if self.noted != Some(now) {
+                warn!(notes; "tick {moment} goes backwards: the moment is {now}");
+                self.noted = Some(now);
+            }
+        }
+    }
+}
+
+/// Notes the changes of state that these steps made, each with its cause. Of over 256 steps only the last are
+/// known, and what the others changed has no cause.
+pub fn note_changes(notes: &impl Log, core: &Core, before: Standing, steps: &[Step]) {
+    let first = first_made(core, steps);
+    let mut state = before.state;
+    for index in first..core.trace_len() {
+        let Some(record) = core.trace_at(index) else {
+            return;
+        };
+        if record.state != state {
+            note_change(notes, core, state, record);
+            state = record.state;
+        }
+    }
+}
+
+/// The index in the trace of the first of the steps that these made, which are its last ones: a step that was
+/// refused is not in it.
+fn first_made(core: &Core, steps: &[Step]) -> usize {
+    let mut first = core.trace_len();
+    for step in steps.iter().rev() {
+        let Some(earlier) = first.checked_sub(1) else {
+            return first;
+        };
+        if core
+            .trace_at(earlier)
+            .is_some_and(|record| record.step == *step)
+        {
+            first = earlier;
+        }
+    }
+    first
+}
+
+/// Notes a change of state.
+fn note_change(notes: &impl Log, core: &Core, from: StateId, record: Record) {
+    let from = Quoted(core.state_name(from).unwrap_or_default());
+    let to = Quoted(core.state_name(record.state).unwrap_or_default());
+    let cause = Cause {
+        core,
+        step: record.step,
+    };
+    info!(notes; "state {from} -> {to} by {cause}");
+}
+
+/// Shows what a step tells.
+#[derive(Clone, Copy)]
+struct Cause<'a> {
+    core: &'a Core,
+    step: Step,
+}
+
+impl Display for Cause<'_> {
+    fn fmt<W: Write>(&self, f: &mut Formatter<W>) -> fmt::Result {
+        match self.step {
+            Step::Link(interface, link) => {
+                let interfaces = &self.core.image().interfaces;
+                let name = match interfaces.as_slice().get(usize::from(interface.0)) {
+                    Some(name) => name.as_str(),
+                    None => "",
+                };
+                write!(f, "link {} {}", Quoted(name), word_of(link))
+            }
+            Step::Finished(test, _, value) => {
+                let text = self.core.test_text(test).unwrap_or_default();
+                write!(f, "test {} {value}", Quoted(text))
+            }
+            Step::Tick(moment) => write!(f, "tick {moment}"),
+            Step::Take => f.write_str("take"),
+        }
+    }
+}
+
+/// The word of requests for a link's state.
+fn word_of(link: LinkState) -> &'static str {
+    match link {
+        LinkState::Up => "up",
+        LinkState::Down => "down",
+        LinkState::Unknown => "unknown",
+    }
+}
