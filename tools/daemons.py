@@ -2,13 +2,17 @@
 import contextlib
 import os
 import re
+import resource
 import socket
 import subprocess
 import tempfile
+import threading
 import time
 
 # how long anything may take that is to come soon
 SOON = 10
+# what the notes say of how connections ended
+ENDS = ("closed", "stop", "full", "fault S1", "fault S2", "fault S3")
 
 
 class Differs(Exception):
@@ -56,7 +60,7 @@ PLAIN = testing([])
 class Daemon:
     """A daemon on the image of a policy, in a folder of its own."""
 
-    def __init__(self, program, policy, stderr=None, **started):
+    def __init__(self, program, policy, *options, stderr=None, **started):
         self.program = program
         self.folder = tempfile.mkdtemp(dir=".")
         self.socket = os.path.join(self.folder, "socket")
@@ -67,7 +71,7 @@ class Daemon:
         subprocess.run([program, "compile", self.file("policy"), self.image], check=True, stdout=subprocess.DEVNULL)
         with contextlib.ExitStack() as files:
             stderr = stderr or files.enter_context(open(self.told, "wb"))
-            words = [program, "serve", self.image, self.socket]
+            words = [program, "serve", *options, self.image, self.socket]
             self.process = subprocess.Popen(words, stdout=subprocess.PIPE, stderr=stderr, **started)
 
     def __enter__(self):
@@ -104,16 +108,35 @@ class Daemon:
         same("status at the end", self.process.wait(SOON), 0)
         holds("the socket's file is there after stop", not os.path.exists(self.socket))
 
-    def notes(self):
-        """The notes on standard error, without what stands before them on their lines."""
+    def lines(self):
+        """The notes on standard error, each with its level."""
         with open(self.told) as file:
-            return [line.split("] ")[-1].strip() for line in file]
+            lines = [re.fullmatch(r"\[(\w+) +ifsvm\] (.*)\n", line) or line for line in file]
+        same("lines on standard error that are no notes", [it for it in lines if isinstance(it, str)], [])
+        return [it.groups() for it in lines]
+
+    def notes(self):
+        """The notes on standard error."""
+        return [note for _level, note in self.lines()]
+
+    def ends(self):
+        """The notes of how connections ended."""
+        return [note for note in self.notes() if note in ENDS]
+
+    def changes(self):
+        """The notes of all else, each with its level, and with M for the milliseconds of a command."""
+        found = [(level, note) for level, note in self.lines() if note not in ENDS]
+        return [(level, re.sub(r" after \d+ ms$", " after M ms", note)) for level, note in found]
 
     def file(self, name):
         return os.path.join(os.path.abspath(self.folder), name)
 
     def descriptors(self):
         return len(os.listdir(f"/proc/{self.process.pid}/fd"))
+
+    def limit_descriptors(self, count):
+        hard = resource.prlimit(self.process.pid, resource.RLIMIT_NOFILE)[1]
+        resource.prlimit(self.process.pid, resource.RLIMIT_NOFILE, (count, hard))
 
     def memory(self):
         """The kilobytes that the process takes, and those that it may come to take without asking for more."""
@@ -126,15 +149,15 @@ class Daemon:
         return (int(fields[11]) + int(fields[12])) / os.sysconf("SC_CLK_TCK")
 
     def children(self):
-        """The states of the processes that the daemon started and has not waited for."""
-        states = []
+        """The processes that the daemon started and has not waited for."""
+        children = []
         for number in filter(str.isdigit, os.listdir("/proc")):
             with contextlib.suppress(OSError):
                 with open(f"/proc/{number}/stat") as file:
-                    state, parent = file.read().rsplit(")", 1)[1].split()[:2]
+                    parent = file.read().rsplit(")", 1)[1].split()[1]
                 if int(parent) == self.process.pid:
-                    states.append(state)
-        return states
+                    children.append(int(number))
+        return children
 
 
 def read_all(client):
@@ -145,8 +168,34 @@ def read_all(client):
     return b"".join(parts)
 
 
-def send(program, path, request):
-    return subprocess.run([program, "send", path, request], capture_output=True, timeout=60)
+def send(program, path, *words):
+    """What send does with these words, options and then the request."""
+    *options, request = words
+    return subprocess.run([program, "send", *options, path, request], capture_output=True, timeout=60)
+
+
+def serve(program, *words, **how):
+    """What serve does that is to end at once."""
+    return subprocess.run([program, "serve", *words], capture_output=True, timeout=SOON, **how)
+
+
+def answered(path, answer):
+    """What send does where a listener takes its request and gives this answer."""
+    listener = socket.socket(socket.AF_UNIX)
+    listener.bind(path)
+    listener.listen()
+    got = []
+
+    def serve():
+        client, _ = listener.accept()
+        with client, listener:
+            got.append(read_all(client))
+            with contextlib.suppress(BrokenPipeError, ConnectionResetError):
+                client.sendall(answer)
+
+    thread = threading.Thread(target=serve, daemon=True)
+    thread.start()
+    return thread, got
 
 
 def results(trace):
