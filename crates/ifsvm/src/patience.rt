@@ -9,6 +9,14 @@ use std::time::{Duration, Instant};
 /// How many bytes one write gives the system at most, so that it waits once at most.
 const PIECE: usize = 16_384;
 
+/// How many bytes a short piece has at most.
+const SHORT: usize = 1_024;
+
+/// How many short pieces are written before the clock is looked at for them too: as many as a connection makes
+/// steps, each of which has a short reply. A look costs a tenth of what the writing of such a reply does, and the
+/// system takes hundreds of them from a client that reads nothing before one of them waits.
+const UNCOUNTED: u32 = 512;
+
 /// How long a connection may keep its other end waiting.
 #[derive(Clone, Copy)]
 pub struct Patience {
@@ -100,18 +108,33 @@ impl<'a, C: Clock> Read for PatientReader<'a, C> {
 }
 
 /// Writes to a connection. A write fails where a piece is not taken in time, or all waiting of the connection
-/// has taken too long.
+/// has taken too long; what its first short pieces waited is not counted.
 #[derive(Drop)]
 pub struct PatientWriter<'a, C: Clock> {
     waits: &'a Waits<'a, C>,
     /// How long the system was told to wait, where it was told.
     told: Option<Duration>,
+    /// How many short pieces were written.
+    short: u32,
 }
 
 impl<'a, C: Clock> PatientWriter<'a, C> {
     /// Writes to this connection.
     pub fn new(waits: &'a Waits<'a, C>) -> Self {
-        PatientWriter { waits, told: None }
+        PatientWriter {
+            waits,
+            told: None,
+            short: 0,
+        }
+    }
+
+    /// Whether what a piece of this length waits is counted.
+    fn counts(&mut self, length: usize) -> bool {
+        if length > SHORT {
+            return true;
+        }
+        self.short = self.short.saturating_add(1);
+        self.short > UNCOUNTED
     }
 }
 
@@ -122,9 +145,13 @@ impl<'a, C: Clock> Write for PatientWriter<'a, C> {
             self.waits.stream.set_write_timeout(Some(left))?;
             self.told = Some(left);
         }
-        let began = Instant::now(self.waits.clock)?;
+        let piece = &buf[..buf.len().min(PIECE)];
         let mut stream = self.waits.stream;
-        let count = stream.write(&buf[..buf.len().min(PIECE)])?;
+        if !self.counts(piece.len()) {
+            return stream.write(piece);
+        }
+        let began = Instant::now(self.waits.clock)?;
+        let count = stream.write(piece)?;
         self.waits.waited_since(began)?;
         Ok(count)
     }

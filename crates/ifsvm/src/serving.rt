@@ -176,25 +176,9 @@ impl<'c, 'h, 'a, R: Processes + Clock + Print + Alloc<A = Global>, L: Log> Servi
         }
     }
 
-    /// Serves one connection, and says whether its client asked for the end of the service.
+    /// Serves one connection, and says whether its client asked for the end of the service. It is a fault of
+    /// its writes where no memory is found for what is held back.
     fn connection(&mut self, rt: &R, notes: &L, stream: &UnixStream) -> bool {
-        let before = Standing::of(self.core);
-        let end = match self.served(rt, stream) {
-            Ok(served) => {
-                let steps = served.steps.as_slice();
-                self.backwards.note(notes, before, steps);
-                note_changes(notes, self.core, before, steps);
-                self.which.note_end(notes, served.end);
-                return served.stopped;
-            }
-            Err(fault) => End::Fault(fault),
-        };
-        self.which.note_end(notes, end);
-        false
-    }
-
-    /// Serves one connection. It is a fault of its writes where no memory is found for what is held back.
-    fn served(&mut self, rt: &R, stream: &UnixStream) -> Result<Served, SessionFault> {
         let patience = Patience {
             once: Duration::from_secs(ONCE),
             whole: Duration::from_secs(WHOLE),
@@ -202,14 +186,26 @@ impl<'c, 'h, 'a, R: Processes + Clock + Print + Alloc<A = Global>, L: Log> Servi
         let waits = Waits::new(rt, stream, patience);
         let writer = PatientWriter::new(&waits);
         let Ok(writer) = BufWriter::with_capacity(rt.alloc(), HELD, writer) else {
-            return Err(SessionFault::WriteFailed);
+            self.which
+                .note_end(notes, End::Fault(SessionFault::WriteFailed));
+            return false;
         };
         let mut input = FromRead::new(PatientReader::new(&waits));
         let mut output = ToWrite::new(writer);
+        let before = Standing::of(self.core);
         let served = serve_one(self.core, self.host, &mut input, &mut output);
         // what a failed write left is not tried again when the writer is dropped
         let _closed = stream.shutdown(Shutdown::Write);
-        Ok(served)
+        self.note(notes, before, &served);
+        served.stopped
+    }
+
+    /// Notes what a connection changed, and how it ended.
+    fn note(&mut self, notes: &L, before: Standing, served: &Served) {
+        let steps = served.steps.as_slice();
+        self.backwards.note(notes, before, steps);
+        note_changes(notes, self.core, before, steps);
+        self.which.note_end(notes, served.end);
     }
 }
 
