@@ -124,7 +124,10 @@ impl Backwards {
 /// Notes the changes of state that these steps made, each with its cause. Of over 256 steps only the last are
 /// known, and what the others changed has no cause.
 pub fn note_changes(notes: &impl Log, core: &Core, before: Standing, steps: &[Step]) {
-    let first = first_made(core, steps);
+    let Made { first, changed } = made_by(core, before, steps);
+    if !changed {
+        return;
+    }
     let mut state = before.state;
     for index in first..core.trace_len() {
         let Some(record) = core.trace_at(index) else {
@@ -137,22 +140,36 @@ pub fn note_changes(notes: &impl Log, core: &Core, before: Standing, steps: &[St
     }
 }
 
-/// The index in the trace of the first of the steps that these made, which are its last ones: a step that was
-/// refused is not in it.
-fn first_made(core: &Core, steps: &[Step]) -> usize {
+/// What steps left in the trace.
+struct Made {
+    /// The index of the first of their records, which are its last ones.
+    first: usize,
+    /// Whether the state was another one between them, or after them, than before.
+    changed: bool,
+}
+
+/// What these steps left in the trace: a step that was refused left nothing.
+fn made_by(core: &Core, before: Standing, steps: &[Step]) -> Made {
     let mut first = core.trace_len();
+    let mut state = core.state();
+    let mut changed = false;
     for step in steps.iter().rev() {
         let Some(earlier) = first.checked_sub(1) else {
-            return first;
+            break;
         };
-        if core
-            .trace_at(earlier)
-            .is_some_and(|record| record.step == *step)
-        {
+        let Some(record) = core.trace_at(earlier) else {
+            break;
+        };
+        if record.step == *step {
+            changed = changed || record.state != state;
+            state = record.state;
             first = earlier;
         }
     }
-    first
+    Made {
+        first,
+        changed: changed || state != before.state,
+    }
 }
 
 /// Notes a change of state.

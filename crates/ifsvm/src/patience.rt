@@ -140,15 +140,15 @@ impl<'a, C: Clock> PatientWriter<'a, C> {
 
 impl<'a, C: Clock> Write for PatientWriter<'a, C> {
     fn write(&mut self, buf: &[u8]) -> io::Result<usize> {
-        let left = self.waits.left(Duration::from_secs(0))?;
-        if self.told != Some(left) {
-            self.waits.stream.set_write_timeout(Some(left))?;
-            self.told = Some(left);
-        }
         let piece = &buf[..buf.len().min(PIECE)];
         let mut stream = self.waits.stream;
-        if !self.counts(piece.len()) {
+        if !self.counts(piece.len()) && self.told.is_some() {
             return stream.write(piece);
+        }
+        let left = self.waits.left(Duration::from_secs(0))?;
+        if self.told != Some(left) {
+            stream.set_write_timeout(Some(left))?;
+            self.told = Some(left);
         }
         let began = Instant::now(self.waits.clock)?;
         let count = stream.write(piece)?;

@@ -7,7 +7,7 @@ use ifs_cli::ending::{Ending, out_of_memory};
 use ifs_cli::files::fault_of;
 use ifs_cli::shell::{Limits, Shell, try_shell};
 use ifs_cli::task::Task;
-use ifs_core::Core;
+use ifs_core::{Core, Step};
 use ifs_session::{End, FromRead, Served, SessionFault, ToWrite, run_queue, serve_one};
 use log::{Log, Logged, warn};
 use std::alloc::Global;
@@ -101,15 +101,15 @@ fn serve_at<R: Files + Net + Processes + Clock + Print + Alloc<A = Global>, L: L
     let listener = UnixListener::bind(rt, socket)?;
     let made = FileNumber::at(rt, socket)?;
     let ending = match keep_from_others(rt, socket) {
-        Ok(()) => service.begin(rt, notes, &listener),
-        Err(error) => return Err(error),
+        Ok(()) => Ok(service.begin(rt, notes, &listener)),
+        Err(error) => Err(error),
     };
     match FileNumber::at(rt, socket) {
         Ok(now) if now == made => fs::remove_file(rt, socket)?,
         Err(error) if error.kind() != ErrorKind::NotFound => return Err(error),
         _ => {}
     }
-    Ok(ending)
+    ending
 }
 
 /// Which file a path leads to.
@@ -193,19 +193,24 @@ impl<'c, 'h, 'a, R: Processes + Clock + Print + Alloc<A = Global>, L: Log> Servi
         let mut input = FromRead::new(PatientReader::new(&waits));
         let mut output = ToWrite::new(writer);
         let before = Standing::of(self.core);
-        let served = serve_one(self.core, self.host, &mut input, &mut output);
-        // what a failed write left is not tried again when the writer is dropped
-        let _closed = stream.shutdown(Shutdown::Write);
-        self.note(notes, before, &served);
-        served.stopped
+        let Served {
+            steps,
+            end,
+            stopped,
+        } = serve_one(self.core, self.host, &mut input, &mut output);
+        if let End::Fault(_) = end {
+            // what a failed write left is not tried again when the writer is dropped
+            let _closed = stream.shutdown(Shutdown::Write);
+        }
+        self.note(notes, before, steps.as_slice(), end);
+        stopped
     }
 
-    /// Notes what a connection changed, and how it ended.
-    fn note(&mut self, notes: &L, before: Standing, served: &Served) {
-        let steps = served.steps.as_slice();
+    /// Notes what the steps of a connection changed, and how it ended.
+    fn note(&mut self, notes: &L, before: Standing, steps: &[Step], end: End) {
         self.backwards.note(notes, before, steps);
         note_changes(notes, self.core, before, steps);
-        self.which.note_end(notes, served.end);
+        self.which.note_end(notes, end);
     }
 }
 
