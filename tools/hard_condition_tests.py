@@ -66,7 +66,7 @@ def is_served(program, daemon, there, **how):
     fault is looked at."""
     path = daemon.file("tried")
     words = [program, "serve", daemon.image, path]
-    with subprocess.Popen(words, stdout=subprocess.PIPE, stderr=subprocess.PIPE, **how) as other:
+    with subprocess.Popen(words, stdout=subprocess.PIPE, stderr=subprocess.PIPE, **how) as other, killed_after(other):
         if other.stdout.readline() == b"ready\n":
             same("a command of a daemon that was ready", send(program, path, "link carp0 up").stdout.decode(), UP)
             holds("it was not run", os.path.exists(there))
@@ -74,10 +74,18 @@ def is_served(program, daemon, there, **how):
             send(program, path, "stop")
             return True
         told = other.stderr.read().decode()
-    same("status of a daemon that cannot work", other.returncode, 3)
+        same("status of a daemon that cannot work", other.wait(SOON), 3)
     holds("its socket's file is there", not os.path.exists(path))
     holds(f"it says {told!r}", re.fullmatch(r"device (/bin/sh|\S+/tried): .+ \(os error \d+\)\n", told))
     return False
+
+
+@contextlib.contextmanager
+def killed_after(process):
+    try:
+        yield
+    finally:
+        process.kill()
 
 
 def few_descriptors(count):
@@ -330,7 +338,7 @@ def test_killed_and_started_again(program):
         same("a start at the file that it left", (ran.returncode, ran.stdout), (3, b""))
         os.remove(daemon.socket)
         words = [program, "serve", daemon.image, daemon.socket]
-        with subprocess.Popen(words, stdout=subprocess.PIPE, stderr=subprocess.DEVNULL) as again:
+        with subprocess.Popen(words, stdout=subprocess.PIPE, stderr=subprocess.DEVNULL) as again, killed_after(again):
             same("first line", again.stdout.readline(), b"ready\n")
             same("status", daemon.send("status"), 'status "a" owed yes queue 0 running 0 now 0\n')
             same("stop", daemon.send("stop"), "bye\n")
