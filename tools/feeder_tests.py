@@ -49,6 +49,12 @@ esac
 """
 
 
+def heed_signals():
+    """A script cannot catch what was ignored when it began, as it is where these tests run in the background."""
+    for number in (signal.SIGINT, signal.SIGHUP):
+        signal.signal(number, signal.SIG_DFL)
+
+
 class Feeders:
     """The scripts beside a daemon, with words of their own on their path."""
 
@@ -69,7 +75,8 @@ class Feeders:
         }
 
     def start(self, *script, **given):
-        return subprocess.Popen([os.path.join(SYSTEM, script[0]), *script[1:]], env=self.environment, **given)
+        words = [os.path.join(SYSTEM, script[0]), *script[1:]]
+        return subprocess.Popen(words, env=self.environment, preexec_fn=heed_signals, **given)
 
     @contextlib.contextmanager
     def running(self, *script, **given):

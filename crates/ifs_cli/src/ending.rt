@@ -18,7 +18,7 @@ pub enum Ending {
     Refused,
     /// The command line was wrong, and its message was printed: status 2.
     CommandLine,
-    /// The bytes of a file could not be had: status 3.
+    /// The bytes of a file could not be had or written, or a socket failed: status 3.
     File { path: String, fault: FileFault },
     /// Nothing came back over a socket, or not in time: status 3.
     NoReply { socket: String },

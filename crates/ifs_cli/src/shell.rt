@@ -32,7 +32,7 @@ const LONGEST_PAUSE: u64 = 64;
 pub struct Limits {
     /// How long a command may run.
     pub command: Option<Duration>,
-    /// How long a test may run, which then has found false.
+    /// How long a test may run, which then has found false. It is looked at when the ends of tests are asked for.
     pub test: Option<Duration>,
 }
 
@@ -56,7 +56,8 @@ pub struct ShellTest<P: OpenProcess> {
     text: String,
     /// When it was started, where the clock told that.
     began: Option<Instant>,
-    killed: bool,
+    /// Whether it was seen to run longer than it may.
+    late: bool,
 }
 
 impl<P: OpenProcess> Model for ShellTest<P> {
@@ -111,7 +112,7 @@ impl<'a, R: Processes + Clock + Alloc<A = Global>, L: Log> ShellRunner<'a, R, L>
             text: String::from_str(alloc, text)?,
             began: Instant::now(self.runtime).ok(),
             child: command_of(alloc, text)?.spawn(self.runtime)?,
-            killed: false,
+            late: false,
         })
     }
 
@@ -144,10 +145,10 @@ impl<'a, R: Processes + Clock + Alloc<A = Global>, L: Log> ShellRunner<'a, R, L>
     fn kill_if_late(&self, test: &mut ShellTest<R::Started>)
         ensures { test.new ≡ test.old }
     {
-        if test.killed || !is_late(self.runtime, test.began, self.limits.test) {
+        if test.late || !is_late(self.runtime, test.began, self.limits.test) {
             return;
         }
-        test.killed = true;
+        test.late = true;
         match test.child.kill() {
             Ok(()) => warn!(self.notes; "test {}: killed at its limit", Quoted(test.text.as_str())),
             Err(error) => {
@@ -188,7 +189,7 @@ fn ended_within<P: OpenProcess + Drop>(
     mut child: Child<P>,
     limit: Duration,
 ) -> io::Result<Ended> {
-    let began = Instant::now(clock)?;
+    let began = Instant::now(clock).ok();
     let mut pause = SHORTEST_PAUSE;
     for _ in 0..u64::MAX {
         if let Some(status) = child.try_wait()? {
@@ -197,7 +198,7 @@ fn ended_within<P: OpenProcess + Drop>(
                 killed: false,
             });
         }
-        if began.elapsed(clock)? >= limit {
+        if is_late(clock, began, Some(limit)) {
             break;
         }
         thread::sleep(clock, Duration::from_millis(pause));

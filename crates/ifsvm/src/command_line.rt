@@ -179,9 +179,10 @@ fn asked_with(
         }),
         "serve" => serve_asked(alloc, operands),
         "send" => send_asked(alloc, command, operands),
-        _ => Ok(Asked::Sim {
+        "sim" => Ok(Asked::Sim {
             image: operand_of(alloc, operands, FILE)?,
         }),
+        _ => Err(command.error(ErrorKind::InvalidSubcommand, "unrecognized subcommand")?),
     }
 }
 
@@ -409,7 +410,7 @@ fn serve<'a>(alloc: Global) -> Result<Command<'a>, AllocError> {
         .arg(seconds(
             alloc,
             TEST_LIMIT,
-            "kill a test that runs longer, which then has found false",
+            "kill a test that is found to run longer at a request, which then has found false",
         ))
 }
 
@@ -460,7 +461,7 @@ fn notes<'a>(alloc: Global) -> Arg<'a> {
         .long(NOTES)
         .value_name("WHICH")
         .help(
-            "what stands on standard error: all, no ends of connections but faults, only what went wrong, or nothing",
+            "the notes on standard error: all; changes: without the ends of connections, but with their faults; faults: warnings and errors; off: none",
         )
         .value_parser(ValueParser::Names(&["all", "changes", "faults", "off"]))
         .default_value("all")

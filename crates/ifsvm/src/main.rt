@@ -2,7 +2,8 @@
 //!
 //! Without words it reads an image as a line of hexadecimal digits and then request lines from
 //! standard input, and writes the replies to standard output. Exit statuses: 0 done, 1 refused
-//! input, 2 command line, 3 a file or stream that failed or a file that is too large.
+//! input, 2 command line, 3 a file, stream or socket that failed, a file that is too large, no reply, or a shell
+//! that does not run.
 #![tactic(auto)]
 
 mod command_line;

@@ -1,5 +1,7 @@
 //! Connections whose waiting is bounded.
 
+ghost use Rattle.std.specs.Io.{WritesAtMost};
+
 use std::cell::Cell;
 use std::io::{self, ErrorKind, Read, Write};
 use std::os::unix::net::UnixStream;
@@ -12,10 +14,13 @@ const PIECE: usize = 16_384;
 /// How many bytes a short piece has at most.
 const SHORT: usize = 1_024;
 
-/// How many short pieces are written before the clock is looked at for them too: as many as a connection makes
-/// steps, each of which has a short reply. A look costs a tenth of what the writing of such a reply does, and the
-/// system takes hundreds of them from a client that reads nothing before one of them waits.
-const UNCOUNTED: u32 = 512;
+/// How many short pieces are not timed, as many as a connection makes steps: two looks at the clock cost a tenth of
+/// what the writing of such a piece does.
+const UNTIMED: u32 = 512;
+
+/// How long an untimed piece may wait, and is counted as having waited, in milliseconds. Where that is not enough it is
+/// timed.
+const MOMENT: u64 = 10;
 
 /// How long a connection may keep its other end waiting.
 #[derive(Clone, Copy)]
@@ -60,8 +65,13 @@ impl<'a, C: Clock> Waits<'a, C> {
     /// How long was waited since this moment, which counts.
     fn waited_since(&self, began: Instant) -> io::Result<Duration> {
         let waited = began.elapsed(self.clock)?;
-        self.waited.set(self.waited.get().saturating_add(waited));
+        self.count(waited);
         Ok(waited)
+    }
+
+    /// Counts that this long was waited.
+    fn count(&self, waited: Duration) {
+        self.waited.set(self.waited.get().saturating_add(waited));
     }
 }
 
@@ -108,14 +118,14 @@ impl<'a, C: Clock> Read for PatientReader<'a, C> {
 }
 
 /// Writes to a connection. A write fails where a piece is not taken in time, or all waiting of the connection
-/// has taken too long; what its first short pieces waited is not counted.
+/// has taken too long.
 #[derive(Drop)]
 pub struct PatientWriter<'a, C: Clock> {
     waits: &'a Waits<'a, C>,
     /// How long the system was told to wait, where it was told.
     told: Option<Duration>,
-    /// How many short pieces were written.
-    short: u32,
+    /// How many pieces may yet go untimed.
+    untimed: u32,
 }
 
 impl<'a, C: Clock> PatientWriter<'a, C> {
@@ -124,36 +134,48 @@ impl<'a, C: Clock> PatientWriter<'a, C> {
         PatientWriter {
             waits,
             told: None,
-            short: 0,
+            untimed: UNTIMED,
         }
     }
 
-    /// Whether what a piece of this length waits is counted.
-    fn counts(&mut self, length: usize) -> bool {
-        if length > SHORT {
-            return true;
+    /// Writes a piece, which waits this long at most.
+    fn write_within(&mut self, limit: Duration, piece: &[u8]) -> io::Result<usize>
+        ensures bound { WritesAtMost result piece.now }
+    {
+        let mut stream = self.waits.stream;
+        if self.told != Some(limit) {
+            stream.set_write_timeout(Some(limit))?;
+            self.told = Some(limit);
         }
-        self.short = self.short.saturating_add(1);
-        self.short > UNCOUNTED
+        stream.write(piece)
+    }
+
+    /// Writes a piece by the clock.
+    fn write_timed(&mut self, piece: &[u8]) -> io::Result<usize>
+        ensures bound { WritesAtMost result piece.now }
+    {
+        let left = self.waits.left(Duration::from_secs(0))?;
+        let began = Instant::now(self.waits.clock)?;
+        let count = self.write_within(left, piece)?;
+        self.waits.waited_since(began)?;
+        Ok(count)
     }
 }
 
 impl<'a, C: Clock> Write for PatientWriter<'a, C> {
     fn write(&mut self, buf: &[u8]) -> io::Result<usize> {
         let piece = &buf[..buf.len().min(PIECE)];
-        let mut stream = self.waits.stream;
-        if !self.counts(piece.len()) && self.told.is_some() {
-            return stream.write(piece);
+        if SHORT < piece.len() || self.untimed == 0 {
+            return self.write_timed(piece);
         }
-        let left = self.waits.left(Duration::from_secs(0))?;
-        if self.told != Some(left) {
-            stream.set_write_timeout(Some(left))?;
-            self.told = Some(left);
+        self.untimed = self.untimed.saturating_sub(1);
+        let moment = Duration::from_millis(MOMENT);
+        self.waits.left(Duration::from_secs(0))?;
+        self.waits.count(moment);
+        match self.write_within(moment, piece) {
+            Err(error) if error.kind() == ErrorKind::WouldBlock => self.write_timed(piece),
+            written => written,
         }
-        let began = Instant::now(self.waits.clock)?;
-        let count = stream.write(piece)?;
-        self.waits.waited_since(began)?;
-        Ok(count)
     }
 
     fn flush(&mut self) -> io::Result<()> {
