@@ -66,7 +66,7 @@ fn file_of(answer: Answer) -> Option<Vec<u8>> {
 }
 
 /// A core on an image.
-fn opened(alloc: Global, image: &[u8]) -> Result<Core, Fail> {
+fn opened<'a>(alloc: Global, image: &'a [u8]) -> Result<Core<'a>, Fail> {
     match Core::open(alloc, verify(alloc, image)?) {
         Ok(core) => Ok(core),
         Err(_) => Err(Fail::from("no core")),
@@ -74,7 +74,7 @@ fn opened(alloc: Global, image: &[u8]) -> Result<Core, Fail> {
 }
 
 /// Writes the replies to requests.
-fn reply(core: &mut Core, requests: &str, output: &mut MemoryOut) -> Result<(), Fail> {
+fn reply(core: &mut Core<'_>, requests: &str, output: &mut MemoryOut) -> Result<(), Fail> {
     simulate(core, &mut MemoryIn::new(requests.as_bytes()), output)?;
     Ok(())
 }
@@ -179,8 +179,9 @@ fn first_policy_is_generated(rt: HostRuntime) -> Result<(), Fail> {
 /// Its core stands in state `a`, and one event costs 7 instructions at most.
 #[test]
 fn first_policy_is_opened(rt: HostRuntime) -> Result<(), Fail> {
-    let core = compiled_core(rt.alloc(), first_text(), &[])?;
-    assert_eq!(rt; core.image().budgets.cost, 7);
+    let mut image = Vec::new(rt.alloc());
+    let core = compiled_core(rt.alloc(), first_text(), &[], &mut image)?;
+    assert_eq!(rt; core.image().budgets().cost, 7);
     assert_eq!(rt; core.state_name(core.state()), Some("a"));
     Ok(())
 }

@@ -7,3 +7,4 @@ pub mod Evaluating
 pub mod Turning
 pub mod Alike
 pub mod Keeping
+pub mod Tables

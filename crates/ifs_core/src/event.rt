@@ -15,21 +15,28 @@ ghost use Rattle.ifs_core.specs.Gateway.{IsPositionOf, position_of};
 use crate::position::Position;
 use arrayvec::ArrayVec;
 use ifs_base::{CommandId, LinkState, StateId};
-use ifs_image::{ImageParts, StateSpec};
+use ifs_image::{Handlers, ImageView};
 use ifs_machine::{Effects, Facts, run_handler};
 use ifs_sched::Schedule;
 use ifs_verify::Verified;
 
-/// A state of the image.
-pub fn state_of(parts: &ImageParts, state: StateId) -> &StateSpec
-    requires { state.0 < length parts.now.states }
-    ensures { slice_get parts.now.states state.0 ≡ Some result.now }
+/// The handlers of a state of the image.
+fn handlers_of(verified: &Verified<'_>, state: StateId) -> Handlers
+    requires { state.0 < length verified.now.states }
+    ensures { (found : StateSpec) × (slice_get verified.now.states state.0 ≡ Some found) × (found.handlers ≡ result) }
 {
-    &parts.states.as_slice()[usize::from(state.0)]
+    verified.image().state_handlers(usize::from(state.0))
+}
+
+/// The handlers of the image's always part.
+fn always_of(verified: &Verified<'_>) -> Handlers
+    ensures { result ≡ verified.now.always }
+{
+    verified.image().always()
 }
 
 /// Runs the always body and then the current state's, and answers what both cost.
-fn run_bodies(verified: &Verified, position: &Position, effects: &mut Effects) -> u32
+fn run_bodies(verified: &Verified<'_>, position: &Position, effects: &mut Effects) -> u32
     requires position { IsPositionOf verified.now (position_of position.now) }
     requires first { effects_of effects.old ≡ nothing_yet }
     ensures exact { (b : Behaviour) → IsBehaviour verified.now b
@@ -41,10 +48,11 @@ fn run_bodies(verified: &Verified, position: &Position, effects: &mut Effects) -
     ensures accepted { IsAccepted verified.now }
     ensures limit { verified.now.budgets.cost ≤ 300000 }
 {
-    let parts = verified.image().parts();
-    let own = state_of(parts, position.current);
-    let always = run_handler(verified, parts.always.body, &position.facts, effects);
-    let body = run_handler(verified, own.handlers.body, &position.facts, effects);
+    verified.image();
+    let part = always_of(verified);
+    let own = handlers_of(verified, position.current);
+    let always = run_handler(verified, part.body, &position.facts, effects);
+    let body = run_handler(verified, own.body, &position.facts, effects);
     always + body
 }
 
@@ -81,7 +89,7 @@ fn values_after_entry(values: &[Option<bool>], always: u64) -> ArrayVec<Option<b
 }
 
 /// Enters a state at the present moment: its tests are reset, and an evaluation is owed.
-fn enter(verified: &Verified, position: &mut Position, next: StateId)
+fn enter(verified: &Verified<'_>, position: &mut Position, next: StateId)
     requires position { IsPositionOf verified.now (position_of position.old) }
     requires next { next.0 < length verified.now.states }
     ensures exact { (b : Behaviour) → IsBehaviour verified.now b → position_of position.new ≡ entering b next (position_of position.old) }
@@ -89,19 +97,17 @@ fn enter(verified: &Verified, position: &mut Position, next: StateId)
     ensures current { position.new.current ≡ next }
     ensures moment { position.new.schedule.present ≡ position.old.schedule.present }
 {
-    let parts = verified.image().parts();
-    let own = state_of(parts, next);
-    position.facts.tests = values_after_entry(position.facts.tests.as_slice(), parts.always.mask);
+    let always = always_of(verified).mask;
+    let own = handlers_of(verified, next).mask;
+    position.facts.tests = values_after_entry(position.facts.tests.as_slice(), always);
     let now = position.schedule.now();
-    position
-        .schedule
-        .enter(parts.always.mask, own.handlers.mask, now);
+    position.schedule.enter(always, own, now);
     position.current = next;
     position.owed = true;
 }
 
 /// Runs the init of the state that was entered.
-fn run_init(verified: &Verified, position: &Position, effects: &mut Effects) -> u32
+fn run_init(verified: &Verified<'_>, position: &Position, effects: &mut Effects) -> u32
     requires position { IsPositionOf verified.now (position_of position.now) }
     requires room { HasInitRoom verified.now position.now.current.0 (effects_of effects.old) }
     ensures exact { (b : Behaviour) → IsBehaviour verified.now b
@@ -109,15 +115,15 @@ fn run_init(verified: &Verified, position: &Position, effects: &mut Effects) -> 
         × (result ≡ b.cost (Init position.now.current.0) (facts_of position.now.facts)) }
     ensures within { RanInit verified.now position.now.current.0 (effects_of effects.old) (effects_of effects.new) result }
 {
-    let parts = verified.image().parts();
-    let own = state_of(parts, position.current);
-    run_handler(verified, own.handlers.init, &position.facts, effects)
+    verified.image();
+    let own = handlers_of(verified, position.current);
+    run_handler(verified, own.init, &position.facts, effects)
 }
 
 /// Runs the always body and the current state's, and enters the state that the last wish of both
 /// leads to, whose init follows. What they bring about stands in the effects, and nothing else; it
 /// answers how many instructions they executed.
-pub fn evaluate(verified: &Verified, position: &mut Position, effects: &mut Effects) -> u32
+pub fn evaluate(verified: &Verified<'_>, position: &mut Position, effects: &mut Effects) -> u32
     requires { IsPositionOf verified.now (position_of position.old) }
     ensures exact { (b : Behaviour) → IsBehaviour verified.now b
         → IsEvent (evaluation b (position_of position.old)) (position_of position.new) effects.new.queued.items result }
@@ -141,65 +147,67 @@ pub fn evaluate(verified: &Verified, position: &mut Position, effects: &mut Effe
 }
 
 /// Nothing is known of the links of an image's interfaces.
-fn unknown_links(parts: &ImageParts) -> ArrayVec<LinkState, 64>
-    requires { length parts.now.interfaces ≤ 64 }
-    ensures { result.items ≡ all_unknown parts.now }
+fn unknown_links(image: &ImageView<'_>) -> ArrayVec<LinkState, 64>
+    requires { length image.now.interfaces ≤ 64 }
+    ensures { result.items ≡ all_unknown image.now }
 {
     let mut links = ArrayVec::new();
-    for _interface in parts.interfaces.as_slice() {
+    for _interface in 0..image.interfaces() {
         links.push(LinkState::Unknown);
     }
     links
 }
 
 /// No test of an image has a value.
-fn no_values(parts: &ImageParts) -> ArrayVec<Option<bool>, 64>
-    requires { length parts.now.tests ≤ 64 }
-    ensures { result.items ≡ map (λ _. None) (periods_in parts.now) }
+fn no_values(image: &ImageView<'_>) -> ArrayVec<Option<bool>, 64>
+    requires { length image.now.tests ≤ 64 }
+    ensures { result.items ≡ map (λ _. None) (periods_in image.now) }
 {
     let mut values = ArrayVec::new();
-    for _test in parts.tests.as_slice() {
+    for _test in 0..image.tests() {
         values.push(None);
     }
     values
 }
 
 /// The periods of an image's tests, in seconds.
-fn periods_of(parts: &ImageParts) -> ArrayVec<u32, 64>
-    requires { length parts.now.tests ≤ 64 }
-    ensures { result.items ≡ periods_in parts.now }
+fn periods_of(image: &ImageView<'_>) -> ArrayVec<u32, 64>
+    requires { length image.now.tests ≤ 64 }
+    ensures { result.items ≡ periods_in image.now }
 {
     let mut periods = ArrayVec::new();
-    for test in parts.tests.as_slice() {
-        periods.push(test.period);
+    for test in 0..image.tests() {
+        periods.push(image.test_period(test));
     }
     periods
 }
 
 /// The position before the inits: the initial state is entered at moment 0.
-pub fn open_position(verified: &Verified) -> Position
+pub fn open_position(verified: &Verified<'_>) -> Position
     ensures exact { (b : Behaviour) → IsBehaviour verified.now b → position_of result
         ≡ opening_position b (all_unknown verified.now) (periods_in verified.now) 1 verified.now.initial }
     ensures position { IsPositionOf verified.now (position_of result) }
     ensures current { result.current ≡ verified.now.initial }
 {
-    let parts = verified.image().parts();
-    let own = state_of(parts, parts.initial);
-    let mut schedule = Schedule::new(periods_of(parts), 1);
-    schedule.enter(parts.always.mask, own.handlers.mask, 0);
+    let image = verified.image();
+    let current = image.initial();
+    let always = always_of(verified).mask;
+    let own = handlers_of(verified, current).mask;
+    let mut schedule = Schedule::new(periods_of(image), 1);
+    schedule.enter(always, own, 0);
     Position {
         facts: Facts {
-            links: unknown_links(parts),
-            tests: no_values(parts),
+            links: unknown_links(image),
+            tests: no_values(image),
         },
-        current: parts.initial,
+        current,
         owed: true,
         schedule,
     }
 }
 
 /// Runs the always init and the initial state's; their wishes are dropped.
-pub fn run_inits(verified: &Verified, position: &Position) -> ArrayVec<CommandId, 64>
+pub fn run_inits(verified: &Verified<'_>, position: &Position) -> ArrayVec<CommandId, 64>
     requires position { IsPositionOf verified.now (position_of position.now) }
     requires initial { position.now.current ≡ verified.now.initial }
     ensures exact { (b : Behaviour) → IsBehaviour verified.now b
@@ -212,9 +220,10 @@ pub fn run_inits(verified: &Verified, position: &Position) -> ArrayVec<CommandId
         queued: ArrayVec::new(),
         want: None,
     };
-    let parts = verified.image().parts();
-    let own = state_of(parts, position.current);
-    let _always = run_handler(verified, parts.always.init, &position.facts, &mut effects);
-    let _own = run_handler(verified, own.handlers.init, &position.facts, &mut effects);
+    verified.image();
+    let part = always_of(verified);
+    let own = handlers_of(verified, position.current);
+    let _always = run_handler(verified, part.init, &position.facts, &mut effects);
+    let _own = run_handler(verified, own.init, &position.facts, &mut effects);
     effects.queued
 }

@@ -16,14 +16,14 @@ pub const TRACE: usize = 256;
 
 /// A gateway at work: an accepted image, and where its run stands.
 #[derive(Drop)]
-pub struct Core {
-    pub(crate) verified: Verified,
+pub struct Core<'a> {
+    pub(crate) verified: Verified<'a>,
     pub(crate) position: Position,
     pub(crate) queue: ArrayVec<CommandId, 64>,
     pub(crate) trace: HeapCircularBuffer<Record>,
 }
 
-impl Model for Core {
+impl<'a> Model for Core<'a> {
     ghost use Rattle.ifs_core.specs.Gateway.{OpenCore};
 
     ghost Value = { OpenCore };
@@ -38,11 +38,11 @@ impl Model for Core {
 /// No memory was found for the trace. The image is handed back.
 #[derive(Debug, Drop, Error)]
 #[error("V0")]
-pub struct OpenFault {
-    pub verified: Verified,
+pub struct OpenFault<'a> {
+    pub verified: Verified<'a>,
 }
 
-impl Core {
+impl<'a> Core<'a> {
     ghost use Rattle.std.specs.Prelude.{◌≡◌, [], IfOk, IfErr};
     ghost use Rattle.circular_buffer.specs.Buffer.{buffer};
     ghost use Rattle.ifs_core.specs.Event.{Behaviour};
@@ -54,11 +54,11 @@ impl Core {
     /// and the initial state's init run and their commands are queued; their wishes are dropped.
     ///
     /// Only the trace takes memory; where none is found, the image comes back.
-    pub fn open(alloc: Global, verified: Verified) -> Result<Core, OpenFault>
-        ensures image { IfOk result (λ core. core.image ≡ verified) }
-        ensures state { IfOk result (λ core. (b : Behaviour) → IsBehaviour verified b → core.state ≡ opened b verified) }
-        ensures fault { IfErr result (λ fault. fault.verified ≡ verified) }
-        ensures kept { IfOk result (λ core. OpeningKeeps verified core.state) }
+    pub fn open(alloc: Global, verified: Verified<'a>) -> Result<Core<'a>, OpenFault<'a>>
+        ensures image { IfOk result (λ core. core.image ≡ verified.entry) }
+        ensures state { IfOk result (λ core. (b : Behaviour) → IsBehaviour verified.entry b → core.state ≡ opened b verified.entry) }
+        ensures fault { IfErr result (λ fault. fault.verified ≡ verified.entry) }
+        ensures kept { IfOk result (λ core. OpeningKeeps verified.entry core.state) }
     {
         match HeapCircularBuffer::with_capacity(alloc, TRACE) {
             Err(_) => Err(OpenFault { verified }),
@@ -72,10 +72,10 @@ impl Core {
     }
 
     /// A core whose image was opened, with this trace, which is empty.
-    fn started(verified: Verified, trace: HeapCircularBuffer<Record>) -> Core
+    fn started(verified: Verified<'a>, trace: HeapCircularBuffer<Record>) -> Core<'a>
         requires { trace ≡ buffer [] TRACE }
-        ensures image { result.image ≡ verified }
-        ensures state { (b : Behaviour) → IsBehaviour verified b → result.state ≡ opened b verified }
+        ensures image { result.image ≡ verified.entry }
+        ensures state { (b : Behaviour) → IsBehaviour verified.entry b → result.state ≡ opened b verified.entry }
     {
         let position = open_position(&verified);
         let queue = run_inits(&verified, &position);

@@ -34,7 +34,7 @@ pub fn accepted_is_kept()
 /// Makes a step of a core that was lent, and tells how many instructions it executed: at most what the
 /// core's image states, whoever lent it and whatever was done with it before. An example of a caller
 /// that has nothing but the core.
-pub fn cost_of_step(core: &mut Core, step: Step) -> u32
+pub fn cost_of_step(core: &mut Core<'_>, step: Step) -> u32
     ensures cost { result ≤ core.old.image.budgets.cost }
     // It is the cost that the run's reply tells.
     ensures told { (b : Behaviour) → IsBehaviour core.old.image b

@@ -1,15 +1,12 @@
 //! What a core says of itself.
 
-ghost use Rattle.std.specs.Prelude.{◌≡◌, ◌<◌, IfSome, length, position};
-ghost use Rattle.std.specs.Str.{bytes_eq};
-
 use crate::gateway::Core;
 use crate::laws::accepted_is_kept;
 use crate::step::Record;
-use ifs_base::{CommandId, IfaceId, LinkState, StateId, TestId, Text};
-use ifs_image::ImageParts;
+use ifs_base::{CommandId, IfaceId, LinkState, StateId, TestId};
+use ifs_image::ImageView;
 
-impl Core {
+impl<'a> Core<'a> {
     ghost use Rattle.std.specs.Prelude.{◌≡◌, ◌<◌, ◌↔◌, IsSome, IfSome, length, option_map, slice_get};
     ghost use Rattle.ifs_sched.specs.Schedule.{running_count};
     ghost use Rattle.ifs_image.specs.Limits.{Fits};
@@ -20,7 +17,7 @@ impl Core {
 
     /// The image that runs. It is accepted and keeps to its limits, and so it keeps what the headline
     /// promises; the state of the core is one of its run.
-    pub fn image(&self) -> &ImageParts
+    pub fn image(&self) -> &ImageView<'a>
         ensures value { result.now ≡ self.now.image }
         ensures accepted { IsAccepted self.now.image }
         ensures fits { Fits self.now.image }
@@ -28,7 +25,7 @@ impl Core {
         ensures stands { IsStateOf self.now.image self.now.state }
     {
         accepted_is_kept();
-        self.verified.image().parts()
+        self.verified.image()
     }
 
     /// The current state.
@@ -88,41 +85,52 @@ impl Core {
     }
 
     /// The name of a state; `None` where it is not in the table.
-    pub fn state_name(&self, state: StateId) -> Option<&str>
+    pub fn state_name(&self, state: StateId) -> Option<&'a str>
         ensures value { option_map (λ name. name.now) result ≡ option_map (λ s. s.name) (slice_get self.now.image.states state.0) }
         ensures known { IsSome result ↔ IsListed self.now.image state }
     {
-        let states = &self.verified.image().parts().states;
-        let state = states.as_slice().get(usize::from(state.0))?;
-        Some(state.name.as_str())
+        let image = self.verified.image();
+        let index = usize::from(state.0);
+        if index < image.states() {
+            Some(image.state_name(index))
+        } else {
+            None
+        }
     }
 
     /// The text of a command; `None` where it is not in the table.
-    pub fn command_text(&self, command: CommandId) -> Option<&str>
+    pub fn command_text(&self, command: CommandId) -> Option<&'a str>
         ensures value { option_map (λ text. text.now) result ≡ slice_get self.now.image.commands command.0 }
         ensures known { IsSome result ↔ IsCommand self.now.image command }
     {
-        let commands = &self.verified.image().parts().commands;
-        let text = commands.as_slice().get(usize::from(command.0))?;
-        Some(text.as_str())
+        let image = self.verified.image();
+        let index = usize::from(command.0);
+        if index < image.commands() {
+            Some(image.command(index))
+        } else {
+            None
+        }
     }
 
     /// The command of a test; `None` where it is not in the table.
-    pub fn test_text(&self, test: TestId) -> Option<&str>
+    pub fn test_text(&self, test: TestId) -> Option<&'a str>
         ensures value { option_map (λ text. text.now) result ≡ option_map (λ t. t.text) (slice_get self.now.image.tests test.0) }
         ensures known { IsSome result ↔ (test.0 < length self.now.image.tests) }
     {
-        let tests = &self.verified.image().parts().tests;
-        let test = tests.as_slice().get(usize::from(test.0))?;
-        Some(test.text.as_str())
+        let image = self.verified.image();
+        let index = usize::from(test.0);
+        if index < image.tests() {
+            Some(image.test_text(index))
+        } else {
+            None
+        }
     }
 
     /// The interface of a name, compared byte by byte; `None` where it is not in the table.
     pub fn iface_of(&self, name: &[u8]) -> Option<IfaceId>
         ensures { result ≡ interface_of self.now.image.interfaces name.now }
     {
-        let interfaces = &self.verified.image().parts().interfaces;
-        match index_of(interfaces.as_slice(), name) {
+        match self.verified.image().interface_index(name) {
             Some(index) => Some(IfaceId(index as u16)),
             None => None,
         }
@@ -143,12 +151,4 @@ impl Core {
     {
         self.trace.get(index).copied()
     }
-}
-
-/// The index of the first name that is this one, byte by byte.
-fn index_of(names: &[Text], name: &[u8]) -> Option<usize>
-    ensures found { result ≡ position (λ other. bytes_eq other name.now) names.now }
-    ensures within { IfSome result (λ index. index < length names.now) }
-{
-    names.iter().position(|other| other.as_bytes() == name)
 }

@@ -11,7 +11,7 @@ use arrayvec::ArrayVec;
 use ifs_base::{CommandId, IfaceId, LinkState, TestId};
 use ifs_machine::Effects;
 
-impl Core {
+impl<'a> Core<'a> {
     ghost use Rattle.std.specs.Prelude.{◌≡◌, ◌≤◌, ◌<◌, ◌+◌, [], false, All, length};
     ghost use Rattle.ifs_sched.specs.Schedule.{is_running};
     ghost use Rattle.ifs_machine.specs.Run.{IsCommand};

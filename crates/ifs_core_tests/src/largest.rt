@@ -16,7 +16,7 @@ fn bytes_in(alloc: Global, text: &str) -> Result<Vec<u8>, Fail> {
     Ok(write(alloc, &image)?)
 }
 
-fn opened(alloc: Global, verified: Verified) -> Result<Core, Fail> {
+fn opened<'a>(alloc: Global, verified: Verified<'a>) -> Result<Core<'a>, Fail> {
     match Core::open(alloc, verified) {
         Ok(core) => Ok(core),
         Err(_) => Err(Fail::from("no core")),
@@ -24,7 +24,7 @@ fn opened(alloc: Global, verified: Verified) -> Result<Core, Fail> {
 }
 
 /// Its last state is the initial one, and its last interface is told.
-fn check_core(rt: &impl Abort, core: &mut Core) {
+fn check_core(rt: &impl Abort, core: &mut Core<'_>) {
     assert_eq!(rt; core.state(), StateId(255));
     let reply = core.step(Step::Link(IfaceId(63), LinkState::Up));
     assert!(rt;

@@ -10,7 +10,7 @@ mod plain;
 use arrayvec::ArrayVec;
 use ifs_asm::assemble;
 use ifs_base::LinkState;
-use ifs_image::{ImageParts, write};
+use ifs_image::{ImageParts, ImageView, read, write};
 use ifs_machine::{Effects, Facts, laws, run_handler};
 use ifs_rows::{bytes_of, images};
 use ifs_verify::{Verified, verify};
@@ -88,16 +88,16 @@ fn put_routine(
 }
 
 /// Facts for an image: the first entry of each table has the first value, and so on by turns.
-fn facts_for(parts: &ImageParts, links: [LinkState; 2], tests: [Option<bool>; 2]) -> Facts
-    requires { CountsFit parts.now }
-    ensures { AreFactsOf parts.now (facts_of result) }
+fn facts_for(image: &ImageView<'_>, links: [LinkState; 2], tests: [Option<bool>; 2]) -> Facts
+    requires { CountsFit image.now }
+    ensures { AreFactsOf image.now (facts_of result) }
 {
     let mut known_links = ArrayVec::new();
-    for i in 0..parts.interfaces.len() {
+    for i in 0..image.interfaces() {
         known_links.push(links[i % 2]);
     }
     let mut known_tests = ArrayVec::new();
-    for i in 0..parts.tests.len() {
+    for i in 0..image.tests() {
         known_tests.push(tests[i % 2]);
     }
     Facts {
@@ -108,31 +108,30 @@ fn facts_for(parts: &ImageParts, links: [LinkState; 2], tests: [Option<bool>; 2]
 
 /// The run of the always body, from an empty queue.
 fn body_run(
-    verified: &Verified,
+    verified: &Verified<'_>,
     links: [LinkState; 2],
     tests: [Option<bool>; 2],
 ) -> (u32, Effects) {
     laws::empty_queue_has_room();
-    let parts = verified.image().parts();
-    let facts = facts_for(parts, links, tests);
+    let image = verified.image();
+    let facts = facts_for(image, links, tests);
     let mut effects = Effects {
         queued: ArrayVec::new(),
         want: None,
     };
-    let cost = run_handler(verified, parts.always.body, &facts, &mut effects);
+    let cost = run_handler(verified, image.always().body, &facts, &mut effects);
     (cost, effects)
 }
 
-/// The run of the always body, which is the one of the slow program.
+/// The run of the always body, which is the one of the slow program over a copy of the image.
 fn compared(
     rt: &impl Abort,
     alloc: Global,
-    verified: &Verified,
-    links: [LinkState; 2],
-    tests: [Option<bool>; 2],
+    verified: &Verified<'_>,
+    parts: &ImageParts,
+    (links, tests): ([LinkState; 2], [Option<bool>; 2]),
 ) -> Result<plain::Ending, Fail> {
     let (cost, effects) = body_run(verified, links, tests);
-    let parts = verified.image().parts();
     let slow = plain::slow_run(alloc, parts, &links, &tests, parts.always.body.0)?;
     let mut commands = Vec::new(alloc);
     for command in effects.queued.as_slice() {
@@ -152,7 +151,8 @@ fn ran(
     facts: ([LinkState; 2], [Option<bool>; 2]),
 ) -> Result<plain::Ending, Fail> {
     let verified = verify(alloc, image)?;
-    compared(rt, alloc, &verified, facts.0, facts.1)
+    let copied = read(alloc, image)?;
+    compared(rt, alloc, &verified, copied.parts(), facts)
 }
 
 /// The run of the last of these routines, which is every handler.
@@ -326,9 +326,14 @@ fn small_code(
 }
 
 /// The runs of the always body before the first test ended, and after one found false.
-fn compared_twice(rt: &impl Abort, alloc: Global, verified: &Verified) -> Result<(), Fail> {
-    compared(rt, alloc, verified, DOWN, NEVER)?;
-    compared(rt, alloc, verified, DOWN, [Some(false), None])?;
+fn compared_twice(
+    rt: &impl Abort,
+    alloc: Global,
+    verified: &Verified<'_>,
+    parts: &ImageParts,
+) -> Result<(), Fail> {
+    compared(rt, alloc, verified, parts, (DOWN, NEVER))?;
+    compared(rt, alloc, verified, parts, (DOWN, [Some(false), None]))?;
     Ok(())
 }
 
@@ -338,7 +343,8 @@ fn small(rt: &impl Abort, alloc: Global, code: &str) -> Result<bool, Fail> {
     let Ok(verified) = verify(alloc, image.as_slice()) else {
         return Ok(false);
     };
-    compared_twice(rt, alloc, &verified)?;
+    let copied = read(alloc, image.as_slice())?;
+    compared_twice(rt, alloc, &verified, copied.parts())?;
     Ok(true)
 }
 

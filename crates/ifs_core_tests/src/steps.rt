@@ -11,10 +11,14 @@ use std::test::Fail;
 
 mod lent;
 
-/// Opens an image in hexadecimal.
-fn opened(rt: &impl Abort, alloc: Global, image: &str) -> Core {
-    let bytes = bytes_of(alloc, image).expect(rt, "no bytes");
-    match verify(alloc, bytes.as_slice()) {
+/// The bytes of an image in hexadecimal.
+fn bytes_in(rt: &impl Abort, alloc: Global, image: &str) -> Vec<u8> {
+    bytes_of(alloc, image).expect(rt, "no bytes")
+}
+
+/// Opens an image.
+fn opened<'a>(rt: &impl Abort, alloc: Global, image: &'a [u8]) -> Core<'a> {
+    match verify(alloc, image) {
         Err(fault) => panic!(rt; "not accepted: {fault}"),
         Ok(verified) => Core::open(alloc, verified).expect(rt, "not opened"),
     }
@@ -31,7 +35,7 @@ fn link_of(word: &str) -> Option<LinkState> {
 }
 
 /// The step that a request line asks for, where it asks for one.
-fn step_of(core: &Core, line: &str) -> Option<Step> {
+fn step_of(core: &Core<'_>, line: &str) -> Option<Step> {
     let mut words = line.split_whitespace();
     match words.next()? {
         "link" => {
@@ -80,7 +84,7 @@ fn starts_text(alloc: Global, starts: &[Start]) -> Result<String, AllocError> {
 /// The event of a reply line.
 fn event_text(
     alloc: Global,
-    core: &Core,
+    core: &Core<'_>,
     state: StateId,
     cost: u32,
     queued: &[CommandId],
@@ -91,7 +95,7 @@ fn event_text(
 }
 
 /// A reply as a line.
-fn reply_text(alloc: Global, core: &Core, reply: &Reply) -> Result<String, AllocError> {
+fn reply_text(alloc: Global, core: &Core<'_>, reply: &Reply) -> Result<String, AllocError> {
     match reply {
         Reply::Done {
             state,
@@ -131,7 +135,7 @@ fn reply_text(alloc: Global, core: &Core, reply: &Reply) -> Result<String, Alloc
 }
 
 /// What the readers say, as the line that answers `status`.
-fn status_text(alloc: Global, core: &Core) -> Result<String, AllocError> {
+fn status_text(alloc: Global, core: &Core<'_>) -> Result<String, AllocError> {
     let name = core.state_name(core.state()).unwrap_or("");
     let owed = if core.owed() { "yes" } else { "no" };
     let queue = core.queue_len();
@@ -143,7 +147,7 @@ fn status_text(alloc: Global, core: &Core) -> Result<String, AllocError> {
 }
 
 /// The answer to a request line; none where a session answers it without the core.
-fn answer(alloc: Global, core: &mut Core, line: &str) -> Result<Option<String>, AllocError> {
+fn answer(alloc: Global, core: &mut Core<'_>, line: &str) -> Result<Option<String>, AllocError> {
     if line == "status" {
         return Ok(Some(status_text(alloc, core)?));
     }
@@ -163,7 +167,12 @@ fn is_sessions_own(line: &str) -> bool {
 }
 
 /// Asserts the replies to the requests of a row.
-fn check_row(rt: &impl Abort, alloc: Global, core: &mut Core, row: &Row) -> Result<(), AllocError> {
+fn check_row(
+    rt: &impl Abort,
+    alloc: Global,
+    core: &mut Core<'_>,
+    row: &Row,
+) -> Result<(), AllocError> {
     for (request, wanted) in row.requests.lines().zip(row.replies.lines()) {
         match answer(alloc, core, request)? {
             Some(told) => assert_eq!(rt; told.as_str(), wanted, "{}: {request}", row.name),
@@ -176,7 +185,8 @@ fn check_row(rt: &impl Abort, alloc: Global, core: &mut Core, row: &Row) -> Resu
 #[test]
 fn worked_rows(rt: HostRuntime) -> Result<(), Fail> {
     for row in rows() {
-        let mut core = opened(&rt, rt.alloc(), row.image);
+        let image = bytes_in(&rt, rt.alloc(), row.image);
+        let mut core = opened(&rt, rt.alloc(), image.as_slice());
         check_row(&rt, rt.alloc(), &mut core, &row)?;
     }
     Ok(())
@@ -195,14 +205,14 @@ fn record(step: Step, answer: Answer, queued: u16, cost: u32) -> Record {
 }
 
 /// What the readers of links say after a step of the row *First run*.
-fn check_links(rt: &impl Abort, core: &Core) {
+fn check_links(rt: &impl Abort, core: &Core<'_>) {
     assert_eq!(rt; core.iface_of(b"carp0"), Some(IfaceId(0)));
     assert_eq!(rt; core.iface_of(b"carp1"), None);
     assert_eq!(rt; core.link(IfaceId(0)), Some(LinkState::Up));
 }
 
 /// Asserts that the trace is these records.
-fn check_trace(rt: &impl Abort, core: &Core, records: &[Record]) {
+fn check_trace(rt: &impl Abort, core: &Core<'_>, records: &[Record]) {
     assert_eq!(rt; core.trace_len(), records.len());
     for (index, wanted) in records.iter().enumerate() {
         assert_eq!(rt; core.trace_at(index), Some(*wanted));
@@ -211,7 +221,8 @@ fn check_trace(rt: &impl Abort, core: &Core, records: &[Record]) {
 
 #[test]
 fn readers_after_steps(rt: HostRuntime) {
-    let mut core = opened(&rt, rt.alloc(), images::FIRST_RUN);
+    let image = bytes_in(&rt, rt.alloc(), images::FIRST_RUN);
+    let mut core = opened(&rt, rt.alloc(), image.as_slice());
     for step in [LINK_UP, LINK_UP, Step::Take, Step::Take] {
         core.step(step);
     }
@@ -225,20 +236,22 @@ fn readers_after_steps(rt: HostRuntime) {
 }
 
 /// The second test of the row *Held back* before its first run.
-fn check_test(rt: &impl Abort, core: &Core) {
+fn check_test(rt: &impl Abort, core: &Core<'_>) {
     assert_eq!(rt; core.test_text(TestId(1)), Some("t2"));
     assert_eq!(rt; core.test_value(TestId(1)), Some(None));
 }
 
 #[test]
 fn readers_of_tests(rt: HostRuntime) {
-    check_test(&rt, &opened(&rt, rt.alloc(), images::HELD_BACK));
+    let image = bytes_in(&rt, rt.alloc(), images::HELD_BACK);
+    check_test(&rt, &opened(&rt, rt.alloc(), image.as_slice()));
 }
 
 /// An interface that is not in the table.
 #[test]
 fn no_such_interface(rt: HostRuntime) {
-    let mut core = opened(&rt, rt.alloc(), images::HELD_BACK);
+    let image = bytes_in(&rt, rt.alloc(), images::HELD_BACK);
+    let mut core = opened(&rt, rt.alloc(), image.as_slice());
     let reply = core.step(Step::Link(IfaceId(1), LinkState::Up));
     assert!(rt; matches!(reply, Reply::NoSuch));
 }

@@ -118,7 +118,8 @@ pub fn replies_of_text<'a>(
 ) -> Result<Vec<Reply>, CompileFault>
     ensures { IfOk result (λ replies. RepliesAsText text.now (map (λ d. (d.0.now, d.1.now)) defs.now) steps.now replies.items) }
 {
-    let mut core = match compiled_core(alloc, text, defs) {
+    let mut image = Vec::new(alloc);
+    let mut core = match compiled_core(alloc, text, defs, &mut image) {
         Ok(core) => core,
         Err(fault) => return Err(fault),
     };
@@ -129,7 +130,7 @@ pub fn replies_of_text<'a>(
 }
 
 /// Makes steps of a core, one after the other, and answers the reply to each.
-fn make_steps(alloc: Global, core: &mut Core, steps: &[Step]) -> Result<Vec<Reply>, AllocError>
+fn make_steps(alloc: Global, core: &mut Core<'_>, steps: &[Step]) -> Result<Vec<Reply>, AllocError>
     ensures { IfOk result (λ replies. LeadsTo core.old.image steps.now replies.items core.old.state core.new.state) }
 {
     let mut replies = Vec::new(alloc);

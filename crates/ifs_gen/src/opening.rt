@@ -15,16 +15,18 @@ use ifs_verify::{VerifyFault, verify};
 use std::alloc::Global;
 
 /// Compiles a text, verifies its image and opens it: a core that runs what the text says. `defs` are
-/// definitions that win over the text's.
+/// definitions that win over the text's. The image's bytes, in which the core's texts and code lie, take
+/// the place of what `image` held; where the text is refused that stays.
 ///
 /// The text is refused as `compile` refuses it, and nothing that compiles is refused by the verifier. P0,
 /// for want of memory, may come in place of another answer, but not of a fault of the text that is certain before
 /// anything is kept.
-pub fn compiled_core<'a>(
+pub fn compiled_core<'a, 'b>(
     alloc: Global,
     text: &'a str,
     defs: &'a [(&'a str, &'a str)],
-) -> Result<Core, CompileFault>
+    image: &'b mut Vec<u8>,
+) -> Result<Core<'b>, CompileFault>
     // The core runs the one policy of the text: names, texts, and for every list of steps the replies.
     ensures runs { IfOk result (λ core. RunsText text.now (map (λ d. (d.0.now, d.1.now)) defs.now) core) }
     // A refusal but for memory says that the text has no policy, or that the code of the policy passes a limit,
@@ -34,11 +36,11 @@ pub fn compiled_core<'a>(
     // What is certain of the text before anything is kept is told, and no want of memory in its place.
     ensures at_once { (fault : LexFault) → certain_at_once text.now (map (λ d. (d.0.now, d.1.now)) defs.now) ≡ Some fault → result ≡ Err (of_policy (of_text fault)) }
 {
-    let bytes = match compile(alloc, text, defs) {
-        Ok(bytes) => bytes,
+    match compile(alloc, text, defs) {
+        Ok(bytes) => *image = bytes,
         Err(fault) => return Err(fault),
-    };
-    let verified = match verify(alloc, bytes.as_slice()) {
+    }
+    let verified = match verify(alloc, image.as_slice()) {
         Ok(verified) => verified,
         Err(VerifyFault::OutOfMemory) => return Err(CompileFault::Memory),
         Err(_) => unreachable!(),

@@ -5,4 +5,5 @@ pub mod Ops
 pub mod PartLaws
 pub mod ImageLaws
 pub mod Loops
+pub mod Words
 pub mod Puts

@@ -238,7 +238,7 @@ length-spelling (Call n) = refl
 length-spelling Pop = refl
 length-spelling Dup = refl
 
-ok_or_ok : (o : Option Op) (d : ImageFault) (op : Op) → ok_or o d ≡ Ok op → o ≡ Some op
+pub ok_or_ok : (o : Option Op) (d : ImageFault) (op : Op) → ok_or o d ≡ Ok op → o ≡ Some op
 ok_or_ok None d op e = absurd cc
 ok_or_ok (Some x) d op e = ap (λ (z : Op). Some z) (ok_is x op e)
 

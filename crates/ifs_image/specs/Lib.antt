@@ -3,4 +3,5 @@ pub mod Limits
 pub mod Spelling
 pub mod Reading
 pub mod Answers
+pub mod Lent
 pub use Rattle.ifs_base.specs.Facts

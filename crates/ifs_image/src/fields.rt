@@ -1,15 +1,16 @@
 //! Numbers, texts and instructions at a place of an image's bytes.
 
-ghost use Rattle.std.specs.Prelude.{◌≡◌, ◌≤◌, ◌==◌, length, is_some, IfSome, IfOk};
+ghost use Rattle.std.specs.Prelude.{◌≡◌, ◌≤◌, ◌/◌, ◌==◌, length, is_some, IfSome, IfOk};
+ghost use Rattle.std.specs.Simd.{first_chunks};
 ghost use Rattle.std.specs.Int.{w16, w32, w64};
 ghost use Rattle.ifs_image.specs.Reading.{bytes_at, byte_at, number_at, number_within, length_at};
 ghost use Rattle.ifs_image.specs.Reading.{is_text, text_sized, text_at, instruction_at};
 ghost use Rattle.ifs_image.specs.Answers.{Gives, GivesAtOnce, GivesAtOnceBy};
 
 use crate::fault::ImageFault;
+use crate::lent::LentText;
 use crate::limits;
-use ifs_base::{Op, Text, decode_op};
-use std::alloc::Global;
+use ifs_base::{Op, decode_op};
 use std::marker::Model;
 
 /// The bytes of an image that are not read yet, and how many were.
@@ -149,7 +150,7 @@ impl<'a> Reader<'a> {
 
     /// A text of so many bytes; I5 where it is not UTF-8 or has a NUL.
     #[tactic(auto, unfolding(crate::specs::Reading::text_sized))]
-    pub fn text_sized(&mut self, alloc: Global, length: u16) -> Result<Text, ImageFault>
+    pub fn text_sized(&mut self, length: u16) -> Result<LentText<'a>, ImageFault>
         ensures { Gives result self.new (text_sized length self.old) }
     {
         let at = self.at;
@@ -157,17 +158,25 @@ impl<'a> Reader<'a> {
         let Some(text) = text_in(bytes) else {
             return Err(ImageFault::BadText { at });
         };
-        Ok(Text::new(String::from_str(alloc, text)?))
+        Ok(LentText::new(text))
     }
 
     /// A length and a text of that many bytes.
     #[tactic(auto, unfolding(crate::specs::Reading::text_at))]
-    pub fn text(&mut self, alloc: Global) -> Result<Text, ImageFault>
+    pub fn text(&mut self) -> Result<LentText<'a>, ImageFault>
         ensures { Gives result self.new (text_at self.old) }
     {
         let length = self.text_length()?;
-        let text = self.text_sized(alloc, length)?;
+        let text = self.text_sized(length)?;
         Ok(text)
+    }
+
+    /// The next bytes by fours, as far as they go.
+    pub fn words(&self) -> &'a [[u8; 4]]
+        ensures { result.now ≡ first_chunks 4 (length self.now.left / 4) self.now.left }
+    {
+        let rest = self.rest;
+        rest.as_chunks::<4>().0
     }
 
     /// An instruction; I8 where the four bytes spell none.

@@ -68,14 +68,14 @@ fn routine_fits(routine: &Routine) -> bool
 }
 
 /// Whether a name stands in a table.
-pub fn is_among(names: &[Text], name: &[u8]) -> bool
+fn is_among(names: &[Text], name: &[u8]) -> bool
     ensures { result ≡ stands_in name.now names.now }
 {
     names.iter().any(|other| other.as_bytes() == name)
 }
 
 /// Whether a state of a table has a name.
-pub fn is_name_among(states: &[StateSpec], name: &[u8]) -> bool
+fn is_name_among(states: &[StateSpec], name: &[u8]) -> bool
     ensures { result ≡ stands_in name.now (names_of states.now) }
 {
     have_name(states, name)

@@ -1,24 +1,30 @@
 //! The image: what a policy is compiled to, and its bytes.
 //!
 //! An image has budgets, tables of interfaces, tests, commands and states, the handlers of the always
-//! part and of each state, and routines of byte code. [`read`] takes it from its bytes, whoever made
-//! them, and names the first thing that is wrong with them, with the offset of the field's first byte.
-//! [`write`] gives the bytes back. Contract: bytes spell at most one image, an image has one spelling,
-//! and both functions keep to it; no spelling is a prefix of another.
+//! part and of each state, and routines of byte code. [`view`] sees it in its bytes, whoever made
+//! them, and names the first thing that is wrong with them, with the offset of the field's first byte;
+//! [`read`] copies what it sees. [`write`] gives the bytes back. Contract: bytes spell at most one image,
+//! an image has one spelling, and these functions keep to it; no spelling is a prefix of another.
 #![tactic(auto)]
 
+mod copying;
 mod fault;
 mod fields;
 mod fitting;
 mod image;
+mod image_view;
 pub mod laws;
+mod lent;
 pub mod limits;
 mod parts;
 mod reading;
 mod writing;
 
+pub use copying::read;
 pub use fault::ImageFault;
 pub use image::Image;
+pub use image_view::ImageView;
+pub use lent::LentCode;
 pub use parts::{Budgets, Handlers, ImageParts, Routine, StateSpec, TestSpec};
-pub use reading::read;
+pub use reading::view;
 pub use writing::write;

@@ -8,26 +8,31 @@ ghost use Rattle.ifs_image.specs.Spelling.{Spells};
 ghost use Rattle.ifs_image.specs.Reading.{magic_at, version_at, budgets_at, counts_at, handlers_at};
 ghost use Rattle.ifs_image.specs.Reading.{name_at, test_at, state_at, text_at, instruction_at, results_at};
 ghost use Rattle.ifs_image.specs.Reading.{routine_at, room_after, items_at, parts_at, head_at, image_of, cursor};
+ghost use Rattle.ifs_image.specs.Reading.{stands_in};
+ghost use Rattle.ifs_image.specs.Limits.{names_of};
+ghost use Rattle.std.specs.List.{list_any};
+ghost use Rattle.std.specs.Str.{bytes_eq};
 ghost use Rattle.ifs_image.specs.Answers.{Gives, GivesAtOnce, Answers, RefusesHead};
 
 use crate::fault::ImageFault;
 use crate::fields::Reader;
-use crate::fitting::{is_among, is_name_among};
-use crate::image::Image;
+use crate::image_view::ImageView;
+use crate::lent::{LentCode, LentParts, LentRoutine, LentState, LentTest, LentText};
 use crate::limits;
-use crate::parts::{Budgets, Counts, Handlers, ImageParts, Routine, StateSpec, TestSpec};
-use ifs_base::{Items, Op, RoutineId, StateId, Text};
+use crate::parts::{Budgets, Counts, Handlers};
+use ifs_base::{Items, RoutineId, StateId};
 use std::alloc::Global;
 
-/// The image that the bytes spell, all of them. After a refusal nothing is kept.
+/// The image that the bytes spell, all of them, where it lies in them: texts and instructions are lent and not copied.
+/// After a refusal nothing is kept.
 ///
 /// I1 to I8 name the first fault from the left, with the offset of the first byte of its field. I0, for
 /// want of memory, may come in place of another answer, unless a field before the tables has a fault.
 #[tactic(auto, unfolding(crate::specs::Reading::image_of))]
-pub fn read(alloc: Global, bytes: &[u8]) -> Result<Image, ImageFault>
-    // What is read is spelled by the bytes, all of them.
+pub fn view<'a>(alloc: Global, bytes: &'a [u8]) -> Result<ImageView<'a>, ImageFault>
+    // What is seen is spelled by the bytes, all of them.
     ensures found { IfOk result (λ image. Spells bytes.now image) }
-    // What the bytes spell is read, unless want of memory is told.
+    // What the bytes spell is seen, unless want of memory is told.
     ensures only { (image : ImageParts) → Spells bytes.now image → result ≢ Err Memory → result ≡ Ok image }
     // Any other refusal is the first fault from the left.
     ensures first_fault { Answers result (image_of bytes.now) }
@@ -39,11 +44,11 @@ pub fn read(alloc: Global, bytes: &[u8]) -> Result<Image, ImageFault>
     if !reader.is_at_end() {
         return Err(ImageFault::Trailing { at: reader.at() });
     }
-    Ok(Image::new(parts))
+    Ok(ImageView::new(parts))
 }
 
 #[tactic(auto, unfolding(crate::specs::Reading::parts_at, crate::specs::Reading::head_at))]
-fn parts_of(alloc: Global, reader: &mut Reader<'_>) -> Result<ImageParts, ImageFault>
+fn parts_of<'a>(alloc: Global, reader: &mut Reader<'a>) -> Result<LentParts<'a>, ImageFault>
     ensures given { Gives result reader.new (parts_at reader.old) }
     ensures at_once { RefusesHead result reader.old }
 {
@@ -58,7 +63,7 @@ fn parts_of(alloc: Global, reader: &mut Reader<'_>) -> Result<ImageParts, ImageF
     let commands = commands_of(alloc, reader, counts.commands)?;
     let states = states_of(alloc, reader, counts.states)?;
     let routines = routines_of(alloc, reader, counts.routines)?;
-    Ok(ImageParts {
+    Ok(LentParts {
         budgets,
         initial,
         always,
@@ -138,67 +143,70 @@ fn handlers_of(reader: &mut Reader<'_>) -> Result<Handlers, ImageFault>
 
 /// A name that stands not among those before it; I6 at the text where it does.
 #[tactic(auto, unfolding(crate::specs::Reading::name_at))]
-fn interface_of(alloc: Global, reader: &mut Reader<'_>, before: &[Text]) -> Result<Text, ImageFault>
+fn interface_of<'a>(
+    reader: &mut Reader<'a>,
+    before: &[LentText<'a>],
+) -> Result<LentText<'a>, ImageFault>
     ensures { Gives result reader.new (name_at before.now reader.old) }
 {
     let length = reader.text_length()?;
     let at = reader.at();
-    let name = reader.text_sized(alloc, length)?;
+    let name = reader.text_sized(length)?;
     if is_among(before, name.as_bytes()) {
         return Err(ImageFault::RepeatedName { at });
     }
     Ok(name)
 }
 
-fn interfaces_of(
+fn interfaces_of<'a>(
     alloc: Global,
-    reader: &mut Reader<'_>,
+    reader: &mut Reader<'a>,
     count: u16,
-) -> Result<Items<Text>, ImageFault>
+) -> Result<Items<LentText<'a>>, ImageFault>
     ensures { Gives result reader.new (items_at name_at count [] reader.old) }
 {
-    let mut interfaces: Vec<Text> = Vec::new(alloc);
+    let mut interfaces: Vec<LentText<'a>> = Vec::new(alloc);
     'entries: for _ in 0..count {
-        let name = interface_of(alloc, reader, interfaces.as_slice())?;
+        let name = interface_of(reader, interfaces.as_slice())?;
         interfaces.push(name)?;
     }
     Ok(Items::new(interfaces))
 }
 
 #[tactic(auto, unfolding(crate::specs::Reading::test_at))]
-fn test_of(alloc: Global, reader: &mut Reader<'_>) -> Result<TestSpec, ImageFault>
+fn test_of<'a>(reader: &mut Reader<'a>) -> Result<LentTest<'a>, ImageFault>
     ensures { Gives result reader.new (test_at reader.old) }
 {
     let period = reader.u32_within(1, limits::PERIOD)?;
-    let text = reader.text(alloc)?;
-    Ok(TestSpec { period, text })
+    let text = reader.text()?;
+    Ok(LentTest { period, text })
 }
 
-fn tests_of(
+fn tests_of<'a>(
     alloc: Global,
-    reader: &mut Reader<'_>,
+    reader: &mut Reader<'a>,
     count: u16,
-) -> Result<Items<TestSpec>, ImageFault>
+) -> Result<Items<LentTest<'a>>, ImageFault>
     ensures { Gives result reader.new (items_at (λ _. test_at) count [] reader.old) }
 {
     let mut tests = Vec::new(alloc);
     'entries: for _ in 0..count {
-        let test = test_of(alloc, reader)?;
+        let test = test_of(reader)?;
         tests.push(test)?;
     }
     Ok(Items::new(tests))
 }
 
-fn commands_of(
+fn commands_of<'a>(
     alloc: Global,
-    reader: &mut Reader<'_>,
+    reader: &mut Reader<'a>,
     count: u16,
-) -> Result<Items<Text>, ImageFault>
+) -> Result<Items<LentText<'a>>, ImageFault>
     ensures { Gives result reader.new (items_at (λ _. text_at) count [] reader.old) }
 {
     let mut commands = Vec::new(alloc);
     'entries: for _ in 0..count {
-        let text = reader.text(alloc)?;
+        let text = reader.text()?;
         commands.push(text)?;
     }
     Ok(Items::new(commands))
@@ -206,33 +214,32 @@ fn commands_of(
 
 /// A state whose name stands not among those before it; I6 at the text where it does.
 #[tactic(auto, unfolding(crate::specs::Reading::state_at, crate::specs::Reading::name_at))]
-fn state_of(
-    alloc: Global,
-    reader: &mut Reader<'_>,
-    before: &[StateSpec],
-) -> Result<StateSpec, ImageFault>
+fn state_of<'a>(
+    reader: &mut Reader<'a>,
+    before: &[LentState<'a>],
+) -> Result<LentState<'a>, ImageFault>
     ensures { Gives result reader.new (state_at before.now reader.old) }
 {
     let length = reader.text_length()?;
     let at = reader.at();
-    let name = reader.text_sized(alloc, length)?;
+    let name = reader.text_sized(length)?;
     if is_name_among(before, name.as_bytes()) {
         return Err(ImageFault::RepeatedName { at });
     }
     let handlers = handlers_of(reader)?;
-    Ok(StateSpec { name, handlers })
+    Ok(LentState { name, handlers })
 }
 
-fn states_of(
+fn states_of<'a>(
     alloc: Global,
-    reader: &mut Reader<'_>,
+    reader: &mut Reader<'a>,
     count: u16,
-) -> Result<Items<StateSpec>, ImageFault>
+) -> Result<Items<LentState<'a>>, ImageFault>
     ensures { Gives result reader.new (items_at state_at count [] reader.old) }
 {
-    let mut states: Vec<StateSpec> = Vec::new(alloc);
+    let mut states: Vec<LentState<'a>> = Vec::new(alloc);
     'entries: for _ in 0..count {
-        let state = state_of(alloc, reader, states.as_slice())?;
+        let state = state_of(reader, states.as_slice())?;
         states.push(state)?;
     }
     Ok(Items::new(states))
@@ -240,27 +247,27 @@ fn states_of(
 
 /// A routine, where there is room for so many instructions.
 #[tactic(auto, unfolding(crate::specs::Reading::routine_at))]
-fn routine_of(alloc: Global, reader: &mut Reader<'_>, room: u16) -> Result<Routine, ImageFault>
+fn routine_of<'a>(reader: &mut Reader<'a>, room: u16) -> Result<LentRoutine<'a>, ImageFault>
     ensures given { Gives result reader.new (routine_at room reader.old) }
     ensures room { IfOk result (λ routine. length routine.code ≤ room) }
 {
     let results = results_of(reader)?;
     let length = reader.u16_within(0, room.min(limits::CODE_OF_ROUTINE))?;
-    let code = code_of(alloc, reader, length)?;
-    Ok(Routine { results, code })
+    let code = code_of(reader, length)?;
+    Ok(LentRoutine { results, code })
 }
 
-fn routines_of(
+fn routines_of<'a>(
     alloc: Global,
-    reader: &mut Reader<'_>,
+    reader: &mut Reader<'a>,
     count: u16,
-) -> Result<Items<Routine>, ImageFault>
+) -> Result<Items<LentRoutine<'a>>, ImageFault>
     ensures { Gives result reader.new (items_at (λ before. routine_at (room_after before)) count [] reader.old) }
 {
     let mut routines = Vec::new(alloc);
     let mut room = limits::CODE_OF_IMAGE;
     'entries: for _ in 0..count {
-        let routine = routine_of(alloc, reader, room)?;
+        let routine = routine_of(reader, room)?;
         room -= routine.code.len() as u16;
         routines.push(routine)?;
     }
@@ -279,14 +286,33 @@ fn results_of(reader: &mut Reader<'_>) -> Result<u8, ImageFault>
     Ok(results)
 }
 
-fn code_of(alloc: Global, reader: &mut Reader<'_>, count: u16) -> Result<Items<Op>, ImageFault>
+fn code_of<'a>(reader: &mut Reader<'a>, count: u16) -> Result<LentCode<'a>, ImageFault>
     ensures given { Gives result reader.new (items_at (λ _. instruction_at) count [] reader.old) }
     ensures count { IfOk result (λ code. length code ≡ count) }
 {
-    let mut code = Vec::new(alloc);
+    let words = reader.words();
     'entries: for _ in 0..count {
-        let op = reader.op()?;
-        code.push(op)?;
+        reader.op()?;
     }
-    Ok(Items::new(code))
+    Ok(LentCode::new(&words[..usize::from(count)]))
+}
+
+/// Whether a name stands in a table.
+fn is_among(names: &[LentText<'_>], name: &[u8]) -> bool
+    ensures { result ≡ stands_in name.now names.now }
+{
+    names.iter().any(|other| other.as_bytes() == name)
+}
+
+/// Whether a state of a table has a name.
+fn is_name_among(states: &[LentState<'_>], name: &[u8]) -> bool
+    ensures { result ≡ stands_in name.now (names_of states.now) }
+{
+    have_name(states, name)
+}
+
+fn have_name(states: &[LentState<'_>], name: &[u8]) -> bool
+    ensures { result ≡ list_any (λ s. bytes_eq s.name name.now) states.now }
+{
+    states.iter().any(|other| other.name.as_bytes() == name)
 }

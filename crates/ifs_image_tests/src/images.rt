@@ -2,7 +2,7 @@
 
 use ifs_base::{CommandId, IfaceId, Items, LinkState, Op, RoutineId, StateId, Text};
 use ifs_image::{
-    Budgets, Handlers, Image, ImageFault, ImageParts, Routine, StateSpec, read, write,
+    Budgets, Handlers, Image, ImageFault, ImageParts, Routine, StateSpec, read, view, write,
 };
 use ifs_rows::{bytes_of, images, rows};
 use std::alloc::{AllocError, Global};
@@ -57,8 +57,9 @@ fn changed(
     Ok(bytes)
 }
 
-/// Asserts that bytes are refused with this fault.
+/// Asserts that bytes are refused with this fault, seen as well as read.
 fn check_refused(rt: &impl Abort, alloc: Global, bytes: &[u8], fault: ImageFault) {
+    assert_eq!(rt; view(alloc, bytes).err(), Some(fault));
     assert_eq!(rt; read(alloc, bytes).err(), Some(fault));
 }
 
@@ -115,6 +116,8 @@ fn check_fault(rt: &impl Abort, alloc: Global, row: &str) -> Result<(), Fail> {
     let bytes = smallest_changed(alloc, at, removed, put)?;
     let told = fault_text(alloc, bytes.as_slice())?;
     assert_eq!(rt; told.as_str(), expected, "{row}");
+    let seen = view(alloc, bytes.as_slice()).err();
+    assert_eq!(rt; seen, read(alloc, bytes.as_slice()).err(), "{row}");
     Ok(())
 }
 

@@ -11,3 +11,5 @@ mod images;
 mod instructions;
 #[cfg(test)]
 mod verifying;
+#[cfg(test)]
+mod views;

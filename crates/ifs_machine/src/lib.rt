@@ -4,6 +4,7 @@
 //! Contract: the run is the one that the table gives, and its cost is told exactly.
 #![tactic(auto)]
 
+mod decoding;
 mod effects;
 pub mod laws;
 mod machine;

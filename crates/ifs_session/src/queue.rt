@@ -12,7 +12,7 @@ use ifs_core::{Core, Step};
 
 /// Takes the commands of the queue until it is empty, and runs the text of each, in order. Whatever the
 /// host answers changes nothing. The answer has the steps that were made, each of which is `Take`.
-pub fn run_queue<H: Host>(core: &mut Core, host: &mut H) -> ArrayVec<Step, 64>
+pub fn run_queue<H: Host>(core: &mut Core<'_>, host: &mut H) -> ArrayVec<Step, 64>
     ensures image { core.new.image ≡ core.old.image }
     ensures steps { result.items ≡ takes_of core.old.state.queue }
     // The core is the one before with these steps made.
@@ -28,7 +28,7 @@ pub fn run_queue<H: Host>(core: &mut Core, host: &mut H) -> ArrayVec<Step, 64>
 
 /// Takes the commands of the queue until it is empty, runs the text of each, and adds the steps.
 pub(crate) fn empty_queue<H: Host, const N: usize>(
-    core: &mut Core,
+    core: &mut Core<'_>,
     host: &mut H,
     steps: &mut ArrayVec<Step, N>,
 )
@@ -46,7 +46,11 @@ pub(crate) fn empty_queue<H: Host, const N: usize>(
 }
 
 /// The same, where the steps have room for as many as the queue has commands.
-fn empty_rest<H: Host, const N: usize>(core: &mut Core, host: &mut H, steps: &mut ArrayVec<Step, N>)
+fn empty_rest<H: Host, const N: usize>(
+    core: &mut Core<'_>,
+    host: &mut H,
+    steps: &mut ArrayVec<Step, N>,
+)
     requires { length steps.old.items + length core.old.state.queue ≤ N }
     ensures image { core.new.image ≡ core.old.image }
     ensures steps { steps.new.items ≡ steps.old.items ++ takes_of core.old.state.queue }

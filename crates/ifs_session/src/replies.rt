@@ -19,7 +19,7 @@ use ifs_core::{Answer, Core, Lists, Outcome, Record, Step};
 use ifs_sched::Start;
 
 /// Writes the name of a state in quotes.
-fn put_state<W: ByteOut>(out: &mut W, core: &Core, state: StateId) -> Result<(), DeviceFault>
+fn put_state<W: ByteOut>(out: &mut W, core: &Core<'_>, state: StateId) -> Result<(), DeviceFault>
     requires { IsListed core.now.image state }
     ensures { PutGives result (quoted (state_name core.now.image state.0)) (W.written out.old) (W.written out.new) (W.faults out.old) (W.faults out.new) }
 {
@@ -30,7 +30,11 @@ fn put_state<W: ByteOut>(out: &mut W, core: &Core, state: StateId) -> Result<(),
 }
 
 /// Writes the text of a command in quotes.
-fn put_command<W: ByteOut>(out: &mut W, core: &Core, command: CommandId) -> Result<(), DeviceFault>
+fn put_command<W: ByteOut>(
+    out: &mut W,
+    core: &Core<'_>,
+    command: CommandId,
+) -> Result<(), DeviceFault>
     requires { command.0 < length core.now.image.commands }
     ensures { PutGives result (quoted (command_text core.now.image command.0)) (W.written out.old) (W.written out.new) (W.faults out.old) (W.faults out.new) }
 {
@@ -44,7 +48,7 @@ fn put_command<W: ByteOut>(out: &mut W, core: &Core, command: CommandId) -> Resu
 #[tactic(auto, using(crate::proofs::Known::written_laws))]
 fn put_evaluation<W: ByteOut>(
     out: &mut W,
-    core: &Core,
+    core: &Core<'_>,
     state: StateId,
     cost: u32,
     queued: &[CommandId],
@@ -102,7 +106,7 @@ fn put_starts<W: ByteOut>(out: &mut W, starts: &[Start], exhausted: bool) -> Res
 #[tactic(auto, using(crate::proofs::Known::written_laws))]
 pub(crate) fn put_reply<W: ByteOut>(
     out: &mut W,
-    core: &Core,
+    core: &Core<'_>,
     outcome: Outcome,
     lists: &Lists,
 ) -> Result<(), DeviceFault>
@@ -143,7 +147,7 @@ pub(crate) fn put_reply<W: ByteOut>(
 #[tactic(auto, using(crate::proofs::Known::written_laws))]
 fn put_before_starts<W: ByteOut>(
     out: &mut W,
-    core: &Core,
+    core: &Core<'_>,
     evaluated: bool,
     state: StateId,
     cost: u32,
@@ -162,7 +166,11 @@ fn put_before_starts<W: ByteOut>(
 
 /// Writes the reply line of a command that was taken.
 #[tactic(auto, using(crate::proofs::Known::written_laws))]
-fn put_taken<W: ByteOut>(out: &mut W, core: &Core, command: CommandId) -> Result<(), DeviceFault>
+fn put_taken<W: ByteOut>(
+    out: &mut W,
+    core: &Core<'_>,
+    command: CommandId,
+) -> Result<(), DeviceFault>
     requires { command.0 < length core.now.image.commands }
     ensures { PutGives result (taken_line core.now.image command.0) (W.written out.old) (W.written out.new) (W.faults out.old) (W.faults out.new) }
 {
@@ -175,7 +183,7 @@ fn put_taken<W: ByteOut>(out: &mut W, core: &Core, command: CommandId) -> Result
 
 /// Writes the line of a status.
 #[tactic(auto, using(crate::proofs::Known::written_laws))]
-pub(crate) fn put_status<W: ByteOut>(out: &mut W, core: &Core) -> Result<(), DeviceFault>
+pub(crate) fn put_status<W: ByteOut>(out: &mut W, core: &Core<'_>) -> Result<(), DeviceFault>
     ensures { PutGives result (status_line core.now.image core.now.state) (W.written out.old) (W.written out.new) (W.faults out.old) (W.faults out.new) }
 {
     out.put(b"status ")?;
@@ -189,7 +197,7 @@ pub(crate) fn put_status<W: ByteOut>(out: &mut W, core: &Core) -> Result<(), Dev
 
 /// Writes the numbers of a status.
 #[tactic(auto, using(crate::proofs::Known::written_laws))]
-fn put_status_numbers<W: ByteOut>(out: &mut W, core: &Core) -> Result<(), DeviceFault>
+fn put_status_numbers<W: ByteOut>(out: &mut W, core: &Core<'_>) -> Result<(), DeviceFault>
     ensures { PutGives result (status_numbers core.now.state) (W.written out.old) (W.written out.new) (W.faults out.old) (W.faults out.new) }
 {
     put_numbered(out, b" queue ", core.queue_len() as u64)?;
@@ -272,7 +280,7 @@ fn put_answer<W: ByteOut>(out: &mut W, answer: Answer) -> Result<(), DeviceFault
 
 /// Writes the line of a record of the trace.
 #[tactic(auto, using(crate::proofs::Known::written_laws))]
-fn put_record<W: ByteOut>(out: &mut W, core: &Core, item: &Record) -> Result<(), DeviceFault>
+fn put_record<W: ByteOut>(out: &mut W, core: &Core<'_>, item: &Record) -> Result<(), DeviceFault>
     requires { IsListed core.now.image item.now.state }
     ensures { PutGives result (record_line core.now.image item.now) (W.written out.old) (W.written out.new) (W.faults out.old) (W.faults out.new) }
 {
@@ -285,7 +293,11 @@ fn put_record<W: ByteOut>(out: &mut W, core: &Core, item: &Record) -> Result<(),
 
 /// Writes what a record says of the answer.
 #[tactic(auto, using(crate::proofs::Known::written_laws))]
-fn put_answer_words<W: ByteOut>(out: &mut W, core: &Core, item: &Record) -> Result<(), DeviceFault>
+fn put_answer_words<W: ByteOut>(
+    out: &mut W,
+    core: &Core<'_>,
+    item: &Record,
+) -> Result<(), DeviceFault>
     requires { IsListed core.now.image item.now.state }
     ensures { PutGives result (answer_words core.now.image item.now) (W.written out.old) (W.written out.new) (W.faults out.old) (W.faults out.new) }
 {
@@ -299,7 +311,7 @@ fn put_answer_words<W: ByteOut>(out: &mut W, core: &Core, item: &Record) -> Resu
 
 /// Writes the lines of the trace: how many records there are, and each, the oldest first.
 #[tactic(auto, using(crate::proofs::Known::written_laws))]
-pub(crate) fn put_trace<W: ByteOut>(out: &mut W, core: &Core) -> Result<(), DeviceFault>
+pub(crate) fn put_trace<W: ByteOut>(out: &mut W, core: &Core<'_>) -> Result<(), DeviceFault>
     ensures { PutGives result (trace_lines core.now.image core.now.state.trace) (W.written out.old) (W.written out.new) (W.faults out.old) (W.faults out.new) }
 {
     put_numbered(out, b"trace ", core.trace_len() as u64)?;
@@ -310,7 +322,7 @@ pub(crate) fn put_trace<W: ByteOut>(out: &mut W, core: &Core) -> Result<(), Devi
 
 /// Writes the lines of the trace's records, the oldest first.
 #[tactic(auto, using(crate::proofs::Known::written_laws))]
-fn put_records<W: ByteOut>(out: &mut W, core: &Core) -> Result<(), DeviceFault>
+fn put_records<W: ByteOut>(out: &mut W, core: &Core<'_>) -> Result<(), DeviceFault>
     ensures { PutGives result (flat_map (record_line core.now.image) core.now.state.trace) (W.written out.old) (W.written out.new) (W.faults out.old) (W.faults out.new) }
 {
     for index in 0..core.trace_len() {

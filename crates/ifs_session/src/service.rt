@@ -68,7 +68,7 @@ pub struct Served {
 ///
 /// A client cannot take commands nor tell results of tests: `take` and `result` are no requests here.
 pub fn serve_one<H: Host, R: ByteIn, W: ByteOut>(
-    core: &mut Core,
+    core: &mut Core<'_>,
     host: &mut H,
     reader: &mut R,
     writer: &mut W,
@@ -121,7 +121,7 @@ pub(crate) struct ServedLine {
 
 /// Serves the lines of a connection, and adds the steps.
 fn serve_lines<H: Host, R: ByteIn, W: ByteOut>(
-    core: &mut Core,
+    core: &mut Core<'_>,
     host: &mut H,
     reader: &mut R,
     writer: &mut W,
@@ -193,7 +193,7 @@ fn flushed<W: ByteOut>(writer: &mut W, end: End) -> End
 
 /// Reads the next line, once what was written has gone out, and serves it.
 fn next_exchange<H: Host, R: ByteIn, W: ByteOut>(
-    core: &mut Core,
+    core: &mut Core<'_>,
     host: &mut H,
     lists: &mut Lists,
     steps: &mut ArrayVec<Step, STEPS>,
@@ -249,7 +249,7 @@ fn unanswered(asked: Result<Request<'_>, RequestFault>) -> Break
 
 /// Polls the host for ends of tests, and makes each a step, after which the queue is emptied.
 fn hear_endings<H: Host>(
-    core: &mut Core,
+    core: &mut Core<'_>,
     host: &mut H,
     lists: &mut Lists,
     steps: &mut ArrayVec<Step, STEPS>,
@@ -281,7 +281,7 @@ fn next_ending<H: Host>(host: &mut H, steps: usize) -> Option<(TestId, u64, bool
 
 /// Makes a step, tells the host the tests that it starts, and empties the queue.
 fn make<H: Host>(
-    core: &mut Core,
+    core: &mut Core<'_>,
     host: &mut H,
     lists: &mut Lists,
     steps: &mut ArrayVec<Step, STEPS>,
@@ -307,7 +307,7 @@ fn make<H: Host>(
 }
 
 /// Tells the host the tests that a step starts, if it does.
-fn tell_starts<H: Host>(core: &Core, host: &mut H, outcome: Outcome, lists: &Lists)
+fn tell_starts<H: Host>(core: &Core<'_>, host: &mut H, outcome: Outcome, lists: &Lists)
     ensures { Adds (launched (launches_told core.now.image (reply_of outcome lists.now))) (H.told host.old) (H.told host.new) }
 {
     if let Outcome::Ticked { .. } = outcome {
@@ -316,7 +316,7 @@ fn tell_starts<H: Host>(core: &Core, host: &mut H, outcome: Outcome, lists: &Lis
 }
 
 /// Tells the host the tests that start.
-fn start_tests<H: Host>(core: &Core, host: &mut H, starts: &[Start])
+fn start_tests<H: Host>(core: &Core<'_>, host: &mut H, starts: &[Start])
     ensures { Adds (launched (map (launch_of core.now.image) starts.now)) (H.told host.old) (H.told host.new) }
 {
     for start in starts {
@@ -327,7 +327,7 @@ fn start_tests<H: Host>(core: &Core, host: &mut H, starts: &[Start])
 
 /// Makes the step that is asked for, if one is, and writes the reply.
 fn answer<H: Host, W: ByteOut>(
-    core: &mut Core,
+    core: &mut Core<'_>,
     host: &mut H,
     lists: &mut Lists,
     steps: &mut ArrayVec<Step, STEPS>,
@@ -351,7 +351,7 @@ fn answer<H: Host, W: ByteOut>(
 
 /// Makes a step, empties the queue, and then writes the reply.
 fn answer_step<H: Host, W: ByteOut>(
-    core: &mut Core,
+    core: &mut Core<'_>,
     host: &mut H,
     lists: &mut Lists,
     steps: &mut ArrayVec<Step, STEPS>,
@@ -374,7 +374,7 @@ fn answer_step<H: Host, W: ByteOut>(
 /// Writes the reply to a step, once the host was told the tests that it starts and ran the commands
 /// after that.
 fn reply<H: Host, W: ByteOut>(
-    core: &Core,
+    core: &Core<'_>,
     _host: &H,
     lists: &Lists,
     writer: &mut W,
@@ -389,7 +389,7 @@ fn reply<H: Host, W: ByteOut>(
 }
 
 /// The step that is asked for, if one is.
-fn step_of(core: &Core, asked: Result<Request<'_>, RequestFault>) -> Option<Step>
+fn step_of(core: &Core<'_>, asked: Result<Request<'_>, RequestFault>) -> Option<Step>
     ensures { result ≡ step_asked core.now.image (told_by asked.entry) }
 {
     match asked {
@@ -404,7 +404,7 @@ fn step_of(core: &Core, asked: Result<Request<'_>, RequestFault>) -> Option<Step
 
 /// Writes the reply to what asks for no step.
 fn tell<W: ByteOut>(
-    core: &Core,
+    core: &Core<'_>,
     writer: &mut W,
     asked: Result<Request<'_>, RequestFault>,
 ) -> Result<(), DeviceFault>

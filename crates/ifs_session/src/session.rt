@@ -59,7 +59,7 @@ pub(crate) struct Served {
 /// steps made. A read that fails, and too much input, leave the replies to the whole lines before,
 /// which have gone out; a write that fails leaves open how much of its reply went out.
 pub fn simulate<R: ByteIn, W: ByteOut>(
-    core: &mut Core,
+    core: &mut Core<'_>,
     reader: &mut R,
     writer: &mut W,
 ) -> Result<Summary, SessionFault>
@@ -92,7 +92,7 @@ pub fn simulate<R: ByteIn, W: ByteOut>(
 /// Serves the next line; `None` at the end of input. A line that stands whole among the bytes at hand
 /// is served from where it stands.
 fn serve_next<R: ByteIn, W: ByteOut>(
-    core: &mut Core,
+    core: &mut Core<'_>,
     lists: &mut Lists,
     reader: &mut R,
     writer: &mut W,
@@ -125,7 +125,7 @@ fn serve_next<R: ByteIn, W: ByteOut>(
 #[cold]
 #[inline(never)]
 fn serve_read<R: ByteIn, W: ByteOut>(
-    core: &mut Core,
+    core: &mut Core<'_>,
     lists: &mut Lists,
     reader: &mut R,
     writer: &mut W,
@@ -168,7 +168,7 @@ fn count(summary: &mut Summary, kind: LineKind)
 
 /// Serves what a line asks for, and says of what kind the line was.
 fn serve<W: ByteOut>(
-    core: &mut Core,
+    core: &mut Core<'_>,
     lists: &mut Lists,
     writer: &mut W,
     asked: Result<Request<'_>, RequestFault>,
@@ -189,7 +189,7 @@ fn serve<W: ByteOut>(
 
 /// Serves a request, and says of what kind it was.
 fn serve_request<W: ByteOut>(
-    core: &mut Core,
+    core: &mut Core<'_>,
     lists: &mut Lists,
     writer: &mut W,
     request: Request<'_>,
@@ -226,7 +226,7 @@ fn serve_request<W: ByteOut>(
 
 /// Serves a request for the link state of the interface of this name.
 fn serve_link<W: ByteOut>(
-    core: &mut Core,
+    core: &mut Core<'_>,
     lists: &mut Lists,
     writer: &mut W,
     name: &[u8],
@@ -248,7 +248,7 @@ fn serve_link<W: ByteOut>(
 
 /// Makes a step, whose lists go into the place that is lent, and writes its reply.
 fn make_step<W: ByteOut>(
-    core: &mut Core,
+    core: &mut Core<'_>,
     lists: &mut Lists,
     writer: &mut W,
     step: Step,

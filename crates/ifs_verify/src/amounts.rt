@@ -14,7 +14,7 @@ ghost use Rattle.ifs_verify.specs.inner.Found.{IsAmount, HaveRoom};
 use crate::places::{code, next, op_at, room, target};
 use crate::tables::greater;
 use ifs_base::Op;
-use ifs_image::ImageParts;
+use ifs_image::ImageView;
 use std::alloc::{AllocError, Global};
 
 /// What is counted.
@@ -46,7 +46,7 @@ pub struct Rows {
 
 impl Rows {
     /// Room for the amounts of each routine of an image.
-    pub fn new(alloc: Global, image: &ImageParts) -> Result<Self, AllocError>
+    pub fn new(alloc: Global, image: &ImageView<'_>) -> Result<Self, AllocError>
         requires { IsSized image.now }
         ensures { IfOk result (HaveRoom image.now) }
     {
@@ -70,7 +70,7 @@ fn zeros(alloc: Global, count: usize) -> Result<Vec<u32>, AllocError>
 /// How much a run of a routine amounts to at most, where `costs` and `commands` say it of the routines
 /// below. What stands in `rows` before is of no account.
 pub fn amounts_of(
-    image: &ImageParts,
+    image: &ImageView<'_>,
     routine: usize,
     costs: &[u32],
     commands: &[u32],
@@ -89,7 +89,7 @@ pub fn amounts_of(
     let count = code.len();
     for done in 0..count {
         let place = count - 1 - done;
-        let op = op_at(code, place);
+        let op = op_at(&code, place);
         count_at(
             image,
             routine,
@@ -117,7 +117,7 @@ pub fn amounts_of(
 
 /// The amount from one place on, where those of all later places are known.
 fn count_at(
-    image: &ImageParts,
+    image: &ImageView<'_>,
     routine: usize,
     place: usize,
     op: Op,

@@ -13,7 +13,7 @@ use crate::depths::depth_of;
 use crate::fault::VerifyFault;
 use crate::places::at;
 use crate::tables::entry;
-use ifs_image::{ImageParts, limits};
+use ifs_image::{ImageView, limits};
 use std::alloc::Global;
 
 /// Instructions that a run of one routine executes.
@@ -33,7 +33,7 @@ pub struct Bounds {
 /// V10 to V13 at a routine, one routine after the other.
 pub fn check_bounds(
     alloc: Global,
-    image: &ImageParts,
+    image: &ImageView<'_>,
     heights: &Vec<u32>,
 ) -> Result<Bounds, VerifyFault>
     requires plain { PlainRulesHold image.now }
@@ -47,7 +47,7 @@ pub fn check_bounds(
         commands: Vec::new(alloc),
     };
     let mut rows = Rows::new(alloc, image)?;
-    for routine in 0..image.routines.len() {
+    for routine in 0..image.routines() {
         find_bounds(image, routine, heights, &mut rows, &mut bounds)?;
     }
     Ok(bounds)
@@ -55,7 +55,7 @@ pub fn check_bounds(
 
 /// The bounds of one routine, where those of the lower ones are known.
 fn find_bounds(
-    image: &ImageParts,
+    image: &ImageView<'_>,
     routine: usize,
     heights: &Vec<u32>,
     rows: &mut Rows,
@@ -98,7 +98,7 @@ fn find_bounds(
 }
 
 /// The height of a routine, among those of all.
-fn height_found(image: &ImageParts, routine: usize, heights: &Vec<u32>) -> u32
+fn height_found(image: &ImageView<'_>, routine: usize, heights: &Vec<u32>) -> u32
     requires heights { LeastHeights image.now heights.now.items (length image.now.routines) }
     requires routine { IsRoutine image.now routine }
     ensures value { result ≡ slice_index heights.now.items routine }

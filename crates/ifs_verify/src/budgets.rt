@@ -19,7 +19,7 @@ use crate::fault::{At, VerifyFault};
 use crate::places::handlers_of;
 use crate::tables::{entry, greater};
 use ifs_base::RoutineId;
-use ifs_image::{Handlers, ImageParts};
+use ifs_image::{Handlers, ImageView};
 
 /// What a handler of a part is for.
 #[derive(Clone, Copy)]
@@ -32,7 +32,7 @@ pub enum Role {
 
 /// V10 to V13 at the head.
 pub fn check_budgets(
-    image: &ImageParts,
+    image: &ImageView<'_>,
     heights: &Vec<u32>,
     bounds: &Bounds,
 ) -> Result<(), VerifyFault>
@@ -61,28 +61,28 @@ pub fn check_budgets(
 }
 
 /// V10: whether the handlers' heights are within the stated stack.
-fn stack_fits(image: &ImageParts, heights: &Vec<u32>) -> bool
+fn stack_fits(image: &ImageView<'_>, heights: &Vec<u32>) -> bool
     requires plain { PlainRulesHold image.now }
     requires heights { LeastHeights image.now heights.now.items (length image.now.routines) }
     requires low { (routine : ℕ) → IsRoutine image.now routine → slice_index heights.now.items routine ≤ 32 }
     ensures fits { OnTrue result (FitsHandlers image.now (slice_index heights.now.items) image.now.budgets.stack) }
     ensures over { OnFalse result (StackIsOver image.now Head) }
 {
-    fit_handlers(image, heights, image.budgets.stack)
+    fit_handlers(image, heights, image.budgets().stack)
 }
 
 /// V11: whether the handlers' frames are within the stated frames.
-fn frames_fit(image: &ImageParts, depths: &Vec<u32>) -> bool
+fn frames_fit(image: &ImageView<'_>, depths: &Vec<u32>) -> bool
     requires plain { PlainRulesHold image.now }
     requires depths { LeastDepths image.now depths.now.items (length image.now.routines) }
     ensures fits { OnTrue result (FitsHandlers image.now (slice_index depths.now.items) image.now.budgets.frames) }
     ensures over { OnFalse result (FramesAreOver image.now Head) }
 {
-    fit_handlers(image, depths, image.budgets.frames)
+    fit_handlers(image, depths, image.budgets().frames)
 }
 
 /// V12 or V13: whether the amounts of each event are within the stated cost or commands.
-fn amounts_fit(image: &ImageParts, weight: Weight, amounts: &Vec<u32>) -> bool
+fn amounts_fit(image: &ImageView<'_>, weight: Weight, amounts: &Vec<u32>) -> bool
     requires plain { PlainRulesHold image.now }
     requires amounts { LeastAmounts (weight_of weight) image.now (limit_of weight) amounts.now.items (length image.now.routines) }
     ensures fits { OnTrue result (FitsEvents image.now (slice_index amounts.now.items) (stated_of weight image.now)) }
@@ -92,31 +92,31 @@ fn amounts_fit(image: &ImageParts, weight: Weight, amounts: &Vec<u32>) -> bool
 }
 
 /// What is stated of one event.
-fn stated(image: &ImageParts, weight: Weight) -> u32
+fn stated(image: &ImageView<'_>, weight: Weight) -> u32
     ensures { result ≡ stated_of weight image.now }
 {
     match weight {
-        Weight::Cost => image.budgets.cost,
-        Weight::Commands => u32::from(image.budgets.commands),
+        Weight::Cost => image.budgets().cost,
+        Weight::Commands => u32::from(image.budgets().commands),
     }
 }
 
 /// Whether what each handler reaches is within what is stated.
-fn fit_handlers(image: &ImageParts, reach: &Vec<u32>, stated: u16) -> bool
+fn fit_handlers(image: &ImageView<'_>, reach: &Vec<u32>, stated: u16) -> bool
     requires indexes { IndexesFit image.now }
     requires long { length reach.now.items ≡ length image.now.routines }
     ensures { IsTrue result ↔ FitsHandlers image.now (slice_index reach.now.items) stated }
 {
-    fit_part(reach, image.always, stated) && fit_states(image, reach, stated)
+    fit_part(reach, image.always(), stated) && fit_states(image, reach, stated)
 }
 
 /// The same of each state.
-fn fit_states(image: &ImageParts, reach: &Vec<u32>, stated: u16) -> bool
+fn fit_states(image: &ImageView<'_>, reach: &Vec<u32>, stated: u16) -> bool
     requires indexes { IndexesFit image.now }
     requires long { length reach.now.items ≡ length image.now.routines }
     ensures { IsTrue result ↔ ((k : ℕ) (state : StateSpec) → slice_get image.now.states k ≡ Some state → (slice_index reach.now.items state.handlers.init.0 ≤ stated) × (slice_index reach.now.items state.handlers.body.0 ≤ stated)) }
 {
-    for state in 0..image.states.len() {
+    for state in 0..image.states() {
         if !fit_part(reach, handlers_of(image, state), stated) {
             return false;
         }
@@ -135,7 +135,7 @@ fn fit_part(reach: &Vec<u32>, handlers: Handlers, stated: u16) -> bool
 }
 
 /// Whether the amounts of each event are within what is stated.
-fn fit_events(image: &ImageParts, amounts: &Vec<u32>, stated: u32) -> bool
+fn fit_events(image: &ImageView<'_>, amounts: &Vec<u32>, stated: u32) -> bool
     requires indexes { IndexesFit image.now }
     requires long { length amounts.now.items ≡ length image.now.routines }
     requires low { (k : ℕ) → slice_index amounts.now.items k ≤ 100000 }
@@ -144,24 +144,24 @@ fn fit_events(image: &ImageParts, amounts: &Vec<u32>, stated: u32) -> bool
     let opening = opening(image, amounts);
     let bodies = greatest(image, amounts, Role::Body);
     let inits = greatest(image, amounts, Role::Init);
-    let always = bound_of(amounts, image.always.body);
+    let always = bound_of(amounts, image.always().body);
     opening <= stated && always + bodies + inits <= stated
 }
 
 /// The amount of the opening: the always init, and the initial state's init.
-fn opening(image: &ImageParts, amounts: &Vec<u32>) -> u32
+fn opening(image: &ImageView<'_>, amounts: &Vec<u32>) -> u32
     requires indexes { IndexesFit image.now }
     requires long { length amounts.now.items ≡ length image.now.routines }
     requires low { (k : ℕ) → slice_index amounts.now.items k ≤ 100000 }
     ensures value { (first : StateSpec) × (slice_get image.now.states image.now.initial.0 ≡ Some first) × (result ≡ slice_index amounts.now.items image.now.always.init.0 + slice_index amounts.now.items first.handlers.init.0) }
     ensures low { result ≤ 200000 }
 {
-    let first = handlers_of(image, usize::from(image.initial.0));
-    bound_of(amounts, image.always.init) + bound_of(amounts, first.init)
+    let first = handlers_of(image, usize::from(image.initial().0));
+    bound_of(amounts, image.always().init) + bound_of(amounts, first.init)
 }
 
 /// The greatest amount of the handlers of one role, over all states.
-fn greatest(image: &ImageParts, amounts: &Vec<u32>, role: Role) -> u32
+fn greatest(image: &ImageView<'_>, amounts: &Vec<u32>, role: Role) -> u32
     requires indexes { IndexesFit image.now }
     requires long { length amounts.now.items ≡ length image.now.routines }
     requires low { (k : ℕ) → slice_index amounts.now.items k ≤ 100000 }
@@ -170,7 +170,7 @@ fn greatest(image: &ImageParts, amounts: &Vec<u32>, role: Role) -> u32
     ensures low { result ≤ 100000 }
 {
     let mut most = 0;
-    for state in 0..image.states.len() {
+    for state in 0..image.states() {
         let routine = handler(handlers_of(image, state), role);
         let here = bound_of(amounts, routine);
         most = greater(most, here);

@@ -11,10 +11,10 @@ ghost use Rattle.ifs_verify.specs.inner.Passes.{PlainRulesHold, HoldsDepth, Leas
 use crate::places::{code, op_at};
 use crate::tables::greater;
 use ifs_base::Op;
-use ifs_image::ImageParts;
+use ifs_image::ImageView;
 
 /// One frame, or one more than the greatest number of a callee's.
-pub fn depth_of(image: &ImageParts, routine: usize, depths: &[u32]) -> u32
+pub fn depth_of(image: &ImageView<'_>, routine: usize, depths: &[u32]) -> u32
     requires plain { PlainRulesHold image.now }
     requires routine { IsRoutine image.now routine }
     requires lower { LeastDepths image.now depths.now routine }
@@ -25,7 +25,7 @@ pub fn depth_of(image: &ImageParts, routine: usize, depths: &[u32]) -> u32
     let code = code(image, routine);
     let mut depth = 1;
     for place in 0..code.len() {
-        let here = depth_at(op_at(code, place), depths);
+        let here = depth_at(op_at(&code, place), depths);
         depth = greater(depth, here);
     }
     depth

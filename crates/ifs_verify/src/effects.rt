@@ -9,11 +9,11 @@ ghost use Rattle.ifs_verify.specs.inner.Passes.{IsSized};
 use crate::places::result_count;
 use crate::stack::Stack;
 use ifs_base::{Kind, Op};
-use ifs_image::ImageParts;
+use ifs_image::ImageView;
 
 /// Does to a list of kinds what an instruction does. `None` where an operand is missing or of the wrong
 /// kind; what stands then in the list is not said.
-pub fn apply(image: &ImageParts, op: Op, stack: &mut Stack) -> Option<()>
+pub fn apply(image: &ImageView<'_>, op: Op, stack: &mut Stack) -> Option<()>
     requires sized { IsSized image.now }
     requires operand { HasOperand image.now op }
     requires within { length stack.old ≤ 32 }
@@ -65,7 +65,7 @@ pub fn apply(image: &ImageParts, op: Op, stack: &mut Stack) -> Option<()>
 }
 
 /// Puts a routine's results on top.
-fn push_results(image: &ImageParts, routine: usize, stack: &mut Stack)
+fn push_results(image: &ImageView<'_>, routine: usize, stack: &mut Stack)
     requires sized { IsSized image.now }
     requires routine { IsRoutine image.now routine }
     requires within { length stack.old ≤ 32 }
@@ -78,7 +78,7 @@ fn push_results(image: &ImageParts, routine: usize, stack: &mut Stack)
 }
 
 /// Whether a list is a routine's results, where the instruction is `ret`.
-pub fn keeps_results(image: &ImageParts, routine: usize, op: Op, stack: &Stack) -> bool
+pub fn keeps_results(image: &ImageView<'_>, routine: usize, op: Op, stack: &Stack) -> bool
     requires sized { IsSized image.now }
     requires routine { IsRoutine image.now routine }
     ensures { IsTrue result ↔ (op ≡ Ret → stack.now ≡ results_of image.now routine) }
@@ -87,7 +87,7 @@ pub fn keeps_results(image: &ImageParts, routine: usize, op: Op, stack: &Stack) 
 }
 
 /// Whether a list is a routine's results.
-fn are_results(image: &ImageParts, routine: usize, stack: &Stack) -> bool
+fn are_results(image: &ImageView<'_>, routine: usize, stack: &Stack) -> bool
     requires sized { IsSized image.now }
     requires routine { IsRoutine image.now routine }
     ensures { IsTrue result ↔ (stack.now ≡ results_of image.now routine) }

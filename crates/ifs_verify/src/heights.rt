@@ -14,7 +14,7 @@ use crate::stack::Stack;
 use crate::tables::greater;
 use crate::typing::pass;
 use ifs_base::Op;
-use ifs_image::ImageParts;
+use ifs_image::ImageView;
 
 /// The greatest length of a list at any place or after any instruction, and at a call the length
 /// before it and the callee's height, where the routine has a typing: V6, V7, V9, and V10 at an
@@ -22,7 +22,7 @@ use ifs_image::ImageParts;
 ///
 /// `brought` is room for lists, without any before and, where an `Ok` is answered, after.
 pub fn height_of(
-    image: &ImageParts,
+    image: &ImageView<'_>,
     routine: usize,
     heights: &[u32],
     brought: &mut Vec<Option<Stack>>,
@@ -42,7 +42,7 @@ pub fn height_of(
     let mut height = 0;
     let code = code(image, routine);
     for place in 0..code.len() {
-        let op = op_at(code, place);
+        let op = op_at(&code, place);
         let needed = pass(image, routine, place, op, heights, &mut here, brought)?;
         height = greater(height, needed);
     }

@@ -10,50 +10,50 @@ ghost use Rattle.ifs_verify.specs.inner.Passes.{IsSized, RoutinesAreShorter, nex
 
 use crate::fault::At;
 use ifs_base::{Op, RoutineId, StateId};
-use ifs_image::{Handlers, ImageParts};
+use ifs_image::{Handlers, ImageView, LentCode};
 
 /// The instructions of a routine.
-pub fn code(image: &ImageParts, routine: usize) -> &[Op]
+pub fn code<'a>(image: &ImageView<'a>, routine: usize) -> LentCode<'a>
     requires { IsRoutine image.now routine }
-    ensures { result.now ≡ code_of image.now routine }
+    ensures { result ≡ code_of image.now routine }
 {
-    image.routines.as_slice()[routine].code.as_slice()
+    image.code(routine)
 }
 
 /// Room for the places of each routine, and one after them.
-pub fn room(image: &ImageParts) -> usize
+pub fn room(image: &ImageView<'_>) -> usize
     requires { IsSized image.now }
     ensures { RoutinesAreShorter image.now result }
 {
     let mut longest = 0;
-    for routine in 0..image.routines.len() {
+    for routine in 0..image.routines() {
         longest = longest.max(code(image, routine).len());
     }
     longest + 1
 }
 
 /// How many results a routine has.
-pub fn result_count(image: &ImageParts, routine: usize) -> u8
+pub fn result_count(image: &ImageView<'_>, routine: usize) -> u8
     requires { IsRoutine image.now routine }
     ensures { (found : Routine) × (slice_get image.now.routines routine ≡ Some found) × (found.results ≡ result) }
 {
-    image.routines.as_slice()[routine].results
+    image.results(routine)
 }
 
 /// The instruction at a place.
-pub fn op_at(code: &[Op], place: usize) -> Op
+pub fn op_at(code: &LentCode<'_>, place: usize) -> Op
     requires { place < length code.now }
     ensures { slice_get code.now place ≡ Some result }
 {
-    code[place]
+    code.op(place)
 }
 
 /// The handlers of a state.
-pub fn handlers_of(image: &ImageParts, state: usize) -> Handlers
+pub fn handlers_of(image: &ImageView<'_>, state: usize) -> Handlers
     requires { state < length image.now.states }
     ensures { (found : StateSpec) × (slice_get image.now.states state ≡ Some found) × (found.handlers ≡ result) }
 {
-    image.states.as_slice()[state].handlers
+    image.state_handlers(state)
 }
 
 /// A place of a routine, as a fault names it.

@@ -7,23 +7,23 @@ ghost use Rattle.ifs_verify.specs.inner.Passes.{IsSized, IsImageRefused, IsMarke
 
 use crate::fault::VerifyFault;
 use crate::places::{at, code, next, op_at, target};
-use ifs_image::ImageParts;
+use ifs_image::ImageView;
 use std::alloc::{AllocError, Global};
 
 /// V5: each place but the first of a routine follows an earlier one.
-pub fn check_reached(alloc: Global, image: &ImageParts) -> Result<(), VerifyFault>
+pub fn check_reached(alloc: Global, image: &ImageView<'_>) -> Result<(), VerifyFault>
     requires { IsSized image.now }
     ensures kept { OnOk result (PlacesAreReached image.now) }
     ensures refused { IfErr result (IsImageRefused image.now) }
 {
-    for routine in 0..image.routines.len() {
+    for routine in 0..image.routines() {
         check_reached_in(alloc, image, routine)?;
     }
     Ok(())
 }
 
 /// The same of one routine.
-fn check_reached_in(alloc: Global, image: &ImageParts, routine: usize) -> Result<(), VerifyFault>
+fn check_reached_in(alloc: Global, image: &ImageView<'_>, routine: usize) -> Result<(), VerifyFault>
     requires sized { IsSized image.now }
     requires routine { IsRoutine image.now routine }
     ensures kept { OnOk result ((to : ℕ) → 0 < to → to < length (code_of image.now routine) → IsReached image.now routine to) }
@@ -35,7 +35,7 @@ fn check_reached_in(alloc: Global, image: &ImageParts, routine: usize) -> Result
         if !is_reached(&marks, place) {
             return Err(VerifyFault::Unreached(at(routine, place)));
         }
-        let op = op_at(code, place);
+        let op = op_at(&code, place);
         mark(&mut marks, next(op, place));
         mark(&mut marks, target(op));
     }

@@ -16,7 +16,7 @@ ghost use Rattle.ifs_verify.specs.inner.Passes.{IsSized, Keeps, fault_of};
 use crate::fault::{At, VerifyFault};
 use crate::places::{at, at_state, code, handlers_of, op_at, result_count, target};
 use ifs_base::Op;
-use ifs_image::{Handlers, ImageParts};
+use ifs_image::{Handlers, ImageView};
 
 /// A rule that each instruction keeps by itself.
 #[derive(Clone, Copy)]
@@ -30,7 +30,7 @@ pub enum OpRule {
 }
 
 /// V2: each index is one of its table, and each mask has tests of the table alone.
-pub fn check_indexes(image: &ImageParts) -> Result<(), VerifyFault>
+pub fn check_indexes(image: &ImageView<'_>) -> Result<(), VerifyFault>
     requires { IsSized image.now }
     ensures kept { OnOk result (IndexesFit image.now) }
     ensures refused { IfErr result (λ fault. Fails fault image.now) }
@@ -42,7 +42,7 @@ pub fn check_indexes(image: &ImageParts) -> Result<(), VerifyFault>
 }
 
 /// V3: each jump leads to a later place of its routine.
-pub fn check_jumps(image: &ImageParts) -> Result<(), VerifyFault>
+pub fn check_jumps(image: &ImageView<'_>) -> Result<(), VerifyFault>
     requires { IsSized image.now }
     ensures kept { OnOk result (JumpsLeadOn image.now) }
     ensures refused { IfErr result (λ fault. Fails fault image.now) }
@@ -52,7 +52,7 @@ pub fn check_jumps(image: &ImageParts) -> Result<(), VerifyFault>
 }
 
 /// V8: each call is of a routine with a lower number.
-pub fn check_calls(image: &ImageParts) -> Result<(), VerifyFault>
+pub fn check_calls(image: &ImageView<'_>) -> Result<(), VerifyFault>
     requires { IsSized image.now }
     ensures kept { OnOk result (CallsGoDown image.now) }
     ensures refused { IfErr result (λ fault. Fails fault image.now) }
@@ -62,28 +62,28 @@ pub fn check_calls(image: &ImageParts) -> Result<(), VerifyFault>
 }
 
 /// The initial state and the always part's indexes and mask.
-fn check_head(image: &ImageParts) -> Result<(), VerifyFault>
+fn check_head(image: &ImageView<'_>) -> Result<(), VerifyFault>
     requires { IsSized image.now }
     ensures initial { OnOk result (image.now.initial.0 < length image.now.states) }
     ensures always { OnOk result (AreRoutines image.now image.now.always × IsMask image.now image.now.always.mask) }
     ensures refused { IfErr result (λ fault. Fails fault image.now) }
 {
-    if usize::from(image.initial.0) >= image.states.len() {
+    if usize::from(image.initial().0) >= image.states() {
         return Err(VerifyFault::NoEntry(At::Head));
     }
-    if !are_indexes(image, image.always) {
+    if !are_indexes(image, image.always()) {
         return Err(VerifyFault::NoEntry(At::Head));
     }
     Ok(())
 }
 
 /// The states' indexes and masks.
-fn check_states(image: &ImageParts) -> Result<(), VerifyFault>
+fn check_states(image: &ImageView<'_>) -> Result<(), VerifyFault>
     requires { IsSized image.now }
     ensures kept { OnOk result ((k : ℕ) (state : StateSpec) → slice_get image.now.states k ≡ Some state → AreRoutines image.now state.handlers × IsMask image.now state.handlers.mask) }
     ensures refused { IfErr result (λ fault. Fails fault image.now) }
 {
-    for state in 0..image.states.len() {
+    for state in 0..image.states() {
         if !are_indexes(image, handlers_of(image, state)) {
             return Err(VerifyFault::NoEntry(at_state(state)));
         }
@@ -92,36 +92,36 @@ fn check_states(image: &ImageParts) -> Result<(), VerifyFault>
 }
 
 /// Whether init and body are routines, and the mask has tests of the table alone.
-fn are_indexes(image: &ImageParts, handlers: Handlers) -> bool
+fn are_indexes(image: &ImageView<'_>, handlers: Handlers) -> bool
     requires { IsSized image.now }
     ensures { IsTrue result ↔ (AreRoutines image.now handlers × IsMask image.now handlers.mask) }
 {
-    let routines = image.routines.len();
+    let routines = image.routines();
     usize::from(handlers.init.0) < routines
         && usize::from(handlers.body.0) < routines
         && is_mask(image, handlers.mask)
 }
 
 /// Whether a mask has no bit at or over the number of tests.
-fn is_mask(image: &ImageParts, mask: u64) -> bool
+fn is_mask(image: &ImageView<'_>, mask: u64) -> bool
     requires { IsSized image.now }
     ensures { IsTrue result ↔ IsMask image.now mask }
 {
-    let tests = image.tests.len();
+    let tests = image.tests();
     64 <= tests || mask < 1 << tests
 }
 
 /// V14: no handler has results.
-pub fn check_handlers(image: &ImageParts) -> Result<(), VerifyFault>
+pub fn check_handlers(image: &ImageView<'_>) -> Result<(), VerifyFault>
     requires sized { IsSized image.now }
     requires indexes { IndexesFit image.now }
     ensures kept { OnOk result (HandlersLeaveNothing image.now) }
     ensures refused { IfErr result (λ fault. Fails fault image.now) }
 {
-    if !leave_nothing(image, image.always) {
+    if !leave_nothing(image, image.always()) {
         return Err(VerifyFault::HandlerLeaves(At::Head));
     }
-    for state in 0..image.states.len() {
+    for state in 0..image.states() {
         if !leave_nothing(image, handlers_of(image, state)) {
             return Err(VerifyFault::HandlerLeaves(at_state(state)));
         }
@@ -130,7 +130,7 @@ pub fn check_handlers(image: &ImageParts) -> Result<(), VerifyFault>
 }
 
 /// Whether neither handler has results.
-fn leave_nothing(image: &ImageParts, handlers: Handlers) -> bool
+fn leave_nothing(image: &ImageView<'_>, handlers: Handlers) -> bool
     requires { AreRoutines image.now handlers }
     ensures { IsTrue result ↔ LeaveNothing image.now handlers }
 {
@@ -139,15 +139,15 @@ fn leave_nothing(image: &ImageParts, handlers: Handlers) -> bool
 }
 
 /// V4: the last instruction of each routine, which has one, is `ret`.
-pub fn check_ends(image: &ImageParts) -> Result<(), VerifyFault>
+pub fn check_ends(image: &ImageView<'_>) -> Result<(), VerifyFault>
     requires { IsSized image.now }
     ensures kept { OnOk result (RoutinesEnd image.now) }
     ensures refused { IfErr result (λ fault. Fails fault image.now) }
 {
-    for routine in 0..image.routines.len() {
+    for routine in 0..image.routines() {
         let code = code(image, routine);
         let last = code.len().saturating_sub(1);
-        if code.is_empty() || op_at(code, last) != Op::Ret {
+        if code.is_empty() || op_at(&code, last) != Op::Ret {
             return Err(VerifyFault::LeftAtEnd(at(routine, last)));
         }
     }
@@ -155,19 +155,19 @@ pub fn check_ends(image: &ImageParts) -> Result<(), VerifyFault>
 }
 
 /// Each instruction of each routine keeps a rule.
-fn check_ops(image: &ImageParts, rule: OpRule) -> Result<(), VerifyFault>
+fn check_ops(image: &ImageView<'_>, rule: OpRule) -> Result<(), VerifyFault>
     requires { IsSized image.now }
     ensures kept { OnOk result ((routine place : ℕ) (op : Op) → op_at image.now routine place ≡ Some op → Keeps rule image.now routine place op) }
     ensures refused { IfErr result (λ fault. Fails fault image.now) }
 {
-    for routine in 0..image.routines.len() {
+    for routine in 0..image.routines() {
         check_ops_of(image, routine, rule)?;
     }
     Ok(())
 }
 
 /// Each instruction of a routine keeps a rule.
-fn check_ops_of(image: &ImageParts, routine: usize, rule: OpRule) -> Result<(), VerifyFault>
+fn check_ops_of(image: &ImageView<'_>, routine: usize, rule: OpRule) -> Result<(), VerifyFault>
     requires sized { IsSized image.now }
     requires routine { IsRoutine image.now routine }
     ensures kept { OnOk result ((place : ℕ) (op : Op) → op_at image.now routine place ≡ Some op → Keeps rule image.now routine place op) }
@@ -175,7 +175,7 @@ fn check_ops_of(image: &ImageParts, routine: usize, rule: OpRule) -> Result<(), 
 {
     let code = code(image, routine);
     for place in 0..code.len() {
-        let op = op_at(code, place);
+        let op = op_at(&code, place);
         if !keeps(image, routine, place, op, rule) {
             return Err(broken(rule, at(routine, place)));
         }
@@ -184,7 +184,7 @@ fn check_ops_of(image: &ImageParts, routine: usize, rule: OpRule) -> Result<(), 
 }
 
 /// Whether an instruction keeps a rule.
-fn keeps(image: &ImageParts, routine: usize, place: usize, op: Op, rule: OpRule) -> bool
+fn keeps(image: &ImageView<'_>, routine: usize, place: usize, op: Op, rule: OpRule) -> bool
     requires routine { IsRoutine image.now routine }
     requires op { op_at image.now routine place ≡ Some op }
     ensures kept { OnTrue result (Keeps rule image.now routine place op) }
@@ -209,15 +209,15 @@ fn broken(rule: OpRule, at: At) -> VerifyFault
 }
 
 /// Whether an operand is an index of its table.
-fn has_operand(image: &ImageParts, op: Op) -> bool
+fn has_operand(image: &ImageView<'_>, op: Op) -> bool
     ensures { IsTrue result ↔ HasOperand image.now op }
 {
     match op {
-        Op::Link(iface, _) => usize::from(iface.0) < image.interfaces.len(),
-        Op::Test(test) | Op::Known(test) => usize::from(test.0) < image.tests.len(),
-        Op::PushCommand(command) => usize::from(command.0) < image.commands.len(),
-        Op::PushState(state) => usize::from(state.0) < image.states.len(),
-        Op::Call(callee) => usize::from(callee.0) < image.routines.len(),
+        Op::Link(iface, _) => usize::from(iface.0) < image.interfaces(),
+        Op::Test(test) | Op::Known(test) => usize::from(test.0) < image.tests(),
+        Op::PushCommand(command) => usize::from(command.0) < image.commands(),
+        Op::PushState(state) => usize::from(state.0) < image.states(),
+        Op::Call(callee) => usize::from(callee.0) < image.routines(),
         _ => true,
     }
 }

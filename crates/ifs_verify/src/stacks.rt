@@ -6,18 +6,18 @@ ghost use Rattle.ifs_verify.specs.inner.Passes.{PlainRulesHold, IsImageRefused, 
 use crate::fault::VerifyFault;
 use crate::heights::height_of;
 use crate::typing::no_lists;
-use ifs_image::ImageParts;
+use ifs_image::ImageView;
 use std::alloc::Global;
 
 /// V6, V7, V9, and V10 at an instruction: the height of each routine, all of which have a typing.
-pub fn check_stacks(alloc: Global, image: &ImageParts) -> Result<Vec<u32>, VerifyFault>
+pub fn check_stacks(alloc: Global, image: &ImageView<'_>) -> Result<Vec<u32>, VerifyFault>
     requires { PlainRulesHold image.now }
     ensures found { IfOk result (λ heights. LeastHeights image.now heights.items (length image.now.routines)) }
     ensures refused { IfErr result (IsImageRefused image.now) }
 {
     let mut heights: Vec<u32> = Vec::new(alloc);
     let mut brought = no_lists(alloc, image)?;
-    for routine in 0..image.routines.len() {
+    for routine in 0..image.routines() {
         let height = height_of(image, routine, heights.as_slice(), &mut brought)?;
         heights.push(height)?;
     }

@@ -22,11 +22,11 @@ use crate::heights::height_at;
 use crate::places::{at, next, room, target};
 use crate::stack::Stack;
 use ifs_base::Op;
-use ifs_image::{ImageParts, limits};
+use ifs_image::{ImageView, limits};
 use std::alloc::{AllocError, Global};
 
 /// Room for the lists that are brought to the places of each routine, and to the one after its last.
-pub fn no_lists(alloc: Global, image: &ImageParts) -> Result<Vec<Option<Stack>>, AllocError>
+pub fn no_lists(alloc: Global, image: &ImageView<'_>) -> Result<Vec<Option<Stack>>, AllocError>
     requires { IsSized image.now }
     ensures { IfOk result (λ brought. AreClear image.now brought.items) }
 {
@@ -41,7 +41,7 @@ pub fn no_lists(alloc: Global, image: &ImageParts) -> Result<Vec<Option<Stack>>,
 /// Passes a place, and answers the height that its instruction needs. `here` is the list at this place,
 /// and then at the next one.
 pub fn pass(
-    image: &ImageParts,
+    image: &ImageView<'_>,
     routine: usize,
     place: usize,
     op: Op,
@@ -71,7 +71,7 @@ pub fn pass(
 
 /// Turns the list at a place into what its instruction leaves: V6, V9 or V10.
 fn leave(
-    image: &ImageParts,
+    image: &ImageView<'_>,
     routine: usize,
     place: usize,
     op: Op,
@@ -100,7 +100,13 @@ fn leave(
 }
 
 /// V9: whether a way leads to a `ret` with another list than the routine's results.
-fn returns_others(image: &ImageParts, routine: usize, place: usize, op: Op, before: &Stack) -> bool
+fn returns_others(
+    image: &ImageView<'_>,
+    routine: usize,
+    place: usize,
+    op: Op,
+    before: &Stack,
+) -> bool
     requires sized { IsSized image.now }
     requires routine { IsRoutine image.now routine }
     requires op { op_at image.now routine place ≡ Some op }
@@ -113,7 +119,7 @@ fn returns_others(image: &ImageParts, routine: usize, place: usize, op: Op, befo
 
 /// Turns the list at the end of a way into what an instruction leaves. V6: says whether no operand is
 /// missing or of the wrong kind.
-fn applies(image: &ImageParts, routine: usize, place: usize, op: Op, kinds: &mut Stack) -> bool
+fn applies(image: &ImageView<'_>, routine: usize, place: usize, op: Op, kinds: &mut Stack) -> bool
     requires sized { IsSized image.now }
     requires operand { HasOperand image.now op }
     requires op { op_at image.now routine place ≡ Some op }
@@ -126,7 +132,7 @@ fn applies(image: &ImageParts, routine: usize, place: usize, op: Op, kinds: &mut
 }
 
 /// V10: whether what an instruction leaves at the end of a way passes the limit.
-fn leaves_many(image: &ImageParts, routine: usize, place: usize, op: Op, after: &Stack) -> bool
+fn leaves_many(image: &ImageView<'_>, routine: usize, place: usize, op: Op, after: &Stack) -> bool
     requires { LeavesList image.now routine place op after.now }
     ensures many { OnTrue result (LeavesMany image.now routine place) }
     ensures within { OnFalse result (length after.now ≤ 32) }
@@ -136,7 +142,7 @@ fn leaves_many(image: &ImageParts, routine: usize, place: usize, op: Op, after: 
 
 /// Hands on what the instruction at a place leaves. V7: says whether no successor has another list.
 fn hand_on(
-    image: &ImageParts,
+    image: &ImageView<'_>,
     routine: usize,
     place: usize,
     op: Op,
@@ -159,7 +165,7 @@ fn hand_on(
 /// Brings what the instruction at a place leaves to its target. Says whether that had no list, or the
 /// same one.
 fn bring(
-    image: &ImageParts,
+    image: &ImageView<'_>,
     routine: usize,
     place: usize,
     op: Op,
@@ -182,7 +188,7 @@ fn bring(
 
 /// Brings it to a later successor. Says whether that had no list, or the same one.
 fn brings(
-    image: &ImageParts,
+    image: &ImageView<'_>,
     routine: usize,
     place: usize,
     op: Op,
@@ -209,7 +215,7 @@ fn brings(
 /// V7: whether nothing was brought to a later successor, or the same list as the one that an instruction
 /// leaves.
 fn agrees(
-    image: &ImageParts,
+    image: &ImageView<'_>,
     routine: usize,
     place: usize,
     op: Op,
@@ -243,7 +249,7 @@ fn is_free_for(brought: &Vec<Option<Stack>>, place: usize, kinds: &Stack) -> boo
 /// Goes on to the next place: with the list that was left where control falls through, else with the one
 /// that was brought there. Says whether a place that is fallen through to had no list, or the same one.
 fn go_on(
-    image: &ImageParts,
+    image: &ImageView<'_>,
     routine: usize,
     place: usize,
     op: Op,

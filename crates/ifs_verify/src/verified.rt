@@ -1,43 +1,47 @@
 //! An image that was accepted.
 
-use ifs_image::{Budgets, Image};
+use ifs_image::{Budgets, ImageView};
 use std::marker::Model;
 
-/// An image that the verifier accepted, and only that: `verify` alone makes one. It is seen as the
-/// image's parts.
+/// An image that the verifier accepted, and only that: `verify` alone makes one. It lies in the bytes that were
+/// verified, and is seen as the image's parts.
 #[derive(Debug, Drop)]
-pub struct Verified {
-    image: Image,
+pub struct Verified<'a> {
+    image: ImageView<'a>,
 }
 
-impl Model for Verified {
+impl<'a> Model for Verified<'a> {
     ghost use Rattle.ifs_image.specs.declared.parts.ImageParts.{ImageParts};
 
     ghost Value = { ImageParts };
 
+    ghost use Rattle.ifs_image.specs.Limits.{Fits};
     ghost use Rattle.ifs_verify.specs.Accepted.{IsAccepted};
 
     ghost view = { λ a. a.image };
 
-    ghost invariant = { λ a. IsAccepted a.image };
+    ghost invariant = { λ a. IsAccepted a.image × Fits a.image };
 }
 
-impl Verified {
+impl<'a> Verified<'a> {
     ghost use Rattle.std.specs.Prelude.{◌≡◌};
+    ghost use Rattle.ifs_image.specs.Limits.{Fits};
     ghost use Rattle.ifs_verify.specs.Accepted.{IsAccepted};
 
     /// The image of one that meets every rule, which the caller owes.
-    pub(crate) fn new(image: Image) -> Self
-        requires { IsAccepted image }
-        ensures { result ≡ image }
+    pub(crate) fn new(image: ImageView<'a>) -> Self
+        requires accepted { IsAccepted image }
+        requires fits { Fits image }
+        ensures { result ≡ image.entry }
     {
         Verified { image }
     }
 
-    /// The image, which is accepted.
-    pub fn image(&self) -> &Image
+    /// The image, which is accepted and keeps to the limits of the format.
+    pub fn image(&self) -> &ImageView<'a>
         ensures value { result.now ≡ self.now }
         ensures accepted { IsAccepted self.now }
+        ensures fits { Fits self.now }
     {
         &self.image
     }
@@ -46,6 +50,6 @@ impl Verified {
     pub fn budgets(&self) -> Budgets
         ensures { result ≡ self.now.budgets }
     {
-        self.image.parts().budgets
+        self.image.budgets()
     }
 }

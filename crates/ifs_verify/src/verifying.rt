@@ -17,17 +17,18 @@ use crate::reach::check_reached;
 use crate::rules::{check_calls, check_ends, check_handlers, check_indexes, check_jumps};
 use crate::stacks::check_stacks;
 use crate::verified::Verified;
-use ifs_image::{ImageParts, read};
+use ifs_image::{ImageView, view};
 use std::alloc::Global;
 
-/// The image that the bytes spell, once it is accepted: it may run on a machine that makes no trap test.
+/// The image that the bytes spell, once it is accepted: it may run on a machine that makes no trap test. It lies in
+/// the bytes, of which nothing is copied.
 ///
 /// A check that does not hold is answered, with its place; it is the first, which tests show, in the order
 /// of indexes and masks (V2), handlers (V14), jumps (V3), ends (V4), calls (V8), places reached (V5),
 /// stacks (V6, V7, V9, V10), and bounds (V10 to V13) of each routine and then against the stated budgets.
 /// V1 comes where the bytes spell no image. V0, for want of memory in reading or in verifying, may come in
 /// place of another answer, unless a field before the tables has a fault.
-pub fn verify(alloc: Global, bytes: &[u8]) -> Result<Verified, VerifyFault>
+pub fn verify<'a>(alloc: Global, bytes: &'a [u8]) -> Result<Verified<'a>, VerifyFault>
     // What is verified is the image that the bytes spell, and it is accepted.
     ensures spelled { IfOk result (λ image. Spells bytes.now image) }
     ensures accepted { IfOk result (λ image. IsAccepted image) }
@@ -38,15 +39,15 @@ pub fn verify(alloc: Global, bytes: &[u8]) -> Result<Verified, VerifyFault>
     // Where a field before the tables has a fault, that is the refusal, and not want of memory.
     ensures at_once { (fault : ImageFault) → head_at (cursor 0 bytes.now) ≡ Err fault → result ≡ Err (NoImage fault) }
 {
-    let image = read(alloc, bytes)?;
-    match check(alloc, image.parts()) {
+    let image = view(alloc, bytes)?;
+    match check(alloc, &image) {
         Ok(()) => Ok(Verified::new(image)),
         Err(fault) => Err(fault),
     }
 }
 
 /// Every check on an image.
-fn check(alloc: Global, image: &ImageParts) -> Result<(), VerifyFault>
+fn check(alloc: Global, image: &ImageView<'_>) -> Result<(), VerifyFault>
     requires { IsSized image.now }
     ensures accepted { OnOk result (IsAccepted image.now) }
     ensures refused { IfErr result (IsImageRefused image.now) }

@@ -1,6 +1,6 @@
 //! What the daemon's notes say beside those of its commands and tests.
 
-use ifs_base::{LinkState, StateId};
+use ifs_base::{IfaceId, LinkState, StateId};
 use ifs_cli::quoting::Quoted;
 use ifs_core::{Core, Record, Step};
 use ifs_session::End;
@@ -83,7 +83,7 @@ pub struct Standing {
 
 impl Standing {
     /// Where a core stands.
-    pub fn of(core: &Core) -> Self {
+    pub fn of(core: &Core<'_>) -> Self {
         Standing {
             state: core.state(),
             moment: core.now(),
@@ -121,9 +121,9 @@ impl Backwards {
     }
 }
 
-/// Notes the changes of state that these steps made, each with its cause. Of over 256 steps only the last are
-/// known, and what the others changed has no cause.
-pub fn note_changes(notes: &impl Log, core: &Core, before: Standing, steps: &[Step]) {
+/// Notes the changes of state that these steps made, each with its cause. Of over 256 steps the trace has only
+/// the last: what those before changed is not noted, or as one change by a later cause.
+pub fn note_changes(notes: &impl Log, core: &Core<'_>, before: Standing, steps: &[Step]) {
     let Made { first, changed } = made_by(core, before, steps);
     if !changed {
         return;
@@ -149,7 +149,7 @@ struct Made {
 }
 
 /// What these steps left in the trace: a step that was refused left nothing.
-fn made_by(core: &Core, before: Standing, steps: &[Step]) -> Made {
+fn made_by(core: &Core<'_>, before: Standing, steps: &[Step]) -> Made {
     let mut first = core.trace_len();
     let mut state = core.state();
     let mut changed = false;
@@ -173,41 +173,55 @@ fn made_by(core: &Core, before: Standing, steps: &[Step]) -> Made {
 }
 
 /// Notes a change of state.
-fn note_change(notes: &impl Log, core: &Core, from: StateId, record: Record) {
+fn note_change(notes: &impl Log, core: &Core<'_>, from: StateId, record: Record) {
     let from = Quoted(core.state_name(from).unwrap_or_default());
     let to = Quoted(core.state_name(record.state).unwrap_or_default());
-    let cause = Cause {
-        core,
-        step: record.step,
-    };
+    let cause = Cause::of(core, record.step);
     info!(notes; "state {from} -> {to} by {cause}");
 }
 
-/// Shows what a step tells.
+/// What a step tells, by names.
 #[derive(Clone, Copy)]
-struct Cause<'a> {
-    core: &'a Core,
-    step: Step,
+enum Cause<'a> {
+    Link(&'a str, LinkState),
+    Test(&'a str, bool),
+    Tick(u64),
+    Take,
+}
+
+impl<'a> Cause<'a> {
+    /// What this step tells a core.
+    fn of(core: &Core<'a>, step: Step) -> Self {
+        match step {
+            Step::Link(interface, link) => Cause::Link(interface_name(core, interface), link),
+            Step::Finished(test, _, value) => {
+                Cause::Test(core.test_text(test).unwrap_or_default(), value)
+            }
+            Step::Tick(moment) => Cause::Tick(moment),
+            Step::Take => Cause::Take,
+        }
+    }
 }
 
 impl Display for Cause<'_> {
     fn fmt<W: Write>(&self, f: &mut Formatter<W>) -> fmt::Result {
-        match self.step {
-            Step::Link(interface, link) => {
-                let interfaces = &self.core.image().interfaces;
-                let name = match interfaces.as_slice().get(usize::from(interface.0)) {
-                    Some(name) => name.as_str(),
-                    None => "",
-                };
-                write!(f, "link {} {}", Quoted(name), word_of(link))
-            }
-            Step::Finished(test, _, value) => {
-                let text = self.core.test_text(test).unwrap_or_default();
-                write!(f, "test {} {value}", Quoted(text))
-            }
-            Step::Tick(moment) => write!(f, "tick {moment}"),
-            Step::Take => f.write_str("take"),
+        match *self {
+            Cause::Link(name, link) => write!(f, "link {} {}", Quoted(name), word_of(link)),
+            Cause::Test(text, value) => write!(f, "test {} {value}", Quoted(text)),
+            Cause::Tick(moment) => write!(f, "tick {moment}"),
+            Cause::Take => f.write_str("take"),
         }
+    }
+}
+
+/// The name of an interface; none where it is not in the table.
+fn interface_name<'a>(core: &Core<'a>, interface: IfaceId) -> &'a str {
+    let image = core.image();
+    let index = usize::from(interface.0);
+    if index < image.interfaces() {
+        image.interface(index)
+    } else {
+        ""
     }
 }
 

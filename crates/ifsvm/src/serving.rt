@@ -2,7 +2,8 @@
 
 use crate::noting::{Backwards, Notes, StandardError, Standing, note_changes};
 use crate::patience::{Patience, PatientReader, PatientWriter, Waits};
-use crate::sessions::core_at;
+use crate::sessions::core_on;
+use ifs_cli::answering::input_at;
 use ifs_cli::ending::{Ending, out_of_memory};
 use ifs_cli::files::fault_of;
 use ifs_cli::shell::{Limits, Shell, try_shell};
@@ -68,7 +69,8 @@ fn serve_noting<'a>(
         notes: which,
         limits,
     } = asked;
-    let mut core = core_at(rt, image)?;
+    let image = input_at(rt, Task::Verify, image)?;
+    let mut core = core_on(rt, image.as_slice())?;
     let Ok(mut host) = Shell::new(rt, notes, limits) else {
         return out_of_memory(rt, Task::Verify);
     };
@@ -95,7 +97,7 @@ fn fault_at(path: String, error: io::Error) -> Ending {
 fn serve_at<R: Files + Net + Processes + Clock + Print + Alloc<A = Global>, L: Log>(
     rt: &R,
     notes: &L,
-    service: &mut Service<'_, '_, '_, R, L>,
+    service: &mut Service<'_, '_, '_, '_, R, L>,
     socket: &str,
 ) -> io::Result<Result<Ending, Ending>> {
     let listener = UnixListener::bind(rt, socket)?;
@@ -140,15 +142,16 @@ fn keep_from_others(files: &impl Files, path: &str) -> io::Result<()> {
 
 /// What serves: a core with its host, and what it notes.
 #[derive(Drop)]
-struct Service<'c, 'h, 'a, R: Processes + Clock + Alloc<A = Global>, L: Log> {
+struct Service<'c, 'i, 'h, 'a, R: Processes + Clock + Alloc<A = Global>, L: Log> {
     which: Notes,
-    core: &'c mut Core,
+    core: &'c mut Core<'i>,
     host: &'h mut Shell<'a, R, L>,
     backwards: Backwards,
 }
 
-impl<'c, 'h, 'a, R: Processes + Clock + Print + Alloc<A = Global>, L: Log> Service<
+impl<'c, 'i, 'h, 'a, R: Processes + Clock + Print + Alloc<A = Global>, L: Log> Service<
     'c,
+    'i,
     'h,
     'a,
     R,
@@ -221,13 +224,18 @@ fn try_host<R: Processes + Alloc<A = Global>>(rt: &R, listener: &UnixListener) -
     try_shell(rt)
 }
 
-/// The next connection. Where the system refuses it, that is noted and tried again after a pause.
+/// The next connection. Where the system refuses it, that is tried again after a pause; the cause is noted, once
+/// while it stays the same.
 fn accepted(clock: &impl Clock, notes: &impl Log, listener: &UnixListener) -> Option<UnixStream> {
+    let mut noted = None;
     for _ in 0..u64::MAX {
         match listener.accept() {
             Ok((stream, _address)) => return Some(stream),
             Err(error) => {
-                warn!(notes; "no connection: {error}");
+                if noted != Some(error.kind()) {
+                    warn!(notes; "no connection: {error}");
+                    noted = Some(error.kind());
+                }
                 thread::sleep(clock, Duration::from_millis(PAUSE));
             }
         }

@@ -32,21 +32,24 @@ pub fn on_file<R: Files + Input + Print + Alloc<A = Global>>(
     rt: &R,
     path: String,
 ) -> Result<Ending, Ending> {
-    let mut core = core_at(rt, path)?;
+    let image = input_at(rt, Task::Verify, path)?;
+    let mut core = core_on(rt, image.as_slice())?;
     simulated(rt, &mut core)
 }
 
-/// A core on the image of a file. Where it is refused, its line is printed.
-pub fn core_at<R: Files + Print + Alloc<A = Global>>(rt: &R, path: String) -> Result<Core, Ending> {
-    let image = input_at(rt, Task::Verify, path)?;
-    match opened(rt.alloc(), image.as_slice()) {
+/// A core on the image of these bytes, in which it lies. Where it is refused, its line is printed.
+pub fn core_on<'a, R: Print + Alloc<A = Global>>(
+    rt: &R,
+    image: &'a [u8],
+) -> Result<Core<'a>, Ending> {
+    match opened(rt.alloc(), image) {
         Ok(core) => Ok(core),
         Err(fault) => Err(refused_image(rt, fault)?),
     }
 }
 
 /// A core on the image of these bytes.
-fn opened(alloc: Global, image: &[u8]) -> Result<Core, VerifyFault> {
+fn opened<'a>(alloc: Global, image: &'a [u8]) -> Result<Core<'a>, VerifyFault> {
     match Core::open(alloc, verify(alloc, image)?) {
         Ok(core) => Ok(core),
         Err(_fault) => Err(VerifyFault::OutOfMemory),
@@ -56,7 +59,7 @@ fn opened(alloc: Global, image: &[u8]) -> Result<Core, VerifyFault> {
 /// A session on a core.
 fn simulated<R: Input + Print + Alloc<A = Global>>(
     rt: &R,
-    core: &mut Core,
+    core: &mut Core<'_>,
 ) -> Result<Ending, Ending> {
     let Ok(writer) = BufWriter::with_capacity(rt.alloc(), HELD, io::writer(rt)) else {
         return out_of_memory(rt, Task::Verify);

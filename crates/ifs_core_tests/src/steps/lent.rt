@@ -13,7 +13,7 @@ use ifs_core::{Lists, OpenFault, Outcome};
 use ifs_verify::{Verified, VerifyFault};
 
 /// Makes a step. Its reply keeps to the budgets of the core's image.
-fn reply(core: &mut Core, step: Step) -> Reply
+fn reply(core: &mut Core<'_>, step: Step) -> Reply
     ensures image { core.new.image ≡ core.old.image }
     ensures budgets { KeepsBudgets core.old.image (commands_told result) (cost_told result) }
 {
@@ -21,7 +21,7 @@ fn reply(core: &mut Core, step: Step) -> Reply
 }
 
 /// Makes steps, one after the other. Each reply keeps to the budgets.
-fn replies(alloc: Global, core: &mut Core, steps: &[Step]) -> Result<Vec<Reply>, AllocError>
+fn replies(alloc: Global, core: &mut Core<'_>, steps: &[Step]) -> Result<Vec<Reply>, AllocError>
     ensures { IfOk result (λ replies. All (λ reply. KeepsBudgets core.old.image (commands_told reply) (cost_told reply)) replies.items) }
 {
     let mut replies = Vec::new(alloc);
@@ -32,7 +32,7 @@ fn replies(alloc: Global, core: &mut Core, steps: &[Step]) -> Result<Vec<Reply>,
 }
 
 /// Verifies bytes. What is answered is the image that they spell, which keeps what the headline promises.
-fn verified(alloc: Global, bytes: &[u8]) -> Result<Verified, VerifyFault>
+fn verified<'a>(alloc: Global, bytes: &'a [u8]) -> Result<Verified<'a>, VerifyFault>
     ensures verified { IfOk result (IsVerified bytes.now) }
     ensures kept { IfOk result IsKept }
 {
@@ -42,7 +42,7 @@ fn verified(alloc: Global, bytes: &[u8]) -> Result<Verified, VerifyFault>
 }
 
 /// The name of a state of the image's list.
-fn listed_name(core: &Core, state: StateId) -> &str
+fn listed_name<'a>(core: &Core<'a>, state: StateId) -> &'a str
     requires { IsListed core.now.image state }
 {
     let Some(name) = core.state_name(state) else {
@@ -52,7 +52,7 @@ fn listed_name(core: &Core, state: StateId) -> &str
 }
 
 /// The text of a command of the image's table.
-fn known_text(core: &Core, command: CommandId) -> &str
+fn known_text<'a>(core: &Core<'a>, command: CommandId) -> &'a str
     requires { IsCommand core.now.image command }
 {
     let Some(text) = core.command_text(command) else {
@@ -62,7 +62,7 @@ fn known_text(core: &Core, command: CommandId) -> &str
 }
 
 /// What a step names: the state that its reply tells, or the command that it hands out.
-fn named(core: &mut Core, step: Step) -> Option<&str> {
+fn named<'a>(core: &mut Core<'a>, step: Step) -> Option<&'a str> {
     match core.step(step) {
         Reply::Done { state, .. } | Reply::Ticked { state, .. } => Some(listed_name(core, state)),
         Reply::Taken(command) => Some(known_text(core, command)),
@@ -71,12 +71,12 @@ fn named(core: &mut Core, step: Step) -> Option<&str> {
 }
 
 /// The name of the state in which a core stands.
-fn current_name(core: &Core) -> &str {
+fn current_name<'a>(core: &Core<'a>) -> &'a str {
     listed_name(core, core.state())
 }
 
 /// The names of the states in the trace, one after the other.
-fn traced_names(alloc: Global, core: &Core) -> Result<String, AllocError> {
+fn traced_names(alloc: Global, core: &Core<'_>) -> Result<String, AllocError> {
     let mut names = String::new(alloc);
     for index in 0..core.trace_len() {
         let Some(record) = core.trace_at(index) else {
@@ -87,28 +87,29 @@ fn traced_names(alloc: Global, core: &Core) -> Result<String, AllocError> {
     Ok(names)
 }
 
-fn check_names(rt: &impl Abort, core: &mut Core) {
+fn check_names(rt: &impl Abort, core: &mut Core<'_>) {
     assert_eq!(rt; current_name(core), "a");
     assert_eq!(rt; named(core, LINK_UP), Some("a"));
     assert_eq!(rt; named(core, LINK_UP), None);
     assert_eq!(rt; named(core, Step::Take), Some("echo m"));
 }
 
-fn check_traced(rt: &impl Abort, alloc: Global, core: &Core) -> Result<(), AllocError> {
+fn check_traced(rt: &impl Abort, alloc: Global, core: &Core<'_>) -> Result<(), AllocError> {
     assert_eq!(rt; traced_names(alloc, core)?.as_str(), "aaa");
     Ok(())
 }
 
 #[test]
 fn names_of_a_lent_core(rt: HostRuntime) -> Result<(), Fail> {
-    let mut core = opened(&rt, rt.alloc(), images::FIRST_RUN);
+    let image = bytes_in(&rt, rt.alloc(), images::FIRST_RUN);
+    let mut core = opened(&rt, rt.alloc(), image.as_slice());
     check_names(&rt, &mut core);
     check_traced(&rt, rt.alloc(), &core)?;
     Ok(())
 }
 
 /// The first four requests of the row *First run*, with one place for the lists of all of them.
-fn check_lists(rt: &impl Abort, core: &mut Core, lists: &mut Lists) {
+fn check_lists(rt: &impl Abort, core: &mut Core<'_>, lists: &mut Lists) {
     let done = Outcome::Done {
         state: StateId(0),
         cost: 6,
@@ -123,12 +124,13 @@ fn check_lists(rt: &impl Abort, core: &mut Core, lists: &mut Lists) {
 
 #[test]
 fn lent_lists(rt: HostRuntime) {
-    let mut core = opened(&rt, rt.alloc(), images::FIRST_RUN);
+    let image = bytes_in(&rt, rt.alloc(), images::FIRST_RUN);
+    let mut core = opened(&rt, rt.alloc(), image.as_slice());
     check_lists(&rt, &mut core, &mut Lists::new());
 }
 
 /// Asserts the replies to the first four requests of that row.
-fn check_replies(rt: &impl Abort, alloc: Global, core: &mut Core) -> Result<(), AllocError> {
+fn check_replies(rt: &impl Abort, alloc: Global, core: &mut Core<'_>) -> Result<(), AllocError> {
     let steps = [LINK_UP, LINK_UP, Step::Take, Step::Take];
     let replies = replies(alloc, core, steps.as_slice())?;
     assert!(rt;
@@ -145,15 +147,29 @@ fn check_replies(rt: &impl Abort, alloc: Global, core: &mut Core) -> Result<(), 
     Ok(())
 }
 
-fn check_budgets(rt: &impl Abort, core: &Core) {
-    let budgets = &core.image().budgets;
+fn check_budgets(rt: &impl Abort, core: &Core<'_>) {
+    let budgets = core.image().budgets();
     assert_eq!(rt; budgets.cost, 7);
     assert_eq!(rt; budgets.commands, 1);
 }
 
+/// The texts of the commands that a core hands out after a link is told, which live as long as the image's bytes.
+fn texts_of_a_core<'a>(rt: &impl Abort, alloc: Global, image: &'a [u8]) -> [Option<&'a str>; 2] {
+    let mut core = opened(rt, alloc, image);
+    [named(&mut core, LINK_UP), named(&mut core, Step::Take)]
+}
+
+#[test]
+fn texts_outlive_their_core(rt: HostRuntime) {
+    let image = bytes_in(&rt, rt.alloc(), images::FIRST_RUN);
+    let texts = texts_of_a_core(&rt, rt.alloc(), image.as_slice());
+    assert_eq!(rt; texts, [Some("a"), Some("echo m")]);
+}
+
 #[test]
 fn lent_core(rt: HostRuntime) -> Result<(), Fail> {
-    let mut core = opened(&rt, rt.alloc(), images::FIRST_RUN);
+    let image = bytes_in(&rt, rt.alloc(), images::FIRST_RUN);
+    let mut core = opened(&rt, rt.alloc(), image.as_slice());
     check_replies(&rt, rt.alloc(), &mut core)?;
     check_budgets(&rt, &core);
     Ok(())

@@ -61,10 +61,10 @@ fn refused(rt: HostRuntime) -> Result<(), Fail> {
     )
 }
 
-fn check_lent(rt: &impl Abort, verified: &Verified) {
-    let parts = verified.image().parts();
-    assert_eq!(rt; parts.budgets, verified.budgets());
-    assert_eq!(rt; parts.routines.len(), 2);
+fn check_lent(rt: &impl Abort, verified: &Verified<'_>) {
+    let image = verified.image();
+    assert_eq!(rt; image.budgets(), verified.budgets());
+    assert_eq!(rt; image.routines(), 2);
 }
 
 /// The image is lent whole.

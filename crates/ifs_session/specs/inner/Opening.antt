@@ -28,8 +28,8 @@ ImageGives bytes (Err (NotAccepted fault)) = AreNotAccepted bytes fault × IsRef
 ImageGives bytes (Err Memory) = Unit {0}
 ImageGives bytes (Err Broken) = ⊥
 
--- What the opening of the image of the first line gives: a core at its opening, or why there is none.
-abbrev pub OpenGives : Result OpenCore Unopened → Feed → Feed → Type 0
-OpenGives (Ok core) before after = (bytes : List ℕ) × HexGives (Ok bytes) before after × OpensImage bytes core
-OpenGives (Err (Refused refusal)) before after = LineRefused refusal before after
-OpenGives (Err NotRead) before after = HexGives (Err hex_faults.NotRead) before after
+-- What the reading of the first line gives: the bytes that it spells, or why there are none.
+abbrev pub LineGives : Result (List ℕ) Unopened → Feed → Feed → Type 0
+LineGives (Ok bytes) before after = HexGives (Ok bytes) before after
+LineGives (Err (Refused refusal)) before after = LineRefused refusal before after
+LineGives (Err NotRead) before after = HexGives (Err hex_faults.NotRead) before after

@@ -1,7 +1,7 @@
 //! The order in which a served connection starts tests, runs commands and replies, over a host and a
 //! writer with one log.
 
-use super::serving::opened;
+use super::serving::{bytes_in, opened};
 use ifs_base::TestId;
 use ifs_rows::images;
 use ifs_session::{ByteOut, DeviceFault, Host, HostFault, MemoryIn, serve_one};
@@ -86,7 +86,8 @@ fn order_of(rt: &impl Abort, alloc: Global, image: &str, requests: &[u8]) -> u64
         ended: None,
     };
     let mut output = OrderedOut { order: &order };
-    let mut core = opened(rt, alloc, image);
+    let image = bytes_in(rt, alloc, image);
+    let mut core = opened(rt, alloc, image.as_slice());
     serve_one(
         &mut core,
         &mut host,

@@ -14,10 +14,14 @@ use std::alloc::{AllocError, Allocator, Global};
 use std::process::Abort;
 use std::test::Fail;
 
-/// A core on the image of these digits.
-pub(super) fn opened(rt: &impl Abort, alloc: Global, image: &str) -> Core {
-    let bytes = bytes_of(alloc, image).expect(rt, "no bytes");
-    match verify(alloc, bytes.as_slice()) {
+/// The bytes of the image of these digits.
+pub(super) fn bytes_in(rt: &impl Abort, alloc: Global, image: &str) -> Vec<u8> {
+    bytes_of(alloc, image).expect(rt, "no bytes")
+}
+
+/// A core on an image.
+pub(super) fn opened<'a>(rt: &impl Abort, alloc: Global, image: &'a [u8]) -> Core<'a> {
+    match verify(alloc, image) {
         Err(fault) => panic!(rt; "not accepted: {fault}"),
         Ok(verified) => Core::open(alloc, verified).expect(rt, "not opened"),
     }
@@ -32,7 +36,8 @@ fn quiet<A: Allocator + Copy>(alloc: A, script: Global) -> ScriptHost<A> {
 /// assertion stands where all of it is dropped.
 #[derive(Drop)]
 struct Talk<A: Allocator + Copy> {
-    core: Core,
+    /// How many commands wait after it.
+    waiting: usize,
     host: ScriptHost<A>,
     output: MemoryOut<Global>,
     served: Served,
@@ -48,10 +53,11 @@ impl<A: Allocator + Copy> Talk<A> {
         input: &mut impl ByteIn,
         mut output: MemoryOut<Global>,
     ) -> Self {
-        let mut core = opened(rt, alloc, image);
+        let image = bytes_in(rt, alloc, image);
+        let mut core = opened(rt, alloc, image.as_slice());
         let served = serve_one(&mut core, &mut host, input, &mut output);
         Talk {
-            core,
+            waiting: core.queue_len(),
             host,
             output,
             served,
@@ -199,13 +205,13 @@ fn what_hosts_do_is_no_request(rt: HostRuntime) {
 }
 
 /// Steps after which three commands are queued.
-fn queue_three(core: &mut Core) {
+fn queue_three(core: &mut Core<'_>) {
     for state in [LinkState::Up, LinkState::Down, LinkState::Up] {
         core.step(Step::Link(IfaceId(0), state));
     }
 }
 
-fn check_queue_is_run(rt: &impl Abort, core: &mut Core, host: &mut ScriptHost<Global>) {
+fn check_queue_is_run(rt: &impl Abort, core: &mut Core<'_>, host: &mut ScriptHost<Global>) {
     assert_eq!(rt; core.queue_len(), 3);
     let steps = run_queue(core, host);
     assert_eq!(rt;
@@ -219,7 +225,8 @@ fn check_queue_is_run(rt: &impl Abort, core: &mut Core, host: &mut ScriptHost<Gl
 /// Commands are taken until there is none, and their texts run.
 #[test]
 fn queues_are_run(rt: HostRuntime) {
-    let mut core = opened(&rt, rt.alloc(), images::FIRST_RUN);
+    let image = bytes_in(&rt, rt.alloc(), images::FIRST_RUN);
+    let mut core = opened(&rt, rt.alloc(), image.as_slice());
     queue_three(&mut core);
     check_queue_is_run(&rt, &mut core, &mut quiet(rt.alloc(), rt.alloc()));
 }
@@ -270,7 +277,7 @@ fn check_broken(rt: &impl Abort, talk: &Talk<Global>, lines: usize, calls: usize
     assert_eq!(rt; talk.served.end, end, "{calls}");
     assert_eq!(rt; talk.lines(), lines, "{calls}");
     assert!(rt; REPLIES.as_bytes().starts_with(talk.written()), "{calls}");
-    assert_eq!(rt; talk.core.queue_len(), 0, "{calls}");
+    assert_eq!(rt; talk.waiting, 0, "{calls}");
 }
 
 /// Each read fails in turn: the lines that were whole by then are served, and their replies written.
@@ -291,7 +298,7 @@ fn each_read_fails_in_turn(rt: HostRuntime) {
 /// connection was stopped all the same. Whether there was such a write.
 fn check_cut(rt: &impl Abort, talk: &Talk<Global>, calls: u64) -> bool {
     assert!(rt; REPLIES.as_bytes().starts_with(talk.written()), "{calls}");
-    assert_eq!(rt; talk.core.queue_len(), 0, "{calls}");
+    assert_eq!(rt; talk.waiting, 0, "{calls}");
     if talk.served.end == End::Stop {
         return false;
     }

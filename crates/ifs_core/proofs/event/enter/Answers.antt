@@ -7,7 +7,7 @@ pub returns-clause-position : goal.returns-clause-position
 returns-clause-position c = record {
   facts = record {
     links = c.requires.position.facts.links;
-    tests = ap length c.values_after_entry-position.ensures ∙ length-kept_values c.parts-parts.result.now.always.mask c.as_slice.result.now ∙ ap length c.as_slice.ensures.value ∙ c.requires.position.facts.tests;
+    tests = ap length c.values_after_entry-position.ensures ∙ length-kept_values c.always_of-always.result.mask c.as_slice.result.now ∙ ap length c.as_slice.ensures.value ∙ c.requires.position.facts.tests;
   };
   current = c.requires.next;
   tests = c.enter.ensures.same_number ∙ c.requires.position.tests;

@@ -4,13 +4,13 @@ use Rattle.ifs_core.proofs.event.open_position.Goals as goal
 
 pub returns-clause-position : goal.returns-clause-position
 returns-clause-position c =
-    let e : c.parts-parts.result.now ≡ c.args.verified.now = c.parts-parts.ensures.value ∙ c.image.ensures.value in
+    let e = c.image-image.ensures.value in
     let image = c.args.verified.now in
     record {
       facts = record {
         links = rw (c.unknown_links.ensures, e) (length-all_unknown image);
         tests = rw (c.no_values.ensures, e) (length-no_values image);
       };
-      current = rw e c.image.ensures.accepted.indexes.initial;
+      current = rw (c.initial-current.ensures, e) c.image-image.ensures.accepted.indexes.initial;
       tests = c.enter.ensures.same_number ∙ c.new-schedule.ensures.same_number ∙ rw (c.periods_of.ensures, e) (length-periods_in image);
     }

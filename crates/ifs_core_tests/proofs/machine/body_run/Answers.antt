@@ -4,5 +4,5 @@ use Rattle.ifs_core_tests.proofs.machine.body_run.Goals as goal
 
 pub run_handler-cost-requires-clause-room : goal.run_handler-cost-requires-clause-room
 run_handler-cost-requires-clause-room c =
-    let same = ap (λ p. p.always.body.0) (c.parts-parts.ensures.value ∙ c.image.ensures.value) in
-    rw c.new.ensures (c.empty_queue_has_room.ensures c.args.verified.now c.parts-parts.result.now.always.body.0 c.image.ensures.accepted (inl (inr same)))
+    let same = ap (λ h. h.body.0) c.always.ensures ∙ ap (λ p. p.always.body.0) c.image-image.ensures.value in
+    rw c.new.ensures (c.empty_queue_has_room.ensures c.args.verified.now c.always.result.body.0 c.image-image.ensures.accepted (inl (inr same)))

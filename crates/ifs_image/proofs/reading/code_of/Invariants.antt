@@ -1,9 +1,12 @@
-use Rattle.std.proofs.Common.{◌≡◌, ◌-◌, [], vec_len}
+use Rattle.std.proofs.Common.{◌≡◌, ◌-◌, []}
+use Rattle.std.specs.Simd.{first_chunks}
+use Rattle.ifs_image.specs.Lent.{ops_in}
 use Rattle.ifs_image.specs.Reading.{items_at, instruction_at}
+use Rattle.ifs_image.proofs.Words.{WordsRead}
 use Rattle.ifs_image.proofs.reading.code_of.Given as goal
 
 abbrev pub invariant-entries : goal.invariant-entries
 invariant-entries l = record {
-  len : vec_len l.code ≡ l.counter;
-  so_far : items_at (λ _. instruction_at) (l.count - l.counter) l.code.items l.reader ≡ items_at (λ _. instruction_at) l.count [] l.fn.reader;
+  read : WordsRead l.counter l.fn.reader.left l.reader;
+  so_far : items_at (λ _. instruction_at) (l.count - l.counter) (ops_in (first_chunks 4 l.counter l.fn.reader.left)) l.reader ≡ items_at (λ _. instruction_at) l.count [] l.fn.reader;
 }

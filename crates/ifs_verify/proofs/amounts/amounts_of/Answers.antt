@@ -6,11 +6,11 @@ use Rattle.ifs_verify.proofs.Existing.{amount_found}
 use Rattle.ifs_verify.proofs.amounts.amounts_of.Goals as goal
 
 pub count_at-requires-clause-counted : goal.count_at-requires-clause-counted
-count_at-requires-clause-counted c = c.loop-done.invariant.costs (length c.code-code.result.now - 1 - c.loop-done.done + 1) (omega (arith, c.loop-done-test.true))
+count_at-requires-clause-counted c = c.loop-done.invariant.costs (c.len-count.result - 1 - c.loop-done.done + 1) (omega (arith, c.loop-done-test.true))
 
 pub count_at-requires-in-loop-done-clause-counted : goal.count_at-requires-in-loop-done-clause-counted
 count_at-requires-in-loop-done-clause-counted c =
-    c.loop-done.invariant.commands (length c.code-code.result.now - 1 - c.loop-done.done + 1) (omega (arith, c.loop-done-test.true))
+    c.loop-done.invariant.commands (c.len-count.result - 1 - c.loop-done.done + 1) (omega (arith, c.loop-done-test.true))
 
 pub first-requires : goal.first-requires
 first-requires c =

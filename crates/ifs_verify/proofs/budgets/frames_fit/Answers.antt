@@ -1,3 +1,6 @@
+use Rattle.std.proofs.Common.{slice_index, subst, sym}
+use Rattle.ifs_image.specs.declared.parts.Budgets.{Budgets}
+use Rattle.ifs_verify.specs.Bounds.{FitsHandlers}
 use Rattle.std.proofs.lemmas.Bool.{OnFalse_from}
 use Rattle.ifs_verify.specs.declared.fault.At.TheVariants.{Head}
 use Rattle.ifs_verify.specs.Refused.{FramesAreOver}
@@ -6,4 +9,4 @@ use Rattle.ifs_verify.proofs.budgets.frames_fit.Goals as goal
 
 pub returns-clause-over : goal.returns-clause-over
 returns-clause-over c = OnFalse_from c.fit_handlers.result (FramesAreOver c.args.image.now Head) (λ over.
-    frames_unfit c.args.image.now c.args.depths.now.items c.requires.plain c.requires.depths (λ fits. let held = c.fit_handlers.ensures.1 fits in cc))
+    frames_unfit c.args.image.now c.args.depths.now.items c.requires.plain c.requires.depths (λ fits. let held = c.fit_handlers.ensures.1 (subst (λ (b : Budgets). FitsHandlers c.args.image.now (slice_index c.args.depths.now.items) b.frames) (sym c.budgets.ensures) fits) in cc))

@@ -40,7 +40,7 @@ returns-clause-holds c = record {
   own = c.loop-place.invariant.own;
   calls = λ place callee is.
       let within : place < length (code_of c.args.image.now c.args.routine) = slice_get_within (code_of c.args.image.now c.args.routine) place (Call callee) is in
-      let below : place < length c.code-code.result.now = subst (λ (code : List Op). place < length code) (sym c.code-code.ensures) within in
+      let below : place < length c.code-code.result = subst (λ (code : List Op). place < length code) (sym c.code-code.ensures) within in
       c.loop-place.invariant.calls place callee (omega arith) is;
 }
 

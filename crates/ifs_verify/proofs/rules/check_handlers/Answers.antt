@@ -1,4 +1,5 @@
-use Rattle.std.proofs.Common.{arith}
+use Rattle.std.proofs.Common.{subst, arith}
+use Rattle.ifs_image.specs.declared.parts.Handlers.{Handlers}
 use Rattle.ifs_verify.specs.Rules.{LeaveNothing}
 use Rattle.ifs_verify.proofs.Instructions.{states_more}
 use Rattle.std.proofs.lemmas.Option.{slice_get_within}
@@ -11,6 +12,6 @@ loop-state-preserved c =
 
 pub returns-clause-kept : goal.returns-clause-kept
 returns-clause-kept c = record {
-  always = c.leave_nothing.ensures.0 c.if-not-leave_nothing.false;
+  always = subst (λ (handlers : Handlers). LeaveNothing c.args.image.now handlers) c.always.ensures (c.leave_nothing.ensures.0 c.if-not-leave_nothing.false);
   states = λ k state is. c.loop-state.invariant k state (omega (arith, slice_get_within c.args.image.now.states k state is)) is;
 }

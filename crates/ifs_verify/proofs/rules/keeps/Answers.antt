@@ -1,6 +1,5 @@
-use Rattle.std.proofs.Common.{ℕ, ◌≡◌, ◌<◌, List, length, Some, refl, sym, subst}
+use Rattle.std.proofs.Common.{ℕ, ◌≡◌, ◌<◌, ◌∙◌, length, Some, refl, sym, ap, subst}
 use Rattle.std.proofs.lemmas.Bool.{OnFalse_from}
-use Rattle.ifs_base.specs.declared.op.Op.{Op}
 use Rattle.ifs_image.specs.Code.{target_of}
 use Rattle.ifs_verify.specs.declared.fault.At.TheVariants.{Code}
 use Rattle.ifs_verify.specs.declared.rules.OpRule.{OpRule}
@@ -15,4 +14,4 @@ returns-in-Target-clause-broken c =
     (λ broken. subst (λ (rule : OpRule). Fails (fault_of rule (Code (record { 0 = c.args.routine }) c.args.place)) c.args.image.now) (sym c.in-Target.is)
     (jump_elsewhere c.args.image.now c.args.routine c.args.place c.args.op (target_of c.args.op) c.requires.op refl (λ kept.
     let held = c.leads_on.ensures.1
-    (subst (λ (code : List Op). (target : ℕ) → target_of c.args.op ≡ Some target → (c.args.place < target) × (target < length code)) (sym c.code.ensures) kept) in cc)))
+    (subst (λ (n : ℕ). (target : ℕ) → target_of c.args.op ≡ Some target → (c.args.place < target) × (target < n)) (sym (c.len.ensures ∙ ap length c.code.ensures)) kept) in cc)))

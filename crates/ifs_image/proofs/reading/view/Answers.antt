@@ -2,7 +2,7 @@ use Rattle.std.proofs.Common.{arith, rules, Ok, Err}
 use Rattle.ifs_image.specs.declared.fault.ImageFault.TheVariants.{Trailing}
 use Rattle.ifs_image.specs.Reading.{cursor, image_of}
 use Rattle.ifs_image.proofs.ImageLaws.{parts_taken, is_found, only_it}
-use Rattle.ifs_image.proofs.reading.read.Goals as goal
+use Rattle.ifs_image.proofs.reading.view.Goals as goal
 
 pub new-requires : goal.new-requires
 new-requires c = (parts_taken (cursor 0 c.args.bytes.now) (c.in_ok-parts.parts, c.parts_of.new.reader) (λ i. omega (arith, c.type_inv.bytes i)) (rw c.new-reader.ensures at c.in_ok-parts.ensures.given)).fits

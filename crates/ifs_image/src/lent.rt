@@ -1,0 +1,203 @@
+//! What an image is made of, where it lies in the image's bytes.
+
+ghost use Rattle.std.specs.Prelude.{◌≡◌, ◌<◌, ◌+◌, ◌^◌, ◌↔◌, Some, All, [], slice_get, length, IsTrue};
+ghost use Rattle.ifs_base.specs.Spelling.{op_of};
+ghost use Rattle.ifs_image.specs.Lent.{ops_in, IsInstruction};
+
+use crate::parts::{Budgets, Handlers};
+use ifs_base::{Items, Op, StateId, decode_op};
+use std::marker::Model;
+
+/// A text that lies in bytes. Clauses see its bytes.
+#[derive(Debug, Drop)]
+pub struct LentText<'a> {
+    text: &'a str,
+}
+
+impl<'a> Model for LentText<'a> {
+    ghost use Rattle.std.specs.Prelude.{List, ℕ};
+
+    ghost Value = { List ℕ };
+
+    ghost view = { λ t. t.text.now };
+}
+
+impl<'a> LentText<'a> {
+    /// A text where it lies.
+    pub fn new(text: &'a str) -> Self
+        ensures { result ≡ text.now }
+    {
+        LentText { text }
+    }
+
+    /// Lends the text.
+    pub fn as_str(&self) -> &'a str
+        ensures { result.now ≡ self.now }
+    {
+        self.text
+    }
+
+    /// Lends the text's bytes.
+    pub fn as_bytes(&self) -> &'a [u8]
+        ensures { result.now ≡ self.now }
+    {
+        self.text.as_bytes()
+    }
+}
+
+/// An external test, whose text lies in bytes. Clauses see the test.
+#[derive(Debug, Drop)]
+pub struct LentTest<'a> {
+    /// Seconds from one start to the next.
+    pub period: u32,
+    /// The command.
+    pub text: LentText<'a>,
+}
+
+impl<'a> Model for LentTest<'a> {
+    ghost use Rattle.ifs_image.specs.declared.parts.TestSpec.{TestSpec};
+
+    ghost Value = { TestSpec };
+
+    ghost view = { λ t. record { period = t.period; text = t.text } };
+}
+
+/// A state whose name lies in bytes. Clauses see the state.
+#[derive(Debug, Drop)]
+pub struct LentState<'a> {
+    /// Its name.
+    pub name: LentText<'a>,
+    /// Its code.
+    pub handlers: Handlers,
+}
+
+impl<'a> Model for LentState<'a> {
+    ghost use Rattle.ifs_image.specs.declared.parts.StateSpec.{StateSpec};
+
+    ghost Value = { StateSpec };
+
+    ghost view = { λ s. record { name = s.name; handlers = s.handlers } };
+}
+
+/// Instructions that lie in bytes. Clauses see the list of instructions.
+#[derive(Debug, Drop)]
+pub struct LentCode<'a> {
+    words: &'a [[u8; 4]],
+}
+
+impl<'a> Model for LentCode<'a> {
+    ghost use Rattle.std.specs.Prelude.{List, All};
+    ghost use Rattle.ifs_base.specs.declared.op.Op.{Op};
+    ghost use Rattle.ifs_image.specs.Lent.{ops_in, IsInstruction};
+
+    ghost Value = { List Op };
+
+    ghost view = { λ c. ops_in c.words.now };
+
+    ghost invariant = { λ c. All IsInstruction c.words.now };
+}
+
+impl<'a> LentCode<'a> {
+    /// Instructions where they lie.
+    pub(crate) fn new(words: &'a [[u8; 4]]) -> Self
+        requires { All IsInstruction words.now }
+        ensures { result ≡ ops_in words.now }
+    {
+        LentCode { words }
+    }
+
+    /// How many instructions there are.
+    pub fn len(&self) -> usize
+        ensures { result ≡ length self.now }
+    {
+        let words = self.words;
+        words.len()
+    }
+
+    /// Whether there is none.
+    pub fn is_empty(&self) -> bool
+        ensures { IsTrue result ↔ (self.now ≡ []) }
+    {
+        let words = self.words;
+        words.is_empty()
+    }
+
+    /// The four bytes of the instruction at a place, which the caller knows to be there.
+    pub fn word(&self, place: usize) -> [u8; 4]
+        requires { place < length self.now }
+        ensures word { slice_get self.now place ≡ op_of result }
+        // The place behind it is a number too.
+        ensures next { place + 1 < 2 ^ 64 }
+    {
+        let words = self.words;
+        words[place]
+    }
+
+    /// The instruction at a place, which the caller knows to be there.
+    pub fn op(&self, place: usize) -> Op
+        requires { place < length self.now }
+        ensures op { slice_get self.now place ≡ Some result }
+        // The place behind it is a number too.
+        ensures next { place + 1 < 2 ^ 64 }
+    {
+        let Some(op) = decode_op(self.word(place)) else {
+            unreachable!()
+        };
+        op
+    }
+
+    /// The same instructions, lent once more.
+    pub fn again(&self) -> LentCode<'a>
+        ensures { result ≡ self.now }
+    {
+        let words = self.words;
+        LentCode { words }
+    }
+}
+
+/// A routine whose code lies in bytes. Clauses see the routine.
+#[derive(Debug, Drop)]
+pub struct LentRoutine<'a> {
+    /// How many truths it leaves on the stack, 0 or 1.
+    pub results: u8,
+    /// Its instructions.
+    pub code: LentCode<'a>,
+}
+
+impl<'a> Model for LentRoutine<'a> {
+    ghost use Rattle.ifs_image.specs.declared.parts.Routine.{Routine};
+
+    ghost Value = { Routine };
+
+    ghost view = { λ r. record { results = r.results; code = r.code } };
+}
+
+/// All that an image says, with texts and code that lie in its bytes. Clauses see the image.
+#[derive(Debug, Drop)]
+pub struct LentParts<'a> {
+    pub budgets: Budgets,
+    pub initial: StateId,
+    pub always: Handlers,
+    pub interfaces: Items<LentText<'a>>,
+    pub tests: Items<LentTest<'a>>,
+    pub commands: Items<LentText<'a>>,
+    pub states: Items<LentState<'a>>,
+    pub routines: Items<LentRoutine<'a>>,
+}
+
+impl<'a> Model for LentParts<'a> {
+    ghost use Rattle.ifs_image.specs.declared.parts.ImageParts.{ImageParts};
+
+    ghost Value = { ImageParts };
+
+    ghost view = { λ p. record {
+      budgets = p.budgets;
+      initial = p.initial;
+      always = p.always;
+      interfaces = p.interfaces;
+      tests = p.tests;
+      commands = p.commands;
+      states = p.states;
+      routines = p.routines;
+    } };
+}

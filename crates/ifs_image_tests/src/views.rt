@@ -1,0 +1,170 @@
+//! Images that are seen where they lie: what each reader tells, and texts that outlive their view.
+
+use ifs_base::{CommandId, IfaceId, LinkState, Op, RoutineId, StateId};
+use ifs_image::{Budgets, Handlers, Image, ImageView, read, view};
+use ifs_rows::{bytes_of, rows};
+use std::alloc::Global;
+use std::process::Abort;
+use std::test::Fail;
+
+/// An image with two entries in each table, all of them different.
+const TWO_OF_EACH: &str = "
+    49465356 01 0002 0001 00000009 0003
+    0002 0002 0002 0002 0002 0001
+    0001 0000 0000000000000002
+    0003 656d30
+    0005 6361727031
+    00000005 0004 74727565
+    0000003c 0005 66616c7365
+    0002 7570
+    0004 646f776e
+    0003 6f6e65 0000 0001 0000000000000001
+    0003 74776f 0001 0000 0000000000000003
+    01 0002 01000000 00000000
+    00 0004 03010001 09000001 0a000001 00000000
+";
+
+fn handlers(init: u16, body: u16, mask: u64) -> Handlers {
+    Handlers {
+        init: RoutineId(init),
+        body: RoutineId(body),
+        mask,
+    }
+}
+
+#[test]
+fn each_reader(rt: HostRuntime) -> Result<(), Fail> {
+    let bytes = bytes_of(rt.alloc(), TWO_OF_EACH)?;
+    let image = view(rt.alloc(), bytes.as_slice())?;
+    check_head(&rt, &image);
+    check_names(&rt, &image, ["em0", "carp1"], ["up", "down"]);
+    check_tests(&rt, &image);
+    check_states(&rt, &image);
+    assert_eq!(rt; image.routines(), 2);
+    check_code(&rt, &image, 0, 1, &[Op::Yes, Op::Ret])?;
+    let link = Op::Link(IfaceId(1), LinkState::Down);
+    let code = [
+        link,
+        Op::PushCommand(CommandId(1)),
+        Op::PushState(StateId(1)),
+        Op::Ret,
+    ];
+    check_code(&rt, &image, 1, 0, &code)
+}
+
+fn check_head(rt: &impl Abort, image: &ImageView<'_>) {
+    let budgets = Budgets {
+        stack: 2,
+        frames: 1,
+        cost: 9,
+        commands: 3,
+    };
+    assert_eq!(rt; image.budgets(), budgets);
+    assert_eq!(rt; image.initial(), StateId(1));
+    assert_eq!(rt; image.always(), handlers(1, 0, 2));
+}
+
+fn check_names(rt: &impl Abort, image: &ImageView<'_>, interfaces: [&str; 2], commands: [&str; 2]) {
+    assert_eq!(rt; image.interfaces(), 2);
+    assert_eq!(rt; image.commands(), 2);
+    for (index, name) in interfaces.iter().enumerate() {
+        if index < image.interfaces() {
+            assert_eq!(rt; image.interface(index), *name);
+        }
+    }
+    for (index, text) in commands.iter().enumerate() {
+        if index < image.commands() {
+            assert_eq!(rt; image.command(index), *text);
+        }
+    }
+}
+
+fn check_tests(rt: &impl Abort, image: &ImageView<'_>) {
+    assert_eq!(rt; image.tests(), 2);
+    for (index, (period, text)) in [(5, "true"), (60, "false")].iter().enumerate() {
+        if index < image.tests() {
+            assert_eq!(rt; image.test_period(index), *period);
+            assert_eq!(rt; image.test_text(index), *text);
+        }
+    }
+}
+
+fn check_states(rt: &impl Abort, image: &ImageView<'_>) {
+    assert_eq!(rt; image.states(), 2);
+    let states = [("one", handlers(0, 1, 1)), ("two", handlers(1, 0, 3))];
+    for (index, (name, given)) in states.iter().enumerate() {
+        if index < image.states() {
+            assert_eq!(rt; image.state_name(index), *name);
+            assert_eq!(rt; image.state_handlers(index), *given);
+        }
+    }
+}
+
+/// A routine has so many results and these instructions, by each way to ask for them.
+fn check_code(
+    rt: &impl Abort,
+    image: &ImageView<'_>,
+    routine: usize,
+    results: u8,
+    expected: &[Op],
+) -> Result<(), Fail> {
+    if image.routines() <= routine {
+        return Err(Fail::from("a routine"));
+    }
+    assert_eq!(rt; image.results(routine), results);
+    assert_eq!(rt; image.code_len(routine), expected.len());
+    let code = image.code(routine);
+    assert_eq!(rt; code.len(), expected.len());
+    assert_eq!(rt; code.is_empty(), expected.is_empty());
+    for (place, op) in expected.iter().enumerate() {
+        if place < image.code_len(routine) {
+            assert_eq!(rt; image.op(routine, place), *op);
+            assert_eq!(rt; code.again().op(place), *op);
+        }
+    }
+    Ok(())
+}
+
+/// A view of each row tells what a copy of it does.
+#[test]
+fn every_row_seen(rt: HostRuntime) -> Result<(), Fail> {
+    for row in rows() {
+        let bytes = bytes_of(rt.alloc(), row.image)?;
+        let seen = view(rt.alloc(), bytes.as_slice())?;
+        let copied = read(rt.alloc(), bytes.as_slice())?;
+        check_same(&rt, &seen, &copied)?;
+    }
+    Ok(())
+}
+
+fn check_same(rt: &impl Abort, seen: &ImageView<'_>, copied: &Image) -> Result<(), Fail> {
+    let parts = copied.parts();
+    assert_eq!(rt; seen.budgets(), parts.budgets);
+    assert_eq!(rt; seen.states(), parts.states.len());
+    for (index, state) in parts.states.as_slice().iter().enumerate() {
+        if index < seen.states() {
+            assert_eq!(rt; seen.state_name(index), state.name.as_str());
+        }
+    }
+    assert_eq!(rt; seen.routines(), parts.routines.len());
+    for (index, routine) in parts.routines.as_slice().iter().enumerate() {
+        check_code(rt, seen, index, routine.results, routine.code.as_slice())?;
+    }
+    Ok(())
+}
+
+/// The last command of an image, which lives as long as its bytes.
+fn last_command<'a>(alloc: Global, bytes: &'a [u8]) -> Result<&'a str, Fail> {
+    let image = view(alloc, bytes)?;
+    match image.commands().checked_sub(1) {
+        Some(last) => Ok(image.command(last)),
+        None => Err(Fail::from("a command")),
+    }
+}
+
+#[test]
+fn texts_outlive_their_view(rt: HostRuntime) -> Result<(), Fail> {
+    let bytes = bytes_of(rt.alloc(), TWO_OF_EACH)?;
+    assert_eq!(rt; last_command(rt.alloc(), bytes.as_slice())?, "down");
+    Ok(())
+}
