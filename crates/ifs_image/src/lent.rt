@@ -5,7 +5,8 @@ ghost use Rattle.ifs_base.specs.Spelling.{op_of};
 ghost use Rattle.ifs_image.specs.Lent.{ops_in, IsInstruction};
 
 use crate::parts::{Budgets, Handlers};
-use ifs_base::{Items, Op, StateId, decode_op};
+use crate::decoding::known_op;
+use ifs_base::{Items, Op, StateId};
 use std::marker::Model;
 
 /// A text that lies in bytes. Clauses see its bytes.
@@ -140,10 +141,7 @@ impl<'a> LentCode<'a> {
         // The place behind it is a number too.
         ensures next { place + 1 < 2 ^ 64 }
     {
-        let Some(op) = decode_op(self.word(place)) else {
-            unreachable!()
-        };
-        op
+        known_op(self.word(place))
     }
 
     /// The same instructions, lent once more.

@@ -8,6 +8,7 @@
 #![tactic(auto)]
 
 mod copying;
+mod decoding;
 mod fault;
 mod fields;
 mod fitting;

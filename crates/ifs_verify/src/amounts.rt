@@ -116,6 +116,7 @@ pub fn amounts_of(
 }
 
 /// The amount from one place on, where those of all later places are known.
+#[inline(always)]
 fn count_at(
     image: &ImageView<'_>,
     routine: usize,
@@ -153,6 +154,7 @@ fn put(amounts: &mut Vec<u32>, place: usize, amount: u32)
 }
 
 /// The amount from one place on, where those of its successors are known.
+#[inline(always)]
 fn amount_at(op: Op, place: usize, weight: Weight, lower: &[u32], amounts: &Vec<u32>) -> u32
     requires place { place < 1024 }
     requires callee { (callee : RoutineId) → op ≡ Call callee → callee.0 < length lower.now }
