@@ -41,6 +41,16 @@ impl<'a> Reader<'a> {
         Reader { rest: bytes, at: 0 }
     }
 
+    /// A reader at the same byte.
+    pub fn again(&self) -> Self
+        ensures { result ≡ self.now }
+    {
+        Reader {
+            rest: self.rest,
+            at: self.at,
+        }
+    }
+
     /// The offset of the next byte.
     pub fn at(&self) -> usize
         ensures { result ≡ self.now.at }

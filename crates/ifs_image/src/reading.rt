@@ -291,9 +291,11 @@ fn code_of<'a>(reader: &mut Reader<'a>, count: u16) -> Result<LentCode<'a>, Imag
     ensures count { IfOk result (λ code. length code ≡ count) }
 {
     let words = reader.words();
+    let mut here = reader.again();
     'entries: for _ in 0..count {
-        reader.op()?;
+        here.op()?;
     }
+    *reader = here;
     Ok(LentCode::new(&words[..usize::from(count)]))
 }
 

@@ -47,6 +47,14 @@ target_successor (JumpFalse target) place to is = inr (sym (some_number target t
 target_successor (JumpTrue target) place to is = inr (sym (some_number target to is))
 target_successor op place to is = cc
 
+-- control goes on at the next place after all but these two
+pub onward_next : (op : Op) (place : ℕ) → op ≢ Ret → ((target : ℕ) → op ≢ Jump target) → IsSuccessor op place (place + 1)
+onward_next Ret place ret jump = absurd (ret (λ i. Ret))
+onward_next (Jump target) place ret jump = absurd (jump target (λ i. Jump target))
+onward_next (JumpFalse target) place ret jump = inl (λ i. place + 1)
+onward_next (JumpTrue target) place ret jump = inl (λ i. place + 1)
+onward_next op place ret jump = λ i. place + 1
+
 next_is : (op : Op) (place to : ℕ) → next_of op place ≡ Some to → (op ≢ Ret) × (to ≡ place + 1)
 next_is Ret place to is = cc
 next_is (Jump target) place to is = cc

@@ -1,14 +1,13 @@
 -- Marks of the places that follow an instruction.
-use Rattle.std.proofs.Common.{ℕ, ◌≡◌, ◌<◌, ◌+◌, ◌↔◌, Bool, List, length, Option}
+use Rattle.std.proofs.Common.{ℕ, ◌≡◌, ◌<◌, ◌+◌, ◌↔◌, Bool, List, length}
 use Rattle.std.proofs.Common.{Some, arith, ap, sym, ◌∙◌, subst, inl, inr, ◌⊎◌}
 use Rattle.std.proofs.lemmas.Bool.{cases_eq, cases_lt}
 use Rattle.std.proofs.lemmas.Option.{slice_get_past}
 use Rattle.ifs_base.specs.declared.op.Op.{Op}
 use Rattle.ifs_image.specs.declared.parts.ImageParts.{ImageParts}
-use Rattle.ifs_image.specs.Code.{op_at, code_of, code_in, target_of, IsSuccessor}
+use Rattle.ifs_image.specs.Code.{op_at, code_of, code_in, IsSuccessor}
 use Rattle.ifs_verify.specs.Rules.{IsRoutine}
-use Rattle.ifs_verify.specs.inner.Passes.{next_of, IsMarked, FollowsBelow}
-use Rattle.ifs_verify.proofs.Flow.{successor_cases, next_successor, target_successor}
+use Rattle.ifs_verify.specs.inner.Passes.{IsMarked, FollowsBelow}
 
 -- A routine with an instruction is one of the image.
 pub code_of-routine : (image : ImageParts) (routine : ℕ) → 0 < length (code_of image routine) → IsRoutine image routine
@@ -23,39 +22,33 @@ code_of-routine image routine some =
 some_op : (a b : Op) → Some a ≡ Some b → a ≡ b
 some_op a b e = cc
 
-abbrev pub Marks : List Bool → List Bool → Option ℕ → Type 0
-Marks old new to = (k : ℕ) → IsMarked new k ↔ (IsMarked old k ⊎ ((to ≡ Some k) × (k < length old)))
+-- What follows an instruction at a place is marked too, so far as there is room.
+abbrev pub Marks : List Bool → List Bool → Op → ℕ → Type 0
+Marks old new op place = (k : ℕ) → IsMarked new k ↔ (IsMarked old k ⊎ (IsSuccessor op place k × (k < length old)))
 
-pub follows_more : (image : ImageParts) (routine place : ℕ) (op : Op) (before between after : List Bool) → op_at image routine place ≡ Some op
-    → Marks before between (next_of op place) → Marks between after (target_of op)
+pub follows_more : (image : ImageParts) (routine place : ℕ) (op : Op) (before after : List Bool) → op_at image routine place ≡ Some op
+    → Marks before after op place
     → ((k : ℕ) → IsMarked before k → FollowsBelow image routine place k)
     → (k : ℕ) → IsMarked after k → FollowsBelow image routine (place + 1) k
-follows_more image routine place op before between after here first second follows k marked =
-    elim ((second k).0 marked) [
-      | inl marked_before ↦
-          elim ((first k).0 marked_before) [
-            | inl earlier ↦ let f = follows k earlier in (f.0, f.1, omega (arith, f.2), f.3, f.4)
-            | inr next ↦ (place, op, omega arith, here, next_successor op place k next.0)
-          ]
-      | inr target ↦ (place, op, omega arith, here, target_successor op place k target.0)
+follows_more image routine place op before after here marks follows k marked =
+    elim ((marks k).0 marked) [
+      | inl earlier ↦ let f = follows k earlier in (f.0, f.1, omega (arith, f.2), f.3, f.4)
+      | inr next ↦ (place, op, omega arith, here, next.0)
     ]
 
-pub marked_more : (image : ImageParts) (routine place : ℕ) (op : Op) (before between after : List Bool) → op_at image routine place ≡ Some op
-    → length between ≡ length before → Marks before between (next_of op place) → Marks between after (target_of op)
+pub marked_more : (image : ImageParts) (routine place : ℕ) (op : Op) (before after : List Bool) → op_at image routine place ≡ Some op
+    → Marks before after op place
     → ((k : ℕ) → k < length before → FollowsBelow image routine place k → IsMarked before k)
     → (k : ℕ) → k < length before → FollowsBelow image routine (place + 1) k → IsMarked after k
-marked_more image routine place op before between after here same first second marked k within follows =
+marked_more image routine place op before after here marks marked k within follows =
     elim (cases_eq follows.0 place) [
       | inl e ↦
           let at_place : op_at image routine place ≡ Some follows.1 = subst (λ (n : ℕ). op_at image routine n ≡ Some follows.1) e follows.3 in
           let o : follows.1 ≡ op = some_op follows.1 op (sym at_place ∙ here) in
           let successor : IsSuccessor op place k =
           subst (λ (n : ℕ). IsSuccessor op n k) e (subst (λ (x : Op). IsSuccessor x follows.0 k) o follows.4) in
-          elim (successor_cases op place k successor) [
-            | inl next ↦ (second k).1 (inl ((first k).1 (inr (next, within))))
-            | inr target ↦ (second k).1 (inr (target, omega arith))
-          ]
+          (marks k).1 (inr (successor, within))
       | inr other ↦
           let earlier : FollowsBelow image routine place k = (follows.0, follows.1, omega (arith, follows.2), follows.3, follows.4) in
-          (second k).1 (inl ((first k).1 (inl (marked k within earlier))))
+          (marks k).1 (inl (marked k within earlier))
     ]

@@ -8,11 +8,11 @@ ghost use Rattle.ifs_verify.specs.declared.amounts.Weight.TheVariants.{Cost, Com
 ghost use Rattle.ifs_verify.specs.Bounds.{callee_amount, cost_of, commands_of};
 ghost use Rattle.ifs_verify.specs.Rules.{IsRoutine};
 ghost use Rattle.ifs_verify.specs.inner.Passes.{IsSized, PlainRulesHold, HoldsAmount, IsCountedFrom};
-ghost use Rattle.ifs_verify.specs.inner.Passes.{LeastAmounts, weight_of, limit_of, amount_behind};
+ghost use Rattle.ifs_verify.specs.inner.Passes.{LeastAmounts, weight_of, limit_of};
 ghost use Rattle.ifs_verify.specs.inner.Found.{IsAmount, HaveRoom};
 
-use crate::places::{code, next, op_at, room, target};
-use crate::tables::greater;
+use crate::places::{code, op_at, room};
+use crate::tables::{entry, greater};
 use ifs_base::Op;
 use ifs_image::ImageView;
 use std::alloc::{AllocError, Global};
@@ -166,11 +166,7 @@ fn amount_at(op: Op, place: usize, weight: Weight, lower: &[u32], amounts: &Vec<
     ensures more { (bound : ℕ) → ((to : ℕ) → IsSuccessor op place to → slice_index amounts.now.items to ≤ bound) → result ≤ 100001 + bound }
 {
     let own = weigh(weight, op) + called(op, lower);
-    let onward = greater(
-        behind(next(op, place), amounts),
-        behind(target(op), amounts),
-    );
-    own + onward
+    own + onward(op, place, amounts)
 }
 
 /// What an instruction counts by itself.
@@ -200,13 +196,23 @@ fn called(op: Op, lower: &[u32]) -> u32
     }
 }
 
-/// The amount from a successor on; 0 where there is none.
-fn behind(to: Option<usize>, amounts: &Vec<u32>) -> u32
-    requires { (k : ℕ) → to ≡ Some k → k < length amounts.now.items }
-    ensures { result ≡ amount_behind (slice_index amounts.now.items) to }
+/// The greatest amount from a successor on; 0 where there is none.
+#[inline(always)]
+fn onward(op: Op, place: usize, amounts: &Vec<u32>) -> u32
+    requires place { place < 1024 }
+    requires within { (to : ℕ) → IsSuccessor op place to → to < length amounts.now.items }
+    ensures holds { (to : ℕ) → IsSuccessor op place to → slice_index amounts.now.items to ≤ result }
+    ensures least { (bound : ℕ) → ((to : ℕ) → IsSuccessor op place to → slice_index amounts.now.items to ≤ bound) → result ≤ bound }
 {
-    match to {
-        Some(to) => amounts[to],
-        None => 0,
+    match op {
+        Op::Ret => 0,
+        Op::Jump(target) => entry(amounts, usize::from(target)),
+        Op::JumpFalse(target) | Op::JumpTrue(target) => {
+            greater(
+                entry(amounts, usize::from(target)),
+                entry(amounts, place + 1),
+            )
+        }
+        _ => entry(amounts, place + 1),
     }
 }

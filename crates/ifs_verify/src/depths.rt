@@ -25,22 +25,21 @@ pub fn depth_of(image: &ImageView<'_>, routine: usize, depths: &[u32]) -> u32
     let code = code(image, routine);
     let mut depth = 1;
     for place in 0..code.len() {
-        let here = depth_at(op_at(&code, place), depths);
-        depth = greater(depth, here);
+        depth = deepened(depth, op_at(&code, place), depths);
     }
     depth
 }
 
-/// The frames that one instruction needs.
-fn depth_at(op: Op, depths: &[u32]) -> u32
+/// The number of frames, or the greater one that an instruction needs.
+fn deepened(depth: u32, op: Op, depths: &[u32]) -> u32
     requires callee { (callee : RoutineId) → op ≡ Call callee → callee.0 < length depths.now }
     requires low { (k : ℕ) → slice_index depths.now k ≤ 32 }
-    ensures own { 1 ≤ result }
+    ensures more { depth ≤ result }
     ensures call { (callee : RoutineId) → op ≡ Call callee → slice_index depths.now callee.0 + 1 ≤ result }
-    ensures least { (bound : ℕ) → 1 ≤ bound → ((callee : RoutineId) → op ≡ Call callee → slice_index depths.now callee.0 + 1 ≤ bound) → result ≤ bound }
+    ensures least { (bound : ℕ) → depth ≤ bound → ((callee : RoutineId) → op ≡ Call callee → slice_index depths.now callee.0 + 1 ≤ bound) → result ≤ bound }
 {
     match op {
-        Op::Call(callee) => depths[usize::from(callee.0)] + 1,
-        _ => 1,
+        Op::Call(callee) => greater(depth, depths[usize::from(callee.0)] + 1),
+        _ => depth,
     }
 }

@@ -1,12 +1,13 @@
 //! Whether each place of a routine is reached.
 
-ghost use Rattle.std.specs.Prelude.{ℕ, ◌≡◌, ◌<◌, ◌⊎◌, ◌↔◌, Option, Some, IsTrue, length, OnOk, IfErr, IfOk};
-ghost use Rattle.ifs_image.specs.Code.{code_of};
+ghost use Rattle.std.specs.Prelude.{ℕ, ◌≡◌, ◌<◌, ◌+◌, ◌^◌, ◌⊎◌, ◌↔◌, IsTrue, length, OnOk, IfErr, IfOk};
+ghost use Rattle.ifs_image.specs.Code.{code_of, IsSuccessor};
 ghost use Rattle.ifs_verify.specs.Rules.{IsRoutine, IsReached, PlacesAreReached};
 ghost use Rattle.ifs_verify.specs.inner.Passes.{IsSized, IsImageRefused, IsMarked};
 
 use crate::fault::VerifyFault;
-use crate::places::{at, code, next, op_at, target};
+use crate::places::{at, code, op_at};
+use ifs_base::Op;
 use ifs_image::ImageView;
 use std::alloc::{AllocError, Global};
 
@@ -36,8 +37,7 @@ fn check_reached_in(alloc: Global, image: &ImageView<'_>, routine: usize) -> Res
             return Err(VerifyFault::Unreached(at(routine, place)));
         }
         let op = op_at(&code, place);
-        mark(&mut marks, next(op, place));
-        mark(&mut marks, target(op));
+        mark_successors(&mut marks, op, place);
     }
     Ok(())
 }
@@ -60,14 +60,29 @@ fn is_reached(marks: &Vec<bool>, place: usize) -> bool
     place == 0 || marks[place]
 }
 
-/// Marks a place, where there is one and it is in the row.
-fn mark(marks: &mut Vec<bool>, to: Option<usize>)
+/// Marks the places where control may go on after an instruction, those that are in the row.
+fn mark_successors(marks: &mut Vec<bool>, op: Op, place: usize)
+    requires { place < 2 ^ 16 }
     ensures long { length marks.new.items ≡ length marks.old.items }
-    ensures marked { (k : ℕ) → IsMarked marks.new.items k ↔ (IsMarked marks.old.items k ⊎ ((to ≡ Some k) × (k < length marks.old.items))) }
+    ensures marked { (k : ℕ) → IsMarked marks.new.items k ↔ (IsMarked marks.old.items k ⊎ (IsSuccessor op place k × (k < length marks.old.items))) }
 {
-    if let Some(to) = to {
-        if to < marks.len() {
-            marks[to] = true;
+    match op {
+        Op::Ret => {}
+        Op::Jump(target) => mark(marks, usize::from(target)),
+        Op::JumpFalse(target) | Op::JumpTrue(target) => {
+            mark(marks, usize::from(target));
+            mark(marks, place + 1);
         }
+        _ => mark(marks, place + 1),
+    }
+}
+
+/// Marks a place, where it is in the row.
+fn mark(marks: &mut Vec<bool>, place: usize)
+    ensures long { length marks.new.items ≡ length marks.old.items }
+    ensures marked { (k : ℕ) → IsMarked marks.new.items k ↔ (IsMarked marks.old.items k ⊎ ((k ≡ place) × (k < length marks.old.items))) }
+{
+    if place < marks.len() {
+        marks[place] = true;
     }
 }

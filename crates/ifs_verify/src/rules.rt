@@ -5,17 +5,18 @@ ghost use Rattle.ifs_base.specs.declared.ids.RoutineId.{RoutineId};
 ghost use Rattle.ifs_base.specs.declared.op.Op.{Op};
 ghost use Rattle.ifs_base.specs.declared.op.Op.TheVariants.{Call};
 ghost use Rattle.ifs_image.specs.declared.parts.StateSpec.{StateSpec};
-ghost use Rattle.ifs_image.specs.Code.{op_at, target_of};
+ghost use Rattle.ifs_image.specs.Code.{op_at, code_of, target_of};
 ghost use Rattle.std.specs.Bool.{OnTrue, OnFalse};
 ghost use Rattle.ifs_verify.specs.declared.fault.At.TheVariants.{Code};
+ghost use Rattle.ifs_verify.specs.declared.rules.OpRule.{OpRule};
 ghost use Rattle.ifs_verify.specs.Rules.{IsRoutine, AreRoutines, IsMask, HasOperand, LeaveNothing, IndexesFit};
 ghost use Rattle.ifs_verify.specs.Rules.{HandlersLeaveNothing, JumpsLeadOn, RoutinesEnd, CallsGoDown, PlacesAreReached};
 ghost use Rattle.ifs_verify.specs.Refused.{Fails};
-ghost use Rattle.ifs_verify.specs.inner.Passes.{IsSized, Keeps, fault_of};
+ghost use Rattle.ifs_verify.specs.inner.Passes.{IsSized, Keeps, KeepAll, fault_of};
 
 use crate::fault::{At, VerifyFault};
 use crate::places::{at, at_state, code, handlers_of, op_at, result_count, target};
-use ifs_base::Op;
+use ifs_base::{Op, RoutineId};
 use ifs_image::{Handlers, ImageView};
 
 /// A rule that each instruction keeps by itself.
@@ -30,34 +31,37 @@ pub enum OpRule {
 }
 
 /// V2: each index is one of its table, and each mask has tests of the table alone.
-pub fn check_indexes(image: &ImageView<'_>) -> Result<(), VerifyFault>
-    requires { IsSized image.now }
+pub fn check_indexes(image: &ImageView<'_>, plain: bool) -> Result<(), VerifyFault>
+    requires sized { IsSized image.now }
+    requires plain { OnTrue plain (KeepAll image.now) }
     ensures kept { OnOk result (IndexesFit image.now) }
     ensures refused { IfErr result (λ fault. Fails fault image.now) }
 {
     check_head(image)?;
     check_states(image)?;
-    check_ops(image, OpRule::Operand)?;
+    check_ops(image, OpRule::Operand, plain)?;
     Ok(())
 }
 
 /// V3: each jump leads to a later place of its routine.
-pub fn check_jumps(image: &ImageView<'_>) -> Result<(), VerifyFault>
-    requires { IsSized image.now }
+pub fn check_jumps(image: &ImageView<'_>, plain: bool) -> Result<(), VerifyFault>
+    requires sized { IsSized image.now }
+    requires plain { OnTrue plain (KeepAll image.now) }
     ensures kept { OnOk result (JumpsLeadOn image.now) }
     ensures refused { IfErr result (λ fault. Fails fault image.now) }
 {
-    check_ops(image, OpRule::Target)?;
+    check_ops(image, OpRule::Target, plain)?;
     Ok(())
 }
 
 /// V8: each call is of a routine with a lower number.
-pub fn check_calls(image: &ImageView<'_>) -> Result<(), VerifyFault>
-    requires { IsSized image.now }
+pub fn check_calls(image: &ImageView<'_>, plain: bool) -> Result<(), VerifyFault>
+    requires sized { IsSized image.now }
+    requires plain { OnTrue plain (KeepAll image.now) }
     ensures kept { OnOk result (CallsGoDown image.now) }
     ensures refused { IfErr result (λ fault. Fails fault image.now) }
 {
-    check_ops(image, OpRule::Callee)?;
+    check_ops(image, OpRule::Callee, plain)?;
     Ok(())
 }
 
@@ -154,12 +158,65 @@ pub fn check_ends(image: &ImageView<'_>) -> Result<(), VerifyFault>
     Ok(())
 }
 
-/// Each instruction of each routine keeps a rule.
-fn check_ops(image: &ImageView<'_>, rule: OpRule) -> Result<(), VerifyFault>
+/// Whether each instruction keeps every rule. So an accepted image is passed over once, and not by each rule;
+/// which rule another one breaks first, and where, the checks find.
+pub fn all_keep(image: &ImageView<'_>) -> bool
     requires { IsSized image.now }
+    ensures { OnTrue result (KeepAll image.now) }
+{
+    for routine in 0..image.routines() {
+        if !all_keep_in(image, routine) {
+            return false;
+        }
+    }
+    true
+}
+
+/// The same of one routine.
+fn all_keep_in(image: &ImageView<'_>, routine: usize) -> bool
+    requires sized { IsSized image.now }
+    requires routine { IsRoutine image.now routine }
+    ensures { OnTrue result ((rule : OpRule) (place : ℕ) (op : Op) → op_at image.now routine place ≡ Some op → Keeps rule image.now routine place op) }
+{
+    let code = code(image, routine);
+    for place in 0..code.len() {
+        let op = op_at(&code, place);
+        if !keeps_each(image, routine, place, op, code.len()) {
+            return false;
+        }
+    }
+    true
+}
+
+/// Whether an instruction keeps every rule, in a routine of so many. By one look at what it is.
+fn keeps_each(image: &ImageView<'_>, routine: usize, place: usize, op: Op, count: usize) -> bool
+    requires routine { IsRoutine image.now routine }
+    requires long { count ≡ length (code_of image.now routine) }
+    ensures { OnTrue result ((rule : OpRule) → Keeps rule image.now routine place op) }
+{
+    match op {
+        Op::Link(iface, _) => usize::from(iface.0) < image.interfaces(),
+        Op::Test(test) | Op::Known(test) => usize::from(test.0) < image.tests(),
+        Op::PushCommand(command) => usize::from(command.0) < image.commands(),
+        Op::PushState(state) => usize::from(state.0) < image.states(),
+        Op::Jump(target) | Op::JumpFalse(target) | Op::JumpTrue(target) => {
+            place < usize::from(target) && usize::from(target) < count
+        }
+        Op::Call(RoutineId(callee)) => usize::from(callee) < routine,
+        _ => true,
+    }
+}
+
+/// Each instruction of each routine keeps a rule. It is looked for where not all are known to keep it.
+fn check_ops(image: &ImageView<'_>, rule: OpRule, plain: bool) -> Result<(), VerifyFault>
+    requires sized { IsSized image.now }
+    requires plain { OnTrue plain (KeepAll image.now) }
     ensures kept { OnOk result ((routine place : ℕ) (op : Op) → op_at image.now routine place ≡ Some op → Keeps rule image.now routine place op) }
     ensures refused { IfErr result (λ fault. Fails fault image.now) }
 {
+    if plain {
+        return Ok(());
+    }
     for routine in 0..image.routines() {
         check_ops_of(image, routine, rule)?;
     }

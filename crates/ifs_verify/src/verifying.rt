@@ -14,7 +14,7 @@ use crate::bounds::check_bounds;
 use crate::budgets::check_budgets;
 use crate::fault::VerifyFault;
 use crate::reach::check_reached;
-use crate::rules::{check_calls, check_ends, check_handlers, check_indexes, check_jumps};
+use crate::rules::{all_keep, check_calls, check_ends, check_handlers, check_indexes, check_jumps};
 use crate::stacks::check_stacks;
 use crate::verified::Verified;
 use ifs_image::{ImageView, view};
@@ -52,11 +52,12 @@ fn check(alloc: Global, image: &ImageView<'_>) -> Result<(), VerifyFault>
     ensures accepted { OnOk result (IsAccepted image.now) }
     ensures refused { IfErr result (IsImageRefused image.now) }
 {
-    check_indexes(image)?;
+    let plain = all_keep(image);
+    check_indexes(image, plain)?;
     check_handlers(image)?;
-    check_jumps(image)?;
+    check_jumps(image, plain)?;
     check_ends(image)?;
-    check_calls(image)?;
+    check_calls(image, plain)?;
     check_reached(alloc, image)?;
     let heights = check_stacks(alloc, image)?;
     let bounds = check_bounds(alloc, image, &heights)?;

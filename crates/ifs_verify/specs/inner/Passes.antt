@@ -44,6 +44,10 @@ Keeps Operand image routine place op = HasOperand image op
 Keeps Target image routine place op = (target : ℕ) → target_of op ≡ Some target → (place < target) × (target < length (code_of image routine))
 Keeps Callee image routine place op = (callee : RoutineId) → op ≡ Call callee → callee.0 < routine
 
+-- Each instruction keeps each rule.
+abbrev pub KeepAll : ImageParts → Type 0
+KeepAll image = (rule : OpRule) (routine place : ℕ) (op : Op) → op_at image routine place ≡ Some op → Keeps rule image routine place op
+
 -- The fault that names a rule.
 abbrev pub fault_of : OpRule → At → VerifyFault
 fault_of Operand at = NoEntry at
@@ -206,11 +210,6 @@ stated_of Commands image = image.budgets.commands
 -- What is counted is over.
 abbrev pub AmountIsOver : Weight → ImageParts → At → Type 0
 AmountIsOver weight image at = AreOver image (AreTotals (weight_of weight) image) (limit_of weight) (λ totals. FitsEvents image totals (stated_of weight image)) at
-
--- The amount at a successor; 0 where there is none.
-abbrev pub amount_behind : (ℕ → ℕ) → Option ℕ → ℕ
-amount_behind row None = 0
-amount_behind row (Some to) = row to
 
 -- An amount is large enough for one instruction and what may follow it.
 pub record HoldsAmount (weight : Op → ℕ) (lower row : ℕ → ℕ) (op : Op) (place amount : ℕ) : Type 0 where

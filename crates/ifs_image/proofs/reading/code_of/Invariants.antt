@@ -7,6 +7,6 @@ use Rattle.ifs_image.proofs.reading.code_of.Given as goal
 
 abbrev pub invariant-entries : goal.invariant-entries
 invariant-entries l = record {
-  read : WordsRead l.counter l.fn.reader.left l.reader;
-  so_far : items_at (λ _. instruction_at) (l.count - l.counter) (ops_in (first_chunks 4 l.counter l.fn.reader.left)) l.reader ≡ items_at (λ _. instruction_at) l.count [] l.fn.reader;
+  read : WordsRead l.counter l.fn.reader.left l.here;
+  so_far : items_at (λ _. instruction_at) (l.count - l.counter) (ops_in (first_chunks 4 l.counter l.fn.reader.left)) l.here ≡ items_at (λ _. instruction_at) l.count [] l.fn.reader;
 }

@@ -1,4 +1,4 @@
-use Rattle.std.proofs.Common.{◌-◌, ◌+◌, length, slice_index, arith}
+use Rattle.std.proofs.Common.{◌-◌, ◌+◌, slice_index, arith}
 use Rattle.ifs_verify.specs.Bounds.{cost_of, commands_of}
 use Rattle.ifs_verify.specs.declared.amounts.Weight.TheVariants.{Cost, Commands}
 use Rattle.ifs_verify.specs.inner.Passes.{IsCountedFrom}

@@ -11,8 +11,8 @@ use Rattle.ifs_verify.proofs.depths.depth_of.Goals as goal
 some_op : (a b : Op) → Some a ≡ Some b → a ≡ b
 some_op a b e = cc
 
-pub depth_at-here-requires-clause-callee : goal.depth_at-here-requires-clause-callee
-depth_at-here-requires-clause-callee c = λ callee is.
+pub deepened-depth-requires-clause-callee : goal.deepened-depth-requires-clause-callee
+deepened-depth-requires-clause-callee c = λ callee is.
     let here : op_at c.args.image.now c.args.routine c.loop-place.place ≡ Some c.op_at.result = subst (λ (code : List Op). slice_get code c.loop-place.place ≡ Some c.op_at.result) c.code-code.ensures c.op_at.ensures in
     let lower = c.requires.plain.calls c.args.routine c.loop-place.place callee (here ∙ ap (λ (o : Op). Some o) is) in
     omega (arith, lower, c.requires.lower.long)
@@ -21,18 +21,18 @@ pub loop-place-preserved : goal.loop-place-preserved
 loop-place-preserved c =
     let here : op_at c.args.image.now c.args.routine c.loop-place.place ≡ Some c.op_at.result = subst (λ (code : List Op). slice_get code c.loop-place.place ≡ Some c.op_at.result) c.code-code.ensures c.op_at.ensures in
     record {
-      own = omega (arith, c.loop-place.invariant.own, c.greater-depth.ensures.left);
+      own = omega (arith, c.loop-place.invariant.own, c.deepened-depth.ensures.more);
       calls = λ place callee below is.
           elim (cases_eq place c.loop-place.place) [
             | inl e ↦
                 let same : c.op_at.result ≡ Call callee =
                 some_op c.op_at.result (Call callee) (sym here ∙ subst (λ (n : ℕ). op_at c.args.image.now c.args.routine n ≡ Some (Call callee)) e is) in
-                omega (arith, c.depth_at-here.ensures.call callee same, c.greater-depth.ensures.right)
-            | inr ne ↦ omega (arith, c.loop-place.invariant.calls place callee (omega arith) is, c.greater-depth.ensures.left)
+                c.deepened-depth.ensures.call callee same
+            | inr ne ↦ omega (arith, c.loop-place.invariant.calls place callee (omega arith) is, c.deepened-depth.ensures.more)
           ];
       least = λ bound holds.
-          c.greater-depth.ensures.least bound (c.loop-place.invariant.least bound holds)
-          (c.depth_at-here.ensures.least bound holds.own (λ callee is. holds.calls c.loop-place.place callee (here ∙ ap (λ (o : Op). Some o) is)));
+          c.deepened-depth.ensures.least bound (c.loop-place.invariant.least bound holds)
+          (λ callee is. holds.calls c.loop-place.place callee (here ∙ ap (λ (o : Op). Some o) is));
     }
 
 pub returns-clause-holds : goal.returns-clause-holds
