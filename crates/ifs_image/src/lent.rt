@@ -4,8 +4,8 @@ ghost use Rattle.std.specs.Prelude.{◌≡◌, ◌<◌, ◌+◌, ◌^◌, ◌↔
 ghost use Rattle.ifs_base.specs.Spelling.{op_of};
 ghost use Rattle.ifs_image.specs.Lent.{ops_in, IsInstruction};
 
-use crate::parts::{Budgets, Handlers};
 use crate::decoding::known_op;
+use crate::parts::{Budgets, Handlers};
 use ifs_base::{Items, Op, StateId};
 use std::marker::Model;
 
