@@ -1,50 +1,91 @@
--- The plain image of a policy is accepted.
-use Rattle.std.proofs.Common.{◌≡◌, ℕ, zero, suc, ◌*◌, ◌^◌, ◌<◌, ◌≤◌, length, Some, refl, sym, ap, ◌∙◌, subst, arith}
+-- The image of a policy is accepted.
+use Rattle.std.proofs.Common.{◌≡◌, ℕ, suc, ◌+◌, ◌-◌, ◌*◌, ◌^◌, ◌<◌, ◌≤◌, ⊎_elim, List, [], ◌∷◌, ◌++◌, length, map}
+use Rattle.std.proofs.Common.{Option, Some, None, refl, sym, ap, ◌∙◌, subst, arith, length-append}
 use Rattle.std.specs.Prelude.{slice_get, All}
+use Rattle.std.specs.List.{AllByRecursion}
+use Rattle.std.proofs.lemmas.Bool.{cases_lt}
 use Rattle.std.proofs.lemmas.List.{length-map}
 use Rattle.std.proofs.lemmas.List.Elements.{All-cons, All-weaker}
 use Rattle.std.proofs.lemmas.Option.{slice_get_within}
+use Rattle.ifs_base.specs.Spelling.{IsReadBack}
+use Rattle.ifs_base.specs.declared.ids.RoutineId.{RoutineId}
+use Rattle.ifs_base.specs.declared.op.Op.{Op}
+use Rattle.ifs_base.specs.declared.op.Op.TheVariants.{Ret, Call}
 use Rattle.ifs_image.specs.declared.parts.Budgets.{Budgets}
 use Rattle.ifs_image.specs.declared.parts.StateSpec.{StateSpec}
 use Rattle.ifs_image.specs.declared.parts.ImageParts.{ImageParts}
-use Rattle.ifs_image.specs.Code.{code_of}
-use Rattle.ifs_verify.specs.Rules.{AreRoutines, IsMask, IndexesFit, HandlersLeaveNothing}
+use Rattle.ifs_image.specs.Code.{code_in, code_of, op_at, results_in}
+use Rattle.ifs_verify.specs.Rules.{AreRoutines, IsMask, IndexesFit, LeaveNothing, HandlersLeaveNothing}
 use Rattle.ifs_verify.specs.Bounds.{cost_of, commands_of, FitsHandlers}
 use Rattle.ifs_verify.specs.Accepted.{IsAccepted}
-use Rattle.ifs_gen.specs.Trees.{Part, Policy}
+use Rattle.ifs_parse.specs.Trees.{condition_size}
+use Rattle.ifs_gen.specs.Trees.{Condition, Block, Done, RunThen, WantThen, IfThen, Part, Policy}
 use Rattle.ifs_policy.specs.Meaning.{mentioned}
-use Rattle.ifs_gen.specs.PlainCode.{plain_coder, body_code, init_code, block_runs}
-use Rattle.ifs_gen.specs.PlainImage.{image_with, least_budgets, test_count, parts_of, mask_of_part, handlers_of}
-use Rattle.ifs_gen.specs.PlainImage.{greatest}
-use Rattle.ifs_gen.specs.PlainImage.{room_of, init_length, body_length, part_height, plain_image, PartCodeFits}
-use Rattle.ifs_gen.specs.PlainImage.{CodeFits}
+use Rattle.ifs_gen.specs.PlainCode.{Coder, plain_coder, condition_code, code_size, body_code, init_code, block_runs}
+use Rattle.ifs_gen.specs.PlainCode.{block_limit, body_limit, init_limit}
+use Rattle.ifs_gen.specs.PlainSizes.{test_count, parts_of, mask_of_part, greatest, room_of, part_height}
+use Rattle.ifs_gen.specs.PlainSizes.{PartCodeFits, CodeFits}
+use Rattle.ifs_gen.specs.PolicyImage.{shared_of, handlers_of, routine_of_code, shared_routine, routines_of}
+use Rattle.ifs_gen.specs.PolicyImage.{image_with, least_budgets, image_of}
+use Rattle.ifs_gen.specs.Sharing.{conditions_in, place_in, cost_in_place, frames_for, shared_coder}
 use Rattle.ifs_policy.specs.Fits.{PolicyFits}
-use Rattle.ifs_gen.specs.Acceptance.{PlainIsAccepted}
 use Rattle.ifs_policy.specs.Fits as fits
 use Rattle.ifs_policy.specs.Fits.{Sizes, HandlersFit}
 use Rattle.ifs_gen.specs.Runs.{image_sizes}
-use Rattle.ifs_gen.proofs.GoodRoutines.{EachGood, kinds_in, heights_in, amount, operands, jumps, ends, calls}
-use Rattle.ifs_gen.proofs.GoodRoutines.{reached, typings, are_heights, are_depths, are_amounts, leave_nothing}
-use Rattle.ifs_gen.proofs.GoodCode.{cost_is_length, init_queues, body_queues, init_long, body_long}
-use Rattle.ifs_gen.proofs.Images.{routines_long, states_long, state_at, greatest_below, mask_below, each_good}
-use Rattle.ifs_gen.proofs.Images.{heights_within, Below, routines_within, parts_below, fits_events}
-use Rattle.ifs_gen.proofs.Limits.{fits}
+use Rattle.ifs_gen.proofs.Rows.{entry_at}
+use Rattle.ifs_gen.proofs.Called.{frames_some, frames_few, frames_two}
+use Rattle.ifs_gen.proofs.Fine.{Callees}
+use Rattle.ifs_gen.proofs.Heights.{tall}
+use Rattle.ifs_gen.proofs.Among.{each_both, each_weaker, each_shared}
+use Rattle.ifs_gen.proofs.Shrinks.{size_some}
+use Rattle.ifs_gen.proofs.Standing.{IsConditionCode, all_conditions, IsShort, all_short, IsLow, all_tall}
+use Rattle.ifs_gen.proofs.CalledTypes.{MayBeCalled}
+use Rattle.ifs_gen.proofs.GoodRoutines.{EachGood, AreCallees, kinds_in, heights_in, amount, with_callee, operands, jumps}
+use Rattle.ifs_gen.proofs.GoodRoutines.{ends, calls, reached, typings, are_heights, depth, depth_low, are_depths, are_amounts}
+use Rattle.ifs_gen.proofs.Weights.{init_costs, body_costs, init_runs, body_runs, shared_costs, shared_runs}
+use Rattle.ifs_gen.proofs.Images.{routines_long, states_long, state_at, part_at, greatest_below, mask_below, init_at, body_at}
+use Rattle.ifs_gen.proofs.Images.{has_shared, behind}
+use Rattle.ifs_gen.proofs.Goods.{good_append, heights_left, heights_right, each_shared_good, shared_height, shared_low}
+use Rattle.ifs_gen.proofs.Goods.{shared_quiet, each_good, heights_within}
+use Rattle.ifs_gen.proofs.Reach.{each_at, Weighs, Below, routines_within, parts_below, fits_events}
 
-module _ (policy : Policy) (is : PolicyFits policy) (budgets : Budgets) where
+-- The height of a shared code.
+abbrev tall_in : Option (List Op) → ℕ
+tall_in None = 0
+tall_in (Some code) = tall code
+
+-- What the handlers of a policy may call.
+abbrev pub callees_of : Policy → Callees
+callees_of policy = record { count = length (shared_of policy); height = λ k. tall_in (slice_get (shared_of policy) k) }
+
+module _ (back : IsReadBack) (policy : Policy) (is : PolicyFits policy) (budgets : Budgets) where
   abbrev pub image : ImageParts
   image = image_with budgets policy
 
   abbrev pub count : ℕ
   count = test_count policy
 
+  abbrev pub table : List (List Op)
+  table = shared_of policy
+
+  abbrev pub shared : ℕ
+  shared = length (shared_of policy)
+
+  abbrev pub coder : Coder
+  coder = shared_coder (shared_of policy)
+
   pub tests_long : length image.tests ≡ count
   tests_long = length-map policy.tables.tests _
 
   states_are : length image.states ≡ length policy.tables.states
-  states_are = states_long count 1 policy.tables.states policy.states is.count
+  states_are = states_long shared count 1 policy.tables.states policy.states is.count
 
-  routines_are : length image.routines ≡ 2 * suc (length policy.states)
-  routines_are = routines_long count (parts_of policy)
+  pub routines_are : length image.routines ≡ shared + 2 * suc (length policy.states)
+  routines_are =
+      let sum = length-append (map shared_routine table) (routines_of coder count (parts_of policy)) in
+      let first = length-map table shared_routine in
+      let rest = routines_long coder count (parts_of policy) in
+      omega (arith, sum, first, rest)
 
   same_sizes : fits.sizes_of policy.tables ≡ image_sizes image
   same_sizes =
@@ -54,10 +95,46 @@ module _ (policy : Policy) (is : PolicyFits policy) (budgets : Budgets) where
   pub parts_fit : All (HandlersFit (image_sizes image)) (parts_of policy)
   parts_fit = subst (λ sizes. All (HandlersFit sizes) (parts_of policy)) same_sizes (All-cons (HandlersFit (fits.sizes_of policy.tables)) policy.always policy.states is.always is.states)
 
-  abbrev pub good : EachGood image image.routines
-  good = each_good image count tests_long (parts_of policy) parts_fit
+  pub conditions : AllByRecursion (IsConditionCode (image_sizes image)) table
+  conditions = each_shared (IsConditionCode (image_sizes image)) (conditions_in (parts_of policy)) (all_conditions (image_sizes image) (parts_of policy) parts_fit)
 
-  routine_there : (k : ℕ) → k < suc (length policy.states) → AreRoutines image (handlers_of count k policy.always)
+  pub may : MayBeCalled (callees_of policy) table
+  may = record { count = omega arith; heights = λ k code e. ap tall_in e }
+
+  abbrev pub shared_good : EachGood image (callees_of policy) (map shared_routine table)
+  shared_good = each_shared_good image (callees_of policy) table conditions
+
+  abbrev pub parts_good : EachGood image (callees_of policy) (routines_of coder count (parts_of policy))
+  parts_good = each_good image (callees_of policy) table (has_shared policy budgets) back may count tests_long (parts_of policy) parts_fit
+
+  abbrev pub good : EachGood image (callees_of policy) image.routines
+  good = good_append image (callees_of policy) (map shared_routine table) (routines_of coder count (parts_of policy)) shared_good parts_good
+
+  -- shared routines call nothing, and are as high as is told
+  first_high : (routine : ℕ) → routine < shared → heights_in image (callees_of policy) image.routines good routine ≡ tall_in (slice_get table routine)
+  first_high routine lt =
+      let there = entry_at table routine lt in
+      let first = length-map table shared_routine in
+      heights_left image (callees_of policy) (map shared_routine table) (routines_of coder count (parts_of policy)) shared_good parts_good routine (omega (arith, first, lt))
+      ∙ shared_height image (callees_of policy) table conditions routine there.0 there.1 ∙ sym (ap tall_in there.1)
+
+  first_quiet : (routine place : ℕ) (callee : RoutineId) → routine < shared → op_at image routine place ≡ Some (Call callee) → ⊥
+  first_quiet routine place callee lt h =
+      let there = entry_at table routine lt in
+      let own = each_at (IsConditionCode (image_sizes image)) table routine there.0 conditions there.1 in
+      let at = ap (λ o. slice_get (code_in o) place) (has_shared policy budgets routine there.0 there.1) in
+      shared_quiet own.condition place callee (ap (λ code. slice_get (code ++ Ret ∷ []) place) own.is ∙ (sym at ∙ h))
+
+  pub first : AreCallees image (callees_of policy) good
+  first = record { quiet = first_quiet; high = first_high }
+
+  pub init_there : (k : ℕ) (part : Part) → slice_get (parts_of policy) k ≡ Some part → slice_get image.routines (shared + 2 * k) ≡ Some (routine_of_code (init_code coder part.init))
+  init_there k part e = behind policy budgets (routines_of coder count (parts_of policy)) (2 * k) ∙ init_at coder count (parts_of policy) k part e
+
+  pub body_there : (k : ℕ) (part : Part) → slice_get (parts_of policy) k ≡ Some part → slice_get image.routines (shared + (2 * k + 1)) ≡ Some (routine_of_code (body_code coder count part.body))
+  body_there k part e = behind policy budgets (routines_of coder count (parts_of policy)) (2 * k + 1) ∙ body_at coder count (parts_of policy) k part e
+
+  routine_there : (k : ℕ) → k < suc (length policy.states) → AreRoutines image (handlers_of shared count k policy.always)
   routine_there k lt = (omega (arith, lt, routines_are), omega (arith, lt, routines_are))
 
   mask_there : (part : Part) → IsMask image (mask_of_part count part)
@@ -65,7 +142,7 @@ module _ (policy : Policy) (is : PolicyFits policy) (budgets : Budgets) where
 
   state_there : (k : ℕ) (spec : StateSpec) → slice_get image.states k ≡ Some spec → AreRoutines image spec.handlers × IsMask image spec.handlers.mask
   state_there k spec at =
-      let s = state_at count 1 policy.tables.states policy.states k spec at in
+      let s = state_at shared count 1 policy.tables.states policy.states k spec at in
       let within = slice_get_within policy.states k s.part s.at in
       subst (λ (x : StateSpec). AreRoutines image x.handlers × IsMask image x.handlers.mask) (sym s.is)
       ((omega (arith, within, routines_are), omega (arith, within, routines_are)), mask_there s.part)
@@ -77,101 +154,190 @@ module _ (policy : Policy) (is : PolicyFits policy) (budgets : Budgets) where
     always_mask = mask_there policy.always;
     states = λ k spec at. (state_there k spec at).0;
     masks = λ k spec at. (state_there k spec at).1;
-    operands = operands image good;
+    operands = operands image (callees_of policy) good;
   }
+
+  -- the handlers of a part leave nothing
+  part_leaves : (k : ℕ) (part : Part) → slice_get (parts_of policy) k ≡ Some part → LeaveNothing image (handlers_of shared count k part)
+  part_leaves k part e = (ap results_in (init_there k part e), ap results_in (body_there k part e))
 
   pub nothing_left : HandlersLeaveNothing image
   nothing_left = record {
-    always =
-        let there = routine_there 0 (omega arith) in
-        (leave_nothing image good image.always.init.0 there.0, leave_nothing image good image.always.body.0 there.1);
+    always = part_leaves 0 policy.always refl;
     states = λ k spec at.
-        let there = (state_there k spec at).0 in
-        (leave_nothing image good spec.handlers.init.0 there.0, leave_nothing image good spec.handlers.body.0 there.1);
+        let s = state_at shared count 1 policy.tables.states policy.states k spec at in
+        subst (λ (x : StateSpec). LeaveNothing image x.handlers) (sym s.is) (part_leaves (1 + k) s.part (part_at policy k s.part s.at));
   }
 
-module _ (policy : Policy) (is : PolicyFits policy) (code : CodeFits policy) where
+  -- What inits and bodies come to at most.
+  abbrev pub init_most : Part → ℕ
+  init_most part = init_limit coder part.init
+
+  abbrev pub body_most : Part → ℕ
+  body_most part = body_limit coder count part.body
+
+  pub costs : Weighs policy budgets (with_callee cost_of image) init_most body_most
+  costs = record {
+    init_is = λ part. init_costs image table (has_shared policy budgets) back part.init;
+    body_is = λ part. body_costs image table (has_shared policy budgets) back count part.body;
+  }
+
+  pub commands : Weighs policy budgets (with_callee commands_of image) (λ part. block_runs part.init) (λ part. block_runs part.body)
+  commands = record {
+    init_is = λ part. init_runs image table (has_shared policy budgets) back part.init;
+    body_is = λ part. body_runs image table (has_shared policy budgets) back count part.body;
+  }
+
+-- no code costs more than three times its plain size
+module _ (table : List (List Op)) where
+  condition_costs : (c : Condition) (o : Option ℕ) → cost_in_place (condition_size c) o ≤ 3 * condition_size c
+  condition_costs c None = omega arith
+  condition_costs c (Some k) = let some = size_some c in omega (arith, some)
+
+  pub limit_low : (block : Block) → block_limit (shared_coder table) block ≤ 3 * code_size plain_coder block
+  limit_low Done = omega arith
+  limit_low (RunThen n rest) = let h = limit_low rest in omega (arith, h)
+  limit_low (WantThen n rest) = let h = limit_low rest in omega (arith, h)
+  limit_low (IfThen c inner rest) =
+      let here = condition_costs c (place_in table (condition_code c)) in
+      let h = limit_low inner in
+      let g = limit_low rest in
+      omega (arith, here, h, g)
+
+module _ (back : IsReadBack) (policy : Policy) (is : PolicyFits policy) (code : CodeFits policy) where
   abbrev stated : Budgets
   stated = least_budgets policy
 
-  abbrev plain : ImageParts
-  plain = plain_image policy
+  abbrev whole : ImageParts
+  whole = image_of policy
 
   abbrev counted : ℕ
   counted = test_count policy
 
-  abbrev all_good : EachGood plain plain.routines
-  all_good = good policy is stated
+  abbrev called : Callees
+  called = callees_of policy
+
+  abbrev all_good : EachGood whole called whole.routines
+  all_good = good back policy is stated
+
+  all_first : AreCallees whole called all_good
+  all_first = first back policy is stated
 
   -- what all routines stay below, handlers do
-  handlers_below : (reach : ℕ → ℕ) (b : ℕ) → ((routine : ℕ) → reach routine ≤ b) → FitsHandlers plain reach b
+  handlers_below : (reach : ℕ → ℕ) (b : ℕ) → ((routine : ℕ) → reach routine ≤ b) → FitsHandlers whole reach b
   handlers_below reach b h = record {
-    always_init = h plain.always.init.0;
-    always_body = h plain.always.body.0;
+    always_init = h whole.always.init.0;
+    always_body = h whole.always.body.0;
     init = λ k state at. h state.handlers.init.0;
     body = λ k state at. h state.handlers.body.0;
   }
 
   abbrev heights : ℕ → ℕ
-  heights routine = heights_in plain plain.routines all_good routine
+  heights routine = heights_in whole called whole.routines all_good routine
 
   heights_low : (routine : ℕ) → heights routine ≤ greatest part_height (parts_of policy)
-  heights_low routine = heights_within plain counted (tests_long policy is stated) (parts_of policy) (parts_fit policy is stated) routine
+  heights_low routine =
+      let routines = routines_of (shared_coder (shared_of policy)) counted (parts_of policy) in
+      let long = length-map (shared_of policy) shared_routine in
+      let goods = shared_good back policy is stated in
+      let more = parts_good back policy is stated in
+      let n = greatest part_height (parts_of policy) in
+      ⊎_elim
+      (λ lower.
+      let e = heights_left whole called (map shared_routine (shared_of policy)) routines goods more routine lower in
+      let low = each_shared (IsLow n) (conditions_in (parts_of policy)) (all_tall n (parts_of policy) (omega arith)) in
+      let h = shared_low whole called n (shared_of policy) (conditions back policy is stated) low routine in
+      omega (arith, e, h))
+      (λ higher.
+      let i = routine - length (map shared_routine (shared_of policy)) in
+      let same : routine ≡ length (map shared_routine (shared_of policy)) + i = omega (arith, higher) in
+      let e = ap heights same ∙ heights_right whole called (map shared_routine (shared_of policy)) routines goods more i in
+      let h = heights_within whole called (shared_of policy) (has_shared policy stated) back (may back policy is stated) counted (tests_long back policy is stated) (parts_of policy) (parts_fit back policy is stated) i in
+      omega (arith, e, h))
+      (cases_lt routine (length (map shared_routine (shared_of policy))))
 
   greatest_low : greatest part_height (parts_of policy) ≤ 32
   greatest_low = greatest_below part_height (parts_of policy) 32 code.height
 
-  init_costs : (part : Part) → amount cost_of (init_code plain_coder part.init) zero ≡ init_length part
-  init_costs part = cost_is_length (init_code plain_coder part.init) ∙ init_long part.init
+  frames_some_here : 1 ≤ frames_for (shared_of policy)
+  frames_some_here = frames_some (shared_of policy)
 
-  body_costs : (part : Part) → amount cost_of (body_code plain_coder counted part.body) zero ≡ body_length counted part
-  body_costs part = cost_is_length (body_code plain_coder counted part.body) ∙ body_long counted part.body
+  frames_more : 0 < length (shared_of policy) → 2 ≤ frames_for (shared_of policy)
+  frames_more some = let there = entry_at (shared_of policy) 0 some in frames_two (shared_of policy) 0 there.0 there.1
 
-  pub init_runs : (part : Part) → amount commands_of (init_code plain_coder part.init) zero ≡ block_runs part.init
-  init_runs part = init_queues part.init
-
-  pub body_runs : (part : Part) → amount commands_of (body_code plain_coder counted part.body) zero ≡ block_runs part.body
-  body_runs part = body_queues counted part.body
-
-  cheap : All (Below cost_of counted init_length (body_length counted) init_costs body_costs 100000) (parts_of policy)
+  cheap : All (Below policy stated (with_callee cost_of whole) (init_most back policy is stated) (body_most back policy is stated) 100000) (parts_of policy)
   cheap =
-      All-weaker (PartCodeFits counted) (Below cost_of counted init_length (body_length counted) init_costs body_costs 100000)
-      (λ part fit. record { init_below = let h = fit.init in omega (arith, h); body_below = let h = fit.body in omega (arith, h) }) (parts_of policy) code.each
+      All-weaker (PartCodeFits counted) (Below policy stated (with_callee cost_of whole) (init_most back policy is stated) (body_most back policy is stated) 100000)
+      (λ part fit.
+      let init = fit.init in
+      let body = fit.body in
+      let init_low = limit_low (shared_of policy) part.init in
+      let body_low = limit_low (shared_of policy) part.body in
+      record { init_below = omega (arith, init, init_low); body_below = omega (arith, body, body_low) }) (parts_of policy) code.each
 
-  pub accepted : IsAccepted plain
+  -- shared routines cost as much as they have instructions, and queue nothing
+  shared_cheap : AllByRecursion (λ code. amount (with_callee cost_of whole) (code ++ Ret ∷ []) 0 ≤ 100000) (shared_of policy)
+  shared_cheap =
+      each_weaker (λ code. IsConditionCode (image_sizes whole) code × IsShort 1023 code) (λ code. amount (with_callee cost_of whole) (code ++ Ret ∷ []) 0 ≤ 100000)
+      (λ code h.
+      let own = h.0 in
+      let short = h.1 in
+      let cost = shared_costs whole own.condition in
+      let same = ap (λ c. amount (with_callee cost_of whole) (c ++ Ret ∷ []) 0) own.is in
+      let long = ap length own.is in
+      omega (arith, short, cost, same, long))
+      (shared_of policy)
+      (each_both (IsConditionCode (image_sizes whole)) (IsShort 1023) (shared_of policy) (conditions back policy is stated) (each_shared (IsShort 1023) (conditions_in (parts_of policy)) (all_short counted (parts_of policy) code.each)))
+
+  shared_queues_nothing : AllByRecursion (λ code. amount (with_callee commands_of whole) (code ++ Ret ∷ []) 0 ≤ room_of policy) (shared_of policy)
+  shared_queues_nothing =
+      each_weaker (IsConditionCode (image_sizes whole)) (λ code. amount (with_callee commands_of whole) (code ++ Ret ∷ []) 0 ≤ room_of policy)
+      (λ code own.
+      let none = shared_runs whole own.condition in
+      let same = ap (λ c. amount (with_callee commands_of whole) (c ++ Ret ∷ []) 0) own.is in
+      omega (arith, none, same))
+      (shared_of policy) (conditions back policy is stated)
+
+  pub accepted : IsAccepted whole
   accepted = record {
-    indexes = indexes policy is stated;
-    handlers = nothing_left policy is stated;
-    jumps = jumps plain all_good;
-    ends = ends plain all_good;
-    calls = calls plain all_good;
-    reached = reached plain all_good;
-    typed = (kinds_in plain plain.routines all_good, typings plain all_good);
+    indexes = indexes back policy is stated;
+    handlers = nothing_left back policy is stated;
+    jumps = jumps whole called all_good;
+    ends = ends whole called all_good;
+    calls = calls whole called all_good all_first;
+    reached = reached whole called all_good;
+    typed = (kinds_in whole called whole.routines all_good, typings whole called all_good);
     stack = (
-      kinds_in plain plain.routines all_good,
+      kinds_in whole called whole.routines all_good,
       heights,
-      typings plain all_good,
-      are_heights plain all_good,
+      typings whole called all_good,
+      are_heights whole called all_good all_first,
       λ routine there. let h = heights_low routine in let g = greatest_low in omega (arith, h, g),
-      handlers_below heights plain.budgets.stack heights_low,
+      handlers_below heights whole.budgets.stack heights_low,
     );
-    frames = (λ routine. 1, are_depths plain all_good, λ routine there. omega arith, handlers_below (λ routine. 1) 1 (λ routine. omega arith));
+    frames = (
+      depth whole called all_good all_first (frames_for (shared_of policy)),
+      are_depths whole called all_good all_first (frames_for (shared_of policy)) frames_some_here frames_more,
+      λ routine there.
+          let h = depth_low whole called all_good all_first (frames_for (shared_of policy)) routine frames_some_here in
+          let g = frames_few (shared_of policy) in
+          omega (arith, h, g),
+      handlers_below (depth whole called all_good all_first (frames_for (shared_of policy))) whole.budgets.frames (λ routine. depth_low whole called all_good all_first (frames_for (shared_of policy)) routine frames_some_here),
+    );
     cost = (
-      λ routine place. amount cost_of (code_of plain routine) place,
-      are_amounts plain all_good cost_of,
-      λ routine there. routines_within cost_of counted init_length (body_length counted) init_costs body_costs (parts_of policy) 100000 cheap routine,
-      fits_events cost_of counted init_length (body_length counted) init_costs body_costs policy refl plain.budgets,
+      λ routine place. amount (with_callee cost_of whole) (code_of whole routine) place,
+      are_amounts whole called all_good all_first cost_of,
+      λ routine there.
+          routines_within policy stated (with_callee cost_of whole) (init_most back policy is stated) (body_most back policy is stated) (costs back policy is stated) 100000 cheap shared_cheap routine,
+      fits_events policy stated (with_callee cost_of whole) (init_most back policy is stated) (body_most back policy is stated) (costs back policy is stated),
     );
     commands = (
-      λ routine place. amount commands_of (code_of plain routine) place,
-      are_amounts plain all_good commands_of,
+      λ routine place. amount (with_callee commands_of whole) (code_of whole routine) place,
+      are_amounts whole called all_good all_first commands_of,
       λ routine there.
-          let h = routines_within commands_of counted (λ part. block_runs part.init) (λ part. block_runs part.body) init_runs body_runs (parts_of policy) (room_of policy)
-          (parts_below commands_of counted (λ part. block_runs part.init) (λ part. block_runs part.body) init_runs body_runs policy) routine in
+          let h = routines_within policy stated (with_callee commands_of whole) (λ part. block_runs part.init) (λ part. block_runs part.body) (commands back policy is stated) (room_of policy)
+          (parts_below policy stated (with_callee commands_of whole) (λ part. block_runs part.init) (λ part. block_runs part.body) (commands back policy is stated)) shared_queues_nothing routine in
           let g = code.room in omega (arith, h, g),
-      fits_events commands_of counted (λ part. block_runs part.init) (λ part. block_runs part.body) init_runs body_runs policy refl plain.budgets,
+      fits_events policy stated (with_callee commands_of whole) (λ part. block_runs part.init) (λ part. block_runs part.body) (commands back policy is stated),
     );
   }
-
-pub plain_is_accepted : PlainIsAccepted
-plain_is_accepted policy is code = (accepted policy is code, fits policy is code)

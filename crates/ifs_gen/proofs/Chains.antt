@@ -14,9 +14,9 @@ use Rattle.ifs_parse.specs.Views.{all_of, any_of, block_of, statement_then}
 use Rattle.ifs_parse.specs.declared.block.Statement.{Statement}
 use Rattle.ifs_parse.specs.declared.block.Statement.TheVariants.{Run, SetState, If}
 use Rattle.ifs_gen.specs.Trees.{Single, Condition, Block}
-use Rattle.ifs_gen.specs.PlainCode.{plain_coder, condition_code, block_code, code_size, held_code}
+use Rattle.ifs_gen.specs.PlainCode.{Coder, condition_code, block_code, code_size, held_code}
 use Rattle.ifs_gen.specs.inner.Emission.{statement_code, statement_size}
-use Rattle.ifs_gen.proofs.Simulation.{condition_sized, block_sized}
+use Rattle.ifs_gen.proofs.Simulation.{block_sized}
 
 -- A further operand, joined by a sign.
 abbrev pub joined : Op → Condition → List Op
@@ -30,137 +30,139 @@ pub any_code : (first : Condition) (rest : List Condition) → condition_code (a
 any_code first [] = sym (append-nil (condition_code first))
 any_code first (next ∷ rest) = any_code (tree.Or first next) rest ∙ append_assoc (condition_code first) (joined Either next) (flat_map (joined Either) rest)
 
--- a block of statements, up to a place and from there on
-then_code : (place : ℕ) (statement : Statement Single CommandId StateId) (rest : Block) → block_code plain_coder place (statement_then statement rest)
-    ≡ statement_code place statement ++ block_code plain_coder (place + statement_size statement) rest
-then_code place (Run command) rest = refl
-then_code place (SetState state) rest = refl
-then_code place (If c inner) rest =
-    let from = place + plain_coder.size c + 1 in
-    let past = from + code_size plain_coder inner in
-    let codes = block_code plain_coder from inner in
-    let same : past ≡ place + (plain_coder.size c + 1 + code_size plain_coder inner + 0) = omega arith in
-    ap (λ xs. plain_coder.code c ++ (JumpFalse past ∷ (xs ++ block_code plain_coder past rest))) (sym (append-nil codes))
-    ∙ ap (λ xs. plain_coder.code c ++ (JumpFalse past ∷ xs)) refl
-    ∙ sym (append_assoc (plain_coder.code c) (JumpFalse past ∷ (codes ++ [])) (block_code plain_coder past rest))
-    ∙ ap (λ p. (plain_coder.code c ++ (JumpFalse past ∷ (codes ++ []))) ++ block_code plain_coder p rest) same
-
-then_size : (statement : Statement Single CommandId StateId) (rest : Block) → code_size plain_coder (statement_then statement rest) ≡ statement_size statement + code_size plain_coder rest
-then_size (Run command) rest = refl
-then_size (SetState state) rest = refl
-then_size (If c inner) rest = omega arith
-
--- statements in two lists
-of_append : (place : ℕ) (xs ys : List (Statement Single CommandId StateId)) → block_code plain_coder place (block_of (xs ++ ys))
-    ≡ block_code plain_coder place (block_of xs) ++ block_code plain_coder (place + code_size plain_coder (block_of xs)) (block_of ys)
-of_append place [] ys = let same : place ≡ place + 0 = omega arith in ap (λ p. block_code plain_coder p (block_of ys)) same
-of_append place (x ∷ xs) ys =
-    let next = place + statement_size x in
-    let size = then_size x (block_of xs) in
-    let same : next + code_size plain_coder (block_of xs) ≡ place + code_size plain_coder (statement_then x (block_of xs)) = omega (arith, size) in
-    then_code place x (block_of (xs ++ ys))
-    ∙ ap (λ c. statement_code place x ++ c) (of_append next xs ys)
-    ∙ sym (append_assoc (statement_code place x) (block_code plain_coder next (block_of xs)) (block_code plain_coder (next + code_size plain_coder (block_of xs)) (block_of ys)))
-    ∙ ap (λ c. c ++ block_code plain_coder (next + code_size plain_coder (block_of xs)) (block_of ys)) (sym (then_code place x (block_of xs)))
-    ∙ ap (λ p. block_code plain_coder place (block_of (x ∷ xs)) ++ block_code plain_coder p (block_of ys)) same
-
-pub of_size : (xs ys : List (Statement Single CommandId StateId)) → code_size plain_coder (block_of (xs ++ ys)) ≡ code_size plain_coder (block_of xs) + code_size plain_coder (block_of ys)
-of_size [] ys = let same : code_size plain_coder (block_of ys) ≡ 0 + code_size plain_coder (block_of ys) = omega arith in same
-of_size (x ∷ xs) ys =
-    let e = then_size x (block_of (xs ++ ys)) in
-    let f = then_size x (block_of xs) in
-    let h = of_size xs ys in
-    omega (arith, e, f, h)
-
-pub if_room : (old mid next : List Op) (s : Statement Single CommandId StateId) (c : Condition) (inner : Block) (op : Op) → s ≡ If c inner → mid ≡ old ++ condition_code c → next ≡ mid ++ op ∷ []
-    → length old + statement_size s < 2 ^ 16 → length next + code_size plain_coder inner < 2 ^ 16
-if_room old mid next s c inner op is mid_is next_is room =
-    let a = ap length mid_is ∙ length-append old (condition_code c) in
-    let b = ap length next_is ∙ length-append mid (op ∷ []) in
-    let size = ap statement_size is in
-    let sized = condition_sized c in
-    omega (arith, a, b, size, sized, room)
-
-pub if_fits : (next all : List Op) (inner : Block) (len : ℕ) → all ≡ next ++ block_code plain_coder (length next) inner → len ≡ length all
-    → length next + code_size plain_coder inner < 2 ^ 16 → len < 2 ^ 16
-if_fits next all inner len all_is len_is room =
-    let a = ap length all_is ∙ length-append next (block_code plain_coder (length next) inner) in
-    let sized = block_sized plain_coder condition_sized (length next) inner in
-    omega (arith, a, sized, len_is, room)
-
 set_front : (front : List Op) (x y : Op) (rest : List Op) → slice_set (front ++ x ∷ rest) (length front) y ≡ front ++ y ∷ rest
 set_front [] x y rest = refl
 set_front (z ∷ front) x y rest = ap (λ l. z ∷ l) (set_front front x y rest)
 
-pub if_code : (old mid next all : List Op) (s : Statement Single CommandId StateId) (c : Condition) (inner : Block) (jump len : ℕ) → s ≡ If c inner → mid ≡ old ++ condition_code c
-    → jump ≡ length mid → next ≡ mid ++ JumpFalse 0 ∷ [] → all ≡ next ++ block_code plain_coder (length next) inner → len ≡ length all
-    → slice_set all jump (JumpFalse len) ≡ old ++ statement_code (length old) s
-if_code old mid next all s c inner jump len is mid_is jump_is next_is all_is len_is =
-    let from = length old + plain_coder.size c + 1 in
-    let past = from + code_size plain_coder inner in
-    let codes = block_code plain_coder (length next) inner in
-    let a = ap length mid_is ∙ length-append old (condition_code c) in
-    let b = ap length next_is ∙ length-append mid (JumpFalse 0 ∷ []) in
-    let d = ap length all_is ∙ length-append next codes in
-    let sized = condition_sized c in
-    let block_is = block_sized plain_coder condition_sized (length next) inner in
-    let from_is : length next ≡ from = omega (arith, a, b, sized) in
-    let past_is : len ≡ past = omega (arith, d, len_is, from_is, block_is) in
-    let parts : all ≡ mid ++ (JumpFalse 0 ∷ codes) = all_is ∙ ap (λ xs. xs ++ codes) next_is ∙ append_assoc mid (JumpFalse 0 ∷ []) codes in
-    ap (λ xs. slice_set xs jump (JumpFalse len)) parts ∙ ap (λ k. slice_set (mid ++ (JumpFalse 0 ∷ codes)) k (JumpFalse len)) jump_is
-    ∙ set_front mid (JumpFalse 0) (JumpFalse len) codes
-    ∙ ap (λ xs. xs ++ (JumpFalse len ∷ codes)) mid_is
-    ∙ append_assoc old (condition_code c) (JumpFalse len ∷ codes)
-    ∙ ap (λ k. old ++ (condition_code c ++ (JumpFalse k ∷ codes))) past_is
-    ∙ ap (λ k. old ++ (condition_code c ++ (JumpFalse past ∷ block_code plain_coder k inner))) from_is
-    ∙ ap (λ xs. old ++ (condition_code c ++ (JumpFalse past ∷ xs))) (sym (append-nil (block_code plain_coder from inner)))
-    ∙ ap (λ x. old ++ statement_code (length old) x) (sym is)
-
 split_at : (items : List (Statement Single CommandId StateId)) (i : ℕ) → items ≡ take i items ++ drop i items
 split_at items i = sym (take-append-drop i items)
 
--- a statement is no larger than its block, and a block smaller than its statement
-pub item_within : (block : Block) (items : List (Statement Single CommandId StateId)) (i : ℕ) (item : Statement Single CommandId StateId) → block ≡ block_of items
-    → i < length items → item ≡ get_or items i item → statement_size item ≤ code_size plain_coder block
-item_within block items i item block_is lt at =
-    let rest = drop-cons items i item lt in
-    let whole = ap (λ xs. code_size plain_coder (block_of xs)) (split_at items i) ∙ of_size (take i items) (drop i items) in
-    let tail = ap (λ xs. code_size plain_coder (block_of xs)) rest ∙ then_size (get_or items i item) (block_of (drop (suc i) items)) in
-    let same = ap statement_size at in
-    let all = ap (code_size plain_coder) block_is in
-    omega (arith, whole, tail, same, all)
+module _ (coder : Coder) where
+  -- a block of statements, up to a place and from there on
+  then_code : (place : ℕ) (statement : Statement Single CommandId StateId) (rest : Block) → block_code coder place (statement_then statement rest)
+      ≡ statement_code coder place statement ++ block_code coder (place + statement_size coder statement) rest
+  then_code place (Run command) rest = refl
+  then_code place (SetState state) rest = refl
+  then_code place (If c inner) rest =
+      let from = place + coder.size c + 1 in
+      let past = from + code_size coder inner in
+      let codes = block_code coder from inner in
+      let same : past ≡ place + (coder.size c + 1 + code_size coder inner + 0) = omega arith in
+      ap (λ xs. coder.code c ++ (JumpFalse past ∷ (xs ++ block_code coder past rest))) (sym (append-nil codes))
+      ∙ ap (λ xs. coder.code c ++ (JumpFalse past ∷ xs)) refl
+      ∙ sym (append_assoc (coder.code c) (JumpFalse past ∷ (codes ++ [])) (block_code coder past rest))
+      ∙ ap (λ p. (coder.code c ++ (JumpFalse past ∷ (codes ++ []))) ++ block_code coder p rest) same
 
-pub inner_within : (s : Statement Single CommandId StateId) (c : Condition) (inner : Block) → s ≡ If c inner → code_size plain_coder inner + 1 ≤ statement_size s
-inner_within s c inner is = let size = ap statement_size is in omega (arith, size)
+  then_size : (statement : Statement Single CommandId StateId) (rest : Block) → code_size coder (statement_then statement rest) ≡ statement_size coder statement + code_size coder rest
+  then_size (Run command) rest = refl
+  then_size (SetState state) rest = refl
+  then_size (If c inner) rest = omega arith
 
-pub loop_room : (old now : List Op) (block : Block) (items : List (Statement Single CommandId StateId)) (i : ℕ) (item : Statement Single CommandId StateId) → block ≡ block_of items
-    → i < length items → item ≡ get_or items i item → now ≡ old ++ block_code plain_coder (length old) (block_of (take i items))
-    → length old + code_size plain_coder block < 2 ^ 16 → length now + statement_size item < 2 ^ 16
-loop_room old now block items i item block_is lt at now_is room =
-    let rest = drop-cons items i item lt in
-    let a = ap length now_is ∙ length-append old (block_code plain_coder (length old) (block_of (take i items))) in
-    let sized = block_sized plain_coder condition_sized (length old) (block_of (take i items)) in
-    let whole = ap (λ xs. code_size plain_coder (block_of xs)) (split_at items i) ∙ of_size (take i items) (drop i items) in
-    let tail = ap (λ xs. code_size plain_coder (block_of xs)) rest ∙ then_size (get_or items i item) (block_of (drop (suc i) items)) in
-    let same = ap statement_size at in
-    let all = ap (code_size plain_coder) block_is in
-    omega (arith, a, sized, whole, tail, same, all, room)
+  -- statements in two lists
+  of_append : (place : ℕ) (xs ys : List (Statement Single CommandId StateId)) → block_code coder place (block_of (xs ++ ys))
+      ≡ block_code coder place (block_of xs) ++ block_code coder (place + code_size coder (block_of xs)) (block_of ys)
+  of_append place [] ys = let same : place ≡ place + 0 = omega arith in ap (λ p. block_code coder p (block_of ys)) same
+  of_append place (x ∷ xs) ys =
+      let next = place + statement_size coder x in
+      let size = then_size x (block_of xs) in
+      let same : next + code_size coder (block_of xs) ≡ place + code_size coder (statement_then x (block_of xs)) = omega (arith, size) in
+      then_code place x (block_of (xs ++ ys))
+      ∙ ap (λ c. statement_code coder place x ++ c) (of_append next xs ys)
+      ∙ sym (append_assoc (statement_code coder place x) (block_code coder next (block_of xs)) (block_code coder (next + code_size coder (block_of xs)) (block_of ys)))
+      ∙ ap (λ c. c ++ block_code coder (next + code_size coder (block_of xs)) (block_of ys)) (sym (then_code place x (block_of xs)))
+      ∙ ap (λ p. block_code coder place (block_of (x ∷ xs)) ++ block_code coder p (block_of ys)) same
 
-pub loop_next : (old now next : List Op) (items : List (Statement Single CommandId StateId)) (i : ℕ) (item : Statement Single CommandId StateId)
-    → i < length items → item ≡ get_or items i item → now ≡ old ++ block_code plain_coder (length old) (block_of (take i items)) → next ≡ now ++ statement_code (length now) item
-    → next ≡ old ++ block_code plain_coder (length old) (block_of (take (i + 1) items))
-loop_next old now next items i item lt at now_is next_is =
-    let front = take i items in
-    let codes = block_code plain_coder (length old) (block_of front) in
-    let a = ap length now_is ∙ length-append old codes in
-    let sized = block_sized plain_coder condition_sized (length old) (block_of front) in
-    let place : length now ≡ length old + code_size plain_coder (block_of front) = omega (arith, a, sized) in
-    let more = take_more items i item lt ∙ ap (λ x. front ++ x ∷ []) (sym at) in
-    next_is ∙ ap (λ xs. xs ++ statement_code (length now) item) now_is
-    ∙ append_assoc old codes (statement_code (length now) item)
-    ∙ ap (λ p. old ++ (codes ++ statement_code p item)) place
-    ∙ ap (λ xs. old ++ xs) (sym (of_append (length old) front (item ∷ [])))
-    ∙ ap (λ xs. old ++ block_code plain_coder (length old) (block_of xs)) (sym more)
+  pub of_size : (xs ys : List (Statement Single CommandId StateId)) → code_size coder (block_of (xs ++ ys)) ≡ code_size coder (block_of xs) + code_size coder (block_of ys)
+  of_size [] ys = let same : code_size coder (block_of ys) ≡ 0 + code_size coder (block_of ys) = omega arith in same
+  of_size (x ∷ xs) ys =
+      let e = then_size x (block_of (xs ++ ys)) in
+      let f = then_size x (block_of xs) in
+      let h = of_size xs ys in
+      omega (arith, e, f, h)
+
+  -- a statement is no larger than its block, and a block smaller than its statement
+  pub item_within : (block : Block) (items : List (Statement Single CommandId StateId)) (i : ℕ) (item : Statement Single CommandId StateId) → block ≡ block_of items
+      → i < length items → item ≡ get_or items i item → statement_size coder item ≤ code_size coder block
+  item_within block items i item block_is lt at =
+      let rest = drop-cons items i item lt in
+      let whole = ap (λ xs. code_size coder (block_of xs)) (split_at items i) ∙ of_size (take i items) (drop i items) in
+      let tail = ap (λ xs. code_size coder (block_of xs)) rest ∙ then_size (get_or items i item) (block_of (drop (suc i) items)) in
+      let same = ap (statement_size coder) at in
+      let all = ap (code_size coder) block_is in
+      omega (arith, whole, tail, same, all)
+
+  pub inner_within : (s : Statement Single CommandId StateId) (c : Condition) (inner : Block) → s ≡ If c inner → code_size coder inner + 1 ≤ statement_size coder s
+  inner_within s c inner is = let size = ap (statement_size coder) is in omega (arith, size)
+
+module _ (coder : Coder) (sized : (c : Condition) → length (coder.code c) ≡ coder.size c) where
+  pub if_room : (old mid next : List Op) (s : Statement Single CommandId StateId) (c : Condition) (inner : Block) (op : Op) → s ≡ If c inner → mid ≡ old ++ coder.code c → next ≡ mid ++ op ∷ []
+      → length old + statement_size coder s < 2 ^ 16 → length next + code_size coder inner < 2 ^ 16
+  if_room old mid next s c inner op is mid_is next_is room =
+      let a = ap length mid_is ∙ length-append old (coder.code c) in
+      let b = ap length next_is ∙ length-append mid (op ∷ []) in
+      let size = ap (statement_size coder) is in
+      let here = sized c in
+      omega (arith, a, b, size, here, room)
+
+  pub if_fits : (next all : List Op) (inner : Block) (len : ℕ) → all ≡ next ++ block_code coder (length next) inner → len ≡ length all
+      → length next + code_size coder inner < 2 ^ 16 → len < 2 ^ 16
+  if_fits next all inner len all_is len_is room =
+      let a = ap length all_is ∙ length-append next (block_code coder (length next) inner) in
+      let block_is_long = block_sized coder sized (length next) inner in
+      omega (arith, a, block_is_long, len_is, room)
+
+  pub if_code : (old mid next all : List Op) (s : Statement Single CommandId StateId) (c : Condition) (inner : Block) (jump len : ℕ) → s ≡ If c inner → mid ≡ old ++ coder.code c
+      → jump ≡ length mid → next ≡ mid ++ JumpFalse 0 ∷ [] → all ≡ next ++ block_code coder (length next) inner → len ≡ length all
+      → slice_set all jump (JumpFalse len) ≡ old ++ statement_code coder (length old) s
+  if_code old mid next all s c inner jump len is mid_is jump_is next_is all_is len_is =
+      let from = length old + coder.size c + 1 in
+      let past = from + code_size coder inner in
+      let codes = block_code coder (length next) inner in
+      let a = ap length mid_is ∙ length-append old (coder.code c) in
+      let b = ap length next_is ∙ length-append mid (JumpFalse 0 ∷ []) in
+      let d = ap length all_is ∙ length-append next codes in
+      let here = sized c in
+      let block_is = block_sized coder sized (length next) inner in
+      let from_is : length next ≡ from = omega (arith, a, b, here) in
+      let past_is : len ≡ past = omega (arith, d, len_is, from_is, block_is) in
+      let parts : all ≡ mid ++ (JumpFalse 0 ∷ codes) = all_is ∙ ap (λ xs. xs ++ codes) next_is ∙ append_assoc mid (JumpFalse 0 ∷ []) codes in
+      ap (λ xs. slice_set xs jump (JumpFalse len)) parts ∙ ap (λ k. slice_set (mid ++ (JumpFalse 0 ∷ codes)) k (JumpFalse len)) jump_is
+      ∙ set_front mid (JumpFalse 0) (JumpFalse len) codes
+      ∙ ap (λ xs. xs ++ (JumpFalse len ∷ codes)) mid_is
+      ∙ append_assoc old (coder.code c) (JumpFalse len ∷ codes)
+      ∙ ap (λ k. old ++ (coder.code c ++ (JumpFalse k ∷ codes))) past_is
+      ∙ ap (λ k. old ++ (coder.code c ++ (JumpFalse past ∷ block_code coder k inner))) from_is
+      ∙ ap (λ xs. old ++ (coder.code c ++ (JumpFalse past ∷ xs))) (sym (append-nil (block_code coder from inner)))
+      ∙ ap (λ x. old ++ statement_code coder (length old) x) (sym is)
+
+  pub loop_room : (old now : List Op) (block : Block) (items : List (Statement Single CommandId StateId)) (i : ℕ) (item : Statement Single CommandId StateId) → block ≡ block_of items
+      → i < length items → item ≡ get_or items i item → now ≡ old ++ block_code coder (length old) (block_of (take i items))
+      → length old + code_size coder block < 2 ^ 16 → length now + statement_size coder item < 2 ^ 16
+  loop_room old now block items i item block_is lt at now_is room =
+      let rest = drop-cons items i item lt in
+      let a = ap length now_is ∙ length-append old (block_code coder (length old) (block_of (take i items))) in
+      let block_is_long = block_sized coder sized (length old) (block_of (take i items)) in
+      let whole = ap (λ xs. code_size coder (block_of xs)) (split_at items i) ∙ of_size coder (take i items) (drop i items) in
+      let tail = ap (λ xs. code_size coder (block_of xs)) rest ∙ then_size coder (get_or items i item) (block_of (drop (suc i) items)) in
+      let same = ap (statement_size coder) at in
+      let all = ap (code_size coder) block_is in
+      omega (arith, a, block_is_long, whole, tail, same, all, room)
+
+  pub loop_next : (old now next : List Op) (items : List (Statement Single CommandId StateId)) (i : ℕ) (item : Statement Single CommandId StateId)
+      → i < length items → item ≡ get_or items i item → now ≡ old ++ block_code coder (length old) (block_of (take i items)) → next ≡ now ++ statement_code coder (length now) item
+      → next ≡ old ++ block_code coder (length old) (block_of (take (i + 1) items))
+  loop_next old now next items i item lt at now_is next_is =
+      let front = take i items in
+      let codes = block_code coder (length old) (block_of front) in
+      let a = ap length now_is ∙ length-append old codes in
+      let block_is_long = block_sized coder sized (length old) (block_of front) in
+      let place : length now ≡ length old + code_size coder (block_of front) = omega (arith, a, block_is_long) in
+      let more = take_more items i item lt ∙ ap (λ x. front ++ x ∷ []) (sym at) in
+      next_is ∙ ap (λ xs. xs ++ statement_code coder (length now) item) now_is
+      ∙ append_assoc old codes (statement_code coder (length now) item)
+      ∙ ap (λ p. old ++ (codes ++ statement_code coder p item)) place
+      ∙ ap (λ xs. old ++ xs) (sym (of_append coder (length old) front (item ∷ [])))
+      ∙ ap (λ xs. old ++ block_code coder (length old) (block_of xs)) (sym more)
 
 -- one test more that holds a body back
 held_last : (end : ℕ) (tests : List TestId) (test : TestId) → held_code end (tests ++ test ∷ []) ≡ held_code end tests ++ (Known test ∷ JumpFalse end ∷ [])
@@ -174,7 +176,7 @@ held_next end now one next tests i test lt at now_is one_is next_is =
     next_is ∙ ap (λ l. l ++ JumpFalse end ∷ []) one_is ∙ append_assoc now (Known test ∷ []) (JumpFalse end ∷ []) ∙ ap (λ l. l ++ (Known test ∷ JumpFalse end ∷ [])) now_is
     ∙ sym (held_last end (take i tests) test) ∙ ap (held_code end) (sym more)
 
-take_past : {T : Type 0} (xs : List T) (i : ℕ) → length xs ≤ i → take i xs ≡ xs
+pub take_past : {T : Type 0} (xs : List T) (i : ℕ) → length xs ≤ i → take i xs ≡ xs
 take_past [] zero le = refl
 take_past [] (suc i) le = refl
 take_past (x ∷ xs) zero le = absurd (omega arith)
@@ -184,21 +186,62 @@ held_long : (end : ℕ) (tests : List TestId) → length (held_code end tests) �
 held_long end [] = refl
 held_long end (test ∷ tests) = let h = held_long end tests in omega (arith, h)
 
-pub held_room : (end : ℕ) (now : List Op) (tests : List TestId) (i : ℕ) (body : Block) → length tests ≤ i → now ≡ held_code end (take i tests)
-    → end ≡ 2 * length tests + code_size plain_coder body → end < 1024 → length now + code_size plain_coder body < 2 ^ 16
-held_room end now tests i body le now_is end_is room =
-    let all = ap length (now_is ∙ ap (held_code end) (take_past tests i le)) in
-    let long = held_long end tests in
-    omega (arith, all, long, end_is, room)
+-- the jumps over a body, one after the other
+held_set : (end : ℕ) (tests : List TestId) (i : ℕ) (rest : List Op) → i < length tests
+    → slice_set (held_code end (take i tests) ++ (held_code 0 (drop i tests) ++ rest)) (2 * i + 1) (JumpFalse end) ≡ held_code end (take (suc i) tests) ++ (held_code 0 (drop (suc i) tests) ++ rest)
+held_set end [] i rest lt = absurd (omega (arith, lt))
+held_set end (test ∷ tests) zero rest lt = refl
+held_set end (test ∷ tests) (suc i) rest lt =
+    let next : 2 * suc i + 1 ≡ suc (suc (2 * i + 1)) = omega arith in
+    let codes = held_code end (take i tests) ++ (held_code 0 (drop i tests) ++ rest) in
+    ap (λ k. slice_set (Known test ∷ JumpFalse end ∷ codes) k (JumpFalse end)) next
+    ∙ ap (λ l. Known test ∷ JumpFalse end ∷ l) (held_set end tests i rest (omega (arith, lt)))
 
-pub body_is : (end : ℕ) (now one code : List Op) (tests : List TestId) (i : ℕ) (body : Block) → length tests ≤ i → now ≡ held_code end (take i tests)
-    → one ≡ now ++ block_code plain_coder (length now) body → code ≡ one ++ Ret ∷ []
-    → code ≡ held_code end tests ++ (block_code plain_coder (2 * length tests) body ++ Ret ∷ [])
-body_is end now one code tests i body le now_is one_is code_is =
-    let held : now ≡ held_code end tests = now_is ∙ ap (held_code end) (take_past tests i le) in
-    let long : length now ≡ 2 * length tests = ap length held ∙ held_long end tests in
-    code_is ∙ ap (λ l. l ++ Ret ∷ []) one_is ∙ append_assoc now (block_code plain_coder (length now) body) (Ret ∷ [])
-    ∙ ap (λ p. now ++ (block_code plain_coder p body ++ Ret ∷ [])) long ∙ ap (λ l. l ++ (block_code plain_coder (2 * length tests) body ++ Ret ∷ [])) held
+pub set_next : (end : ℕ) (tests : List TestId) (i : ℕ) (rest now next : List Op) → i < length tests → now ≡ held_code end (take i tests) ++ (held_code 0 (drop i tests) ++ rest)
+    → next ≡ slice_set now (2 * i + 1) (JumpFalse end) → next ≡ held_code end (take (i + 1) tests) ++ (held_code 0 (drop (i + 1) tests) ++ rest)
+set_next end tests i rest now next lt now_is next_is =
+    let one : suc i ≡ i + 1 = omega arith in
+    next_is ∙ ap (λ l. slice_set l (2 * i + 1) (JumpFalse end)) now_is ∙ held_set end tests i rest lt
+    ∙ ap (λ k. held_code end (take k tests) ++ (held_code 0 (drop k tests) ++ rest)) one
+
+drop_past : {T : Type 0} (xs : List T) (i : ℕ) → length xs ≤ i → drop i xs ≡ []
+drop_past [] zero le = refl
+drop_past [] (suc i) le = refl
+drop_past (x ∷ xs) zero le = absurd (omega (arith, le))
+drop_past (x ∷ xs) (suc i) le = drop_past xs i (omega (arith, le))
+
+pub set_all : (end : ℕ) (tests : List TestId) (i : ℕ) (rest now : List Op) → length tests ≤ i → now ≡ held_code end (take i tests) ++ (held_code 0 (drop i tests) ++ rest) → now ≡ held_code end tests ++ rest
+set_all end tests i rest now le now_is =
+    now_is ∙ ap (λ l. held_code end l ++ (held_code 0 (drop i tests) ++ rest)) (take_past tests i le) ∙ ap (λ l. held_code end tests ++ (held_code 0 l ++ rest)) (drop_past tests i le)
+
+module _ (coder : Coder) (sized : (c : Condition) → length (coder.code c) ≡ coder.size c) where
+  pub held_room : (now : List Op) (tests : List TestId) (i : ℕ) (body : Block) → length tests ≤ i → now ≡ held_code 0 (take i tests)
+      → 2 * length tests + code_size coder body < 1024 → length now + code_size coder body < 2 ^ 16
+  held_room now tests i body le now_is room =
+      let all = ap length (now_is ∙ ap (held_code 0) (take_past tests i le)) in
+      let long = held_long 0 tests in
+      omega (arith, all, long, room)
+
+  -- how long the code of a body is before its `ret`
+  pub body_ends : (now one : List Op) (tests : List TestId) (i : ℕ) (body : Block) → length tests ≤ i → now ≡ held_code 0 (take i tests)
+      → one ≡ now ++ block_code coder (length now) body → length one ≡ 2 * length tests + code_size coder body
+  body_ends now one tests i body le now_is one_is =
+      let all = ap length (now_is ∙ ap (held_code 0) (take_past tests i le)) in
+      let long = held_long 0 tests in
+      let a = ap length one_is ∙ length-append now (block_code coder (length now) body) in
+      let b = block_sized coder sized (length now) body in
+      omega (arith, all, long, a, b)
+
+  pub body_is : (now one two code : List Op) (tests : List TestId) (i : ℕ) (body : Block) → length tests ≤ i → now ≡ held_code 0 (take i tests)
+      → one ≡ now ++ block_code coder (length now) body → ((rest : List Op) → one ≡ held_code 0 tests ++ rest → two ≡ held_code (length one) tests ++ rest) → code ≡ two ++ Ret ∷ []
+      → code ≡ held_code (2 * length tests + code_size coder body) tests ++ (block_code coder (2 * length tests) body ++ Ret ∷ [])
+  body_is now one two code tests i body le now_is one_is set code_is =
+      let held : now ≡ held_code 0 tests = now_is ∙ ap (held_code 0) (take_past tests i le) in
+      let long : length now ≡ 2 * length tests = ap length held ∙ held_long 0 tests in
+      let block = block_code coder (2 * length tests) body in
+      let one_now : one ≡ held_code 0 tests ++ block = one_is ∙ ap (λ p. now ++ block_code coder p body) long ∙ ap (λ l. l ++ block) held in
+      code_is ∙ ap (λ l. l ++ Ret ∷ []) (set block one_now) ∙ append_assoc (held_code (length one) tests) block (Ret ∷ [])
+      ∙ ap (λ k. held_code k tests ++ (block ++ Ret ∷ [])) (body_ends now one tests i body le now_is one_is)
 
 pub get_or_same : {T : Type 0} (xs : List T) (i : ℕ) (d e : T) → i < length xs → get_or xs i d ≡ get_or xs i e
 get_or_same [] i d e lt = absurd (omega arith)

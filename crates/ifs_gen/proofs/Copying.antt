@@ -1,5 +1,5 @@
 -- Tables copied entry by entry, and states with their routines.
-use Rattle.std.proofs.Common.{◌≡◌, ℕ, zero, suc, ◌+◌, ◌^◌, ◌<◌, ◌≤◌, Bool, true, false, List, []}
+use Rattle.std.proofs.Common.{◌≡◌, ℕ, zero, suc, ◌+◌, ◌*◌, ◌^◌, ◌<◌, ◌≤◌, Bool, true, false, List, []}
 use Rattle.std.proofs.Common.{◌∷◌, ◌++◌, length, map, Some, Result, Ok, Err, IfOk, OnOk, IfErr}
 use Rattle.std.proofs.Common.{refl, sym, ap, ◌∙◌, subst, arith, take, drop, get_or, append_assoc}
 use Rattle.std.specs.Prelude.{slice_get, All, ◌==◌, ◌≢◌, if◌then◌else◌}
@@ -9,22 +9,26 @@ use Rattle.std.proofs.lemmas.List.Elements.{All-append, All-cons, All-nil, All-t
 use Rattle.std.proofs.lemmas.Option.{none-some, same_Some}
 use Rattle.std.proofs.Math.Nat.{pow-le-pow_right}
 use Rattle.ifs_base.specs.declared.ids.TestId.{TestId}
-use Rattle.ifs_image.specs.declared.parts.Budgets.{Budgets}
+use Rattle.ifs_base.specs.declared.op.Op.{Op}
 use Rattle.ifs_image.specs.declared.parts.Routine.{Routine}
 use Rattle.ifs_image.specs.declared.parts.StateSpec.{StateSpec}
 use Rattle.ifs_image.specs.declared.parts.TestSpec.{TestSpec}
+use Rattle.ifs_gen.specs.declared.amounts.Bounds.{Bounds}
 use Rattle.ifs_gen.specs.declared.amounts.PartMeasure.{PartMeasure}
 use Rattle.ifs_gen.specs.declared.amounts.Amount.TheVariants.{Size, Height, Runs}
 use Rattle.ifs_gen.specs.declared.fault.GenFault.{GenFault}
 use Rattle.ifs_gen.specs.declared.fault.GenFault.TheVariants.{Memory}
 use Rattle.ifs_gen.specs.Trees.{Part, External, Policy}
-use Rattle.ifs_gen.specs.PlainCode.{plain_coder, init_code, body_code, tests_below}
-use Rattle.ifs_gen.specs.PlainImage.{test_count, parts_of, test_spec, routine_of_code, PartCodeFits, mask_of}
-use Rattle.ifs_gen.specs.PlainImage.{handlers_of, states_from, routines_of, least_budgets, CodeFits}
+use Rattle.ifs_gen.specs.PlainCode.{Coder, init_code, body_code, code_size, holding, tests_below}
+use Rattle.ifs_gen.specs.Sharing.{shared_coder}
+use Rattle.ifs_gen.specs.PlainSizes.{test_count, parts_of, PartCodeFits, mask_of}
+use Rattle.ifs_gen.specs.PolicyImage.{test_spec, routine_of_code, shared_routine, handlers_of, states_from, routines_of}
+use Rattle.ifs_gen.specs.PlainSizes.{CodeFits}
 use Rattle.ifs_gen.specs.Refused.{IsPassed, PassesFirst}
-use Rattle.ifs_gen.specs.inner.Amounts.{numbers_of, measured, event_in, budgets_in, AreFine}
+use Rattle.ifs_gen.specs.inner.Amounts.{numbers_of, measured, event_in, bounds_in, plain_bounds, AreFine}
 use Rattle.ifs_gen.proofs.Images.{mask_below}
-use Rattle.ifs_gen.proofs.Totals.{code_fits, least, passed}
+use Rattle.ifs_gen.proofs.Shrinks.{block_shrinks}
+use Rattle.ifs_gen.proofs.Totals.{code_fits, settled, passed}
 
 -- one entry more
 pub take_next : {T : Type 0} (xs : List T) (i : ℕ) (x : T) → slice_get xs i ≡ Some x → take (i + 1) xs ≡ take i xs ++ x ∷ []
@@ -45,6 +49,20 @@ pub spec_copied : (xs : List External) (now next : List TestSpec) (i : ℕ) (x :
 spec_copied xs now next i x is at more =
     more ∙ ap (λ l. l ++ test_spec x ∷ []) is ∙ sym (map-append test_spec (take i xs) (x ∷ [])) ∙ ap (map test_spec) (sym (take_next xs i x at))
 
+pub shared_copied : (xs : List (List Op)) (start now next : List Routine) (i : ℕ) (x : List Op) → now ≡ start ++ map shared_routine (take i xs) → slice_get xs i ≡ Some x → next ≡ now ++ shared_routine x ∷ []
+    → next ≡ start ++ map shared_routine (take (i + 1) xs)
+shared_copied xs start now next i x is at more =
+    more ∙ ap (λ l. l ++ shared_routine x ∷ []) is ∙ append_assoc start (map shared_routine (take i xs)) (shared_routine x ∷ [])
+    ∙ ap (λ l. start ++ l) (sym (map-append shared_routine (take i xs) (x ∷ []))) ∙ ap (λ l. start ++ map shared_routine l) (sym (take_next xs i x at))
+
+-- code that calls is no longer than plain code, which keeps the limit
+pub init_short : (table : List (List Op)) (count : ℕ) (part : Part) → PartCodeFits count part → code_size (shared_coder table) part.init < 1024
+init_short table count part fits = let less = block_shrinks table count part.init in let low = fits.init in omega (arith, less, low)
+
+pub body_short : (table : List (List Op)) (count : ℕ) (part : Part) (tests : List TestId) → PartCodeFits count part → tests ≡ holding count part.body
+    → 2 * length tests + code_size (shared_coder table) part.body < 1024
+body_short table count part tests fits is = let less = block_shrinks table count part.body in let low = fits.body in let long = ap length is in omega (arith, less, low, long)
+
 -- tests below a number are below it
 chosen_low : (b : Bool) (n : ℕ) → All (λ (test : TestId). test.0 < suc n) (if b then record { 0 = n } ∷ [] else [])
 chosen_low true n = All-cons (λ (test : TestId). test.0 < suc n) (record { 0 = n }) [] (omega arith) (All-nil (λ (test : TestId). test.0 < suc n))
@@ -63,46 +81,46 @@ below_64 count xs tests few is =
     (All-weaker (λ (test : TestId). test.0 < count) (λ (test : TestId). test.0 < 64) (λ test h. omega (arith, h, few)) (tests_below count xs) (below_low count xs))
 
 -- one state more
-pub state_next : (count : ℕ) (names : List (List ℕ)) (parts : List Part) (now next : List StateSpec) (all : List StateSpec) (i : ℕ) (name : List ℕ) (part : Part)
-    → now ++ states_from count (i + 1) (drop i names) (drop i parts) ≡ all → slice_get names i ≡ Some name → slice_get parts i ≡ Some part
-    → next ≡ now ++ (record { name = name; handlers = handlers_of count (i + 1) part }) ∷ []
-    → next ++ states_from count (i + 1 + 1) (drop (i + 1) names) (drop (i + 1) parts) ≡ all
-state_next count names parts now next all i name part before named at more =
-    let spec : StateSpec = record { name = name; handlers = handlers_of count (i + 1) part } in
-    let rest = states_from count (i + 1 + 1) (drop (i + 1) names) (drop (i + 1) parts) in
+pub state_next : (shared count : ℕ) (names : List (List ℕ)) (parts : List Part) (now next : List StateSpec) (all : List StateSpec) (i : ℕ) (name : List ℕ) (part : Part)
+    → now ++ states_from shared count (i + 1) (drop i names) (drop i parts) ≡ all → slice_get names i ≡ Some name → slice_get parts i ≡ Some part
+    → next ≡ now ++ (record { name = name; handlers = handlers_of shared count (i + 1) part }) ∷ []
+    → next ++ states_from shared count (i + 1 + 1) (drop (i + 1) names) (drop (i + 1) parts) ≡ all
+state_next shared count names parts now next all i name part before named at more =
+    let spec : StateSpec = record { name = name; handlers = handlers_of shared count (i + 1) part } in
+    let rest = states_from shared count (i + 1 + 1) (drop (i + 1) names) (drop (i + 1) parts) in
     ap (λ l. l ++ rest) more ∙ append_assoc now (spec ∷ []) rest
-    ∙ ap (λ l. now ++ states_from count (i + 1) l (part ∷ drop (i + 1) parts)) (sym (drop_next names i name named))
-    ∙ ap (λ l. now ++ states_from count (i + 1) (drop i names) l) (sym (drop_next parts i part at)) ∙ before
+    ∙ ap (λ l. now ++ states_from shared count (i + 1) l (part ∷ drop (i + 1) parts)) (sym (drop_next names i name named))
+    ∙ ap (λ l. now ++ states_from shared count (i + 1) (drop i names) l) (sym (drop_next parts i part at)) ∙ before
 
-routines_last : (count : ℕ) (xs : List Part) (x : Part) → routines_of count (xs ++ x ∷ []) ≡ routines_of count xs ++ routines_of count (x ∷ [])
-routines_last count [] x = refl
-routines_last count (y ∷ xs) x = ap (λ l. routine_of_code (init_code plain_coder y.init) ∷ routine_of_code (body_code plain_coder count y.body) ∷ l) (routines_last count xs x)
+routines_last : (coder : Coder) (count : ℕ) (xs : List Part) (x : Part) → routines_of coder count (xs ++ x ∷ []) ≡ routines_of coder count xs ++ routines_of coder count (x ∷ [])
+routines_last coder count [] x = refl
+routines_last coder count (y ∷ xs) x = ap (λ l. routine_of_code (init_code coder y.init) ∷ routine_of_code (body_code coder count y.body) ∷ l) (routines_last coder count xs x)
 
-pub routines_next : (count : ℕ) (parts : List Part) (start now next : List Routine) (i : ℕ) (part : Part) → now ≡ start ++ routines_of count (take i parts) → slice_get parts i ≡ Some part
-    → next ≡ now ++ routines_of count (part ∷ []) → next ≡ start ++ routines_of count (take (i + 1) parts)
-routines_next count parts start now next i part is at more =
-    more ∙ ap (λ l. l ++ routines_of count (part ∷ [])) is ∙ append_assoc start (routines_of count (take i parts)) (routines_of count (part ∷ []))
-    ∙ ap (λ l. start ++ l) (sym (routines_last count (take i parts) part)) ∙ ap (λ l. start ++ routines_of count l) (sym (take_next parts i part at))
+pub routines_next : (coder : Coder) (count : ℕ) (parts : List Part) (start now next : List Routine) (i : ℕ) (part : Part) → now ≡ start ++ routines_of coder count (take i parts) → slice_get parts i ≡ Some part
+    → next ≡ now ++ routines_of coder count (part ∷ []) → next ≡ start ++ routines_of coder count (take (i + 1) parts)
+routines_next coder count parts start now next i part is at more =
+    more ∙ ap (λ l. l ++ routines_of coder count (part ∷ [])) is ∙ append_assoc start (routines_of coder count (take i parts)) (routines_of coder count (part ∷ []))
+    ∙ ap (λ l. start ++ l) (sym (routines_last coder count (take i parts) part)) ∙ ap (λ l. start ++ routines_of coder count l) (sym (take_next parts i part at))
 
 -- What measures tell is told of the policy.
-pub record Told (policy : Policy) (r : Result Budgets GenFault) : Type 0 where
-  pub budgets : IfOk r (λ budgets. budgets ≡ least_budgets policy)
+pub record Told (policy : Policy) (r : Result Bounds GenFault) : Type 0 where
+  pub bounds : IfOk r (λ bounds. bounds ≡ plain_bounds policy)
   pub fits : OnOk r (CodeFits policy)
   pub refused : IfErr r (λ fault. fault ≢ Memory → PassesFirst policy fault)
 
-at_policy : (policy : Policy) (r : Result Budgets GenFault) → (let ms = map (measured (test_count policy)) (parts_of policy) in
-    OnOk r (AreFine ms policy.initial.0) → IfOk r (λ budgets. budgets ≡ budgets_in ms policy.initial.0)
+at_policy : (policy : Policy) (r : Result Bounds GenFault) → (let ms = map (measured (test_count policy)) (parts_of policy) in
+    OnOk r (AreFine ms policy.initial.0) → IfOk r (λ bounds. bounds ≡ bounds_in ms policy.initial.0)
     → IfErr r (λ fault. IsPassed (numbers_of Size ms) (numbers_of Height ms) (event_in Runs ms policy.initial.0) fault) → Told policy r)
-at_policy policy (Ok b) fine is over = record { budgets = is ∙ least policy fine; fits = code_fits policy fine; refused = tt }
-at_policy policy (Err f) fine is over = record { budgets = tt; fits = tt; refused = λ other. passed policy f over }
+at_policy policy (Ok b) fine is over = record { bounds = is ∙ settled policy fine; fits = code_fits policy fine; refused = tt }
+at_policy policy (Err f) fine is over = record { bounds = tt; fits = tt; refused = λ other. passed policy f over }
 
-pub told : (policy : Policy) (r : Result Budgets GenFault) (ms : List PartMeasure) (initial : ℕ) → ms ≡ map (measured (test_count policy)) (parts_of policy) → initial ≡ policy.initial.0
-    → OnOk r (AreFine ms initial) → IfOk r (λ budgets. budgets ≡ budgets_in ms initial)
+pub told : (policy : Policy) (r : Result Bounds GenFault) (ms : List PartMeasure) (initial : ℕ) → ms ≡ map (measured (test_count policy)) (parts_of policy) → initial ≡ policy.initial.0
+    → OnOk r (AreFine ms initial) → IfOk r (λ bounds. bounds ≡ bounds_in ms initial)
     → IfErr r (λ fault. IsPassed (numbers_of Size ms) (numbers_of Height ms) (event_in Runs ms initial) fault) → Told policy r
 told policy r ms initial ms_is initial_is fine is over =
     at_policy policy r
     (subst (λ n. OnOk r (AreFine (map (measured (test_count policy)) (parts_of policy)) n)) initial_is (subst (λ l. OnOk r (AreFine l initial)) ms_is fine))
-    (subst (λ n. IfOk r (λ budgets. budgets ≡ budgets_in (map (measured (test_count policy)) (parts_of policy)) n)) initial_is (subst (λ l. IfOk r (λ budgets. budgets ≡ budgets_in l initial)) ms_is is))
+    (subst (λ n. IfOk r (λ bounds. bounds ≡ bounds_in (map (measured (test_count policy)) (parts_of policy)) n)) initial_is (subst (λ l. IfOk r (λ bounds. bounds ≡ bounds_in l initial)) ms_is is))
     (subst (λ n. IfErr r (λ fault. IsPassed (numbers_of Size (map (measured (test_count policy)) (parts_of policy))) (numbers_of Height (map (measured (test_count policy)) (parts_of policy))) (event_in Runs (map (measured (test_count policy)) (parts_of policy)) n) fault)) initial_is
     (subst (λ l. IfErr r (λ fault. IsPassed (numbers_of Size l) (numbers_of Height l) (event_in Runs l initial) fault)) ms_is over))
 

@@ -13,7 +13,8 @@ use Rattle.ifs_core.specs.Gateway.{OpenCore, opened}
 use Rattle.ifs_core.specs.Steps.{CoreState, Makes, turn, replies, after_steps}
 use Rattle.ifs_core.specs.Headline.{IsKept}
 use Rattle.ifs_gen.specs.Trees.{Policy}
-use Rattle.ifs_gen.specs.PlainImage.{plain_image, room_of}
+use Rattle.ifs_gen.specs.PlainSizes.{room_of}
+use Rattle.ifs_gen.specs.PolicyImage.{image_of}
 use Rattle.ifs_gen.specs.Events.{RunsAsPolicy, reply_without_cost, state_without_costs}
 use Rattle.ifs_gen.specs.Compiled.{HasNamesOf, IsCompiled}
 use Rattle.ifs_gen.specs.CompiledCore.{LeadsTo, IsRunOf, RunsText}
@@ -49,7 +50,7 @@ next_steps (x ∷ steps) (suc i) step e =
     ap (λ (n : ℕ). take n (x ∷ steps)) next ∙ ap (λ (l : List Step). x ∷ l) (next_steps steps i step e)
 
 -- What runs as the policy does, from its opening, is a run of the policy.
-run_of : (policy : Policy) (b : Behaviour) (steps : List Step) (replied : List Reply) (before after : CoreState) → before ≡ opened b (plain_image policy)
+run_of : (policy : Policy) (b : Behaviour) (steps : List Step) (replied : List Reply) (before after : CoreState) → before ≡ opened b (image_of policy)
     → IsRunBy b (room_of policy) steps replied before after → RunsAsPolicy policy b steps → IsRunOf policy steps replied after
 run_of policy b steps replied before after is run as_policy = record {
   replies_are = ap (map reply_without_cost) (run.replies_are ∙ ap (λ (s : CoreState). replies b (room_of policy) steps s) is) ∙ as_policy.replies;
@@ -78,14 +79,14 @@ lead_next image steps i replied replied' before after next step reply at more le
     (lead_on image (take i steps) replied before after next step reply leads made))
 
 module _ (text : List ℕ) (defs : List (List ℕ × List ℕ)) (bytes : List ℕ) (is : IsCompiled text defs bytes) where
-  opened_on : (core : OpenCore) → core.image ≡ plain_image is.policy → IsKept core.image
+  opened_on : (core : OpenCore) → core.image ≡ image_of is.policy → IsKept core.image
       → ((b : Behaviour) → IsBehaviour core.image b → core.state ≡ opened b core.image) → RunsText text defs core
   opened_on core same kept state =
       let policy = is.policy in
       let found = is.means.behaviour in
       let b = found.0 in
       let own : IsBehaviour core.image b = subst (λ (i : ImageParts). IsBehaviour i b) (sym same) found.1 in
-      let start : core.state ≡ opened b (plain_image policy) = state b own ∙ ap (λ (i : ImageParts). opened b i) same in
+      let start : core.state ≡ opened b (image_of policy) = state b own ∙ ap (λ (i : ImageParts). opened b i) same in
       record {
         policy = policy;
         of_text = is.of_text;
@@ -98,7 +99,7 @@ module _ (text : List ℕ) (defs : List (List ℕ × List ℕ)) (bytes : List �
         opening = ap state_without_costs start ∙ (is.means.runs b found.1 []).opening;
         runs = λ steps replied after leads.
             run_of policy b steps replied core.state after start
-            (run_by (plain_image policy) b found.1 steps replied core.state after (subst (λ (i : ImageParts). LeadsTo i steps replied core.state after) same leads))
+            (run_by (image_of policy) b found.1 steps replied core.state after (subst (λ (i : ImageParts). LeadsTo i steps replied core.state after) same leads))
             (is.means.runs b found.1 steps);
       }
 

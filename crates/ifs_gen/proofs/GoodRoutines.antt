@@ -1,8 +1,10 @@
 -- An image whose routines are all good keeps the rules of acceptance, where its tables and budgets do.
 use Rattle.std.proofs.Common.{◌≡◌, ℕ, zero, suc, ◌+◌, ◌-◌, ◌<◌, ◌≤◌, ⊎_elim, List, [], ◌∷◌, ◌++◌, length}
 use Rattle.std.proofs.Common.{Option, Some, None, refl, sym, ap, ◌∙◌, subst, arith, length-append}
-use Rattle.std.specs.Prelude.{slice_get, replicate}
-use Rattle.std.proofs.lemmas.Option.{none-some, same_Some}
+use Rattle.std.specs.Prelude.{slice_get, nat_le, if◌then◌else◌}
+use Rattle.std.proofs.lemmas.List.{length-replicate}
+use Rattle.std.proofs.lemmas.Bool.{cases_lt, le-leb, lt-leb}
+use Rattle.std.proofs.lemmas.Option.{none-some, same_Some, slice_get_within}
 use Rattle.ifs_base.specs.declared.ids.RoutineId.{RoutineId}
 use Rattle.ifs_base.specs.declared.op.Kind.{Kind}
 use Rattle.ifs_base.specs.declared.op.Kind.TheVariants.{Truth}
@@ -10,29 +12,30 @@ use Rattle.ifs_base.specs.declared.op.Op.{Op}
 use Rattle.ifs_base.specs.declared.op.Op.TheVariants.{Ret, Jump, JumpFalse, JumpTrue, Call}
 use Rattle.ifs_image.specs.declared.parts.Routine.{Routine}
 use Rattle.ifs_image.specs.declared.parts.ImageParts.{ImageParts}
-use Rattle.ifs_image.specs.Code.{code_in, code_of, results_in, results_of, op_at, IsSuccessor, target_of, effect}
+use Rattle.ifs_image.specs.Code.{code_in, code_of, results_in, op_at, IsSuccessor, target_of, effect}
 use Rattle.ifs_verify.specs.Rules.{IsRoutine, HasOperand, JumpsLeadOn, RoutinesEnd, CallsGoDown, PlacesAreReached}
 use Rattle.ifs_verify.specs.Typing.{AreTypings}
 use Rattle.ifs_verify.specs.Laws.{HasOneTyping}
 use Rattle.ifs_verify.specs.Bounds.{AreHeights, AreDepths, callee_amount, AreAmounts}
-use Rattle.ifs_gen.proofs.Rows.{entry_at, at_front}
-use Rattle.ifs_gen.proofs.Fine.{IsGood, IsAt, inside, last, is_at}
+use Rattle.ifs_gen.proofs.Rows.{entry_at, at_front, has_all, has_left}
+use Rattle.ifs_gen.proofs.Fine.{Callees, CallsWithin, IsGood, IsAt, inside, last, is_at}
+use Rattle.ifs_gen.specs.Runs.{HasAt}
 
 -- Each routine of a list is good.
-abbrev pub EachGood : ImageParts → List Routine → Type 0
-EachGood image [] = Unit {0}
-EachGood image (r ∷ routines) = IsGood image r × EachGood image routines
+abbrev pub EachGood : ImageParts → Callees → List Routine → Type 0
+EachGood image callees [] = Unit {0}
+EachGood image callees (r ∷ routines) = IsGood image callees r × EachGood image callees routines
 
 -- The kinds at each place of each, and the height of each.
-abbrev pub kinds_in : (image : ImageParts) (routines : List Routine) → EachGood image routines → ℕ → ℕ → List Kind
-kinds_in image [] good k place = []
-kinds_in image (r ∷ routines) good zero place = good.0.kinds place
-kinds_in image (r ∷ routines) good (suc k) place = kinds_in image routines good.1 k place
+abbrev pub kinds_in : (image : ImageParts) (callees : Callees) (routines : List Routine) → EachGood image callees routines → ℕ → ℕ → List Kind
+kinds_in image callees [] good k place = []
+kinds_in image callees (r ∷ routines) good zero place = good.0.kinds place
+kinds_in image callees (r ∷ routines) good (suc k) place = kinds_in image callees routines good.1 k place
 
-abbrev pub heights_in : (image : ImageParts) (routines : List Routine) → EachGood image routines → ℕ → ℕ
-heights_in image [] good k = 0
-heights_in image (r ∷ routines) good zero = good.0.height
-heights_in image (r ∷ routines) good (suc k) = heights_in image routines good.1 k
+abbrev pub heights_in : (image : ImageParts) (callees : Callees) (routines : List Routine) → EachGood image callees routines → ℕ → ℕ
+heights_in image callees [] good k = 0
+heights_in image callees (r ∷ routines) good zero = good.0.height
+heights_in image callees (r ∷ routines) good (suc k) = heights_in image callees routines good.1 k
 
 -- What an instruction weighs and all that follow it, from a place of a code on.
 abbrev pub amount : (Op → ℕ) → List Op → ℕ → ℕ
@@ -67,10 +70,32 @@ amount_past weight [] place le = refl
 amount_past weight (x ∷ code) zero le = absurd (omega arith)
 amount_past weight (x ∷ code) (suc place) le = amount_past weight code place (omega arith)
 
+-- where two weights agree on the instructions of a code, its amounts agree
+pub amount_same : (f g : Op → ℕ) (code : List Op) → ((place : ℕ) (op : Op) → slice_get code place ≡ Some op → f op ≡ g op) → (place : ℕ) → amount f code place ≡ amount g code place
+amount_same f g [] same place = refl
+amount_same f g (x ∷ code) same zero =
+    let here = same 0 x refl in
+    let rest = amount_same f g code (λ place op e. same (suc place) op e) zero in
+    omega (arith, here, rest)
+amount_same f g (x ∷ code) same (suc place) = amount_same f g code (λ place op e. same (suc place) op e) place
+
+-- what a callee adds depends on what is called alone
+callee_same : (f g : ℕ → ℕ → ℕ) (op : Op) → ((callee : RoutineId) → op ≡ Call callee → f callee.0 0 ≡ g callee.0 0) → callee_amount f op ≡ callee_amount g op
+callee_same f g (Call callee) same = same callee refl
+callee_same f g op same = refl
+
+callee_less : (f g : ℕ → ℕ → ℕ) (op : Op) → ((routine : ℕ) → f routine 0 ≤ g routine 0) → callee_amount f op ≤ callee_amount g op
+callee_less f g (Call callee) less = less callee.0
+callee_less f g op less = omega arith
+
 -- an instruction that is no call adds nothing of a callee's
 no_callee : (amounts : ℕ → ℕ → ℕ) (op : Op) → ((callee : RoutineId) → op ≡ Call callee → ⊥) → callee_amount amounts op ≡ 0
 no_callee amounts (Call callee) never = absurd (never callee refl)
 no_callee amounts op never = refl
+
+-- An instruction weighs its own weight, and that of what it calls.
+abbrev pub with_callee : (Op → ℕ) → ImageParts → Op → ℕ
+with_callee weight image op = weight op + callee_amount (λ routine place. amount weight (code_of image routine) place) op
 
 -- where jumps lead on, so does every way
 leads_on : (op : Op) (place to : ℕ) → IsSuccessor op place to → ((target : ℕ) → target_of op ≡ Some target → place < target) → place < to
@@ -80,17 +105,14 @@ leads_on (JumpFalse target) place to h jumps = let j = jumps target refl in ⊎_
 leads_on (JumpTrue target) place to h jumps = let j = jumps target refl in ⊎_elim (λ e. omega (arith, e)) (λ e. omega (arith, e, j)) h
 leads_on op place to h jumps = omega (arith, h)
 
-results_none : (n : ℕ) → n ≡ 0 → replicate n Truth ≡ []
-results_none n e = ap (λ k. replicate k Truth) e
-
-module _ (image : ImageParts) where
+module _ (image : ImageParts) (callees : Callees) where
   -- A good routine of a list, at its place there.
-  record Found (routines : List Routine) (all : EachGood image routines) (k : ℕ) (r : Routine) : Type 0 where
-    good : IsGood image r
-    kinds : kinds_in image routines all k ≡ good.kinds
-    height : heights_in image routines all k ≡ good.height
+  record Found (routines : List Routine) (all : EachGood image callees routines) (k : ℕ) (r : Routine) : Type 0 where
+    good : IsGood image callees r
+    kinds : kinds_in image callees routines all k ≡ good.kinds
+    height : heights_in image callees routines all k ≡ good.height
 
-  found : (routines : List Routine) (all : EachGood image routines) (k : ℕ) (r : Routine) → slice_get routines k ≡ Some r → Found routines all k r
+  found : (routines : List Routine) (all : EachGood image callees routines) (k : ℕ) (r : Routine) → slice_get routines k ≡ Some r → Found routines all k r
   found [] all k r e = absurd (none-some r e)
   found (x ∷ routines) all zero r e =
       let here : Found (x ∷ routines) all zero x = record { good = all.0; kinds = refl; height = refl } in
@@ -99,12 +121,12 @@ module _ (image : ImageParts) where
       let f = found routines all.1 k r e in
       record { good = f.good; kinds = f.kinds; height = f.height }
 
-  module _ (all : EachGood image image.routines) where
+  module _ (all : EachGood image callees image.routines) where
     abbrev kinds : ℕ → ℕ → List Kind
-    kinds routine place = kinds_in image image.routines all routine place
+    kinds routine place = kinds_in image callees image.routines all routine place
 
     abbrev heights : ℕ → ℕ
-    heights routine = heights_in image image.routines all routine
+    heights routine = heights_in image callees image.routines all routine
 
     -- A routine of the image.
     record Has (routine : ℕ) : Type 0 where
@@ -126,13 +148,13 @@ module _ (image : ImageParts) where
     -- An instruction of a routine.
     record Stands (routine place : ℕ) (op : Op) : Type 0 where
       in_routine : Has routine
-      is : IsAt image in_routine.r in_routine.found.good place op
+      is : IsAt image callees in_routine.r in_routine.found.good place op
 
     stands_in : (o : Option Routine) (routine place : ℕ) (op : Op) → slice_get image.routines routine ≡ o → op_at image routine place ≡ Some op → Stands routine place op
     stands_in None routine place op e h = absurd (none-some op (sym (ap (λ o. slice_get (code_in o) place) e) ∙ h))
     stands_in (Some r) routine place op e h =
         let there = has_at routine r e in
-        record { in_routine = there; is = is_at image there.r there.found.good place op (sym (ap (λ o. slice_get (code_in o) place) there.at) ∙ h) }
+        record { in_routine = there; is = is_at image callees there.r there.found.good place op (sym (ap (λ o. slice_get (code_in o) place) there.at) ∙ h) }
 
     stands : (routine place : ℕ) (op : Op) → op_at image routine place ≡ Some op → Stands routine place op
     stands routine place op h = stands_in (slice_get image.routines routine) routine place op refl h
@@ -161,17 +183,6 @@ module _ (image : ImageParts) where
         let end : length (code_of image routine) - 1 ≡ length there.found.good.front = omega (arith, long) in
         ap (λ p. op_at image routine p) end ∙ ap (λ c. slice_get c (length there.found.good.front)) there.code ∙ at_front there.found.good.front Ret []
 
-    pub no_calls : (routine place : ℕ) (callee : RoutineId) → op_at image routine place ≡ Some (Call callee) → ⊥
-    no_calls routine place callee h =
-        let s = stands routine place (Call callee) h in
-        elim s.is [
-          | inside within fine ↦ fine.no_call callee refl
-          | last at ret ↦ cc
-        ]
-
-    pub calls : CallsGoDown image
-    calls routine place callee h = absurd (no_calls routine place callee h)
-
     pub reached : PlacesAreReached image
     reached routine zero lt within = absurd (omega (arith, lt))
     reached routine (suc place) lt within =
@@ -199,110 +210,205 @@ module _ (image : ImageParts) where
           results = λ place h.
               let s = stands routine place Ret h in
               let same = s.in_routine.found.kinds in
-              let none = ap results_in s.in_routine.at ∙ results_none s.in_routine.r.results s.in_routine.found.good.results in
               elim s.is [
                 | inside before fine ↦ absurd fine.falls
-                | last at ret ↦ ap (λ k. k place) same ∙ ap s.in_routine.found.good.kinds at ∙ s.in_routine.found.good.end ∙ sym none
+                | last at ret ↦ ap (λ k. k place) same ∙ ap s.in_routine.found.good.kinds at ∙ s.in_routine.found.good.end ∙ sym (ap results_in s.in_routine.at)
               ];
         }
 
-    pub are_heights : AreHeights image kinds heights
-    are_heights = record {
-      before = λ routine place op h.
-          let s = stands routine place op h in
-          let f = s.in_routine.found in
-          let same = ap (λ k. length (k place)) f.kinds in
-          let high = f.height in
-          elim s.is [
-            | inside before fine ↦ let l = fine.low in omega (arith, same, high, l)
-            | last at ret ↦ let none = ap length (ap f.good.kinds at ∙ f.good.end) in omega (arith, same, none)
-          ];
-      after = λ routine place op next h effect_is.
-          let s = stands routine place op h in
-          let f = s.in_routine.found in
-          let high = f.height in
-          elim s.is [
-            | inside before fine ↦
-                let same = same_Some fine.after next (sym fine.effect_is ∙ (sym (ap (λ k. effect image op (k place)) f.kinds) ∙ effect_is)) in
-                let long = ap length same in
-                let l = fine.high in omega (arith, long, high, l)
-            | last at ret ↦
-                let same = same_Some (kinds routine place) next (sym (ap (λ o. effect image o (kinds routine place)) ret) ∙ effect_is) in
-                let none = ap length (sym same ∙ (ap (λ k. k place) f.kinds ∙ (ap f.good.kinds at ∙ f.good.end))) in omega (arith, none)
-          ];
-      calls = λ routine place callee h. absurd (no_calls routine place callee h);
-    }
+    -- The first routines, which may be called: they call nothing, and are as high as is told.
+    pub record AreCallees : Type 0 where
+      pub quiet : (routine place : ℕ) (callee : RoutineId) → routine < callees.count → op_at image routine place ≡ Some (Call callee) → ⊥
+      pub high : (routine : ℕ) → routine < callees.count → heights routine ≡ callees.height routine
 
-    pub are_depths : AreDepths image (λ routine. 1)
-    are_depths = record {
-      own = λ routine. omega arith;
-      calls = λ routine place callee h. absurd (no_calls routine place callee h);
-    }
+    -- What a call of a routine needs.
+    record MayCall (routine place : ℕ) (callee : RoutineId) : Type 0 where
+      known : callee.0 < callees.count
+      there : IsRoutine image callee.0
+      low : length (kinds routine place) + callees.height callee.0 ≤ heights routine
 
-    module _ (weight : Op → ℕ) where
-      abbrev pub amounts : ℕ → ℕ → ℕ
-      amounts routine place = amount weight (code_of image routine) place
+    may_call : (routine place : ℕ) (callee : RoutineId) → op_at image routine place ≡ Some (Call callee) → MayCall routine place callee
+    may_call routine place callee h =
+        let s = stands routine place (Call callee) h in
+        let f = s.in_routine.found in
+        let same = ap (λ k. length (k place)) f.kinds in
+        let high = f.height in
+        elim s.is [
+          | inside within fine ↦
+              let c = fine.call callee refl in
+              let l = c.1 in
+              record { known = c.0; there = fine.operand; low = omega (arith, same, high, l) }
+          | last at ret ↦ cc
+        ]
 
-      alone : (routine place : ℕ) (op : Op) → op_at image routine place ≡ Some op → callee_amount amounts op ≡ 0
-      alone routine place op h = no_callee amounts op (λ callee e. no_calls routine place callee (h ∙ ap Some e))
+    module _ (first : AreCallees) where
+      pub calls : CallsGoDown image
+      calls routine place callee h =
+          let known = (may_call routine place callee h).known in
+          ⊎_elim (λ lower. absurd (first.quiet routine place callee lower h)) (λ higher. omega (arith, known, higher)) (cases_lt routine callees.count)
 
-      pub are_amounts : AreAmounts weight image amounts
-      are_amounts = record {
-        own = λ routine place op h.
-            let here = amount_at weight (code_of image routine) place op h in
-            let none = alone routine place op h in
-            omega (arith, here, none);
-        onward = λ routine place to op h successor.
-            let here = amount_at weight (code_of image routine) place op h in
-            let none = alone routine place op h in
-            let on = leads_on op place to successor (λ target t. (jumps routine place op target h t).0) in
-            let less = amount_later weight (code_of image routine) (place + 1) to (omega (arith, on)) in
-            omega (arith, here, none, less);
+      pub are_heights : AreHeights image kinds heights
+      are_heights = record {
+        before = λ routine place op h.
+            let s = stands routine place op h in
+            let f = s.in_routine.found in
+            let same = ap (λ k. length (k place)) f.kinds in
+            let high = f.height in
+            elim s.is [
+              | inside before fine ↦ let l = fine.low in omega (arith, same, high, l)
+              | last at ret ↦ let end = at_end f.good at in omega (arith, same, high, end)
+            ];
+        after = λ routine place op next h effect_is.
+            let s = stands routine place op h in
+            let f = s.in_routine.found in
+            let high = f.height in
+            elim s.is [
+              | inside before fine ↦
+                  let same = same_Some fine.after next (sym fine.effect_is ∙ (sym (ap (λ k. effect image op (k place)) f.kinds) ∙ effect_is)) in
+                  let long = ap length same in
+                  let l = fine.high in omega (arith, long, high, l)
+              | last at ret ↦
+                  let same = same_Some (kinds routine place) next (sym (ap (λ o. effect image o (kinds routine place)) ret) ∙ effect_is) in
+                  let long = ap length (sym same ∙ ap (λ k. k place) f.kinds) in
+                  let end = at_end f.good at in omega (arith, long, high, end)
+            ];
+        calls = λ routine place callee h.
+            let c = may_call routine place callee h in
+            let low = c.low in
+            let own = first.high callee.0 c.known in
+            omega (arith, low, own);
+      }
+        where
+          at_end : {r : Routine} (good : IsGood image callees r) {place : ℕ} → place ≡ length good.front → length (good.kinds place) ≤ good.height
+          at_end {r} good at =
+              let long = ap length (ap good.kinds at ∙ good.end) ∙ length-replicate r.results Truth in
+              let room = good.room in
+              omega (arith, long, room)
+
+      -- frames: a callee's own, and so many of any other routine's
+      abbrev pub depth : ℕ → ℕ → ℕ
+      depth frames routine = if nat_le callees.count routine then frames else 1
+
+      depth_first : (frames routine : ℕ) → routine < callees.count → depth frames routine ≡ 1
+      depth_first frames routine lower = ap (λ b. if b then frames else 1) (lt-leb callees.count routine lower)
+
+      pub depth_low : (frames routine : ℕ) → 1 ≤ frames → depth frames routine ≤ frames
+      depth_low frames routine some =
+          ⊎_elim (λ lower. let e = depth_first frames routine lower in omega (arith, e, some))
+          (λ higher. let e = ap (λ b. if b then frames else 1) (le-leb callees.count routine higher) in omega (arith, e)) (cases_lt routine callees.count)
+
+      pub are_depths : (frames : ℕ) → 1 ≤ frames → (0 < callees.count → 2 ≤ frames) → AreDepths image (depth frames)
+      are_depths frames some two = record {
+        own = λ routine.
+            ⊎_elim (λ lower. let e = depth_first frames routine lower in omega (arith, e))
+            (λ higher. let e = ap (λ b. if b then frames else 1) (le-leb callees.count routine higher) in omega (arith, e, some)) (cases_lt routine callees.count);
+        calls = λ routine place callee h.
+            let known = (may_call routine place callee h).known in
+            let own = depth_first frames callee.0 known in
+            let more = two (omega (arith, known)) in
+            ⊎_elim (λ lower. absurd (first.quiet routine place callee lower h))
+            (λ higher. let e = ap (λ b. if b then frames else 1) (le-leb callees.count routine higher) in omega (arith, e, own, more)) (cases_lt routine callees.count);
       }
 
-    pub leave_nothing : (routine : ℕ) → IsRoutine image routine → results_of image routine ≡ []
-    leave_nothing routine is =
-        let there = has routine is in
-        ap results_in there.at ∙ results_none there.r.results there.found.good.results
+      module _ (weight : Op → ℕ) where
+        abbrev pub amounts : ℕ → ℕ → ℕ
+        amounts routine place = amount (with_callee weight image) (code_of image routine) place
+
+        abbrev own_amounts : ℕ → ℕ → ℕ
+        own_amounts routine place = amount weight (code_of image routine) place
+
+        -- a callee's amounts are those of its own instructions
+        alone : (routine place : ℕ) → routine < callees.count → amounts routine place ≡ own_amounts routine place
+        alone routine place lower =
+            amount_same (with_callee weight image) weight (code_of image routine)
+            (λ at op h. let none = no_callee own_amounts op (λ callee e. first.quiet routine at callee lower (h ∙ ap Some e)) in omega (arith, none)) place
+
+        same_callee : (routine place : ℕ) (op : Op) → op_at image routine place ≡ Some op → callee_amount amounts op ≡ callee_amount own_amounts op
+        same_callee routine place op h = callee_same amounts own_amounts op (λ callee e. alone callee.0 0 (may_call routine place callee (h ∙ ap Some e)).known)
+
+        pub are_amounts : AreAmounts weight image amounts
+        are_amounts = record {
+          own = λ routine place op h.
+              let here = amount_at (with_callee weight image) (code_of image routine) place op h in
+              let same = same_callee routine place op h in
+              omega (arith, here, same);
+          onward = λ routine place to op h successor.
+              let here = amount_at (with_callee weight image) (code_of image routine) place op h in
+              let same = same_callee routine place op h in
+              let on = leads_on op place to successor (λ target t. (jumps routine place op target h t).0) in
+              let less = amount_later (with_callee weight image) (code_of image routine) (place + 1) to (omega (arith, on)) in
+              omega (arith, here, same, less);
+        }
 
     -- amounts from a place on are the least: control may fall through each instruction
-    least_from : (weight : Op → ℕ) (bound : ℕ → ℕ → ℕ) → AreAmounts weight image bound → (routine n place : ℕ) → place + n ≡ length (code_of image routine)
-        → amount weight (code_of image routine) place ≤ bound routine place
-    least_from weight bound are routine zero place e =
-        let none = amount_past weight (code_of image routine) place (omega (arith, e)) in omega (arith, none)
-    least_from weight bound are routine (suc n) place e =
+    least_from : (weight heavy : Op → ℕ) (bound : ℕ → ℕ → ℕ) → AreAmounts weight image bound → ((op : Op) → heavy op ≤ weight op + callee_amount bound op)
+        → (routine n place : ℕ) → place + n ≡ length (code_of image routine) → amount heavy (code_of image routine) place ≤ bound routine place
+    least_from weight heavy bound are light routine zero place e =
+        let none = amount_past heavy (code_of image routine) place (omega (arith, e)) in omega (arith, none)
+    least_from weight heavy bound are light routine (suc n) place e =
         let there = entry_at (code_of image routine) place (omega (arith, e)) in
         let s = stands routine place there.0 there.1 in
-        let here = amount_at weight (code_of image routine) place there.0 there.1 in
+        let here = amount_at heavy (code_of image routine) place there.0 there.1 in
         let long = s.in_routine.long in
+        let few = light there.0 in
         elim s.is [
           | inside before fine ↦
               let on = are.onward routine place (place + 1) there.0 there.1 fine.falls in
-              let rest = least_from weight bound are routine n (place + 1) (omega (arith, e)) in
-              omega (arith, here, on, rest)
+              let rest = least_from weight heavy bound are light routine n (place + 1) (omega (arith, e)) in
+              omega (arith, here, on, rest, few)
           | last at ret ↦
               let own = are.own routine place there.0 there.1 in
-              let none = amount_past weight (code_of image routine) (place + 1) (omega (arith, at, long)) in
-              omega (arith, here, own, none)
+              let none = amount_past heavy (code_of image routine) (place + 1) (omega (arith, at, long)) in
+              omega (arith, here, own, none, few)
         ]
 
-    pub least_amount : (weight : Op → ℕ) (bound : ℕ → ℕ → ℕ) → AreAmounts weight image bound → (routine : ℕ) → amount weight (code_of image routine) 0 ≤ bound routine 0
-    least_amount weight bound are routine = least_from weight bound are routine (length (code_of image routine)) 0 (omega arith)
+    pub least_amount : (weight : Op → ℕ) (bound : ℕ → ℕ → ℕ) → AreAmounts weight image bound → (routine : ℕ) → amount (with_callee weight image) (code_of image routine) 0 ≤ bound routine 0
+    least_amount weight bound are routine =
+        let own : (r : ℕ) → amount weight (code_of image r) 0 ≤ bound r 0 = λ r. least_from weight weight bound are (λ op. omega arith) r (length (code_of image r)) 0 (omega arith) in
+        least_from weight (with_callee weight image) bound are
+        (λ op. let less = callee_less (λ r place. amount weight (code_of image r) place) bound op own in omega (arith, less)) routine (length (code_of image routine)) 0 (omega arith)
 
     -- so are heights, of any typing: it is the only one
-    pub least_height : HasOneTyping → (other : ℕ → ℕ → List Kind) (tops : ℕ → ℕ) → AreTypings image other → AreHeights image other tops → (routine : ℕ) → IsRoutine image routine
-        → heights routine ≤ tops routine
-    least_height one other tops typed are routine is =
-        let there = has routine is in
-        let good = there.found.good in
-        let high = there.found.height in
-        let below : (place : ℕ) → place ≤ length good.front → length (good.kinds place) ≤ tops routine = λ place le.
-        let long = there.long in
-        let at = entry_at (code_of image routine) place (omega (arith, le, long)) in
-        let same = one image routine (kinds routine) (other routine) reached (typings routine is) (typed routine is) place (omega (arith, le, long)) in
-        let mine = ap (λ k. length (k place)) there.found.kinds in
-        let theirs = ap length same in
-        let h = are.before routine place at.0 at.1 in
-        omega (arith, mine, theirs, h) in
-        let least = good.least (tops routine) below in
-        omega (arith, high, least)
+    module _ (one : HasOneTyping) (other : ℕ → ℕ → List Kind) (tops : ℕ → ℕ) (typed : AreTypings image other) (are : AreHeights image other tops) (first : AreCallees) where
+      same_kinds : (routine place : ℕ) → IsRoutine image routine → place < length (code_of image routine) → kinds routine place ≡ other routine place
+      same_kinds routine place is lt = one image routine (kinds routine) (other routine) reached (typings routine is) (typed routine is) place lt
+
+      -- Each call of a routine is within a height.
+      abbrev CallsAreLow : ℕ → Type 0
+      CallsAreLow routine = (place : ℕ) (callee : RoutineId) → op_at image routine place ≡ Some (Call callee) → length (kinds routine place) + callees.height callee.0 ≤ tops routine
+
+      walk : (routine : ℕ) (own : ℕ → List Kind) → kinds routine ≡ own → CallsAreLow routine → (place : ℕ) (ops : List Op) → HasAt (code_of image routine) place ops → CallsWithin callees own (tops routine) place ops
+      walk routine own same low place [] has = tt
+      walk routine own same low place (op ∷ ops) has = (
+        λ callee e. let l = low place callee (has.0 ∙ ap Some e) in let long = ap (λ k. length (k place)) same in omega (arith, l, long),
+        walk routine own same low (place + 1) ops has.1,
+      )
+
+      least_of : (routine : ℕ) → IsRoutine image routine → CallsAreLow routine → heights routine ≤ tops routine
+      least_of routine is low =
+          let there = has routine is in
+          let good = there.found.good in
+          let high = there.found.height in
+          let below : (place : ℕ) → place ≤ length good.front → length (good.kinds place) ≤ tops routine = λ place le.
+          let long = there.long in
+          let at = entry_at (code_of image routine) place (omega (arith, le, long)) in
+          let same = same_kinds routine place is (omega (arith, le, long)) in
+          let mine = ap (λ k. length (k place)) there.found.kinds in
+          let theirs = ap length same in
+          let h = are.before routine place at.0 at.1 in
+          omega (arith, mine, theirs, h) in
+          let stand = subst (λ c. HasAt c 0 (good.front ++ Ret ∷ [])) (sym there.code) (has_all [] (good.front ++ Ret ∷ [])) in
+          let within = walk routine good.kinds there.found.kinds low 0 good.front (has_left (code_of image routine) 0 good.front (Ret ∷ []) stand) in
+          let least = good.least (tops routine) below within in
+          omega (arith, high, least)
+
+      pub least_height : (routine : ℕ) → IsRoutine image routine → heights routine ≤ tops routine
+      least_height routine is =
+          least_of routine is (λ place callee h.
+          let c = may_call routine place callee h in
+          let within = slice_get_within (code_of image routine) place (Call callee) h in
+          let same = ap length (same_kinds routine place is within) in
+          let own = first.high callee.0 c.known in
+          let callee_low = least_of callee.0 c.there (λ at other_callee g. absurd (first.quiet callee.0 at other_callee c.known g)) in
+          let called = are.calls routine place callee h in
+          omega (arith, same, own, callee_low, called))

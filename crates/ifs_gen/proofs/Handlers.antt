@@ -90,8 +90,10 @@ module _ (image : ImageParts) (facts : Facts) (coder : Coder) (given : AreFactsO
         let size = block_sized coder computes.sized 0 block in
         let ret = has_right code 0 (block_code coder 0 block) (Ret ∷ []) (0 + code_size coder block) (omega (arith, size)) has in
         let stack = h.stack in
-        let runs = block_leads image facts coder computes routine [] block 0 [] before h.fits (has_left code 0 (block_code coder 0 block) (Ret ∷ []) has) (omega (arith, stack)) h.commands in
-        ends (0 + code_size coder block) (block_cost coder facts block) before (followed before (reached facts block)) h.results h.frame ret.0 runs
+        let frames = h.frames in
+        let framed = computes.framed in
+        let runs = block_leads image facts coder computes routine [] block 0 [] before h.fits (has_left code 0 (block_code coder 0 block) (Ret ∷ []) has) (omega (arith, stack)) (omega (arith, frames)) h.commands in
+        ends (0 + code_size coder block) (block_cost coder facts block) before (followed before (reached facts block)) h.results (omega (arith, framed, frames)) ret.0 runs
 
     -- a body that is held back has gone to its end, and else its block leads there
     body_choice : (held : Bool) (start end first cost : ℕ) (before more : Effects) → leads (point 0 [] before) first (point (if held then end else start) [] before)
@@ -118,12 +120,14 @@ module _ (image : ImageParts) (facts : Facts) (coder : Coder) (given : AreFactsO
         let size = block_sized coder computes.sized start block in
         let ret = has_right code start statements (Ret ∷ []) end (omega (arith, size)) there in
         let stack = h.stack in
-        let runs = block_leads image facts coder computes routine [] block start [] before h.fits (has_left code start statements (Ret ∷ []) there) (omega (arith, stack)) h.commands in
+        let frames = h.frames in
+        let framed = computes.framed in
+        let runs = block_leads image facts coder computes routine [] block start [] before h.fits (has_left code start statements (Ret ∷ []) there) (omega (arith, stack)) (omega (arith, frames)) h.commands in
         let begins : 0 + start ≡ start = omega arith in
         let alike = alike_below (is_open facts) count (mentioned block) (block_tests_below (image_sizes image) block h.fits) in
         let first = subst (λ b. leads (point 0 [] before) (held_cost facts tests) (point (if b then end else start) [] before)) alike
         (subst (λ p. leads (point 0 [] before) (held_cost facts tests) (point (if list_any (is_open facts) tests then end else p) [] before)) begins test) in
-        ends end (held_cost facts tests + (if is_held facts block then 0 else block_cost coder facts block)) before (followed before (body_yield facts block)) h.results h.frame ret.0
+        ends end (held_cost facts tests + (if is_held facts block then 0 else block_cost coder facts block)) before (followed before (body_yield facts block)) h.results (omega (arith, framed, frames)) ret.0
         (body_choice (is_held facts block) start end (held_cost facts tests) (block_cost coder facts block) before (reached facts block) first runs)
 
 pub handlers_do : HandlersDo

@@ -1,91 +1,87 @@
--- The plain image of a policy, entry by entry: its routines, its states, and what handlers come to.
+-- The image of a policy, entry by entry: its routines and its states.
 use Rattle.std.proofs.Common.{◌≡◌, ℕ, zero, suc, ◌+◌, ◌*◌, ◌^◌, ◌<◌, ◌≤◌, Bool, true, false, List}
-use Rattle.std.proofs.Common.{[], ◌∷◌, ◌++◌, length, Some, refl, sym, ap, ◌∙◌, subst, arith}
+use Rattle.std.proofs.Common.{[], ◌∷◌, ◌++◌, length, map, Some, refl, sym, ap, ◌∙◌, arith}
 use Rattle.std.specs.Prelude.{slice_get, All, ◌==◌, if◌then◌else◌}
 use Rattle.std.specs.List.{list_any}
-use Rattle.std.proofs.lemmas.List.Elements.{All-head, All-tail, All-cons, All-nil}
+use Rattle.std.proofs.lemmas.List.{length-map}
+use Rattle.std.proofs.lemmas.List.Elements.{All-head, All-tail}
 use Rattle.std.proofs.lemmas.Option.{none-some, same_Some}
 use Rattle.std.proofs.Math.Nat.{pow-suc}
 use Rattle.ifs_base.specs.declared.ids.TestId.{TestId}
-use Rattle.ifs_base.specs.declared.op.Op.{Op}
 use Rattle.ifs_image.specs.declared.parts.Budgets.{Budgets}
 use Rattle.ifs_image.specs.declared.parts.StateSpec.{StateSpec}
+use Rattle.ifs_image.specs.declared.parts.Routine.{Routine}
 use Rattle.ifs_image.specs.declared.parts.ImageParts.{ImageParts}
-use Rattle.ifs_image.specs.Code.{code_in, code_of}
-use Rattle.ifs_verify.specs.Bounds.{FitsEvents}
-use Rattle.ifs_gen.specs.Trees.{Block, Part, Policy}
-use Rattle.ifs_gen.specs.PlainCode.{plain_coder, tests_below, body_code, init_code, block_height}
-use Rattle.ifs_gen.specs.PlainImage.{test_count, parts_of, mask_of, handlers_of, states_from, routine_of_code}
-use Rattle.ifs_gen.specs.PlainImage.{routines_of, image_with, greatest, number_in, event_total, part_height}
-use Rattle.ifs_policy.specs.Fits.{BlockFits, HandlersFit}
-use Rattle.ifs_gen.specs.Runs.{image_sizes}
-use Rattle.ifs_gen.proofs.Fine.{IsGood}
-use Rattle.ifs_gen.proofs.GoodRoutines.{EachGood, heights_in, amount}
-use Rattle.ifs_gen.proofs.GoodCode.{init_good, body_good}
+use Rattle.ifs_gen.specs.Trees.{Part, Policy}
+use Rattle.ifs_gen.specs.PlainCode.{Coder, tests_below, body_code, init_code}
+use Rattle.ifs_gen.specs.PlainSizes.{parts_of, mask_of, greatest}
+use Rattle.ifs_gen.specs.PolicyImage.{handlers_of, states_from, routine_of_code, routines_of, shared_routine}
+use Rattle.ifs_gen.specs.PolicyImage.{shared_of, image_with}
+use Rattle.ifs_gen.specs.Runs.{HasShared}
 
 -- the routines of part k
-pub init_at : (count : ℕ) (parts : List Part) (k : ℕ) (part : Part) → slice_get parts k ≡ Some part
-    → slice_get (routines_of count parts) (2 * k) ≡ Some (routine_of_code (init_code plain_coder part.init))
-init_at count [] k part e = absurd (none-some part e)
-init_at count (x ∷ parts) zero part e = ap (λ (p : Part). Some (routine_of_code (init_code plain_coder p.init))) (same_Some x part e)
-init_at count (x ∷ parts) (suc k) part e =
+pub init_at : (coder : Coder) (count : ℕ) (parts : List Part) (k : ℕ) (part : Part) → slice_get parts k ≡ Some part
+    → slice_get (routines_of coder count parts) (2 * k) ≡ Some (routine_of_code (init_code coder part.init))
+init_at coder count [] k part e = absurd (none-some part e)
+init_at coder count (x ∷ parts) zero part e = ap (λ (p : Part). Some (routine_of_code (init_code coder p.init))) (same_Some x part e)
+init_at coder count (x ∷ parts) (suc k) part e =
     let two : 2 * suc k ≡ suc (suc (2 * k)) = omega arith in
-    ap (slice_get (routines_of count (x ∷ parts))) two ∙ init_at count parts k part e
+    ap (slice_get (routines_of coder count (x ∷ parts))) two ∙ init_at coder count parts k part e
 
-pub body_at : (count : ℕ) (parts : List Part) (k : ℕ) (part : Part) → slice_get parts k ≡ Some part
-    → slice_get (routines_of count parts) (2 * k + 1) ≡ Some (routine_of_code (body_code plain_coder count part.body))
-body_at count [] k part e = absurd (none-some part e)
-body_at count (x ∷ parts) zero part e = ap (λ (p : Part). Some (routine_of_code (body_code plain_coder count p.body))) (same_Some x part e)
-body_at count (x ∷ parts) (suc k) part e =
+pub body_at : (coder : Coder) (count : ℕ) (parts : List Part) (k : ℕ) (part : Part) → slice_get parts k ≡ Some part
+    → slice_get (routines_of coder count parts) (2 * k + 1) ≡ Some (routine_of_code (body_code coder count part.body))
+body_at coder count [] k part e = absurd (none-some part e)
+body_at coder count (x ∷ parts) zero part e = ap (λ (p : Part). Some (routine_of_code (body_code coder count p.body))) (same_Some x part e)
+body_at coder count (x ∷ parts) (suc k) part e =
     let two : 2 * suc k + 1 ≡ suc (suc (2 * k + 1)) = omega arith in
-    ap (slice_get (routines_of count (x ∷ parts))) two ∙ body_at count parts k part e
+    ap (slice_get (routines_of coder count (x ∷ parts))) two ∙ body_at coder count parts k part e
 
-pub routines_long : (count : ℕ) (parts : List Part) → length (routines_of count parts) ≡ 2 * length parts
-routines_long count [] = refl
-routines_long count (x ∷ parts) = let e = routines_long count parts in omega (arith, e)
+pub routines_long : (coder : Coder) (count : ℕ) (parts : List Part) → length (routines_of coder count parts) ≡ 2 * length parts
+routines_long coder count [] = refl
+routines_long coder count (x ∷ parts) = let e = routines_long coder count parts in omega (arith, e)
 
-pub states_long : (count k : ℕ) (names : List (List ℕ)) (parts : List Part) → length parts ≡ length names → length (states_from count k names parts) ≡ length names
-states_long count k [] parts e = refl
-states_long count k (x ∷ names) [] e = absurd (omega (arith, e))
-states_long count k (x ∷ names) (part ∷ parts) e = ap suc (states_long count (k + 1) names parts (omega (arith, e)))
+pub states_long : (shared count k : ℕ) (names : List (List ℕ)) (parts : List Part) → length parts ≡ length names → length (states_from shared count k names parts) ≡ length names
+states_long shared count k [] parts e = refl
+states_long shared count k (x ∷ names) [] e = absurd (omega (arith, e))
+states_long shared count k (x ∷ names) (part ∷ parts) e = ap suc (states_long shared count (k + 1) names parts (omega (arith, e)))
 
 -- A state of the image is a state of the policy.
-pub record StateAt (count k : ℕ) (names : List (List ℕ)) (parts : List Part) (j : ℕ) (spec : StateSpec) : Type 0 where
+pub record StateAt (shared count k : ℕ) (names : List (List ℕ)) (parts : List Part) (j : ℕ) (spec : StateSpec) : Type 0 where
   pub name : List ℕ
   pub part : Part
   pub named : slice_get names j ≡ Some name
   pub at : slice_get parts j ≡ Some part
-  pub is : spec ≡ (let s : StateSpec = record { name = name; handlers = handlers_of count (k + j) part } in s)
+  pub is : spec ≡ (let s : StateSpec = record { name = name; handlers = handlers_of shared count (k + j) part } in s)
 
-pub state_at : (count k : ℕ) (names : List (List ℕ)) (parts : List Part) (j : ℕ) (spec : StateSpec) → slice_get (states_from count k names parts) j ≡ Some spec → StateAt count k names parts j spec
-state_at count k [] parts j spec e = absurd (none-some spec e)
-state_at count k (x ∷ names) [] j spec e = absurd (none-some spec e)
-state_at count k (x ∷ names) (part ∷ parts) zero spec e =
-    let made : ℕ → StateSpec = λ n. record { name = x; handlers = handlers_of count n part } in
+pub state_at : (shared count k : ℕ) (names : List (List ℕ)) (parts : List Part) (j : ℕ) (spec : StateSpec) → slice_get (states_from shared count k names parts) j ≡ Some spec → StateAt shared count k names parts j spec
+state_at shared count k [] parts j spec e = absurd (none-some spec e)
+state_at shared count k (x ∷ names) [] j spec e = absurd (none-some spec e)
+state_at shared count k (x ∷ names) (part ∷ parts) zero spec e =
+    let made : ℕ → StateSpec = λ n. record { name = x; handlers = handlers_of shared count n part } in
     let same : k ≡ k + 0 = omega arith in
     record { name = x; part = part; named = refl; at = refl; is = sym (same_Some _ spec e) ∙ ap made same }
-state_at count k (x ∷ names) (part ∷ parts) (suc j) spec e =
-    let s = state_at count (k + 1) names parts j spec e in
-    let made : ℕ → StateSpec = λ n. record { name = s.name; handlers = handlers_of count n s.part } in
+state_at shared count k (x ∷ names) (part ∷ parts) (suc j) spec e =
+    let s = state_at shared count (k + 1) names parts j spec e in
+    let made : ℕ → StateSpec = λ n. record { name = s.name; handlers = handlers_of shared count n s.part } in
     let same : k + 1 + j ≡ k + suc j = omega arith in
     record { name = s.name; part = s.part; named = s.named; at = s.at; is = s.is ∙ ap made same }
 
 -- A state of the policy is one of the image.
-pub record SpecAt (count k : ℕ) (names : List (List ℕ)) (parts : List Part) (j : ℕ) (part : Part) : Type 0 where
+pub record SpecAt (shared count k : ℕ) (names : List (List ℕ)) (parts : List Part) (j : ℕ) (part : Part) : Type 0 where
   pub spec : StateSpec
-  pub at : slice_get (states_from count k names parts) j ≡ Some spec
-  pub handlers : spec.handlers ≡ handlers_of count (k + j) part
+  pub at : slice_get (states_from shared count k names parts) j ≡ Some spec
+  pub handlers : spec.handlers ≡ handlers_of shared count (k + j) part
 
-pub spec_at : (count k : ℕ) (names : List (List ℕ)) (parts : List Part) (j : ℕ) (part : Part) → length parts ≡ length names → slice_get parts j ≡ Some part → SpecAt count k names parts j part
-spec_at count k names [] j part long e = absurd (none-some part e)
-spec_at count k [] (x ∷ parts) j part long e = absurd (omega (arith, long))
-spec_at count k (name ∷ names) (x ∷ parts) zero part long e =
+pub spec_at : (shared count k : ℕ) (names : List (List ℕ)) (parts : List Part) (j : ℕ) (part : Part) → length parts ≡ length names → slice_get parts j ≡ Some part → SpecAt shared count k names parts j part
+spec_at shared count k names [] j part long e = absurd (none-some part e)
+spec_at shared count k [] (x ∷ parts) j part long e = absurd (omega (arith, long))
+spec_at shared count k (name ∷ names) (x ∷ parts) zero part long e =
     let same : k ≡ k + 0 = omega arith in
-    record { spec = record { name = name; handlers = handlers_of count k x }; at = refl; handlers = ap (handlers_of count k) (same_Some x part e) ∙ ap (λ n. handlers_of count n part) same }
-spec_at count k (name ∷ names) (x ∷ parts) (suc j) part long e =
-    let s = spec_at count (k + 1) names parts j part (omega (arith, long)) e in
+    record { spec = record { name = name; handlers = handlers_of shared count k x }; at = refl; handlers = ap (handlers_of shared count k) (same_Some x part e) ∙ ap (λ n. handlers_of shared count n part) same }
+spec_at shared count k (name ∷ names) (x ∷ parts) (suc j) part long e =
+    let s = spec_at shared count (k + 1) names parts j part (omega (arith, long)) e in
     let same : k + 1 + j ≡ k + suc j = omega arith in
-    record { spec = s.spec; at = s.at; handlers = s.handlers ∙ ap (λ n. handlers_of count n part) same }
+    record { spec = s.spec; at = s.at; handlers = s.handlers ∙ ap (λ n. handlers_of shared count n part) same }
 
 -- a state's part is the one after the always part and those before it
 pub part_at : (policy : Policy) (j : ℕ) (part : Part) → slice_get policy.states j ≡ Some part → slice_get (parts_of policy) (1 + j) ≡ Some part
@@ -122,104 +118,25 @@ mask_below (suc count) tests =
     let twice = pow-suc 2 count in
     omega (arith, e, h, g, twice)
 
-module _ (image : ImageParts) (count : ℕ) (same : length image.tests ≡ count) where
-  -- each routine is good, and no higher than the parts
-  pub init_is_good : (block : Block) → BlockFits (image_sizes image) block → (good : IsGood image (routine_of_code (init_code plain_coder block))) × (good.height ≡ block_height plain_coder block)
-  init_is_good block fits = init_good image block fits
+-- entries of two lists, one behind the other
+pub right_at : {T : Type 0} (xs ys : List T) (i : ℕ) → slice_get (xs ++ ys) (length xs + i) ≡ slice_get ys i
+right_at [] ys i = let same : 0 + i ≡ i = omega arith in ap (slice_get ys) same
+right_at (x ∷ xs) ys i = let same : suc (length xs) + i ≡ suc (length xs + i) = omega arith in ap (slice_get (x ∷ (xs ++ ys))) same ∙ right_at xs ys i
 
-  pub body_is_good : (block : Block) → BlockFits (image_sizes image) block → (good : IsGood image (routine_of_code (body_code plain_coder count block))) × (good.height ≡ block_height plain_coder block)
-  body_is_good block fits =
-      subst (λ n. (good : IsGood image (routine_of_code (body_code plain_coder n block))) × (good.height ≡ block_height plain_coder block)) same (body_good image block fits)
+pub left_at : {T U : Type 0} (f : T → U) (xs : List T) (ys : List U) (i : ℕ) (x : T) → slice_get xs i ≡ Some x → slice_get (map f xs ++ ys) i ≡ Some (f x)
+left_at f [] ys i x e = absurd (none-some x e)
+left_at f (y ∷ xs) ys zero x e = ap (λ z. Some (f z)) (same_Some y x e)
+left_at f (y ∷ xs) ys (suc i) x e = left_at f xs ys i x e
 
-  abbrev pub each_good : (parts : List Part) → All (HandlersFit (image_sizes image)) parts → EachGood image (routines_of count parts)
-  each_good [] fits = tt
-  each_good (x ∷ parts) fits =
-      let head = All-head (HandlersFit (image_sizes image)) x parts fits in
-      ((init_is_good x.init head.init).0, ((body_is_good x.body head.body).0, each_good parts (All-tail (HandlersFit (image_sizes image)) x parts fits)))
+module _ (policy : Policy) (budgets : Budgets) where
+  abbrev pub shared_first : ImageParts
+  shared_first = image_with budgets policy
 
-  pub heights_within : (parts : List Part) (fits : All (HandlersFit (image_sizes image)) parts) (i : ℕ) → heights_in image (routines_of count parts) (each_good parts fits) i ≤ greatest part_height parts
-  heights_within [] fits i = omega arith
-  heights_within (x ∷ parts) fits zero =
-      let e = (init_is_good x.init (All-head (HandlersFit (image_sizes image)) x parts fits).init).1 in omega (arith, e)
-  heights_within (x ∷ parts) fits (suc zero) =
-      let e = (body_is_good x.body (All-head (HandlersFit (image_sizes image)) x parts fits).body).1 in omega (arith, e)
-  heights_within (x ∷ parts) fits (suc (suc i)) =
-      let h = heights_within parts (All-tail (HandlersFit (image_sizes image)) x parts fits) i in omega (arith, h)
+  -- the shared routines stand at their numbers
+  pub has_shared : HasShared shared_first (shared_of policy)
+  has_shared k code e = left_at shared_routine (shared_of policy) _ k code e
 
-  -- the heights of part k
-  pub init_height : (parts : List Part) (fits : All (HandlersFit (image_sizes image)) parts) (k : ℕ) (part : Part) → slice_get parts k ≡ Some part
-      → heights_in image (routines_of count parts) (each_good parts fits) (2 * k) ≡ block_height plain_coder part.init
-  init_height [] fits k part e = absurd (none-some part e)
-  init_height (x ∷ parts) fits zero part e =
-      (init_is_good x.init (All-head (HandlersFit (image_sizes image)) x parts fits).init).1 ∙ ap (λ (p : Part). block_height plain_coder p.init) (same_Some x part e)
-  init_height (x ∷ parts) fits (suc k) part e =
-      let two : 2 * suc k ≡ suc (suc (2 * k)) = omega arith in
-      ap (heights_in image (routines_of count (x ∷ parts)) (each_good (x ∷ parts) fits)) two ∙ init_height parts (All-tail (HandlersFit (image_sizes image)) x parts fits) k part e
-
-  pub body_height : (parts : List Part) (fits : All (HandlersFit (image_sizes image)) parts) (k : ℕ) (part : Part) → slice_get parts k ≡ Some part
-      → heights_in image (routines_of count parts) (each_good parts fits) (2 * k + 1) ≡ block_height plain_coder part.body
-  body_height [] fits k part e = absurd (none-some part e)
-  body_height (x ∷ parts) fits zero part e =
-      (body_is_good x.body (All-head (HandlersFit (image_sizes image)) x parts fits).body).1 ∙ ap (λ (p : Part). block_height plain_coder p.body) (same_Some x part e)
-  body_height (x ∷ parts) fits (suc k) part e =
-      let two : 2 * suc k + 1 ≡ suc (suc (2 * k + 1)) = omega arith in
-      ap (heights_in image (routines_of count (x ∷ parts)) (each_good (x ∷ parts) fits)) two ∙ body_height parts (All-tail (HandlersFit (image_sizes image)) x parts fits) k part e
-
--- What the instructions of inits and bodies weigh together.
-module _ (weight : Op → ℕ) (count : ℕ) (init body : Part → ℕ)
-    (init_is : (part : Part) → amount weight (init_code plain_coder part.init) zero ≡ init part)
-    (body_is : (part : Part) → amount weight (body_code plain_coder count part.body) zero ≡ body part) where
-  -- Neither passes a number.
-  pub record Below (b : ℕ) (part : Part) : Type 0 where
-    pub init_below : init part ≤ b
-    pub body_below : body part ≤ b
-
-  pub routines_within : (parts : List Part) (b : ℕ) → All (Below b) parts → (i : ℕ) → amount weight (code_in (slice_get (routines_of count parts) i)) zero ≤ b
-  routines_within [] b below i = omega arith
-  routines_within (x ∷ parts) b below zero = let e = init_is x in let h = (All-head (Below b) x parts below).init_below in omega (arith, e, h)
-  routines_within (x ∷ parts) b below (suc zero) = let e = body_is x in let h = (All-head (Below b) x parts below).body_below in omega (arith, e, h)
-  routines_within (x ∷ parts) b below (suc (suc i)) = routines_within parts b (All-tail (Below b) x parts below) i
-
-  states_below : (b : ℕ) (states : List Part) → greatest init states ≤ b → greatest body states ≤ b → All (Below b) states
-  states_below b [] inits bodies = All-nil (Below b)
-  states_below b (x ∷ states) inits bodies =
-      All-cons (Below b) x states (record { init_below = omega (arith, inits); body_below = omega (arith, bodies) })
-      (states_below b states (omega (arith, inits)) (omega (arith, bodies)))
-
-  -- each part's are within what an event may come to
-  pub parts_below : (policy : Policy) → All (Below (event_total init body policy)) (parts_of policy)
-  parts_below policy =
-      let b = event_total init body policy in
-      All-cons (Below b) policy.always policy.states (record { init_below = omega arith; body_below = omega arith })
-      (states_below b policy.states (omega arith) (omega arith))
-
-  module _ (policy : Policy) (same : test_count policy ≡ count) (budgets : Budgets) where
-    abbrev image : ImageParts
-    image = image_with budgets policy
-
-    pub init_amount : (k : ℕ) (part : Part) → slice_get (parts_of policy) k ≡ Some part → amount weight (code_of image (2 * k)) zero ≡ init part
-    init_amount k part e = ap (λ o. amount weight (code_in o) zero) (init_at (test_count policy) (parts_of policy) k part e) ∙ init_is part
-
-    pub body_amount : (k : ℕ) (part : Part) → slice_get (parts_of policy) k ≡ Some part → amount weight (code_of image (2 * k + 1)) zero ≡ body part
-    body_amount k part e =
-        ap (λ o. amount weight (code_in o) zero) (body_at (test_count policy) (parts_of policy) k part e)
-        ∙ ap (λ n. amount weight (body_code plain_coder n part.body) zero) same ∙ body_is part
-
-    pub fits_events : FitsEvents image (λ routine. amount weight (code_of image routine) zero) (event_total init body policy)
-    fits_events = record {
-      evaluation = λ j k current next at_j at_k.
-          let one = state_at (test_count policy) 1 policy.tables.states policy.states j current at_j in
-          let two = state_at (test_count policy) 1 policy.tables.states policy.states k next at_k in
-          let always = body_amount 0 policy.always refl in
-          let own = ap (λ (s : StateSpec). amount weight (code_of image s.handlers.body.0) zero) one.is ∙ body_amount (1 + j) one.part (part_at policy j one.part one.at) in
-          let entry = ap (λ (s : StateSpec). amount weight (code_of image s.handlers.init.0) zero) two.is ∙ init_amount (1 + k) two.part (part_at policy k two.part two.at) in
-          let most_body = at_most_greatest body policy.states j one.part one.at in
-          let most_init = at_most_greatest init policy.states k two.part two.at in
-          omega (arith, always, own, entry, most_body, most_init);
-      opening = λ first at.
-          let one = state_at (test_count policy) 1 policy.tables.states policy.states policy.initial.0 first at in
-          let always = init_amount 0 policy.always refl in
-          let own = ap (λ (s : StateSpec). amount weight (code_of image s.handlers.init.0) zero) one.is ∙ init_amount (1 + policy.initial.0) one.part (part_at policy policy.initial.0 one.part one.at) in
-          let number = ap (number_in init) one.at in
-          omega (arith, always, own, number);
-    }
+  -- and behind them those of the parts
+  pub behind : (handlers : List Routine) (i : ℕ) → slice_get (map shared_routine (shared_of policy) ++ handlers) (length (shared_of policy) + i) ≡ slice_get handlers i
+  behind handlers i =
+      ap (λ n. slice_get (map shared_routine (shared_of policy) ++ handlers) (n + i)) (sym (length-map (shared_of policy) shared_routine)) ∙ right_at (map shared_routine (shared_of policy)) handlers i

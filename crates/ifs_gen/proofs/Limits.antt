@@ -1,24 +1,37 @@
--- The plain image of a policy keeps the limits of images.
-use Rattle.std.proofs.Common.{◌≡◌, ℕ, ◌+◌, ◌≤◌, List, [], ◌∷◌, length, map}
-use Rattle.std.proofs.Common.{Option, Some, None, refl, sym, ap, subst, arith}
-use Rattle.std.specs.Prelude.{slice_get, All, sum_by}
+-- The image of a policy keeps the limits of images, and is accepted.
+use Rattle.std.proofs.Common.{◌≡◌, ℕ, zero, suc, ◌+◌, ◌≤◌, List, [], ◌∷◌, ◌++◌, length, map, take}
+use Rattle.std.proofs.Common.{Option, Some, None, refl, sym, ap, subst, arith, length-append}
+use Rattle.std.specs.Prelude.{slice_get, All, sum_by, filter}
+use Rattle.std.specs.List.{AllByRecursion}
 use Rattle.std.proofs.lemmas.List.{length-map}
 use Rattle.std.proofs.lemmas.List.Elements.{All-head, All-tail, All-cons, All-nil, All-weaker, All-map}
 use Rattle.std.proofs.lemmas.List.Sums.{sum_by-cons}
 use Rattle.ifs_base.specs.Sizes.{TextFits, PeriodFits}
+use Rattle.ifs_base.specs.Spelling.{IsReadBack}
+use Rattle.ifs_base.specs.declared.op.Op.{Op}
+use Rattle.ifs_base.specs.declared.op.Op.TheVariants.{Ret}
 use Rattle.ifs_image.specs.declared.parts.TestSpec.{TestSpec}
 use Rattle.ifs_image.specs.declared.parts.StateSpec.{StateSpec}
 use Rattle.ifs_image.specs.declared.parts.Routine.{Routine}
 use Rattle.ifs_image.specs.declared.parts.ImageParts.{ImageParts}
 use Rattle.ifs_image.specs.Limits.{TestFits, RoutineFits, names_of, AreDistinct, instructions, Fits}
 use Rattle.ifs_gen.specs.Trees.{Part, External, Policy}
-use Rattle.ifs_gen.specs.PlainCode.{plain_coder, body_code, init_code}
-use Rattle.ifs_gen.specs.PlainImage.{test_count, parts_of, states_from, routine_of_code, routines_of}
-use Rattle.ifs_gen.specs.PlainImage.{greatest, number_in, event_total, init_length, body_length}
-use Rattle.ifs_gen.specs.PlainImage.{part_height, plain_image, PartCodeFits as PartLengths, CodeFits}
+use Rattle.ifs_gen.specs.PlainCode.{Coder, body_code, init_code, body_limit, init_limit}
+use Rattle.ifs_gen.specs.PlainSizes.{test_count, parts_of, greatest, number_in, event_total, part_height}
+use Rattle.ifs_gen.specs.PlainSizes.{init_length, body_length}
+use Rattle.ifs_gen.specs.PlainSizes.{PartCodeFits as PartLengths, CodeFits}
+use Rattle.ifs_gen.specs.PolicyImage.{states_from, routine_of_code, shared_routine, routines_of, shared_of}
+use Rattle.ifs_gen.specs.PolicyImage.{least_budgets, image_of}
+use Rattle.ifs_gen.specs.Sharing.{conditions_in, is_shared, firsts, most_shared, shared_coder}
 use Rattle.ifs_policy.specs.Fits.{PolicyFits}
-use Rattle.ifs_gen.proofs.GoodCode.{init_long, body_long}
-use Rattle.ifs_gen.proofs.Images.{routines_long, states_long, at_most_greatest, greatest_below}
+use Rattle.ifs_gen.specs.Acceptance.{ImageIsAccepted}
+use Rattle.ifs_gen.proofs.Called.{coder_sized, frames_few}
+use Rattle.ifs_gen.proofs.Among.{each_shared}
+use Rattle.ifs_gen.proofs.Shrinks.{block_shrinks, shared_lengths, sum_append, sharing_shrinks}
+use Rattle.ifs_gen.proofs.Standing.{IsShort, all_short}
+use Rattle.ifs_gen.proofs.Weights.{init_long, body_long}
+use Rattle.ifs_gen.proofs.Images.{states_long, at_most_greatest, greatest_below}
+use Rattle.ifs_gen.proofs.Accepting.{routines_are, limit_low, accepted}
 
 unmapped : {X Y : Type 0} (P : Y → Type 0) (f : X → Y) (xs : List X) → All P (map f xs) → All (λ x. P (f x)) xs
 unmapped P f [] h = All-nil (λ x. P (f x))
@@ -28,38 +41,66 @@ number_low : {T : Type 0} (number : T → ℕ) (xs : List T) (k : ℕ) (o : Opti
 number_low number xs k None e = let h = ap (number_in number) e in omega (arith, h)
 number_low number xs k (Some x) e = let h = ap (number_in number) e in let g = at_most_greatest number xs k x e in omega (arith, h, g)
 
-names_same : (count k : ℕ) (names : List (List ℕ)) (parts : List Part) → length parts ≡ length names → names_of (states_from count k names parts) ≡ names
-names_same count k [] parts e = refl
-names_same count k (x ∷ names) [] e = absurd (omega (arith, e))
-names_same count k (x ∷ names) (part ∷ parts) e = ap (λ names. x ∷ names) (names_same count (k + 1) names parts (omega (arith, e)))
+names_same : (shared count k : ℕ) (names : List (List ℕ)) (parts : List Part) → length parts ≡ length names → names_of (states_from shared count k names parts) ≡ names
+names_same shared count k [] parts e = refl
+names_same shared count k (x ∷ names) [] e = absurd (omega (arith, e))
+names_same shared count k (x ∷ names) (part ∷ parts) e = ap (λ names. x ∷ names) (names_same shared count (k + 1) names parts (omega (arith, e)))
 
-routines_fit : (count : ℕ) (parts : List Part) → All (PartLengths count) parts → All RoutineFits (routines_of count parts)
-routines_fit count [] h = All-nil RoutineFits
-routines_fit count (x ∷ parts) h =
-    let lengths = All-head (PartLengths count) x parts h in
-    let init = routine_of_code (init_code plain_coder x.init) in
-    let body = routine_of_code (body_code plain_coder count x.body) in
-    let init_is = init_long x.init in
-    let body_is = body_long count x.body in
-    let init_within = lengths.init in
-    let body_within = lengths.body in
-    All-cons RoutineFits init (body ∷ routines_of count parts) (record { results = omega arith; code = omega (arith, init_is, init_within) })
-    (All-cons RoutineFits body (routines_of count parts) (record { results = omega arith; code = omega (arith, body_is, body_within) })
-    (routines_fit count parts (All-tail (PartLengths count) x parts h)))
+module _ (table : List (List Op)) (count : ℕ) where
+  abbrev coder : Coder
+  coder = shared_coder table
 
-pub together_same : (count : ℕ) (parts : List Part) → instructions (routines_of count parts) ≡ sum_by (λ part. init_length part + body_length count part) parts
-together_same count [] = refl
-together_same count (x ∷ parts) =
-    let init = routine_of_code (init_code plain_coder x.init) in
-    let body = routine_of_code (body_code plain_coder count x.body) in
-    let long : Routine → ℕ = λ r. length r.code in
-    let e = sum_by-cons long init (body ∷ routines_of count parts) in
-    let f = sum_by-cons long body (routines_of count parts) in
-    let g = sum_by-cons (λ part. init_length part + body_length count part) x parts in
-    let rest = together_same count parts in
-    let init_is = init_long x.init in
-    let body_is = body_long count x.body in
-    omega (arith, e, f, g, rest, init_is, body_is)
+  -- handlers are no longer than in plain code
+  handlers_fit : (parts : List Part) → All (PartLengths count) parts → All RoutineFits (routines_of coder count parts)
+  handlers_fit [] h = All-nil RoutineFits
+  handlers_fit (x ∷ parts) h =
+      let lengths = All-head (PartLengths count) x parts h in
+      let init = routine_of_code (init_code coder x.init) in
+      let body = routine_of_code (body_code coder count x.body) in
+      let init_is = init_long coder (coder_sized table) x.init in
+      let body_is = body_long coder (coder_sized table) count x.body in
+      let init_less = block_shrinks table count x.init in
+      let body_less = block_shrinks table count x.body in
+      let init_within = lengths.init in
+      let body_within = lengths.body in
+      All-cons RoutineFits init (body ∷ routines_of coder count parts) (record { results = omega arith; code = omega (arith, init_is, init_less, init_within) })
+      (All-cons RoutineFits body (routines_of coder count parts) (record { results = omega arith; code = omega (arith, body_is, body_less, body_within) })
+      (handlers_fit parts (All-tail (PartLengths count) x parts h)))
+
+  shared_fit : (codes : List (List Op)) → AllByRecursion (IsShort 1023) codes → (rest : List Routine) → All RoutineFits rest → All RoutineFits (map shared_routine codes ++ rest)
+  shared_fit [] short rest fits = fits
+  shared_fit (code ∷ codes) short rest fits =
+      let long = length-append code (Ret ∷ []) in
+      let low = short.0 in
+      All-cons RoutineFits (shared_routine code) (map shared_routine codes ++ rest) (record { results = omega arith; code = omega (arith, long, low) }) (shared_fit codes short.1 rest fits)
+
+  handlers_together : (parts : List Part) → instructions (routines_of coder count parts) ≡ sum_by (shared_lengths table count) parts
+  handlers_together [] = refl
+  handlers_together (x ∷ parts) =
+      let init = routine_of_code (init_code coder x.init) in
+      let body = routine_of_code (body_code coder count x.body) in
+      let long : Routine → ℕ = λ r. length r.code in
+      let e = sum_by-cons long init (body ∷ routines_of coder count parts) in
+      let f = sum_by-cons long body (routines_of coder count parts) in
+      let g = sum_by-cons (shared_lengths table count) x parts in
+      let rest = handlers_together parts in
+      let init_is = init_long coder (coder_sized table) x.init in
+      let body_is = body_long coder (coder_sized table) count x.body in
+      omega (arith, e, f, g, rest, init_is, body_is)
+
+shared_together : (codes : List (List Op)) → instructions (map shared_routine codes) ≡ sum_by (λ code. length code + 1) codes
+shared_together [] = refl
+shared_together (code ∷ codes) =
+    let long = length-append code (Ret ∷ []) in
+    let e = sum_by-cons (λ (r : Routine). length r.code) (shared_routine code) (map shared_routine codes) in
+    let f = sum_by-cons (λ (c : List Op). length c + 1) code codes in
+    let rest = shared_together codes in
+    omega (arith, long, e, f, rest)
+
+shared_few : (n : ℕ) (codes : List (List Op)) → length (take n codes) ≤ n
+shared_few zero codes = omega arith
+shared_few (suc n) [] = omega arith
+shared_few (suc n) (code ∷ codes) = let h = shared_few n codes in omega (arith, h)
 
 tests_fit : (tests : List External) → All (λ test. TextFits test.command) tests → All (λ test. PeriodFits test.period) tests
     → All (λ (test : External). TestFits (record { period = test.period; text = test.command })) tests
@@ -69,20 +110,60 @@ tests_fit (x ∷ tests) texts periods =
     (record { period = All-head (λ test. PeriodFits test.period) x tests periods; text = All-head (λ test. TextFits test.command) x tests texts })
     (tests_fit tests (All-tail (λ test. TextFits test.command) x tests texts) (All-tail (λ test. PeriodFits test.period) x tests periods))
 
-module _ (policy : Policy) (is : PolicyFits policy) (code : CodeFits policy) where
+-- the image has no more instructions than plain code
+pub image_shrinks : IsReadBack → (policy : Policy)
+    → instructions (image_of policy).routines ≤ sum_by (λ part. init_length part + body_length (test_count policy) part) (parts_of policy)
+image_shrinks back policy =
+    let table = shared_of policy in
+    let count = test_count policy in
+    let e = sum_append (λ (r : Routine). length r.code) (map shared_routine table) (routines_of (shared_coder table) count (parts_of policy)) in
+    let f = shared_together table in
+    let g = handlers_together table count (parts_of policy) in
+    let less = sharing_shrinks back count (parts_of policy) in
+    omega (arith, e, f, g, less)
+
+module _ (back : IsReadBack) (policy : Policy) (is : PolicyFits policy) (code : CodeFits policy) where
   abbrev count : ℕ
   count = test_count policy
 
   abbrev image : ImageParts
-  image = plain_image policy
+  image = image_of policy
 
-  cost_low : event_total init_length (body_length count) policy ≤ 3072
+  abbrev table : List (List Op)
+  table = shared_of policy
+
+  abbrev shared : ℕ
+  shared = length (shared_of policy)
+
+  few_shared : shared ≤ 510
+  few_shared = shared_few most_shared (filter (is_shared (conditions_in (parts_of policy))) (firsts (conditions_in (parts_of policy))))
+
+  abbrev init_most : Part → ℕ
+  init_most part = init_limit (shared_coder table) part.init
+
+  abbrev body_most : Part → ℕ
+  body_most part = body_limit (shared_coder table) count part.body
+
+  -- Each is within three times the limit of a routine.
+  record IsCheap (part : Part) : Type 0 where
+    init : init_most part ≤ 3072
+    body : body_most part ≤ 3072
+
+  cheap : (part : Part) → PartLengths count part → IsCheap part
+  cheap part fit =
+      let init = fit.init in
+      let body = fit.body in
+      let init_low = limit_low table part.init in
+      let body_low = limit_low table part.body in
+      record { init = omega (arith, init, init_low); body = omega (arith, body, body_low) }
+
+  cost_low : event_total init_most body_most policy ≤ 9216
   cost_low =
-      let always = All-head (PartLengths count) policy.always policy.states code.each in
-      let rest = All-tail (PartLengths count) policy.always policy.states code.each in
-      let inits = greatest_below init_length policy.states 1024 (All-weaker (PartLengths count) (λ part. init_length part ≤ 1024) (λ part h. h.init) policy.states rest) in
-      let bodies = greatest_below (body_length count) policy.states 1024 (All-weaker (PartLengths count) (λ part. body_length count part ≤ 1024) (λ part h. h.body) policy.states rest) in
-      let first = number_low init_length policy.states policy.initial.0 (slice_get policy.states policy.initial.0) refl in
+      let always = cheap policy.always (All-head (PartLengths count) policy.always policy.states code.each) in
+      let rest = All-weaker (PartLengths count) IsCheap cheap policy.states (All-tail (PartLengths count) policy.always policy.states code.each) in
+      let inits = greatest_below init_most policy.states 3072 (All-weaker IsCheap (λ part. init_most part ≤ 3072) (λ part h. h.init) policy.states rest) in
+      let bodies = greatest_below body_most policy.states 3072 (All-weaker IsCheap (λ part. body_most part ≤ 3072) (λ part h. h.body) policy.states rest) in
+      let first = number_low init_most policy.states policy.initial.0 (slice_get policy.states policy.initial.0) refl in
       let always_init = always.init in
       let always_body = always.body in
       omega (arith, always_init, always_body, inits, bodies, first)
@@ -91,36 +172,42 @@ module _ (policy : Policy) (is : PolicyFits policy) (code : CodeFits policy) whe
   fits = record {
     budgets = record {
       stack = greatest_below part_height (parts_of policy) 32 code.height;
-      frames = omega arith;
+      frames = frames_few table;
       cost = let h = cost_low in omega (arith, h);
       commands = code.room;
     };
     counts =
-        let states = states_long count 1 policy.tables.states policy.states is.count in
+        let states = states_long shared count 1 policy.tables.states policy.states is.count in
         let tests = length-map policy.tables.tests (λ (test : External). let t : TestSpec = record { period = test.period; text = test.command } in t) in
-        let routines = routines_long count (parts_of policy) in
+        let routines = routines_are back policy is (least_budgets policy) in
         let parts = is.count in
         let some = is.initial in
         let few = is.tables.states.within in
         let few_tests = is.tables.tests.within in
+        let few_codes = few_shared in
         record {
           interfaces = is.tables.interfaces.within;
           tests = omega (arith, tests, few_tests);
           commands = is.tables.commands.within;
           some_state = omega (arith, states, some);
           states = omega (arith, states, few);
-          routines = omega (arith, routines, parts, few);
+          routines = omega (arith, routines, parts, few, few_codes);
         };
     interfaces = record { texts = is.tables.interfaces.each; distinct = is.tables.interfaces.distinct };
     tests = All-map TestFits (λ (test : External). record { period = test.period; text = test.command }) policy.tables.tests
         (tests_fit policy.tables.tests is.tables.tests.each is.periods);
     commands = is.tables.commands.each;
     states = record {
-      texts = unmapped TextFits (λ (s : StateSpec). s.name) (states_from count 1 policy.tables.states policy.states) (subst (All TextFits) (sym (names_same count 1 policy.tables.states policy.states is.count)) is.tables.states.each);
-      distinct = subst AreDistinct (sym (names_same count 1 policy.tables.states policy.states is.count)) is.tables.states.distinct;
+      texts = unmapped TextFits (λ (s : StateSpec). s.name) (states_from shared count 1 policy.tables.states policy.states)
+          (subst (All TextFits) (sym (names_same shared count 1 policy.tables.states policy.states is.count)) is.tables.states.each);
+      distinct = subst AreDistinct (sym (names_same shared count 1 policy.tables.states policy.states is.count)) is.tables.states.distinct;
     };
     routines = record {
-      each = routines_fit count (parts_of policy) code.each;
-      together = let e = together_same count (parts_of policy) in let h = code.together in omega (arith, e, h);
+      each = shared_fit table count table (each_shared (IsShort 1023) (conditions_in (parts_of policy)) (all_short count (parts_of policy) code.each))
+          (routines_of (shared_coder table) count (parts_of policy)) (handlers_fit table count (parts_of policy) code.each);
+      together = let less = image_shrinks back policy in let all = code.together in omega (arith, less, all);
     };
   }
+
+pub plain_is_accepted : IsReadBack → ImageIsAccepted
+plain_is_accepted back policy is code = (accepted back policy is code, fits back policy is code)

@@ -12,7 +12,7 @@ use Rattle.ifs_base.specs.declared.ids.TestId.{TestId}
 use Rattle.ifs_sched.specs.Schedule.{has_test}
 use Rattle.ifs_policy.specs.Meaning.{Block, Mentions, mentioned}
 use Rattle.ifs_gen.specs.PlainCode.{tests_below}
-use Rattle.ifs_gen.specs.PlainImage.{mask_of}
+use Rattle.ifs_gen.specs.PlainSizes.{mask_of}
 use Rattle.ifs_gen.specs.Events.{ActiveAreMentioned}
 use Rattle.ifs_gen.proofs.Images.{mask_append, mask_below}
 

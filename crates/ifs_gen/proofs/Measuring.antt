@@ -89,14 +89,14 @@ of_runs (y ∷ xs) x =
 
 -- The measures of the statements up to one, and of it with them.
 pub record More (items : List (Statement Single CommandId StateId)) (i : ℕ) (item : Statement Single CommandId StateId) : Type 0 where
-  pub size : code_size plain_coder (block_of (take (i + 1) items)) ≡ code_size plain_coder (block_of (take i items)) + statement_size item
+  pub size : code_size plain_coder (block_of (take (i + 1) items)) ≡ code_size plain_coder (block_of (take i items)) + statement_size plain_coder item
   pub height : block_height plain_coder (block_of (take (i + 1) items)) ≡ max (block_height plain_coder (block_of (take i items))) (statement_height item)
   pub runs : block_runs (block_of (take (i + 1) items)) ≡ block_runs (block_of (take i items)) + statement_runs item
 
 pub more : (items : List (Statement Single CommandId StateId)) (i : ℕ) (item : Statement Single CommandId StateId) → i < length items → item ≡ get_or items i item → More items i item
 more items i item lt at =
     let next = take_more items i item lt ∙ ap (λ x. take i items ++ x ∷ []) (sym at) in
-    let last = of_size (take i items) (item ∷ []) in
+    let last = of_size plain_coder (take i items) (item ∷ []) in
     record {
       size = ap (λ xs. code_size plain_coder (block_of xs)) next ∙ last;
       height = ap (λ xs. block_height plain_coder (block_of xs)) next ∙ of_height (take i items) item;

@@ -12,8 +12,8 @@ use Rattle.ifs_gen.specs.declared.fault.GenFault.TheVariants.{RoutineTooLong, Co
 use Rattle.ifs_gen.specs.declared.fault.GenFault.TheVariants.{StackTooHigh, TooManyCommands, Memory}
 use Rattle.ifs_gen.specs.Trees.{Part, Policy}
 use Rattle.ifs_gen.specs.PlainCode.{plain_coder, block_height}
-use Rattle.ifs_gen.specs.PlainImage.{test_count, parts_of, init_length, body_length}
-use Rattle.ifs_gen.specs.PlainImage.{part_height, room_of, PartCodeFits, CodeFits}
+use Rattle.ifs_gen.specs.PlainSizes.{test_count, parts_of, init_length, body_length}
+use Rattle.ifs_gen.specs.PlainSizes.{part_height, room_of, PartCodeFits, CodeFits}
 use Rattle.ifs_gen.specs.Refused.{lengths_of, heights_of, lengths, heights, AreWithin}
 use Rattle.ifs_gen.specs.Refused.{IsFirstOver, PassesFirst, FitsOrIsRefused, OneLimitIsFirst}
 

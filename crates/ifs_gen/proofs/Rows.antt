@@ -62,7 +62,7 @@ pub followed_nothing : (a : Effects) → followed a nothing_yet ≡ a
 followed_nothing a = effects_are _ _ _ _ (append-nil a.commands) refl
 
 module _ (image : ImageParts) (facts : Facts) where
-  after_add : (m n : ℕ) (start : Outcome) → after_rows image facts (n + m) start ≡ after_rows image facts m (after_rows image facts n start)
+  pub after_add : (m n : ℕ) (start : Outcome) → after_rows image facts (n + m) start ≡ after_rows image facts m (after_rows image facts n start)
   after_add zero n start = let e : n + zero ≡ n = omega arith in ap (λ k. after_rows image facts k start) e
   after_add (suc m) n start = let e : n + suc m ≡ suc (n + m) = omega arith in ap (λ k. after_rows image facts k start) e ∙ ap (next image facts) (after_add m n start)
 

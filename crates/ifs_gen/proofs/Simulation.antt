@@ -18,7 +18,7 @@ use Rattle.ifs_gen.specs.PlainCode.{Coder, condition_code, condition_height}
 use Rattle.ifs_gen.specs.PlainCode.{block_code, code_size, block_height, block_runs}
 use Rattle.ifs_policy.specs.Fits.{ConditionFits, BlockFits}
 use Rattle.ifs_gen.specs.Runs.{image_sizes, HasAt, Point, point, at_point, RowsLead}
-use Rattle.ifs_gen.specs.Runs.{HasStack, Computes, TruthRuns, block_cost, BlockRuns}
+use Rattle.ifs_gen.specs.Runs.{HasStack, HasFrames, Computes, TruthRuns, block_cost, BlockRuns}
 use Rattle.ifs_gen.proofs.Rows.{entry_at, unless_fits, has_left, has_right, followed_assoc}
 use Rattle.ifs_gen.proofs.Rows.{followed_nothing, no_rows, then_leads, as_told, at_place}
 use Rattle.ifs_gen.proofs.Rows.{one_row, command_row, state_row, queue_row, want_row, jump_row}
@@ -56,7 +56,7 @@ module _ (image : ImageParts) (facts : Facts) (given : AreFactsOf image facts) (
       at_place image facts routine callers _ (condition_size a + condition_size b + 1) _ (place + condition_size a + condition_size b + 1) _ (Truth z ∷ values) effects
       (then_leads image facts routine callers _ _ _ _ _ (then_leads image facts routine callers _ _ _ _ _ first second) last) refl (omega arith)
 
-  condition_leads : (c : Condition) (place : ℕ) (values : List Value) (effects : Effects) → ConditionFits (image_sizes image) c
+  pub condition_leads : (c : Condition) (place : ℕ) (values : List Value) (effects : Effects) → ConditionFits (image_sizes image) c
       → HasAt (code_of image routine) place (condition_code c) → HasStack image callers values (condition_height c)
       → RowsLead image facts routine callers (point place values effects) (condition_size c) (point (place + condition_size c) (Truth (truth facts c) ∷ values) effects)
   condition_leads (Leaf (LinkIs n s)) place values effects fits has room =
@@ -101,7 +101,8 @@ pub truth_runs : TruthRuns
 truth_runs image facts given = record {
   sized = condition_sized;
   high = condition_high;
-  leads = λ c routine callers place values effects fits has room. condition_leads image facts given routine callers c place values effects fits has room;
+  framed = omega arith;
+  leads = λ c routine callers place values effects fits has room frames. condition_leads image facts given routine callers c place values effects fits has room;
 }
 
 chosen_within : (b : Bool) (x : Effects) (n : ℕ) → length x.commands ≤ n → length (if b then x else nothing_yet).commands ≤ n
@@ -164,32 +165,32 @@ module _ (image : ImageParts) (facts : Facts) (coder : Coder) where
         (both_lead _ _ _ _ _ values effects first second start onward) refl (omega arith)
 
     pub block_leads : (block : Block) (place : ℕ) (values : List Value) (effects : Effects) → BlockFits (image_sizes image) block
-        → HasAt (code_of image routine) place (block_code coder place block) → HasStack image callers values (block_height coder block)
+        → HasAt (code_of image routine) place (block_code coder place block) → HasStack image callers values (block_height coder block) → HasFrames image callers coder.frames
         → length effects.commands + block_runs block ≤ image.budgets.commands
         → RowsLead image facts routine callers (point place values effects) (block_cost coder facts block) (point (place + code_size coder block) values (followed effects (reached facts block)))
-    block_leads Done place values effects fits has room more =
+    block_leads Done place values effects fits has room frames more =
         let same : place ≡ place + 0 = omega arith in
         as_told image facts routine callers _ _ _ _ _ (no_rows image facts routine callers (point place values effects)) refl
         (ap (λ p. point p values effects) same ∙ ap (λ e. point (place + 0) values e) (sym (followed_nothing effects)))
-    block_leads (RunThen n rest) place values effects fits has room more =
+    block_leads (RunThen n rest) place values effects fits has room frames more =
         let queued : Effects = record { commands = n ∷ []; wish = None } in
         let push = command_row image facts routine callers place values effects n has.0 fits.0 (omega (arith, room)) in
         let queue = queue_row image facts routine callers (place + 1) values effects n has.1.0 (omega (arith, more)) in
         let same : place + 1 + 1 ≡ place + 2 = omega arith in
         let there = subst (λ p. HasAt (code_of image routine) p (block_code coder (place + 2) rest)) same has.1.1 in
         let long = length-append effects.commands (n ∷ []) in
-        let onward = block_leads rest (place + 2) values (followed effects queued) fits.1 there (omega (arith, room)) (omega (arith, more, long)) in
+        let onward = block_leads rest (place + 2) values (followed effects queued) fits.1 there (omega (arith, room)) frames (omega (arith, more, long)) in
         two_rows place values effects queued (reached facts rest) (Command n) (block_cost coder facts rest) (code_size coder rest) push queue onward
-    block_leads (WantThen n rest) place values effects fits has room more =
+    block_leads (WantThen n rest) place values effects fits has room frames more =
         let wished : Effects = record { commands = []; wish = Some n } in
         let push = state_row image facts routine callers place values effects n has.0 fits.0 (omega (arith, room)) in
         let want = want_row image facts routine callers (place + 1) values effects n has.1.0 in
         let same : place + 1 + 1 ≡ place + 2 = omega arith in
         let there = subst (λ p. HasAt (code_of image routine) p (block_code coder (place + 2) rest)) same has.1.1 in
         let long = length-append effects.commands [] in
-        let onward = block_leads rest (place + 2) values (followed effects wished) fits.1 there (omega (arith, room)) (omega (arith, more, long)) in
+        let onward = block_leads rest (place + 2) values (followed effects wished) fits.1 there (omega (arith, room)) frames (omega (arith, more, long)) in
         two_rows place values effects wished (reached facts rest) (StateName n) (block_cost coder facts rest) (code_size coder rest) push want onward
-    block_leads (IfThen c inner rest) place values effects fits has room more =
+    block_leads (IfThen c inner rest) place values effects fits has room frames more =
         let code = code_of image routine in
         let at = place + coder.size c in
         let from = at + 1 in
@@ -197,18 +198,18 @@ module _ (image : ImageParts) (facts : Facts) (coder : Coder) where
         let codes = block_code coder from inner ++ block_code coder past rest in
         let b = truth facts c in
         let chosen = if b then reached facts inner else nothing_yet in
-        let tested = computes.leads c routine callers place values effects fits.0 (has_left code place (coder.code c) (JumpFalse past ∷ codes) has) (omega (arith, room)) in
+        let tested = computes.leads c routine callers place values effects fits.0 (has_left code place (coder.code c) (JumpFalse past ∷ codes) has) (omega (arith, room)) frames in
         let jump = has_right code place (coder.code c) (JumpFalse past ∷ codes) at (ap (λ n. place + n) (computes.sized c)) has in
-        let inside = block_leads inner from values effects fits.1 (has_left code from (block_code coder from inner) (block_code coder past rest) jump.1) (omega (arith, room)) (omega (arith, more)) in
+        let inside = block_leads inner from values effects fits.1 (has_left code from (block_code coder from inner) (block_code coder past rest) jump.1) (omega (arith, room)) frames (omega (arith, more)) in
         let there = has_right code from (block_code coder from inner) (block_code coder past rest) past (ap (λ n. from + n) (block_sized coder computes.sized from inner)) jump.1 in
         let choice = chosen_leads b at past (block_cost coder facts inner) values effects (reached facts inner) jump.0 inside in
         let few = chosen_within b (reached facts inner) (block_runs inner) (reached_within inner) in
         let long = length-append effects.commands chosen.commands in
-        let onward = block_leads rest past values (followed effects chosen) fits.2 there (omega (arith, room)) (omega (arith, more, long, few)) in
+        let onward = block_leads rest past values (followed effects chosen) fits.2 there (omega (arith, room)) frames (omega (arith, more, long, few)) in
         at_place image facts routine callers _ _ _ _ _ values _
         (both_lead _ _ _ _ _ values effects chosen (reached facts rest) (then_leads image facts routine callers _ _ _ _ _ tested choice) onward)
         (omega arith) (omega arith)
 
 pub blocks_run : BlockRuns
-blocks_run image facts coder routine callers block place values effects computes fits has room more =
-    block_leads image facts coder computes routine callers block place values effects fits has room more
+blocks_run image facts coder routine callers block place values effects computes fits has room frames more =
+    block_leads image facts coder computes routine callers block place values effects fits has room frames more

@@ -14,6 +14,7 @@ use Rattle.ifs_policy.specs.declared.front.PolicyFault.TheVariants as fronting
 use Rattle.ifs_image.specs.declared.parts.TestSpec.{TestSpec}
 use Rattle.ifs_image.specs.declared.parts.ImageParts.{ImageParts}
 use Rattle.ifs_image.specs.Limits.{names_of}
+use Rattle.ifs_base.specs.Spelling.{IsReadBack}
 use Rattle.ifs_image.specs.Spelling as image
 use Rattle.ifs_verify.specs.Accepted.{IsAccepted}
 use Rattle.ifs_verify.specs.Refused.{AreNotAccepted}
@@ -21,7 +22,8 @@ use Rattle.ifs_verify.specs.declared.fault.VerifyFault.{VerifyFault}
 use Rattle.ifs_verify.specs.declared.fault.VerifyFault.TheVariants as verifying
 use Rattle.ifs_core.specs.Headline.{AcceptedIsKept}
 use Rattle.ifs_gen.specs.Trees.{Part, Policy, External}
-use Rattle.ifs_gen.specs.PlainImage.{test_count, states_from, plain_image, CodeFits}
+use Rattle.ifs_gen.specs.PlainSizes.{test_count, CodeFits}
+use Rattle.ifs_gen.specs.PolicyImage.{states_from, shared_of, image_of}
 use Rattle.ifs_gen.specs.Compiled.{MeansPolicy, TextsMeanTheirPolicy, IsCompiled, Compiles}
 use Rattle.ifs_gen.specs.Compiled.{IsCompileRefusal, IsWritten, IsCodeRefusal, of_policy, of_code}
 use Rattle.ifs_gen.specs.Refused.{PassesFirst}
@@ -30,7 +32,7 @@ use Rattle.ifs_gen.specs.declared.compile_fault.CompileFault.TheVariants as comp
 use Rattle.ifs_gen.specs.declared.compile_fault.CompileFault.TheVariants.{Memory}
 use Rattle.ifs_gen.specs.declared.fault.GenFault.{GenFault}
 use Rattle.ifs_gen.specs.declared.fault.GenFault.TheVariants as generating
-use Rattle.ifs_gen.proofs.Accepting.{plain_is_accepted}
+use Rattle.ifs_gen.proofs.Limits.{plain_is_accepted}
 use Rattle.ifs_gen.proofs.Lifting as lifting
 use Rattle.ifs_gen.proofs.Refusing.{does_not_fit}
 
@@ -51,10 +53,10 @@ pub not_certain : {A B : Type 0} (it : A) (fault : PolicyFault) → answered it 
 not_certain it fault e = absurd (cc)
 
 -- the names of states stand in the image as in the policy
-state_names : (count k : ℕ) (names : List (List ℕ)) (parts : List Part) → length parts ≡ length names → names_of (states_from count k names parts) ≡ names
-state_names count k [] parts e = refl
-state_names count k (x ∷ names) [] e = absurd (omega (arith, e))
-state_names count k (x ∷ names) (part ∷ parts) e = ap (λ (l : List (List ℕ)). x ∷ l) (state_names count (k + 1) names parts (omega (arith, e)))
+state_names : (shared count k : ℕ) (names : List (List ℕ)) (parts : List Part) → length parts ≡ length names → names_of (states_from shared count k names parts) ≡ names
+state_names shared count k [] parts e = refl
+state_names shared count k (x ∷ names) [] e = absurd (omega (arith, e))
+state_names shared count k (x ∷ names) (part ∷ parts) e = ap (λ (l : List (List ℕ)). x ∷ l) (state_names shared count (k + 1) names parts (omega (arith, e)))
 
 -- The laws of the crates below.
 abbrev pub OneList : Type 0
@@ -101,30 +103,30 @@ only_memory bytes parts spelled accepted (verifying.CostOver at) refuses = absur
 only_memory bytes parts spelled accepted (verifying.CommandsOver at) refuses = absurd (refuses (λ k. absurd (cc)) parts spelled accepted)
 only_memory bytes parts spelled accepted (verifying.HandlerLeaves at) refuses = absurd (refuses (λ k. absurd (cc)) parts spelled accepted)
 
-pub means : AcceptedIsKept → OneImage → (policy : Policy) → PolicyFits policy → CodeFits policy → (bytes : List ℕ) → image.Spells bytes (plain_image policy) → MeansPolicy bytes policy
-means kept one_image policy is code bytes spelled =
-    let a = plain_is_accepted policy is code in
+pub means : IsReadBack → AcceptedIsKept → OneImage → (policy : Policy) → PolicyFits policy → CodeFits policy → (bytes : List ℕ) → image.Spells bytes (image_of policy) → MeansPolicy bytes policy
+means back kept one_image policy is code bytes spelled =
+    let a = plain_is_accepted back policy is code in
     record {
       verified = record { spelled = spelled; accepted = a.0 };
-      only = λ other h. one_image bytes other (plain_image policy) h spelled;
-      refused = only_memory bytes (plain_image policy) spelled a.0;
+      only = λ other h. one_image bytes other (image_of policy) h spelled;
+      refused = only_memory bytes (image_of policy) spelled a.0;
       names = record {
         interfaces = refl;
         tests = map-map (λ (test : TestSpec). test.text) (λ (test : External). record { period = test.period; text = test.command }) policy.tables.tests;
         periods = map-map (λ (test : TestSpec). test.period) (λ (test : External). record { period = test.period; text = test.command }) policy.tables.tests;
         commands = refl;
-        states = state_names (test_count policy) 1 policy.tables.states policy.states is.count;
+        states = state_names (length (shared_of policy)) (test_count policy) 1 policy.tables.states policy.states is.count;
         initial = refl;
       };
       room = refl;
-      behaviour = (kept (plain_image policy) a.0 a.1).behaviour;
-      runs = lifting.image_means_policy kept policy is code;
+      behaviour = (kept (image_of policy) a.0 a.1).behaviour;
+      runs = lifting.image_means_policy back kept policy is code;
     }
 
-pub texts_mean : OneList → OneTree → OnePolicy → PoliciesFit → OneImage → AcceptedIsKept → TextsMeanTheirPolicy
-texts_mean one_list one_tree one_policy fit one_image kept text defs policy h = record {
+pub texts_mean : IsReadBack → OneList → OneTree → OnePolicy → PoliciesFit → OneImage → AcceptedIsKept → TextsMeanTheirPolicy
+texts_mean back one_list one_tree one_policy fit one_image kept text defs policy h = record {
   one = λ other k. one_of_text one_list one_tree one_policy text defs policy other h k;
-  means = λ code bytes spelled. means kept one_image policy (is_policy fit text defs policy h) code bytes spelled;
+  means = λ code bytes spelled. means back kept one_image policy (is_policy fit text defs policy h) code bytes spelled;
 }
 
 -- What stops the compiler.

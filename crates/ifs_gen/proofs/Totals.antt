@@ -9,16 +9,16 @@ use Rattle.ifs_gen.specs.declared.fault.GenFault.{GenFault}
 use Rattle.ifs_gen.specs.declared.fault.GenFault.TheVariants.{RoutineTooLong, CodeTooLong}
 use Rattle.ifs_gen.specs.declared.fault.GenFault.TheVariants.{StackTooHigh, TooManyCommands, Memory}
 use Rattle.ifs_gen.specs.declared.amounts.PartMeasure.{PartMeasure}
+use Rattle.ifs_gen.specs.declared.amounts.Bounds.{Bounds}
 use Rattle.ifs_gen.specs.declared.amounts.Amount.{Amount}
 use Rattle.ifs_gen.specs.declared.amounts.Amount.TheVariants.{Size, Height, Runs}
 use Rattle.ifs_gen.specs.inner.Amounts.{amount_in, numbers_of, measured, most_of_inits}
-use Rattle.ifs_gen.specs.inner.Amounts.{most_of_bodies, event_in, budgets_in, AreFine}
+use Rattle.ifs_gen.specs.inner.Amounts.{most_of_bodies, event_in, bounds_in, plain_bounds, AreFine}
 use Rattle.ifs_gen.specs.inner.Measures.{capped}
-use Rattle.ifs_image.specs.declared.parts.Budgets.{Budgets}
 use Rattle.ifs_gen.specs.Trees.{Part, Policy}
 use Rattle.ifs_gen.specs.PlainCode.{plain_coder, block_height, block_runs}
-use Rattle.ifs_gen.specs.PlainImage.{test_count, parts_of, greatest, number_in, event_total, init_length}
-use Rattle.ifs_gen.specs.PlainImage.{body_length, part_height, room_of, least_budgets, CodeFits}
+use Rattle.ifs_gen.specs.PlainSizes.{test_count, parts_of, greatest, number_in, event_total, init_length}
+use Rattle.ifs_gen.specs.PlainSizes.{body_length, part_height, room_of, CodeFits}
 use Rattle.ifs_gen.specs.Refused.{lengths_of, heights_of, lengths, heights}
 use Rattle.ifs_gen.specs.Refused.{AreWithin, IsFirstOver, IsPassed, PassesFirst}
 use Rattle.ifs_gen.proofs.Refusing.{one_later, each_fits, heights_fit, sums_agree}
@@ -104,14 +104,15 @@ event_low amount limit (m ∷ ms) initial h =
     let first = number_low amount ms initial in
     omega (arith, inits, bodies, first)
 
-pub budgets_are : (s height cost costs runs commands : ℕ) → s ≡ height → cost ≡ capped costs → costs ≤ 3 * 1024 → runs ≡ capped commands → runs ≤ 64
-    → (let x : Budgets = record { stack = s; frames = 1; cost = cost; commands = runs } in let y : Budgets = record { stack = height; frames = 1; cost = costs; commands = commands } in x ≡ y)
-budgets_are s height cost costs runs commands same cost_is low runs_is few =
-    let one : cost ≡ costs = omega (arith, cost_is, low) in
+bounds_same : (s height runs commands : ℕ) → s ≡ height → runs ≡ commands
+    → (let x : Bounds = record { stack = s; commands = runs } in let y : Bounds = record { stack = height; commands = commands } in x ≡ y)
+bounds_same s height runs commands same two = λ i. record { stack = same i; commands = two i }
+
+pub bounds_are : (s height runs commands : ℕ) → s ≡ height → runs ≡ capped commands → runs ≤ 64
+    → (let x : Bounds = record { stack = s; commands = runs } in let y : Bounds = record { stack = height; commands = commands } in x ≡ y)
+bounds_are s height runs commands same runs_is few =
     let two : runs ≡ commands = omega (arith, runs_is, few) in
-    ap (λ n. let x : Budgets = record { stack = n; frames = 1; cost = cost; commands = runs } in x) same
-    ∙ ap (λ n. let x : Budgets = record { stack = height; frames = 1; cost = n; commands = runs } in x) one
-    ∙ ap (λ n. let x : Budgets = record { stack = height; frames = 1; cost = costs; commands = n } in x) two
+    bounds_same s height runs commands same two
 
 -- Measures of a policy's parts, and the policy.
 inits_are : (amount : Amount) (count : ℕ) (number : Part → ℕ) → ((part : Part) → amount_in amount (measured count part).init ≡ capped (number part))
@@ -195,13 +196,6 @@ part_greatest : (parts : List Part) → greatest part_height parts ≡ max (grea
 part_greatest [] = omega arith
 part_greatest (x ∷ parts) = let h = part_greatest parts in omega (arith, h)
 
-budgets_same : (s height cost costs runs commands : ℕ) → s ≡ height → cost ≡ costs → runs ≡ commands
-    → (let x : Budgets = record { stack = s; frames = 1; cost = cost; commands = runs } in let y : Budgets = record { stack = height; frames = 1; cost = costs; commands = commands } in x ≡ y)
-budgets_same s height cost costs runs commands same one two =
-    ap (λ n. let x : Budgets = record { stack = n; frames = 1; cost = cost; commands = runs } in x) same
-    ∙ ap (λ n. let x : Budgets = record { stack = height; frames = 1; cost = n; commands = runs } in x) one
-    ∙ ap (λ n. let x : Budgets = record { stack = height; frames = 1; cost = costs; commands = n } in x) two
-
 module _ (policy : Policy) where
   abbrev measures : List PartMeasure
   measures = map (measured (test_count policy)) (parts_of policy)
@@ -211,9 +205,6 @@ module _ (policy : Policy) where
 
   tall : numbers_of Height measures ≡ map capped (heights policy)
   tall = heights_are (test_count policy) (parts_of policy)
-
-  costs : capped (event_in Size measures policy.initial.0) ≡ capped (event_total init_length (body_length (test_count policy)) policy)
-  costs = event_is Size policy init_length (body_length (test_count policy)) (λ part. refl) (λ part. refl)
 
   runs : capped (event_in Runs measures policy.initial.0) ≡ capped (room_of policy)
   runs = event_is Runs policy (λ part. block_runs part.init) (λ part. block_runs part.body) (λ part. refl) (λ part. refl)
@@ -241,8 +232,8 @@ module _ (policy : Policy) where
         room = omega (arith, room, r);
       }
 
-  pub least : AreFine measures policy.initial.0 → budgets_in measures policy.initial.0 ≡ least_budgets policy
-  least fine =
+  pub settled : AreFine measures policy.initial.0 → bounds_in measures policy.initial.0 ≡ plain_bounds policy
+  settled fine =
       let count = test_count policy in
       let parts = parts_of policy in
       let inits = inits_are Height count (λ part. block_height plain_coder part.init) (λ part. refl) parts in
@@ -251,13 +242,10 @@ module _ (policy : Policy) where
       let bodies_within = bodies_low Height 32 measures fine.heights in
       let both = part_greatest parts in
       let stack : max (most_of_inits Height measures) (most_of_bodies Height measures) ≡ greatest part_height parts = omega (arith, inits, bodies, inits_within, bodies_within, both) in
-      let cost_low = event_low Size 1024 measures policy.initial.0 fine.each in
-      let c = costs in
-      let cost : event_in Size measures policy.initial.0 ≡ event_total init_length (body_length count) policy = omega (arith, cost_low, c) in
       let room = fine.room in
       let r = runs in
       let commands : event_in Runs measures policy.initial.0 ≡ room_of policy = omega (arith, room, r) in
-      budgets_same _ _ _ _ _ _ stack cost commands
+      bounds_same _ _ _ _ stack commands
 
   pub passed : (fault : GenFault) → IsPassed (numbers_of Size measures) (numbers_of Height measures) (event_in Runs measures policy.initial.0) fault → PassesFirst policy fault
   passed (RoutineTooLong routine) h = first_uncapped 1024 (lengths policy) routine.0 (omega arith) (subst (λ l. IsFirstOver 1024 l routine.0) sizes h)

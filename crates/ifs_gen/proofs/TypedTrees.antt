@@ -1,45 +1,39 @@
--- The kinds at each place of plain code, with which its instructions are fine.
+-- The kinds at each place of the plain code of conditions, and of what holds a body back, with which its instructions are fine.
 use Rattle.std.proofs.Common.{◌≡◌, ℕ, suc, ◌+◌, ◌*◌, ◌<◌, ◌≤◌, inl, ⊎_elim, List, [], ◌∷◌, ◌++◌}
 use Rattle.std.proofs.Common.{length, Some, None, refl, sym, ap, ◌∙◌, subst, arith, length-append}
 use Rattle.std.proofs.lemmas.Option.{none-some, same_Some}
 use Rattle.ifs_base.specs.declared.ids.TestId.{TestId}
 use Rattle.ifs_base.specs.declared.op.Kind.{Kind}
-use Rattle.ifs_base.specs.declared.op.Kind.TheVariants.{Truth, Command, StateName}
+use Rattle.ifs_base.specs.declared.op.Kind.TheVariants.{Truth}
 use Rattle.ifs_base.specs.declared.op.Op.{Op}
-use Rattle.ifs_base.specs.declared.op.Op.TheVariants.{Link, Test, Known, Negate, Both, Either, PushCommand}
-use Rattle.ifs_base.specs.declared.op.Op.TheVariants.{PushState, Queue, Want, JumpFalse, Call}
+use Rattle.ifs_base.specs.declared.op.Op.TheVariants.{Link, Test, Known, Negate, Both, Either}
+use Rattle.ifs_base.specs.declared.op.Op.TheVariants.{JumpFalse, Call}
 use Rattle.ifs_image.specs.declared.parts.ImageParts.{ImageParts}
 use Rattle.ifs_image.specs.Code.{IsSuccessor, target_of, effect}
 use Rattle.ifs_verify.specs.Rules.{HasOperand}
 use Rattle.ifs_base.specs.declared.ids.RoutineId.{RoutineId}
-use Rattle.ifs_gen.specs.Trees.{LinkIs, TestIs, Condition, Leaf, NotSo, And, Or, Block, Done, RunThen, WantThen, IfThen}
+use Rattle.ifs_gen.specs.Trees.{LinkIs, TestIs, Condition, Leaf, NotSo, And, Or}
 use Rattle.ifs_parse.specs.Trees.{condition_size}
-use Rattle.ifs_gen.specs.PlainCode.{plain_coder, condition_code, condition_height}
-use Rattle.ifs_gen.specs.PlainCode.{block_code, code_size, block_height, held_code}
-use Rattle.ifs_policy.specs.Fits.{ConditionFits, BlockFits}
+use Rattle.ifs_gen.specs.PlainCode.{condition_code, condition_height}
+use Rattle.ifs_gen.specs.PlainCode.{held_code}
+use Rattle.ifs_policy.specs.Fits.{ConditionFits}
 use Rattle.ifs_gen.specs.Runs.{image_sizes}
-use Rattle.ifs_gen.proofs.Simulation.{condition_sized, condition_high, block_sized}
+use Rattle.ifs_gen.proofs.Simulation.{condition_sized, condition_high}
 use Rattle.ifs_gen.proofs.Mentions.{EachBelow, HasRoomFor, room_any}
-use Rattle.ifs_gen.proofs.Fine.{IsFine, AreFine, fine_append}
+use Rattle.ifs_gen.proofs.Fine.{Callees, IsFine, AreFine, fine_append}
 
--- The kinds at each place of a condition's code that begins with these, and of a block's, and of what holds a body back.
+-- The kinds at each place of a condition's code that begins with these, and of what holds a body back.
 abbrev pub condition_kinds : List Kind → Condition → List (List Kind)
 condition_kinds below (Leaf single) = below ∷ []
 condition_kinds below (NotSo c) = condition_kinds below c ++ (Truth ∷ below) ∷ []
 condition_kinds below (And a b) = condition_kinds below a ++ (condition_kinds (Truth ∷ below) b ++ (Truth ∷ Truth ∷ below) ∷ [])
 condition_kinds below (Or a b) = condition_kinds below a ++ (condition_kinds (Truth ∷ below) b ++ (Truth ∷ Truth ∷ below) ∷ [])
 
-abbrev pub block_kinds : Block → List (List Kind)
-block_kinds Done = []
-block_kinds (RunThen n rest) = [] ∷ (Command ∷ []) ∷ block_kinds rest
-block_kinds (WantThen n rest) = [] ∷ (StateName ∷ []) ∷ block_kinds rest
-block_kinds (IfThen c inner rest) = condition_kinds [] c ++ ((Truth ∷ []) ∷ (block_kinds inner ++ block_kinds rest))
-
 abbrev pub held_kinds : List TestId → List (List Kind)
 held_kinds [] = []
 held_kinds (test ∷ tests) = [] ∷ (Truth ∷ []) ∷ held_kinds tests
 
-kinds_sized : (below : List Kind) (c : Condition) → length (condition_kinds below c) ≡ condition_size c
+pub kinds_sized : (below : List Kind) (c : Condition) → length (condition_kinds below c) ≡ condition_size c
 kinds_sized below (Leaf single) = refl
 kinds_sized below (NotSo c) = length-append (condition_kinds below c) ((Truth ∷ below) ∷ []) ∙ ap (λ n. n + 1) (kinds_sized below c)
 kinds_sized below (And a b) =
@@ -51,20 +45,11 @@ kinds_sized below (Or a b) =
     let f = length-append (condition_kinds (Truth ∷ below) b) ((Truth ∷ Truth ∷ below) ∷ []) in
     omega (arith, e, f, kinds_sized below a, kinds_sized (Truth ∷ below) b)
 
-pub block_kinds_sized : (block : Block) → length (block_kinds block) ≡ code_size plain_coder block
-block_kinds_sized Done = refl
-block_kinds_sized (RunThen n rest) = let e = block_kinds_sized rest in omega (arith, e)
-block_kinds_sized (WantThen n rest) = let e = block_kinds_sized rest in omega (arith, e)
-block_kinds_sized (IfThen c inner rest) =
-    let e = length-append (condition_kinds [] c) ((Truth ∷ []) ∷ (block_kinds inner ++ block_kinds rest)) in
-    let f = length-append (block_kinds inner) (block_kinds rest) in
-    omega (arith, e, f, kinds_sized [] c, block_kinds_sized inner, block_kinds_sized rest)
-
 pub held_kinds_sized : (tests : List TestId) → length (held_kinds tests) ≡ 2 * length tests
 held_kinds_sized [] = refl
 held_kinds_sized (test ∷ tests) = let e = held_kinds_sized tests in omega (arith, e)
 
-module _ (image : ImageParts) (kinds : ℕ → List Kind) (height end : ℕ) where
+module _ (kinds : ℕ → List Kind) where
   -- These stand at a place and those after it.
   abbrev pub HasKinds : ℕ → List (List Kind) → Type 0
   HasKinds place [] = Unit {0}
@@ -78,10 +63,17 @@ module _ (image : ImageParts) (kinds : ℕ → List Kind) (height end : ℕ) whe
   kinds_right place [] ys from e h = let same : place ≡ from = omega (arith, e) in subst (λ p. HasKinds p ys) same h
   kinds_right place (x ∷ xs) ys from e h = kinds_right (place + 1) xs ys from (omega (arith, e)) h.1
 
+  pub condition_starts : (c : Condition) (place : ℕ) (below : List Kind) → HasKinds place (condition_kinds below c) → kinds place ≡ below
+  condition_starts (Leaf single) place below h = h.0
+  condition_starts (NotSo c) place below h = condition_starts c place below (kinds_left place (condition_kinds below c) ((Truth ∷ below) ∷ []) h)
+  condition_starts (And a b) place below h = condition_starts a place below (kinds_left place (condition_kinds below a) (condition_kinds (Truth ∷ below) b ++ (Truth ∷ Truth ∷ below) ∷ []) h)
+  condition_starts (Or a b) place below h = condition_starts a place below (kinds_left place (condition_kinds below a) (condition_kinds (Truth ∷ below) b ++ (Truth ∷ Truth ∷ below) ∷ []) h)
+
+module _ (image : ImageParts) (callees : Callees) (kinds : ℕ → List Kind) (height end : ℕ) where
   -- an instruction that goes on at the next place alone
-  falls_on : (place : ℕ) (op : Op) (before after : List Kind) → HasOperand image op → kinds place ≡ before → kinds (place + 1) ≡ after → effect image op before ≡ Some after
-      → ((to : ℕ) → IsSuccessor op place to → to ≡ place + 1) → target_of op ≡ None → IsSuccessor op place (place + 1) → ((callee : RoutineId) → op ≡ Call callee → ⊥)
-      → length before ≤ height → length after ≤ height → IsFine image kinds height end place op
+  pub falls_on : (place : ℕ) (op : Op) (before after : List Kind) → HasOperand image op → kinds place ≡ before → kinds (place + 1) ≡ after → effect image op before ≡ Some after
+      → ((to : ℕ) → IsSuccessor op place to → to ≡ place + 1) → target_of op ≡ None → IsSuccessor op place (place + 1) → ((callee : RoutineId) → op ≡ Call callee → (callee.0 < callees.count) × (length before + callees.height callee.0 ≤ height))
+      → length before ≤ height → length after ≤ height → IsFine image callees kinds height end place op
   falls_on place op before after known at next e alone none falls call low high =
       let low_is = ap length at in
       record {
@@ -91,14 +83,14 @@ module _ (image : ImageParts) (kinds : ℕ → List Kind) (height end : ℕ) whe
         onward = λ to successor. ap kinds (alone to successor) ∙ next;
         jumps = λ target t. absurd (none-some target (sym none ∙ t));
         falls = falls;
-        no_call = call;
+        call = λ callee e. let c = call callee e in let low = c.1 in (c.0, omega (arith, low, low_is));
         low = omega (arith, low_is, low);
         high = high;
       }
 
   -- a jump that leads on from a truth to a later place, where nothing stands either
-  jumps_on : (place target : ℕ) → kinds place ≡ Truth ∷ [] → kinds (place + 1) ≡ [] → kinds target ≡ [] → place < target → target ≤ end → 1 ≤ height
-      → IsFine image kinds height end place (JumpFalse target)
+  pub jumps_on : (place target : ℕ) → kinds place ≡ Truth ∷ [] → kinds (place + 1) ≡ [] → kinds target ≡ [] → place < target → target ≤ end → 1 ≤ height
+      → IsFine image callees kinds height end place (JumpFalse target)
   jumps_on place target at next there later within room =
       let low_is = ap length at in
       record {
@@ -108,37 +100,31 @@ module _ (image : ImageParts) (kinds : ℕ → List Kind) (height end : ℕ) whe
         onward = λ to successor. ⊎_elim (λ e. ap kinds e ∙ next) (λ e. ap kinds e ∙ there) successor;
         jumps = λ other t. let same = same_Some target other t in (omega (arith, same, later), omega (arith, same, within));
         falls = inl refl;
-        no_call = λ callee e. cc;
+        call = λ callee e. cc;
         low = omega (arith, low_is, room);
         high = omega arith;
       }
 
-  condition_starts : (c : Condition) (place : ℕ) (below : List Kind) → HasKinds place (condition_kinds below c) → kinds place ≡ below
-  condition_starts (Leaf single) place below h = h.0
-  condition_starts (NotSo c) place below h = condition_starts c place below (kinds_left place (condition_kinds below c) ((Truth ∷ below) ∷ []) h)
-  condition_starts (And a b) place below h = condition_starts a place below (kinds_left place (condition_kinds below a) (condition_kinds (Truth ∷ below) b ++ (Truth ∷ Truth ∷ below) ∷ []) h)
-  condition_starts (Or a b) place below h = condition_starts a place below (kinds_left place (condition_kinds below a) (condition_kinds (Truth ∷ below) b ++ (Truth ∷ Truth ∷ below) ∷ []) h)
-
   -- the two operands of a sign, and the sign
-  two_fine : (a b : Condition) (op : Op) (place : ℕ) (below : List Kind) → AreFine image kinds height end place (condition_code a)
-      → AreFine image kinds height end (place + condition_size a) (condition_code b) → IsFine image kinds height end (place + condition_size a + condition_size b) op
-      → AreFine image kinds height end place (condition_code a ++ (condition_code b ++ op ∷ []))
+  two_fine : (a b : Condition) (op : Op) (place : ℕ) (below : List Kind) → AreFine image callees kinds height end place (condition_code a)
+      → AreFine image callees kinds height end (place + condition_size a) (condition_code b) → IsFine image callees kinds height end (place + condition_size a + condition_size b) op
+      → AreFine image callees kinds height end place (condition_code a ++ (condition_code b ++ op ∷ []))
   two_fine a b op place below first second last =
-      fine_append image kinds height end place (condition_code a) (condition_code b ++ op ∷ []) (place + condition_size a) (ap (λ n. place + n) (condition_sized a)) first
-      (fine_append image kinds height end (place + condition_size a) (condition_code b) (op ∷ []) (place + condition_size a + condition_size b) (ap (λ n. place + condition_size a + n) (condition_sized b)) second (last, tt))
+      fine_append image callees kinds height end place (condition_code a) (condition_code b ++ op ∷ []) (place + condition_size a) (ap (λ n. place + n) (condition_sized a)) first
+      (fine_append image callees kinds height end (place + condition_size a) (condition_code b) (op ∷ []) (place + condition_size a + condition_size b) (ap (λ n. place + condition_size a + n) (condition_sized b)) second (last, tt))
 
-  condition_fine : (c : Condition) (place : ℕ) (below : List Kind) → HasKinds place (condition_kinds below c) → kinds (place + condition_size c) ≡ Truth ∷ below
-      → ConditionFits (image_sizes image) c → condition_height c + length below ≤ height → AreFine image kinds height end place (condition_code c)
+  pub condition_fine : (c : Condition) (place : ℕ) (below : List Kind) → HasKinds kinds place (condition_kinds below c) → kinds (place + condition_size c) ≡ Truth ∷ below
+      → ConditionFits (image_sizes image) c → condition_height c + length below ≤ height → AreFine image callees kinds height end place (condition_code c)
   condition_fine (Leaf (LinkIs n s)) place below has next fits room =
       (falls_on place (Link n s) below (Truth ∷ below) fits has.0 next refl (λ to e. e) refl refl (λ callee e. cc) (omega (arith, room)) (omega (arith, room)), tt)
   condition_fine (Leaf (TestIs n)) place below has next fits room =
       (falls_on place (Test n) below (Truth ∷ below) fits has.0 next refl (λ to e. e) refl refl (λ callee e. cc) (omega (arith, room)) (omega (arith, room)), tt)
   condition_fine (NotSo c) place below has next fits room =
       let high = condition_high c in
-      let mid = kinds_right place (condition_kinds below c) ((Truth ∷ below) ∷ []) (place + condition_size c) (ap (λ n. place + n) (kinds_sized below c)) has in
+      let mid = kinds_right kinds place (condition_kinds below c) ((Truth ∷ below) ∷ []) (place + condition_size c) (ap (λ n. place + n) (kinds_sized below c)) has in
       let same : place + (condition_size c + 1) ≡ place + condition_size c + 1 = omega arith in
-      let inner = condition_fine c place below (kinds_left place (condition_kinds below c) ((Truth ∷ below) ∷ []) has) mid.0 fits room in
-      fine_append image kinds height end place (condition_code c) (Negate ∷ []) (place + condition_size c) (ap (λ n. place + n) (condition_sized c)) inner
+      let inner = condition_fine c place below (kinds_left kinds place (condition_kinds below c) ((Truth ∷ below) ∷ []) has) mid.0 fits room in
+      fine_append image callees kinds height end place (condition_code c) (Negate ∷ []) (place + condition_size c) (ap (λ n. place + n) (condition_sized c)) inner
       (falls_on (place + condition_size c) Negate (Truth ∷ below) (Truth ∷ below) tt mid.0 (sym (ap kinds same) ∙ next) refl (λ to e. e) refl refl (λ callee e. cc) (omega (arith, room, high)) (omega (arith, room, high)), tt)
   condition_fine (And a b) place below has next fits room =
       let high = condition_high b in
@@ -146,11 +132,11 @@ module _ (image : ImageParts) (kinds : ℕ → List Kind) (height end : ℕ) whe
       let kb = condition_kinds (Truth ∷ below) b in
       let last = (Truth ∷ Truth ∷ below) ∷ [] in
       let at = place + condition_size a in
-      let rest = kinds_right place ka (kb ++ last) at (ap (λ n. place + n) (kinds_sized below a)) has in
-      let right = kinds_left at kb last rest in
-      let mid = kinds_right at kb last (at + condition_size b) (ap (λ n. at + n) (kinds_sized (Truth ∷ below) b)) rest in
+      let rest = kinds_right kinds place ka (kb ++ last) at (ap (λ n. place + n) (kinds_sized below a)) has in
+      let right = kinds_left kinds at kb last rest in
+      let mid = kinds_right kinds at kb last (at + condition_size b) (ap (λ n. at + n) (kinds_sized (Truth ∷ below) b)) rest in
       let same : place + (condition_size a + condition_size b + 1) ≡ place + condition_size a + condition_size b + 1 = omega arith in
-      let first = condition_fine a place below (kinds_left place ka (kb ++ last) has) (condition_starts b at (Truth ∷ below) right) fits.0 (omega (arith, room)) in
+      let first = condition_fine a place below (kinds_left kinds place ka (kb ++ last) has) (condition_starts kinds b at (Truth ∷ below) right) fits.0 (omega (arith, room)) in
       let second = condition_fine b at (Truth ∷ below) right mid.0 fits.1 (omega (arith, room)) in
       two_fine a b Both place below first second
       (falls_on (at + condition_size b) Both (Truth ∷ Truth ∷ below) (Truth ∷ below) tt mid.0 (sym (ap kinds same) ∙ next) refl (λ to e. e) refl refl (λ callee e. cc) (omega (arith, room, high)) (omega (arith, room, high)))
@@ -160,114 +146,54 @@ module _ (image : ImageParts) (kinds : ℕ → List Kind) (height end : ℕ) whe
       let kb = condition_kinds (Truth ∷ below) b in
       let last = (Truth ∷ Truth ∷ below) ∷ [] in
       let at = place + condition_size a in
-      let rest = kinds_right place ka (kb ++ last) at (ap (λ n. place + n) (kinds_sized below a)) has in
-      let right = kinds_left at kb last rest in
-      let mid = kinds_right at kb last (at + condition_size b) (ap (λ n. at + n) (kinds_sized (Truth ∷ below) b)) rest in
+      let rest = kinds_right kinds place ka (kb ++ last) at (ap (λ n. place + n) (kinds_sized below a)) has in
+      let right = kinds_left kinds at kb last rest in
+      let mid = kinds_right kinds at kb last (at + condition_size b) (ap (λ n. at + n) (kinds_sized (Truth ∷ below) b)) rest in
       let same : place + (condition_size a + condition_size b + 1) ≡ place + condition_size a + condition_size b + 1 = omega arith in
-      let first = condition_fine a place below (kinds_left place ka (kb ++ last) has) (condition_starts b at (Truth ∷ below) right) fits.0 (omega (arith, room)) in
+      let first = condition_fine a place below (kinds_left kinds place ka (kb ++ last) has) (condition_starts kinds b at (Truth ∷ below) right) fits.0 (omega (arith, room)) in
       let second = condition_fine b at (Truth ∷ below) right mid.0 fits.1 (omega (arith, room)) in
       two_fine a b Either place below first second
       (falls_on (at + condition_size b) Either (Truth ∷ Truth ∷ below) (Truth ∷ below) tt mid.0 (sym (ap kinds same) ∙ next) refl (λ to e. e) refl refl (λ callee e. cc) (omega (arith, room, high)) (omega (arith, room, high)))
 
-  pub block_starts : (block : Block) (place : ℕ) → HasKinds place (block_kinds block) → kinds (place + code_size plain_coder block) ≡ [] → kinds place ≡ []
-  block_starts Done place has next = let same : place + 0 ≡ place = omega arith in sym (ap kinds same) ∙ next
-  block_starts (RunThen n rest) place has next = has.0
-  block_starts (WantThen n rest) place has next = has.0
-  block_starts (IfThen c inner rest) place has next =
-      condition_starts c place [] (kinds_left place (condition_kinds [] c) ((Truth ∷ []) ∷ (block_kinds inner ++ block_kinds rest)) has)
-
-  -- a value is pushed and used up
-  two_steps : (place : ℕ) (push takes : Op) (kind : Kind) (rest : Block) → HasKinds place ([] ∷ (kind ∷ []) ∷ block_kinds rest)
-      → (kinds place ≡ [] → kinds (place + 1) ≡ kind ∷ [] → IsFine image kinds height end place push)
-      → (kinds (place + 1) ≡ kind ∷ [] → kinds (place + 1 + 1) ≡ [] → IsFine image kinds height end (place + 1) takes)
-      → kinds (place + 2 + code_size plain_coder rest) ≡ [] → AreFine image kinds height end (place + 2) (block_code plain_coder (place + 2) rest)
-      → AreFine image kinds height end place (push ∷ takes ∷ block_code plain_coder (place + 2) rest)
-  two_steps place push takes kind rest has first second next onward =
-      let same : place + 2 ≡ place + 1 + 1 = omega arith in
-      let there = subst (λ p. HasKinds p (block_kinds rest)) (sym same) has.1.1 in
-      let starts = sym (ap kinds same) ∙ block_starts rest (place + 2) there next in
-      (first has.0 has.1.0, (second has.1.0 starts, subst (λ p. AreFine image kinds height end p (block_code plain_coder (place + 2) rest)) same onward))
-
-  pub block_fine : (block : Block) (place : ℕ) → HasKinds place (block_kinds block) → kinds (place + code_size plain_coder block) ≡ [] → BlockFits (image_sizes image) block
-      → block_height plain_coder block ≤ height → place + code_size plain_coder block ≤ end → AreFine image kinds height end place (block_code plain_coder place block)
-  block_fine Done place has next fits room within = tt
-  block_fine (RunThen n rest) place has next fits room within =
-      let far : place + (2 + code_size plain_coder rest) ≡ place + 2 + code_size plain_coder rest = omega arith in
-      let same : place + 1 + 1 ≡ place + 2 = omega arith in
-      let last = sym (ap kinds far) ∙ next in
-      two_steps place (PushCommand n) Queue Command rest has
-      (λ at to. falls_on place (PushCommand n) [] (Command ∷ []) fits.0 at to refl (λ to e. e) refl refl (λ callee e. cc) (omega arith) (omega (arith, room)))
-      (λ at to. falls_on (place + 1) Queue (Command ∷ []) [] tt at to refl (λ to e. e) refl refl (λ callee e. cc) (omega (arith, room)) (omega arith))
-      last
-      (block_fine rest (place + 2) (subst (λ p. HasKinds p (block_kinds rest)) same has.1.1) last fits.1 (omega (arith, room)) (omega (arith, within)))
-  block_fine (WantThen n rest) place has next fits room within =
-      let far : place + (2 + code_size plain_coder rest) ≡ place + 2 + code_size plain_coder rest = omega arith in
-      let same : place + 1 + 1 ≡ place + 2 = omega arith in
-      let last = sym (ap kinds far) ∙ next in
-      two_steps place (PushState n) Want StateName rest has
-      (λ at to. falls_on place (PushState n) [] (StateName ∷ []) fits.0 at to refl (λ to e. e) refl refl (λ callee e. cc) (omega arith) (omega (arith, room)))
-      (λ at to. falls_on (place + 1) Want (StateName ∷ []) [] tt at to refl (λ to e. e) refl refl (λ callee e. cc) (omega (arith, room)) (omega arith))
-      last
-      (block_fine rest (place + 2) (subst (λ p. HasKinds p (block_kinds rest)) same has.1.1) last fits.1 (omega (arith, room)) (omega (arith, within)))
-  block_fine (IfThen c inner rest) place has next fits room within =
-      let at = place + condition_size c in
-      let from = at + 1 in
-      let past = from + code_size plain_coder inner in
-      let kc = condition_kinds [] c in
-      let kb = block_kinds inner ++ block_kinds rest in
-      let high = condition_high c in
-      let mid = kinds_right place kc ((Truth ∷ []) ∷ kb) at (ap (λ n. place + n) (kinds_sized [] c)) has in
-      let there = kinds_right from (block_kinds inner) (block_kinds rest) past (ap (λ n. from + n) (block_kinds_sized inner)) mid.1 in
-      let far : place + (condition_size c + 1 + code_size plain_coder inner + code_size plain_coder rest) ≡ past + code_size plain_coder rest = omega arith in
-      let last = sym (ap kinds far) ∙ next in
-      let after = block_starts rest past there last in
-      let own = kinds_left from (block_kinds inner) (block_kinds rest) mid.1 in
-      let tested = condition_fine c place [] (kinds_left place kc ((Truth ∷ []) ∷ kb) has) mid.0 fits.0 (omega (arith, room)) in
-      let jump = jumps_on at past mid.0 (block_starts inner from own after) after (omega arith) (omega (arith, within)) (omega (arith, room, high)) in
-      let inside = block_fine inner from own after fits.1 (omega (arith, room)) (omega (arith, within)) in
-      let onward = block_fine rest past there last fits.2 (omega (arith, room)) (omega (arith, within)) in
-      fine_append image kinds height end place (condition_code c) (JumpFalse past ∷ (block_code plain_coder from inner ++ block_code plain_coder past rest)) at (ap (λ n. place + n) (condition_sized c)) tested
-      (jump, fine_append image kinds height end from (block_code plain_coder from inner) (block_code plain_coder past rest) past (ap (λ n. from + n) (block_sized plain_coder condition_sized from inner)) inside onward)
-
-  pub held_starts : (tests : List TestId) (place : ℕ) → HasKinds place (held_kinds tests) → kinds (place + 2 * length tests) ≡ [] → kinds place ≡ []
+  pub held_starts : (tests : List TestId) (place : ℕ) → HasKinds kinds place (held_kinds tests) → kinds (place + 2 * length tests) ≡ [] → kinds place ≡ []
   held_starts [] place has next = let same : place + 2 * 0 ≡ place = omega arith in sym (ap kinds same) ∙ next
   held_starts (test ∷ tests) place has next = has.0
 
   -- what holds a body back: jumps to an end that lies further on
-  pub held_fine : (tests : List TestId) (place target : ℕ) → HasKinds place (held_kinds tests) → kinds (place + 2 * length tests) ≡ [] → kinds target ≡ []
-      → EachBelow (length image.tests) tests → HasRoomFor height tests → place + 2 * length tests ≤ target → target ≤ end → AreFine image kinds height end place (held_code target tests)
+  pub held_fine : (tests : List TestId) (place target : ℕ) → HasKinds kinds place (held_kinds tests) → kinds (place + 2 * length tests) ≡ [] → kinds target ≡ []
+      → EachBelow (length image.tests) tests → HasRoomFor height tests → place + 2 * length tests ≤ target → target ≤ end → AreFine image callees kinds height end place (held_code target tests)
   held_fine [] place target has next there below room before within = tt
   held_fine (test ∷ tests) place target has next there below room before within =
       let far : place + 2 * suc (length tests) ≡ place + 2 + 2 * length tests = omega arith in
       let same : place + 2 ≡ place + 1 + 1 = omega arith in
       let last = sym (ap kinds far) ∙ next in
-      let more = subst (λ p. HasKinds p (held_kinds tests)) (sym same) has.1.1 in
+      let more = subst (λ p. HasKinds kinds p (held_kinds tests)) (sym same) has.1.1 in
       let starts = sym (ap kinds same) ∙ held_starts tests (place + 2) more last in (
         falls_on place (Known test) [] (Truth ∷ []) below.0 has.0 has.1.0 refl (λ to e. e) refl refl (λ callee e. cc) (omega arith) room,
         (
           jumps_on (place + 1) target has.1.0 starts there (omega (arith, before)) within room,
-          subst (λ p. AreFine image kinds height end p (held_code target tests)) same
+          subst (λ p. AreFine image callees kinds height end p (held_code target tests)) same
               (held_fine tests (place + 2) target more last there below.1 (room_any height tests room) (omega (arith, before)) within),
         ),
       )
 
   -- a height that no place passes is that of the tree at least
   module _ (each : (place : ℕ) → place ≤ end → length (kinds place) ≤ height) where
-    condition_low : (c : Condition) (place : ℕ) (below : List Kind) → HasKinds place (condition_kinds below c) → kinds (place + condition_size c) ≡ Truth ∷ below
+    pub condition_low : (c : Condition) (place : ℕ) (below : List Kind) → HasKinds kinds place (condition_kinds below c) → kinds (place + condition_size c) ≡ Truth ∷ below
         → place + condition_size c ≤ end → condition_height c + length below ≤ height
     condition_low (Leaf single) place below has next within = let h = each (place + 1) within in let e = ap length next in omega (arith, h, e)
     condition_low (NotSo c) place below has next within =
-        let mid = kinds_right place (condition_kinds below c) ((Truth ∷ below) ∷ []) (place + condition_size c) (ap (λ n. place + n) (kinds_sized below c)) has in
-        condition_low c place below (kinds_left place (condition_kinds below c) ((Truth ∷ below) ∷ []) has) mid.0 (omega (arith, within))
+        let mid = kinds_right kinds place (condition_kinds below c) ((Truth ∷ below) ∷ []) (place + condition_size c) (ap (λ n. place + n) (kinds_sized below c)) has in
+        condition_low c place below (kinds_left kinds place (condition_kinds below c) ((Truth ∷ below) ∷ []) has) mid.0 (omega (arith, within))
     condition_low (And a b) place below has next within =
         let ka = condition_kinds below a in
         let kb = condition_kinds (Truth ∷ below) b in
         let last = (Truth ∷ Truth ∷ below) ∷ [] in
         let at = place + condition_size a in
-        let rest = kinds_right place ka (kb ++ last) at (ap (λ n. place + n) (kinds_sized below a)) has in
-        let right = kinds_left at kb last rest in
-        let mid = kinds_right at kb last (at + condition_size b) (ap (λ n. at + n) (kinds_sized (Truth ∷ below) b)) rest in
-        let first = condition_low a place below (kinds_left place ka (kb ++ last) has) (condition_starts b at (Truth ∷ below) right) (omega (arith, within)) in
+        let rest = kinds_right kinds place ka (kb ++ last) at (ap (λ n. place + n) (kinds_sized below a)) has in
+        let right = kinds_left kinds at kb last rest in
+        let mid = kinds_right kinds at kb last (at + condition_size b) (ap (λ n. at + n) (kinds_sized (Truth ∷ below) b)) rest in
+        let first = condition_low a place below (kinds_left kinds place ka (kb ++ last) has) (condition_starts kinds b at (Truth ∷ below) right) (omega (arith, within)) in
         let second = condition_low b at (Truth ∷ below) right mid.0 (omega (arith, within)) in
         omega (arith, first, second)
     condition_low (Or a b) place below has next within =
@@ -275,40 +201,9 @@ module _ (image : ImageParts) (kinds : ℕ → List Kind) (height end : ℕ) whe
         let kb = condition_kinds (Truth ∷ below) b in
         let last = (Truth ∷ Truth ∷ below) ∷ [] in
         let at = place + condition_size a in
-        let rest = kinds_right place ka (kb ++ last) at (ap (λ n. place + n) (kinds_sized below a)) has in
-        let right = kinds_left at kb last rest in
-        let mid = kinds_right at kb last (at + condition_size b) (ap (λ n. at + n) (kinds_sized (Truth ∷ below) b)) rest in
-        let first = condition_low a place below (kinds_left place ka (kb ++ last) has) (condition_starts b at (Truth ∷ below) right) (omega (arith, within)) in
+        let rest = kinds_right kinds place ka (kb ++ last) at (ap (λ n. place + n) (kinds_sized below a)) has in
+        let right = kinds_left kinds at kb last rest in
+        let mid = kinds_right kinds at kb last (at + condition_size b) (ap (λ n. at + n) (kinds_sized (Truth ∷ below) b)) rest in
+        let first = condition_low a place below (kinds_left kinds place ka (kb ++ last) has) (condition_starts kinds b at (Truth ∷ below) right) (omega (arith, within)) in
         let second = condition_low b at (Truth ∷ below) right mid.0 (omega (arith, within)) in
         omega (arith, first, second)
-
-    pub block_low : (block : Block) (place : ℕ) → HasKinds place (block_kinds block) → kinds (place + code_size plain_coder block) ≡ [] → place + code_size plain_coder block ≤ end
-        → block_height plain_coder block ≤ height
-    block_low Done place has next within = omega arith
-    block_low (RunThen n rest) place has next within =
-        let far : place + (2 + code_size plain_coder rest) ≡ place + 1 + 1 + code_size plain_coder rest = omega arith in
-        let one = each (place + 1) (omega (arith, within)) in
-        let long = ap length has.1.0 in
-        let more = block_low rest (place + 1 + 1) has.1.1 (sym (ap kinds far) ∙ next) (omega (arith, within)) in
-        omega (arith, one, long, more)
-    block_low (WantThen n rest) place has next within =
-        let far : place + (2 + code_size plain_coder rest) ≡ place + 1 + 1 + code_size plain_coder rest = omega arith in
-        let one = each (place + 1) (omega (arith, within)) in
-        let long = ap length has.1.0 in
-        let more = block_low rest (place + 1 + 1) has.1.1 (sym (ap kinds far) ∙ next) (omega (arith, within)) in
-        omega (arith, one, long, more)
-    block_low (IfThen c inner rest) place has next within =
-        let at = place + condition_size c in
-        let from = at + 1 in
-        let past = from + code_size plain_coder inner in
-        let kc = condition_kinds [] c in
-        let kb = block_kinds inner ++ block_kinds rest in
-        let mid = kinds_right place kc ((Truth ∷ []) ∷ kb) at (ap (λ n. place + n) (kinds_sized [] c)) has in
-        let there = kinds_right from (block_kinds inner) (block_kinds rest) past (ap (λ n. from + n) (block_kinds_sized inner)) mid.1 in
-        let far : place + (condition_size c + 1 + code_size plain_coder inner + code_size plain_coder rest) ≡ past + code_size plain_coder rest = omega arith in
-        let last = sym (ap kinds far) ∙ next in
-        let own = kinds_left from (block_kinds inner) (block_kinds rest) mid.1 in
-        let tested = condition_low c place [] (kinds_left place kc ((Truth ∷ []) ∷ kb) has) mid.0 (omega (arith, within)) in
-        let inside = block_low inner from own (block_starts rest past there last) (omega (arith, within)) in
-        let onward = block_low rest past there last (omega (arith, within)) in
-        omega (arith, tested, inside, onward)

@@ -1,5 +1,5 @@
 -- From a text to replies: the policy that a text has, what the bytes of its image mean, and what a refusal says.
--- A definition sees only what stands above it. The next files, in order: Events (the policy's own events, and costs aside), Refused (the limit that code passes first), Sizes (sizes and lengths), Acceptance, PlainImage and PlainCode (the image of a policy, and its code). What a text has for a policy stands in Texts of `ifs_policy`, what its blocks yield in Meaning there.
+-- A definition sees only what stands above it. The next files, in order: Events (the policy's own events, and costs aside), Refused (the limit that code passes first), Sizes (sizes and lengths), Acceptance, PolicyImage, Sharing and PlainCode (the image of a policy, and its code), PlainSizes (the limits). What a text has for a policy stands in Texts of `ifs_policy`, what its blocks yield in Meaning there.
 use Rattle.std.specs.Prelude.{ℕ, ◌≡◌, ◌≢◌, List, map}
 use Rattle.ifs_policy.specs.Texts.{HasPolicy, IsTextRefused}
 use Rattle.ifs_policy.specs.declared.front.PolicyFault.{PolicyFault}
@@ -20,7 +20,8 @@ use Rattle.ifs_gen.specs.declared.compile_fault.CompileFault.{CompileFault}
 use Rattle.ifs_gen.specs.declared.compile_fault.CompileFault.TheVariants.{Text, Code, Memory}
 use Rattle.ifs_gen.specs.Trees.{Policy}
 use Rattle.ifs_gen.specs.Refused.{PassesFirst}
-use Rattle.ifs_gen.specs.PlainImage.{room_of, plain_image, CodeFits}
+use Rattle.ifs_gen.specs.PlainSizes.{room_of, CodeFits}
+use Rattle.ifs_gen.specs.PolicyImage.{image_of}
 use Rattle.ifs_gen.specs.Events.{RunsAsPolicy}
 
 -- The names and texts of an image are a policy's, each at its own number.
@@ -35,22 +36,22 @@ pub record HasNamesOf (policy : Policy) (image : ImageParts) : Type 0 where
 -- What the bytes of a policy's image mean.
 pub record MeansPolicy (bytes : List ℕ) (policy : Policy) : Type 0 where
   -- the verifier accepts them, as the policy's image and no other
-  pub verified : IsVerified bytes (plain_image policy)
-  pub only : (other : ImageParts) → image.Spells bytes other → other ≡ plain_image policy
+  pub verified : IsVerified bytes (image_of policy)
+  pub only : (other : ImageParts) → image.Spells bytes other → other ≡ image_of policy
   -- so it refuses them, as it refuses only what is not accepted, for nothing but memory
   pub refused : (fault : VerifyFault) → AreNotAccepted bytes fault → fault ≡ OutOfMemory
   -- its readers answer the policy's names and texts
-  pub names : HasNamesOf policy (plain_image policy)
+  pub names : HasNamesOf policy (image_of policy)
   -- a core that is opened on it is busy where its queue lacks the policy's room
-  pub room : (plain_image policy).budgets.commands ≡ room_of policy
+  pub room : (image_of policy).budgets.commands ≡ room_of policy
   -- its handlers have a behaviour on the machine, and for every list of steps the replies, the states, queues and traces are those of a run over the policy's own events, costs aside
-  pub behaviour : (b : Behaviour) × IsBehaviour (plain_image policy) b
-  pub runs : (b : Behaviour) → IsBehaviour (plain_image policy) b → (steps : List Step) → RunsAsPolicy policy b steps
+  pub behaviour : (b : Behaviour) × IsBehaviour (image_of policy) b
+  pub runs : (b : Behaviour) → IsBehaviour (image_of policy) b → (steps : List Step) → RunsAsPolicy policy b steps
 
 -- A text has at most one policy; and where its code keeps the limits, bytes that spell its image mean that policy.
 pub record MeansThePolicy (text : List ℕ) (defs : List (List ℕ × List ℕ)) (policy : Policy) : Type 0 where
   pub one : (other : Policy) → HasPolicy text defs other → other ≡ policy
-  pub means : CodeFits policy → (bytes : List ℕ) → image.Spells bytes (plain_image policy) → MeansPolicy bytes policy
+  pub means : CodeFits policy → (bytes : List ℕ) → image.Spells bytes (image_of policy) → MeansPolicy bytes policy
 
 -- It holds of every text and of what is given beside it.
 abbrev pub TextsMeanTheirPolicy : Type 0
@@ -68,13 +69,13 @@ pub record IsCompiled (text : List ℕ) (defs : List (List ℕ × List ℕ)) (by
   pub of_text : HasPolicy text defs policy
   pub one : (other : Policy) → HasPolicy text defs other → other ≡ policy
   pub code : CodeFits policy
-  pub spelled : image.Spells bytes (plain_image policy)
+  pub spelled : image.Spells bytes (image_of policy)
   pub means : MeansPolicy bytes policy
 
 -- Bytes are those of a policy whose code keeps the limits: they spell its image.
 pub record IsWritten (policy : Policy) (bytes : List ℕ) : Type 0 where
   pub code : CodeFits policy
-  pub spelled : image.Spells bytes (plain_image policy)
+  pub spelled : image.Spells bytes (image_of policy)
 
 -- The refusals for faults of each step: want of memory stays want of memory.
 abbrev pub of_policy : PolicyFault → CompileFault

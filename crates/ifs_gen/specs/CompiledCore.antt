@@ -11,7 +11,8 @@ use Rattle.ifs_core.specs.Gateway.{OpenCore}
 use Rattle.ifs_core.specs.Steps.{CoreState, Makes, turn, replies, after_steps}
 use Rattle.ifs_core.specs.Headline.{IsKept}
 use Rattle.ifs_gen.specs.Trees.{Policy}
-use Rattle.ifs_gen.specs.PlainImage.{plain_image, room_of, CodeFits}
+use Rattle.ifs_gen.specs.PlainSizes.{room_of, CodeFits}
+use Rattle.ifs_gen.specs.PolicyImage.{image_of}
 use Rattle.ifs_gen.specs.Events.{behaviour_of, policy_opened, reply_without_cost, state_without_costs}
 use Rattle.ifs_gen.specs.Compiled.{HasNamesOf}
 
@@ -36,7 +37,7 @@ pub record RunsText (text : List ℕ) (defs : List (List ℕ × List ℕ)) (core
   -- its code keeps the limits
   pub code : CodeFits policy
   -- the core has its image, which is accepted, and keeps what is promised of each accepted image
-  pub image_is : core.image ≡ plain_image policy
+  pub image_is : core.image ≡ image_of policy
   pub kept : IsKept core.image
   -- its readers answer the policy's names and texts
   pub names : HasNamesOf policy core.image

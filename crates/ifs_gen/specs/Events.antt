@@ -14,7 +14,8 @@ use Rattle.ifs_core.specs.Steps.{CoreState, replies, after_steps}
 use Rattle.ifs_gen.specs.Trees.{Part, Policy}
 use Rattle.ifs_policy.specs.Meaning.{Mentions, body_yield, init_yield}
 use Rattle.ifs_sched.specs.Schedule.{has_test}
-use Rattle.ifs_gen.specs.PlainImage.{test_count, mask_of_part, room_of, plain_image, CodeFits}
+use Rattle.ifs_gen.specs.PlainSizes.{test_count, mask_of_part, room_of, CodeFits}
+use Rattle.ifs_gen.specs.PolicyImage.{image_of}
 use Rattle.ifs_policy.specs.Fits.{PolicyFits}
 
 -- What a state's part yields; nothing where there is no such state.
@@ -66,13 +67,13 @@ state_without_costs s = record { position = s.position; queue = s.queue; trace =
 
 -- Over a list of steps, the core that is opened on an image replies and comes to where the policy does, costs aside.
 pub record RunsAsPolicy (policy : Policy) (b : Behaviour) (steps : List Step) : Type 0 where
-  pub opening : state_without_costs (opened b (plain_image policy)) ≡ policy_opened policy
-  pub replies : map reply_without_cost (replies b (room_of policy) steps (opened b (plain_image policy))) ≡ replies (behaviour_of policy) (room_of policy) steps (policy_opened policy)
-  pub state : state_without_costs (after_steps b (room_of policy) steps (opened b (plain_image policy))) ≡ after_steps (behaviour_of policy) (room_of policy) steps (policy_opened policy)
+  pub opening : state_without_costs (opened b (image_of policy)) ≡ policy_opened policy
+  pub replies : map reply_without_cost (replies b (room_of policy) steps (opened b (image_of policy))) ≡ replies (behaviour_of policy) (room_of policy) steps (policy_opened policy)
+  pub state : state_without_costs (after_steps b (room_of policy) steps (opened b (image_of policy))) ≡ after_steps (behaviour_of policy) (room_of policy) steps (policy_opened policy)
 
--- The plain image of a policy means what the policy says: whatever behaves as its handlers do on the machine runs as the policy does, whatever the steps are.
+-- The image of a policy means what the policy says: whatever behaves as its handlers do on the machine runs as the policy does, whatever the steps are.
 abbrev pub ImageMeansPolicy : Type 0
-ImageMeansPolicy = (policy : Policy) → PolicyFits policy → CodeFits policy → (b : Behaviour) → IsBehaviour (plain_image policy) b → (steps : List Step) → RunsAsPolicy policy b steps
+ImageMeansPolicy = (policy : Policy) → PolicyFits policy → CodeFits policy → (b : Behaviour) → IsBehaviour (image_of policy) b → (steps : List Step) → RunsAsPolicy policy b steps
 
 -- A part's set of active tests has exactly those that its body mentions.
 abbrev pub ActiveAreMentioned : Type 0

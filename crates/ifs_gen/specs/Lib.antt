@@ -1,7 +1,9 @@
 pub mod Trees
 pub mod PlainCode
+pub mod Sharing
+pub mod PlainSizes
+pub mod PolicyImage
 pub mod Runs
-pub mod PlainImage
 pub mod Acceptance
 pub mod Refused
 pub mod Sizes

@@ -10,12 +10,13 @@ use Rattle.ifs_gen.specs.Trees.{Single, LinkIs, TestIs, Condition, Leaf, NotSo}
 use Rattle.ifs_gen.specs.Trees.{And, Or, Block, Done, RunThen, WantThen, IfThen}
 use Rattle.ifs_policy.specs.Meaning.{mentioned}
 
--- How a condition is computed: its code, how many instructions that has, how many values stand above the others at most, and how many instructions are executed.
+-- How a condition is computed: its code, how many instructions that has, how many values stand above the others at most, how many instructions are executed, and how many frames stand then at most, with the handler's own.
 pub record Coder : Type 0 where
   pub code : Condition → List Op
   pub size : Condition → ℕ
   pub height : Condition → ℕ
   pub cost : Condition → ℕ
+  pub frames : ℕ
 
 -- The instruction of a single test.
 abbrev pub single_op : Single → Op
@@ -38,7 +39,7 @@ condition_height (Or left right) = max (condition_height left) (condition_height
 
 -- Conditions in plain code, an instruction for each leaf and sign, each of which is executed once.
 abbrev pub plain_coder : Coder
-plain_coder = record { code = condition_code; size = condition_size; height = condition_height; cost = condition_size }
+plain_coder = record { code = condition_code; size = condition_size; height = condition_height; cost = condition_size; frames = 1 }
 
 -- How many instructions the code of a block has.
 abbrev pub code_size : Coder → Block → ℕ
@@ -92,6 +93,20 @@ body_size coder count body = body_end coder count body + 1
 
 abbrev pub init_size : Coder → Block → ℕ
 init_size coder init = code_size coder init + 1
+
+-- How many instructions a block executes at most: where all of its conditions are true.
+abbrev pub block_limit : Coder → Block → ℕ
+block_limit coder Done = 0
+block_limit coder (RunThen command rest) = 2 + block_limit coder rest
+block_limit coder (WantThen state rest) = 2 + block_limit coder rest
+block_limit coder (IfThen condition inner rest) = coder.cost condition + 1 + block_limit coder inner + block_limit coder rest
+
+-- How many instructions they execute at most.
+abbrev pub body_limit : Coder → ℕ → Block → ℕ
+body_limit coder count body = body_start count body + block_limit coder body + 1
+
+abbrev pub init_limit : Coder → Block → ℕ
+init_limit coder init = block_limit coder init + 1
 
 -- How many values a block has on the stack at most.
 abbrev pub block_height : Coder → Block → ℕ

@@ -5,8 +5,8 @@ use Rattle.ifs_gen.specs.declared.fault.GenFault.TheVariants.{RoutineTooLong, Co
 use Rattle.ifs_gen.specs.declared.fault.GenFault.TheVariants.{StackTooHigh, TooManyCommands, Memory}
 use Rattle.ifs_gen.specs.Trees.{Part, Policy}
 use Rattle.ifs_gen.specs.PlainCode.{plain_coder, block_height}
-use Rattle.ifs_gen.specs.PlainImage.{test_count, parts_of, init_length, body_length, room_of}
-use Rattle.ifs_gen.specs.PlainImage.{most_of_routine, most_of_all, most_of_stack, most_of_event, CodeFits}
+use Rattle.ifs_gen.specs.PlainSizes.{test_count, parts_of, init_length, body_length, room_of}
+use Rattle.ifs_gen.specs.PlainSizes.{most_of_routine, most_of_all, most_of_stack, most_of_event, CodeFits}
 
 -- How many instructions the routines of parts have, in their order, of so many tests.
 abbrev pub lengths_of : ℕ → List Part → List ℕ

@@ -1,4 +1,4 @@
--- Runs of plain code on the machine: what each row, condition, block and handler leads to.
+-- Runs of a policy's code on the machine: what each row, condition, block and handler leads to.
 use Rattle.std.specs.Prelude.{ℕ, ◌≡◌, ◌+◌, ◌≤◌, if◌then◌else◌, List, [], ◌∷◌, length, Some, slice_get}
 use Rattle.ifs_base.specs.Facts.{Facts}
 use Rattle.ifs_base.specs.Effects.{Effects, followed}
@@ -15,6 +15,8 @@ use Rattle.ifs_gen.specs.Trees.{Condition, Block, Done, RunThen, WantThen, IfThe
 use Rattle.ifs_policy.specs.Meaning.{truth, is_open, is_held, reached, body_yield, init_yield}
 use Rattle.ifs_gen.specs.PlainCode.{Coder, plain_coder, block_code, code_size, block_height}
 use Rattle.ifs_gen.specs.PlainCode.{block_runs, holding, body_code, init_code}
+use Rattle.ifs_gen.specs.Sharing.{shared_coder}
+use Rattle.ifs_gen.specs.PolicyImage.{shared_routine}
 
 -- How many entries the tables of an image have.
 abbrev pub image_sizes : ImageParts → Sizes
@@ -46,17 +48,30 @@ pub record RowsLead (image : ImageParts) (facts : Facts) (routine : ℕ) (caller
 abbrev pub HasStack : ImageParts → List Frame → List Value → ℕ → Type 0
 HasStack image callers values more = more + length values + height callers ≤ image.budgets.stack
 
--- A coder's code of a condition has its size and needs stack for its truth, and wherever it stands it leads past itself, and leaves the condition's truth on the stack.
+-- So many frames may stand above these callers, the one on top counted.
+abbrev pub HasFrames : ImageParts → List Frame → ℕ → Type 0
+HasFrames image callers frames = length callers + frames ≤ image.budgets.frames
+
+-- A coder's code of a condition has its size and needs stack for its truth and a frame of its own, and wherever it stands it leads past itself, and leaves the condition's truth on the stack.
 pub record Computes (image : ImageParts) (facts : Facts) (coder : Coder) : Type 0 where
   pub sized : (condition : Condition) → length (coder.code condition) ≡ coder.size condition
   pub high : (condition : Condition) → 1 ≤ coder.height condition
+  pub framed : 1 ≤ coder.frames
   pub leads : (condition : Condition) (routine : ℕ) (callers : List Frame) (place : ℕ) (values : List Value) (effects : Effects)
-      → ConditionFits (image_sizes image) condition → HasAt (code_of image routine) place (coder.code condition) → HasStack image callers values (coder.height condition)
+      → ConditionFits (image_sizes image) condition → HasAt (code_of image routine) place (coder.code condition) → HasStack image callers values (coder.height condition) → HasFrames image callers coder.frames
       → RowsLead image facts routine callers (point place values effects) (coder.cost condition) (point (place + coder.size condition) (Truth (truth facts condition) ∷ values) effects)
 
 -- The plain code of conditions computes their truth, on any image and under any facts for it.
 abbrev pub TruthRuns : Type 0
 TruthRuns = (image : ImageParts) (facts : Facts) → AreFactsOf image facts → Computes image facts plain_coder
+
+-- An image has the routines of shared codes, each at its number.
+abbrev pub HasShared : ImageParts → List (List Op) → Type 0
+HasShared image table = (k : ℕ) (code : List Op) → slice_get table k ≡ Some code → slice_get image.routines k ≡ Some (shared_routine code)
+
+-- So does the code that calls shared conditions, on an image that has their routines.
+abbrev pub SharedTruthRuns : Type 0
+SharedTruthRuns = (image : ImageParts) (facts : Facts) (table : List (List Op)) → AreFactsOf image facts → HasShared image table → Computes image facts (shared_coder table)
 
 -- How many instructions of a block are executed.
 abbrev pub block_cost : Coder → Facts → Block → ℕ
@@ -70,7 +85,7 @@ block_cost coder facts (IfThen condition inner rest) =
 abbrev pub BlockRuns : Type 0
 BlockRuns = (image : ImageParts) (facts : Facts) (coder : Coder) (routine : ℕ) (callers : List Frame) (block : Block) (place : ℕ) (values : List Value) (effects : Effects)
     → Computes image facts coder → BlockFits (image_sizes image) block → HasAt (code_of image routine) place (block_code coder place block)
-    → HasStack image callers values (block_height coder block) → length effects.commands + block_runs block ≤ image.budgets.commands
+    → HasStack image callers values (block_height coder block) → HasFrames image callers coder.frames → length effects.commands + block_runs block ≤ image.budgets.commands
     → RowsLead image facts routine callers (point place values effects) (block_cost coder facts block) (point (place + code_size coder block) values (followed effects (reached facts block)))
 
 -- How many instructions are executed to find whether a body is held back.
@@ -85,11 +100,11 @@ body_cost coder count facts body = held_cost facts (holding count body) + (if is
 abbrev pub init_cost : Coder → Facts → Block → ℕ
 init_cost coder facts init = block_cost coder facts init + 1
 
--- A routine without results has this code, and the image states enough for a block: a frame, stack for its values, and room for its commands after so many.
+-- A routine without results has this code, and the image states enough for a block: frames, stack for its values, and room for its commands after so many.
 pub record IsHandlerOf (image : ImageParts) (coder : Coder) (routine : ℕ) (code : List Op) (block : Block) (queued : ℕ) : Type 0 where
   pub listed : code_of image routine ≡ code
   pub results : results_of image routine ≡ []
-  pub frame : 1 ≤ image.budgets.frames
+  pub frames : coder.frames ≤ image.budgets.frames
   pub stack : block_height coder block ≤ image.budgets.stack
   pub commands : queued + block_runs block ≤ image.budgets.commands
   pub fits : BlockFits (image_sizes image) block

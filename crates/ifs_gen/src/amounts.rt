@@ -3,7 +3,7 @@
 ghost use Rattle.std.specs.Prelude.{◌≡◌, ◌+◌, ◌<◌, ◌≤◌, ◌++◌, length, map, sum, None, IfSome, IfOk, IfErr, OnOk};
 ghost use Rattle.ifs_gen.specs.declared.amounts.Amount.TheVariants.{Size, Height, Runs};
 ghost use Rattle.ifs_gen.specs.Refused.{AreWithin, IsFirstOver, IsPassed};
-ghost use Rattle.ifs_gen.specs.inner.Amounts.{budgets_in, event_in, measured, most_of_bodies};
+ghost use Rattle.ifs_gen.specs.inner.Amounts.{bounds_in, event_in, measured, most_of_bodies};
 ghost use Rattle.ifs_gen.specs.inner.Amounts.{most_of_inits, amount_in, numbers_of, AreFine};
 ghost use Rattle.ifs_gen.specs.inner.Measures.{capped};
 
@@ -11,7 +11,6 @@ use crate::fault::GenFault;
 use crate::measure::{BlockMeasure, measure_block};
 use crate::mention::tests_of;
 use ifs_base::{RoutineId, StateId};
-use ifs_image::Budgets;
 use ifs_image::limits::{CODE_OF_IMAGE, CODE_OF_ROUTINE, COMMANDS_OF_EVENT, STACK};
 use ifs_policy::Handlers;
 use std::alloc::{AllocError, Global};
@@ -166,12 +165,21 @@ fn event_total(measures: &[PartMeasure], initial: StateId, amount: Amount) -> u6
     evaluation.max(opening)
 }
 
-/// The least budgets of routines of these measures, or the first limit that they pass.
-pub(crate) fn budgets_of(measures: &[PartMeasure], initial: StateId) -> Result<Budgets, GenFault>
+/// What plain code settles of the budgets.
+#[derive(Clone, Copy)]
+pub(crate) struct Bounds {
+    /// Values on the stack at most.
+    pub stack: u16,
+    /// Commands of one event at most.
+    pub commands: u16,
+}
+
+/// What routines of these measures settle of the budgets, or the first limit that they pass.
+pub(crate) fn bounds_in(measures: &[PartMeasure], initial: StateId) -> Result<Bounds, GenFault>
     requires some { 1 + initial.0 < length measures.now }
     requires few { length measures.now ≤ 257 }
     ensures fine { OnOk result (AreFine measures.now initial.0) }
-    ensures budgets { IfOk result (λ budgets. budgets ≡ budgets_in measures.now initial.0) }
+    ensures bounds { IfOk result (λ bounds. bounds ≡ bounds_in measures.now initial.0) }
     ensures passed { IfErr result (λ fault. IsPassed (numbers_of Size measures.now) (numbers_of Height measures.now) (event_in Runs measures.now initial.0) fault) }
 {
     if let Some(routine) = first_over(measures, Amount::Size, u64::from(CODE_OF_ROUTINE)) {
@@ -187,12 +195,9 @@ pub(crate) fn budgets_of(measures: &[PartMeasure], initial: StateId) -> Result<B
     if u64::from(COMMANDS_OF_EVENT) < commands {
         return Err(GenFault::TooManyCommands);
     }
-    let cost = event_total(measures, initial, Amount::Size);
     let most = greatest(measures, Amount::Height);
-    Ok(Budgets {
+    Ok(Bounds {
         stack: most.init.max(most.body) as u16,
-        frames: 1,
-        cost: cost as u32,
         commands: commands as u16,
     })
 }

@@ -4,44 +4,50 @@ ghost use Rattle.std.specs.Prelude.{◌≡◌, ◌≢◌, ◌+◌, ◌≤◌, �
 ghost use Rattle.std.specs.Prelude.{◌∷◌, length, map, All, IfOk, IfErr, OnOk};
 ghost use Rattle.ifs_verify.specs.Accepted.{IsAccepted};
 ghost use Rattle.ifs_gen.specs.declared.fault.GenFault.TheVariants.{Memory};
-ghost use Rattle.ifs_gen.specs.PlainImage.{handlers_of, image_with, least_budgets, mask_of_part, mask_of, plain_image};
-ghost use Rattle.ifs_gen.specs.PlainImage.{routines_of, states_from, test_spec, CodeFits, PartCodeFits};
+ghost use Rattle.ifs_gen.specs.PlainSizes.{mask_of_part, mask_of};
+ghost use Rattle.ifs_gen.specs.PlainSizes.{CodeFits, PartCodeFits};
+ghost use Rattle.ifs_gen.specs.PolicyImage.{image_of, routines_of, shared_of, shared_routine, states_from, test_spec};
+ghost use Rattle.ifs_gen.specs.Sharing.{frames_for, most_shared, shared_coder};
+ghost use Rattle.ifs_gen.specs.inner.Amounts.{plain_bounds};
 ghost use Rattle.ifs_policy.specs.Fits.{PolicyFits};
 ghost use Rattle.ifs_gen.specs.Refused.{PassesFirst};
 
-use crate::amounts::{PartMeasure, budgets_of, measure_part, measure_parts};
+use crate::amounts::{Bounds, bounds_in, measure_part, measure_parts};
+use crate::costs::event_cost;
 use crate::fault::GenFault;
+use crate::keys::ConditionCode;
 use crate::laws::plain_is_accepted;
-use crate::measure::measure_block;
 use crate::mention::tests_of;
-use crate::routines::{body_routine, init_routine};
+use crate::routines::{body_routine, init_routine, shared_routine};
+use crate::sharing::shared_of;
 use ifs_base::{Items, RoutineId, TestId, Text};
 use ifs_image::{Budgets, Handlers, Image, ImageParts, Routine, StateSpec, TestSpec};
 use ifs_policy::{ExternalTest, Handlers as Part, Policy, Table};
 use std::alloc::{AllocError, Global};
 
-/// The image of a policy in plain code, with the least budgets that its code is accepted with. A fault
-/// other than want of memory is the first limit that the code passes: of G1 over all routines, G2, G3
-/// over all routines, and G4.
+/// The image of a policy, with the least budgets that its code is accepted with. A fault other than want
+/// of memory is the first limit that the policy's plain code passes: of G1 over all routines, G2, G3 over
+/// all routines, and G4.
 pub fn generate(alloc: Global, policy: &Policy) -> Result<Image, GenFault>
-    // What is answered is the plain image of the policy,
-    ensures image { IfOk result (λ image. image ≡ plain_image policy.now) }
-    // which keeps the limits,
+    // What is answered is the image of the policy,
+    ensures image { IfOk result (λ image. image ≡ image_of policy.now) }
+    // which is answered where plain code keeps the limits,
     ensures fits { OnOk result (CodeFits policy.now) }
     // and which the verifier's rules accept.
     ensures accepted { IfOk result (λ image. IsAccepted image) }
     // A fault other than want of memory is the first limit that is passed.
     ensures refused { IfErr result (λ fault. fault ≢ Memory → PassesFirst policy.now fault) }
 {
-    let budgets = least_budgets(alloc, policy)?;
-    let parts = image_with(alloc, policy, budgets)?;
+    let bounds = bounds_of(alloc, policy)?;
+    let shared = shared_of(alloc, policy)?;
+    let parts = image_of(alloc, policy, bounds, &shared)?;
     plain_is_accepted();
     Ok(Image::new(parts))
 }
 
-/// The least budgets, or the first limit that is passed.
-fn least_budgets(alloc: Global, policy: &Policy) -> Result<Budgets, GenFault>
-    ensures budgets { IfOk result (λ budgets. budgets ≡ least_budgets policy.now) }
+/// What plain code settles of the budgets, or the first limit that it passes.
+fn bounds_of(alloc: Global, policy: &Policy) -> Result<Bounds, GenFault>
+    ensures bounds { IfOk result (λ bounds. bounds ≡ plain_bounds policy.now) }
     ensures fits { OnOk result (CodeFits policy.now) }
     ensures refused { IfErr result (λ fault. fault ≢ Memory → PassesFirst policy.now fault) }
 {
@@ -49,30 +55,61 @@ fn least_budgets(alloc: Global, policy: &Policy) -> Result<Budgets, GenFault>
     let mut measures = Vec::new(alloc);
     measures.push(measure_part(alloc, policy.always(), count)?)?;
     measure_parts(alloc, policy.states(), count, &mut measures)?;
-    budgets_of(measures.as_slice(), policy.initial())
+    bounds_in(measures.as_slice(), policy.initial())
 }
 
-/// The parts of a policy's image, with these budgets.
-fn image_with(alloc: Global, policy: &Policy, budgets: Budgets) -> Result<ImageParts, AllocError>
-    requires { CodeFits policy.now }
-    ensures image { IfOk result (λ image. image ≡ image_with budgets policy.now) }
+/// The parts of a policy's image.
+fn image_of(
+    alloc: Global,
+    policy: &Policy,
+    bounds: Bounds,
+    shared: &Table<ConditionCode>,
+) -> Result<ImageParts, AllocError>
+    requires code { CodeFits policy.now }
+    requires bounds { bounds ≡ plain_bounds policy.now }
+    requires shared { shared.now ≡ shared_of policy.now }
+    requires few { length shared.now ≤ most_shared }
+    ensures image { IfOk result (λ image. image ≡ image_of policy.now) }
     ensures policy { OnOk result (PolicyFits policy.now) }
 {
     let tables = policy.tables();
     let count = usize::from(policy.counts().tests);
     let mut routines = Vec::new(alloc);
-    let mask = put_routines(alloc, policy.always(), count, &mut routines)?;
-    let states = put_states(alloc, &tables.states, policy.states(), count, &mut routines)?;
+    put_shared(alloc, shared, &mut routines)?;
+    let mask = put_routines(alloc, policy.always(), count, shared, &mut routines)?;
+    let states = put_states(
+        alloc,
+        &tables.states,
+        policy.states(),
+        count,
+        shared,
+        &mut routines,
+    )?;
+    let handlers = &routines.as_slice()[shared.len()..];
+    let cost = event_cost(handlers, policy.initial(), shared);
     Ok(ImageParts {
-        budgets,
+        budgets: budgets_with(bounds, cost, shared),
         initial: policy.initial(),
-        always: handlers_of(0, mask),
+        always: handlers_of(shared.len() as u16, 0, mask),
         interfaces: texts_of(alloc, &tables.interfaces)?,
         tests: specs_of(alloc, &tables.tests)?,
         commands: texts_of(alloc, &tables.commands)?,
         states,
         routines: Items::new(routines),
     })
+}
+
+/// The budgets: a second frame is wanted where something is called.
+fn budgets_with(bounds: Bounds, cost: u64, shared: &Table<ConditionCode>) -> Budgets
+    requires { cost < 2 ^ 32 }
+    ensures { result ≡ (record { stack = bounds.stack; frames = frames_for shared.now; cost = cost; commands = bounds.commands }) }
+{
+    Budgets {
+        stack: bounds.stack,
+        frames: if shared.len() == 0 { 1 } else { 2 },
+        cost: cost as u32,
+        commands: bounds.commands,
+    }
 }
 
 /// The texts of a table.
@@ -121,35 +158,55 @@ fn mask_of(tests: &[TestId]) -> u64
     mask
 }
 
-/// The handlers of a part, by its number from 0: the always part, then the states.
-fn handlers_of(part: u16, mask: u64) -> Handlers
-    requires { part ≤ 256 }
-    ensures { result ≡ (record { init = record { 0 = 2 * part }; body = record { 0 = 2 * part + 1 }; mask = mask }) }
+/// The handlers of a part, by its number from 0: the always part, then the states. So many shared
+/// routines stand before them.
+fn handlers_of(shared: u16, part: u16, mask: u64) -> Handlers
+    requires shared { shared ≤ most_shared }
+    requires part { part ≤ 256 }
+    ensures { result ≡ (record { init = record { 0 = shared + 2 * part }; body = record { 0 = shared + (2 * part + 1) }; mask = mask }) }
 {
     Handlers {
-        init: RoutineId(2 * part),
-        body: RoutineId(2 * part + 1),
+        init: RoutineId(shared + 2 * part),
+        body: RoutineId(shared + (2 * part + 1)),
         mask,
     }
 }
 
+/// Adds the routines of the shared conditions, in order.
+fn put_shared(
+    alloc: Global,
+    shared: &Table<ConditionCode>,
+    routines: &mut Vec<Routine>,
+) -> Result<(), AllocError>
+    ensures { OnOk result (routines.new.items ≡ routines.old.items ++ map shared_routine shared.now) }
+{
+    for index in 0..shared.len() {
+        match shared.get(index) {
+            Some(code) => routines.push(shared_routine(alloc, code)?)?,
+            None => unreachable!(),
+        }
+    }
+    Ok(())
+}
+
 /// Adds the routines of a part, and answers the set of the tests that its body mentions.
-#[tactic(auto, using(crate::proofs::Copying::below_64, crate::proofs::Copying::set_64))]
+#[tactic(auto, using(crate::proofs::Copying::below_64, crate::proofs::Copying::set_64, crate::proofs::Copying::init_short, crate::proofs::Copying::body_short))]
 fn put_routines(
     alloc: Global,
     part: &Part,
     count: usize,
+    shared: &Table<ConditionCode>,
     routines: &mut Vec<Routine>,
 ) -> Result<u64, AllocError>
     requires few { count ≤ 64 }
+    requires few_shared { length shared.now ≤ most_shared }
     requires fits { PartCodeFits count part.now }
     ensures mask { IfOk result (λ mask. mask ≡ mask_of_part count part.now) }
-    ensures routines { OnOk result (routines.new.items ≡ routines.old.items ++ routines_of count (part.now ∷ [])) }
+    ensures routines { OnOk result (routines.new.items ≡ routines.old.items ++ routines_of (shared_coder shared.now) count (part.now ∷ [])) }
 {
     let tests = tests_of(alloc, &part.body, count)?;
-    let end = 2 * tests.len() as u64 + measure_block(&part.body).size;
-    routines.push(init_routine(alloc, &part.init)?)?;
-    routines.push(body_routine(alloc, &part.body, tests.as_slice(), end as u16)?)?;
+    routines.push(init_routine(alloc, &part.init, shared)?)?;
+    routines.push(body_routine(alloc, &part.body, tests.as_slice(), shared)?)?;
     Ok(mask_of(tests.as_slice()))
 }
 
@@ -159,22 +216,24 @@ fn put_states(
     names: &Table<Text>,
     parts: &[Part],
     count: usize,
+    shared: &Table<ConditionCode>,
     routines: &mut Vec<Routine>,
 ) -> Result<Items<StateSpec>, AllocError>
     requires few { count ≤ 64 }
     requires few_states { length parts.now ≤ 256 }
+    requires few_shared { length shared.now ≤ most_shared }
     requires named { length parts.now ≡ length names.now }
     requires fits { All (PartCodeFits count) parts.now }
-    ensures states { IfOk result (λ states. states ≡ states_from count 1 names.now parts.now) }
-    ensures routines { OnOk result (routines.new.items ≡ routines.old.items ++ routines_of count parts.now) }
+    ensures states { IfOk result (λ states. states ≡ states_from (length shared.now) count 1 names.now parts.now) }
+    ensures routines { OnOk result (routines.new.items ≡ routines.old.items ++ routines_of (shared_coder shared.now) count parts.now) }
 {
     let mut states = Vec::new(alloc);
     for index in 0..parts.len() {
-        let mask = put_routines(alloc, &parts[index], count, routines)?;
+        let mask = put_routines(alloc, &parts[index], count, shared, routines)?;
         match names.get(index) {
             Some(name) => states.push(StateSpec {
                 name: name.clone()?,
-                handlers: handlers_of(index as u16 + 1, mask),
+                handlers: handlers_of(shared.len() as u16, index as u16 + 1, mask),
             })?,
             None => unreachable!(),
         }

@@ -1,16 +1,17 @@
-//! What holds of every policy and its plain code.
+//! What holds of every policy, its plain code and its image.
 
 ghost use Rattle.std.specs.Prelude.{IfOk, map};
-ghost use Rattle.ifs_gen.specs.Acceptance.{BudgetsAreLeast, PlainIsAccepted};
+ghost use Rattle.ifs_gen.specs.Acceptance.{BudgetsAreLeast, ImageIsAccepted};
 ghost use Rattle.ifs_gen.specs.Compiled.{TextsMeanTheirPolicy};
 ghost use Rattle.ifs_gen.specs.CompiledCore.{LeadsTo, RepliesAsText};
 ghost use Rattle.ifs_gen.specs.Events.{ActiveAreMentioned, ImageMeansPolicy};
 ghost use Rattle.ifs_gen.specs.Refused.{FitsOrIsRefused, OneLimitIsFirst, RefusedDoNotFit};
-ghost use Rattle.ifs_gen.specs.Runs.{TruthRuns, BlockRuns, HandlersDo};
+ghost use Rattle.ifs_gen.specs.Runs.{TruthRuns, SharedTruthRuns, BlockRuns, HandlersDo};
 ghost use Rattle.ifs_gen.specs.Sizes.{RunsAreQueued, SizesAreLengths};
 
 use crate::compile_fault::CompileFault;
 use crate::opening::compiled_core;
+use ifs_base::laws::instructions_are_read_back;
 use ifs_core::laws::accepted_is_kept;
 use ifs_core::{Core, Reply, Step};
 use ifs_image::laws::one_image;
@@ -26,6 +27,13 @@ pub fn truth_runs()
     ensures { TruthRuns }
 {}
 
+/// So does the code that calls shared conditions, with the instructions of the routine that it calls.
+pub fn shared_truth_runs()
+    ensures { SharedTruthRuns }
+{
+    instructions_are_read_back();
+}
+
 /// Wherever the code of a block stands in a routine, it leads past itself and brings about what the
 /// block reaches.
 pub fn block_runs()
@@ -37,24 +45,28 @@ pub fn handlers_do()
     ensures { HandlersDo }
 {}
 
-/// The plain image of a policy is accepted, where its code keeps the limits.
+/// The image of a policy is accepted, where its plain code keeps the limits.
 pub fn plain_is_accepted()
-    ensures { PlainIsAccepted }
-{}
+    ensures { ImageIsAccepted }
+{
+    instructions_are_read_back();
+}
 
-/// No budgets under those of the plain image are enough for its code.
+/// No budgets under those of the image are enough for its code.
 pub fn budgets_are_least()
     ensures { BudgetsAreLeast }
 {
+    instructions_are_read_back();
     one_typing();
 }
 
-/// The plain image of a policy means what the policy says: for every list of steps, the replies of a core
+/// The image of a policy means what the policy says: for every list of steps, the replies of a core
 /// that is opened on it, the states, queues and traces are those of a run over the policy's own events,
 /// costs aside, and it is busy where the queue lacks the policy's room.
 pub fn image_means_policy()
     ensures { ImageMeansPolicy }
 {
+    instructions_are_read_back();
     accepted_is_kept();
 }
 
@@ -75,10 +87,13 @@ pub fn one_limit()
 {}
 
 /// The sizes of conditions, blocks, inits and bodies, by which the limits are looked for, are the lengths
-/// of their plain code, and those of a policy the lengths of its image's routines.
+/// of their plain code, and those of a policy the lengths of all its inits and bodies; its image has no
+/// more instructions.
 pub fn sizes_are_lengths()
     ensures { SizesAreLengths }
-{}
+{
+    instructions_are_read_back();
+}
 
 /// What blocks have to run, by which the room of a policy is counted, is what their code queues.
 pub fn runs_are_queued()
@@ -100,6 +115,7 @@ pub fn active_are_mentioned()
 pub fn means_the_policy()
     ensures { TextsMeanTheirPolicy }
 {
+    instructions_are_read_back();
     one_list();
     one_tree();
     one_policy();

@@ -103,7 +103,7 @@ pub(crate) fn measure_block(block: &PolicyBlock) -> BlockMeasure
 /// Measures a statement.
 #[cycle(measure_block)]
 fn measure_statement(statement: &Statement<Single, CommandId, StateId>) -> BlockMeasure
-    ensures size { result.size ≡ capped (statement_size statement.now) }
+    ensures size { result.size ≡ capped (statement_size plain_coder statement.now) }
     ensures height { result.height ≡ capped (statement_height statement.now) }
     ensures runs { result.runs ≡ capped (statement_runs statement.now) }
 {

@@ -1,23 +1,45 @@
-//! The routines of a part.
+//! The routines of shared conditions and of parts.
 
-ghost use Rattle.std.specs.Prelude.{◌≡◌, ◌+◌, ◌*◌, ◌<◌, ◌++◌, [], ◌∷◌, length, IfOk};
+ghost use Rattle.std.specs.Prelude.{◌≡◌, ◌+◌, ◌*◌, ◌<◌, ◌≤◌, ◌^◌, ◌++◌, List, [], ◌∷◌, length, IfOk};
+ghost use Rattle.ifs_base.specs.declared.ids.TestId.{TestId};
+ghost use Rattle.ifs_base.specs.declared.op.Op.{Op};
 ghost use Rattle.ifs_base.specs.declared.op.Op.TheVariants.{Ret};
-ghost use Rattle.ifs_gen.specs.PlainCode.{block_code, code_size, held_code, init_code, plain_coder};
-ghost use Rattle.ifs_gen.specs.PlainImage.{routine_of_code};
+ghost use Rattle.ifs_gen.specs.PlainCode.{block_code, code_size, held_code, init_code};
+ghost use Rattle.ifs_gen.specs.PolicyImage.{routine_of_code, shared_routine};
+ghost use Rattle.ifs_gen.specs.Sharing.{shared_coder};
 
-use crate::emission::put_block;
+use crate::emission::{put_block, set_jump};
+use crate::keys::ConditionCode;
 use ifs_base::{Items, Op, TestId};
 use ifs_image::Routine;
-use ifs_policy::PolicyBlock;
+use ifs_policy::{PolicyBlock, Table};
 use std::alloc::{AllocError, Global};
 
+/// The routine of a shared condition, which leaves its truth.
+pub(crate) fn shared_routine(alloc: Global, code: &ConditionCode) -> Result<Routine, AllocError>
+    ensures { IfOk result (λ routine. routine ≡ shared_routine code.now) }
+{
+    let mut ops = Vec::new(alloc);
+    ops.extend_from_slice(code.as_slice())?;
+    ops.push(Op::Ret)?;
+    Ok(Routine {
+        results: 1,
+        code: Items::new(ops),
+    })
+}
+
 /// The routine of an init, which is never held back.
-pub(crate) fn init_routine(alloc: Global, init: &PolicyBlock) -> Result<Routine, AllocError>
-    requires { code_size plain_coder init.now < 1024 }
-    ensures { IfOk result (λ routine. routine ≡ routine_of_code (init_code plain_coder init.now)) }
+pub(crate) fn init_routine(
+    alloc: Global,
+    init: &PolicyBlock,
+    shared: &Table<ConditionCode>,
+) -> Result<Routine, AllocError>
+    requires few { length shared.now < 2 ^ 16 }
+    requires room { code_size (shared_coder shared.now) init.now < 1024 }
+    ensures { IfOk result (λ routine. routine ≡ routine_of_code (init_code (shared_coder shared.now) init.now)) }
 {
     let mut code = Vec::new(alloc);
-    put_block(init, &mut code)?;
+    put_block(alloc, init, shared, &mut code)?;
     code.push(Op::Ret)?;
     Ok(Routine {
         results: 0,
@@ -25,27 +47,43 @@ pub(crate) fn init_routine(alloc: Global, init: &PolicyBlock) -> Result<Routine,
     })
 }
 
-/// The routine of a body, which is held back while one of these tests has no value. It ends at this place.
+/// The routine of a body, which is held back while one of these tests has no value: the jumps over the
+/// body are set once its end is known.
 pub(crate) fn body_routine(
     alloc: Global,
     body: &PolicyBlock,
     tests: &[TestId],
-    end: u16,
+    shared: &Table<ConditionCode>,
 ) -> Result<Routine, AllocError>
-    requires end { end ≡ 2 * length tests.now + code_size plain_coder body.now }
-    requires room { end < 1024 }
-    ensures { IfOk result (λ routine. routine ≡ routine_of_code (held_code end tests.now
-        ++ (block_code plain_coder (2 * length tests.now) body.now ++ Ret ∷ []))) }
+    requires few { length shared.now < 2 ^ 16 }
+    requires room { 2 * length tests.now + code_size (shared_coder shared.now) body.now < 1024 }
+    ensures { IfOk result (λ routine. routine ≡ routine_of_code
+        (held_code (2 * length tests.now + code_size (shared_coder shared.now) body.now) tests.now
+        ++ (block_code (shared_coder shared.now) (2 * length tests.now) body.now ++ Ret ∷ []))) }
 {
     let mut code = Vec::new(alloc);
     for test in tests {
         code.push(Op::Known(*test))?;
-        code.push(Op::JumpFalse(end))?;
+        code.push(Op::JumpFalse(0))?;
     }
-    put_block(body, &mut code)?;
+    put_block(alloc, body, shared, &mut code)?;
+    set_held(tests.len(), &mut code);
     code.push(Op::Ret)?;
     Ok(Routine {
         results: 0,
         code: Items::new(code),
     })
+}
+
+/// Lets the jumps of so many tests, with which the code begins, lead to its end.
+fn set_held(count: usize, code: &mut Vec<Op>)
+    requires held { 2 * count ≤ length code.old.items }
+    requires room { length code.old.items < 2 ^ 16 }
+    ensures { (tests : List TestId) (rest : List Op) → count ≡ length tests
+        → code.old.items ≡ held_code 0 tests ++ rest
+        → code.new.items ≡ held_code (length code.old.items) tests ++ rest }
+{
+    for index in 0..count {
+        set_jump(2 * index + 1, code);
+    }
 }

@@ -1,14 +1,14 @@
 -- What the routines of a policy come to, measured part by part.
 use Rattle.std.specs.Prelude.{ℕ, ◌+◌, ◌≤◌, max, List, [], ◌∷◌, sum, slice_get}
-use Rattle.ifs_image.specs.declared.parts.Budgets.{Budgets}
 use Rattle.ifs_gen.specs.declared.measure.BlockMeasure.{BlockMeasure}
 use Rattle.ifs_gen.specs.declared.amounts.PartMeasure.{PartMeasure}
+use Rattle.ifs_gen.specs.declared.amounts.Bounds.{Bounds}
 use Rattle.ifs_gen.specs.declared.amounts.Amount.{Amount}
 use Rattle.ifs_gen.specs.declared.amounts.Amount.TheVariants.{Size, Height, Runs}
-use Rattle.ifs_gen.specs.Trees.{Part}
+use Rattle.ifs_gen.specs.Trees.{Part, Policy}
 use Rattle.ifs_gen.specs.PlainCode.{plain_coder, block_height, block_runs}
-use Rattle.ifs_gen.specs.PlainImage.{greatest, number_in, init_length, body_length}
-use Rattle.ifs_gen.specs.PlainImage.{most_of_routine, most_of_all, most_of_stack, most_of_event}
+use Rattle.ifs_gen.specs.PlainSizes.{greatest, number_in, init_length, body_length, part_height, parts_of, room_of}
+use Rattle.ifs_gen.specs.PlainSizes.{most_of_routine, most_of_all, most_of_stack, most_of_event}
 use Rattle.ifs_gen.specs.Refused.{AreWithin}
 use Rattle.ifs_gen.specs.inner.Measures.{capped}
 
@@ -48,14 +48,13 @@ abbrev pub event_in : Amount → List PartMeasure → ℕ → ℕ
 event_in amount [] initial = 0
 event_in amount (always ∷ states) initial = event_of amount always states initial
 
--- The budgets that measures make.
-abbrev pub budgets_in : List PartMeasure → ℕ → Budgets
-budgets_in ms initial = record {
-  stack = max (most_of_inits Height ms) (most_of_bodies Height ms);
-  frames = 1;
-  cost = event_in Size ms initial;
-  commands = event_in Runs ms initial;
-}
+-- What measures settle of the budgets.
+abbrev pub bounds_in : List PartMeasure → ℕ → Bounds
+bounds_in ms initial = record { stack = max (most_of_inits Height ms) (most_of_bodies Height ms); commands = event_in Runs ms initial }
+
+-- What the plain code of a policy settles of them.
+abbrev pub plain_bounds : Policy → Bounds
+plain_bounds policy = record { stack = greatest part_height (parts_of policy); commands = room_of policy }
 
 -- Measures that keep all limits.
 pub record AreFine (ms : List PartMeasure) (initial : ℕ) : Type 0 where

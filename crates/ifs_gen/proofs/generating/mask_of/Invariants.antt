@@ -1,6 +1,6 @@
 -- The set so far and what is left make the whole set.
 use Rattle.std.proofs.Common.{◌≡◌, ◌+◌, ◌<◌, length, All}
-use Rattle.ifs_gen.specs.PlainImage.{mask_of}
+use Rattle.ifs_gen.specs.PlainSizes.{mask_of}
 use Rattle.ifs_gen.proofs.generating.mask_of.Given as goal
 
 abbrev pub invariant-loop-left : goal.invariant-loop-left

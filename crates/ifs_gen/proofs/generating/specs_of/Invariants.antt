@@ -1,6 +1,6 @@
 -- The tests so far are copied.
 use Rattle.std.proofs.Common.{◌≡◌, map, take}
-use Rattle.ifs_gen.specs.PlainImage.{test_spec}
+use Rattle.ifs_gen.specs.PolicyImage.{test_spec}
 use Rattle.ifs_gen.proofs.generating.specs_of.Given as goal
 
 abbrev pub invariant-loop-index : goal.invariant-loop-index

@@ -1,5 +1,5 @@
 use Rattle.ifs_gen.proofs.laws.plain_is_accepted.Goals as goal
-use Rattle.ifs_gen.proofs.Accepting as accepting
+use Rattle.ifs_gen.proofs.Limits as limits
 
 pub returns : goal.returns
-returns c = accepting.plain_is_accepted
+returns c = limits.plain_is_accepted c.instructions_are_read_back.ensures

@@ -2,13 +2,14 @@
 use Rattle.std.proofs.Common.{ap, sym, refl, ◌∙◌, arith}
 use Rattle.ifs_policy.specs.Meaning.{mentioned, mentioned_in}
 use Rattle.ifs_gen.specs.inner.Marks.{with_marks, statement_tests}
+use Rattle.ifs_gen.specs.PlainCode.{plain_coder}
 use Rattle.ifs_gen.proofs.Chains.{item_within}
 use Rattle.ifs_gen.proofs.Marking.{marked_more, marked_end, statements_mention, if_marked}
 use Rattle.ifs_gen.proofs.mention.+mark_block.Goals as goal
 
 pub mark_block-mark_statement-requires : goal.mark_block-mark_statement-requires
 mark_block-mark_statement-requires t c =
-    let smaller = item_within c.args.block.now c.statements-statement-items.result.now c.loop-statement.statement-index c.statement-item.result
+    let smaller = item_within plain_coder c.args.block.now c.statements-statement-items.result.now c.loop-statement.statement-index c.statement-item.result
     c.statements-statement-items.ensures.value c.loop-statement-test.true c.statement-item.is in
     (omega (arith, smaller), tt)
 

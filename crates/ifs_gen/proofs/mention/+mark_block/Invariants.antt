@@ -10,7 +10,7 @@ abbrev pub decreases-mark_block : goal.decreases-mark_block
 decreases-mark_block l = 3 * code_size plain_coder l.block.now + 1
 
 abbrev pub decreases-mark_statement : goal.decreases-mark_statement
-decreases-mark_statement l = 3 * statement_size l.statement.now
+decreases-mark_statement l = 3 * statement_size plain_coder l.statement.now
 
 abbrev pub decreases-mark_if : goal.decreases-mark_if
 decreases-mark_if l = 3 * code_size plain_coder l.inner.now + 2

@@ -1,20 +1,29 @@
 -- One test more, room for the statements, and the whole.
-use Rattle.std.proofs.Common.{ap, ◌∙◌}
-use Rattle.ifs_gen.specs.PlainImage.{routine_of_code}
-use Rattle.ifs_gen.proofs.Chains.{held_next, held_room, body_is, get_or_same}
+use Rattle.std.proofs.Common.{ap, ◌∙◌, arith, refl}
+use Rattle.ifs_gen.specs.PolicyImage.{routine_of_code}
+use Rattle.ifs_gen.specs.Sharing.{shared_coder}
+use Rattle.ifs_gen.proofs.Called.{coder_sized}
+use Rattle.ifs_gen.proofs.Chains.{held_next, held_room, body_ends, body_is, get_or_same}
 use Rattle.ifs_gen.proofs.routines.body_routine.Goals as goal
 
 pub loop-test-preserved : goal.loop-test-preserved
 loop-test-preserved c =
-    held_next c.args.end c.loop-test.code.items c.push.new.self.items c.push-in-loop-test.new.self.items c.args.tests.now c.loop-test.test-index _
+    held_next 0 c.loop-test.code.items c.push.new.self.items c.push-in-loop-test.new.self.items c.args.tests.now c.loop-test.test-index _
     c.loop-test-test.true (get_or_same c.args.tests.now c.loop-test.test-index _ _ c.loop-test-test.true) c.loop-test.invariant c.in_ok-push.ensures.items c.in_ok-push-2.ensures.items
 
-pub put_block-requires : goal.put_block-requires
-put_block-requires c = record {
-  room = held_room c.args.end c.loop-test.code.items c.args.tests.now c.loop-test.test-index c.args.body.now c.loop-test-test.false c.loop-test.invariant c.requires.end c.requires.room;
-}
+pub put_block-requires-clause-room : goal.put_block-requires-clause-room
+put_block-requires-clause-room c =
+    held_room (shared_coder c.args.shared.now) (coder_sized c.args.shared.now) c.loop-test.code.items c.args.tests.now c.loop-test.test-index c.args.body.now c.loop-test-test.false c.loop-test.invariant c.requires.room
+
+pub set_held-requires : goal.set_held-requires
+set_held-requires c =
+    let long = body_ends (shared_coder c.args.shared.now) (coder_sized c.args.shared.now) c.loop-test.code.items c.put_block.new.code.items c.args.tests.now c.loop-test.test-index c.args.body.now
+    c.loop-test-test.false c.loop-test.invariant c.in_ok-put_block.ensures in
+    let room = c.requires.room in
+    record { held = omega (arith, long); room = omega (arith, long, room) }
 
 pub returns : goal.returns
 returns c =
-    ap routine_of_code (c.new.ensures ∙ body_is c.args.end c.loop-test.code.items c.put_block.new.code.items c.push-2.new.self.items c.args.tests.now c.loop-test.test-index c.args.body.now
-    c.loop-test-test.false c.loop-test.invariant c.in_ok-put_block.ensures c.in_ok-push-3.ensures.items)
+    ap routine_of_code (c.new.ensures ∙ body_is (shared_coder c.args.shared.now) (coder_sized c.args.shared.now) c.loop-test.code.items c.put_block.new.code.items c.set_held.new.code.items
+    c.push-2.new.self.items c.args.tests.now c.loop-test.test-index c.args.body.now c.loop-test-test.false c.loop-test.invariant c.in_ok-put_block.ensures
+    (λ rest. c.set_held.ensures c.args.tests.now rest refl) c.in_ok-push-3.ensures.items)

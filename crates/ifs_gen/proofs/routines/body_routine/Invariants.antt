@@ -4,4 +4,4 @@ use Rattle.ifs_gen.specs.PlainCode.{held_code}
 use Rattle.ifs_gen.proofs.routines.body_routine.Given as goal
 
 abbrev pub invariant-loop-test : goal.invariant-loop-test
-invariant-loop-test l = l.code.items ≡ held_code l.end (take l.test-index l.tests)
+invariant-loop-test l = l.code.items ≡ held_code 0 (take l.test-index l.tests)

@@ -1,17 +1,9 @@
--- The plain image of a policy, and its sizes apart from the code: instructions, height and commands, the room, and the budgets.
-use Rattle.std.specs.Prelude.{ℕ, ◌+◌, ◌*◌, ◌^◌, ◌≤◌, max, List, [], ◌∷◌, length}
-use Rattle.std.specs.Prelude.{map, sum_by, Option, Some, None, slice_get, All}
+-- The parts of a policy, and the sizes of their plain code, apart from the code: instructions, height and commands, the room, and the limits.
+use Rattle.std.specs.Prelude.{ℕ, ◌+◌, ◌^◌, ◌≤◌, max, List, [], ◌∷◌, length, sum_by, Option, Some, None}
+use Rattle.std.specs.Prelude.{slice_get, All}
 use Rattle.ifs_base.specs.declared.ids.TestId.{TestId}
-use Rattle.ifs_base.specs.declared.op.Op.{Op}
-use Rattle.ifs_image.specs.declared.parts.Budgets.{Budgets}
-use Rattle.ifs_image.specs.declared.parts.Handlers.{Handlers}
-use Rattle.ifs_image.specs.declared.parts.StateSpec.{StateSpec}
-use Rattle.ifs_image.specs.declared.parts.Routine.{Routine}
-use Rattle.ifs_image.specs.declared.parts.ImageParts.{ImageParts}
-use Rattle.ifs_image.specs.declared.parts.TestSpec.{TestSpec}
-use Rattle.ifs_gen.specs.Trees.{Part, External, Policy}
-use Rattle.ifs_gen.specs.PlainCode.{plain_coder, holding, body_code, init_code}
-use Rattle.ifs_gen.specs.PlainCode.{body_size, init_size, block_height, block_runs}
+use Rattle.ifs_gen.specs.Trees.{Part, Policy}
+use Rattle.ifs_gen.specs.PlainCode.{plain_coder, holding, body_size, init_size, block_height, block_runs}
 
 -- How many external tests a policy has.
 abbrev pub test_count : Policy → ℕ
@@ -29,41 +21,6 @@ mask_of (test ∷ tests) = 2 ^ test.0 + mask_of tests
 -- The set of the tests that a part's body mentions, of so many.
 abbrev pub mask_of_part : ℕ → Part → ℕ
 mask_of_part count part = mask_of (holding count part.body)
-
--- Part k has the routines 2k and 2k + 1.
-abbrev pub handlers_of : ℕ → ℕ → Part → Handlers
-handlers_of count k part = record { init = record { 0 = 2 * k }; body = record { 0 = 2 * k + 1 }; mask = mask_of_part count part }
-
--- The states of these names and parts, from a number on, in order.
-abbrev pub states_from : ℕ → ℕ → List (List ℕ) → List Part → List StateSpec
-states_from count k (name ∷ names) (part ∷ parts) = record { name = name; handlers = handlers_of count k part } ∷ states_from count (k + 1) names parts
-states_from count k _ _ = []
-
--- A routine that leaves nothing.
-abbrev pub routine_of_code : List Op → Routine
-routine_of_code code = record { results = 0; code = code }
-
--- The routines of parts: of each its init, then its body.
-abbrev pub routines_of : ℕ → List Part → List Routine
-routines_of count [] = []
-routines_of count (part ∷ parts) = routine_of_code (init_code plain_coder part.init) ∷ routine_of_code (body_code plain_coder count part.body) ∷ routines_of count parts
-
--- A test as an image has it.
-abbrev pub test_spec : External → TestSpec
-test_spec test = record { period = test.period; text = test.command }
-
--- The image of a policy in plain code, with these budgets.
-abbrev pub image_with : Budgets → Policy → ImageParts
-image_with budgets policy = record {
-  budgets = budgets;
-  initial = policy.initial;
-  always = handlers_of (test_count policy) 0 policy.always;
-  interfaces = policy.tables.interfaces;
-  tests = map test_spec policy.tables.tests;
-  commands = policy.tables.commands;
-  states = states_from (test_count policy) 1 policy.tables.states policy.states;
-  routines = routines_of (test_count policy) (parts_of policy);
-}
 
 -- The greatest number that a list's entries have.
 abbrev pub greatest : {T : Type 0} → (T → ℕ) → List T → ℕ
@@ -95,19 +52,6 @@ body_length count part = body_size plain_coder count part.body
 -- How high the stack of either grows.
 abbrev pub part_height : Part → ℕ
 part_height part = max (block_height plain_coder part.init) (block_height plain_coder part.body)
-
--- The least budgets: the greatest height, one frame, and what one event may cost and run at most.
-abbrev pub least_budgets : Policy → Budgets
-least_budgets policy = record {
-  stack = greatest part_height (parts_of policy);
-  frames = 1;
-  cost = event_total init_length (body_length (test_count policy)) policy;
-  commands = room_of policy;
-}
-
--- The image of a policy in plain code.
-abbrev pub plain_image : Policy → ImageParts
-plain_image policy = image_with (least_budgets policy) policy
 
 -- The limits of code: instructions of one routine and of all together, values on the stack, and commands of one event.
 abbrev pub most_of_routine : ℕ

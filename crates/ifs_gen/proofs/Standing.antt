@@ -1,0 +1,85 @@
+-- What holds of the conditions of a policy, told of their codes: they fit, they are short, and their heights are within the policy's.
+use Rattle.std.proofs.Common.{◌≡◌, ℕ, ◌+◌, ◌≤◌, List, [], ◌∷◌, ◌++◌, length, refl, arith}
+use Rattle.std.specs.Prelude.{All}
+use Rattle.std.specs.List.{AllByRecursion}
+use Rattle.std.proofs.lemmas.List.Elements.{All-head, All-tail}
+use Rattle.ifs_base.specs.declared.op.Op.{Op}
+use Rattle.ifs_policy.specs.Fits.{Sizes, ConditionFits, BlockFits, HandlersFit}
+use Rattle.ifs_gen.specs.Trees.{Condition, Block, Done, RunThen, WantThen, IfThen, Part}
+use Rattle.ifs_gen.specs.PlainCode.{plain_coder, condition_code, code_size, block_height}
+use Rattle.ifs_gen.specs.PlainSizes.{greatest, part_height, PartCodeFits}
+use Rattle.ifs_gen.specs.Sharing.{conditions_of, conditions_in}
+use Rattle.ifs_gen.proofs.Simulation.{condition_sized}
+use Rattle.ifs_gen.proofs.Heights.{tall, tall_is}
+
+-- A code is that of a condition that fits.
+pub record IsConditionCode (sizes : Sizes) (code : List Op) : Type 0 where
+  pub condition : Condition
+  pub fits : ConditionFits sizes condition
+  pub is : condition_code condition ≡ code
+
+-- a property of two lists
+pub each_append : {T : Type 0} (P : T → Type 0) (xs ys : List T) → AllByRecursion P xs → AllByRecursion P ys → AllByRecursion P (xs ++ ys)
+each_append P [] ys one two = two
+each_append P (x ∷ xs) ys one two = (one.0, each_append P xs ys one.1 two)
+
+module _ (sizes : Sizes) where
+  block_conditions : (block : Block) → BlockFits sizes block → AllByRecursion (IsConditionCode sizes) (conditions_of block)
+  block_conditions Done fits = tt
+  block_conditions (RunThen n rest) fits = block_conditions rest fits.1
+  block_conditions (WantThen n rest) fits = block_conditions rest fits.1
+  block_conditions (IfThen c inner rest) fits = (
+    record { condition = c; fits = fits.0; is = refl },
+    each_append (IsConditionCode sizes) (conditions_of inner) (conditions_of rest) (block_conditions inner fits.1) (block_conditions rest fits.2),
+  )
+
+  -- the conditions of parts that fit do
+  pub all_conditions : (parts : List Part) → All (HandlersFit sizes) parts → AllByRecursion (IsConditionCode sizes) (conditions_in parts)
+  all_conditions [] fits = tt
+  all_conditions (x ∷ parts) fits =
+      let head = All-head (HandlersFit sizes) x parts fits in
+      each_append (IsConditionCode sizes) (conditions_of x.init) (conditions_of x.body ++ conditions_in parts) (block_conditions x.init head.init)
+      (each_append (IsConditionCode sizes) (conditions_of x.body) (conditions_in parts) (block_conditions x.body head.body) (all_conditions parts (All-tail (HandlersFit sizes) x parts fits)))
+
+-- A code is shorter than a number.
+abbrev pub IsShort : ℕ → List Op → Type 0
+IsShort n code = length code + 1 ≤ n
+
+block_short : (n : ℕ) (block : Block) → code_size plain_coder block ≤ n → AllByRecursion (IsShort n) (conditions_of block)
+block_short n Done low = tt
+block_short n (RunThen m rest) low = block_short n rest (omega (arith, low))
+block_short n (WantThen m rest) low = block_short n rest (omega (arith, low))
+block_short n (IfThen c inner rest) low = (
+  let long = condition_sized c in omega (arith, long, low),
+  each_append (IsShort n) (conditions_of inner) (conditions_of rest) (block_short n inner (omega (arith, low))) (block_short n rest (omega (arith, low))),
+)
+
+-- codes are shorter than the limit of a routine, where the routines of their parts keep it
+pub all_short : (count : ℕ) (parts : List Part) → All (PartCodeFits count) parts → AllByRecursion (IsShort 1023) (conditions_in parts)
+all_short count [] fits = tt
+all_short count (x ∷ parts) fits =
+    let head = All-head (PartCodeFits count) x parts fits in
+    let init = head.init in
+    let body = head.body in
+    each_append (IsShort 1023) (conditions_of x.init) (conditions_of x.body ++ conditions_in parts) (block_short 1023 x.init (omega (arith, init)))
+    (each_append (IsShort 1023) (conditions_of x.body) (conditions_in parts) (block_short 1023 x.body (omega (arith, body))) (all_short count parts (All-tail (PartCodeFits count) x parts fits)))
+
+-- A code is no higher than a number.
+abbrev pub IsLow : ℕ → List Op → Type 0
+IsLow n code = tall code ≤ n
+
+block_tall : (n : ℕ) (block : Block) → block_height plain_coder block ≤ n → AllByRecursion (IsLow n) (conditions_of block)
+block_tall n Done low = tt
+block_tall n (RunThen m rest) low = block_tall n rest (omega (arith, low))
+block_tall n (WantThen m rest) low = block_tall n rest (omega (arith, low))
+block_tall n (IfThen c inner rest) low = (
+  let high = tall_is c in omega (arith, high, low),
+  each_append (IsLow n) (conditions_of inner) (conditions_of rest) (block_tall n inner (omega (arith, low))) (block_tall n rest (omega (arith, low))),
+)
+
+-- codes are no higher than the parts
+pub all_tall : (n : ℕ) (parts : List Part) → greatest part_height parts ≤ n → AllByRecursion (IsLow n) (conditions_in parts)
+all_tall n [] low = tt
+all_tall n (x ∷ parts) low =
+    each_append (IsLow n) (conditions_of x.init) (conditions_of x.body ++ conditions_in parts) (block_tall n x.init (omega (arith, low)))
+    (each_append (IsLow n) (conditions_of x.body) (conditions_in parts) (block_tall n x.body (omega (arith, low))) (all_tall n parts (omega (arith, low))))
