@@ -17,3 +17,5 @@ mod hosts;
 mod images;
 #[cfg(test)]
 mod largest;
+#[cfg(test)]
+mod sharing;

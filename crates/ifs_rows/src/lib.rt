@@ -9,6 +9,7 @@ mod largest;
 pub mod policies;
 mod refused;
 pub mod sessions;
+pub mod sharing;
 mod texts;
 
 pub use hexadecimal::{bytes_of, digits_of};

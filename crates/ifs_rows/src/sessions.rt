@@ -523,11 +523,14 @@ pub fn before_starts() -> Row {
     }
 }
 
+const SHARED_CONDITION_POLICY: &str =
+    "state a { if a.link.up || b.link.up && c.link.up run \"x\" if a.link.up || b.link.up && c.link.up run \"y\" }";
+
 /// A condition, `a.link.up || b.link.up && c.link.up`, that two `if`s share by a call.
 pub fn shared_condition() -> Row {
     Row {
         name: "shared_condition",
-        policy: None,
+        policy: Some(SHARED_CONDITION_POLICY),
         image: images::SHARED_CONDITION,
         answer: "ok stack 3 frames 2 cost 23 commands 2\n",
         requests: "link a up\n",
@@ -539,7 +542,7 @@ pub fn shared_condition() -> Row {
 pub fn shared_condition_not_met() -> Row {
     Row {
         name: "shared_condition_not_met",
-        policy: None,
+        policy: Some(SHARED_CONDITION_POLICY),
         image: images::SHARED_CONDITION,
         answer: "ok stack 3 frames 2 cost 23 commands 2\n",
         requests: "link b up\n",
