@@ -136,6 +136,18 @@ def full_policy():
     return head(always) + "".join(full_block(number, number % blocks + 1) for number in range(1, MOST_BLOCKS))
 
 
+def conditions(standings):
+    """A policy of 1,026 `if`s whose conditions have five instructions; each stands so many times, once or twice, in
+    one of 17 states."""
+    text = ""
+    for number in range(1_026):
+        state, link = number // 64, number % 64 // standings
+        text += f"state s{state} {{\n" if number % 64 == 0 else ""
+        text += f"\tif \"ping {state}\" every 1 && ! ! i{link}.link.up {{ }}\n"
+        text += "}\n" if number % 64 == 63 or number == 1_025 else ""
+    return text
+
+
 def quoted(stem, number):
     """A quoted text of 1,024 bytes, of which 44 are spelled by escapes."""
     raw = f"{stem} {number:04} "

@@ -19,6 +19,7 @@ class Maker:
         self.commands = [self.command("echo") for _ in range(1 + self.below(3 * self.size))]
         self.states = self.names("s", 1 + self.below(self.size + 2))
         self.macros, self.given, self.head = {}, [], []
+        self.conditions, self.init_conditions, self.repeated_of_ten = [], [], chance.choice((0, 5, 7, 8))
         self.runs = 0
 
     def below(self, bound):
@@ -105,6 +106,14 @@ class Maker:
     def any(self, depth):
         return self.chain("||", self.all, depth)
 
+    def condition(self, depth):
+        """A condition, some of them once more, also in parentheses that change nothing."""
+        if self.conditions and self.below(10) < self.repeated_of_ten:
+            condition = self.chance.choice(self.conditions)
+            return f"( {condition} )" if self.one_in(4) else condition
+        self.conditions.append(self.any(depth))
+        return self.conditions[-1]
+
     def run(self):
         self.runs += 1
         return f"run {self.string(self.chance.choice(self.commands))}"
@@ -112,11 +121,11 @@ class Maker:
     def action(self, depth):
         kind = self.below(8)
         if kind < 3 and depth > 0:
-            return f"if {self.any(self.below(3))} {self.block(depth - 1)}"
+            return f"if {self.condition(self.below(3))} {self.block(depth - 1)}"
         if kind == 3:
             return self.change()
         if self.runs > TOKEN_ROOM or kind == 4:
-            return f"if {self.any(1)} {{ }}"
+            return f"if {self.condition(1)} {{ }}"
         return self.run()
 
     def change(self):
@@ -129,22 +138,23 @@ class Maker:
 
     def init_block(self):
         """An init, whose conditions ask for links alone."""
-        kept, self.tests = self.tests, []
+        tests, self.tests = self.tests, []
         states, self.states = self.states, []
+        conditions, self.conditions = self.conditions, self.init_conditions
         made = " ".join(self.init_action(1) for _ in range(self.below(4)))
-        self.tests, self.states = kept, states
+        self.tests, self.states, self.conditions = tests, states, conditions
         return f"init {{ {made} }}"
 
     def init_action(self, depth):
         if depth > 0 and self.one_in(3):
-            return f"if {self.any(1)} {{ {' '.join(self.init_action(depth - 1) for _ in range(self.below(3)))} }}"
+            return f"if {self.condition(1)} {{ {' '.join(self.init_action(depth - 1) for _ in range(self.below(3)))} }}"
         return self.run()
 
     def part(self):
         """The inits and actions of a part, in some order."""
         made = [self.action(3) for _ in range(self.below(2 + self.size))]
         if not self.one_in(4):
-            made.append(f"if {self.all(1)} {self.change()}")
+            made.append(f"if {self.condition(1)} {self.change()}")
         if not self.one_in(3):
             made.insert(self.below(len(made) + 1), self.init_block())
         return made
