@@ -3,7 +3,6 @@ itself: equal conditions are found by looking at each pair."""
 from plain_core import mentioned, room_of
 
 LEAST_SHARED, MOST_SHARED = 5, 510
-SIGNS = {"and": "and", "or": "or"}
 
 
 def condition_code(condition):
@@ -16,7 +15,7 @@ def condition_code(condition):
     if kind == "not":
         return condition_code(inner[0]) + ["not"]
     first, *others = inner[0]
-    return condition_code(first) + [op for operand in others for op in [*condition_code(operand), SIGNS[kind]]]
+    return condition_code(first) + [op for operand in others for op in [*condition_code(operand), kind]]
 
 
 def condition_height(condition):
@@ -91,7 +90,8 @@ class Compiler:
 
     def routines(self):
         """The code of each part's init and body, in their order."""
-        return [make(block) for part in (self.policy.always, *self.policy.parts) for make, block in ((self.init, part.init), (self.body, part.body))]
+        parts = (self.policy.always, *self.policy.parts)
+        return [code for part in parts for code in (self.init(part.init), self.body(part.body))]
 
     def budgets(self, routines):
         """The least budgets: values on the stack, frames, instructions and commands."""
