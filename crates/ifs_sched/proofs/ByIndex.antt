@@ -1,7 +1,7 @@
 -- Lists that a loop makes test by test, with the index.
 use Rattle.std.proofs.Common.{◌≡◌, Bool, false, ◌||◌, ℕ, ◌+◌, ◌<◌, List, [], ◌∷◌, ◌++◌, Option, length}
 use Rattle.std.proofs.Common.{get_or, set, take, drop, map, ap, sym, ◌∙◌, arith, append-nil, append_assoc}
-use Rattle.std.specs.List.{enumerate_from, filter_map, cons_option, list_any}
+use Rattle.std.specs.List.{enumerate_from, filter_map, cons_option, list_any, refill}
 use Rattle.std.proofs.lemmas.List.{map_push, take_more, drop_more, set_at, get_or_at, length-take-le}
 use Rattle.std.proofs.lemmas.List.{length-map, take_all, drop_all, set-get_or, get_or_default}
 use Rattle.std.proofs.lemmas.List.FromFn.{length-enumerate_from}
@@ -36,8 +36,8 @@ collect_by_index-push f xs x =
     ∙ (let e : 0 + length xs ≡ length xs = omega arith in ap (λ k. collect_by_index f xs ++ cons_option (f k x) []) e)
 
 -- a function by index keeps how many there are
-pub length-map_by_index : (f : ℕ → Timer → Timer) (xs : List Timer) → length (map_by_index f xs) ≡ length xs
-length-map_by_index f xs = length-map (enumerate_from 0 xs) (λ p. f p.0 p.1) ∙ length-enumerate_from 0 xs
+pub as_many_by_index : (f : ℕ → Timer → Timer) (xs : List Timer) → length (map_by_index f xs) ≡ length xs
+as_many_by_index f xs = length-map (enumerate_from 0 xs) (λ p. f p.0 p.1) ∙ length-enumerate_from 0 xs
 
 -- The tests of which the first i are changed already.
 abbrev pub changed_below : (ℕ → Timer → Timer) → ℕ → List Timer → List Timer
@@ -45,7 +45,7 @@ changed_below f i xs = map_by_index f (take i xs) ++ drop i xs
 
 module _ (f : ℕ → Timer → Timer) (xs : List Timer) (i : ℕ) (x : Timer) (within : i < length xs) (at : get_or xs i x ≡ x) where
   front : length (map_by_index f (take i xs)) ≡ i
-  front = length-map_by_index f (take i xs) ∙ length-take-le i xs (omega arith)
+  front = as_many_by_index f (take i xs) ∙ length-take-le i xs (omega arith)
 
   here : changed_below f i xs ≡ map_by_index f (take i xs) ++ x ∷ drop (i + 1) xs
   here = ap (λ r. map_by_index f (take i xs) ++ r) (drop_more xs i x within ∙ ap (λ y. y ∷ drop (i + 1) xs) at)
@@ -107,3 +107,10 @@ any_by_index-more f xs i d within =
     ∙ ap (list_any (λ p. f p.0 p.1)) (enumerate_from-push 0 (take i xs) (get_or xs i d))
     ∙ list_any-append (λ p. f p.0 p.1) (enumerate_from 0 (take i xs)) ((0 + length (take i xs), get_or xs i d) ∷ [])
     ∙ ap (λ k. any_by_index f (take i xs) || (f k (get_or xs i d) || false)) e
+
+-- what is written of as many tests as there are stands in their place
+pub refilled : (xs ys : List Timer) → length ys ≡ length xs → refill (length xs) xs ys ≡ ys
+refilled xs ys e =
+    ap (λ rest. take (length xs) (ys ++ rest)) (drop_all (length ys) xs (omega arith))
+    ∙ ap (take (length xs)) (append-nil ys)
+    ∙ take_all (length xs) ys (omega arith)

@@ -4,14 +4,17 @@ use Rattle.std.proofs.Common.{length, get_or, set, slice_get, ap, sym, ◌∙◌
 use Rattle.std.specs.List.{enumerate_from}
 use Rattle.std.proofs.lemmas.Bool.{cases_eq}
 use Rattle.std.proofs.lemmas.Bool.Decides.{nat_tests}
-use Rattle.std.proofs.lemmas.List.{get_or-map, get_or-set_same, get_or-set_other}
+use Rattle.std.proofs.lemmas.List.{get_or-map, get_or-set_same, get_or-set_other, get_or_default, set-get_or}
 use Rattle.std.proofs.lemmas.List.{length-set, same_lists, set_past, get_or_read}
 use Rattle.std.proofs.lemmas.Option.{slice_get_past, slice_get_read}
 use Rattle.std.proofs.lemmas.List.FromFn.{get_or-enumerate_from, length-enumerate_from}
 use Rattle.ifs_sched.specs.declared.timer.Timer.{Timer}
 use Rattle.ifs_sched.specs.Schedule.{map_by_index, runs_under}
-use Rattle.ifs_sched.specs.Timer.{ended, inactive, is_run}
-use Rattle.ifs_sched.proofs.ByIndex.{length-map_by_index}
+use Rattle.ifs_sched.specs.declared.timer.Status.{Status}
+use Rattle.ifs_sched.specs.declared.timer.Status.TheVariants.{Off, Idle, Running}
+use Rattle.ifs_sched.specs.Timer.{ended, ended_status, inactive, is_run}
+use Rattle.ifs_sched.proofs.ByIndex.{as_many_by_index}
+use Rattle.ifs_sched.proofs.Entries.{below_or_not}
 
 -- the test at k of tests that are changed by index
 pub get_or-map_by_index : (f : ℕ → Timer → Timer) (xs : List Timer) (k : ℕ) (d : Timer) → k < length xs
@@ -35,9 +38,9 @@ at_other t k g x ne = let b : eqb k t ≡ false = grind (arith, nat_tests) in ap
 pub map_by_index-at_only : (g : Timer → Timer) (xs : List Timer) (t : ℕ) (y : Timer) → ((d : Timer) → t < length xs → y ≡ g (get_or xs t d))
     → map_by_index (at_only t g) xs ≡ set xs t y
 map_by_index-at_only g xs t y is =
-    same_lists _ _ (length-map_by_index (at_only t g) xs ∙ sym (length-set xs t y))
+    same_lists _ _ (as_many_by_index (at_only t g) xs ∙ sym (length-set xs t y))
     (λ k d h.
-    let within : k < length xs = omega (arith, length-map_by_index (at_only t g) xs) in
+    let within : k < length xs = omega (arith, as_many_by_index (at_only t g) xs) in
     get_or-map_by_index (at_only t g) xs k d within
     ∙ ⊎_elim
     (λ e.
@@ -69,3 +72,23 @@ pub ended_read : (xs : List Timer) (t run : ℕ) (x : Timer) → t < length xs �
     → map_by_index (at_only t (ended run)) xs ≡ set xs t (ended run x)
 ended_read xs t run x h e =
     map_by_index-at_only (ended run) xs t (ended run x) (λ d k. ap (ended run) (get_or_read xs t x h e d))
+
+-- a test that does not run under a number is left by the end of that run
+ended_status_same : (run : ℕ) (status : Status) → is_run run status ≡ false → ended_status run status ≡ status
+ended_status_same run Off h = refl
+ended_status_same run (Idle due) h = refl
+ended_status_same run (Running number due) h = ap (λ b. cond b (Idle due) (Running number due)) h
+
+-- the end of a run that is none leaves all tests
+pub finished_same : (xs : List Timer) (t run : ℕ) → runs_under run (slice_get xs t) ≡ false → map_by_index (at_only t (ended run)) xs ≡ xs
+finished_same xs t run none =
+    ⊎_elim
+    (λ h.
+    let x = get_or xs t (inactive 0) in
+    let here : x ≡ get_or xs t x = get_or_default xs t (inactive 0) x h in
+    let still = ended_status_same run x.status (sym (runs_under-read xs t run x h here) ∙ none) in
+    ended_read xs t run x h here
+    ∙ ap (λ s. set xs t (record x { status = s })) still
+    ∙ set-get_or xs t (inactive 0))
+    (λ past. ended_past xs t run past)
+    (below_or_not t (length xs))

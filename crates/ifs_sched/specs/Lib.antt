@@ -1,2 +1,4 @@
 pub mod Timer
 pub mod Schedule
+pub mod Idle
+pub mod inner

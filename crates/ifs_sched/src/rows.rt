@@ -2,6 +2,7 @@
 
 ghost use Rattle.std.specs.Prelude.{◌≡◌, ◌<◌, ◌≤◌, ◌+◌, ◌^◌, length, map, min};
 ghost use Rattle.std.specs.List.{range_with_len};
+ghost use Rattle.ifs_sched.specs.inner.Due.{IsDueSet};
 ghost use Rattle.ifs_sched.specs.Schedule.{any_by_index, collect_by_index, entered_test, has_test as is_in_mask};
 ghost use Rattle.ifs_sched.specs.Schedule.{is_left_over, map_by_index, run_number_at, run_as_number, start_of};
 ghost use Rattle.ifs_sched.specs.Schedule.{ticked_test};
@@ -22,14 +23,16 @@ pub fn enter_all(tests: &mut [Timer], always: u64, own: u64, now: u64)
 }
 
 /// Starts each due test, by index, with the next run number while there is one: the list is that of the
-/// starts. Answers whether a due test is left for want of a number.
+/// starts. The due tests are given as a mask. Answers whether one of them is left for want of a number.
 pub fn start_due(
     tests: &mut [Timer],
+    due: u64,
     now: u64,
     next_run: &mut Option<u64>,
     starts: &mut ArrayVec<Start, MAX_TESTS>,
 ) -> bool
     requires room { length tests.old ≤ MAX_TESTS }
+    requires due { IsDueSet now tests.old due }
     requires number { run_as_number next_run.old ≤ 2 ^ 64 }
     ensures tests { tests.new
         ≡ map_by_index (ticked_test now (run_as_number next_run.old) tests.old) tests.old }
@@ -47,13 +50,13 @@ pub fn start_due(
 {
     starts.clear();
     let mut exhausted = false;
-    for (index, timer) in tests.iter_mut().enumerate() {
-        if !timer.is_due(now) {
-            continue;
-        }
+    let mut left = due;
+    while left != 0 {
+        let index = left.trailing_zeros() as usize;
+        left &= !(1 << index);
         match *next_run {
             Some(run) => {
-                timer.start(now, run);
+                tests[index].start(now, run);
                 starts.push(Start {
                     test: TestId(index as u16),
                     run,

@@ -4,10 +4,10 @@ ghost use Rattle.std.specs.Prelude.{◌≡◌, ◌<◌, ◌≤◌, ◌↔◌, �
 ghost use Rattle.std.specs.List.{range_with_len};
 ghost use Rattle.ifs_sched.specs.Schedule.{all_off, entered, finished, is_exhausted, is_running};
 ghost use Rattle.ifs_sched.specs.Schedule.{running_count, starts as starts_at, ticked};
+ghost use Rattle.ifs_sched.specs.Idle.{AreIdle, IsNextDue};
 
-use crate::rows::{enter_all, start_due};
 use crate::start::{MAX_TESTS, Start, Started};
-use crate::timer::{Status, Timer};
+use crate::timers::Timers;
 use arrayvec::ArrayVec;
 use ifs_base::TestId;
 use std::marker::Model;
@@ -28,7 +28,7 @@ pub struct Stale;
 pub struct Schedule {
     present: u64,
     next_run: Option<u64>,
-    tests: ArrayVec<Timer, MAX_TESTS>,
+    timers: Timers,
 }
 
 impl Model for Schedule {
@@ -37,7 +37,7 @@ impl Model for Schedule {
 
     ghost Value = { Timetable };
 
-    ghost view = { λ a. record { present = a.present; next_run = run_as_number a.next_run; tests = a.tests.items } };
+    ghost view = { λ a. record { present = a.present; next_run = run_as_number a.next_run; tests = a.timers } };
 
     ghost invariant = { λ a. run_as_number a.next_run ≤ 2 ^ 64 };
 }
@@ -51,17 +51,10 @@ impl Schedule {
         ensures value { result ≡ all_off periods.items first_run }
         ensures same_number { length result.tests ≡ length periods.items }
     {
-        let mut tests = ArrayVec::new();
-        for period in periods.as_slice() {
-            tests.push(Timer {
-                period: *period,
-                status: Status::Off,
-            });
-        }
         Schedule {
             present: 0,
             next_run: Some(first_run),
-            tests,
+            timers: Timers::new(periods.as_slice()),
         }
     }
 
@@ -69,12 +62,12 @@ impl Schedule {
     /// mask is test t; bits of no test say nothing. An always test that is off becomes due, and
     /// any other always test is left; each other test of the state becomes due, its run forgotten;
     /// all others are off.
-    #[tactic(auto, unfolding(crate::specs::Schedule::entered))]
+    #[tactic(auto, using(crate::proofs::ByIndex::as_many_by_index), unfolding(crate::specs::Schedule::entered))]
     pub fn enter(&mut self, always: u64, tests: u64, now: u64)
         ensures after { self.new ≡ entered always tests now self.old }
         ensures same_number { length self.new.tests ≡ length self.old.tests }
     {
-        enter_all(self.tests.as_mut_slice(), always, tests, now);
+        self.timers.enter(always, tests, now);
     }
 
     /// Makes a moment the present one, and starts each idle test whose due moment has come. It is
@@ -103,6 +96,7 @@ impl Schedule {
     /// whether a due test was left for want of a run number.
     ///
     /// A moment before the present one is refused, and changes neither the schedule nor the list.
+    #[tactic(auto, using(crate::proofs::ByIndex::as_many_by_index, crate::proofs::Starts::starts_within), unfolding(crate::specs::Schedule::ticked, crate::specs::Schedule::starts, crate::specs::Schedule::is_exhausted))]
     pub fn tick_into(
         &mut self,
         now: u64,
@@ -127,25 +121,22 @@ impl Schedule {
             return Err(Backwards);
         }
         self.present = now;
-        Ok(start_due(self.tests.as_mut_slice(), now, &mut self.next_run, starts))
+        Ok(self.timers.start(now, &mut self.next_run, starts))
     }
 
     /// Ends a run: the test is idle, with the due moment that it has. Refused, with nothing
     /// changed, where there is no such test or it does not run under that number.
+    #[tactic(auto, using(crate::proofs::ByIndex::as_many_by_index), unfolding(crate::specs::Schedule::is_running, crate::specs::Schedule::finished))]
     pub fn finish(&mut self, test: TestId, run: u64) -> Result<(), Stale>
         ensures ok { IsOk result ↔ IsTrue (is_running test.0 run self.old) }
         ensures after { self.new ≡ finished test.0 run self.old }
         ensures same_number { length self.new.tests ≡ length self.old.tests }
         ensures err { OnErr result (self.new ≡ self.old) }
     {
-        let Some(timer) = self.tests.get_mut(usize::from(test.0)) else {
+        if !self.timers.finish(test, run) {
             return Err(Stale);
-        };
-        if timer.finish(run) {
-            Ok(())
-        } else {
-            Err(Stale)
         }
+        Ok(())
     }
 
     /// The present moment: that of the last tick, 0 before the first.
@@ -160,7 +151,11 @@ impl Schedule {
     pub fn running(&self) -> u16
         ensures { result ≡ running_count self.now }
     {
-        self.tests.iter().filter(|timer| timer.is_running()).count() as u16
+        self.timers
+            .as_slice()
+            .iter()
+            .filter(|timer| timer.is_running())
+            .count() as u16
     }
 
     /// Whether there is such a test and it runs under that number.
@@ -168,8 +163,24 @@ impl Schedule {
     pub fn is_running(&self, test: TestId, run: u64) -> bool
         ensures { result ≡ is_running test.0 run self.now }
     {
-        self.tests
+        self.timers
+            .as_slice()
             .get(usize::from(test.0))
             .is_some_and(|timer| timer.runs_under(run))
+    }
+
+    /// The idle tests with their due moments, each once, by moment and then by index.
+    pub fn idle(&self) -> &[(u64, TestId)]
+        ensures { AreIdle self.now.tests result.now }
+    {
+        self.timers.idle()
+    }
+
+    /// The least due moment of the idle tests: the first moment at which a tick would start a test. `None` where
+    /// no test is idle.
+    pub fn next_due(&self) -> Option<u64>
+        ensures { IsNextDue self.now.tests result }
+    {
+        self.timers.next_due()
     }
 }

@@ -1,7 +1,8 @@
 //! The timer of one test: its period, and where it stands.
 
-ghost use Rattle.std.specs.Prelude.{◌≡◌};
-ghost use Rattle.ifs_sched.specs.Timer.{ended, entered_status, is_running_status, is_due, is_run, started};
+ghost use Rattle.std.specs.Prelude.{◌≡◌, IfSome, is_some};
+ghost use Rattle.ifs_sched.specs.declared.timer.Status.TheVariants.{Idle};
+ghost use Rattle.ifs_sched.specs.Timer.{ended, entered_status, is_running_status, is_run, started};
 
 /// Where a test stands. Moments and run numbers are those of its schedule.
 #[derive(Clone, Copy, Debug, Default)]
@@ -35,16 +36,6 @@ impl Timer {
         };
     }
 
-    /// Whether the test is idle and its due moment has come.
-    pub fn is_due(&self, now: u64) -> bool
-        ensures { result ≡ is_due now self.now }
-    {
-        match self.status {
-            Status::Idle { due } => due <= now,
-            _ => false,
-        }
-    }
-
     /// Starts the test at a moment, under a run number.
     pub fn start(&mut self, now: u64, run: u64)
         ensures { self.new ≡ started now run self.old }
@@ -67,17 +58,19 @@ impl Timer {
         matches!(self.status, Status::Running { run, .. } if run == number)
     }
 
-    /// Ends the test's run, where it runs under this number. Says whether it did.
-    pub fn finish(&mut self, number: u64) -> bool
-        ensures value { result ≡ is_run number self.old.status }
+    /// Ends the test's run, where it runs under this number: it is idle then, and due from the moment that is
+    /// answered on.
+    pub fn finish(&mut self, number: u64) -> Option<u64>
+        ensures value { is_some result ≡ is_run number self.old.status }
         ensures after { self.new ≡ ended number self.old }
+        ensures due { IfSome result (λ due. self.new.status ≡ Idle due) }
     {
         match self.status {
             Status::Running { run, due } if run == number => {
                 self.status = Status::Idle { due };
-                true
+                Some(due)
             }
-            _ => false,
+            _ => None,
         }
     }
 }
