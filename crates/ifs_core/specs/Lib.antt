@@ -10,6 +10,7 @@ pub use Rattle.ifs_base.specs.Effects
 pub use Rattle.ifs_base.specs.Spelling
 pub use Rattle.ifs_sched.specs.Timer
 pub use Rattle.ifs_sched.specs.Schedule
+pub use Rattle.ifs_sched.specs.Idle
 pub use Rattle.circular_buffer.specs.Buffer
 pub use Rattle.ifs_machine.specs.Table
 pub use Rattle.ifs_machine.specs.Run

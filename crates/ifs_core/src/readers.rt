@@ -8,6 +8,7 @@ use ifs_image::ImageView;
 
 impl<'a> Core<'a> {
     ghost use Rattle.std.specs.Prelude.{◌≡◌, ◌<◌, ◌↔◌, IsSome, IfSome, length, option_map, slice_get};
+    ghost use Rattle.ifs_sched.specs.Idle.{IsNextDue};
     ghost use Rattle.ifs_sched.specs.Schedule.{running_count};
     ghost use Rattle.ifs_image.specs.Limits.{Fits};
     ghost use Rattle.ifs_verify.specs.Accepted.{IsAccepted};
@@ -62,6 +63,14 @@ impl<'a> Core<'a> {
         ensures { result ≡ self.now.state.position.schedule.present }
     {
         self.position.schedule.now()
+    }
+
+    /// The least due moment of the idle tests, in seconds: the first moment at which a tick may start a test.
+    /// `None` where no test is idle.
+    pub fn next_due(&self) -> Option<u64>
+        ensures { IsNextDue self.now.state.position.schedule.tests result }
+    {
+        self.position.schedule.next_due()
     }
 
     /// The link state of an interface; `None` where it is not in the table.

@@ -25,9 +25,11 @@ enum Call {
     Stale(u16, u64),
     /// The present moment, and how many tests run.
     Reads(u64, u16),
+    /// The idle tests with their due moments, in order.
+    Idle(&'static [(u64, u16)]),
 }
 
-use Call::{Enter, Finish, Reads, Tick};
+use Call::{Enter, Finish, Idle, Reads, Tick};
 
 /// Makes the calls, one after the other, on a schedule of these periods.
 fn play(rt: &impl Abort, periods: &[u32], first_run: u64, calls: &[Call])
@@ -54,6 +56,17 @@ fn play_one(rt: &impl Abort, schedule: &mut Schedule, call: Call) {
             assert_eq!(rt; schedule.now(), now);
             assert_eq!(rt; schedule.running(), running, "at {now}");
         }
+        Idle(entries) => assert_idle(rt, schedule, entries),
+    }
+}
+
+/// The idle tests are these, and the next moment is the first one's.
+fn assert_idle(rt: &impl Abort, schedule: &Schedule, entries: &[(u64, u16)]) {
+    assert_eq!(rt; schedule.next_due(), entries.first().map(|entry| entry.0));
+    assert_eq!(rt; schedule.idle().len(), entries.len());
+    for ((due, test), (wanted_due, wanted_test)) in schedule.idle().iter().zip(entries) {
+        assert_eq!(rt; *due, *wanted_due, "test {wanted_test}");
+        assert_eq!(rt; *test, TestId(*wanted_test), "at {wanted_due}");
     }
 }
 
@@ -106,9 +119,12 @@ fn last_run_number(rt: HostRuntime) {
         &[
             Enter(0, 1, 0),
             Tick(0, &[(0, LAST)], false),
+            Idle(&[]),
             Finish(0, LAST),
             Tick(604799, &[], false),
+            Idle(&[(604800, 0)]),
             Tick(604800, &[], true),
+            Idle(&[(604800, 0)]),
             Reads(604800, 0),
         ],
     );
@@ -122,15 +138,21 @@ fn ticks(rt: HostRuntime) {
         &[10],
         1,
         &[
+            Idle(&[]),
             Enter(0, 1, 0),
+            Idle(&[(0, 0)]),
             Tick(5, &[(0, 1)], false),
+            Idle(&[]),
             Tick(5, &[], false),
             Call::Backwards(4),
             Reads(5, 1),
             Finish(0, 1),
+            Idle(&[(15, 0)]),
             Tick(LAST, &[(0, 2)], false),
             Finish(0, 2),
+            Idle(&[(LAST, 0)]),
             Tick(LAST, &[(0, 3)], false),
+            Idle(&[]),
             Reads(LAST, 1),
         ],
     );
@@ -160,15 +182,23 @@ fn stale(rt: HostRuntime) {
         1,
         &[
             Enter(0, 0, 0),
+            Idle(&[]),
             Enter(0, 1, 0),
+            Idle(&[(0, 0)]),
             Tick(7, &[(0, 1)], false),
             Enter(0, 0, 7),
+            Idle(&[]),
             Enter(0, 1, 7),
+            Idle(&[(7, 0)]),
             Tick(8, &[(0, 2)], false),
             Call::Stale(0, 1),
+            Idle(&[]),
             Finish(0, 2),
+            Idle(&[(13, 0)]),
             Enter(0, 0, 8),
+            Idle(&[]),
             Enter(0, 1, 8),
+            Idle(&[(8, 0)]),
             Tick(8, &[(0, 3)], false),
             Call::Stale(1, 3),
         ],
@@ -195,4 +225,223 @@ fn entered_again_while_running(rt: HostRuntime) {
             Tick(5, &[(0, 4), (1, 5)], false),
         ],
     );
+}
+
+#[test]
+fn macros(rt: HostRuntime) {
+    play(
+        &rt,
+        &[10],
+        1,
+        &[
+            Enter(0, 1, 0),
+            Tick(0, &[(0, 1)], false),
+            Finish(0, 1),
+            Idle(&[(10, 0)]),
+            Tick(9, &[], false),
+            Idle(&[(10, 0)]),
+            Tick(10, &[(0, 2)], false),
+            Idle(&[]),
+            Finish(0, 2),
+            Idle(&[(20, 0)]),
+        ],
+    );
+}
+
+/// Of two with one due moment the lower index stands first, whichever ended first.
+#[test]
+fn held_back(rt: HostRuntime) {
+    play(
+        &rt,
+        &[5, 5],
+        1,
+        &[
+            Enter(0, 3, 0),
+            Idle(&[(0, 0), (0, 1)]),
+            Tick(100, &[(0, 1), (1, 2)], false),
+            Idle(&[]),
+            Finish(1, 2),
+            Idle(&[(105, 1)]),
+            Finish(0, 1),
+            Idle(&[(105, 0), (105, 1)]),
+            Call::Stale(7, 1),
+        ],
+    );
+}
+
+#[test]
+fn three_periods(rt: HostRuntime) {
+    play(
+        &rt,
+        &[5, 3, 4],
+        1,
+        &[
+            Enter(0, 7, 0),
+            Idle(&[(0, 0), (0, 1), (0, 2)]),
+            Tick(0, &[(0, 1), (1, 2), (2, 3)], false),
+            Idle(&[]),
+            Finish(0, 1),
+            Finish(1, 2),
+            Finish(2, 3),
+            Idle(&[(3, 1), (4, 2), (5, 0)]),
+            Tick(4, &[(1, 4), (2, 5)], false),
+            Idle(&[(5, 0)]),
+        ],
+    );
+}
+
+/// Tests that are due at one moment start by index, in whatever order they were put back; those that are due at
+/// several moments start by index too.
+#[test]
+fn starts_by_index(rt: HostRuntime) {
+    play(
+        &rt,
+        &[9, 9, 9, 2],
+        1,
+        &[
+            Enter(0, 15, 0),
+            Tick(0, &[(0, 1), (1, 2), (2, 3), (3, 4)], false),
+            Finish(2, 3),
+            Finish(3, 4),
+            Finish(0, 1),
+            Finish(1, 2),
+            Idle(&[(2, 3), (9, 0), (9, 1), (9, 2)]),
+            Tick(8, &[(3, 5)], false),
+            Finish(3, 5),
+            Idle(&[(9, 0), (9, 1), (9, 2), (10, 3)]),
+            Tick(1000, &[(0, 6), (1, 7), (2, 8), (3, 9)], false),
+            Idle(&[]),
+        ],
+    );
+}
+
+/// A result puts a test back between two others, before them and behind them.
+#[test]
+fn put_back_in_between(rt: HostRuntime) {
+    play(
+        &rt,
+        &[5, 7, 6, 4, 8],
+        1,
+        &[
+            Enter(0, 31, 0),
+            Tick(0, &[(0, 1), (1, 2), (2, 3), (3, 4), (4, 5)], false),
+            Finish(1, 2),
+            Finish(0, 1),
+            Idle(&[(5, 0), (7, 1)]),
+            Finish(2, 3),
+            Idle(&[(5, 0), (6, 2), (7, 1)]),
+            Finish(3, 4),
+            Finish(4, 5),
+            Idle(&[(4, 3), (5, 0), (6, 2), (7, 1), (8, 4)]),
+            Tick(6, &[(0, 6), (2, 7), (3, 8)], false),
+            Idle(&[(7, 1), (8, 4)]),
+        ],
+    );
+}
+
+/// A test becomes due at the last moment, before another that is due there already.
+#[test]
+fn due_at_the_last_moment(rt: HostRuntime) {
+    play(
+        &rt,
+        &[10, 604800],
+        1,
+        &[
+            Enter(0, 3, 0),
+            Tick(LAST - 10, &[(0, 1), (1, 2)], false),
+            Finish(1, 2),
+            Finish(0, 1),
+            Idle(&[(LAST, 0), (LAST, 1)]),
+            Tick(LAST - 1, &[], false),
+            Tick(LAST, &[(0, 3), (1, 4)], false),
+            Finish(0, 3),
+            Idle(&[(LAST, 0)]),
+        ],
+    );
+}
+
+/// A number that is missing leaves the due tests of higher indexes, which stay in order.
+#[test]
+fn left_without_a_number(rt: HostRuntime) {
+    play(
+        &rt,
+        &[3, 2, 1],
+        LAST - 3,
+        &[
+            Enter(0, 7, 0),
+            Tick(0, &[(0, LAST - 3), (1, LAST - 2), (2, LAST - 1)], false),
+            Finish(0, LAST - 3),
+            Finish(1, LAST - 2),
+            Finish(2, LAST - 1),
+            Idle(&[(1, 2), (2, 1), (3, 0)]),
+            Tick(3, &[(0, LAST)], true),
+            Idle(&[(1, 2), (2, 1)]),
+            Finish(0, LAST),
+            Idle(&[(1, 2), (2, 1), (6, 0)]),
+            Tick(6, &[], true),
+        ],
+    );
+}
+
+/// An entry leaves an idle test of the always part with its moment, among those that become due now.
+#[test]
+fn entry_among_idle_tests(rt: HostRuntime) {
+    play(
+        &rt,
+        &[4, 4, 9],
+        1,
+        &[
+            Enter(2, 5, 0),
+            Tick(6, &[(0, 1), (1, 2), (2, 3)], false),
+            Finish(1, 2),
+            Finish(2, 3),
+            Idle(&[(10, 1), (15, 2)]),
+            Tick(7, &[], false),
+            Enter(2, 5, 7),
+            Idle(&[(7, 0), (7, 2), (10, 1)]),
+            Enter(2, 0, 7),
+            Idle(&[(10, 1)]),
+        ],
+    );
+}
+
+/// All 64 tests due at once start by index.
+#[test]
+fn all_due_at_once(rt: HostRuntime) {
+    let mut periods = ArrayVec::new();
+    for period in 1..65 {
+        assert!(rt; periods.try_push(65 - period).is_ok());
+    }
+    let mut schedule = Schedule::new(periods, 1);
+    schedule.enter(0, u64::MAX, 0);
+    assert_eq!(rt; schedule.next_due(), Some(0));
+    assert_all_start(&rt, &mut schedule, 0, 1);
+    for test in 0..64 {
+        assert_eq!(rt; schedule.finish(TestId(test), u64::from(test) + 1), Ok(()));
+    }
+    assert_idle_backwards(&rt, &schedule);
+    assert_all_start(&rt, &mut schedule, 64, 65);
+}
+
+/// A tick that starts all 64 tests, with numbers from one on.
+fn assert_all_start(rt: &impl Abort, schedule: &mut Schedule, now: u64, first: u64)
+    requires { first < 1000 }
+{
+    let mut starts = ArrayVec::new();
+    assert_eq!(rt; schedule.tick_into(now, &mut starts), Ok(false));
+    assert_eq!(rt; starts.len(), 64);
+    for (index, start) in starts.iter().enumerate() {
+        assert_eq!(rt; usize::from(start.test.0), index);
+        assert_eq!(rt; start.run, first.saturating_add(index as u64));
+    }
+    assert_eq!(rt; schedule.next_due(), None);
+}
+
+/// All 64 tests are idle, the last one due at moment 1 and each one before it a moment later.
+fn assert_idle_backwards(rt: &impl Abort, schedule: &Schedule) {
+    assert_eq!(rt; schedule.idle().len(), 64);
+    for (place, (due, test)) in schedule.idle().iter().enumerate() {
+        assert_eq!(rt; *due, (place as u64).saturating_add(1));
+        assert_eq!(rt; usize::from(test.0), 63_usize.saturating_sub(place));
+    }
 }

@@ -9,6 +9,7 @@ use std::alloc::{AllocError, Global};
 use std::process::Abort;
 use std::test::Fail;
 
+mod due;
 mod lent;
 
 /// The bytes of an image in hexadecimal.
