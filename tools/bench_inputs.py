@@ -6,6 +6,7 @@ CMD, STATE, QUEUE, WANT, JF, JT, CALL, POP = 0x09, 0x0A, 0x0B, 0x0C, 0x0E, 0x0F,
 DOWN, UP = 1, 2
 MOST_BYTES = 1_048_576
 MOST_BLOCKS = 256
+MOST_TESTS = 64
 BLOCK = 4_096
 COMMENT = "# the gateway that holds the address answers, and the other one waits until its peer is gone\n"
 
@@ -22,15 +23,15 @@ def state(name, init, body, mask=0):
     return text(name) + struct.pack(">HHQ", init, body, mask)
 
 
-def image(routines, states, always=0, tests=(), commands=()):
-    """One interface, and an always body of that number; its init is routine 0."""
+def image(routines, states, always=0, tests=(), commands=(), period=1):
+    """One interface, and an always body of that number; its init is routine 0. All tests have one period."""
     return b"".join([
         b"IFSV\x01",
         struct.pack(">HHIH", 32, 32, 300_000, len(commands)),
         struct.pack(">HHHHH", 1, len(tests), len(commands), len(states), len(routines)),
         struct.pack(">HHHQ", 0, 0, always, 0),
         text("carp0"),
-        *[struct.pack(">I", 1) + text(test) for test in tests],
+        *[struct.pack(">I", period) + text(test) for test in tests],
         *[text(command) for command in commands],
         *states,
         *[struct.pack(">BH", 0, len(code)) + b"".join(code) for code in routines],
@@ -60,6 +61,17 @@ def gateway_requests(count):
             f"result 0 {2 * second - 1} {ends}", f"result 1 {2 * second} {ends}", "take",
         ]
     return lines
+
+
+def waiting(tests):
+    """So many tests of the longest period, all active, which nothing asks for."""
+    texts = [f"ping -q -c 1 192.0.2.{test + 1}" for test in range(tests)]
+    return image([[op(RET)]], [state("a", 0, 0, (1 << tests) - 1)], 0, texts, (), 604_800)
+
+
+def waiting_requests(tests, ticks):
+    """A tick that starts all tests, their results, and so many ticks at which none of them is due."""
+    return ["tick 0", *[f"result {test} {test + 1} ok" for test in range(tests)], *["tick 1"] * ticks]
 
 
 def straight(instructions):
