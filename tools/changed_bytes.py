@@ -74,8 +74,8 @@ class Changer:
         self.replaced(self.below(len(self.data) - length + 1), length, self.data[taken : taken + length])
 
 
-ANYWHERE = (Changer.cut, Changer.longer, Changer.set_one, Changer.set_one, Changer.set_two, Changer.drop, Changer.exchange_two,
-            Changer.copy_slice)
+ANYWHERE = (Changer.cut, Changer.longer, Changer.set_one, Changer.set_one, Changer.set_two, Changer.drop,
+            Changer.exchange_two, Changer.copy_slice)
 
 
 class ImageChanger(Changer):

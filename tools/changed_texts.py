@@ -5,11 +5,13 @@ from changed_bytes import ANYWHERE, Changer
 
 SIGNS = b"{}().=!&|$#\"'\\\n\r\t "
 # what is put in where an action or a state may stand
-ACTIONS = (b"init { }", b"set-state s0", b"init-state s0", b'if "t" every 5 { }', b"if em0.link.up { }", b'run ""', b"state s0 { }",
+ACTIONS = (b"init { }", b"set-state s0", b"init-state s0", b'if "t" every 5 { }', b"if em0.link.up { }", b'run ""',
+           b"state s0 { }",
            b"init set-state s0", b'init if "t" every 1 { }', b"run " + b"y" * 1_024, b"run " + b"y" * 1_025, b'run "\0"',
            b"if " + b"! " * 32 + b"em0.link.up { }", b"if " + b"( " * 30 + b"em0.link.up" + b" )" * 30 + b" { }",
            b"if a.link.up || b.link.up && c.link.up { }", b"x = '$x b'", b"x = 'a = b'", b"x = y", b"run $x", b"m0 = '\"a' ")
-PIECES = (b"!", b"(", b")", b"{", b"}", b"&&", b"||", b"&", b"$", b"$m0", b'"', b"'", b"\\", b"#", b"\\\n", b"=", b"every 0", b"..")
+PIECES = (b"!", b"(", b")", b"{", b"}", b"&&", b"||", b"&", b"$", b"$m0", b'"', b"'", b"\\", b"#", b"\\\n", b"=",
+          b"every 0", b"..")
 PERIODS = (b"0", b"1", b"604800", b"604801", b"007", b"5s", b"99999999999999999999", b'"5"', b"1_0", b"")
 
 

@@ -5,8 +5,8 @@ MAGIC, VERSION = b"IFSV", 1
 STACK, FRAMES, COST, COMMANDS = 32, 32, 300_000, 64
 ROUTINE_COST, ROUTINE_OPS, IMAGE_OPS, TEXT, PERIOD = 100_000, 1_024, 8_192, 1_024, 604_800
 COUNTS = {"interfaces": (0, 64), "tests": (0, 64), "commands": (0, 1_024), "states": (1, 256), "routines": (0, 1_024)}
-NAMES = ("ret", "true", "false", "link", "test", "known", "not", "and", "or", "cmd", "state", "queue", "want", "jump", "jf", "jt",
-         "call", "pop", "dup")
+NAMES = ("ret", "true", "false", "link", "test", "known", "not", "and", "or", "cmd", "state", "queue", "want", "jump", "jf",
+         "jt", "call", "pop", "dup")
 OPERANDS = {"link", "test", "known", "cmd", "state", "jump", "jf", "jt", "call"}
 TABLES = {"link": "interfaces", "test": "tests", "known": "tests", "cmd": "commands", "state": "states", "call": "routines"}
 TAKES = {"not": ["truth"], "and": ["truth"] * 2, "or": ["truth"] * 2, "queue": ["command"], "want": ["state"],
@@ -260,8 +260,8 @@ def check_bounds(image):
     """V10 to V13 of one routine after the other."""
     for routine in image.routines:
         find_bounds(image, routine)
-        limits = ((routine.height, STACK), (routine.frames, FRAMES), (routine.cost, ROUTINE_COST), (routine.commands, COMMANDS))
-        for check, (bound, limit) in zip(("V10", "V11", "V12", "V13"), limits):
+        bounds = (routine.height, routine.frames, routine.cost, routine.commands)
+        for check, bound, limit in zip(("V10", "V11", "V12", "V13"), bounds, (STACK, FRAMES, ROUTINE_COST, COMMANDS)):
             if bound > limit:
                 routine.refuse(check, 0)
 
@@ -285,7 +285,8 @@ def check_head(image):
             raise Refused(check, "head")
 
 
-CHECKS = (check_indices, check_results, check_jumps, check_ends, check_calls, check_reached, check_stacks, check_bounds, check_head)
+CHECKS = (check_indices, check_results, check_jumps, check_ends, check_calls, check_reached, check_stacks, check_bounds,
+          check_head)
 
 
 def verified(data):

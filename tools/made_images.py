@@ -122,7 +122,8 @@ def form_faults():
     yield from (run(("jump", target), ("jump", 2), RET) for target in (0, 1, 2, 3))
     yield from (run(("link", 0), ("jf", target), RET) for target in (0, 1, 2, 3))
     yield from (run(), run(("true",)), run(("true",), ("pop",)), run(("jump", 1), ("jump", 1)), run(RET, ("true",)))
-    yield from (run(RET, RET), run(RET, ("true",), RET), run(("jump", 2), ("true",), RET), run(("jump", 2), ("jump", 3), RET, RET))
+    yield from (run(RET, RET), run(RET, ("true",), RET), run(("jump", 2), ("true",), RET),
+                run(("jump", 2), ("jump", 3), RET, RET))
     yield from (run(("true",), ("jt", 4), ("jump", 5), ("ret",), ("ret",), ("ret",)), run(before=[(0, [RET])]),
                 run(RET, before=[(0, [])]), run(("call", 1), ("jump", 1), before=[(0, [("jump", 7)])]))
 
@@ -133,16 +134,19 @@ def stack_faults():
     for name in NAMES:
         for kinds in ([], ["truth"], ["command"], ["state"], ["truth", "truth"], ["command", "truth"], ["truth", "state"]):
             for results in (0, 1):
-                routine = (results, [pushes[kind] for kind in kinds] + [(name, len(kinds) + 1) if "j" in name else (name,), RET])
+                tried = (name, len(kinds) + 1) if name in ("jump", "jf", "jt") else (name,)
+                routine = (results, [*(pushes[kind] for kind in kinds), tried, RET])
                 yield Draft([routine, (0, [RET])], [(1, 1, 0)] * 2).data()
     yield from (run(*[("true",)] * count, *[("pop",)] * count, RET) for count in (31, 32, 33))
-    yield from (run(*[("true",)] * 31, ("dup",), *more, RET) for more in ([("dup",)], [("pop",)] * 32, [("not",), ("queue",)]))
+    yield from (run(*[("true",)] * 31, ("dup",), *more, RET)
+                for more in ([("dup",)], [("pop",)] * 32, [("not",), ("queue",)]))
     push = ("true",)
     yield from (run(push, ("jf", 3), push, RET), run(push, ("jt", 3), push, ("pop",), RET),
                 run(push, ("jf", 4), push, ("jump", 5), ("cmd", 0), ("pop",), RET),
                 run(push, ("jf", 4), ("cmd", 1), ("jump", 5), ("cmd", 0), ("pop",), RET),
                 run(push, push, ("jf", 4), ("pop",), ("pop",), RET), run(*[push] * 32, ("jf", 34), ("true",), RET),
-                run(*[push] * 32, ("jf", 35), ("dup",), ("dup",), RET), run(*[push] * 32, ("jf", 35), ("dup",), ("not",), RET))
+                run(*[push] * 32, ("jf", 35), ("dup",), ("dup",), RET),
+                run(*[push] * 32, ("jf", 35), ("dup",), ("not",), RET))
 
 
 def bound_faults():
@@ -191,7 +195,7 @@ def ordered_bounds():
 def ordered_faults():
     """Two faults in two routines, and one of them in a handler's results."""
     push = ("true",)
-    faults = ([("cmd", 9), RET], [("jump", 0), RET], [push], [("call", 3), RET], [RET, RET], [("pop",), RET], [push, RET],
+    faults = ([("cmd", 9), RET], [("jump", 0), RET], [push], [("call", 2), RET], [RET, RET], [("pop",), RET], [push, RET],
               [push, ("jf", 3), push, RET], [push] * 33 + [RET], [("cmd", 0), ("queue",)] * 65 + [RET], [RET])
     for one in faults:
         for other in faults:
@@ -208,7 +212,8 @@ def bounded_routines():
     straight = (0, [("state", 1), ("want",), RET])
     yield [shared, straight, branch, (0, [*act * 3, RET]), straight]
     yield [shared, (0, [*act * 9, RET]), straight, (0, [*act * 3, RET]), branch]
-    yield [shared, straight, (0, [("call", 0), ("pop",), RET]), (0, [("call", 1), RET]), branch]
+    yield [shared, straight, (0, [("call", 0), ("pop",), RET]), (0, [("call", 1), ("call", 2), RET]), branch]
+    yield [shared, (0, [("cmd", 0), ("pop",), RET]), straight, (0, [("cmd", 1), ("dup",), ("queue",), ("queue",), RET]), branch]
 
 
 def by_hand():
