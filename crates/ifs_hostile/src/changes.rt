@@ -1,0 +1,109 @@
+//! Each change of a byte of an image, each cut, and each byte more.
+
+use crate::fault::Fault;
+use crate::fields::{field_lengths, field_of};
+use crate::tally::{Change, Tally, told};
+use crate::verdict::{compare, judged, refuse};
+use anyhow::Result;
+use ifs_image::{ImageFault, read};
+use ifs_rows::images;
+use std::io;
+
+/// The images, by the names of their rows.
+pub fn changed_images() -> [(&'static str, &'static str); 8] {
+    [
+        ("smallest image", images::SMALLEST_IMAGE),
+        ("first run", images::FIRST_RUN),
+        ("first policy", images::FIRST_POLICY),
+        ("last wish", images::LAST_WISH),
+        ("macros", images::MACROS),
+        ("held back", images::HELD_BACK),
+        ("stale", images::STALE),
+        ("shared condition", images::SHARED_CONDITION),
+    ]
+}
+
+/// Cuts an image before each byte: the field that the byte is of is then not there whole.
+pub fn try_cuts<R: Print + AllocGlobal>(rt: &R, name: &str, bytes: &[u8]) -> Result<Tally> {
+    let image = read(rt.alloc(), bytes)?;
+    let lengths = field_lengths(rt.alloc(), image.parts())?;
+    Ok(try_each_cut(rt, name, bytes, lengths.as_slice())?)
+}
+
+fn try_each_cut<R: Print + AllocGlobal>(
+    rt: &R,
+    name: &str,
+    bytes: &[u8],
+    lengths: &[usize],
+) -> io::Result<Tally> {
+    let mut tally = Tally::default();
+    for length in 0..bytes.len() {
+        let at = field_of(lengths, length);
+        let fault = Fault::NoImage(ImageFault::Truncated { at });
+        let answer = refuse(rt.alloc(), &bytes[..length], fault);
+        tally = tally.and(told(rt, name, Change::Cut { length }, answer)?);
+    }
+    Ok(tally)
+}
+
+/// Puts one byte more behind an image, of each value: it is left over.
+pub fn try_longer<R: Print + AllocGlobal>(rt: &R, name: &str, bytes: &[u8]) -> Result<Tally> {
+    let mut longer = Vec::from_slice(rt.alloc(), bytes)?;
+    longer.push(0)?;
+    Ok(try_each_longer(rt, name, longer.as_mut_slice(), bytes.len())?)
+}
+
+fn try_each_longer<R: Print + AllocGlobal>(
+    rt: &R,
+    name: &str,
+    longer: &mut [u8],
+    at: usize,
+) -> io::Result<Tally> {
+    let fault = Fault::NoImage(ImageFault::Trailing { at });
+    let mut tally = Tally::default();
+    for value in 0..=u8::MAX {
+        set(longer, at, value);
+        let answer = refuse(rt.alloc(), longer, fault);
+        tally = tally.and(told(rt, name, Change::Byte { at, value }, answer)?);
+    }
+    Ok(tally)
+}
+
+/// Sets each byte of an image to each other value.
+pub fn try_bytes<R: Print + AllocGlobal>(
+    rt: &R,
+    name: &str,
+    bytes: &mut [u8],
+) -> io::Result<Tally> {
+    let mut tally = Tally::default();
+    for at in 0..bytes.len() {
+        let was = bytes[at];
+        tally = tally.and(try_values(rt, name, bytes, at, was)?);
+        set(bytes, at, was);
+    }
+    Ok(tally)
+}
+
+/// Sets a byte to each value but the one that it was.
+fn try_values<R: Print + AllocGlobal>(
+    rt: &R,
+    name: &str,
+    bytes: &mut [u8],
+    at: usize,
+    was: u8,
+) -> io::Result<Tally> {
+    let mut tally = Tally::default();
+    for value in (0..=u8::MAX).filter(|value| *value != was) {
+        set(bytes, at, value);
+        let answer = compare(rt.alloc(), bytes, judged(rt.alloc(), bytes));
+        tally = tally.and(told(rt, name, Change::Byte { at, value }, answer)?);
+    }
+    Ok(tally)
+}
+
+/// Sets a byte, where there is one.
+fn set(bytes: &mut [u8], at: usize, value: u8) {
+    if let Some(byte) = bytes.get_mut(at) {
+        *byte = value;
+    }
+}

@@ -1,0 +1,167 @@
+//! What is used from each place on, and the limits of it for a routine.
+
+use crate::fault::{Check, Fault, Place};
+use crate::slow::kinds::{Kinds, left_by};
+use crate::slow::listing::{Line, Listing};
+use ifs_base::Op;
+use std::alloc::{AllocError, Global};
+
+/// What may be used at most from a place on. What is past all numbers is the greatest one.
+#[derive(Clone, Copy, Debug, Default, PartialEq, Eq)]
+pub struct Bounds {
+    /// Values on the stack at one time.
+    pub height: u32,
+    /// Frames at one time.
+    pub frames: u32,
+    /// Executed instructions.
+    pub cost: u32,
+    /// Queued commands.
+    pub commands: u32,
+}
+
+impl Bounds {
+    /// What a routine may use.
+    const LIMITS: Bounds = Bounds {
+        height: 32,
+        frames: 32,
+        cost: 100_000,
+        commands: 64,
+    };
+
+    /// The greater of two, each number by itself.
+    pub fn or(self, other: Bounds) -> Bounds {
+        Bounds {
+            height: self.height.max(other.height),
+            frames: self.frames.max(other.frames),
+            cost: self.cost.max(other.cost),
+            commands: self.commands.max(other.commands),
+        }
+    }
+
+    /// What is used by one, and by another after it: values and frames at one time are not added.
+    pub fn then(self, other: Bounds) -> Bounds {
+        Bounds {
+            cost: self.cost.saturating_add(other.cost),
+            commands: self.commands.saturating_add(other.commands),
+            ..self.or(other)
+        }
+    }
+
+    /// What is used in a frame above so many values of its caller.
+    fn above(self, values: u32) -> Bounds {
+        Bounds {
+            height: self.height.saturating_add(values),
+            frames: self.frames.saturating_add(1),
+            ..self
+        }
+    }
+
+    /// The first number that is over its limit.
+    pub fn over(self, limits: Bounds) -> Option<Check> {
+        if self.height > limits.height {
+            Some(Check::Stack)
+        } else if self.frames > limits.frames {
+            Some(Check::Frames)
+        } else if self.cost > limits.cost {
+            Some(Check::Cost)
+        } else if self.commands > limits.commands {
+            Some(Check::Commands)
+        } else {
+            None
+        }
+    }
+}
+
+/// What is used from each line on, where no routine uses more than it may.
+pub fn check_bounds(
+    alloc: Global,
+    listing: &Listing,
+    kinds: &[Option<Kinds>],
+) -> Result<Vec<Bounds>, Fault> {
+    let bounds = settled(alloc, listing, kinds)?;
+    judge_bounds(listing, bounds.as_slice())?;
+    Ok(bounds)
+}
+
+/// What is used from each line on, found in rounds until one changes nothing.
+fn settled(
+    alloc: Global,
+    listing: &Listing,
+    kinds: &[Option<Kinds>],
+) -> Result<Vec<Bounds>, AllocError> {
+    let mut bounds = round(alloc, listing, kinds, &[])?;
+    for _round in 0..listing.lines().len() {
+        let next = round(alloc, listing, kinds, bounds.as_slice())?;
+        if next.as_slice() == bounds.as_slice() {
+            break;
+        }
+        bounds = next;
+    }
+    Ok(bounds)
+}
+
+/// One round: what is used from each line on by what the last round has for its successors and for what it calls.
+fn round(
+    alloc: Global,
+    listing: &Listing,
+    kinds: &[Option<Kinds>],
+    last: &[Bounds],
+) -> Result<Vec<Bounds>, AllocError> {
+    listing
+        .lines()
+        .iter()
+        .zip(kinds)
+        .map(|(line, here)| used_from(listing, line, here.unwrap_or_default(), last))
+        .collect(alloc)
+}
+
+/// What is used from a line on, whose instruction finds these kinds.
+fn used_from(listing: &Listing, line: &Line, here: Kinds, last: &[Bounds]) -> Bounds {
+    let mut after = Bounds::default();
+    for place in line.successors().iter().flatten() {
+        let index = listing.index_of(line, *place);
+        after = after.or(at(last, index));
+    }
+    used_at(listing, line, here)
+        .then(called(listing, line, here, last))
+        .then(after)
+}
+
+/// What an instruction uses by itself.
+fn used_at(listing: &Listing, line: &Line, here: Kinds) -> Bounds {
+    let left = left_by(listing, line, here).unwrap_or(here);
+    Bounds {
+        height: here.len().max(left.len()),
+        frames: 1,
+        cost: 1,
+        commands: if line.op == Op::Queue { 1 } else { 0 },
+    }
+}
+
+/// What is used by the routine that an instruction calls; nothing where it calls none.
+fn called(listing: &Listing, line: &Line, here: Kinds, last: &[Bounds]) -> Bounds {
+    match line.op {
+        Op::Call(callee) => at(last, listing.first_of(callee)).above(here.len()),
+        _ => Bounds::default(),
+    }
+}
+
+/// What stands at an index; nothing is used where there is none.
+pub fn at(bounds: &[Bounds], index: Option<usize>) -> Bounds {
+    match index {
+        Some(index) => bounds.get(index).copied().unwrap_or_default(),
+        None => Bounds::default(),
+    }
+}
+
+/// The first routine that uses more than it may.
+fn judge_bounds(listing: &Listing, bounds: &[Bounds]) -> Result<(), Fault> {
+    for (line, used) in listing.lines().iter().zip(bounds) {
+        if line.place == 0
+            && let Some(check) = used.over(Bounds::LIMITS)
+        {
+            return Err(Fault::Fails(check, Place::Code(line.routine, 0)));
+        }
+    }
+    Ok(())
+}

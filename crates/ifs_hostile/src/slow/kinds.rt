@@ -1,0 +1,174 @@
+//! The kinds on the stack at each place, and the checks of them.
+
+use crate::fault::{Check, Fault, Place};
+use crate::slow::listing::{Line, Listing};
+use ifs_base::{Kind, Op};
+use std::alloc::{AllocError, Global};
+
+/// A list of kinds: a number to base 4, whose last digit is the topmost kind, 1 to 3. So up to 32 kinds have
+/// room, which is as many as there may be.
+#[derive(Clone, Copy, Debug, Default, PartialEq, Eq)]
+pub struct Kinds(u64);
+
+impl Kinds {
+    const NONE: Kinds = Kinds(0);
+
+    /// How many kinds there are.
+    pub fn len(self) -> u32 {
+        let mut rest = self.0;
+        for digits in 0..32 {
+            if rest == 0 {
+                return digits;
+            }
+            rest /= 4;
+        }
+        32
+    }
+
+    /// With one more on top; `None` where there are 32 already.
+    fn with(self, kind: Kind) -> Option<Kinds> {
+        let digit = match kind {
+            Kind::Truth => 1,
+            Kind::Command => 2,
+            Kind::StateName => 3,
+        };
+        let digits = self.0.checked_mul(4)?.checked_add(digit)?;
+        Some(Kinds(digits))
+    }
+
+    /// The topmost, where there is one.
+    fn top(self) -> Option<Kind> {
+        match self.0 % 4 {
+            1 => Some(Kind::Truth),
+            2 => Some(Kind::Command),
+            3 => Some(Kind::StateName),
+            _ => None,
+        }
+    }
+
+    /// Without its topmost.
+    fn below(self) -> Kinds {
+        Kinds(self.0 / 4)
+    }
+
+    /// Without its topmost, which has to be of a kind.
+    fn without(self, kind: Kind) -> Result<Kinds, Check> {
+        if self.top() == Some(kind) {
+            Ok(self.below())
+        } else {
+            Err(Check::Operand)
+        }
+    }
+}
+
+/// What an instruction leaves of the kinds that it finds. An error is the check that fails.
+pub fn left_by(listing: &Listing, line: &Line, kinds: Kinds) -> Result<Kinds, Check> {
+    match line.op {
+        Op::Ret => returned(line.results, kinds),
+        Op::Yes | Op::No | Op::Link(_, _) | Op::Test(_) | Op::Known(_) => put(kinds, Kind::Truth),
+        Op::Negate => put(kinds.without(Kind::Truth)?, Kind::Truth),
+        Op::Both | Op::Either => {
+            let first = kinds.without(Kind::Truth)?;
+            put(first.without(Kind::Truth)?, Kind::Truth)
+        }
+        Op::PushCommand(_) => put(kinds, Kind::Command),
+        Op::PushState(_) => put(kinds, Kind::StateName),
+        Op::Queue => kinds.without(Kind::Command),
+        Op::Want => kinds.without(Kind::StateName),
+        Op::Jump(_) => Ok(kinds),
+        Op::JumpFalse(_) | Op::JumpTrue(_) => kinds.without(Kind::Truth),
+        Op::Call(callee) if listing.results_of(callee) == Some(1) => put(kinds, Kind::Truth),
+        Op::Call(_) => Ok(kinds),
+        Op::Pop => kinds.without(kinds.top().ok_or(Check::Operand)?),
+        Op::Dup => put(kinds, kinds.top().ok_or(Check::Operand)?),
+    }
+}
+
+/// With one more kind on top, where there is room.
+fn put(kinds: Kinds, kind: Kind) -> Result<Kinds, Check> {
+    kinds.with(kind).ok_or(Check::Stack)
+}
+
+/// The kinds at `ret`, which are the routine's results.
+fn returned(results: u8, kinds: Kinds) -> Result<Kinds, Check> {
+    let wanted = match results {
+        0 => Some(Kinds::NONE),
+        _ => Kinds::NONE.with(Kind::Truth),
+    };
+    if wanted == Some(kinds) {
+        Ok(kinds)
+    } else {
+        Err(Check::Results)
+    }
+}
+
+/// The kinds at each line, where all ways to a line agree and each instruction fits what it finds.
+pub fn check_kinds(alloc: Global, listing: &Listing) -> Result<Vec<Option<Kinds>>, Fault> {
+    let kinds = settled(alloc, listing)?;
+    judge_kinds(listing, kinds.as_slice())?;
+    Ok(kinds)
+}
+
+/// The kinds that the first way to each line leaves there, found in rounds until one changes nothing.
+fn settled(alloc: Global, listing: &Listing) -> Result<Vec<Option<Kinds>>, AllocError> {
+    let mut kinds = round(alloc, listing, &[])?;
+    for _round in 0..listing.lines().len() {
+        let next = round(alloc, listing, kinds.as_slice())?;
+        if next.as_slice() == kinds.as_slice() {
+            break;
+        }
+        kinds = next;
+    }
+    Ok(kinds)
+}
+
+/// One round: the kinds at each line by what the last round has at the line from which it is first reached.
+fn round(
+    alloc: Global,
+    listing: &Listing,
+    last: &[Option<Kinds>],
+) -> Result<Vec<Option<Kinds>>, AllocError> {
+    listing
+        .lines()
+        .iter()
+        .zip(listing.origins())
+        .map(|(line, origin)| found(listing, line, *origin, last))
+        .collect(alloc)
+}
+
+/// The kinds at a line: none at a routine's first place, else those that the first line that leads there leaves.
+fn found(
+    listing: &Listing,
+    line: &Line,
+    origin: Option<usize>,
+    last: &[Option<Kinds>],
+) -> Option<Kinds> {
+    if line.place == 0 {
+        return Some(Kinds::NONE);
+    }
+    let before = listing.lines().get(origin?)?;
+    let kinds = last.get(origin?).copied().flatten()?;
+    left_by(listing, before, kinds).ok()
+}
+
+/// The first place at which an instruction does not fit what it finds, or leaves to another place what does not stand there.
+fn judge_kinds(listing: &Listing, kinds: &[Option<Kinds>]) -> Result<(), Fault> {
+    for (line, here) in listing.lines().iter().zip(kinds) {
+        let place = Place::Code(line.routine, line.place);
+        let here = here.ok_or(Fault::Fails(Check::Reached, place))?;
+        let left = left_by(listing, line, here).map_err(|check| Fault::Fails(check, place))?;
+        if !agrees(listing, line, left, kinds) {
+            return Err(Fault::Fails(Check::Ways, place));
+        }
+    }
+    Ok(())
+}
+
+/// Whether what a line leaves is what stands at each of its successors.
+fn agrees(listing: &Listing, line: &Line, left: Kinds, kinds: &[Option<Kinds>]) -> bool {
+    line.successors()
+        .iter()
+        .flatten()
+        .filter_map(|place| listing.index_of(line, *place))
+        .all(|index| kinds.get(index).copied().flatten() == Some(left))
+}

@@ -1,0 +1,125 @@
+//! The instructions of an image in one list, with where each may lead.
+
+use ifs_base::{Op, RoutineId};
+use ifs_image::Routine;
+use std::alloc::{AllocError, Global};
+
+/// An instruction, and where it stands.
+#[derive(Clone, Copy, Debug, PartialEq, Eq)]
+pub struct Line {
+    /// The routine's index.
+    pub routine: usize,
+    /// The place in the routine.
+    pub place: usize,
+    /// How many instructions the routine has.
+    pub length: usize,
+    /// How many truths the routine leaves.
+    pub results: u8,
+    pub op: Op,
+}
+
+impl Line {
+    /// The places of its routine at which the run may go on.
+    pub fn successors(&self) -> [Option<usize>; 2] {
+        let next = Some(self.place.saturating_add(1));
+        match self.op {
+            Op::Ret => [None, None],
+            Op::Jump(target) => [Some(usize::from(target)), None],
+            Op::JumpFalse(target) | Op::JumpTrue(target) => [next, Some(usize::from(target))],
+            _ => [next, None],
+        }
+    }
+
+    /// Whether it stands before another of its routine and may lead there.
+    fn leads_to(&self, other: &Line) -> bool {
+        let [first, second] = self.successors();
+        let there = Some(other.place);
+        self.routine == other.routine
+            && self.place < other.place
+            && (first == there || second == there)
+    }
+}
+
+/// All instructions, routines and places ascending.
+#[derive(Debug, Drop)]
+pub struct Listing {
+    lines: Vec<Line>,
+    /// Of each routine, the index of its first line.
+    firsts: Vec<usize>,
+    /// Of each routine, how many truths it leaves.
+    results: Vec<u8>,
+    /// Of each line, the index of the first line that leads to it.
+    origins: Vec<Option<usize>>,
+}
+
+impl Listing {
+    /// The instructions of routines.
+    pub fn of(alloc: Global, routines: &[Routine]) -> Result<Listing, AllocError> {
+        let mut listing = Listing {
+            lines: Vec::new(alloc),
+            firsts: Vec::new(alloc),
+            results: Vec::new(alloc),
+            origins: Vec::new(alloc),
+        };
+        listing.fill(routines)?;
+        Ok(listing)
+    }
+
+    fn fill(&mut self, routines: &[Routine]) -> Result<(), AllocError> {
+        for (index, routine) in routines.iter().enumerate() {
+            self.firsts.push(self.lines.len())?;
+            self.results.push(routine.results)?;
+            push_lines(&mut self.lines, index, routine)?;
+        }
+        push_origins(self.lines.as_slice(), &mut self.origins)
+    }
+
+    /// All instructions.
+    pub fn lines(&self) -> &[Line] {
+        self.lines.as_slice()
+    }
+
+    /// Of each line, the index of the first line that leads to it.
+    pub fn origins(&self) -> &[Option<usize>] {
+        self.origins.as_slice()
+    }
+
+    /// The index of the first line of a routine.
+    pub fn first_of(&self, routine: RoutineId) -> Option<usize> {
+        self.firsts.as_slice().get(usize::from(routine.0)).copied()
+    }
+
+    /// How many truths a routine leaves.
+    pub fn results_of(&self, routine: RoutineId) -> Option<u8> {
+        self.results.as_slice().get(usize::from(routine.0)).copied()
+    }
+
+    /// The index of the line at a place of the routine of another line.
+    pub fn index_of(&self, line: &Line, place: usize) -> Option<usize> {
+        let first = self.firsts.as_slice().get(line.routine)?;
+        first.checked_add(place)
+    }
+}
+
+/// Adds the instructions of a routine.
+fn push_lines(lines: &mut Vec<Line>, index: usize, routine: &Routine) -> Result<(), AllocError> {
+    let code = routine.code.as_slice();
+    for (place, op) in code.iter().enumerate() {
+        lines.push(Line {
+            routine: index,
+            place,
+            length: code.len(),
+            results: routine.results,
+            op: *op,
+        })?;
+    }
+    Ok(())
+}
+
+/// Adds, of each line, the index of the first that leads to it.
+fn push_origins(lines: &[Line], origins: &mut Vec<Option<usize>>) -> Result<(), AllocError> {
+    for line in lines {
+        origins.push(lines.iter().position(|other| other.leads_to(line)))?;
+    }
+    Ok(())
+}

@@ -1,0 +1,156 @@
+//! The checks that look at each entry and instruction by itself.
+
+use crate::fault::{Check, Fault, Place};
+use crate::slow::listing::{Line, Listing};
+use ifs_base::Op;
+use ifs_image::{Handlers, ImageParts, Routine};
+
+/// Each plain check over the whole image, one after the other.
+pub fn check_plain(parts: &ImageParts, listing: &Listing) -> Result<(), Fault> {
+    let lines = listing.lines();
+    check_head(parts)?;
+    check_states(parts)?;
+    check_operands(parts, lines)?;
+    check_leaving(parts, listing)?;
+    check_jumps(lines)?;
+    check_ends(parts.routines.as_slice())?;
+    check_calls(lines)?;
+    check_reached(lines, listing.origins())
+}
+
+/// A fault, where what a check wants does not hold.
+fn wanted(holds: bool, check: Check, place: Place) -> Result<(), Fault> {
+    if holds {
+        Ok(())
+    } else {
+        Err(Fault::Fails(check, place))
+    }
+}
+
+/// The initial state and the always part are within their tables.
+fn check_head(parts: &ImageParts) -> Result<(), Fault> {
+    let initial = usize::from(parts.initial.0) < parts.states.len();
+    let within = initial && are_within(parts, parts.always);
+    wanted(within, Check::Entry, Place::Head)
+}
+
+/// The handlers of each state are within their tables.
+fn check_states(parts: &ImageParts) -> Result<(), Fault> {
+    for (index, state) in parts.states.as_slice().iter().enumerate() {
+        let within = are_within(parts, state.handlers);
+        wanted(within, Check::Entry, Place::State(index))?;
+    }
+    Ok(())
+}
+
+/// Whether both routines are in the table, and no test of the mask is behind the table's last.
+fn are_within(parts: &ImageParts, handlers: Handlers) -> bool {
+    let routines = parts.routines.len();
+    usize::from(handlers.init.0) < routines
+        && usize::from(handlers.body.0) < routines
+        && are_below(handlers.mask, parts.tests.len())
+}
+
+/// Whether a mask names tests below a number alone: without the bits of these it is 0.
+fn are_below(mask: u64, tests: usize) -> bool {
+    let mut rest = mask;
+    for _test in 0..tests {
+        rest /= 2;
+    }
+    rest == 0
+}
+
+/// Each index of an instruction is within its table.
+fn check_operands(parts: &ImageParts, lines: &[Line]) -> Result<(), Fault> {
+    for line in lines {
+        let (index, length) = entry_of(parts, line.op);
+        wanted(
+            index < length,
+            Check::Entry,
+            Place::Code(line.routine, line.place),
+        )?;
+    }
+    Ok(())
+}
+
+/// The index that an instruction names, and the length of the table; without an index the first of one entry.
+fn entry_of(parts: &ImageParts, op: Op) -> (usize, usize) {
+    match op {
+        Op::Link(interface, _) => (usize::from(interface.0), parts.interfaces.len()),
+        Op::Test(test) | Op::Known(test) => (usize::from(test.0), parts.tests.len()),
+        Op::PushCommand(command) => (usize::from(command.0), parts.commands.len()),
+        Op::PushState(state) => (usize::from(state.0), parts.states.len()),
+        Op::Call(routine) => (usize::from(routine.0), parts.routines.len()),
+        _ => (0, 1),
+    }
+}
+
+/// No handler leaves a value.
+fn check_leaving(parts: &ImageParts, listing: &Listing) -> Result<(), Fault> {
+    wanted(
+        leave_nothing(listing, parts.always),
+        Check::Leaves,
+        Place::Head,
+    )?;
+    for (index, state) in parts.states.as_slice().iter().enumerate() {
+        let nothing = leave_nothing(listing, state.handlers);
+        wanted(nothing, Check::Leaves, Place::State(index))?;
+    }
+    Ok(())
+}
+
+/// Whether neither handler leaves a value.
+fn leave_nothing(listing: &Listing, handlers: Handlers) -> bool {
+    listing.results_of(handlers.init) == Some(0) && listing.results_of(handlers.body) == Some(0)
+}
+
+/// Each jump leads forward and stays in its routine.
+fn check_jumps(lines: &[Line]) -> Result<(), Fault> {
+    for line in lines {
+        let target = match line.op {
+            Op::Jump(target) | Op::JumpFalse(target) | Op::JumpTrue(target) => usize::from(target),
+            _ => continue,
+        };
+        let forward = line.place < target && target < line.length;
+        wanted(forward, Check::Jump, Place::Code(line.routine, line.place))?;
+    }
+    Ok(())
+}
+
+/// Each routine ends with `ret`.
+fn check_ends(routines: &[Routine]) -> Result<(), Fault> {
+    for (index, routine) in routines.iter().enumerate() {
+        let code = routine.code.as_slice();
+        let ends = matches!(code.last(), Some(Op::Ret));
+        wanted(
+            ends,
+            Check::End,
+            Place::Code(index, code.len().saturating_sub(1)),
+        )?;
+    }
+    Ok(())
+}
+
+/// Each called routine is lower in number than its caller.
+fn check_calls(lines: &[Line]) -> Result<(), Fault> {
+    for line in lines {
+        if let Op::Call(callee) = line.op {
+            let lower = usize::from(callee.0) < line.routine;
+            wanted(lower, Check::Lower, Place::Code(line.routine, line.place))?;
+        }
+    }
+    Ok(())
+}
+
+/// An earlier place leads to each place but the first of a routine.
+fn check_reached(lines: &[Line], origins: &[Option<usize>]) -> Result<(), Fault> {
+    for (line, origin) in lines.iter().zip(origins) {
+        let reached = line.place == 0 || origin.is_some();
+        wanted(
+            reached,
+            Check::Reached,
+            Place::Code(line.routine, line.place),
+        )?;
+    }
+    Ok(())
+}
