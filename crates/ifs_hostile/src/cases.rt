@@ -13,7 +13,7 @@ type Case = (&'static str, &'static str, &'static str);
 /// Budgets at their limits, and one state; all handlers are routine 0.
 const AMPLE: &str = "32 32 300000 64 | 0 | 0 0 - | 0 0 -";
 
-/// Each fails a check, and the one after it at an earlier place, from the first check to the last but one.
+/// Each fails a check and the one after it, which stands before it where it can; from the first check to the last but one.
 const IN_ORDER: &[Case] = &[
     // an index at the head, of a state
     (

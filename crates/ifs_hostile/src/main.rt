@@ -1,10 +1,10 @@
 //! Tries the verifier on hostile bytes, beside a slow checker that shares nothing with it.
 //!
-//! Images of the worked rows are cut before each byte, made a byte longer, and changed in each byte to each other value.
-//! Then come images that fail one check after the other, and the rows that are refused and accepted. Each answer
-//! has to be the wanted one, or else that of the slow checker, with the same check and the same place. What is accepted has to be
-//! written as it was read, and to keep its stated budgets in a run of fixed steps. Each wrong answer is a line, and then the
-//! exit status is 1.
+//! First come images whose answer is known: both checkers have to give it. Then images of the worked rows are cut before
+//! each byte and made a byte longer, which both have to refuse at the known place, and each of their bytes is set to each other
+//! value: there the verifier has to give the slow checker's answer, with its check and its place. What is accepted has to be
+//! written as it was read, and to keep its stated budgets in fixed steps. Each wrong answer is a line, and then the exit
+//! status is 1.
 #![tactic(auto)]
 
 mod cases;

@@ -83,7 +83,8 @@ pub fn check_bounds(
     Ok(bounds)
 }
 
-/// What is used from each line on, found in rounds until one changes nothing.
+/// What is used from each line on, found in rounds until one changes nothing. Ways lead forward and calls to lower
+/// routines, so there are no more such rounds than lines.
 fn settled(
     alloc: Global,
     listing: &Listing,

@@ -109,7 +109,8 @@ pub fn check_kinds(alloc: Global, listing: &Listing) -> Result<Vec<Option<Kinds>
     Ok(kinds)
 }
 
-/// The kinds that the first way to each line leaves there, found in rounds until one changes nothing.
+/// The kinds that the first way to each line leaves there, found in rounds until one changes nothing. Ways lead
+/// forward, so there are fewer such rounds than lines.
 fn settled(alloc: Global, listing: &Listing) -> Result<Vec<Option<Kinds>>, AllocError> {
     let mut kinds = round(alloc, listing, &[])?;
     for _round in 0..listing.lines().len() {
@@ -151,7 +152,8 @@ fn found(
     left_by(listing, before, kinds).ok()
 }
 
-/// The first place at which an instruction does not fit what it finds, or leaves to another place what does not stand there.
+/// The first place at which an instruction does not fit what it finds, or leaves to another place what does not stand there. A
+/// line without kinds comes behind the one that is at fault, since the first line that leads to it stands before it.
 fn judge_kinds(listing: &Listing, kinds: &[Option<Kinds>]) -> Result<(), Fault> {
     for (line, here) in listing.lines().iter().zip(kinds) {
         let place = Place::Code(line.routine, line.place);
