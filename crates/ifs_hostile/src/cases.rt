@@ -338,6 +338,11 @@ const PAST_A_LIMIT: &[Case] = &[
         "0 true, jt 4, cmd 0, jump 5, state 0, pop, ret",
         "refused V7 routine 0 place 4",
     ),
+    (
+        AMPLE,
+        "0 true, jf 5, true, true, jf 5, pop, ret",
+        "refused V7 routine 0 place 4",
+    ),
     // values on the stack, at a place and through a call
     (
         AMPLE,
@@ -411,6 +416,27 @@ const PAST_A_LIMIT: &[Case] = &[
         "0 ret / 0 cmd 0, queue, ret",
         "refused V13 head",
     ),
+    // what is stated, of the way on which more is used
+    (
+        "1 1 14 0 | 0 | 0 0 - | 0 0 -",
+        "0 true, jf 3, ret, true, pop, ret",
+        "refused V12 head",
+    ),
+    (
+        "1 1 300000 2 | 0 | 0 0 - | 0 0 -",
+        "0 true, jt 3, ret, cmd 0, queue, ret",
+        "refused V13 head",
+    ),
+    (
+        "1 1 300000 0 | 0 | 0 0 - | 0 0 -",
+        "0 true, jf 3, ret, 2*true, 2*pop, ret",
+        "refused V10 head",
+    ),
+    (
+        "1 1 300000 0 | 0 | 0 0 - | 0 1 -",
+        "0 ret / 0 true, jt 3, ret, call 0, ret",
+        "refused V11 head",
+    ),
 ];
 
 /// Each is at a limit.
@@ -461,6 +487,16 @@ const AT_A_LIMIT: &[Case] = &[
     (
         "1 1 7 2 | 0 | 0 1 - | 0 1 -",
         "0 ret / 0 cmd 0, queue, ret",
+        "ok",
+    ),
+    (
+        "1 1 15 0 | 0 | 0 0 - | 0 0 -",
+        "0 true, jf 3, ret, true, pop, ret",
+        "ok",
+    ),
+    (
+        "1 1 15 3 | 0 | 0 0 - | 0 0 -",
+        "0 true, jt 3, jump 5, cmd 0, queue, ret",
         "ok",
     ),
 ];
