@@ -5,50 +5,42 @@ use crate::slow::listing::{Line, Listing};
 use ifs_base::{Kind, Op};
 use std::alloc::{AllocError, Global};
 
-/// A list of kinds: a number to base 4, whose last digit is the topmost kind, 1 to 3. So up to 32 kinds have
-/// room, which is as many as there may be.
+/// How many kinds may lie on the stack.
+const MOST: usize = 32;
+
+/// A list of kinds, the topmost last. Behind it there is nothing.
 #[derive(Clone, Copy, Debug, Default, PartialEq, Eq)]
-pub struct Kinds(u64);
+pub struct Kinds {
+    kinds: [Option<Kind>; MOST],
+    count: usize,
+}
 
 impl Kinds {
-    const NONE: Kinds = Kinds(0);
-
-    /// How many kinds there are.
+    /// How many kinds there are, at most 32.
     pub fn len(self) -> u32 {
-        let mut rest = self.0;
-        for digits in 0..32 {
-            if rest == 0 {
-                return digits;
-            }
-            rest /= 4;
-        }
-        32
+        u32::try_from(self.count).unwrap_or(u32::MAX)
     }
 
     /// With one more on top; `None` where there are 32 already.
-    fn with(self, kind: Kind) -> Option<Kinds> {
-        let digit = match kind {
-            Kind::Truth => 1,
-            Kind::Command => 2,
-            Kind::StateName => 3,
-        };
-        let digits = self.0.checked_mul(4)?.checked_add(digit)?;
-        Some(Kinds(digits))
+    fn with(mut self, kind: Kind) -> Option<Kinds> {
+        *self.kinds.get_mut(self.count)? = Some(kind);
+        self.count = self.count.checked_add(1)?;
+        Some(self)
     }
 
     /// The topmost, where there is one.
     fn top(self) -> Option<Kind> {
-        match self.0 % 4 {
-            1 => Some(Kind::Truth),
-            2 => Some(Kind::Command),
-            3 => Some(Kind::StateName),
-            _ => None,
-        }
+        let last = self.count.checked_sub(1)?;
+        self.kinds.get(last).copied().flatten()
     }
 
     /// Without its topmost.
-    fn below(self) -> Kinds {
-        Kinds(self.0 / 4)
+    fn below(mut self) -> Kinds {
+        self.count = self.count.saturating_sub(1);
+        if let Some(top) = self.kinds.get_mut(self.count) {
+            *top = None;
+        }
+        self
     }
 
     /// Without its topmost, which has to be of a kind.
@@ -92,8 +84,8 @@ fn put(kinds: Kinds, kind: Kind) -> Result<Kinds, Check> {
 /// The kinds at `ret`, which are the routine's results.
 fn returned(results: u8, kinds: Kinds) -> Result<Kinds, Check> {
     let wanted = match results {
-        0 => Some(Kinds::NONE),
-        _ => Kinds::NONE.with(Kind::Truth),
+        0 => Some(Kinds::default()),
+        _ => Kinds::default().with(Kind::Truth),
     };
     if wanted == Some(kinds) {
         Ok(kinds)
@@ -145,7 +137,7 @@ fn found(
     last: &[Option<Kinds>],
 ) -> Option<Kinds> {
     if line.place == 0 {
-        return Some(Kinds::NONE);
+        return Some(Kinds::default());
     }
     let before = listing.lines().get(origin?)?;
     let kinds = last.get(origin?).copied().flatten()?;
