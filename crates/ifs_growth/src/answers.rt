@@ -1,0 +1,96 @@
+//! Calls of what the program answers on files.
+
+use crate::calls::{Given, Listed};
+use crate::growths::{Code, Turn, code_of, no_memory};
+use crate::images::Images;
+use crate::policies::{DEFINITIONS, TEXT};
+use ifs_cli::answering::answer;
+use ifs_cli::definitions::Definition;
+use ifs_cli::files::{FileFault, whole};
+use ifs_cli::task::{Answer, Task};
+use std::alloc::Global;
+
+/// Which call it is.
+#[derive(Clone, Copy)]
+pub enum Call {
+    Answer(Task),
+    Definition,
+    Whole,
+}
+
+/// Each of them.
+pub fn calls() -> [Listed<Call>; 7] {
+    [
+        Listed::new(Call::Answer(Task::Check), "answer on check", "AllocError"),
+        Listed::new(
+            Call::Answer(Task::Compile),
+            "answer on compile",
+            "AllocError",
+        ),
+        Listed::new(Call::Answer(Task::Verify), "answer on verify", "AllocError"),
+        Listed::new(Call::Answer(Task::Disasm), "answer on disasm", "AllocError"),
+        Listed::new(Call::Answer(Task::Asm), "answer on asm", "AllocError"),
+        Listed::new(Call::Definition, "Definition::new", "AllocError"),
+        Listed::new(Call::Whole, "files::whole", "Memory"),
+    ]
+}
+
+/// What they are given.
+#[derive(Drop)]
+pub struct Files<'a> {
+    /// The policy's image.
+    pub images: &'a Images,
+}
+
+impl Given for Files<'_> {
+    type Call = Call;
+
+    fn make(&self, call: Call, turn: Turn) -> Result<Vec<u8>, Code> {
+        let image = self.images.bytes.as_slice();
+        match call {
+            Call::Answer(Task::Check) => answered(turn, Task::Check, TEXT.as_bytes()),
+            Call::Answer(Task::Compile) => answered(turn, Task::Compile, TEXT.as_bytes()),
+            Call::Answer(Task::Asm) => answered(turn, Task::Asm, self.images.listing()),
+            Call::Answer(task) => answered(turn, task, image),
+            Call::Definition => defined(turn),
+            Call::Whole => read_whole(turn, image),
+        }
+    }
+}
+
+fn answered(turn: Turn, task: Task, input: &[u8]) -> Result<Vec<u8>, Code> {
+    let answer = turn.ended(answer(turn.begun(), task, input, DEFINITIONS));
+    let Answer { status, text, file } = answer.map_err(no_memory)?;
+    let mut bytes = text.into_bytes();
+    bytes
+        .push(status)
+        .map_err(|_error| code_of("no memory for the bytes"))?;
+    match file {
+        None => Ok(bytes),
+        Some(file) => followed(bytes, file.as_slice()),
+    }
+}
+
+/// Bytes with others after them.
+pub fn followed(mut bytes: Vec<u8>, more: &[u8]) -> Result<Vec<u8>, Code> {
+    match bytes.extend_from_slice(more) {
+        Ok(()) => Ok(bytes),
+        Err(_) => Err(code_of("no memory for the bytes")),
+    }
+}
+
+fn defined(turn: Turn) -> Result<Vec<u8>, Code> {
+    let made = turn.ended(Definition::new(turn.begun(), "outside", "carp0"));
+    let definition = made.map_err(no_memory)?;
+    let (name, value) = definition.pair();
+    let text = format!(in turn.alloc(); "{name}={value}").map_err(no_memory)?;
+    Ok(text.into_bytes())
+}
+
+fn read_whole(turn: Turn, bytes: &[u8]) -> Result<Vec<u8>, Code> {
+    match turn.ended(whole(turn.begun(), bytes)) {
+        Ok(read) => Ok(read),
+        Err(FileFault::Memory) => Err(code_of("Memory")),
+        Err(fault) => Err(code_of(fault)),
+    }
+}

@@ -1,0 +1,107 @@
+//! Calls whose growths are refused in turn.
+
+use crate::failure::{Came, Failure};
+use crate::growths::{Code, Turn};
+use std::alloc::Global;
+
+/// The most growths of a call that are refused.
+const MOST: u32 = 65_536;
+
+/// A public call that takes memory.
+#[derive(Clone, Copy)]
+pub struct Listed<C> {
+    /// Which call it is.
+    pub call: C,
+    /// What it is called in what is printed.
+    pub name: &'static str,
+    /// What its own fault for want of memory says, and where it has two, the other one.
+    pub codes: [&'static str; 2],
+}
+
+impl<C> Listed<C> {
+    /// A call with one fault for want of memory.
+    pub fn new(call: C, name: &'static str, code: &'static str) -> Self {
+        Listed {
+            call,
+            name,
+            codes: [code, code],
+        }
+    }
+}
+
+/// What calls are given, and how each is made.
+pub trait Given {
+    /// Which call it is.
+    type Call: Copy;
+
+    /// Makes a call in a turn. Of its answer come bytes that tell it from another one, of a refusal its code.
+    fn make(&self, call: Self::Call, turn: Turn) -> Result<Vec<u8>, Code>;
+}
+
+/// How the turns of a call went.
+#[derive(Clone, Copy)]
+pub struct Turns {
+    /// How many growths were refused.
+    pub growths: u32,
+    /// How many bytes tell its answer.
+    pub bytes: usize,
+}
+
+/// Refuses growth 1, 2, 3 and so on of a call, until a turn meets no refusal.
+pub fn refuse_in_turn<G: Given>(
+    alloc: Global,
+    given: &G,
+    listed: Listed<G::Call>,
+) -> Result<Turns, Failure> {
+    let usual = given.make(listed.call, Turn::ample(alloc))?;
+    for growth in 1..MOST {
+        let turn = Turn::refusing(alloc, growth);
+        if !is_refused(given, listed, turn, growth, usual.as_slice())? {
+            return Ok(Turns {
+                growths: growth - 1,
+                bytes: usual.len(),
+            });
+        }
+    }
+    Err(failure(listed.name, MOST, Came::Unending))
+}
+
+/// Makes a call in the turn of a growth, and where that was refused once more with ample memory. Whether the growth
+/// was refused.
+fn is_refused<G: Given>(
+    given: &G,
+    listed: Listed<G::Call>,
+    turn: Turn,
+    growth: u32,
+    usual: &[u8],
+) -> Result<bool, Failure> {
+    let answer = given.make(listed.call, turn);
+    let met = turn.is_met();
+    match answer {
+        Ok(_) if met => Err(failure(listed.name, growth, Came::Answer)),
+        Ok(bytes) => same(listed.name, growth, bytes.as_slice(), usual).map(|()| false),
+        Err(code) if !listed.codes.contains(&code.as_str()) => Err(Failure::Fault {
+            name: listed.name,
+            growth,
+            code,
+        }),
+        Err(_) if !met => Err(failure(listed.name, growth, Came::Want)),
+        Err(_) => {
+            let again = given.make(listed.call, Turn::ample(turn.alloc()))?;
+            same(listed.name, growth, again.as_slice(), usual).map(|()| true)
+        }
+    }
+}
+
+/// Whether an answer is the usual one.
+fn same(name: &'static str, growth: u32, bytes: &[u8], usual: &[u8]) -> Result<(), Failure> {
+    if bytes == usual {
+        Ok(())
+    } else {
+        Err(failure(name, growth, Came::Another))
+    }
+}
+
+fn failure(name: &'static str, growth: u32, came: Came) -> Failure {
+    Failure::Turn { name, growth, came }
+}

@@ -1,0 +1,206 @@
+//! Calls on a policy's text, its tokens, its tree and the policy itself.
+
+use crate::calls::{Given, Listed};
+use crate::growths::{Code, Turn, code_of, no_memory};
+use crate::standing::standing;
+use ifs_core::Step;
+use ifs_gen::laws::replies_of_text;
+use ifs_gen::{CompiledText, compile, compile_with_notes, compiled_core, generate};
+use ifs_image::{Image, write};
+use ifs_lex::{Token, tokens};
+use ifs_parse::{Tree, parse};
+use ifs_policy::{Policy, PolicyText, policy_of, resolve};
+use std::alloc::Global;
+use std::fmt::Debug;
+use std::io::Write;
+
+/// A policy with macros, notes, conditions that stand twice, and more entries in each table than a first growth holds.
+pub const TEXT: &str = "
+# both addresses
+up = '$outside.link.up && $inside.link.up'
+outer = '\"ping -q -c 1 192.0.2.1\" every 5'
+inner = '\"ping -q -c 1 192.0.2.2\" every 10'
+works = '( $outer || $inner && ! \"test -e /var/run/stop\" every 15 )'
+init-state waits
+init { run \"echo begins\" run \"echo 'a \\\" and a \\\\ '\" }
+if em0.link.down || em1.link.down || em2.link.down run \"echo lost\"
+if \"pfctl -s info\" every 30 && \"pfctl -s state\" every 60 { run \"echo filters\" }
+state waits {
+  init run \"echo waits\"
+  if $works { if $up set-state master if ! ( $up ) { run \"echo half\" set-state backup } }
+  if em3.link.unknown || em4.link.up && em5.link.up run \"echo unknown\"
+}
+state master {
+  init { run \"demote 0\" run \"services start\" }
+  if ! $works { set-state broken run \"echo master, and nothing works\" }
+  if $outside.link.down || $inside.link.down || em2.link.down set-state backup
+}
+state backup {
+  init { run \"demote 10\" run \"services stop\" }
+  if $outside.link.up && $inside.link.up && em2.link.up { if $works set-state master }
+  if em0.link.down || em1.link.down || em2.link.down run \"echo lost twice\"
+}
+state broken {
+  init run \"demote 100\"
+  if $works && ( $up ) set-state waits
+  if $outside.link.up && $inside.link.up && em2.link.up run \"echo links are there\"
+}
+state unused { if \"true\" every 604800 || \"false\" every 1 set-state waits }
+state \"last one\" { }
+";
+
+/// What stands beside it.
+pub const DEFINITIONS: &[(&str, &str)] = &[("outside", "carp0"), ("inside", "carp1")];
+
+/// Steps of its core.
+const STEPS: [Step; 5] = [
+    Step::Tick(7),
+    Step::Take,
+    Step::Take,
+    Step::Tick(8),
+    Step::Take,
+];
+
+/// Which call it is.
+#[derive(Clone, Copy)]
+pub enum Call {
+    Tokens,
+    Parse,
+    Resolve,
+    PolicyOf,
+    Generate,
+    Compile,
+    CompileWithNotes,
+    CompiledCore,
+    RepliesOfText,
+}
+
+/// Each of them.
+pub fn calls() -> [Listed<Call>; 9] {
+    [
+        Listed::new(Call::Tokens, "ifs_lex::tokens", "P0"),
+        Listed::new(Call::Parse, "ifs_parse::parse", "P0"),
+        Listed::new(Call::Resolve, "ifs_policy::resolve", "P0"),
+        Listed::new(Call::PolicyOf, "ifs_policy::policy_of", "P0"),
+        Listed::new(Call::Generate, "ifs_gen::generate", "P0"),
+        Listed::new(Call::Compile, "ifs_gen::compile", "P0"),
+        Listed::new(Call::CompileWithNotes, "ifs_gen::compile_with_notes", "P0"),
+        Listed::new(Call::CompiledCore, "ifs_gen::compiled_core", "P0"),
+        Listed::new(Call::RepliesOfText, "ifs_gen::laws::replies_of_text", "P0"),
+    ]
+}
+
+/// What they are given beside the text.
+#[derive(Drop)]
+pub struct Policies {
+    tokens: Vec<Token>,
+    tree: Tree,
+    policy: Policy,
+}
+
+impl Policies {
+    /// All that comes of the text.
+    pub fn new(alloc: Global) -> Result<Self, Code> {
+        let tokens = tokens(alloc, TEXT, DEFINITIONS).map_err(code_of)?;
+        let tree = parse(alloc, tokens.as_slice()).map_err(code_of)?;
+        let policy = resolve(alloc, &tree).map_err(code_of)?;
+        Ok(Policies {
+            tokens,
+            tree,
+            policy,
+        })
+    }
+}
+
+impl Given for Policies {
+    type Call = Call;
+
+    fn make(&self, call: Call, turn: Turn) -> Result<Vec<u8>, Code> {
+        match call {
+            Call::Tokens => made_tokens(turn),
+            Call::Parse => made_tree(turn, self.tokens.as_slice()),
+            Call::Resolve => made_policy(turn, &self.tree),
+            Call::PolicyOf => made_policy_of_text(turn),
+            Call::Generate => made_image(turn, &self.policy),
+            Call::Compile => turn
+                .ended(compile(turn.begun(), TEXT, DEFINITIONS))
+                .map_err(code_of),
+            Call::CompileWithNotes => made_with_notes(turn),
+            Call::CompiledCore => made_core(turn),
+            Call::RepliesOfText => made_replies(turn),
+        }
+    }
+}
+
+fn made_tokens(turn: Turn) -> Result<Vec<u8>, Code> {
+    let tokens = turn.ended(tokens(turn.begun(), TEXT, DEFINITIONS));
+    told(turn.alloc(), &tokens.map_err(code_of)?)
+}
+
+/// A tree is told by the image of its policy, and its notes.
+fn made_tree(turn: Turn, tokens: &[Token]) -> Result<Vec<u8>, Code> {
+    let tree = turn.ended(parse(turn.begun(), tokens)).map_err(code_of)?;
+    told_tree(turn.alloc(), &tree)
+}
+
+fn told_tree(alloc: Global, tree: &Tree) -> Result<Vec<u8>, Code> {
+    let policy = resolve(alloc, tree).map_err(code_of)?;
+    with_notes(bytes_of_policy(alloc, &policy)?, tree)
+}
+
+fn made_policy(turn: Turn, tree: &Tree) -> Result<Vec<u8>, Code> {
+    let policy = turn.ended(resolve(turn.begun(), tree)).map_err(code_of)?;
+    bytes_of_policy(turn.alloc(), &policy)
+}
+
+fn made_policy_of_text(turn: Turn) -> Result<Vec<u8>, Code> {
+    let made = turn.ended(policy_of(turn.begun(), TEXT, DEFINITIONS));
+    let PolicyText { tree, policy } = made.map_err(code_of)?;
+    with_notes(bytes_of_policy(turn.alloc(), &policy)?, &tree)
+}
+
+fn made_image(turn: Turn, policy: &Policy) -> Result<Vec<u8>, Code> {
+    let image = turn.ended(generate(turn.begun(), policy));
+    written(turn.alloc(), &image.map_err(code_of)?)
+}
+
+fn made_with_notes(turn: Turn) -> Result<Vec<u8>, Code> {
+    let made = turn.ended(compile_with_notes(turn.begun(), TEXT, DEFINITIONS));
+    let CompiledText { tree, bytes } = made.map_err(code_of)?;
+    with_notes(bytes, &tree)
+}
+
+fn made_core(turn: Turn) -> Result<Vec<u8>, Code> {
+    let mut image = Vec::new(turn.alloc());
+    let core = turn.ended(compiled_core(turn.begun(), TEXT, DEFINITIONS, &mut image));
+    standing(turn.alloc(), &core.map_err(code_of)?)
+}
+
+fn made_replies(turn: Turn) -> Result<Vec<u8>, Code> {
+    let replies = turn.ended(replies_of_text(turn.begun(), TEXT, DEFINITIONS, &STEPS));
+    told(turn.alloc(), &replies.map_err(code_of)?)
+}
+
+/// What a value shows of itself.
+pub fn told<T: Debug>(alloc: Global, value: &T) -> Result<Vec<u8>, Code> {
+    let text = format!(in alloc; "{value:?}").map_err(no_memory)?;
+    Ok(text.into_bytes())
+}
+
+/// The bytes of an image.
+pub fn written(alloc: Global, image: &Image) -> Result<Vec<u8>, Code> {
+    write(alloc, image).map_err(no_memory)
+}
+
+/// A policy is told by its image.
+fn bytes_of_policy(alloc: Global, policy: &Policy) -> Result<Vec<u8>, Code> {
+    written(alloc, &generate(alloc, policy).map_err(code_of)?)
+}
+
+/// Bytes with a tree's notes after them.
+fn with_notes(mut bytes: Vec<u8>, tree: &Tree) -> Result<Vec<u8>, Code> {
+    for line in tree.notes() {
+        write!(bytes, "{line}\n").map_err(|_error| code_of("AllocError"))?;
+    }
+    Ok(bytes)
+}

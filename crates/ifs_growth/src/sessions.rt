@@ -1,0 +1,223 @@
+//! Calls on sessions: what they take of memory, and what their writer takes.
+
+use crate::answers::followed;
+use crate::calls::{Given, Listed};
+use crate::growths::{Code, Turn, code_of, no_memory};
+use crate::policies::told;
+use crate::standing::{opened, standing};
+use crate::talks::{REQUESTS, SERVED, is_cut_session, served_as_told};
+use arrayvec::ArrayVec;
+use ifs_rows::sessions;
+use ifs_session::{
+    ByteOut, DeviceFault, End, MemoryIn, MemoryOut, RunFault, ScriptHost, Summary, run_hex,
+    serve_one, simulate,
+};
+use std::alloc::{AllocError, Global};
+
+/// What follows the line of the policy's image.
+const LINES: &str = "tick 7\ntake\nlink carp0 up\nstatus\ntake\ntrace\nwhat\nstop\n";
+
+/// The line of want of memory.
+const REFUSED: &[u8] = b"refused V0\n";
+
+/// How many notes a host finds room for.
+const NOTES: usize = 64;
+
+/// Which call it is.
+#[derive(Clone, Copy)]
+pub enum Call {
+    RunHex,
+    RunHexInMemory,
+    Put,
+    Simulate,
+    ServeOne,
+    Reserve,
+}
+
+/// Each of them.
+pub fn calls() -> [Listed<Call>; 6] {
+    [
+        Listed::new(Call::RunHex, "run_hex", "V0"),
+        Listed {
+            call: Call::RunHexInMemory,
+            name: "run_hex to a MemoryOut",
+            codes: ["V0", "S2"],
+        },
+        Listed::new(Call::Put, "MemoryOut::put", "DeviceFault"),
+        Listed::new(Call::Simulate, "simulate to a MemoryOut", "S2"),
+        Listed::new(Call::ServeOne, "serve_one to a MemoryOut", "S2"),
+        Listed::new(Call::Reserve, "ScriptHost::reserve", "AllocError"),
+    ]
+}
+
+/// What they are given.
+#[derive(Drop)]
+pub struct Sessions {
+    /// The policy's image as a line of digits, and requests after it.
+    input: Vec<u8>,
+    /// The image of the first run.
+    image: Vec<u8>,
+}
+
+impl Sessions {
+    /// The input of a session on the image of these bytes, and the image of the first run.
+    pub fn new(alloc: Global, bytes: &[u8]) -> Result<Self, Code> {
+        let image = ifs_rows::bytes_of(alloc, sessions::first_run().image).map_err(code_of)?;
+        let input = input_of(alloc, bytes).map_err(no_memory)?;
+        Ok(Sessions { input, image })
+    }
+
+    /// The image of the first run.
+    pub fn image(&self) -> &[u8] {
+        self.image.as_slice()
+    }
+}
+
+/// The line of an image, and requests after it.
+fn input_of(alloc: Global, bytes: &[u8]) -> Result<Vec<u8>, AllocError> {
+    let mut input = String::new(alloc);
+    for byte in bytes {
+        write!(input, "{byte:02x}")?;
+    }
+    write!(input, "\n{LINES}")?;
+    Ok(input.into_bytes())
+}
+
+impl Given for Sessions {
+    type Call = Call;
+
+    fn make(&self, call: Call, turn: Turn) -> Result<Vec<u8>, Code> {
+        match call {
+            Call::RunHex => run_to_place(turn, self.input.as_slice()),
+            Call::RunHexInMemory => run_to_memory(turn, self.input.as_slice()),
+            Call::Put => put(turn, self.image.as_slice()),
+            Call::Simulate => simulated(turn, self.image.as_slice()),
+            Call::ServeOne => served(turn, self.image.as_slice()),
+            Call::Reserve => reserved(turn),
+        }
+    }
+}
+
+/// A writer into a place of its own, which takes no memory.
+#[derive(Drop)]
+struct Place {
+    bytes: ArrayVec<u8, 4096>,
+}
+
+impl ByteOut for Place {
+    fn put(&mut self, bytes: &[u8]) -> Result<(), DeviceFault> {
+        match self.bytes.try_extend_from_slice(bytes) {
+            Ok(()) => Ok(()),
+            Err(_full) => Err(DeviceFault),
+        }
+    }
+
+    fn flush(&mut self) -> Result<(), DeviceFault> {
+        Ok(())
+    }
+}
+
+fn run_to_place(turn: Turn, input: &[u8]) -> Result<Vec<u8>, Code> {
+    let mut writer = Place {
+        bytes: ArrayVec::new(),
+    };
+    let mut reader = MemoryIn::new(input);
+    let answer = turn.ended(run_hex(turn.begun(), &mut reader, &mut writer));
+    told_run(turn.alloc(), answer, writer.bytes.as_slice())
+}
+
+fn run_to_memory(turn: Turn, input: &[u8]) -> Result<Vec<u8>, Code> {
+    let mut writer = MemoryOut::new(turn.alloc());
+    let mut reader = MemoryIn::new(input);
+    let answer = turn.ended(run_hex(turn.begun(), &mut reader, &mut writer));
+    told_run(turn.alloc(), answer, writer.written())
+}
+
+/// A run is told by what it answers and what was written. Where it was refused, that is one line; after a write that failed
+/// it is no such line.
+fn told_run(
+    alloc: Global,
+    answer: Result<Summary, RunFault>,
+    written: &[u8],
+) -> Result<Vec<u8>, Code> {
+    match answer {
+        Ok(summary) => followed(told(alloc, &summary)?, written),
+        Err(RunFault::Session(fault)) if !written.starts_with(b"refused") => Err(code_of(fault)),
+        Err(fault) if written == REFUSED => Err(code_of(fault)),
+        Err(_) => Err(code_of("a refusal with other lines")),
+    }
+}
+
+/// The second of two writes is refused its growth: it writes nothing then, and all of it when it is made again.
+fn put(turn: Turn, bytes: &[u8]) -> Result<Vec<u8>, Code> {
+    let mut writer = MemoryOut::new(turn.begun());
+    turn.ended(());
+    if writer.put(REFUSED).is_err() {
+        return Err(code_of("the first write failed"));
+    }
+    turn.begun();
+    match turn.ended(writer.put(bytes)) {
+        Ok(()) => copied(turn.alloc(), writer.written()),
+        Err(DeviceFault) if writer.written() != REFUSED => Err(code_of("bytes were written")),
+        Err(DeviceFault) => Err(code_of_put(&mut writer, bytes)),
+    }
+}
+
+/// What is told of a write that failed, where the same write then writes all.
+fn code_of_put(writer: &mut MemoryOut<Global>, bytes: &[u8]) -> Code {
+    match writer.put(bytes) {
+        Ok(()) if writer.written().ends_with(bytes) => code_of("DeviceFault"),
+        _ => code_of("DeviceFault, and again"),
+    }
+}
+
+fn copied(alloc: Global, bytes: &[u8]) -> Result<Vec<u8>, Code> {
+    followed(Vec::new(alloc), bytes)
+}
+
+/// After a write that failed the core stands as after some of the lines, and what was written begins the replies.
+fn simulated(turn: Turn, image: &[u8]) -> Result<Vec<u8>, Code> {
+    let mut core = opened(turn.alloc(), image)?;
+    let mut reader = MemoryIn::new(REQUESTS);
+    let mut writer = MemoryOut::new(turn.begun());
+    let answer = turn.ended(simulate(&mut core, &mut reader, &mut writer));
+    let stands = standing(turn.alloc(), &core)?;
+    match answer {
+        Ok(_summary) => followed(stands, writer.written()),
+        Err(fault) if is_cut_session(turn.alloc(), image, stands.as_slice(), writer.written())? => {
+            Err(code_of(fault))
+        }
+        Err(_) => Err(code_of("steps or replies of no lines")),
+    }
+}
+
+/// After a write that failed the steps are those of some of the lines, and the core stands after them.
+fn served(turn: Turn, image: &[u8]) -> Result<Vec<u8>, Code> {
+    let mut core = opened(turn.alloc(), image)?;
+    let mut host = ScriptHost::new(turn.alloc(), Vec::new(turn.alloc()), Vec::new(turn.alloc()));
+    host.reserve(NOTES).map_err(no_memory)?;
+    let mut reader = MemoryIn::new(SERVED);
+    let mut writer = MemoryOut::new(turn.begun());
+    let served = turn.ended(serve_one(&mut core, &mut host, &mut reader, &mut writer));
+    let stands = standing(turn.alloc(), &core)?;
+    if !served_as_told(
+        turn.alloc(),
+        image,
+        &served,
+        stands.as_slice(),
+        writer.written(),
+    )? {
+        return Err(code_of("steps or replies of no lines"));
+    }
+    match served.end {
+        End::Fault(fault) => Err(code_of(fault)),
+        _ => followed(stands, writer.written()),
+    }
+}
+
+fn reserved(turn: Turn) -> Result<Vec<u8>, Code> {
+    let mut host = ScriptHost::new(turn.begun(), Vec::new(turn.alloc()), Vec::new(turn.alloc()));
+    let reserved = turn.ended(host.reserve(NOTES));
+    reserved.map_err(no_memory)?;
+    told(turn.alloc(), &host.whole())
+}

@@ -1,0 +1,56 @@
+//! What a core says of itself.
+
+use crate::growths::{Code, code_of, no_memory};
+use ifs_base::{IfaceId, TestId};
+use ifs_core::{Core, OpenFault, Step};
+use ifs_verify::verify;
+use std::alloc::{AllocError, Global};
+
+/// A core on the image of these bytes.
+pub fn opened<'a>(alloc: Global, image: &'a [u8]) -> Result<Core<'a>, Code> {
+    match Core::open(alloc, verify(alloc, image).map_err(code_of)?) {
+        Ok(core) => Ok(core),
+        Err(OpenFault { verified: _ }) => Err(code_of("V0")),
+    }
+}
+
+/// Where a core stands that is opened on the image of these bytes, after these steps.
+pub fn standing_after(alloc: Global, image: &[u8], steps: &[Step]) -> Result<Vec<u8>, Code> {
+    let mut core = opened(alloc, image)?;
+    for step in steps {
+        core.step(*step);
+    }
+    standing(alloc, &core)
+}
+
+/// Where a core stands: all that its readers answer.
+pub fn standing(alloc: Global, core: &Core<'_>) -> Result<Vec<u8>, Code> {
+    readings(alloc, core).map_err(no_memory)
+}
+
+fn readings(alloc: Global, core: &Core<'_>) -> Result<Vec<u8>, AllocError> {
+    let mut text = String::new(alloc);
+    let (state, owed, queued) = (core.state(), core.owed(), core.queue_len());
+    let (running, now) = (core.running(), core.now());
+    write!(text, "{state:?} {owed} {queued} {running} {now}\n")?;
+    put_facts(&mut text, core)?;
+    put_trace(&mut text, core)?;
+    Ok(text.into_bytes())
+}
+
+fn put_facts(text: &mut String, core: &Core<'_>) -> Result<(), AllocError> {
+    for index in 0..65 {
+        let link = core.link(IfaceId(index));
+        let value = core.test_value(TestId(index));
+        write!(text, "{link:?} {value:?}\n")?;
+    }
+    Ok(())
+}
+
+fn put_trace(text: &mut String, core: &Core<'_>) -> Result<(), AllocError> {
+    for index in 0..core.trace_len() {
+        let record = core.trace_at(index);
+        write!(text, "{record:?}\n")?;
+    }
+    Ok(())
+}
