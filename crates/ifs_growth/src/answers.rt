@@ -45,9 +45,9 @@ pub struct Files<'a> {
 impl Given for Files<'_> {
     type Call = Call;
 
-    fn make(&self, call: Call, turn: Turn) -> Result<Vec<u8>, Code> {
+    fn make(&self, call: &Call, turn: Turn) -> Result<Vec<u8>, Code> {
         let image = self.images.bytes.as_slice();
-        match call {
+        match *call {
             Call::Answer(Task::Check) => answered(turn, Task::Check, TEXT.as_bytes()),
             Call::Answer(Task::Compile) => answered(turn, Task::Compile, TEXT.as_bytes()),
             Call::Answer(Task::Asm) => answered(turn, Task::Asm, self.images.listing()),

@@ -8,14 +8,16 @@ use std::alloc::Global;
 const MOST: u32 = 65_536;
 
 /// A public call that takes memory.
-#[derive(Clone, Copy)]
+#[derive(Drop)]
 pub struct Listed<C> {
     /// Which call it is.
     pub call: C,
     /// What it is called in what is printed.
     pub name: &'static str,
-    /// What its own fault for want of memory says, and where it has two, the other one.
-    pub codes: [&'static str; 2],
+    /// What its own fault for want of memory says.
+    pub code: &'static str,
+    /// What the other one says, where it has two.
+    pub other: &'static str,
 }
 
 impl<C> Listed<C> {
@@ -24,18 +26,24 @@ impl<C> Listed<C> {
         Listed {
             call,
             name,
-            codes: [code, code],
+            code,
+            other: code,
         }
+    }
+
+    /// Whether a code is that of want of memory.
+    fn is_own(&self, code: &Code) -> bool {
+        self.code == code.as_str() || self.other == code.as_str()
     }
 }
 
 /// What calls are given, and how each is made.
 pub trait Given {
     /// Which call it is.
-    type Call: Copy;
+    type Call;
 
     /// Makes a call in a turn. Of its answer come bytes that tell it from another one, of a refusal its code.
-    fn make(&self, call: Self::Call, turn: Turn) -> Result<Vec<u8>, Code>;
+    fn make(&self, call: &Self::Call, turn: Turn) -> Result<Vec<u8>, Code>;
 }
 
 /// How the turns of a call went.
@@ -51,9 +59,9 @@ pub struct Turns {
 pub fn refuse_in_turn<G: Given>(
     alloc: Global,
     given: &G,
-    listed: Listed<G::Call>,
+    listed: &Listed<G::Call>,
 ) -> Result<Turns, Failure> {
-    let usual = given.make(listed.call, Turn::ample(alloc))?;
+    let usual = given.make(&listed.call, Turn::ample(alloc))?;
     for growth in 1..MOST {
         let turn = Turn::refusing(alloc, growth);
         if !is_refused(given, listed, turn, growth, usual.as_slice())? {
@@ -70,26 +78,40 @@ pub fn refuse_in_turn<G: Given>(
 /// was refused.
 fn is_refused<G: Given>(
     given: &G,
-    listed: Listed<G::Call>,
+    listed: &Listed<G::Call>,
     turn: Turn,
     growth: u32,
     usual: &[u8],
 ) -> Result<bool, Failure> {
-    let answer = given.make(listed.call, turn);
+    let answer = given.make(&listed.call, turn);
     let met = turn.is_met();
     match answer {
         Ok(_) if met => Err(failure(listed.name, growth, Came::Answer)),
-        Ok(bytes) => same(listed.name, growth, bytes.as_slice(), usual).map(|()| false),
-        Err(code) if !listed.codes.contains(&code.as_str()) => Err(Failure::Fault {
+        Ok(bytes) => {
+            same(listed.name, growth, bytes.as_slice(), usual)?;
+            Ok(false)
+        }
+        Err(code) => {
+            tells_want(listed, growth, met, code)?;
+            let again = given.make(&listed.call, Turn::ample(turn.alloc()))?;
+            same(listed.name, growth, again.as_slice(), usual)?;
+            Ok(true)
+        }
+    }
+}
+
+/// Whether a refusal is the call's own for want of memory, where a growth was refused.
+fn tells_want<C>(listed: &Listed<C>, growth: u32, met: bool, code: Code) -> Result<(), Failure> {
+    if !listed.is_own(&code) {
+        Err(Failure::Fault {
             name: listed.name,
             growth,
             code,
-        }),
-        Err(_) if !met => Err(failure(listed.name, growth, Came::Want)),
-        Err(_) => {
-            let again = given.make(listed.call, Turn::ample(turn.alloc()))?;
-            same(listed.name, growth, again.as_slice(), usual).map(|()| true)
-        }
+        })
+    } else if met {
+        Ok(())
+    } else {
+        Err(failure(listed.name, growth, Came::Want))
     }
 }
 

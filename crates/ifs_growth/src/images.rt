@@ -70,8 +70,8 @@ impl Images {
 impl Given for Images {
     type Call = Call;
 
-    fn make(&self, call: Call, turn: Turn) -> Result<Vec<u8>, Code> {
-        match call {
+    fn make(&self, call: &Call, turn: Turn) -> Result<Vec<u8>, Code> {
+        match *call {
             Call::View => made_view(turn, self.bytes.as_slice()),
             Call::Read => made_image(turn, self.bytes.as_slice()),
             Call::Write => turn

@@ -67,7 +67,7 @@ fn tried<R: Print + Alloc<A = Global>, G: Given>(
     calls: &[Listed<G::Call>],
 ) -> Result<(), Failure> {
     for listed in calls {
-        let Turns { growths, bytes } = refuse_in_turn(rt.alloc(), given, *listed)?;
+        let Turns { growths, bytes } = refuse_in_turn(rt.alloc(), given, listed)?;
         println!(rt;
             "{}: {growths} growths refused, then {bytes} bytes",
             listed.name

@@ -115,8 +115,8 @@ impl Policies {
 impl Given for Policies {
     type Call = Call;
 
-    fn make(&self, call: Call, turn: Turn) -> Result<Vec<u8>, Code> {
-        match call {
+    fn make(&self, call: &Call, turn: Turn) -> Result<Vec<u8>, Code> {
+        match *call {
             Call::Tokens => made_tokens(turn),
             Call::Parse => made_tree(turn, self.tokens.as_slice()),
             Call::Resolve => made_policy(turn, &self.tree),

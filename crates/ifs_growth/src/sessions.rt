@@ -41,7 +41,8 @@ pub fn calls() -> [Listed<Call>; 6] {
         Listed {
             call: Call::RunHexInMemory,
             name: "run_hex to a MemoryOut",
-            codes: ["V0", "S2"],
+            code: "V0",
+            other: "S2",
         },
         Listed::new(Call::Put, "MemoryOut::put", "DeviceFault"),
         Listed::new(Call::Simulate, "simulate to a MemoryOut", "S2"),
@@ -86,8 +87,8 @@ fn input_of(alloc: Global, bytes: &[u8]) -> Result<Vec<u8>, AllocError> {
 impl Given for Sessions {
     type Call = Call;
 
-    fn make(&self, call: Call, turn: Turn) -> Result<Vec<u8>, Code> {
-        match call {
+    fn make(&self, call: &Call, turn: Turn) -> Result<Vec<u8>, Code> {
+        match *call {
             Call::RunHex => run_to_place(turn, self.input.as_slice()),
             Call::RunHexInMemory => run_to_memory(turn, self.input.as_slice()),
             Call::Put => put(turn, self.image.as_slice()),
@@ -133,8 +134,8 @@ fn run_to_memory(turn: Turn, input: &[u8]) -> Result<Vec<u8>, Code> {
     told_run(turn.alloc(), answer, writer.written())
 }
 
-/// A run is told by what it answers and what was written. Where it was refused, that is one line; after a write that failed
-/// it is no such line.
+/// A run is told by what it answers and what was written. Where it was refused, that is one line; after a write that
+/// failed it is no such line.
 fn told_run(
     alloc: Global,
     answer: Result<Summary, RunFault>,
