@@ -71,7 +71,7 @@ pub fn refuse_in_turn<G: Given>(
             });
         }
     }
-    Err(failure(listed.name, MOST, Came::Unending))
+    Err(failure(MOST, Came::Unending))
 }
 
 /// Makes a call in the turn of a growth, and where that was refused once more with ample memory. Whether the growth
@@ -86,15 +86,15 @@ fn is_refused<G: Given>(
     let answer = given.make(&listed.call, turn);
     let met = turn.is_met();
     match answer {
-        Ok(_) if met => Err(failure(listed.name, growth, Came::Answer)),
+        Ok(_) if met => Err(failure(growth, Came::Answer)),
         Ok(bytes) => {
-            same(listed.name, growth, bytes.as_slice(), usual)?;
+            same(growth, bytes.as_slice(), usual)?;
             Ok(false)
         }
         Err(code) => {
             tells_want(listed, growth, met, code)?;
             let again = given.make(&listed.call, Turn::ample(turn.alloc()))?;
-            same(listed.name, growth, again.as_slice(), usual)?;
+            same(growth, again.as_slice(), usual)?;
             Ok(true)
         }
     }
@@ -103,27 +103,23 @@ fn is_refused<G: Given>(
 /// Whether a refusal is the call's own for want of memory, where a growth was refused.
 fn tells_want<C>(listed: &Listed<C>, growth: u32, met: bool, code: Code) -> Result<(), Failure> {
     if !listed.is_own(&code) {
-        Err(Failure::Fault {
-            name: listed.name,
-            growth,
-            code,
-        })
+        Err(Failure::Fault { growth, code })
     } else if met {
         Ok(())
     } else {
-        Err(failure(listed.name, growth, Came::Want))
+        Err(failure(growth, Came::Want))
     }
 }
 
 /// Whether an answer is the usual one.
-fn same(name: &'static str, growth: u32, bytes: &[u8], usual: &[u8]) -> Result<(), Failure> {
+fn same(growth: u32, bytes: &[u8], usual: &[u8]) -> Result<(), Failure> {
     if bytes == usual {
         Ok(())
     } else {
-        Err(failure(name, growth, Came::Another))
+        Err(failure(growth, Came::Another))
     }
 }
 
-fn failure(name: &'static str, growth: u32, came: Came) -> Failure {
-    Failure::Turn { name, growth, came }
+fn failure(growth: u32, came: Came) -> Failure {
+    Failure::Turn { growth, came }
 }

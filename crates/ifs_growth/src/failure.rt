@@ -1,7 +1,6 @@
 //! What ends the program early.
 
 use crate::growths::Code;
-use std::alloc::AllocError;
 use std::io;
 use thiserror::Error;
 
@@ -26,45 +25,25 @@ pub enum Came {
 #[derive(Debug, Drop, Error)]
 pub enum Failure {
     /// A call answered something else in the turn of a growth.
-    #[error("{name}, growth {growth}: {came}")]
-    Turn {
-        name: &'static str,
-        growth: u32,
-        came: Came,
-    },
+    #[error("growth {growth}: {came}")]
+    Turn { growth: u32, came: Came },
     /// A call told another fault in the turn of a growth.
-    #[error("{name}, growth {growth}: told {code}")]
-    Fault {
-        name: &'static str,
-        growth: u32,
-        code: Code,
-    },
+    #[error("growth {growth}: told {code}")]
+    Fault { growth: u32, code: Code },
     /// A session over devices came to something else, where the one of this number failed or the input was cut.
-    #[error("{name}, {number}: something else than what is promised")]
-    Session {
-        name: &'static str,
-        number: usize,
-    },
+    #[error("session {0}: something else than what is promised")]
+    Session(usize),
     /// What the calls are given could not be made.
     #[error("nothing to begin with: {0}")]
     Given(Code),
-    /// No memory was found.
-    #[error("no memory")]
-    Memory,
     /// Standard output failed.
-    #[error("standard output: {0}")]
-    Output(io::Error),
-}
-
-impl From<AllocError> for Failure {
-    fn from(_refused: AllocError) -> Failure {
-        Failure::Memory
-    }
+    #[error("standard output failed")]
+    Output,
 }
 
 impl From<io::Error> for Failure {
-    fn from(error: io::Error) -> Failure {
-        Failure::Output(error)
+    fn from(_error: io::Error) -> Failure {
+        Failure::Output
     }
 }
 

@@ -59,19 +59,15 @@ enum Went {
 
 /// Makes the sessions of a trial on the image of the first run, one after the other, until nothing fails. How many
 /// failed.
-pub fn tried(
-    alloc: Global,
-    image: &[u8],
-    (trial, name): (Trial, &'static str),
-) -> Result<usize, Failure> {
+pub fn tried(alloc: Global, image: &[u8], trial: Trial) -> Result<usize, Failure> {
     for number in 0..MANY {
         match nth_session(alloc, image, trial, number)? {
             Went::Failed => {}
             Went::Whole => return Ok(number),
-            Went::Wrong => return Err(Failure::Session { name, number }),
+            Went::Wrong => return Err(Failure::Session(number)),
         }
     }
-    Err(Failure::Session { name, number: MANY })
+    Err(Failure::Session(MANY))
 }
 
 /// Makes the session of this number.

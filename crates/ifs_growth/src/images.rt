@@ -111,12 +111,20 @@ fn made_core(turn: Turn, bytes: &[u8]) -> Result<Vec<u8>, Code> {
 }
 
 /// What is told of a refusal to open, where the image that came back opens as that of the bytes.
-fn code_of_fault(alloc: Global, fault: OpenFault<'_>, bytes: &[u8]) -> Code {
+fn code_of_fault<'a>(alloc: Global, fault: OpenFault<'a>, bytes: &'a [u8]) -> Code {
     let OpenFault { verified } = fault;
     match Core::open(alloc, verified) {
-        Ok(core) if stands_as_opened(alloc, &core, bytes) => code_of("OpenFault"),
-        _ => code_of("OpenFault whose image does not open as usual"),
+        Ok(core) => code_of_opened(stands_as_opened(alloc, &core, bytes)),
+        Err(OpenFault { verified: _ }) => code_of_opened(false),
     }
+}
+
+fn code_of_opened(as_usual: bool) -> Code {
+    code_of(if as_usual {
+        "OpenFault"
+    } else {
+        "OpenFault whose image does not open as usual"
+    })
 }
 
 fn stands_as_opened(alloc: Global, core: &Core<'_>, bytes: &[u8]) -> bool {

@@ -54,8 +54,9 @@ fn all(rt: &HostRuntime) -> Result<(), Failure> {
 /// Lets sessions on an image fail, and prints a line for each trial.
 fn talked(rt: &HostRuntime, image: &[u8]) -> Result<(), Failure> {
     for (trial, name) in faults::TRIALS {
-        let failed = faults::tried(rt.alloc(), image, (trial, name))?;
-        println!(rt; "{name}: {failed}")?;
+        print!(rt; "{name}: ")?;
+        let failed = faults::tried(rt.alloc(), image, trial)?;
+        println!(rt; "{failed}")?;
     }
     Ok(())
 }
@@ -67,11 +68,9 @@ fn tried<R: Print + Alloc<A = Global>, G: Given>(
     calls: &[Listed<G::Call>],
 ) -> Result<(), Failure> {
     for listed in calls {
+        print!(rt; "{}: ", listed.name)?;
         let Turns { growths, bytes } = refuse_in_turn(rt.alloc(), given, listed)?;
-        println!(rt;
-            "{}: {growths} growths refused, then {bytes} bytes",
-            listed.name
-        )?;
+        println!(rt; "{growths} growths refused, then {bytes} bytes")?;
     }
     Ok(())
 }

@@ -7,7 +7,7 @@ use ifs_core::Step;
 use ifs_gen::laws::replies_of_text;
 use ifs_gen::{CompiledText, compile, compile_with_notes, compiled_core, generate};
 use ifs_image::{Image, write};
-use ifs_lex::{Token, tokens};
+use ifs_lex::tokens;
 use ifs_parse::{Tree, parse};
 use ifs_policy::{Policy, PolicyText, policy_of, resolve};
 use std::alloc::Global;
@@ -93,7 +93,6 @@ pub fn calls() -> [Listed<Call>; 9] {
 /// What they are given beside the text.
 #[derive(Drop)]
 pub struct Policies {
-    tokens: Vec<Token>,
     tree: Tree,
     policy: Policy,
 }
@@ -104,11 +103,7 @@ impl Policies {
         let tokens = tokens(alloc, TEXT, DEFINITIONS).map_err(code_of)?;
         let tree = parse(alloc, tokens.as_slice()).map_err(code_of)?;
         let policy = resolve(alloc, &tree).map_err(code_of)?;
-        Ok(Policies {
-            tokens,
-            tree,
-            policy,
-        })
+        Ok(Policies { tree, policy })
     }
 }
 
@@ -118,7 +113,7 @@ impl Given for Policies {
     fn make(&self, call: &Call, turn: Turn) -> Result<Vec<u8>, Code> {
         match *call {
             Call::Tokens => made_tokens(turn),
-            Call::Parse => made_tree(turn, self.tokens.as_slice()),
+            Call::Parse => made_tree(turn),
             Call::Resolve => made_policy(turn, &self.tree),
             Call::PolicyOf => made_policy_of_text(turn),
             Call::Generate => made_image(turn, &self.policy),
@@ -138,9 +133,10 @@ fn made_tokens(turn: Turn) -> Result<Vec<u8>, Code> {
 }
 
 /// A tree is told by the image of its policy, and its notes.
-fn made_tree(turn: Turn, tokens: &[Token]) -> Result<Vec<u8>, Code> {
-    let tree = turn.ended(parse(turn.begun(), tokens)).map_err(code_of)?;
-    told_tree(turn.alloc(), &tree)
+fn made_tree(turn: Turn) -> Result<Vec<u8>, Code> {
+    let tokens = tokens(turn.alloc(), TEXT, DEFINITIONS).map_err(code_of)?;
+    let tree = turn.ended(parse(turn.begun(), tokens.as_slice()));
+    told_tree(turn.alloc(), &tree.map_err(code_of)?)
 }
 
 fn told_tree(alloc: Global, tree: &Tree) -> Result<Vec<u8>, Code> {
