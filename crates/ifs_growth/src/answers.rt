@@ -3,7 +3,7 @@
 use crate::calls::{Given, Listed};
 use crate::growths::{Code, Turn, code_of, no_memory};
 use crate::images::Images;
-use crate::policies::{DEFINITIONS, TEXT};
+use crate::policies::{definitions, text};
 use ifs_cli::answering::answer;
 use ifs_cli::definitions::Definition;
 use ifs_cli::files::{FileFault, whole};
@@ -48,8 +48,8 @@ impl Given for Files<'_> {
     fn make(&self, call: &Call, turn: Turn) -> Result<Vec<u8>, Code> {
         let image = self.images.bytes.as_slice();
         match *call {
-            Call::Answer(Task::Check) => answered(turn, Task::Check, TEXT.as_bytes()),
-            Call::Answer(Task::Compile) => answered(turn, Task::Compile, TEXT.as_bytes()),
+            Call::Answer(Task::Check) => answered(turn, Task::Check, text().as_bytes()),
+            Call::Answer(Task::Compile) => answered(turn, Task::Compile, text().as_bytes()),
             Call::Answer(Task::Asm) => answered(turn, Task::Asm, self.images.listing()),
             Call::Answer(task) => answered(turn, task, image),
             Call::Definition => defined(turn),
@@ -59,7 +59,7 @@ impl Given for Files<'_> {
 }
 
 fn answered(turn: Turn, task: Task, input: &[u8]) -> Result<Vec<u8>, Code> {
-    let answer = turn.ended(answer(turn.begun(), task, input, DEFINITIONS));
+    let answer = turn.ended(answer(turn.begun(), task, input, definitions()));
     let Answer { status, text, file } = answer.map_err(no_memory)?;
     let mut bytes = text.into_bytes();
     bytes

@@ -2,7 +2,7 @@
 
 use crate::calls::{Given, Listed};
 use crate::growths::{Code, Turn, code_of, no_memory};
-use crate::policies::{DEFINITIONS, TEXT, told, written};
+use crate::policies::{definitions, text, told, written};
 use crate::standing::{opened, standing};
 use ifs_asm::laws::reads_back;
 use ifs_asm::{assemble, disassemble};
@@ -51,7 +51,7 @@ pub struct Images {
 impl Images {
     /// What the text compiles to, as bytes, read, and as assembly text.
     pub fn new(alloc: Global) -> Result<Self, Code> {
-        let bytes = compile(alloc, TEXT, DEFINITIONS).map_err(code_of)?;
+        let bytes = compile(alloc, text(), definitions()).map_err(code_of)?;
         let image = read(alloc, bytes.as_slice()).map_err(code_of)?;
         let listing = disassemble(alloc, &image).map_err(no_memory)?;
         Ok(Images {

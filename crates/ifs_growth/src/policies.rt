@@ -15,7 +15,7 @@ use std::fmt::Debug;
 use std::io::Write;
 
 /// A policy with macros, notes, conditions that stand twice, and more entries in each table than a first growth holds.
-pub const TEXT: &str = "
+const TEXT: &str = "
 # both addresses
 up = '$outside.link.up && $inside.link.up'
 outer = '\"ping -q -c 1 192.0.2.1\" every 5'
@@ -50,7 +50,17 @@ state \"last one\" { }
 ";
 
 /// What stands beside it.
-pub const DEFINITIONS: &[(&str, &str)] = &[("outside", "carp0"), ("inside", "carp1")];
+const DEFINITIONS: &[(&str, &str)] = &[("outside", "carp0"), ("inside", "carp1")];
+
+/// The policy's text. That it is the one above is of no matter to a proof, which would else unfold all of it.
+pub fn text() -> &'static str {
+    TEXT
+}
+
+/// The definitions beside it.
+pub fn definitions() -> &'static [(&'static str, &'static str)] {
+    DEFINITIONS
+}
 
 /// Steps of its core.
 const STEPS: [Step; 5] = [
@@ -100,7 +110,7 @@ pub struct Policies {
 impl Policies {
     /// All that comes of the text.
     pub fn new(alloc: Global) -> Result<Self, Code> {
-        let tokens = tokens(alloc, TEXT, DEFINITIONS).map_err(code_of)?;
+        let tokens = tokens(alloc, text(), definitions()).map_err(code_of)?;
         let tree = parse(alloc, tokens.as_slice()).map_err(code_of)?;
         let policy = resolve(alloc, &tree).map_err(code_of)?;
         Ok(Policies { tree, policy })
@@ -118,7 +128,7 @@ impl Given for Policies {
             Call::PolicyOf => made_policy_of_text(turn),
             Call::Generate => made_image(turn, &self.policy),
             Call::Compile => turn
-                .ended(compile(turn.begun(), TEXT, DEFINITIONS))
+                .ended(compile(turn.begun(), text(), definitions()))
                 .map_err(code_of),
             Call::CompileWithNotes => made_with_notes(turn),
             Call::CompiledCore => made_core(turn),
@@ -128,13 +138,13 @@ impl Given for Policies {
 }
 
 fn made_tokens(turn: Turn) -> Result<Vec<u8>, Code> {
-    let tokens = turn.ended(tokens(turn.begun(), TEXT, DEFINITIONS));
+    let tokens = turn.ended(tokens(turn.begun(), text(), definitions()));
     told(turn.alloc(), &tokens.map_err(code_of)?)
 }
 
 /// A tree is told by the image of its policy, and its notes.
 fn made_tree(turn: Turn) -> Result<Vec<u8>, Code> {
-    let tokens = tokens(turn.alloc(), TEXT, DEFINITIONS).map_err(code_of)?;
+    let tokens = tokens(turn.alloc(), text(), definitions()).map_err(code_of)?;
     let tree = turn.ended(parse(turn.begun(), tokens.as_slice()));
     told_tree(turn.alloc(), &tree.map_err(code_of)?)
 }
@@ -150,7 +160,7 @@ fn made_policy(turn: Turn, tree: &Tree) -> Result<Vec<u8>, Code> {
 }
 
 fn made_policy_of_text(turn: Turn) -> Result<Vec<u8>, Code> {
-    let made = turn.ended(policy_of(turn.begun(), TEXT, DEFINITIONS));
+    let made = turn.ended(policy_of(turn.begun(), text(), definitions()));
     let PolicyText { tree, policy } = made.map_err(code_of)?;
     with_notes(bytes_of_policy(turn.alloc(), &policy)?, &tree)
 }
@@ -161,19 +171,19 @@ fn made_image(turn: Turn, policy: &Policy) -> Result<Vec<u8>, Code> {
 }
 
 fn made_with_notes(turn: Turn) -> Result<Vec<u8>, Code> {
-    let made = turn.ended(compile_with_notes(turn.begun(), TEXT, DEFINITIONS));
+    let made = turn.ended(compile_with_notes(turn.begun(), text(), definitions()));
     let CompiledText { tree, bytes } = made.map_err(code_of)?;
     with_notes(bytes, &tree)
 }
 
 fn made_core(turn: Turn) -> Result<Vec<u8>, Code> {
     let mut image = Vec::new(turn.alloc());
-    let core = turn.ended(compiled_core(turn.begun(), TEXT, DEFINITIONS, &mut image));
+    let core = turn.ended(compiled_core(turn.begun(), text(), definitions(), &mut image));
     standing(turn.alloc(), &core.map_err(code_of)?)
 }
 
 fn made_replies(turn: Turn) -> Result<Vec<u8>, Code> {
-    let replies = turn.ended(replies_of_text(turn.begun(), TEXT, DEFINITIONS, &STEPS));
+    let replies = turn.ended(replies_of_text(turn.begun(), text(), definitions(), &STEPS));
     told(turn.alloc(), &replies.map_err(code_of)?)
 }
 
