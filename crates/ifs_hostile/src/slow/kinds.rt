@@ -22,10 +22,11 @@ impl Kinds {
     }
 
     /// With one more on top; `None` where there are 32 already.
-    fn with(mut self, kind: Kind) -> Option<Kinds> {
-        *self.kinds.get_mut(self.count)? = Some(kind);
-        self.count = self.count.checked_add(1)?;
-        Some(self)
+    fn with(self, kind: Kind) -> Option<Kinds> {
+        let Kinds { mut kinds, count } = self;
+        *kinds.get_mut(count)? = Some(kind);
+        let count = count.checked_add(1)?;
+        Some(Kinds { kinds, count })
     }
 
     /// The topmost, where there is one.
@@ -35,12 +36,13 @@ impl Kinds {
     }
 
     /// Without its topmost.
-    fn below(mut self) -> Kinds {
-        self.count = self.count.saturating_sub(1);
-        if let Some(top) = self.kinds.get_mut(self.count) {
+    fn below(self) -> Kinds {
+        let Kinds { mut kinds, count } = self;
+        let count = count.saturating_sub(1);
+        if let Some(top) = kinds.get_mut(count) {
             *top = None;
         }
-        self
+        Kinds { kinds, count }
     }
 
     /// Without its topmost, which has to be of a kind.
