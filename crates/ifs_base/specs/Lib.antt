@@ -2,6 +2,7 @@ pub mod Facts
 pub mod Effects
 pub mod Sizes
 pub mod Spelling
+pub mod Kinds
 pub mod Words
 pub mod Numbers
 pub mod Results

@@ -2,13 +2,13 @@
 //!
 //! The machine that runs them is small. A routine is a list of instructions; a place is an index in
 //! it, and a run starts at place 0. There is one stack of values, of three kinds: truths, commands
-//! and names of states. A called routine works above what its caller left on the stack, and a frame
-//! remembers the routine and place where its caller goes on. Jumps lead forward only, and a routine
+//! and names of states. A called routine takes its parameters from its caller's top, works above what
+//! stays below them, and a frame remembers the routine and place where its caller goes on. Jumps lead forward only, and a routine
 //! calls only routines of lower numbers, so each run ends. A run's effects are the commands that it
 //! queues, in order, and its last wish for a state. Each executed instruction costs 1.
 //!
 //! An instruction is four bytes: its code, a link state, and an operand of two bytes.
-//! Contract: each instruction has one spelling, and bytes that spell none are told apart.
+//! Contract: each instruction and each kind has one spelling, and bytes that spell none are told apart.
 #![tactic(auto)]
 
 mod ids;
@@ -27,6 +27,6 @@ pub use items::Items;
 pub use numbers::{Number, parse_number};
 pub use op::{Kind, LinkState, Op};
 pub use span::Span;
-pub use spelling::{decode_op, encode_op};
+pub use spelling::{decode_kind, decode_op, encode_kind, encode_op};
 pub use text::Text;
 pub use words::{QuotedByte, digit_value, hex_digit, quote_byte};

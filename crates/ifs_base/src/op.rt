@@ -17,12 +17,12 @@ pub enum LinkState {
 /// The kind of a value on the stack.
 #[derive(Clone, Copy, Debug, Default, PartialEq, Eq)]
 pub enum Kind {
-    /// True or false.
+    /// True or false; its code is 0.
     #[default]
     Truth,
-    /// A command of the image's table.
+    /// A command of the image's table; its code is 1.
     Command,
-    /// A state of the image's table.
+    /// A state of the image's table; its code is 2.
     StateName,
 }
 
@@ -62,7 +62,7 @@ pub enum Op {
     JumpFalse(u16),
     /// `0f jt n`, Truth → nothing: goes on at place n where it is true, else at the next.
     JumpTrue(u16),
-    /// `10 call n`, nothing → results of n: runs routine n from its place 0.
+    /// `10 call n`, parameters of n → results of n: runs routine n from its place 0, on a list of its own with these.
     Call(RoutineId),
     /// `11 pop`, any → nothing.
     Pop,

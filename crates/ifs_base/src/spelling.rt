@@ -1,11 +1,13 @@
-//! Instructions to bytes and back.
+//! Instructions and kinds to bytes and back.
 
 ghost use Rattle.std.specs.Prelude.{◌≡◌, ◌≢◌, Some, IfSome, IfNone};
 ghost use Rattle.ifs_base.specs.declared.op.Op.{Op};
+ghost use Rattle.ifs_base.specs.declared.op.Kind.{Kind};
 ghost use Rattle.ifs_base.specs.Spelling.{four_bytes, code_of_link, link_of_code, spelling, op_of, HasSpelling};
+ghost use Rattle.ifs_base.specs.Spelling.{code_of_kind, kind_of_code};
 
 use crate::ids::{CommandId, IfaceId, RoutineId, StateId, TestId};
-use crate::op::{LinkState, Op};
+use crate::op::{Kind, LinkState, Op};
 
 /// The four bytes of an instruction: its code, the link state of `link` (0 in all others), and the
 /// operand, high byte first (0 where there is none).
@@ -68,6 +70,33 @@ pub fn decode_op(bytes: [u8; 4]) -> Option<Op>
         (0x10, 0, n) => Some(Op::Call(RoutineId(n))),
         (0x11, 0, 0) => Some(Op::Pop),
         (0x12, 0, 0) => Some(Op::Dup),
+        _ => None,
+    }
+}
+
+/// The byte of a kind of values.
+pub fn encode_kind(kind: Kind) -> u8
+    ensures { result ≡ code_of_kind kind }
+{
+    match kind {
+        Kind::Truth => 0,
+        Kind::Command => 1,
+        Kind::StateName => 2,
+    }
+}
+
+/// The kind of a byte. `None` exactly where it is over 2.
+pub fn decode_kind(code: u8) -> Option<Kind>
+    ensures value { result ≡ kind_of_code code }
+    // What is found has this byte,
+    ensures found { IfSome result (λ kind. code ≡ code_of_kind kind) }
+    // and nothing is found only where no kind has it.
+    ensures none { IfNone result ((kind : Kind) → code ≢ code_of_kind kind) }
+{
+    match code {
+        0 => Some(Kind::Truth),
+        1 => Some(Kind::Command),
+        2 => Some(Kind::StateName),
         _ => None,
     }
 }
