@@ -8,7 +8,7 @@ ODD_BYTES = (0, 9, 10, 34, 92, 127, 128, 191, 192, 195, 224, 237, 240, 244, 255)
 
 class Places:
     """Where the fields of an image stand: numbers and texts with their lengths, instructions, and of each routine the
-    place of its number of instructions with the places of these."""
+    place of its first byte, and that of its number of instructions with the places of these."""
 
     def __init__(self, data):
         image = Image(data)
@@ -16,11 +16,10 @@ class Places:
         self.numbers = [(place, length) for kind, place, length in fields if kind == "number"]
         self.texts = [(place, length) for kind, place, length in fields if kind == "text"]
         self.ops = [place for kind, place, _ in fields if kind == "op"]
-        self.routines, end = [], len(data)
-        for routine in reversed(image.routines):
-            first = end - 4 * len(routine.ops)
-            self.routines.insert(0, (first - 2, list(range(first, end, 4))))
-            end = first - 3
+        self.routines = []
+        for routine in image.routines:
+            first = routine.counted + 2
+            self.routines.append((routine.start, routine.counted, list(range(first, first + 4 * len(routine.ops), 4))))
 
 
 class Changer:
@@ -146,13 +145,13 @@ class ImageChanger(Changer):
             self.replaced(place, 4, self.data[taken : taken + 4])
 
     def routine(self):
-        """The place of the number of instructions of a routine, and those of its instructions."""
+        """The place of a routine, that of the number of its instructions, and those of its instructions."""
         return self.chance.choice(self.places.routines)
 
     def drop_op(self):
         """One instruction less in a routine, which says so."""
         if self.places.ops:
-            count, ops = self.routine()
+            _, count, ops = self.routine()
             if ops:
                 self.replaced(self.chance.choice(ops), 4, b"")
                 self.set_number(count, 2, len(ops) - 1)
@@ -160,16 +159,25 @@ class ImageChanger(Changer):
     def insert_op(self):
         """Instructions more in a routine, which says so."""
         if self.places.ops:
-            count, ops = self.routine()
+            _, count, ops = self.routine()
             taken, many = self.chance.choice(self.places.ops), self.chance.choice((1, 1, 1, 2, 33, 65))
             self.replaced(self.chance.choice(ops or [count + 2]), 0, self.data[taken : taken + 4] * many)
             self.set_number(count, 2, len(ops) + many)
 
     def results(self):
-        """The number of results of a routine."""
+        """What a routine takes and leaves: a number of kinds, or a kind."""
         if self.places.routines:
-            count, _ = self.routine()
-            self.set_number(count - 1, 1, self.chance.choice((0, 1, 1, 2)))
+            start, count, _ = self.routine()
+            self.set_number(self.chance.randrange(start, count), 1, self.chance.choice((0, 1, 1, 2, 2, 3, 4, 5)))
+
+    def exchange_kinds(self):
+        """Two bytes of what a routine takes and leaves."""
+        if self.places.routines:
+            start, count, _ = self.routine()
+            self.exchange(*self.chance.choices(range(start, count), k=2), 1)
+
+    def version(self):
+        self.set_number(4, 1, self.chance.choice((1, 2, 2, 3)))
 
     def text_byte(self):
         if self.places.texts:
@@ -185,5 +193,5 @@ class ImageChanger(Changer):
 
 AIMED = (ImageChanger.nudge, ImageChanger.nudge, ImageChanger.edge, ImageChanger.budget, ImageChanger.set_code,
          ImageChanger.set_code, ImageChanger.set_operand, ImageChanger.exchange_ops, ImageChanger.exchange_ops,
-         ImageChanger.copy_op, ImageChanger.drop_op, ImageChanger.insert_op, ImageChanger.results, ImageChanger.text_byte,
-         ImageChanger.copy_text)
+         ImageChanger.copy_op, ImageChanger.drop_op, ImageChanger.insert_op, ImageChanger.results, ImageChanger.results,
+         ImageChanger.exchange_kinds, ImageChanger.version, ImageChanger.text_byte, ImageChanger.copy_text)

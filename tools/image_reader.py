@@ -1,9 +1,11 @@
 """Reads an image and verifies it, as docs/IMAGE.md says: the line that `ifsvm verify` prints of any bytes. Slow, plain,
 and by itself: nothing of the crates is used, and nothing but that page was."""
 
-MAGIC, VERSION = b"IFSV", 1
+MAGIC, VERSIONS = b"IFSV", 2
 STACK, FRAMES, COST, COMMANDS = 32, 32, 300_000, 64
-ROUTINE_COST, ROUTINE_OPS, IMAGE_OPS, TEXT, PERIOD = 100_000, 1_024, 8_192, 1_024, 604_800
+ROUTINE_COST, ROUTINE_OPS, TEXT, PERIOD = 100_000, 1_024, 1_024, 604_800
+IMAGE_OPS = {1: 8_192, 2: 65_535}
+KINDS = ("truth", "command", "state")
 COUNTS = {"interfaces": (0, 64), "tests": (0, 64), "commands": (0, 1_024), "states": (1, 256), "routines": (0, 1_024)}
 NAMES = ("ret", "true", "false", "link", "test", "known", "not", "and", "or", "cmd", "state", "queue", "want", "jump", "jf",
          "jt", "call", "pop", "dup")
@@ -91,7 +93,7 @@ class Image:
         self.fields = fields = Fields(data)
         if fields.take(4, "magic") != MAGIC:
             fields.refuse("I2")
-        fields.number(1, VERSION, VERSION, "I3")
+        self.version = fields.number(1, 1, VERSIONS, "I3")
         self.stack, self.frames = fields.number(2, 0, STACK), fields.number(2, 0, FRAMES)
         self.cost, self.commands = fields.number(4, 0, COST), fields.number(2, 0, COMMANDS)
         self.counts = {table: fields.number(2, *limits) for table, limits in COUNTS.items()}
@@ -119,11 +121,22 @@ class Image:
             self.states.append(Part(self.fields))
 
     def read_routine(self):
-        results = self.fields.number(1, 0, 1)
+        start = self.fields.place
+        if self.version == 1:
+            params, results = [], ["truth"] * self.fields.number(1, 0, 1)
+        else:
+            params, results = self.read_kinds(), self.read_kinds()
         before = sum(len(routine.ops) for routine in self.routines)
-        count = self.fields.number(2, 0, min(ROUTINE_OPS, IMAGE_OPS - before))
+        counted = self.fields.place
+        count = self.fields.number(2, 0, min(ROUTINE_OPS, IMAGE_OPS[self.version] - before))
         ops = [self.fields.op() for _ in range(count)]
-        self.routines.append(Routine(len(self.routines), results, ops))
+        self.routines.append(Routine(len(self.routines), params, results, ops))
+        self.routines[-1].start, self.routines[-1].counted = start, counted
+
+    def read_kinds(self):
+        """A number of kinds, and the kinds, the topmost last."""
+        count = self.fields.number(1, 0, 4)
+        return [KINDS[self.fields.number(1, 0, 2)] for _ in range(count)]
 
     def parts(self):
         """The always part and the states, with their places in the order of the checks."""
@@ -135,11 +148,12 @@ class Image:
 
 
 class Routine:
-    """A routine, and its bounds once it was looked at."""
+    """A routine, and its bounds once it was looked at. `start` is the offset of its first byte, and `counted` that of its
+    number of instructions."""
 
-    def __init__(self, number, results, ops):
-        self.number, self.results, self.ops = number, ["truth"] * results, ops
-        self.height = self.frames = self.cost = self.commands = 0
+    def __init__(self, number, params, results, ops):
+        self.number, self.params, self.results, self.ops = number, params, results, ops
+        self.height = self.frames = self.cost = self.commands = self.start = self.counted = 0
 
     def refuse(self, check, place):
         raise Refused(check, f"routine {self.number} place {place}")
@@ -164,10 +178,10 @@ def check_indices(image):
                 routine.refuse("V2", place)
 
 
-def check_results(image):
-    """V14: handlers have no results."""
+def check_handlers(image):
+    """V14: handlers have neither parameters nor results."""
     for place, part in image.parts():
-        if any(image.routines[handler].results for handler in part.handlers()):
+        if any(image.routines[it].params or image.routines[it].results for it in part.handlers()):
             raise Refused("V14", place)
 
 
@@ -211,7 +225,7 @@ def left_by(image, routine, place, stack):
         if stack != routine.results:
             routine.refuse("V9", place)
         return stack
-    wanted = TAKES.get(name, [])
+    wanted = image.routines[operand].params if name == "call" else TAKES.get(name, [])
     taken = stack[len(stack) - len(wanted) :] if len(stack) >= len(wanted) else None
     if taken is None or any(want not in ("any", kind) for want, kind in zip(wanted, taken)):
         routine.refuse("V6", place)
@@ -226,7 +240,7 @@ def left_by(image, routine, place, stack):
 def check_stacks(image):
     """V6, V9, V10 and V7 of what each instruction leaves; heights are found on the way."""
     for routine in image.routines:
-        stacks = {0: []}
+        stacks = {0: routine.params}
         for place, (name, operand) in enumerate(routine.ops):
             before = stacks[place]
             after = left_by(image, routine, place, before)
@@ -235,8 +249,10 @@ def check_stacks(image):
             for follower in routine.followers(place):
                 if stacks.setdefault(follower, after) != after:
                     routine.refuse("V7", place)
-            called = len(before) + image.routines[operand].height if name == "call" else 0
-            routine.height = max(routine.height, len(before), len(after), called)
+            routine.height = max(routine.height, len(before), len(after))
+            if name == "call":
+                callee = image.routines[operand]
+                routine.height = max(routine.height, len(before) - len(callee.params) + callee.height)
 
 
 def find_bounds(image, routine):
@@ -285,7 +301,7 @@ def check_head(image):
             raise Refused(check, "head")
 
 
-CHECKS = (check_indices, check_results, check_jumps, check_ends, check_calls, check_reached, check_stacks, check_bounds,
+CHECKS = (check_indices, check_handlers, check_jumps, check_ends, check_calls, check_reached, check_stacks, check_bounds,
           check_head)
 
 

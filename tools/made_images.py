@@ -1,5 +1,5 @@
 """Makes images, as docs/IMAGE.md says: some by hand, a case or more for each check, and some by chance from a seed."""
-from image_reader import COMMANDS, COST, FRAMES, NAMES, STACK, Image, check_stacks, find_bounds, greatest_event
+from image_reader import COMMANDS, COST, FRAMES, KINDS, NAMES, STACK, Image, Refused, check_stacks, find_bounds, greatest_event
 
 CODES = {name: code for code, name in enumerate(NAMES)}
 RET = ("ret",)
@@ -17,26 +17,29 @@ def text(value):
 
 class Draft:
     """The parts of an image, which need not be accepted. A part is its init, its body and its mask; an instruction is
-    the arguments of `op`."""
+    the arguments of `op`. A routine is its number of truths and its instructions, and in version 2 the kinds that it takes,
+    those that it leaves, and its instructions."""
 
-    def __init__(self, routines=((0, [RET]),), parts=((0, 0, 0), (0, 0, 0)), initial=0, budgets=(0, 1, 3, 0), counts=None):
+    def __init__(self, routines=((0, [RET]),), parts=((0, 0, 0), (0, 0, 0)), initial=0, budgets=(0, 1, 3, 0), counts=None,
+                 version=1):
         self.routines, self.parts, self.initial, self.budgets = list(routines), list(parts), initial, budgets
         self.interfaces, self.tests, self.commands = [b"carp0", b"em0"], [(10, b"ping")], [b"echo m", b"echo b"]
         self.names = [b"s%d" % number for number in range(len(parts) - 1)]
-        self.counts = counts
+        self.counts, self.version = counts, version
 
     def data(self):
         """The bytes."""
         tables = (self.interfaces, self.tests, self.commands, self.names, self.routines)
-        made = b"IFSV\1" + b"".join(it.to_bytes(size, "big") for it, size in zip(self.budgets, (2, 2, 4, 2)))
+        made = b"IFSV" + bytes((self.version,))
+        made += b"".join(it.to_bytes(size, "big") for it, size in zip(self.budgets, (2, 2, 4, 2)))
         made += b"".join(it.to_bytes(2, "big") for it in self.counts or map(len, tables))
         made += self.initial.to_bytes(2, "big") + part_bytes(self.parts[0])
         made += b"".join(map(text, self.interfaces))
         made += b"".join(period.to_bytes(4, "big") + text(command) for period, command in self.tests)
         made += b"".join(map(text, self.commands))
         made += b"".join(text(name) + part_bytes(part) for name, part in zip(self.names, self.parts[1:]))
-        for results, ops in self.routines:
-            made += bytes((results,)) + len(ops).to_bytes(2, "big") + b"".join(op(*it) for it in ops)
+        for *kinds, ops in self.routines:
+            made += b"".join(map(kind_bytes, kinds)) + len(ops).to_bytes(2, "big") + b"".join(op(*it) for it in ops)
         return made
 
     def with_least_budgets(self):
@@ -49,6 +52,23 @@ class Draft:
         needed = (max(heights), max(frames), greatest_event(image, "cost"), greatest_event(image, "commands"))
         self.budgets = tuple(map(min, needed, (STACK, FRAMES, COST, COMMANDS)))
         return self
+
+
+def kind_bytes(kinds):
+    """A number of truths, or kinds behind their number."""
+    return bytes((kinds,)) if isinstance(kinds, int) else bytes((len(kinds), *map(KINDS.index, kinds)))
+
+
+def upgraded(data):
+    """The image of version 2 that says what an image says."""
+    image = Image(data)
+    if image.version == 2:
+        return data
+    starts = [routine.start for routine in image.routines] + [len(data)]
+    made = data[:4] + bytes((2,)) + data[5 : starts[0]]
+    for routine, end in zip(image.routines, starts[1:]):
+        made += kind_bytes([]) + kind_bytes(routine.results) + data[routine.counted : end]
+    return made
 
 
 def part_bytes(part):
@@ -74,7 +94,8 @@ def reading_faults():
     """Images with a fault of each kind, and such as are at a limit."""
     smallest = Draft().data()
     yield from (smallest[:length] for length in range(len(smallest)))
-    yield from (smallest + b"\0", b"ifsv" + smallest[4:], smallest[:4] + b"\2" + smallest[5:])
+    yield from (smallest + b"\0", b"ifsv" + smallest[4:])
+    yield from (smallest[:4] + bytes((version,)) + smallest[5:] for version in (0, 2, 3, 255))
     yield from (changed(budgets=budgets) for budgets in (
         (32, 32, 300_000, 64), (33, 1, 3, 0), (0, 33, 3, 0), (0, 1, 300_001, 0), (0, 1, 3, 65), (33, 33, 300_001, 65)))
     yield from (changed(counts=counts) for counts in (
@@ -216,11 +237,65 @@ def bounded_routines():
     yield [shared, (0, [("cmd", 0), ("pop",), RET]), straight, (0, [("cmd", 1), ("dup",), ("queue",), ("queue",), RET]), branch]
 
 
+TAKEN = {"truth": ("pop",), "command": ("queue",), "state": ("want",)}
+PUSHED = {"truth": ("true",), "command": ("cmd", 0), "state": ("state", 0)}
+
+
+def taking(*kinds, results=(), more=()):
+    """A routine of version 2 that takes kinds off, does more and leaves some."""
+    return list(kinds), list(results), [*(TAKEN[it] for it in reversed(kinds)), *more, *(PUSHED[it] for it in results), RET]
+
+
+def calling(callee, *ops, budgets=(32, 32, 300_000, 64)):
+    """An image of version 2 whose state's body has these instructions and can call a routine, and another above it."""
+    middle = (*callee[:2], [("call", 0), RET])
+    return Draft([callee, middle, ([], [], [*ops, RET]), ([], [], [RET])], [(3, 3, 0), (3, 2, 0)], budgets=budgets, version=2).data()
+
+
+def kinds_faults():
+    """What routines of version 2 take and leave, right and wrong."""
+    lists = ([], ["truth"], ["command"], ["state"], ["command", "truth"], ["truth", "command"], ["state", "state"],
+             ["truth", "command", "state", "truth"])
+    for kinds in lists:
+        for given in lists:
+            pushes = [PUSHED[it] for it in given]
+            yield from (calling(taking(*kinds), *pushes, ("call", callee)) for callee in (0, 1))
+            yield calling(taking(results=given), ("call", 0), *(TAKEN[it] for it in reversed(kinds)))
+            yield calling((list(kinds), list(given), [RET]), *(PUSHED[it] for it in kinds), ("call", 0), *(TAKEN[it] for it in reversed(given)))
+            yield Draft([(kinds, given, [RET]), ([], [], [RET])], [(1, 1, 0), (0, 1, 0)], version=2).data()
+            yield Draft([(kinds, given, [RET]), ([], [], [RET])], [(1, 0, 0), (1, 1, 0)], version=2).data()
+    kept = [("true",)] * 29
+    for below in (kept[:-1], kept, kept + kept[:1]):
+        pops = [("pop",)] * len(below)
+        yield calling(taking("truth", "command", "state"), *below, ("true",), ("cmd", 0), ("state", 0), ("call", 0), *pops)
+        yield calling(taking(results=["truth"] * 4), *below, ("call", 0), *[("pop",)] * 4, *pops)
+        yield calling(taking("truth", more=[*[("true",)] * 4, *[("pop",)] * 4]), *below, ("true",), ("call", 1), *pops)
+    for height in (0, 1, 2, 3):
+        yield calling(taking("command", "truth"), ("cmd", 0), ("true",), ("call", 0), budgets=(height, 2, 9, 1))
+    smallest = Draft([([], [], [RET])], version=2).data()
+    end = len(smallest) - 8
+    for count in (1, 4, 5, 255):
+        for kind in (0, 2, 3, 255):
+            yield from (smallest[: end + it] + bytes((count,)) + bytes((kind,)) * min(count, 5) + smallest[end + it + 1 :] for it in (0, 1))
+    yield from (smallest[:length] for length in range(len(smallest)))
+    full = ([], [], [("true",)] * 1_023 + [RET])
+    for routines, more in ((8, 0), (63, 1_023), (63, 1_024), (64, 0)):
+        yield Draft([full] * routines + [([], [], [("true",)] * (more - 1) + [RET])] * bool(more), version=2).data()
+
+
 def by_hand():
-    """All of these images, each once."""
+    """All of these images, each once, and those of version 1 that can be read in version 2 too."""
     made = [*reading_faults(), *index_faults(), *form_faults(), *stack_faults(), *bound_faults(), *ordered_bounds(),
-            *ordered_faults()]
-    return list(dict.fromkeys(made))
+            *ordered_faults(), *kinds_faults()]
+    return list(dict.fromkeys([*made, *filter(None, map(readable, made))]))
+
+
+def readable(data):
+    """The upgrade of an image that can be read."""
+    try:
+        return upgraded(data)
+    except Refused:
+        return None
 
 
 class Maker:
@@ -228,7 +303,7 @@ class Maker:
 
     def __init__(self, chance):
         self.chance = chance
-        draft = self.draft = Draft([])
+        draft = self.draft = Draft([], version=chance.choice((1, 2)))
         draft.interfaces = [b"em%d" % number for number in range(chance.randrange(4))]
         draft.tests = [(chance.choice((1, 7, 604_800)), b"t%d" % number) for number in range(chance.choice((0, 1, 2, 9)))]
         draft.commands = [b"echo %d" % number for number in range(chance.randrange(4))]
@@ -236,8 +311,7 @@ class Maker:
                        for number in range(chance.choice((1, 1, 2, 3, 5)))]
         shared = chance.choice((0, 1, 2, 6))
         for number in range(shared + chance.choice((1, 2, 4))):
-            results = int(number < shared)
-            draft.routines.append((results, self.routine(results)))
+            draft.routines.append(self.routine(number < shared))
         draft.parts = [self.part(shared) for _ in range(len(draft.names) + 1)]
         draft.initial = chance.randrange(len(draft.names))
         draft.with_least_budgets()
@@ -249,7 +323,7 @@ class Maker:
     def truth(self, depth):
         """Instructions that push a truth."""
         kind = self.chance.randrange(8)
-        shared = [number for number, (results, _) in enumerate(self.draft.routines) if results]
+        shared = [number for number, routine in enumerate(self.draft.routines) if routine[:-1] in ((1,), ([], ["truth"]))]
         if kind < 2 and depth:
             return self.truth(depth - 1) + self.truth(depth - 1) + [(self.chance.choice(("and", "or")),)]
         if kind == 2:
@@ -272,8 +346,7 @@ class Maker:
             elif kind == 1:
                 made += [("state", self.chance.randrange(len(self.draft.names))), ("want",)]
             elif kind == 2 and self.draft.routines:
-                number = self.chance.randrange(len(self.draft.routines))
-                made += [("call", number)] + [("pop",)] * self.draft.routines[number][0]
+                made += self.call(self.chance.randrange(len(self.draft.routines)))
             elif kind == 3 and depth:
                 kept = self.chance.choice((1, 2, 5))
                 below = [("true",)] * kept
@@ -292,9 +365,38 @@ class Maker:
         other = self.block(depth - 1, end + 1)
         return made + [("jf", end + 1), *inner, ("jump", end + 1 + len(other)), *other]
 
-    def routine(self, results):
-        code = self.block(3, 0)
-        return code + (self.truth(2) if results else []) + [RET]
+    def call(self, number):
+        """A call of a routine, with what it takes before and what it leaves taken off."""
+        if self.draft.version == 1:
+            return [("call", number)] + [("pop",)] * self.draft.routines[number][0]
+        params, results, _ = self.draft.routines[number]
+        pushes = [it for kind in params for it in self.pushed(kind)]
+        return [*pushes, ("call", number), *self.taken(results)]
+
+    def pushed(self, kind):
+        """Instructions that push a value of a kind."""
+        if kind == "truth":
+            return self.truth(1)
+        table = self.draft.commands if kind == "command" else self.draft.names
+        return [("cmd" if kind == "command" else "state", self.chance.randrange(len(table)))]
+
+    def taken(self, kinds):
+        """Instructions that take these kinds off."""
+        return [self.chance.choice((TAKEN[kind], ("pop",))) for kind in reversed(kinds)]
+
+    def kinds(self):
+        """Up to four kinds of which there are values."""
+        there = [kind for kind in KINDS if kind != "command" or self.draft.commands]
+        return self.chance.choices(there, k=self.chance.choice((0, 1, 1, 2, 3, 4)))
+
+    def routine(self, shared):
+        """A routine, which is none of a handler where it is shared."""
+        if self.draft.version == 1:
+            return int(shared), self.block(3, 0) + (self.truth(2) if shared else []) + [RET]
+        params, results = (self.kinds(), self.kinds()) if shared else ([], [])
+        taken = self.taken(params)
+        code = taken + self.block(3, len(taken))
+        return params, results, code + [it for kind in results for it in self.pushed(kind)] + [RET]
 
 
 def by_chance(chance):

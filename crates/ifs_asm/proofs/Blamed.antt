@@ -1,29 +1,36 @@
 -- What a refused line did: it repeats a name, passes a count, or cannot follow.
-use Rattle.std.proofs.Common.{◌≡◌, ℕ, ◌≤◌, Bool, true, false, List, [], ◌∷◌, ◌++◌, length, map, take}
+use Rattle.std.proofs.Common.{◌≡◌, ℕ, zero, suc, ◌<◌, ◌≤◌, Bool, true, false, List, [], ◌∷◌, ◌++◌, length, map, take}
 use Rattle.std.proofs.Common.{Option, Some, None, refl, sym, ap, subst, ◌∙◌, arith, append_assoc, inl, inr}
 use Rattle.std.specs.Prelude.{◌||◌, ◌⊎◌, not, nat_lt}
 use Rattle.std.specs.List.{flat_map}
 use Rattle.std.specs.Str.{bytes_eq}
+use Rattle.std.proofs.lemmas.Bool.{and_parts, ltb-true, cases_lt}
 use Rattle.std.proofs.lemmas.Bool.Decides.{nat_tests}
 use Rattle.std.proofs.lemmas.List.{append-nil}
 use Rattle.std.proofs.lemmas.List.Concat.{flat_map-append}
 use Rattle.ifs_image.specs.declared.parts.Handlers.{Handlers}
 use Rattle.ifs_image.specs.declared.parts.StateSpec.{StateSpec}
 use Rattle.ifs_image.specs.declared.parts.Routine.{Routine}
-use Rattle.ifs_image.specs.Limits.{names_of}
+use Rattle.ifs_image.specs.declared.parts.ImageParts.{ImageParts}
+use Rattle.ifs_image.specs.Limits.{names_of, instructions, code_limit}
 use Rattle.ifs_image.specs.Reading.{stands_in}
 use Rattle.ifs_asm.specs.declared.fault.LineFault.TheVariants as faults
 use Rattle.ifs_asm.specs.declared.forms.Formed.{Formed}
+use Rattle.ifs_asm.specs.declared.line.Version.{Version}
+use Rattle.ifs_asm.specs.declared.line.Version.TheVariants.{One, Two}
+use Rattle.ifs_asm.specs.declared.line.Head.{Head}
+use Rattle.ifs_asm.specs.declared.line.Head.TheVariants.{Plain, Signature}
 use Rattle.ifs_asm.specs.declared.line.Line.{Line}
 use Rattle.ifs_asm.specs.declared.line.Line.TheVariants as lines
-use Rattle.ifs_asm.specs.Texts.{front_lines, routine_lines}
-use Rattle.ifs_asm.specs.Refused.{EachBreaks, IsAmong, Repeats, IsLong, IsOver, IsOneTooMany, IsOutOfPlace}
+use Rattle.ifs_asm.specs.Texts.{version_number, version_in, head_of, front_lines, routine_lines}
+use Rattle.ifs_asm.specs.Refused.{EachBreaks, IsAmong, IsOfOther, HasNoForm, IsLong, IsOver, IsOneTooMany, IsOutOfPlace}
 use Rattle.ifs_asm.specs.inner.Forms.{formed}
 use Rattle.ifs_asm.specs.inner.Building.{Built, listed_routine, current_len, parts_said}
-use Rattle.ifs_asm.specs.inner.Building.{lines_said, has_name, is_full, line_in}
+use Rattle.ifs_asm.specs.inner.Building.{lines_said, has_no_form, is_of_other, is_full, line_in}
 use Rattle.ifs_asm.specs.inner.Reading.{Blames}
 use Rattle.ifs_asm.proofs.Bytes.{same_word}
-use Rattle.ifs_asm.proofs.BuildFits.{IsWithin}
+use Rattle.ifs_asm.proofs.BuildFits.{IsWithin, no_routines}
+use Rattle.ifs_asm.proofs.Versions.{version_back}
 use Rattle.ifs_asm.proofs.BuildFound.{Sound}
 use Rattle.ifs_asm.proofs.Picked.{repeats_none, over_none}
 use Rattle.ifs_asm.proofs.TextLaws.{line_in_found, line_in_again}
@@ -48,6 +55,19 @@ interface_in : (name : List ℕ) (xs : List (List ℕ)) → stands_in name xs �
 interface_in name [] h = absurd cc
 interface_in name (x ∷ xs) h = name_case name x xs (bytes_eq x name) refl h (interface_in name xs)
 
+-- The version is the first line.
+version_first : (n : ℕ) (p : ImageParts) (v : Version) → 0 < n → version_in p.version ≡ v → IsAmong (take n (front_lines p)) (lines.Version v)
+version_first zero p v lt e = absurd (omega (arith, lt))
+version_first (suc n) p v lt e =
+    let others = take n (lines.Stack p.budgets.stack ∷ lines.Frames p.budgets.frames ∷ lines.Cost p.budgets.cost ∷ lines.Commands p.budgets.commands ∷ lines.Start p.initial ∷ lines.Always p.always ∷ []) in
+    record { before = []; after = others; whole = ap (λ (w : Version). lines.Version w ∷ others) e }
+
+other_form : (v : Version) (head : Head) → is_of_other v head ≡ true → IsOfOther v head
+other_form One (Plain truth) h = absurd cc
+other_form One (Signature params results) h = tt
+other_form Two (Plain truth) h = tt
+other_form Two (Signature params results) h = absurd cc
+
 -- A state of a name.
 record Named (xs : List StateSpec) (name : List ℕ) : Type 0 where
   handlers : Handlers
@@ -66,7 +86,19 @@ state_in : (name : List ℕ) (xs : List StateSpec) → stands_in name (names_of 
 state_in name [] h = absurd cc
 state_in name (x ∷ xs) h = state_case name x xs (bytes_eq x.name name) refl h (state_in name xs)
 
-repeats : (b : Built) (l : Line) → has_name b l ≡ true → Repeats (lines_said b) l
+-- The version that was read stands among what was said.
+version_said : (b : Built) → 0 < b.front → IsAmong (lines_said b) (lines.Version b.version)
+version_said b lt =
+    let f = take b.front (front_lines (parts_said b)) in
+    let i = f ++ map lines.Interface b.interfaces in
+    let t = i ++ map lines.Test b.tests in
+    let c = t ++ map lines.Command b.commands in
+    let s = c ++ map lines.State b.states in
+    let l = lines.Version b.version in
+    in_left s (flat_map (routine_lines b.version) (b.routines ++ listed_routine b.current)) l (in_left c (map lines.State b.states) l (in_left t (map lines.Command b.commands) l
+    (in_left i (map lines.Test b.tests) l (in_left f (map lines.Interface b.interfaces) l (version_first b.front (parts_said b) b.version lt (version_back b.version))))))
+
+repeats : (b : Built) (l : Line) → has_no_form b l ≡ true → HasNoForm (lines_said b) l
 repeats b (lines.Interface name) h =
     let f = take b.front (front_lines (parts_said b)) in
     let i = f ++ map lines.Interface b.interfaces in
@@ -74,15 +106,15 @@ repeats b (lines.Interface name) h =
     let c = t ++ map lines.Command b.commands in
     let s = c ++ map lines.State b.states in
     let l = lines.Interface name in
-    in_left s (flat_map routine_lines (b.routines ++ listed_routine b.current)) l (in_left c (map lines.State b.states) l (in_left t (map lines.Command b.commands) l
+    in_left s (flat_map (routine_lines b.version) (b.routines ++ listed_routine b.current)) l (in_left c (map lines.State b.states) l (in_left t (map lines.Command b.commands) l
     (in_left i (map lines.Test b.tests) l (in_right f (map lines.Interface b.interfaces) l (interface_in name b.interfaces h)))))
 repeats b (lines.State x) h =
     let f = take b.front (front_lines (parts_said b)) in
     let c = f ++ map lines.Interface b.interfaces ++ map lines.Test b.tests ++ map lines.Command b.commands in
     let n = state_in x.name b.states h in
     let l = lines.State (record { name = x.name; handlers = n.handlers }) in
-    (n.handlers, in_left (c ++ map lines.State b.states) (flat_map routine_lines (b.routines ++ listed_routine b.current)) l (in_right c (map lines.State b.states) l n.stands))
-repeats b lines.Version h = absurd cc
+    (n.handlers, in_left (c ++ map lines.State b.states) (flat_map (routine_lines b.version) (b.routines ++ listed_routine b.current)) l (in_right c (map lines.State b.states) l n.stands))
+repeats b (lines.Version v) h = absurd cc
 repeats b (lines.Stack n) h = absurd cc
 repeats b (lines.Frames n) h = absurd cc
 repeats b (lines.Cost n) h = absurd cc
@@ -91,7 +123,9 @@ repeats b (lines.Start n) h = absurd cc
 repeats b (lines.Always handlers) h = absurd cc
 repeats b (lines.Test t) h = absurd cc
 repeats b (lines.Command text) h = absurd cc
-repeats b (lines.Routine results) h = absurd cc
+repeats b (lines.Routine head) h =
+    let p = and_parts (nat_lt 0 b.front) (is_of_other b.version head) h in
+    (b.version, version_said b (ltb-true 0 b.front p.0), other_form b.version head p.1)
 repeats b (lines.Instruction op) h = absurd cc
 
 -- ---- counts
@@ -118,86 +152,113 @@ either_true false y h = inr h
 short_none : not (nat_lt 0 1024) ≡ true → ⊥
 short_none h = absurd cc
 
-routines_more : (rs : List Routine) (r : Routine) → flat_map routine_lines (rs ++ r ∷ []) ≡ flat_map routine_lines rs ++ routine_lines r
-routines_more rs r = flat_map-append routine_lines rs (r ∷ []) ∙ ap (λ (ls : List Line). flat_map routine_lines rs ++ ls) (append-nil (routine_lines r))
+routines_more : (v : Version) (rs : List Routine) (r : Routine) → flat_map (routine_lines v) (rs ++ r ∷ []) ≡ flat_map (routine_lines v) rs ++ routine_lines v r
+routines_more v rs r = flat_map-append (routine_lines v) rs (r ∷ []) ∙ ap (λ (ls : List Line). flat_map (routine_lines v) rs ++ ls) (append-nil (routine_lines v r))
 
-is_long : (before : List Line) (rs : List Routine) (o : Option Routine) → not (nat_lt (current_len o) 1024) ≡ true → IsLong (before ++ flat_map routine_lines (rs ++ listed_routine o))
-is_long before rs None h = absurd (short_none h)
-is_long before rs (Some r) h =
-    let last = lines.Routine r.results in
+is_long : (v : Version) (before : List Line) (rs : List Routine) (o : Option Routine) → not (nat_lt (current_len o) 1024) ≡ true → IsLong (before ++ flat_map (routine_lines v) (rs ++ listed_routine o))
+is_long v before rs None h = absurd (short_none h)
+is_long v before rs (Some r) h =
+    let last = lines.Routine (head_of v r) in
     let code = map lines.Instruction r.code in
-    let routines = flat_map routine_lines rs in
+    let routines = flat_map (routine_lines v) rs in
     record {
       before = (before ++ routines) ++ last ∷ [];
       code = r.code;
-      whole = ap (λ (ls : List Line). before ++ ls) (routines_more rs r) ∙ sym (append_assoc before routines (last ∷ code)) ∙ sym (append_assoc (before ++ routines) (last ∷ []) code);
+      whole = ap (λ (ls : List Line). before ++ ls) (routines_more v rs r) ∙ sym (append_assoc before routines (last ∷ code)) ∙ sym (append_assoc (before ++ routines) (last ∷ []) code);
       enough = no_room (length r.code) 1024 h;
     }
 
-over : (b : Built) (l : Line) → IsWithin b → is_full b l ≡ true → IsOver (lines_said b) l
-over b (lines.Interface name) w h = record {
+-- Where a routine was said, a version was.
+routines_front : (b : Built) → Sound b → 0 < length (b.routines ++ listed_routine b.current) → 0 < b.front
+routines_front b s some = elim (cases_lt 0 b.front) [
+  | inl lt ↦ lt
+  | inr le ↦ absurd (omega (arith, some, ap length (no_routines b s (omega (arith, le)))))
+]
+
+coded : (rs : List Routine) → 1 ≤ instructions rs → 0 < length rs
+coded [] some = absurd (omega (arith, some))
+coded (r ∷ rs) some = omega arith
+
+some_codes : (v : Version) → 8192 ≤ code_limit (version_number v)
+some_codes One = omega arith
+some_codes Two = omega arith
+
+over : (b : Built) (l : Line) → IsWithin b → Sound b → is_full b l ≡ true → IsOver (lines_said b) l
+over b (lines.Interface name) w snd h = record {
   before = take b.front (front_lines (parts_said b));
   entries = b.interfaces;
-  after = map lines.Test b.tests ++ (map lines.Command b.commands ++ (map lines.State b.states ++ flat_map routine_lines (b.routines ++ listed_routine b.current)));
-  whole = parted_two (take b.front (front_lines (parts_said b))) (map lines.Interface b.interfaces) (map lines.Test b.tests) (map lines.Command b.commands) (map lines.State b.states) (flat_map routine_lines (b.routines ++ listed_routine b.current));
+  after = map lines.Test b.tests ++ (map lines.Command b.commands ++ (map lines.State b.states ++ flat_map (routine_lines b.version) (b.routines ++ listed_routine b.current)));
+  whole = parted_two (take b.front (front_lines (parts_said b))) (map lines.Interface b.interfaces) (map lines.Test b.tests) (map lines.Command b.commands) (map lines.State b.states) (flat_map (routine_lines b.version) (b.routines ++ listed_routine b.current));
   enough = no_room (length b.interfaces) 64 h;
 }
-over b (lines.Test t) w h = record {
+over b (lines.Test t) w snd h = record {
   before = take b.front (front_lines (parts_said b)) ++ map lines.Interface b.interfaces;
   entries = b.tests;
-  after = map lines.Command b.commands ++ (map lines.State b.states ++ flat_map routine_lines (b.routines ++ listed_routine b.current));
-  whole = parted_three (take b.front (front_lines (parts_said b))) (map lines.Interface b.interfaces) (map lines.Test b.tests) (map lines.Command b.commands) (map lines.State b.states) (flat_map routine_lines (b.routines ++ listed_routine b.current));
+  after = map lines.Command b.commands ++ (map lines.State b.states ++ flat_map (routine_lines b.version) (b.routines ++ listed_routine b.current));
+  whole = parted_three (take b.front (front_lines (parts_said b))) (map lines.Interface b.interfaces) (map lines.Test b.tests) (map lines.Command b.commands) (map lines.State b.states) (flat_map (routine_lines b.version) (b.routines ++ listed_routine b.current));
   enough = no_room (length b.tests) 64 h;
 }
-over b (lines.Command text) w h = record {
+over b (lines.Command text) w snd h = record {
   before = take b.front (front_lines (parts_said b)) ++ map lines.Interface b.interfaces ++ map lines.Test b.tests;
   entries = b.commands;
-  after = map lines.State b.states ++ flat_map routine_lines (b.routines ++ listed_routine b.current);
-  whole = parted_four (take b.front (front_lines (parts_said b))) (map lines.Interface b.interfaces) (map lines.Test b.tests) (map lines.Command b.commands) (map lines.State b.states) (flat_map routine_lines (b.routines ++ listed_routine b.current));
+  after = map lines.State b.states ++ flat_map (routine_lines b.version) (b.routines ++ listed_routine b.current);
+  whole = parted_four (take b.front (front_lines (parts_said b))) (map lines.Interface b.interfaces) (map lines.Test b.tests) (map lines.Command b.commands) (map lines.State b.states) (flat_map (routine_lines b.version) (b.routines ++ listed_routine b.current));
   enough = no_room (length b.commands) 1024 h;
 }
-over b (lines.State x) w h = record {
+over b (lines.State x) w snd h = record {
   before = take b.front (front_lines (parts_said b)) ++ map lines.Interface b.interfaces ++ map lines.Test b.tests ++ map lines.Command b.commands;
   entries = b.states;
-  after = flat_map routine_lines (b.routines ++ listed_routine b.current);
-  whole = parted_five (take b.front (front_lines (parts_said b))) (map lines.Interface b.interfaces) (map lines.Test b.tests) (map lines.Command b.commands) (map lines.State b.states) (flat_map routine_lines (b.routines ++ listed_routine b.current));
+  after = flat_map (routine_lines b.version) (b.routines ++ listed_routine b.current);
+  whole = parted_five (take b.front (front_lines (parts_said b))) (map lines.Interface b.interfaces) (map lines.Test b.tests) (map lines.Command b.commands) (map lines.State b.states) (flat_map (routine_lines b.version) (b.routines ++ listed_routine b.current));
   enough = no_room (length b.states) 256 h;
 }
-over b (lines.Routine results) w h = record {
-  before = take b.front (front_lines (parts_said b)) ++ map lines.Interface b.interfaces ++ map lines.Test b.tests ++ map lines.Command b.commands ++ map lines.State b.states;
-  routines = b.routines ++ listed_routine b.current;
-  whole = refl;
-  enough = no_room (length (b.routines ++ listed_routine b.current)) 1024 h;
-}
-over b (lines.Instruction op) w h =
-    let front = take b.front (front_lines (parts_said b)) ++ map lines.Interface b.interfaces ++ map lines.Test b.tests ++ map lines.Command b.commands ++ map lines.State b.states in
-    elim (either_true (not (nat_lt (current_len b.current) 1024)) (not (nat_lt b.count 8192)) h) [
-      | inl p ↦ inl (is_long front b.routines b.current p)
-      | inr p ↦ inr (record {
-        before = front;
+over b (lines.Routine head) w snd h =
+    let many = no_room (length (b.routines ++ listed_routine b.current)) 1024 h in (
+      b.version,
+      version_said b (routines_front b snd (omega (arith, many))),
+      record {
+        before = take b.front (front_lines (parts_said b)) ++ map lines.Interface b.interfaces ++ map lines.Test b.tests ++ map lines.Command b.commands ++ map lines.State b.states;
         routines = b.routines ++ listed_routine b.current;
         whole = refl;
-        enough = omega (arith, no_room b.count 8192 p, w.together);
-      })
+        enough = many;
+      },
+    )
+over b (lines.Instruction op) w snd h =
+    let front = take b.front (front_lines (parts_said b)) ++ map lines.Interface b.interfaces ++ map lines.Test b.tests ++ map lines.Command b.commands ++ map lines.State b.states in
+    let most = code_limit (version_number b.version) in
+    elim (either_true (not (nat_lt (current_len b.current) 1024)) (not (nat_lt b.count most)) h) [
+      | inl p ↦ inl (is_long b.version front b.routines b.current p)
+      | inr p ↦
+          let all : most ≤ instructions (b.routines ++ listed_routine b.current) = omega (arith, no_room b.count most p, w.together) in
+          inr (
+            b.version,
+            version_said b (routines_front b snd (coded (b.routines ++ listed_routine b.current) (omega (arith, all, some_codes b.version)))),
+            record {
+              before = front;
+              routines = b.routines ++ listed_routine b.current;
+              whole = refl;
+              enough = all;
+            },
+          )
     ]
-over b lines.Version w h = absurd cc
-over b (lines.Stack n) w h = absurd cc
-over b (lines.Frames n) w h = absurd cc
-over b (lines.Cost n) w h = absurd cc
-over b (lines.Commands n) w h = absurd cc
-over b (lines.Start n) w h = absurd cc
-over b (lines.Always handlers) w h = absurd cc
+over b (lines.Version v) w snd h = absurd cc
+over b (lines.Stack n) w snd h = absurd cc
+over b (lines.Frames n) w snd h = absurd cc
+over b (lines.Cost n) w snd h = absurd cc
+over b (lines.Commands n) w snd h = absurd cc
+over b (lines.Start n) w snd h = absurd cc
+over b (lines.Always handlers) w snd h = absurd cc
 
 -- ---- what a fault says of the lines said before
 
-pub blames_name : (b : Built) (said : List Line) (bytes : List ℕ) → lines_said b ≡ said → Blames b (line_in bytes) faults.Unknown → EachBreaks (Repeats said) bytes
+pub blames_name : (b : Built) (said : List Line) (bytes : List ℕ) → lines_said b ≡ said → Blames b (line_in bytes) faults.Unknown → EachBreaks (HasNoForm said) bytes
 blames_name b said bytes same blames = λ line says fits.
-    subst (λ (ls : List Line). Repeats ls line) same (repeats b line (blames line (line_in_again bytes line says fits)))
+    subst (λ (ls : List Line). HasNoForm ls line) same (repeats b line (blames line (line_in_again bytes line says fits)))
 
-pub blames_count : (b : Built) (said : List Line) (bytes : List ℕ) → IsWithin b → lines_said b ≡ said → Blames b (line_in bytes) faults.OutOfRange → EachBreaks (IsOneTooMany said) bytes
-blames_count b said bytes within same blames = λ line says fits.
+pub blames_count : (b : Built) (said : List Line) (bytes : List ℕ) → IsWithin b → Sound b → lines_said b ≡ said → Blames b (line_in bytes) faults.OutOfRange → EachBreaks (IsOneTooMany said) bytes
+blames_count b said bytes within sound same blames = λ line says fits.
     let broken = blames line (line_in_again bytes line says fits) in
-    subst (λ (ls : List Line). IsOneTooMany ls line) same (over b line within broken.1, repeats_none b line broken.0)
+    subst (λ (ls : List Line). IsOneTooMany ls line) same (over b line within sound broken.1, repeats_none b line broken.0)
 
 pub blames_order : (b : Built) (said : List Line) (bytes : List ℕ) → IsWithin b → Sound b → lines_said b ≡ said → Blames b (line_in bytes) faults.OutOfOrder → IsOutOfPlace said bytes
 blames_order b said bytes within sound same blames =
@@ -206,5 +267,5 @@ blames_order b said bytes within sound same blames =
 
 -- ---- a form whose numbers and texts are in their ranges says a line
 
-pub form_late : (b : Built) (form : Formed) → form.fits ≡ true → has_name b form.line ≡ false → is_full b form.line ≡ false → Blames b (formed (Some form)) faults.OutOfOrder
+pub form_late : (b : Built) (form : Formed) → form.fits ≡ true → has_no_form b form.line ≡ false → is_full b form.line ≡ false → Blames b (formed (Some form)) faults.OutOfOrder
 form_late b form h new free = (form.line, rw h refl, new, free)

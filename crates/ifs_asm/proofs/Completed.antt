@@ -5,13 +5,14 @@ use Rattle.std.specs.Prelude.{option_and_then, slice_index}
 use Rattle.std.specs.List.{AllByRecursion}
 use Rattle.std.proofs.lemmas.Option.{option_and_then_some, same_Some, none-some}
 use Rattle.std.proofs.lemmas.List.{append-nil}
-use Rattle.std.proofs.lemmas.List.Elements.{All-from_recursion, recursion_from_All}
+use Rattle.std.proofs.lemmas.List.Elements.{All-from_recursion}
 use Rattle.std.proofs.lemmas.Str.{IsUtf8-from_ascii}
 use Rattle.ifs_image.specs.declared.parts.Handlers.{Handlers}
 use Rattle.ifs_image.specs.declared.parts.StateSpec.{StateSpec}
-use Rattle.ifs_image.specs.Limits.{HandlersInRange, RoutineFits}
+use Rattle.ifs_image.specs.Limits.{HandlersInRange}
 use Rattle.ifs_asm.specs.declared.line.Line.{Line}
 use Rattle.ifs_asm.specs.declared.line.Line.TheVariants as lines
+use Rattle.ifs_asm.specs.declared.line.Version.TheVariants.{One}
 use Rattle.ifs_asm.specs.Refused.{LinesGoOn, speaking}
 use Rattle.ifs_asm.specs.inner.Building.{Built, parts_said, lines_said, with_line, one_line_more, built_by}
 use Rattle.ifs_asm.specs.inner.Building.{built_of, nothing}
@@ -90,7 +91,7 @@ from_one : (b : Built) → b.front ≡ 1 → b.states ≡ [] → b.current ≡ N
 from_one b at none closed = first_line b (lines.Stack 0) (step_taken b (lines.Stack 0) refl refl (rw at refl)) (omega arith) (tt, (omega arith, tt)) (from_two (with_line b (lines.Stack 0)) refl none closed)
 
 from_zero : (b : Built) → b.front ≡ 0 → b.states ≡ [] → b.current ≡ None → Completes b
-from_zero b at none closed = first_line b lines.Version (step_taken b lines.Version refl refl (rw at refl)) tt (tt, (tt, tt)) (from_one (with_line b lines.Version) refl none closed)
+from_zero b at none closed = first_line b (lines.Version One) (step_taken b (lines.Version One) refl refl (rw at refl)) tt (tt, (tt, tt)) (from_one (with_line b (lines.Version One)) refl none closed)
 
 from_front : (n : ℕ) (b : Built) → b.front ≡ n → n ≤ 7 → b.states ≡ [] → b.current ≡ None → Completes b
 from_front zero b at most none closed = from_zero b at none closed
@@ -143,7 +144,7 @@ goes_on done b h =
         begin = record {
           image = p;
           fits = built_fits c.after bytes all c.some;
-          in_range = range_of p (image_said c.after bytes all c.some).fit;
+          in_range = range_of p (built_fits c.after bytes all c.some) (image_said c.after bytes all c.some).fit;
           others = c.others;
           whole = sym (full_front c.after (front_is c.after m.sound c.some)) ∙ m.lines ∙ ap (λ (ls : List Line). ls ++ c.others) a.lines;
         };
@@ -160,7 +161,7 @@ front_case (Some b) after ls h e = absurd cc
 pub never_goes_on : (lines : List (List ℕ)) → built_by nothing (speaking lines) ≡ None → LinesGoOn lines → ⊥
 never_goes_on lines none g =
     let p = g.begin.image in
-    let built = image_built p g.begin.fits (recursion_from_All RoutineFits p.routines g.begin.fits.routines.each) in
+    let built = image_built p g.begin.fits in
     let fit = (each_parts LineFits g.said g.begin.others (subst (AllByRecursion LineFits) g.begin.whole (lines_fit p g.begin.fits g.begin.in_range))).0 in
     let same : built_by nothing (speaking lines) ≡ built_of nothing g.said = built_same (speaking lines) g.said nothing g.says fit in
     let whole : option_and_then (λ next. built_of next g.begin.others) (built_of nothing g.said) ≡ Some built.after =

@@ -1,7 +1,7 @@
 -- What words say: the line that is read of them has those words, and fits.
-use Rattle.std.proofs.Common.{◌≡◌, ℕ, ◌^◌, ◌<◌, ◌≤◌, cond, List, [], ◌∷◌, length}
+use Rattle.std.proofs.Common.{◌≡◌, ℕ, zero, suc, ◌∙◌, ap, ◌^◌, ◌<◌, ◌≤◌, cond, List, [], ◌∷◌, length}
 use Rattle.std.proofs.Common.{Option, Some, None, refl, subst, arith, codes}
-use Rattle.std.specs.Prelude.{◌&&◌, nat_lt, IfSome, option_and_then, option_map}
+use Rattle.std.specs.Prelude.{◌==◌, ◌&&◌, nat_lt, IfSome, option_and_then, option_map}
 use Rattle.std.specs.List.{AllZip}
 use Rattle.std.specs.Str.{bytes_eq, is_utf8}
 use Rattle.std.proofs.lemmas.Str.{IsUtf8-from_is_utf8}
@@ -15,18 +15,22 @@ use Rattle.ifs_base.specs.declared.op.Op.{Op}
 use Rattle.ifs_base.specs.declared.op.Op.TheVariants.{Link}
 use Rattle.ifs_image.specs.declared.parts.Handlers.{Handlers}
 use Rattle.ifs_image.specs.Limits.{HandlersInRange}
+use Rattle.ifs_base.specs.declared.op.Kind.{Kind}
+use Rattle.ifs_asm.specs.declared.line.Version.TheVariants.{One, Two}
+use Rattle.ifs_asm.specs.declared.line.Head.TheVariants.{Plain, Signature}
 use Rattle.ifs_asm.specs.declared.line.Line.{Line}
 use Rattle.ifs_asm.specs.declared.line.Line.TheVariants as lines
-use Rattle.ifs_asm.specs.Texts.{words_of, handlers_words}
+use Rattle.ifs_asm.specs.Texts.{words_of, handlers_words, truths, kinds_word}
 use Rattle.ifs_asm.specs.Spellings.{IsQuoted}
-use Rattle.ifs_asm.specs.inner.Words.{Start, text_from, in_utf8, mask_in}
+use Rattle.ifs_asm.specs.inner.Words.{Start, text_from, in_utf8, mask_in, kinds_in}
 use Rattle.ifs_asm.specs.inner.Forms.{plain_op, indexed_op, link_state_in, up_to, number_up_to, text_within, sized_text}
-use Rattle.ifs_asm.specs.inner.Forms.{period_within, period_in, number_line, two_words, routine_line, link_line}
+use Rattle.ifs_asm.specs.inner.Forms.{period_within, period_in, number_line, two_words, routine_line, signed_line, signature_line, link_line}
 use Rattle.ifs_asm.specs.inner.Forms.{test_line}
 use Rattle.ifs_asm.specs.inner.Forms.{three_words, numbered_handlers, handlers_in, always_line, state_line, line_of}
 use Rattle.ifs_asm.proofs.Bytes.{same_word}
 use Rattle.ifs_asm.proofs.Quotes.{text_found, no_nul}
 use Rattle.ifs_asm.proofs.MaskLists.{mask_found, mask_small}
+use Rattle.ifs_asm.proofs.KindLists.{kinds_found}
 use Rattle.ifs_asm.proofs.Cutting.{Spelled}
 use Rattle.ifs_asm.specs.Refused.{TextGood, LineFits}
 
@@ -135,7 +139,7 @@ number_found name word =
 
 two_found : (name word : List ℕ) → Gives (name ∷ word ∷ []) (two_words name word)
 two_found name word =
-    pick (name ∷ word ∷ []) name (codes "ifsv") _ _ (λ e. pick (name ∷ word ∷ []) word (codes "1") (Some lines.Version) None (λ one. ((e, (one, tt)), tt)) tt) (
+    pick (name ∷ word ∷ []) name (codes "ifsv") _ _ (λ e. pick (name ∷ word ∷ []) word (codes "1") (Some (lines.Version One)) _ (λ one. ((e, (one, tt)), tt)) (pick (name ∷ word ∷ []) word (codes "2") (Some (lines.Version Two)) None (λ two. ((e, (two, tt)), tt)) tt)) (
     pick (name ∷ word ∷ []) name (codes "iface") _ _ (texted name (codes "iface") word lines.Interface (λ t e is good. ((e, (is, tt)), good))) (
     pick (name ∷ word ∷ []) name (codes "command") _ _ (texted name (codes "command") word lines.Command (λ t e is good. ((e, (is, tt)), good)))
     (number_found name word)))
@@ -156,16 +160,36 @@ test_found name first second e =
     period_cases first (λ o. Gives (name ∷ first ∷ second ∷ []) (option_and_then (λ n. option_map (λ t. lines.Test (record { period = n; text = t })) (sized_text second)) o)) tt (λ n is fits.
     text_cases second (λ o. Gives (name ∷ first ∷ second ∷ []) (option_map (λ t. lines.Test (record { period = n; text = t })) o)) tt (λ t at good. ((e, (is, (at, tt))), (fits, good))))
 
+truths_are : (n : ℕ) → n ≤ 1 → n ≡ truths (n == 1)
+truths_are zero le = refl
+truths_are (suc zero) le = refl
+truths_are (suc (suc n)) le = absurd (omega (arith, le))
+
 routine_found : (name first second : List ℕ) → name ≡ codes "routine" → Gives (name ∷ first ∷ second ∷ []) (routine_line first second)
 routine_found name first second e =
-    pick (name ∷ first ∷ second ∷ []) first (codes "results") (option_map lines.Routine (number_up_to 1 second)) None (λ at.
-    up_cases 1 second (λ o. Gives (name ∷ first ∷ second ∷ []) (option_map lines.Routine o)) tt (λ n is le. ((e, (at, (is, tt))), le))) tt
+    pick (name ∷ first ∷ second ∷ []) first (codes "results") (option_map (λ n. lines.Routine (Plain (n == 1))) (number_up_to 1 second)) None (λ at.
+    up_cases 1 second (λ o. Gives (name ∷ first ∷ second ∷ []) (option_map (λ n. lines.Routine (Plain (n == 1))) o)) tt (λ n is le. ((e, (at, (is ∙ ap Some (truths_are n le), tt))), tt))) tt
 
 three_found : (name first second : List ℕ) → Gives (name ∷ first ∷ second ∷ []) (three_words name first second)
 three_found name first second =
     pick (name ∷ first ∷ second ∷ []) name (codes "routine") _ _ (routine_found name first second) (
     pick (name ∷ first ∷ second ∷ []) name (codes "link") _ _ (link_found name first second) (
     pick (name ∷ first ∷ second ∷ []) name (codes "test") _ _ (test_found name first second) tt))
+
+kinds_cases : (word : List ℕ) (H : Option (List Kind) → Type 0) → H None → ((kinds : List Kind) → word ≡ kinds_word kinds → length kinds ≤ 4 → H (Some kinds)) → H (kinds_in word)
+kinds_cases word H none some = cases_of (kinds_in word) H none (λ kinds e. let f = kinds_found word kinds e in some kinds f.0 f.1)
+
+five_found : (name a params b results : List ℕ) → Gives (name ∷ a ∷ params ∷ b ∷ results ∷ []) (signature_line name a params b results)
+five_found name a params b results =
+    let words = name ∷ a ∷ params ∷ b ∷ results ∷ [] in
+    cond_both (bytes_eq name (codes "routine") && (bytes_eq a (codes "params") && bytes_eq b (codes "results"))) (signed_line params results) None (Gives words)
+    (λ t.
+    let p = and_parts (bytes_eq name (codes "routine")) (bytes_eq a (codes "params") && bytes_eq b (codes "results")) t in
+    let q = and_parts (bytes_eq a (codes "params")) (bytes_eq b (codes "results")) p.1 in
+    kinds_cases params (λ o. Gives words (option_and_then (λ p. option_map (λ r. lines.Routine (Signature (record { items = p }) (record { items = r }))) (kinds_in results)) o)) tt (λ ps is_params few_params.
+    kinds_cases results (λ o. Gives words (option_map (λ r. lines.Routine (Signature (record { items = ps }) (record { items = r }))) o)) tt (λ rs is_results few_results.
+    ((same_word name (codes "routine") p.0, (same_word a (codes "params") q.0, (is_params, (same_word b (codes "results") q.1, (is_results, tt))))), (few_params, few_results)))))
+    (λ _. tt)
 
 seven_found : (name a init b body c tests : List ℕ) → Gives (name ∷ a ∷ init ∷ b ∷ body ∷ c ∷ tests ∷ []) (always_line name (handlers_in a init b body c tests))
 seven_found name a init b body c tests =
@@ -186,7 +210,7 @@ gives (a ∷ []) = one_found a
 gives (a ∷ b ∷ []) = two_found a b
 gives (a ∷ b ∷ c ∷ []) = three_found a b c
 gives (a ∷ b ∷ c ∷ d ∷ []) = tt
-gives (a ∷ b ∷ c ∷ d ∷ e ∷ []) = tt
+gives (a ∷ b ∷ c ∷ d ∷ e ∷ []) = five_found a b c d e
 gives (a ∷ b ∷ c ∷ d ∷ e ∷ f ∷ []) = tt
 gives (a ∷ b ∷ c ∷ d ∷ e ∷ f ∷ g ∷ []) = seven_found a b c d e f g
 gives (a ∷ b ∷ c ∷ d ∷ e ∷ f ∷ g ∷ h ∷ []) = eight_found a b c d e f g h

@@ -14,14 +14,19 @@ use Rattle.ifs_base.specs.declared.op.Op.TheVariants.{Either, PushCommand, PushS
 use Rattle.ifs_base.specs.declared.op.Op.TheVariants.{Jump, JumpFalse, JumpTrue, Call, Pop, Dup}
 use Rattle.ifs_image.specs.declared.parts.Handlers.{Handlers}
 use Rattle.ifs_image.specs.Limits.{HandlersInRange}
+use Rattle.arrayvec.specs.ArrayVec.{ArrayVec}
+use Rattle.ifs_base.specs.declared.op.Kind.{Kind}
+use Rattle.ifs_asm.specs.declared.line.Version.TheVariants.{One, Two}
+use Rattle.ifs_asm.specs.declared.line.Head.TheVariants.{Plain, Signature}
 use Rattle.ifs_asm.specs.declared.line.Line.{Line}
 use Rattle.ifs_asm.specs.declared.line.Line.TheVariants as lines
-use Rattle.ifs_asm.specs.Texts.{Word, Key, Number, Quoted, Tests, words_of, op_words, handlers_words, tests_of}
+use Rattle.ifs_asm.specs.Texts.{Word, Key, Number, Quoted, Tests, words_of, head_words, op_words, handlers_words, tests_of, kinds_word}
 use Rattle.ifs_asm.specs.Spellings.{IsSpelling, IsQuoted, IsList}
 use Rattle.ifs_asm.specs.Refused.{TextGood, LineFits}
 use Rattle.ifs_asm.specs.inner.Forms.{number_up_to, sized_text, period_in, numbered_handlers, line_of}
 use Rattle.ifs_asm.proofs.Quotes.{text_again}
 use Rattle.ifs_asm.proofs.MaskLists.{mask_again}
+use Rattle.ifs_asm.proofs.KindLists.{kinds_again}
 use Rattle.ifs_asm.proofs.Cutting.{Spelled}
 
 -- ---- numbers, texts and words
@@ -165,8 +170,25 @@ state_again name h words good r z =
     let t = text_again_in q.first name q.spelling good in
     ap line_of (p.whole ∙ ap (λ (x : List ℕ). x ∷ p.others) p.spelling ∙ ap (λ (xs : List (List ℕ)). codes "state" ∷ xs) (q.whole ∙ ap (λ (xs : List (List ℕ)). q.first ∷ xs) s.whole)) ∙ rw (e, t) refl
 
+signature_again : (params results : ArrayVec Kind) (words : List (List ℕ)) → (length params.items ≤ 4) × (length results.items ≤ 4) → AllZip Spelled words (words_of (lines.Routine (Signature params results))) → line_of words ≡ Some (lines.Routine (Signature params results))
+signature_again params results words few z =
+    let a = part words (Key (codes "routine")) (head_words (Signature params results)) z in
+    let b = part a.others (Key (codes "params")) (Key (kinds_word params.items) ∷ Key (codes "results") ∷ Key (kinds_word results.items) ∷ []) a.rest in
+    let c = part b.others (Key (kinds_word params.items)) (Key (codes "results") ∷ Key (kinds_word results.items) ∷ []) b.rest in
+    let d = part c.others (Key (codes "results")) (Key (kinds_word results.items) ∷ []) c.rest in
+    let e = part d.others (Key (kinds_word results.items)) [] d.rest in
+    let tail : d.others ≡ kinds_word results.items ∷ [] = e.whole ∙ ap (λ (x : List ℕ). x ∷ e.others) e.spelling ∙ ap (λ (xs : List (List ℕ)). kinds_word results.items ∷ xs) (no_more e.others e.rest) in
+    let whole : words ≡ codes "routine" ∷ codes "params" ∷ kinds_word params.items ∷ codes "results" ∷ kinds_word results.items ∷ [] =
+    a.whole ∙ ap (λ (x : List ℕ). x ∷ a.others) a.spelling
+    ∙ ap (λ (xs : List (List ℕ)). codes "routine" ∷ xs) (b.whole ∙ ap (λ (x : List ℕ). x ∷ b.others) b.spelling
+    ∙ ap (λ (xs : List (List ℕ)). codes "params" ∷ xs) (c.whole ∙ ap (λ (x : List ℕ). x ∷ c.others) c.spelling
+    ∙ ap (λ (xs : List (List ℕ)). kinds_word params.items ∷ xs) (d.whole ∙ ap (λ (x : List ℕ). x ∷ d.others) d.spelling
+    ∙ ap (λ (xs : List (List ℕ)). codes "results" ∷ xs) tail))) in
+    ap line_of whole ∙ rw (kinds_again params.items few.0, kinds_again results.items few.1) refl
+
 pub line_again : (line : Line) (words : List (List ℕ)) → LineFits line → AllZip Spelled words (words_of line) → line_of words ≡ Some line
-line_again lines.Version words f z = two_again words (codes "ifsv") (Key (codes "1")) lines.Version z (λ x a. rw a refl)
+line_again (lines.Version One) words f z = two_again words (codes "ifsv") (Key (codes "1")) (lines.Version One) z (λ x a. rw a refl)
+line_again (lines.Version Two) words f z = two_again words (codes "ifsv") (Key (codes "2")) (lines.Version Two) z (λ x a. rw a refl)
 line_again (lines.Stack n) words f z = two_again words (codes "stack") (Number n) (lines.Stack n) z (λ x a. rw (number_again 32 n x a f) refl)
 line_again (lines.Frames n) words f z = two_again words (codes "frames") (Number n) (lines.Frames n) z (λ x a. rw (number_again 32 n x a f) refl)
 line_again (lines.Cost n) words f z = two_again words (codes "cost") (Number n) (lines.Cost n) z (λ x a. rw (number_again 300000 n x a f) refl)
@@ -177,5 +199,7 @@ line_again (lines.Interface name) words f z = two_again words (codes "iface") (Q
 line_again (lines.Test t) words f z = three_again words (codes "test") (Number t.period) (Quoted t.text) (lines.Test t) z (λ x y a b. rw (period_again t.period x a f.0, text_again_in y t.text b f.1) refl)
 line_again (lines.Command text) words f z = two_again words (codes "command") (Quoted text) (lines.Command text) z (λ x a. rw (text_again_in x text a f) refl)
 line_again (lines.State s) words f z = state_again s.name s.handlers words f.0 f.1 z
-line_again (lines.Routine results) words f z = three_again words (codes "routine") (Key (codes "results")) (Number results) (lines.Routine results) z (λ x y a b. rw (a, number_again 1 results y b f) refl)
+line_again (lines.Routine (Plain true)) words f z = three_again words (codes "routine") (Key (codes "results")) (Number 1) (lines.Routine (Plain true)) z (λ x y a b. rw (a, number_again 1 1 y b (omega arith)) refl)
+line_again (lines.Routine (Plain false)) words f z = three_again words (codes "routine") (Key (codes "results")) (Number 0) (lines.Routine (Plain false)) z (λ x y a b. rw (a, number_again 1 0 y b (omega arith)) refl)
+line_again (lines.Routine (Signature params results)) words f z = signature_again params results words f z
 line_again (lines.Instruction op) words f z = op_again op words f z

@@ -1,7 +1,7 @@
 -- Images and the texts that spell them.
-use Rattle.std.proofs.Common.{◌≡◌, ◌≢◌, ℕ, ◌<◌, List, [], ◌∷◌, ◌++◌, map, Option}
+use Rattle.std.proofs.Common.{◌≡◌, ◌≢◌, ℕ, ◌<◌, ◌≤◌, ◌^◌, Bool, true, false, length, inl, inr, List, [], ◌∷◌, ◌++◌, map, Option}
 use Rattle.std.proofs.Common.{Some, None, refl, sym, ap, subst, ◌∙◌, arith}
-use Rattle.std.specs.Prelude.{option_and_then, All, IsUtf8, Result, Ok, Err, IfOk, IfErr}
+use Rattle.std.specs.Prelude.{◌⊎◌, option_and_then, All, IsUtf8, Result, Ok, Err, IfOk, IfErr}
 use Rattle.std.specs.List.{flat_map, AllByRecursion, AllZip}
 use Rattle.std.proofs.lemmas.Option.{same_Some, none-some}
 use Rattle.std.proofs.lemmas.List.Elements.{All-from_recursion, recursion_from_All}
@@ -15,12 +15,16 @@ use Rattle.ifs_image.specs.declared.parts.Handlers.{Handlers}
 use Rattle.ifs_image.specs.declared.parts.StateSpec.{StateSpec}
 use Rattle.ifs_image.specs.declared.parts.Routine.{Routine}
 use Rattle.ifs_image.specs.declared.parts.ImageParts.{ImageParts}
-use Rattle.ifs_image.specs.Limits.{Fits, InRange, HandlersInRange, StateInRange, TestFits, RoutineFits}
+use Rattle.ifs_image.specs.Limits.{Fits, InRange, HandlersInRange, StateInRange, RoutineInRange, TestFits, RoutineFits}
 use Rattle.ifs_asm.specs.declared.fault.AsmFault.{AsmFault}
 use Rattle.ifs_asm.specs.declared.fault.AsmFault.TheVariants.{Unknown, OutOfRange, OutOfOrder, Memory}
+use Rattle.ifs_base.specs.declared.op.Kind.{Kind}
+use Rattle.ifs_base.specs.declared.op.Kind.TheVariants.{Truth}
+use Rattle.ifs_asm.specs.declared.line.Version.{Version}
+use Rattle.ifs_asm.specs.declared.line.Version.TheVariants.{One, Two}
 use Rattle.ifs_asm.specs.declared.line.Line.{Line}
 use Rattle.ifs_asm.specs.declared.line.Line.TheVariants as lines
-use Rattle.ifs_asm.specs.Texts.{words_of, op_words, front_lines, routine_lines, lines_of, canonical}
+use Rattle.ifs_asm.specs.Texts.{words_of, op_words, truths, is_some_kind, version_in, head_of, front_lines, routine_lines, lines_of, canonical}
 use Rattle.ifs_asm.specs.Spellings.{SaysLine, spoken, TextSpells}
 use Rattle.ifs_asm.specs.inner.Building.{Built, parts_said, one_line_more, line_in, built_by, built_of, nothing}
 use Rattle.ifs_asm.proofs.Bytes.{each_append, each_weaker}
@@ -28,6 +32,7 @@ use Rattle.ifs_asm.specs.Refused.{LineFits, TextGood}
 use Rattle.ifs_asm.proofs.TextLaws.{WordFits, LineWritten, line_in_again, spoken_lines, lines_say}
 use Rattle.ifs_asm.proofs.BuildAgain.{image_built}
 use Rattle.ifs_asm.proofs.BuildFound.{image_said}
+use Rattle.ifs_asm.proofs.Versions.{FitsVersion, version_fits}
 
 -- ---- facts on each member
 
@@ -136,14 +141,24 @@ state_fits s fits r = (
 states_fit : (p : ImageParts) → Fits p → InRange p → AllByRecursion BothFit (map lines.State p.states)
 states_fit p f r = each_map BothFit lines.State p.states (each_from (λ s. TextFits s.name) StateInRange (λ s. BothFit (lines.State s)) state_fits p.states f.states.texts r.states)
 
-routine_fit : (r : Routine) → RoutineFits r → All HasSpelling r.code → AllByRecursion BothFit (routine_lines r)
-routine_fit r fits ops = (
-  (fits.results, (tt, (tt, (omega (arith, fits.results), tt)))),
-  each_map BothFit lines.Instruction r.code (each_weaker HasSpelling (λ op. BothFit (lines.Instruction op)) (λ op f. (f, op_fits op f)) r.code (recursion_from_All HasSpelling r.code ops)),
+small : (truth : Bool) → truths truth < 2 ^ 64
+small true = omega arith
+small false = omega arith
+
+head_fits : (v : Version) (r : Routine) → RoutineInRange r → BothFit (lines.Routine (head_of v r))
+head_fits One r range = (tt, (tt, (tt, (small (is_some_kind r.results.items), tt))))
+head_fits Two r range = ((range.params, range.results), (tt, (tt, (tt, (tt, (tt, tt))))))
+
+routine_fit : (v : Version) (r : Routine) → RoutineInRange r → AllByRecursion BothFit (routine_lines v r)
+routine_fit v r range = (
+  head_fits v r range,
+  each_map BothFit lines.Instruction r.code (each_weaker HasSpelling (λ op. BothFit (lines.Instruction op)) (λ op f. (f, op_fits op f)) r.code (recursion_from_All HasSpelling r.code range.code)),
 )
 
-routines_fit : (p : ImageParts) → Fits p → InRange p → AllByRecursion BothFit (flat_map routine_lines p.routines)
-routines_fit p f r = each_flat BothFit routine_lines p.routines (each_from RoutineFits (λ r. All HasSpelling r.code) (λ r. AllByRecursion BothFit (routine_lines r)) routine_fit p.routines f.routines.each r.routines)
+routines_fit : (p : ImageParts) → InRange p → AllByRecursion BothFit (flat_map (routine_lines (version_in p.version)) p.routines)
+routines_fit p r =
+    let v = version_in p.version in
+    each_flat BothFit (routine_lines v) p.routines (each_weaker RoutineInRange (λ r. AllByRecursion BothFit (routine_lines v r)) (routine_fit v) p.routines (recursion_from_All RoutineInRange p.routines r.routines))
 
 all_fit : (p : ImageParts) → Fits p → InRange p → AllByRecursion BothFit (lines_of p)
 all_fit p f r =
@@ -151,7 +166,7 @@ all_fit p f r =
     let l2 = l1 ++ map lines.Test p.tests in
     let l3 = l2 ++ map lines.Command p.commands in
     let l4 = l3 ++ map lines.State p.states in
-    each_append BothFit l4 (flat_map routine_lines p.routines)
+    each_append BothFit l4 (flat_map (routine_lines (version_in p.version)) p.routines)
     (each_append BothFit l3 (map lines.State p.states)
     (each_append BothFit l2 (map lines.Command p.commands)
     (each_append BothFit l1 (map lines.Test p.tests)
@@ -159,7 +174,7 @@ all_fit p f r =
     (tests_fit p f r))
     (commands_fit p f r))
     (states_fit p f r))
-    (routines_fit p f r)
+    (routines_fit p r)
 
 pub lines_fit : (p : ImageParts) → Fits p → InRange p → AllByRecursion LineFits (lines_of p)
 lines_fit p f r = each_weaker BothFit LineFits (λ l b. b.0) (lines_of p) (all_fit p f r)
@@ -169,8 +184,16 @@ lines_written p f r = each_weaker BothFit LineWritten (λ l b. b.1) (lines_of p)
 
 -- ---- lines that fit are of an image whose numbers fit
 
-routine_range : (r : Routine) → AllByRecursion LineFits (routine_lines r) → All HasSpelling r.code
-routine_range r a = All-from_recursion HasSpelling r.code (each_unmap LineFits lines.Instruction r.code a.1)
+truths_few : (kinds : List Kind) → (kinds ≡ []) ⊎ (kinds ≡ Truth ∷ []) → length kinds ≤ 4
+truths_few kinds (inl none) = rw none (omega arith)
+truths_few kinds (inr one) = rw one (omega arith)
+
+none_few : (kinds : List Kind) → kinds ≡ [] → length kinds ≤ 4
+none_few kinds none = rw none (omega arith)
+
+routine_range : (v : Version) (r : Routine) → FitsVersion v r → AllByRecursion LineFits (routine_lines v r) → RoutineInRange r
+routine_range One r fits a = record { params = none_few r.params.items fits.params; results = truths_few r.results.items fits.results; code = All-from_recursion HasSpelling r.code (each_unmap LineFits lines.Instruction r.code a.1) }
+routine_range Two r fits a = record { params = a.0.0; results = a.0.1; code = All-from_recursion HasSpelling r.code (each_unmap LineFits lines.Instruction r.code a.1) }
 
 -- The lines of an image that fit, by what they say.
 pub record Parted (p : ImageParts) : Type 0 where
@@ -179,7 +202,7 @@ pub record Parted (p : ImageParts) : Type 0 where
   pub tests : AllByRecursion (λ t. LineFits (lines.Test t)) p.tests
   pub commands : AllByRecursion TextGood p.commands
   pub states : AllByRecursion (λ s. LineFits (lines.State s)) p.states
-  pub routines : AllByRecursion (λ r. AllByRecursion LineFits (routine_lines r)) p.routines
+  pub routines : AllByRecursion (λ r. AllByRecursion LineFits (routine_lines (version_in p.version) r)) p.routines
 
 pub parted : (p : ImageParts) → AllByRecursion LineFits (lines_of p) → Parted p
 parted p a =
@@ -187,7 +210,7 @@ parted p a =
     let l2 = l1 ++ map lines.Test p.tests in
     let l3 = l2 ++ map lines.Command p.commands in
     let l4 = l3 ++ map lines.State p.states in
-    let r = each_parts LineFits l4 (flat_map routine_lines p.routines) a in
+    let r = each_parts LineFits l4 (flat_map (routine_lines (version_in p.version)) p.routines) a in
     let s = each_parts LineFits l3 (map lines.State p.states) r.0 in
     let c = each_parts LineFits l2 (map lines.Command p.commands) s.0 in
     let t = each_parts LineFits l1 (map lines.Test p.tests) c.0 in
@@ -198,12 +221,14 @@ parted p a =
       tests = each_unmap LineFits lines.Test p.tests t.1;
       commands = each_unmap LineFits lines.Command p.commands c.1;
       states = each_unmap LineFits lines.State p.states s.1;
-      routines = each_unflat LineFits routine_lines p.routines r.1;
+      routines = each_unflat LineFits (routine_lines (version_in p.version)) p.routines r.1;
     }
 
-pub range_of : (p : ImageParts) → AllByRecursion LineFits (lines_of p) → InRange p
-range_of p fit =
+pub range_of : (p : ImageParts) → Fits p → AllByRecursion LineFits (lines_of p) → InRange p
+range_of p f fit =
     let a = parted p fit in
+    let v = version_in p.version in
+    let kinds = each_weaker (RoutineFits p.version) (FitsVersion v) (λ r fits. version_fits p.version r f.version fits) p.routines (recursion_from_All (RoutineFits p.version) p.routines f.routines.each) in
     record {
       initial = a.front.1.1.1.1.1.0;
       always = a.front.1.1.1.1.1.1.0;
@@ -211,7 +236,7 @@ range_of p fit =
       tests = All-from_recursion (λ t. IsUtf8 t.text) p.tests (each_weaker (λ t. LineFits (lines.Test t)) (λ t. IsUtf8 t.text) (λ x g. g.1.utf8) p.tests a.tests);
       commands = All-from_recursion IsUtf8 p.commands (each_weaker TextGood IsUtf8 (λ x g. g.utf8) p.commands a.commands);
       states = All-from_recursion StateInRange p.states (each_weaker (λ s. LineFits (lines.State s)) StateInRange (λ x g. record { name = g.0.utf8; handlers = g.1 }) p.states a.states);
-      routines = All-from_recursion (λ r. All HasSpelling r.code) p.routines (each_weaker (λ r. AllByRecursion LineFits (routine_lines r)) (λ r. All HasSpelling r.code) routine_range p.routines a.routines);
+      routines = All-from_recursion RoutineInRange p.routines (each_both (FitsVersion v) (λ r. AllByRecursion LineFits (routine_lines v r)) RoutineInRange (routine_range v) p.routines kinds a.routines);
     }
 
 -- ---- what is built of a text
@@ -237,14 +262,14 @@ pub record IsRead (text : List ℕ) (p : ImageParts) : Type 0 where
 
 pub read_again : (text : List ℕ) (p : ImageParts) → TextSpells text p → IsRead text p
 read_again text p s =
-    let b = image_built p s.fits (recursion_from_All RoutineFits p.routines s.fits.routines.each) in
+    let b = image_built p s.fits in
     record { after = b.after; built = built_same (spoken text) (lines_of p) nothing s.says (lines_fit p s.fits s.in_range) ∙ b.built; parts = b.parts }
 
 -- What is built of a text, and fits, is spelled by it.
 pub read_found : (text : List ℕ) (b : Built) → built_by nothing (spoken text) ≡ Some b → Fits (parts_said b) → TextSpells text (parts_said b)
 read_found text b h f =
     let s = image_said b (spoken text) h f.counts.some_state in
-    record { fits = f; in_range = range_of (parts_said b) s.fit; says = s.says }
+    record { fits = f; in_range = range_of (parts_said b) f s.fit; says = s.says }
 
 -- Nothing is spelled where nothing is built, nor where what is built does not fit.
 pub read_none : (text : List ℕ) (p : ImageParts) → built_by nothing (spoken text) ≡ None → TextSpells text p → ⊥

@@ -7,9 +7,11 @@ mod Quotes
 mod Finds
 mod Escapes
 mod MaskLists
+mod KindLists
 mod FormLaws
 mod FormFound
 mod TextLaws
+mod Versions
 mod BuildAgain
 mod BuildFound
 mod ImageLaws

@@ -128,7 +128,7 @@ join_case : (b : ℕ) (w : List ℕ) (t : Bool) → (b == 44) ≡ t → listed (
 join_case b w true e ih = joined_empty (slice_split (λ byte. byte == 44) w) (split_some (λ byte. byte == 44) w) ∙ ap (λ (t : List ℕ). 44 ∷ t) ih ∙ ap (λ (x : ℕ). x ∷ w) (sym (eqb-true b 44 e))
 join_case b w false e ih = joined_first b (slice_split (λ byte. byte == 44) w) (split_some (λ byte. byte == 44) w) ∙ ap (λ (t : List ℕ). b ∷ t) ih
 
-joined : (w : List ℕ) → listed (slice_split (λ byte. byte == 44) w) ≡ w
+pub joined : (w : List ℕ) → listed (slice_split (λ byte. byte == 44) w) ≡ w
 joined [] = refl
 joined (b ∷ w) = join_case b w (b == 44) refl (joined w)
 
@@ -241,13 +241,13 @@ mask_again mask word small l = again_in mask l.parts word (tests_of mask) small 
 
 -- ---- a list is one word
 
-abbrev IsSolid : ℕ → Type 0
+abbrev pub IsSolid : ℕ → Type 0
 IsSolid byte = (is_space_or_tab byte ≡ false) × ((byte == 34) ≡ false)
 
 digit_solid : (b : ℕ) → IsDigit b → IsSolid b
 digit_solid b d = (or_from (b == 32) (b == 9) (digit_is_not b 32 d (inl (omega arith))) (digit_is_not b 9 d (inl (omega arith))), digit_is_not b 34 d (inl (omega arith)))
 
-runs_solid : (word : List ℕ) → AllByRecursion IsSolid word → runs Bare word ≡ true
+pub runs_solid : (word : List ℕ) → AllByRecursion IsSolid word → runs Bare word ≡ true
 runs_solid [] a = refl
 runs_solid (b ∷ bs) a = rw (a.0.0, a.0.1) (runs_solid bs a.1)
 

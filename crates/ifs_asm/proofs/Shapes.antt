@@ -7,15 +7,23 @@ pub none_short : {X : Type 0} (view : X → List ℕ) (xs : List X) → length x
 none_short view [] lt = refl
 none_short view (a ∷ xs) lt = absurd (omega (arith, lt))
 
-pub none_middle : {X : Type 0} (view : X → List ℕ) (xs : List X) → 4 ≤ length xs → length xs < 7 → None ≡ line_of (map view xs)
-none_middle view [] le lt = absurd (omega (arith, le))
-none_middle view (a ∷ []) le lt = absurd (omega (arith, le))
-none_middle view (a ∷ b ∷ []) le lt = absurd (omega (arith, le))
-none_middle view (a ∷ b ∷ c ∷ []) le lt = absurd (omega (arith, le))
-none_middle view (a ∷ b ∷ c ∷ d ∷ []) le lt = refl
-none_middle view (a ∷ b ∷ c ∷ d ∷ e ∷ []) le lt = refl
-none_middle view (a ∷ b ∷ c ∷ d ∷ e ∷ f ∷ []) le lt = refl
-none_middle view (a ∷ b ∷ c ∷ d ∷ e ∷ f ∷ g ∷ xs) le lt = absurd (omega (arith, lt))
+pub none_four : {X : Type 0} (view : X → List ℕ) (xs : List X) → 4 ≤ length xs → length xs < 5 → None ≡ line_of (map view xs)
+none_four view [] le lt = absurd (omega (arith, le))
+none_four view (a ∷ []) le lt = absurd (omega (arith, le))
+none_four view (a ∷ b ∷ []) le lt = absurd (omega (arith, le))
+none_four view (a ∷ b ∷ c ∷ []) le lt = absurd (omega (arith, le))
+none_four view (a ∷ b ∷ c ∷ d ∷ []) le lt = refl
+none_four view (a ∷ b ∷ c ∷ d ∷ e ∷ xs) le lt = absurd (omega (arith, lt))
+
+pub none_six : {X : Type 0} (view : X → List ℕ) (xs : List X) → 6 ≤ length xs → length xs < 7 → None ≡ line_of (map view xs)
+none_six view [] le lt = absurd (omega (arith, le))
+none_six view (a ∷ []) le lt = absurd (omega (arith, le))
+none_six view (a ∷ b ∷ []) le lt = absurd (omega (arith, le))
+none_six view (a ∷ b ∷ c ∷ []) le lt = absurd (omega (arith, le))
+none_six view (a ∷ b ∷ c ∷ d ∷ []) le lt = absurd (omega (arith, le))
+none_six view (a ∷ b ∷ c ∷ d ∷ e ∷ []) le lt = absurd (omega (arith, le))
+none_six view (a ∷ b ∷ c ∷ d ∷ e ∷ f ∷ []) le lt = refl
+none_six view (a ∷ b ∷ c ∷ d ∷ e ∷ f ∷ g ∷ xs) le lt = absurd (omega (arith, lt))
 
 pub none_long : {X : Type 0} (view : X → List ℕ) (xs : List X) → 9 ≤ length xs → None ≡ line_of (map view xs)
 none_long view [] le = absurd (omega (arith, le))

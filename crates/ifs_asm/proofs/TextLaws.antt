@@ -13,9 +13,12 @@ use Rattle.ifs_base.specs.declared.op.Op.{Op}
 use Rattle.ifs_base.specs.declared.op.Op.TheVariants.{Ret, Yes, No, Link, Test, Known, Negate, Both}
 use Rattle.ifs_base.specs.declared.op.Op.TheVariants.{Either, PushCommand, PushState, Queue, Want}
 use Rattle.ifs_base.specs.declared.op.Op.TheVariants.{Jump, JumpFalse, JumpTrue, Call, Pop, Dup}
+use Rattle.ifs_base.specs.declared.op.Kind.{Kind}
+use Rattle.ifs_asm.specs.declared.line.Version.TheVariants.{One, Two}
+use Rattle.ifs_asm.specs.declared.line.Head.TheVariants.{Plain, Signature}
 use Rattle.ifs_asm.specs.declared.line.Line.{Line}
 use Rattle.ifs_asm.specs.declared.line.Line.TheVariants as lines
-use Rattle.ifs_asm.specs.Texts.{Word, Key, Number, Quoted, Tests, written}
+use Rattle.ifs_asm.specs.Texts.{Word, Key, Number, Quoted, Tests, written, kinds_word}
 use Rattle.ifs_asm.specs.Texts.{words_of, op_words, tests_of, spaced, line_text}
 use Rattle.ifs_asm.specs.Spellings.{is_space_or_tab, is_plain, is_silent, StandsForByte, itself, escaped}
 use Rattle.ifs_asm.specs.Spellings.{hexadecimal, StandFor, IsSpelling, EndsWord, HaveWords, SaysLine, spoken}
@@ -26,6 +29,7 @@ use Rattle.ifs_asm.proofs.Cutting.{runs, IsOneWord, IsSingle, cut_found, cut_aga
 use Rattle.ifs_asm.proofs.Quotes.{quoted_single, quoted_is}
 use Rattle.ifs_asm.proofs.MaskLists.{IsNumber, number_single, list_single, list_written}
 use Rattle.ifs_asm.specs.Refused.{LineFits}
+use Rattle.ifs_asm.proofs.KindLists.{kinds_run, kinds_some, kinds_in_line}
 use Rattle.ifs_asm.proofs.FormLaws.{line_again}
 use Rattle.ifs_asm.proofs.FormFound.{line_found}
 
@@ -83,8 +87,16 @@ op_good (Call n) = refl
 op_good Pop = refl
 op_good Dup = refl
 
+no_newline : (bytes : List ℕ) → AllByRecursion (λ byte. (byte == 10) ≡ false) bytes → no_newlines bytes ≡ true
+no_newline [] a = refl
+no_newline (b ∷ bs) a = rw a.0 (no_newline bs a.1)
+
+kinds_good : (kinds : List Kind) → good_key (kinds_word kinds) ≡ true
+kinds_good kinds = rw (kinds_run kinds, kinds_some kinds, no_newline (kinds_word kinds) (kinds_in_line kinds)) refl
+
 table_good : (line : Line) → good_words (words_of line) ≡ true
-table_good lines.Version = refl
+table_good (lines.Version One) = refl
+table_good (lines.Version Two) = refl
 table_good (lines.Stack n) = refl
 table_good (lines.Frames n) = refl
 table_good (lines.Cost n) = refl
@@ -95,7 +107,8 @@ table_good (lines.Interface name) = refl
 table_good (lines.Test t) = refl
 table_good (lines.Command text) = refl
 table_good (lines.State s) = refl
-table_good (lines.Routine results) = refl
+table_good (lines.Routine (Plain truth)) = refl
+table_good (lines.Routine (Signature params results)) = rw (kinds_good params.items, kinds_good results.items) refl
 table_good (lines.Instruction op) = op_good op
 
 few : (line : Line) → length (words_of line) < 9

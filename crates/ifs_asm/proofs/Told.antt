@@ -13,7 +13,7 @@ use Rattle.ifs_asm.specs.declared.line.Line.{Line}
 use Rattle.ifs_asm.specs.Texts.{lines_of}
 use Rattle.ifs_asm.specs.Spellings.{SaysLine, TextSpells, spoken, is_silent}
 use Rattle.ifs_asm.specs.Refused.{without_empty_last, text_lines, speaking, LinesGoOn, EachBreaks}
-use Rattle.ifs_asm.specs.Refused.{Repeats, IsOneTooMany, IsOutOfPlace, StopsAtLine, EndsEarly, IsAssemblyRefused}
+use Rattle.ifs_asm.specs.Refused.{HasNoForm, IsOneTooMany, IsOutOfPlace, StopsAtLine, EndsEarly, IsAssemblyRefused}
 use Rattle.ifs_asm.specs.inner.Building.{Built, line_in, built_by, nothing, spoken_line}
 use Rattle.ifs_asm.specs.inner.Reading.{AreRead, Blames, fault_at}
 use Rattle.ifs_asm.proofs.Cuts.{cut_some, cut_none, line_case}
@@ -127,7 +127,7 @@ stops_at text left line rest b n r cut none = record {
   whole = r.cut ∙ ap (λ (ls : List (List ℕ)). r.done ++ ls) cut;
   number_is = r.number_is;
   goes_on = goes_on r.done b r.built;
-  within = built_within nothing b (speaking r.done) nothing_within r.built;
+  within = built_within nothing b (speaking r.done) nothing_sound nothing_within r.built;
   sound = (built_said nothing b (speaking r.done) nothing_sound r.built).sound;
   stop = never_goes_on (r.done ++ line ∷ []) (with_last r.done line b None r.built none);
 }
@@ -180,10 +180,10 @@ stops_spell_none text n b line image s spells =
 pub told_at : (text : List ℕ) (fault : LineFault) (n : ℕ) (b : Built) (line : List ℕ) → (fault ≢ faults.Memory → Stopped text n b line) → Blames b (line_in line) fault → fault_at fault n ≢ Memory → IsAssemblyRefused text (fault_at fault n)
 told_at text faults.Unknown n b line stopped blames other =
     let s = stopped (λ e. absurd cc) in
-    with_fault text n b line (λ said bytes. EachBreaks (Repeats said) bytes) s (blames_name b s.goes_on.go_on.said line s.goes_on.said_is blames)
+    with_fault text n b line (λ said bytes. EachBreaks (HasNoForm said) bytes) s (blames_name b s.goes_on.go_on.said line s.goes_on.said_is blames)
 told_at text faults.OutOfRange n b line stopped blames other =
     let s = stopped (λ e. absurd cc) in
-    with_fault text n b line (λ said bytes. EachBreaks (IsOneTooMany said) bytes) s (blames_count b s.goes_on.go_on.said line s.within s.goes_on.said_is blames)
+    with_fault text n b line (λ said bytes. EachBreaks (IsOneTooMany said) bytes) s (blames_count b s.goes_on.go_on.said line s.within s.sound s.goes_on.said_is blames)
 told_at text faults.OutOfOrder n b line stopped blames other =
     let s = stopped (λ e. absurd cc) in
     inl (with_fault text n b line IsOutOfPlace s (blames_order b s.goes_on.go_on.said line s.within s.sound s.goes_on.said_is blames))

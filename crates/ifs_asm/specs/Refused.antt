@@ -8,12 +8,16 @@ use Rattle.ifs_base.specs.declared.op.Op.{Op}
 use Rattle.ifs_image.specs.declared.parts.Handlers.{Handlers}
 use Rattle.ifs_image.specs.declared.parts.Routine.{Routine}
 use Rattle.ifs_image.specs.declared.parts.ImageParts.{ImageParts}
-use Rattle.ifs_image.specs.Limits.{Fits, InRange, HandlersInRange, instructions}
+use Rattle.ifs_image.specs.Limits.{Fits, InRange, HandlersInRange, instructions, code_limit}
 use Rattle.ifs_asm.specs.declared.fault.AsmFault.{AsmFault}
 use Rattle.ifs_asm.specs.declared.fault.AsmFault.TheVariants.{Unknown, OutOfRange, OutOfOrder, Memory}
+use Rattle.ifs_asm.specs.declared.line.Version.{Version}
+use Rattle.ifs_asm.specs.declared.line.Version.TheVariants.{One, Two}
+use Rattle.ifs_asm.specs.declared.line.Head.{Head}
+use Rattle.ifs_asm.specs.declared.line.Head.TheVariants.{Plain, Signature}
 use Rattle.ifs_asm.specs.declared.line.Line.{Line}
 use Rattle.ifs_asm.specs.declared.line.Line.TheVariants as lines
-use Rattle.ifs_asm.specs.Texts.{routine_lines, lines_of}
+use Rattle.ifs_asm.specs.Texts.{version_number, routine_lines, lines_of}
 use Rattle.ifs_asm.specs.Spellings.{SaysLine, TextSpells, is_silent}
 
 -- Lines without the last one, where that is empty.
@@ -50,9 +54,14 @@ pub record TextGood (text : List ℕ) : Type 0 where
   pub fits : TextFits text
   pub utf8 : IsUtf8 text
 
+-- What the beginning of a routine keeps to: at most four kinds are taken, and left.
+abbrev pub HeadFits : Head → Type 0
+HeadFits (Plain truth) = Unit {0}
+HeadFits (Signature params results) = (length params.items ≤ 4) × (length results.items ≤ 4)
+
 -- What a line keeps to: its numbers, its list and its texts are in their ranges.
 abbrev pub LineFits : Line → Type 0
-LineFits lines.Version = Unit {0}
+LineFits (lines.Version version) = Unit {0}
 LineFits (lines.Stack n) = n ≤ 32
 LineFits (lines.Frames n) = n ≤ 32
 LineFits (lines.Cost n) = n ≤ 300000
@@ -63,7 +72,7 @@ LineFits (lines.Interface name) = TextGood name
 LineFits (lines.Test t) = PeriodFits t.period × TextGood t.text
 LineFits (lines.Command text) = TextGood text
 LineFits (lines.State s) = TextGood s.name × HandlersInRange s.handlers
-LineFits (lines.Routine results) = results ≤ 1
+LineFits (lines.Routine head) = HeadFits head
 LineFits (lines.Instruction op) = HasSpelling op
 
 -- Whatever line in its ranges bytes say, it breaks a rule.
@@ -76,11 +85,18 @@ pub record IsAmong (said : List Line) (line : Line) : Type 0 where
   pub after : List Line
   pub whole : said ≡ before ++ line ∷ after
 
--- The name of an interface or of a state was said before.
-abbrev pub Repeats : List Line → Line → Type 0
-Repeats said (lines.Interface name) = IsAmong said (lines.Interface name)
-Repeats said (lines.State s) = (handlers : Handlers) × IsAmong said (lines.State (record { name = s.name; handlers = handlers }))
-Repeats said _ = ⊥
+-- A routine begins in the form of the other version.
+abbrev pub IsOfOther : Version → Head → Type 0
+IsOfOther One (Signature params results) = Unit {0}
+IsOfOther Two (Plain truth) = Unit {0}
+IsOfOther _ _ = ⊥
+
+-- No form fits a line: the name of an interface or of a state was said before, or a routine begins in the form of the other version than was said.
+abbrev pub HasNoForm : List Line → Line → Type 0
+HasNoForm said (lines.Interface name) = IsAmong said (lines.Interface name)
+HasNoForm said (lines.State s) = (handlers : Handlers) × IsAmong said (lines.State (record { name = s.name; handlers = handlers }))
+HasNoForm said (lines.Routine head) = (version : Version) × IsAmong said (lines.Version version) × IsOfOther version head
+HasNoForm said _ = ⊥
 
 -- So many lines of one kind stand in a row.
 pub record HasMany {X : Type 0} (line : X → Line) (many : ℕ) (said : List Line) : Type 0 where
@@ -90,12 +106,16 @@ pub record HasMany {X : Type 0} (line : X → Line) (many : ℕ) (said : List Li
   pub whole : said ≡ before ++ (map line entries ++ after)
   pub enough : many ≤ length entries
 
--- Routines with something that is said of them stand at the end.
-pub record EndsWith (Enough : List Routine → Type 0) (said : List Line) : Type 0 where
+-- Routines of a version with something that is said of them stand at the end.
+pub record EndsWith (version : Version) (Enough : List Routine → Type 0) (said : List Line) : Type 0 where
   pub before : List Line
   pub routines : List Routine
-  pub whole : said ≡ before ++ flat_map routine_lines routines
+  pub whole : said ≡ before ++ flat_map (routine_lines version) routines
   pub enough : Enough routines
+
+-- The same of the version that was said.
+abbrev pub HasRoutines : (Version → List Routine → Type 0) → List Line → Type 0
+HasRoutines Enough said = (version : Version) × IsAmong said (lines.Version version) × EndsWith version (Enough version) said
 
 -- The last routine has its 1,024 instructions.
 pub record IsLong (said : List Line) : Type 0 where
@@ -110,20 +130,20 @@ IsOver said (lines.Interface name) = HasMany lines.Interface 64 said
 IsOver said (lines.Test test) = HasMany lines.Test 64 said
 IsOver said (lines.Command text) = HasMany lines.Command 1024 said
 IsOver said (lines.State s) = HasMany lines.State 256 said
-IsOver said (lines.Routine results) = EndsWith (λ routines. 1024 ≤ length routines) said
-IsOver said (lines.Instruction op) = IsLong said ⊎ EndsWith (λ routines. 8192 ≤ instructions routines) said
+IsOver said (lines.Routine head) = HasRoutines (λ version routines. 1024 ≤ length routines) said
+IsOver said (lines.Instruction op) = IsLong said ⊎ HasRoutines (λ version routines. code_limit (version_number version) ≤ instructions routines) said
 IsOver said _ = ⊥
 
--- A line passes a count, and repeats no name.
+-- A line has a form, and passes a count.
 abbrev pub IsOneTooMany : List Line → Line → Type 0
-IsOneTooMany said line = IsOver said line × (Repeats said line → ⊥)
+IsOneTooMany said line = IsOver said line × (HasNoForm said line → ⊥)
 
--- Bytes say a line in its ranges, which repeats no name and passes no count: only its place among the lines is wrong.
+-- Bytes say a line in its ranges, which has a form and passes no count: only its place among the lines is wrong.
 pub record IsOutOfPlace (said : List Line) (bytes : List ℕ) : Type 0 where
   pub line : Line
   pub says : SaysLine bytes line
   pub fits : LineFits line
-  pub new : Repeats said line → ⊥
+  pub new : HasNoForm said line → ⊥
   pub room : IsOver said line → ⊥
 
 -- A line of a text, counted from 1, is the first with which its lines do not go on; something holds of it, after what was said before.
@@ -143,11 +163,11 @@ pub record EndsEarly (text : List ℕ) (number : ℕ) : Type 0 where
   pub missing : (image : ImageParts) → TextSpells text image → ⊥
   pub number_is : number ≡ length (text_lines text) + 1
 
--- What a refusal says of a text, at the line that it tells. Unknown: what is said there in its ranges, if anything is, repeats a
--- name. Out of range: it passes a count, and repeats no name. Out of order: something is said there in its ranges, which does
--- neither and cannot follow; or something is missing at the end. Want of memory says nothing of a line.
+-- What a refusal says of a text, at the line that it tells. Unknown: no form fits what is said there in its ranges, if anything
+-- is. Out of range: it has a form, and passes a count. Out of order: something is said there in its ranges, which has a form,
+-- passes no count and cannot follow; or something is missing at the end. Want of memory says nothing of a line.
 abbrev pub IsAssemblyRefused : List ℕ → AsmFault → Type 0
-IsAssemblyRefused text (Unknown line) = StopsAtLine text line (λ said bytes. EachBreaks (Repeats said) bytes)
+IsAssemblyRefused text (Unknown line) = StopsAtLine text line (λ said bytes. EachBreaks (HasNoForm said) bytes)
 IsAssemblyRefused text (OutOfRange line) = StopsAtLine text line (λ said bytes. EachBreaks (IsOneTooMany said) bytes)
 IsAssemblyRefused text (OutOfOrder line) = StopsAtLine text line IsOutOfPlace ⊎ EndsEarly text line
 IsAssemblyRefused text Memory = ⊥

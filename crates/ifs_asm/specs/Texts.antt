@@ -1,8 +1,10 @@
 -- The text of an image: the lines that it has, in their order, and the words of each.
-use Rattle.std.specs.Prelude.{ℕ, zero, suc, ◌+◌, ◌==◌, if◌then◌else◌, List, [], ◌∷◌, ◌++◌, map, codes, decimal}
+use Rattle.std.specs.Prelude.{ℕ, zero, suc, ◌+◌, ◌==◌, if◌then◌else◌, Bool, true, false, List, [], ◌∷◌, ◌++◌, map, codes, decimal}
 use Rattle.std.specs.List.{flat_map}
 use Rattle.std.specs.Int.{bit_at}
 use Rattle.ifs_base.specs.Words.{link_word, quoted, listed}
+use Rattle.ifs_base.specs.declared.op.Kind.{Kind}
+use Rattle.ifs_base.specs.declared.op.Kind.TheVariants as kinds
 use Rattle.ifs_base.specs.declared.op.Op.{Op}
 use Rattle.ifs_base.specs.declared.op.Op.TheVariants.{Ret, Yes, No, Link, Test, Known, Negate, Both}
 use Rattle.ifs_base.specs.declared.op.Op.TheVariants.{Either, PushCommand, PushState, Queue, Want}
@@ -10,6 +12,10 @@ use Rattle.ifs_base.specs.declared.op.Op.TheVariants.{Jump, JumpFalse, JumpTrue,
 use Rattle.ifs_image.specs.declared.parts.Handlers.{Handlers}
 use Rattle.ifs_image.specs.declared.parts.Routine.{Routine}
 use Rattle.ifs_image.specs.declared.parts.ImageParts.{ImageParts}
+use Rattle.ifs_asm.specs.declared.line.Version.{Version}
+use Rattle.ifs_asm.specs.declared.line.Version.TheVariants.{One, Two}
+use Rattle.ifs_asm.specs.declared.line.Head.{Head}
+use Rattle.ifs_asm.specs.declared.line.Head.TheVariants.{Plain, Signature}
 use Rattle.ifs_asm.specs.declared.line.Line.{Line}
 use Rattle.ifs_asm.specs.declared.line.Line.TheVariants as lines
 
@@ -63,9 +69,35 @@ abbrev pub handlers_words : Handlers → List Word
 handlers_words h =
     Key (codes "init") ∷ Number h.init.0 ∷ Key (codes "body") ∷ Number h.body.0 ∷ Key (codes "tests") ∷ Tests h.mask ∷ []
 
+-- The word of a version.
+abbrev pub version_word : Version → List ℕ
+version_word One = codes "1"
+version_word Two = codes "2"
+
+-- The word of a kind of values.
+abbrev pub kind_word : Kind → List ℕ
+kind_word kinds.Truth = codes "truth"
+kind_word kinds.Command = codes "command"
+kind_word kinds.StateName = codes "state"
+
+-- Kinds with commas between them, the topmost last; a dash where there is none.
+abbrev pub kinds_word : List Kind → List ℕ
+kinds_word list = listed (map kind_word list)
+
+-- How many truths a routine of version 1 leaves.
+abbrev pub truths : Bool → ℕ
+truths true = 1
+truths false = 0
+
+-- The words behind the one that begins a routine.
+abbrev pub head_words : Head → List Word
+head_words (Plain truth) = Key (codes "results") ∷ Number (truths truth) ∷ []
+head_words (Signature params results) =
+    Key (codes "params") ∷ Key (kinds_word params.items) ∷ Key (codes "results") ∷ Key (kinds_word results.items) ∷ []
+
 -- The words of a line.
 abbrev pub words_of : Line → List Word
-words_of lines.Version = Key (codes "ifsv") ∷ Key (codes "1") ∷ []
+words_of (lines.Version version) = Key (codes "ifsv") ∷ Key (version_word version) ∷ []
 words_of (lines.Stack n) = Key (codes "stack") ∷ Number n ∷ []
 words_of (lines.Frames n) = Key (codes "frames") ∷ Number n ∷ []
 words_of (lines.Cost n) = Key (codes "cost") ∷ Number n ∷ []
@@ -76,7 +108,7 @@ words_of (lines.Interface name) = Key (codes "iface") ∷ Quoted name ∷ []
 words_of (lines.Test t) = Key (codes "test") ∷ Number t.period ∷ Quoted t.text ∷ []
 words_of (lines.Command text) = Key (codes "command") ∷ Quoted text ∷ []
 words_of (lines.State s) = Key (codes "state") ∷ Quoted s.name ∷ handlers_words s.handlers
-words_of (lines.Routine results) = Key (codes "routine") ∷ Key (codes "results") ∷ Number results ∷ []
+words_of (lines.Routine head) = Key (codes "routine") ∷ head_words head
 words_of (lines.Instruction op) = op_words op
 
 -- Words with a space between them.
@@ -88,21 +120,44 @@ spaced (word ∷ words) = word ++ flat_map (λ other. codes " " ++ other) words
 abbrev pub line_text : Line → List ℕ
 line_text line = spaced (map written (words_of line)) ++ codes "\n"
 
+-- The number of a version.
+abbrev pub version_number : Version → ℕ
+version_number One = 1
+version_number Two = 2
+
+-- The version of an image, by its number.
+abbrev pub version_in : ℕ → Version
+version_in n = if n == 1 then One else Two
+
+-- Whether there is a kind.
+abbrev pub is_some_kind : List Kind → Bool
+is_some_kind [] = false
+is_some_kind (kind ∷ more) = true
+
+-- How a routine begins that takes and leaves these kinds, by the version of its image.
+abbrev pub head_with : Version → List Kind → List Kind → Head
+head_with One params results = Plain (is_some_kind results)
+head_with Two params results = Signature (record { items = params }) (record { items = results })
+
+-- How a routine begins.
+abbrev pub head_of : Version → Routine → Head
+head_of version r = head_with version r.params.items r.results.items
+
 -- The lines of a routine.
-abbrev pub routine_lines : Routine → List Line
-routine_lines r = lines.Routine r.results ∷ map lines.Instruction r.code
+abbrev pub routine_lines : Version → Routine → List Line
+routine_lines version r = lines.Routine (head_of version r) ∷ map lines.Instruction r.code
 
 -- The lines before the tables.
 abbrev pub front_lines : ImageParts → List Line
 front_lines p =
-    lines.Version ∷ lines.Stack p.budgets.stack ∷ lines.Frames p.budgets.frames ∷ lines.Cost p.budgets.cost
+    lines.Version (version_in p.version) ∷ lines.Stack p.budgets.stack ∷ lines.Frames p.budgets.frames ∷ lines.Cost p.budgets.cost
     ∷ lines.Commands p.budgets.commands ∷ lines.Start p.initial ∷ lines.Always p.always ∷ []
 
 -- The lines of an image, in their order.
 abbrev pub lines_of : ImageParts → List Line
 lines_of p =
     front_lines p ++ map lines.Interface p.interfaces ++ map lines.Test p.tests ++ map lines.Command p.commands
-    ++ map lines.State p.states ++ flat_map routine_lines p.routines
+    ++ map lines.State p.states ++ flat_map (routine_lines (version_in p.version)) p.routines
 
 -- The one text of an image that is written for it.
 unfoldable pub canonical : ImageParts → List ℕ

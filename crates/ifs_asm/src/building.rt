@@ -1,6 +1,6 @@
 //! An image that is built line by line.
 
-ghost use Rattle.std.specs.Prelude.{◌≡◌, ◌≢◌, ◌++◌, ◌∷◌, [], Some, None};
+ghost use Rattle.std.specs.Prelude.{◌≡◌, ◌≢◌, ◌++◌, ◌∷◌, [], false, Some, None};
 ghost use Rattle.std.specs.Prelude.{MatchResult, OnOk, IfErr, IfOk, option_and_then};
 ghost use Rattle.ifs_asm.specs.declared.fault.LineFault.TheVariants as faults;
 ghost use Rattle.std.specs.List.{list_any};
@@ -11,19 +11,29 @@ ghost use Rattle.ifs_base.specs.declared.op.Op.TheVariants.{Ret};
 ghost use Rattle.ifs_asm.specs.declared.line.Line.TheVariants as lines;
 ghost use Rattle.ifs_asm.specs.inner.Forms.{formed};
 ghost use Rattle.ifs_asm.specs.inner.Reading.{Blames};
-ghost use Rattle.ifs_asm.specs.inner.Building.{Built, has_name, is_full, is_in_order};
-ghost use Rattle.ifs_asm.specs.inner.Building.{with_line, one_line_more, nothing, parts_said};
+ghost use Rattle.ifs_asm.specs.inner.Building.{Built, has_no_form, is_of_other, is_full, is_in_order};
+ghost use Rattle.ifs_asm.specs.inner.Building.{with_line, one_line_more, nothing, parts_said, begun, current_routine};
+ghost use Rattle.ifs_asm.specs.declared.line.Head.TheVariants.{Plain};
 
 use crate::fault::LineFault;
 use crate::forms::Formed;
-use crate::line::Line;
-use ifs_base::{Items, Op, RoutineId, StateId, Text};
-use ifs_image::{Budgets, Handlers, Image, ImageParts, Routine, StateSpec, TestSpec, limits};
+use crate::line::{Head, Line, Version};
+use ifs_base::{Items, Kind, Op, RoutineId, StateId, Text};
+use ifs_image::{
+    Budgets, Handlers, Image, ImageParts, Kinds, Routine, StateSpec, TestSpec, limits,
+};
 use std::alloc::{AllocError, Global};
 use std::marker::Model;
 
 /// The lines before the tables.
 const FRONT: u8 = 7;
+
+/// What a routine takes and leaves, the topmost last.
+#[derive(Debug, Drop)]
+pub(crate) struct Begun {
+    params: Kinds,
+    results: Kinds,
+}
 
 /// What lines have said so far.
 #[derive(Debug, Drop)]
@@ -31,6 +41,8 @@ pub(crate) struct Building {
     alloc: Global,
     /// How many of the lines before the tables were read.
     front: u8,
+    /// The version, the first where none was read.
+    version: Version,
     budgets: Budgets,
     initial: StateId,
     always: Handlers,
@@ -40,8 +52,8 @@ pub(crate) struct Building {
     states: Vec<StateSpec>,
     /// Those that are whole.
     routines: Vec<Routine>,
-    /// The results of the routine that instructions go to, and they.
-    current: Option<u8>,
+    /// How the routine begins that instructions go to, and they.
+    current: Option<Begun>,
     code: Vec<Op>,
     /// How many instructions all routines have, up to 65,535.
     count: u16,
@@ -55,6 +67,7 @@ impl Model for Building {
 
     ghost view = { λ a. record {
       front = a.front;
+      version = a.version;
       budgets = a.budgets;
       initial = a.initial;
       always = a.always;
@@ -76,6 +89,7 @@ impl Building {
         Building {
             alloc,
             front: 0,
+            version: Version::One,
             budgets: Budgets {
                 stack: 0,
                 frames: 0,
@@ -118,7 +132,7 @@ impl Building {
             (λ _. option_and_then (one_line_more self.now) (formed (Some form.now)) ≡ None) }
         ensures blamed { IfErr result (λ fault. Blames self.now (formed (Some form.now)) fault) }
     {
-        if self.has_name(&form.line) {
+        if self.has_no_form(&form.line) {
             return Err(LineFault::Unknown);
         }
         if !form.fits || self.is_full(&form.line) {
@@ -130,13 +144,15 @@ impl Building {
         Ok(())
     }
 
-    /// Whether the name of an interface or a state stands before in its table.
-    fn has_name(&self, line: &Line) -> bool
-        ensures { result ≡ has_name self.now line.now }
+    /// Whether the name of an interface or a state stands before in its table, or a routine begins in the form of the
+    /// other version than was read.
+    fn has_no_form(&self, line: &Line) -> bool
+        ensures { result ≡ has_no_form self.now line.now }
     {
         match line {
             Line::Interface(name) => is_among(self.interfaces.as_slice(), name.as_bytes()),
             Line::State(state) => is_name_among(self.states.as_slice(), state.name.as_bytes()),
+            Line::Routine(head) => 0 < self.front && is_of_other(self.version, head),
             _ => false,
         }
     }
@@ -158,7 +174,7 @@ impl Building {
 
     /// Whether there are as many routines as there may be.
     fn has_routines(&self) -> bool
-        ensures { result ≡ is_full self.now (lines.Routine 0) }
+        ensures { result ≡ is_full self.now (lines.Routine (Plain false)) }
     {
         let one = usize::from(self.current.is_some());
         self.routines.len().saturating_add(one) >= usize::from(limits::ROUTINES)
@@ -173,7 +189,8 @@ impl Building {
         } else {
             0
         };
-        length >= usize::from(limits::CODE_OF_ROUTINE) || self.count >= limits::CODE_OF_IMAGE
+        length >= usize::from(limits::CODE_OF_ROUTINE)
+            || self.count >= limits::code_of_image(self.version.number())
     }
 
     /// Whether a line may stand here: no later line was read, and each line before the tables stands once.
@@ -181,7 +198,7 @@ impl Building {
         ensures { result ≡ is_in_order self.now line.now }
     {
         match line {
-            Line::Version => self.front == 0,
+            Line::Version(_) => self.front == 0,
             Line::Stack(_) => self.front == 1,
             Line::Frames(_) => self.front == 2,
             Line::Cost(_) => self.front == 3,
@@ -212,9 +229,10 @@ impl Building {
             Line::Test(test) => self.add_test(test),
             Line::Command(text) => self.add_command(text),
             Line::State(state) => self.add_state(state),
-            Line::Routine(results) => self.add_routine(results),
+            Line::Routine(head) => self.add_routine(head),
             Line::Instruction(op) => self.add_instruction(op),
-            Line::Version => {
+            Line::Version(version) => {
+                self.version = version;
                 self.front = 1;
                 Ok(())
             }
@@ -280,15 +298,18 @@ impl Building {
     }
 
     /// Begins a routine. The one before is whole.
-    fn add_routine(&mut self, results: u8) -> Result<(), AllocError>
-        ensures { OnOk result (self.new ≡ with_line self.old (lines.Routine results)) }
+    fn add_routine(&mut self, head: Head) -> Result<(), AllocError>
+        ensures { OnOk result (self.new ≡ with_line self.old (lines.Routine head)) }
     {
         let code = std::mem::replace(&mut self.code, Vec::new(self.alloc));
-        if let Some(results) = self.current {
+        if let Some(Begun { params, results }) = self.current.replace(start_of(head)) {
             let code = Items::new(code);
-            self.routines.push(Routine { results, code })?;
+            self.routines.push(Routine {
+                params,
+                results,
+                code,
+            })?;
         }
-        self.current = Some(results);
         Ok(())
     }
 
@@ -305,6 +326,7 @@ impl Building {
         ensures { IfOk result (λ parts. parts ≡ parts_said self) }
     {
         let Building {
+            version,
             budgets,
             initial,
             always,
@@ -317,11 +339,16 @@ impl Building {
             code,
             ..
         } = self;
-        if let Some(results) = current {
+        if let Some(Begun { params, results }) = current {
             let code = Items::new(code);
-            routines.push(Routine { results, code })?;
+            routines.push(Routine {
+                params,
+                results,
+                code,
+            })?;
         }
         Ok(ImageParts {
+            version: version.number(),
             budgets,
             initial,
             always,
@@ -331,6 +358,37 @@ impl Building {
             states: Items::new(states),
             routines: Items::new(routines),
         })
+    }
+}
+
+/// What a routine takes and leaves, by how it begins.
+fn start_of(head: Head) -> Begun
+    ensures { current_routine (Some result) [] ≡ Some (begun head) }
+{
+    match head {
+        Head::Plain(true) => {
+            let mut results = Kinds::new();
+            results.push(Kind::Truth);
+            Begun {
+                params: Kinds::new(),
+                results,
+            }
+        }
+        Head::Plain(false) => Begun {
+            params: Kinds::new(),
+            results: Kinds::new(),
+        },
+        Head::Signature { params, results } => Begun { params, results },
+    }
+}
+
+/// Whether a routine begins in the form of the other version.
+fn is_of_other(version: Version, head: &Head) -> bool
+    ensures { result ≡ is_of_other version head.now }
+{
+    match (version, head) {
+        (Version::One, Head::Signature { .. }) | (Version::Two, Head::Plain(_)) => true,
+        _ => false,
     }
 }
 

@@ -12,10 +12,12 @@ use thiserror::Error;
 /// A3; `assemble` says which of this is proved.
 #[derive(Clone, Copy, Debug, PartialEq, Eq, Error)]
 pub enum AsmFault {
-    /// A1: the line has no form that is known, or has a name that stood before in its table.
+    /// A1: the line has no form that is known, has a name that stood before in its table, or begins a routine in the form
+    /// of the other version than the first line says.
     #[error("A1 line {line}")]
     Unknown { line: u64 },
-    /// A2: a number out of its range, a list that does not ascend, a text of 0 or over 1,024 bytes, or one entry too many.
+    /// A2: a number out of its range, a list that does not ascend, a text of 0 or over 1,024 bytes, more than four kinds that
+    /// a routine takes or leaves, or one entry too many.
     #[error("A2 line {line}")]
     OutOfRange { line: u64 },
     /// A3: a line out of its order; or a part that is missing at the end, at the number of lines plus 1.

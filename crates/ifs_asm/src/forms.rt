@@ -4,10 +4,12 @@ ghost use Rattle.std.specs.Prelude.{◌≡◌, ◌≤◌, ◌&&◌, ℕ, IfOk, I
 ghost use Rattle.ifs_asm.specs.declared.line.Line.TheVariants as lines;
 ghost use Rattle.ifs_asm.specs.inner.Forms.{plain_op, indexed_op, link_state_in, number_up_to, sized_text, period_in};
 ghost use Rattle.ifs_asm.specs.inner.Forms.{version, indexed_line, number_line, two_words, routine_line, link_line};
+ghost use Rattle.ifs_asm.specs.inner.Forms.{signed_line, signature_line};
 ghost use Rattle.ifs_asm.specs.inner.Forms.{test_line, three_words, handlers_in, numbered_handlers, always_line};
 ghost use Rattle.ifs_asm.specs.inner.Forms.{state_line, line_of, formed, bounded, sized_by, handlers_by};
 
-use crate::line::Line;
+use crate::kinds::{KindsForm, kinds_of};
+use crate::line::{Head, Line, Version};
 use crate::lists::{ListForm, list_of};
 use crate::quoting::text_of;
 use ifs_base::{
@@ -52,7 +54,7 @@ pub(crate) struct HandlersForm {
 }
 
 /// The line that words say; `None` where they have no form.
-#[tactic(auto, using(crate::proofs::Shapes::none_short, crate::proofs::Shapes::none_middle, crate::proofs::Shapes::none_long, crate::proofs::Shapes::eight))]
+#[tactic(auto, using(crate::proofs::Shapes::none_short, crate::proofs::Shapes::none_four, crate::proofs::Shapes::none_six, crate::proofs::Shapes::none_long, crate::proofs::Shapes::eight))]
 pub(crate) fn form_of(alloc: Global, words: &[&[u8]]) -> Result<Option<Formed>, AllocError>
     ensures { IfOk result (λ form. formed form ≡ line_of (map (λ word. word.now) words.now)) }
 {
@@ -62,7 +64,7 @@ pub(crate) fn form_of(alloc: Global, words: &[&[u8]]) -> Result<Option<Formed>, 
         [name, word] => two_words(alloc, name, word),
         [name, first, second] => three_words(alloc, name, first, second),
         [_, _, _, _] => Ok(None),
-        [_, _, _, _, _] => Ok(None),
+        [name, a, params, b, results] => Ok(signature_line(name, a, params, b, results)),
         [_, _, _, _, _, _] => Ok(None),
         [name, a, init, b, body, c, tests] => {
             let words = HandlersWords {
@@ -202,14 +204,15 @@ fn is_sized(text: &Text) -> bool
 fn version(word: &[u8]) -> Option<Formed>
     ensures { formed result ≡ version word.now }
 {
-    if word == b"1".as_slice() {
-        Some(Formed {
-            line: Line::Version,
-            fits: true,
-        })
+    let version = if word == b"1".as_slice() {
+        Version::One
+    } else if word == b"2".as_slice() {
+        Version::Two
     } else {
-        None
-    }
+        return None;
+    };
+    let line = Line::Version(version);
+    Some(Formed { line, fits: true })
 }
 
 /// An instruction with an operand.
@@ -316,15 +319,40 @@ fn three_words(
     }
 }
 
-/// The line that begins a routine.
+/// The line that begins a routine in version 1.
 fn routine_line(word: &[u8], results: &[u8]) -> Option<Formed>
     ensures { formed result ≡ routine_line word.now results.now }
 {
     if word != b"results".as_slice() {
         return None;
     }
-    let number = number_up_to(results, u32::from(limits::RESULTS))?;
-    Some(number.says(Line::Routine(number.value as u8)))
+    let number = number_up_to(results, u32::from(limits::TRUTHS))?;
+    Some(number.says(Line::Routine(Head::Plain(number.value == 1))))
+}
+
+/// The line that begins a routine in version 2.
+fn signature_line(name: &[u8], a: &[u8], params: &[u8], b: &[u8], results: &[u8]) -> Option<Formed>
+    ensures { formed result ≡ signature_line name.now a.now params.now b.now results.now }
+{
+    if name == b"routine".as_slice() && a == b"params".as_slice() && b == b"results".as_slice() {
+        signed_line(params, results)
+    } else {
+        None
+    }
+}
+
+/// The same, by its two lists of kinds.
+fn signed_line(params: &[u8], results: &[u8]) -> Option<Formed>
+    ensures { formed result ≡ signed_line params.now results.now }
+{
+    let taken = kinds_of(params)?;
+    let left = kinds_of(results)?;
+    let fits = taken.fits && left.fits;
+    let line = Line::Routine(Head::Signature {
+        params: taken.kinds,
+        results: left.kinds,
+    });
+    Some(Formed { line, fits })
 }
 
 /// The instruction on a link.

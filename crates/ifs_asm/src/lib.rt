@@ -7,6 +7,7 @@
 mod building;
 mod fault;
 mod forms;
+mod kinds;
 pub mod laws;
 mod line;
 mod lists;

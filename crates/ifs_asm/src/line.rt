@@ -1,13 +1,55 @@
 //! The lines of an assembly text.
 
+ghost use Rattle.std.specs.Prelude.{◌≡◌};
+ghost use Rattle.ifs_asm.specs.Texts.{version_in, version_number};
+
 use ifs_base::{Op, StateId, Text};
-use ifs_image::{Handlers, StateSpec, TestSpec};
+use ifs_image::{Handlers, Kinds, StateSpec, TestSpec};
+
+/// A version of the format.
+#[derive(Clone, Copy, Debug, PartialEq, Eq)]
+pub enum Version {
+    One,
+    Two,
+}
+
+impl Version {
+    /// The version of an image, by its number.
+    pub(crate) fn of(number: u8) -> Version
+        ensures { result ≡ version_in number }
+    {
+        if number == 1 {
+            Version::One
+        } else {
+            Version::Two
+        }
+    }
+
+    /// Its number.
+    pub(crate) fn number(self) -> u8
+        ensures { result ≡ version_number self }
+    {
+        match self {
+            Version::One => 1,
+            Version::Two => 2,
+        }
+    }
+}
+
+/// How a routine begins, by the form of its version.
+#[derive(Debug, Drop)]
+pub enum Head {
+    /// In version 1, where it takes nothing: whether it leaves a truth.
+    Plain(bool),
+    /// In version 2: the kinds that it takes, and those that it leaves, the topmost last.
+    Signature { params: Kinds, results: Kinds },
+}
 
 /// What a line says.
 #[derive(Debug, Drop)]
 pub enum Line {
-    /// The version of the format, 1.
-    Version,
+    /// The version of the format.
+    Version(Version),
     /// The stated stack.
     Stack(u16),
     /// The stated frames.
@@ -28,8 +70,8 @@ pub enum Line {
     Command(Text),
     /// A state.
     State(StateSpec),
-    /// A routine, by its results; its instructions follow.
-    Routine(u8),
+    /// The beginning of a routine; its instructions follow.
+    Routine(Head),
     /// An instruction of the routine above.
     Instruction(Op),
 }

@@ -41,7 +41,7 @@ fn numbers_of(word: &[u8]) -> Option<ListForm>
 }
 
 /// What stands before the first comma, and what stands after it where there is one.
-fn cut_at_comma(text: &[u8]) -> (&[u8], Option<&[u8]>)
+pub(crate) fn cut_at_comma(text: &[u8]) -> (&[u8], Option<&[u8]>)
     ensures parts { slice_split (λ byte. byte == 44) text.now ≡ result.0.now ∷ parts_left (option_map (λ rest. rest.now) result.1) }
     ensures shorter { IfSome result.1 (λ rest. length rest.now < length text.now) }
 {

@@ -1,20 +1,23 @@
 //! Image to text, line by line.
 
-ghost use Rattle.std.specs.Prelude.{◌≡◌, ◌+◌, ◌++◌, ◌<◌, ◌^◌, ◌==◌, string_bytes, OnOk};
+ghost use Rattle.std.specs.Prelude.{◌≡◌, ◌+◌, ◌++◌, ◌<◌, ◌≤◌, ◌^◌, ◌==◌, length, string_bytes, OnOk};
 ghost use Rattle.std.specs.Prelude.{IfOk, [], ◌∷◌, decimal, map, codes, All, IsUtf8};
 ghost use Rattle.std.specs.Int.{bit_at};
 ghost use Rattle.std.specs.List.{flat_map};
 ghost use Rattle.ifs_base.specs.Spelling.{HasSpelling};
 ghost use Rattle.ifs_base.specs.Words.{link_word, listed, quoted};
-ghost use Rattle.ifs_image.specs.Limits.{HandlersInRange, StateInRange};
+ghost use Rattle.ifs_image.specs.Limits.{HandlersInRange, StateInRange, RoutineInRange, RoutineFits};
 ghost use Rattle.ifs_asm.specs.declared.line.Line.TheVariants as lines;
-ghost use Rattle.ifs_asm.specs.inner.Lists.{before_item, left_at};
+ghost use Rattle.ifs_asm.specs.declared.line.Head.TheVariants.{Plain, Signature};
+ghost use Rattle.ifs_asm.specs.inner.Lists.{before_item, left_at, kinds_left};
 ghost use Rattle.ifs_asm.specs.Spellings.{TextSpells};
 ghost use Rattle.ifs_asm.specs.Texts.{canonical, line_text, tests_of, written, handlers_words};
-ghost use Rattle.ifs_asm.specs.Texts.{op_words, spaced, routine_lines, front_lines};
+ghost use Rattle.ifs_asm.specs.Texts.{op_words, spaced, routine_lines, front_lines, version_in, head_with, is_some_kind, truths};
+ghost use Rattle.ifs_asm.specs.Texts.{version_word, kind_word, kinds_word};
 
+use crate::line::Version;
 use crate::quoting::put_quoted;
-use ifs_base::{LinkState, Op, StateId, Text};
+use ifs_base::{Kind, LinkState, Op, StateId, Text};
 use ifs_image::{Handlers, Image, ImageParts, Routine, StateSpec, TestSpec};
 use itoa::Buffer;
 use std::alloc::{AllocError, Global};
@@ -31,7 +34,11 @@ pub fn disassemble(alloc: Global, image: &Image) -> Result<String, AllocError>
     put_tests(&mut out, parts.tests.as_slice())?;
     put_commands(&mut out, parts.commands.as_slice())?;
     put_states(&mut out, parts.states.as_slice())?;
-    put_routines(&mut out, parts.routines.as_slice())?;
+    put_routines(
+        &mut out,
+        Version::of(parts.version),
+        parts.routines.as_slice(),
+    )?;
     Ok(out)
 }
 
@@ -51,7 +58,7 @@ fn put_front(out: &mut String, parts: &ImageParts) -> Result<(), AllocError>
     ensures always { OnOk result (HandlersInRange parts.now.always) }
 {
     let budgets = parts.budgets;
-    out.push_str("ifsv 1\n")?;
+    put_version(out, Version::of(parts.version))?;
     put_number_line(out, "stack", u64::from(budgets.stack))?;
     put_number_line(out, "frames", u64::from(budgets.frames))?;
     put_number_line(out, "cost", u64::from(budgets.cost))?;
@@ -59,6 +66,16 @@ fn put_front(out: &mut String, parts: &ImageParts) -> Result<(), AllocError>
     put_start(out, parts.initial)?;
     put_always(out, parts.always)?;
     Ok(())
+}
+
+/// Writes the line of the version.
+fn put_version(out: &mut String, version: Version) -> Result<(), AllocError>
+    ensures { OnOk result (string_bytes out.new ≡ string_bytes out.old ++ line_text (lines.Version version)) }
+{
+    match version {
+        Version::One => out.push_str("ifsv 1\n"),
+        Version::Two => out.push_str("ifsv 2\n"),
+    }
 }
 
 /// Writes a line of a word and a number.
@@ -141,10 +158,18 @@ fn has_test(mask: u64, test: u8) -> bool
 fn put_item(out: &mut String, is_first: bool, number: u8) -> Result<(), AllocError>
     ensures { OnOk result (string_bytes out.new ≡ string_bytes out.old ++ (before_item is_first ++ decimal number)) }
 {
+    put_comma(out, is_first)?;
+    put_number(out, "", u64::from(number))
+}
+
+/// Writes what stands before an item of a list: a comma, unless it is the first.
+fn put_comma(out: &mut String, is_first: bool) -> Result<(), AllocError>
+    ensures { OnOk result (string_bytes out.new ≡ string_bytes out.old ++ before_item is_first) }
+{
     if !is_first {
         out.push_str(",")?;
     }
-    put_number(out, "", u64::from(number))
+    Ok(())
 }
 
 fn put_interfaces(out: &mut String, names: &[Text]) -> Result<(), AllocError>
@@ -233,32 +258,116 @@ fn put_state(out: &mut String, state: &StateSpec) -> Result<(), AllocError>
     Ok(())
 }
 
-fn put_routines(out: &mut String, routines: &[Routine]) -> Result<(), AllocError>
-    ensures bytes { OnOk result (string_bytes out.new ≡ string_bytes out.old ++ flat_map (λ routine. flat_map line_text (routine_lines routine)) routines.now) }
-    ensures in_range { OnOk result (All (λ r. All HasSpelling r.code) routines.now) }
+fn put_routines(out: &mut String, version: Version, routines: &[Routine]) -> Result<(), AllocError>
+    ensures bytes { OnOk result (string_bytes out.new ≡ string_bytes out.old ++ flat_map (λ routine. flat_map line_text (routine_lines version routine)) routines.now) }
+    ensures in_range { OnOk result (All RoutineInRange routines.now) }
 {
     for routine in routines {
-        put_routine(out, routine)?;
+        put_routine(out, version, routine)?;
     }
     Ok(())
 }
 
-fn put_routine(out: &mut String, routine: &Routine) -> Result<(), AllocError>
-    ensures bytes { OnOk result (string_bytes out.new ≡ string_bytes out.old ++ flat_map line_text (routine_lines routine.now)) }
-    ensures in_range { OnOk result (All HasSpelling routine.now.code) }
+fn put_routine(out: &mut String, version: Version, routine: &Routine) -> Result<(), AllocError>
+    ensures bytes { OnOk result (string_bytes out.new ≡ string_bytes out.old ++ flat_map line_text (routine_lines version routine.now)) }
+    ensures in_range { OnOk result (RoutineInRange routine.now) }
 {
-    put_results(out, routine.results)?;
+    put_head(
+        out,
+        version,
+        routine.params.as_slice(),
+        routine.results.as_slice(),
+    )?;
     put_code(out, routine.code.as_slice())?;
     Ok(())
 }
 
 /// Writes the line that begins a routine.
-fn put_results(out: &mut String, results: u8) -> Result<(), AllocError>
-    ensures { OnOk result (string_bytes out.new ≡ string_bytes out.old ++ line_text (lines.Routine results)) }
+fn put_head(
+    out: &mut String,
+    version: Version,
+    params: &[Kind],
+    results: &[Kind],
+) -> Result<(), AllocError>
+    ensures { OnOk result (string_bytes out.new ≡ string_bytes out.old ++ line_text (lines.Routine (head_with version params.now results.now))) }
 {
-    put_number(out, "routine results ", u64::from(results))?;
+    match version {
+        Version::One => put_plain(out, has_kinds(results)),
+        Version::Two => put_signature(out, params, results),
+    }
+}
+
+/// Whether there is a kind.
+fn has_kinds(kinds: &[Kind]) -> bool
+    ensures { result ≡ is_some_kind kinds.now }
+{
+    match kinds {
+        [] => false,
+        _ => true,
+    }
+}
+
+/// Writes the line that begins a routine in version 1.
+fn put_plain(out: &mut String, truth: bool) -> Result<(), AllocError>
+    ensures { OnOk result (string_bytes out.new ≡ string_bytes out.old ++ line_text (lines.Routine (Plain truth))) }
+{
+    put_number(out, "routine results ", truths(truth))?;
     out.push_str("\n")?;
     Ok(())
+}
+
+/// How many truths a routine of version 1 leaves.
+fn truths(truth: bool) -> u64
+    ensures { result ≡ truths truth }
+{
+    if truth { 1 } else { 0 }
+}
+
+/// Writes the line that begins a routine in version 2.
+fn put_signature(out: &mut String, params: &[Kind], results: &[Kind]) -> Result<(), AllocError>
+    ensures { OnOk result (string_bytes out.new ≡ string_bytes out.old ++ line_text (lines.Routine (Signature (record { items = params.now }) (record { items = results.now })))) }
+{
+    out.push_str("routine params ")?;
+    put_kinds(out, params)?;
+    out.push_str(" results ")?;
+    put_kinds(out, results)?;
+    out.push_str("\n")?;
+    Ok(())
+}
+
+/// Writes kinds with commas between them; a dash where there is none.
+fn put_kinds(out: &mut String, kinds: &[Kind]) -> Result<(), AllocError>
+    ensures { OnOk result (string_bytes out.new ≡ string_bytes out.old ++ kinds_word kinds.now) }
+{
+    let mut is_first = true;
+    for kind in kinds {
+        put_kind(out, is_first, *kind)?;
+        is_first = false;
+    }
+    if is_first {
+        out.push_str("-")?;
+    }
+    Ok(())
+}
+
+/// Writes a kind of a list, after a comma unless it is the first.
+fn put_kind(out: &mut String, is_first: bool, kind: Kind) -> Result<(), AllocError>
+    ensures { OnOk result (string_bytes out.new ≡ string_bytes out.old ++ (before_item is_first ++ kind_word kind)) }
+{
+    put_comma(out, is_first)?;
+    out.push_str(kind_word(kind))?;
+    Ok(())
+}
+
+/// The word of a kind.
+fn kind_word(kind: Kind) -> &'static str
+    ensures { result.now ≡ kind_word kind }
+{
+    match kind {
+        Kind::Truth => "truth",
+        Kind::Command => "command",
+        Kind::StateName => "state",
+    }
 }
 
 fn put_code(out: &mut String, code: &[Op]) -> Result<(), AllocError>

@@ -8,3 +8,4 @@ pub mod Turning
 pub mod Alike
 pub mod Keeping
 pub mod Tables
+pub mod Upgrades

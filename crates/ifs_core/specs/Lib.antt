@@ -4,6 +4,7 @@ pub mod Machine
 pub mod Gateway
 pub mod HeadlineParts
 pub mod Headline
+pub mod UpgradeKeeps
 pub mod inner
 pub use Rattle.ifs_base.specs.Facts
 pub use Rattle.ifs_base.specs.Effects

@@ -5,10 +5,15 @@ ghost use Rattle.ifs_core.specs.Event.{Behaviour};
 ghost use Rattle.ifs_core.specs.Machine.{IsBehaviour};
 ghost use Rattle.ifs_core.specs.Steps.{cost_told, turn};
 ghost use Rattle.ifs_core.specs.Headline.{AcceptedIsKept, Headline};
+ghost use Rattle.ifs_core.specs.UpgradeKeeps.{UpgradeKeeps, UpgradeKeepsBytes};
 
 use crate::gateway::Core;
 use crate::step::{Reply, Step};
-use ifs_machine::laws::{handlers_end, runs_are_unique, runs_follow, runs_stay_within};
+use ifs_image::laws::one_spelling;
+use ifs_machine::laws::{
+    handlers_end, runs_are_unique, runs_follow, runs_stay_within, upgrade_keeps_runs,
+};
+use ifs_verify::laws::upgrade_keeps_acceptance;
 
 /// The headline. For every byte string that `verify` accepts and every list of steps, with any values
 /// in them, no step traps; each runs at most the image's stated instructions, within its stated stack
@@ -29,6 +34,23 @@ pub fn accepted_is_kept()
     runs_are_unique();
     runs_follow();
     runs_stay_within();
+}
+
+/// Upgrade keeps. An image of version 1 within its limits has an upgrade within them, which is accepted
+/// exactly where it is, with the same events and the same budgets, stated and least.
+pub fn upgrade_keeps()
+    ensures { UpgradeKeeps }
+{
+    upgrade_keeps_acceptance();
+    upgrade_keeps_runs();
+}
+
+/// The same of bytes that spell an image of version 1, and of those that spell its upgrade, which there are.
+pub fn upgrade_keeps_bytes()
+    ensures { UpgradeKeepsBytes }
+{
+    one_spelling();
+    upgrade_keeps();
 }
 
 /// Makes a step of a core that was lent, and tells how many instructions it executed: at most what the

@@ -61,6 +61,20 @@ fn front_of(alloc: Global, routine: usize) -> Result<String, AllocError> {
     Ok(text)
 }
 
+/// The bytes of an image of version 2 whose handlers are all the last of these routines, each of them what it takes
+/// and leaves, and its instructions.
+fn spelled_in_two(alloc: Global, routines: &[(&str, &str)]) -> Result<Vec<u8>, Fail> {
+    let front = front_of(alloc, routines.len().saturating_sub(1))?;
+    let rest = front.as_str().strip_prefix("ifsv 1\n").ok_or("a front")?;
+    let mut text = format!(in alloc; "ifsv 2\n{rest}")?;
+    for (kinds, code) in routines {
+        text.push_str(format!(in alloc; "routine {kinds}\n")?.as_str())?;
+        put_code(&mut text, code)?;
+    }
+    let image = assemble(alloc, text.as_str())?;
+    Ok(write(alloc, &image)?)
+}
+
 /// The bytes of an image whose handlers are all the last of these routines. All but it have one result.
 fn spelled(alloc: Global, routines: &[&str]) -> Result<Vec<u8>, Fail> {
     let last = routines.len().saturating_sub(1);
@@ -80,6 +94,11 @@ fn put_routine(
     code: &str,
 ) -> Result<(), AllocError> {
     text.push_str(format!(in alloc; "routine results {results}\n")?.as_str())?;
+    put_code(text, code)
+}
+
+/// Puts instructions, a line each.
+fn put_code(text: &mut String, code: &str) -> Result<(), AllocError> {
     for instruction in code.split(',') {
         text.push_str(instruction)?;
         text.push_str("\n")?;
@@ -299,6 +318,110 @@ fn cost_through_calls(rt: HostRuntime) -> Result<(), Fail> {
     let run = ran_code(&rt, rt.alloc(), routines.as_slice(), (DOWN, NEVER))?;
     assert_eq!(rt; run.cost, 98_303);
     Ok(())
+}
+
+/// What a handler costs, its commands and its wish, in an image of version 2.
+fn check_in_two(
+    rt: &impl Abort,
+    alloc: Global,
+    name: &str,
+    routines: &[(&str, &str)],
+    facts: ([LinkState; 2], [Option<bool>; 2]),
+    want: (u32, &[u16], Option<u16>),
+) -> Result<(), Fail> {
+    let image = spelled_in_two(alloc, routines)?;
+    let run = ran(rt, alloc, image.as_slice(), facts)?;
+    check_run(rt, &run, want, name);
+    Ok(())
+}
+
+/// Values that are given and left keep their order; one below stays where it is.
+#[test]
+fn values_keep_their_order(rt: HostRuntime) -> Result<(), Fail> {
+    let both = "params command,command results command,command";
+    let swapped: [(&str, &str); 2] = [
+        (both, "ret"),
+        (
+            "params - results -",
+            "cmd 0, cmd 1, call 0, queue, queue, ret",
+        ),
+    ];
+    check_in_two(
+        &rt,
+        rt.alloc(),
+        "two commands",
+        &swapped,
+        (DOWN, NEVER),
+        (7, &[1, 0], None),
+    )?;
+    let dropped: [(&str, &str); 2] = [
+        ("params command,command results -", "queue, pop, ret"),
+        (
+            "params - results -",
+            "state 1, cmd 1, cmd 0, call 0, want, ret",
+        ),
+    ];
+    check_in_two(
+        &rt,
+        rt.alloc(),
+        "a state below",
+        &dropped,
+        (DOWN, NEVER),
+        (9, &[0], Some(1)),
+    )?;
+    let three: [(&str, &str); 3] = [
+        (
+            "params - results truth,command,state",
+            "true, cmd 1, state 0, ret",
+        ),
+        (
+            "params truth,command,state results -",
+            "want, queue, pop, ret",
+        ),
+        ("params - results -", "call 0, call 1, ret"),
+    ];
+    check_in_two(
+        &rt,
+        rt.alloc(),
+        "three kinds",
+        &three,
+        (DOWN, NEVER),
+        (11, &[1], Some(0)),
+    )
+}
+
+/// A call in a call, whose callee takes a value that its caller was given and one of its own.
+#[test]
+fn a_call_in_a_call(rt: HostRuntime) -> Result<(), Fail> {
+    let routines: [(&str, &str); 5] = [
+        ("params command,truth results command,truth", "not, ret"),
+        ("params - results truth,command", "true, cmd 0, ret"),
+        ("params state results -", "want, ret"),
+        (
+            "params command results -",
+            "link 0 up, call 0, jf 5, queue, jump 6, pop, ret",
+        ),
+        (
+            "params - results -",
+            "call 1, call 3, jf 5, state 0, call 2, ret",
+        ),
+    ];
+    check_in_two(
+        &rt,
+        rt.alloc(),
+        "a call in a call, link up",
+        &routines,
+        (UP, NEVER),
+        (18, &[], Some(0)),
+    )?;
+    check_in_two(
+        &rt,
+        rt.alloc(),
+        "a call in a call, link down",
+        &routines,
+        (DOWN, NEVER),
+        (19, &[0], Some(0)),
+    )
 }
 
 /// The instructions of the small routines, with how many of the routines the rules accept.

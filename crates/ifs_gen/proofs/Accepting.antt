@@ -14,8 +14,8 @@ use Rattle.ifs_base.specs.declared.op.Op.TheVariants.{Ret, Call}
 use Rattle.ifs_image.specs.declared.parts.Budgets.{Budgets}
 use Rattle.ifs_image.specs.declared.parts.StateSpec.{StateSpec}
 use Rattle.ifs_image.specs.declared.parts.ImageParts.{ImageParts}
-use Rattle.ifs_image.specs.Code.{code_in, code_of, op_at, results_in}
-use Rattle.ifs_verify.specs.Rules.{AreRoutines, IsMask, IndexesFit, LeaveNothing, HandlersLeaveNothing}
+use Rattle.ifs_image.specs.Code.{code_in, code_of, op_at, params_in, params_of, results_in}
+use Rattle.ifs_verify.specs.Rules.{AreRoutines, IsMask, IndexesFit, BothStandAlone, HandlersStandAlone}
 use Rattle.ifs_verify.specs.Bounds.{cost_of, commands_of, FitsHandlers}
 use Rattle.ifs_verify.specs.Accepted.{IsAccepted}
 use Rattle.ifs_parse.specs.Trees.{condition_size}
@@ -110,7 +110,7 @@ module _ (back : IsReadBack) (policy : Policy) (is : PolicyFits policy) (budgets
   abbrev pub good : EachGood image (callees_of policy) image.routines
   good = good_append image (callees_of policy) (map shared_routine table) (routines_of coder count (parts_of policy)) shared_good parts_good
 
-  -- shared routines call nothing, and are as high as is told
+  -- shared routines take nothing and call nothing, and are as high as is told
   first_high : (routine : ℕ) → routine < shared → heights_in image (callees_of policy) image.routines good routine ≡ tall_in (slice_get table routine)
   first_high routine lt =
       let there = entry_at table routine lt in
@@ -125,8 +125,11 @@ module _ (back : IsReadBack) (policy : Policy) (is : PolicyFits policy) (budgets
       let at = ap (λ o. slice_get (code_in o) place) (has_shared policy budgets routine there.0 there.1) in
       shared_quiet own.condition place callee (ap (λ code. slice_get (code ++ Ret ∷ []) place) own.is ∙ (sym at ∙ h))
 
+  first_bare : (routine : ℕ) → routine < shared → params_of image routine ≡ []
+  first_bare routine lt = let there = entry_at table routine lt in ap params_in (has_shared policy budgets routine there.0 there.1)
+
   pub first : AreCallees image (callees_of policy) good
-  first = record { quiet = first_quiet; high = first_high }
+  first = record { bare = first_bare; quiet = first_quiet; high = first_high }
 
   pub init_there : (k : ℕ) (part : Part) → slice_get (parts_of policy) k ≡ Some part → slice_get image.routines (shared + 2 * k) ≡ Some (routine_of_code (init_code coder part.init))
   init_there k part e = behind policy budgets (routines_of coder count (parts_of policy)) (2 * k) ∙ init_at coder count (parts_of policy) k part e
@@ -157,16 +160,19 @@ module _ (back : IsReadBack) (policy : Policy) (is : PolicyFits policy) (budgets
     operands = operands image (callees_of policy) good;
   }
 
-  -- the handlers of a part leave nothing
-  part_leaves : (k : ℕ) (part : Part) → slice_get (parts_of policy) k ≡ Some part → LeaveNothing image (handlers_of shared count k part)
-  part_leaves k part e = (ap results_in (init_there k part e), ap results_in (body_there k part e))
+  -- the handlers of a part take nothing and leave nothing
+  part_leaves : (k : ℕ) (part : Part) → slice_get (parts_of policy) k ≡ Some part → BothStandAlone image (handlers_of shared count k part)
+  part_leaves k part e =
+      let init = init_there k part e in
+      let body = body_there k part e in
+      ((ap params_in init, ap results_in init), (ap params_in body, ap results_in body))
 
-  pub nothing_left : HandlersLeaveNothing image
-  nothing_left = record {
+  pub standing_alone : HandlersStandAlone image
+  standing_alone = record {
     always = part_leaves 0 policy.always refl;
     states = λ k spec at.
         let s = state_at shared count 1 policy.tables.states policy.states k spec at in
-        subst (λ (x : StateSpec). LeaveNothing image x.handlers) (sym s.is) (part_leaves (1 + k) s.part (part_at policy k s.part s.at));
+        subst (λ (x : StateSpec). BothStandAlone image x.handlers) (sym s.is) (part_leaves (1 + k) s.part (part_at policy k s.part s.at));
   }
 
   -- What inits and bodies come to at most.
@@ -301,7 +307,7 @@ module _ (back : IsReadBack) (policy : Policy) (is : PolicyFits policy) (code : 
   pub accepted : IsAccepted whole
   accepted = record {
     indexes = indexes back policy is stated;
-    handlers = nothing_left back policy is stated;
+    handlers = standing_alone back policy is stated;
     jumps = jumps whole called all_good;
     ends = ends whole called all_good;
     calls = calls whole called all_good all_first;

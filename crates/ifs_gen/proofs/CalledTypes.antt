@@ -1,7 +1,9 @@
 -- Code that calls shared conditions has kinds with which it is fine.
 use Rattle.std.proofs.Common.{◌≡◌, ℕ, ◌+◌, ◌≤◌, List, [], ◌∷◌, ◌++◌, length, Option, Some, None, refl, ap, ◌∙◌, arith}
 use Rattle.std.specs.Prelude.{slice_get}
+use Rattle.std.specs.Option.{option_map}
 use Rattle.std.proofs.lemmas.Option.{slice_get_within}
+use Rattle.ifs_base.specs.Kinds.{without}
 use Rattle.ifs_base.specs.Spelling.{IsReadBack}
 use Rattle.ifs_base.specs.declared.ids.RoutineId.{RoutineId}
 use Rattle.ifs_base.specs.declared.op.Kind.{Kind}
@@ -9,7 +11,7 @@ use Rattle.ifs_base.specs.declared.op.Kind.TheVariants.{Truth}
 use Rattle.ifs_base.specs.declared.op.Op.{Op}
 use Rattle.ifs_base.specs.declared.op.Op.TheVariants.{Call}
 use Rattle.ifs_image.specs.declared.parts.ImageParts.{ImageParts}
-use Rattle.ifs_image.specs.Code.{results_in}
+use Rattle.ifs_image.specs.Code.{params_in, results_in}
 use Rattle.ifs_parse.specs.Trees.{condition_size}
 use Rattle.ifs_policy.specs.Fits.{ConditionFits}
 use Rattle.ifs_gen.specs.Trees.{Condition}
@@ -66,7 +68,7 @@ module _ (image : ImageParts) (callees : Callees) (table : List (List Op)) (shar
       let within = slice_get_within table k (condition_code c) at in
       let count = may.count in
       let tall = height_at c k e in (
-        falls_on image callees kinds height end place (Call (record { 0 = k })) [] (Truth ∷ []) (slice_get_within image.routines k _ there) has.0 next (ap (λ o. Some (results_in o ++ [])) there)
+        falls_on image callees kinds height end place (Call (record { 0 = k })) [] (Truth ∷ []) (slice_get_within image.routines k _ there) has.0 next (ap (λ o. option_map (λ below. results_in o ++ below) (without (params_in o) [])) there)
             (λ to e. e) refl refl
             (λ callee e. let same = callee_is k callee e in let height_is = ap callees.height same in (omega (arith, same, within, count), omega (arith, height_is, tall, room))) (omega arith)
             (omega (arith, room, high)),

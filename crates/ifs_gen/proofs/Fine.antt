@@ -1,11 +1,10 @@
 -- Routines whose instructions are fine one by one: each has a typing, bounds, and keeps the plain rules.
 use Rattle.std.proofs.Common.{◌≡◌, ℕ, zero, suc, ◌+◌, ◌<◌, ◌≤◌, ◌⊎◌, inl, inr, ⊎_elim, List}
 use Rattle.std.proofs.Common.{[], ◌∷◌, ◌++◌, length, Some, refl, sym, ap, ◌∙◌, subst, arith}
-use Rattle.std.specs.Prelude.{slice_get, replicate}
+use Rattle.std.specs.Prelude.{slice_get, reverse}
 use Rattle.std.proofs.lemmas.Option.{none-some, same_Some, slice_get_within}
 use Rattle.ifs_base.specs.declared.ids.RoutineId.{RoutineId}
 use Rattle.ifs_base.specs.declared.op.Kind.{Kind}
-use Rattle.ifs_base.specs.declared.op.Kind.TheVariants.{Truth}
 use Rattle.ifs_base.specs.declared.op.Op.{Op}
 use Rattle.ifs_base.specs.declared.op.Op.TheVariants.{Ret, Call}
 use Rattle.ifs_image.specs.declared.parts.Routine.{Routine}
@@ -68,16 +67,16 @@ module _ (image : ImageParts) (callees : Callees) (kinds : ℕ → List Kind) (h
   pub fine_from_start : (ops : List Op) (k : ℕ) (op : Op) → AreFine image callees kinds height end 0 ops → slice_get ops k ≡ Some op → IsFine image callees kinds height end k op
   fine_from_start ops k op h e = let same : 0 + k ≡ k = omega arith in subst (λ p. IsFine image callees kinds height end p op) same (fine_at 0 ops k op h e)
 
--- A routine whose instructions are fine, and then it ends with its results; no lower height will do.
+-- A routine that begins with its parameters, whose instructions are fine, and then it ends with its results; no lower height will do.
 pub record IsGood (image : ImageParts) (callees : Callees) (r : Routine) : Type 0 where
   pub front : List Op
   pub code : r.code ≡ front ++ Ret ∷ []
   pub kinds : ℕ → List Kind
   pub height : ℕ
   pub fine : AreFine image callees kinds height (length front) 0 front
-  pub start : kinds 0 ≡ []
-  pub end : kinds (length front) ≡ replicate r.results Truth
-  pub room : r.results ≤ height
+  pub start : kinds 0 ≡ reverse r.params.items
+  pub end : kinds (length front) ≡ reverse r.results.items
+  pub room : length (reverse r.results.items) ≤ height
   pub least : (other : ℕ) → ((place : ℕ) → place ≤ length front → length (kinds place) ≤ other) → CallsWithin callees kinds other 0 front → height ≤ other
 
 -- What an instruction of a good routine is.

@@ -2,17 +2,15 @@
 use Rattle.std.proofs.Common.{◌≡◌, ℕ, zero, suc, ◌+◌, ◌-◌, ◌<◌, ◌≤◌, ⊎_elim, List, [], ◌∷◌, ◌++◌, length}
 use Rattle.std.proofs.Common.{Option, Some, None, refl, sym, ap, ◌∙◌, subst, arith, length-append}
 use Rattle.std.specs.Prelude.{slice_get, nat_le, if◌then◌else◌}
-use Rattle.std.proofs.lemmas.List.{length-replicate}
 use Rattle.std.proofs.lemmas.Bool.{cases_lt, le-leb, lt-leb}
 use Rattle.std.proofs.lemmas.Option.{none-some, same_Some, slice_get_within}
 use Rattle.ifs_base.specs.declared.ids.RoutineId.{RoutineId}
 use Rattle.ifs_base.specs.declared.op.Kind.{Kind}
-use Rattle.ifs_base.specs.declared.op.Kind.TheVariants.{Truth}
 use Rattle.ifs_base.specs.declared.op.Op.{Op}
 use Rattle.ifs_base.specs.declared.op.Op.TheVariants.{Ret, Jump, JumpFalse, JumpTrue, Call}
 use Rattle.ifs_image.specs.declared.parts.Routine.{Routine}
 use Rattle.ifs_image.specs.declared.parts.ImageParts.{ImageParts}
-use Rattle.ifs_image.specs.Code.{code_in, code_of, results_in, op_at, IsSuccessor, target_of, effect}
+use Rattle.ifs_image.specs.Code.{code_in, code_of, params_in, params_of, results_in, op_at, IsSuccessor, target_of, effect}
 use Rattle.ifs_verify.specs.Rules.{IsRoutine, HasOperand, JumpsLeadOn, RoutinesEnd, CallsGoDown, PlacesAreReached}
 use Rattle.ifs_verify.specs.Typing.{AreTypings}
 use Rattle.ifs_verify.specs.Laws.{HasOneTyping}
@@ -199,7 +197,7 @@ module _ (image : ImageParts) (callees : Callees) where
     typings routine is =
         let there = has routine is in
         record {
-          start = ap (λ k. k 0) there.found.kinds ∙ there.found.good.start;
+          start = ap (λ k. k 0) there.found.kinds ∙ there.found.good.start ∙ sym (ap params_in there.at);
           flows = λ place op h.
               let s = stands routine place op h in
               let same = s.in_routine.found.kinds in
@@ -216,8 +214,9 @@ module _ (image : ImageParts) (callees : Callees) where
               ];
         }
 
-    -- The first routines, which may be called: they call nothing, and are as high as is told.
+    -- The first routines, which may be called: they take nothing and call nothing, and are as high as is told.
     pub record AreCallees : Type 0 where
+      pub bare : (routine : ℕ) → routine < callees.count → params_of image routine ≡ []
       pub quiet : (routine place : ℕ) (callee : RoutineId) → routine < callees.count → op_at image routine place ≡ Some (Call callee) → ⊥
       pub high : (routine : ℕ) → routine < callees.count → heights routine ≡ callees.height routine
 
@@ -281,7 +280,7 @@ module _ (image : ImageParts) (callees : Callees) where
         where
           at_end : {r : Routine} (good : IsGood image callees r) {place : ℕ} → place ≡ length good.front → length (good.kinds place) ≤ good.height
           at_end {r} good at =
-              let long = ap length (ap good.kinds at ∙ good.end) ∙ length-replicate r.results Truth in
+              let long = ap length (ap good.kinds at ∙ good.end) in
               let room = good.room in
               omega (arith, long, room)
 
@@ -409,6 +408,7 @@ module _ (image : ImageParts) (callees : Callees) where
           let within = slice_get_within (code_of image routine) place (Call callee) h in
           let same = ap length (same_kinds routine place is within) in
           let own = first.high callee.0 c.known in
+          let bare = ap length (first.bare callee.0 c.known) in
           let callee_low = least_of callee.0 c.there (λ at other_callee g. absurd (first.quiet callee.0 at other_callee c.known g)) in
           let called = are.calls routine place callee h in
-          omega (arith, same, own, callee_low, called))
+          omega (arith, same, own, bare, callee_low, called))

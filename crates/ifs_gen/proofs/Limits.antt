@@ -1,5 +1,5 @@
 -- The image of a policy keeps the limits of images, and is accepted.
-use Rattle.std.proofs.Common.{◌≡◌, ℕ, zero, suc, ◌+◌, ◌≤◌, List, [], ◌∷◌, ◌++◌, length, map, take}
+use Rattle.std.proofs.Common.{◌≡◌, ℕ, zero, suc, ◌+◌, ◌≤◌, inl, inr, List, [], ◌∷◌, ◌++◌, length, map, take}
 use Rattle.std.proofs.Common.{Option, Some, None, refl, sym, ap, subst, arith, length-append}
 use Rattle.std.specs.Prelude.{slice_get, All, sum_by, filter}
 use Rattle.std.specs.List.{AllByRecursion}
@@ -51,8 +51,8 @@ module _ (table : List (List Op)) (count : ℕ) where
   coder = shared_coder table
 
   -- handlers are no longer than in plain code
-  handlers_fit : (parts : List Part) → All (PartLengths count) parts → All RoutineFits (routines_of coder count parts)
-  handlers_fit [] h = All-nil RoutineFits
+  handlers_fit : (parts : List Part) → All (PartLengths count) parts → All (RoutineFits 1) (routines_of coder count parts)
+  handlers_fit [] h = All-nil (RoutineFits 1)
   handlers_fit (x ∷ parts) h =
       let lengths = All-head (PartLengths count) x parts h in
       let init = routine_of_code (init_code coder x.init) in
@@ -63,16 +63,16 @@ module _ (table : List (List Op)) (count : ℕ) where
       let body_less = block_shrinks table count x.body in
       let init_within = lengths.init in
       let body_within = lengths.body in
-      All-cons RoutineFits init (body ∷ routines_of coder count parts) (record { results = omega arith; code = omega (arith, init_is, init_less, init_within) })
-      (All-cons RoutineFits body (routines_of coder count parts) (record { results = omega arith; code = omega (arith, body_is, body_less, body_within) })
+      All-cons (RoutineFits 1) init (body ∷ routines_of coder count parts) (record { kinds = inr (record { params = refl; results = inl refl }); code = omega (arith, init_is, init_less, init_within) })
+      (All-cons (RoutineFits 1) body (routines_of coder count parts) (record { kinds = inr (record { params = refl; results = inl refl }); code = omega (arith, body_is, body_less, body_within) })
       (handlers_fit parts (All-tail (PartLengths count) x parts h)))
 
-  shared_fit : (codes : List (List Op)) → AllByRecursion (IsShort 1023) codes → (rest : List Routine) → All RoutineFits rest → All RoutineFits (map shared_routine codes ++ rest)
+  shared_fit : (codes : List (List Op)) → AllByRecursion (IsShort 1023) codes → (rest : List Routine) → All (RoutineFits 1) rest → All (RoutineFits 1) (map shared_routine codes ++ rest)
   shared_fit [] short rest fits = fits
   shared_fit (code ∷ codes) short rest fits =
       let long = length-append code (Ret ∷ []) in
       let low = short.0 in
-      All-cons RoutineFits (shared_routine code) (map shared_routine codes ++ rest) (record { results = omega arith; code = omega (arith, long, low) }) (shared_fit codes short.1 rest fits)
+      All-cons (RoutineFits 1) (shared_routine code) (map shared_routine codes ++ rest) (record { kinds = inr (record { params = refl; results = inr refl }); code = omega (arith, long, low) }) (shared_fit codes short.1 rest fits)
 
   handlers_together : (parts : List Part) → instructions (routines_of coder count parts) ≡ sum_by (shared_lengths table count) parts
   handlers_together [] = refl
@@ -170,6 +170,7 @@ module _ (back : IsReadBack) (policy : Policy) (is : PolicyFits policy) (code : 
 
   pub fits : Fits image
   fits = record {
+    version = (omega arith, omega arith);
     budgets = record {
       stack = greatest_below part_height (parts_of policy) 32 code.height;
       frames = frames_few table;

@@ -1,5 +1,7 @@
 -- The image of a policy: shared conditions are routines that its handlers call, and its budgets are the least.
 use Rattle.std.specs.Prelude.{ℕ, ◌+◌, ◌*◌, List, [], ◌∷◌, ◌++◌, length, map}
+use Rattle.ifs_base.specs.declared.op.Kind.{Kind}
+use Rattle.ifs_base.specs.declared.op.Kind.TheVariants.{Truth}
 use Rattle.ifs_base.specs.declared.op.Op.{Op}
 use Rattle.ifs_base.specs.declared.op.Op.TheVariants.{Ret}
 use Rattle.ifs_image.specs.declared.parts.Budgets.{Budgets}
@@ -17,9 +19,13 @@ use Rattle.ifs_gen.specs.Sharing.{conditions_in, shared_among, shared_coder, fra
 abbrev pub shared_of : Policy → List (List Op)
 shared_of policy = shared_among (conditions_in (parts_of policy))
 
+-- A routine that takes nothing, with these results.
+abbrev pub routine_leaving : List Kind → List Op → Routine
+routine_leaving results code = record { params = record { items = [] }; results = record { items = results }; code = code }
+
 -- A routine that leaves nothing.
 abbrev pub routine_of_code : List Op → Routine
-routine_of_code code = record { results = 0; code = code }
+routine_of_code code = routine_leaving [] code
 
 -- A test as an image has it.
 abbrev pub test_spec : External → TestSpec
@@ -36,16 +42,17 @@ states_from shared count k _ _ = []
 
 -- The routine of a shared condition leaves its truth.
 abbrev pub shared_routine : List Op → Routine
-shared_routine code = record { results = 1; code = code ++ Ret ∷ [] }
+shared_routine code = routine_leaving (Truth ∷ []) (code ++ Ret ∷ [])
 
 -- The routines of parts: of each its init, then its body.
 abbrev pub routines_of : Coder → ℕ → List Part → List Routine
 routines_of coder count [] = []
 routines_of coder count (part ∷ parts) = routine_of_code (init_code coder part.init) ∷ routine_of_code (body_code coder count part.body) ∷ routines_of coder count parts
 
--- The image of a policy, with these budgets: the shared routines first, then those of its parts.
+-- The image of a policy, of version 1, with these budgets: the shared routines first, then those of its parts.
 abbrev pub image_with : Budgets → Policy → ImageParts
 image_with budgets policy = record {
+  version = 1;
   budgets = budgets;
   initial = policy.initial;
   always = handlers_of (length (shared_of policy)) (test_count policy) 0 policy.always;

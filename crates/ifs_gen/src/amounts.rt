@@ -8,10 +8,11 @@ ghost use Rattle.ifs_gen.specs.inner.Amounts.{most_of_inits, amount_in, numbers_
 ghost use Rattle.ifs_gen.specs.inner.Measures.{capped};
 
 use crate::fault::GenFault;
+use crate::generating::VERSION;
 use crate::measure::{BlockMeasure, measure_block};
 use crate::mention::tests_of;
 use ifs_base::{RoutineId, StateId};
-use ifs_image::limits::{CODE_OF_IMAGE, CODE_OF_ROUTINE, COMMANDS_OF_EVENT, STACK};
+use ifs_image::limits::{CODE_OF_ROUTINE, COMMANDS_OF_EVENT, STACK, code_of_image};
 use ifs_policy::Handlers;
 use std::alloc::{AllocError, Global};
 
@@ -185,7 +186,7 @@ pub(crate) fn bounds_in(measures: &[PartMeasure], initial: StateId) -> Result<Bo
     if let Some(routine) = first_over(measures, Amount::Size, u64::from(CODE_OF_ROUTINE)) {
         return Err(GenFault::RoutineTooLong(routine));
     }
-    if u64::from(CODE_OF_IMAGE) < total_size(measures) {
+    if u64::from(code_of_image(VERSION)) < total_size(measures) {
         return Err(GenFault::CodeTooLong);
     }
     if let Some(routine) = first_over(measures, Amount::Height, u64::from(STACK)) {

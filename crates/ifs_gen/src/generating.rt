@@ -25,7 +25,10 @@ use ifs_image::{Budgets, Handlers, Image, ImageParts, Routine, StateSpec, TestSp
 use ifs_policy::{ExternalTest, Handlers as Part, Policy, Table};
 use std::alloc::{AllocError, Global};
 
-/// The image of a policy, with the least budgets that its code is accepted with. A fault other than want
+/// The version of the images that are made.
+pub(crate) const VERSION: u8 = 1;
+
+/// The image of a policy, of that version, with the least budgets that its code is accepted with. A fault other than want
 /// of memory is the first limit that the policy's plain code passes: of G1 over all routines, G2, G3 over
 /// all routines, and G4.
 pub fn generate(alloc: Global, policy: &Policy) -> Result<Image, GenFault>
@@ -88,6 +91,7 @@ fn image_of(
     let handlers = &routines.as_slice()[shared.len()..];
     let cost = event_cost(handlers, policy.initial(), shared);
     Ok(ImageParts {
+        version: VERSION,
         budgets: budgets_with(bounds, cost, shared),
         initial: policy.initial(),
         always: handlers_of(shared.len() as u16, 0, mask),

@@ -2,16 +2,17 @@
 
 ghost use Rattle.std.specs.Prelude.{◌≡◌, ◌+◌, ◌*◌, ◌<◌, ◌≤◌, ◌^◌, ◌++◌, List, [], ◌∷◌, length, IfOk};
 ghost use Rattle.ifs_base.specs.declared.ids.TestId.{TestId};
+ghost use Rattle.ifs_base.specs.declared.op.Kind.TheVariants.{Truth};
 ghost use Rattle.ifs_base.specs.declared.op.Op.{Op};
 ghost use Rattle.ifs_base.specs.declared.op.Op.TheVariants.{Ret};
 ghost use Rattle.ifs_gen.specs.PlainCode.{block_code, code_size, held_code, init_code};
-ghost use Rattle.ifs_gen.specs.PolicyImage.{routine_of_code, shared_routine};
+ghost use Rattle.ifs_gen.specs.PolicyImage.{routine_leaving, routine_of_code, shared_routine};
 ghost use Rattle.ifs_gen.specs.Sharing.{shared_coder};
 
 use crate::emission::{put_block, set_jump};
 use crate::keys::ConditionCode;
-use ifs_base::{Items, Op, TestId};
-use ifs_image::Routine;
+use ifs_base::{Items, Kind, Op, TestId};
+use ifs_image::{Kinds, Routine};
 use ifs_policy::{PolicyBlock, Table};
 use std::alloc::{AllocError, Global};
 
@@ -22,10 +23,27 @@ pub(crate) fn shared_routine(alloc: Global, code: &ConditionCode) -> Result<Rout
     let mut ops = Vec::new(alloc);
     ops.extend_from_slice(code.as_slice())?;
     ops.push(Op::Ret)?;
-    Ok(Routine {
-        results: 1,
-        code: Items::new(ops),
-    })
+    Ok(routine_leaving(one_truth(), ops))
+}
+
+/// A routine that takes nothing, with these results.
+fn routine_leaving(results: Kinds, code: Vec<Op>) -> Routine
+    ensures { result ≡ routine_leaving results.items code.items }
+{
+    Routine {
+        params: Kinds::new(),
+        results,
+        code: Items::new(code),
+    }
+}
+
+/// The results of a condition.
+fn one_truth() -> Kinds
+    ensures { result.items ≡ Truth ∷ [] }
+{
+    let mut kinds = Kinds::new();
+    kinds.push(Kind::Truth);
+    kinds
 }
 
 /// The routine of an init, which is never held back.
@@ -41,10 +59,7 @@ pub(crate) fn init_routine(
     let mut code = Vec::new(alloc);
     put_block(alloc, init, shared, &mut code)?;
     code.push(Op::Ret)?;
-    Ok(Routine {
-        results: 0,
-        code: Items::new(code),
-    })
+    Ok(routine_leaving(Kinds::new(), code))
 }
 
 /// The routine of a body, which is held back while one of these tests has no value: the jumps over the
@@ -69,10 +84,7 @@ pub(crate) fn body_routine(
     put_block(alloc, body, shared, &mut code)?;
     set_held(tests.len(), &mut code);
     code.push(Op::Ret)?;
-    Ok(Routine {
-        results: 0,
-        code: Items::new(code),
-    })
+    Ok(routine_leaving(Kinds::new(), code))
 }
 
 /// Lets the jumps of so many tests, with which the code begins, lead to its end.

@@ -4,7 +4,7 @@ use crate::drafts::drafted;
 use crate::tally::{Change, Tally, told};
 use crate::verdict::{Verdict, compare, judged};
 use anyhow::Result;
-use ifs_rows::{bytes_of, cost_through_calls, refusals, rows};
+use ifs_rows::{Refusal, bytes_of, cost_through_calls, refusals, rows, version_two};
 use std::alloc::{AllocError, Global};
 
 /// A head and code as they are drafted, and what is printed of the image.
@@ -501,6 +501,107 @@ const AT_A_LIMIT: &[Case] = &[
     ),
 ];
 
+/// Images of version 2. All handlers are the last routine, where it is not said otherwise.
+const OF_VERSION_TWO: &[Case] = &[
+    // a handler that takes a value, of the head, and one that leaves a value, of a state, before a jump
+    (
+        "32 32 300000 64 | 0 | 1 0 - | 0 0 -",
+        "->- ret / command>- queue, ret",
+        "refused V14 head",
+    ),
+    (
+        "32 32 300000 64 | 0 | 0 0 - | 0 0 -, 0 1 -",
+        "->- jump 0, ret / ->state state 0, ret",
+        "refused V14 state 1",
+    ),
+    // an operand of a call that is missing, of another kind, in another order
+    (
+        "32 32 300000 64 | 0 | 2 2 - | 2 2 -",
+        "command>- queue, ret / ->- call 0, ret / ->- ret",
+        "refused V6 routine 1 place 0",
+    ),
+    (
+        "32 32 300000 64 | 0 | 2 2 - | 2 2 -",
+        "command>- queue, ret / ->- state 0, call 0, ret / ->- ret",
+        "refused V6 routine 1 place 1",
+    ),
+    (
+        "32 32 300000 64 | 0 | 2 2 - | 2 2 -",
+        "command,truth>- pop, queue, ret / ->- true, cmd 0, call 0, ret / ->- ret",
+        "refused V6 routine 1 place 2",
+    ),
+    // results in another order, a parameter that is left
+    (
+        "32 32 300000 64 | 0 | 1 1 - | 1 1 -",
+        "->command,truth true, cmd 0, ret / ->- ret",
+        "refused V9 routine 0 place 2",
+    ),
+    (
+        "32 32 300000 64 | 0 | 1 1 - | 1 1 -",
+        "truth>- ret / ->- ret",
+        "refused V9 routine 0 place 0",
+    ),
+    // results of a call above 28 and 29 values
+    (
+        "32 32 300000 64 | 0 | 2 2 - | 2 2 -",
+        "->truth,truth,truth,truth 4*true, ret / ->- 28*true, call 0, 32*pop, ret / ->- ret",
+        "ok",
+    ),
+    (
+        "32 32 300000 64 | 0 | 2 2 - | 2 2 -",
+        "->truth,truth,truth,truth 4*true, ret / ->- 29*true, call 0, 33*pop, ret / ->- ret",
+        "refused V10 routine 1 place 29",
+    ),
+    // a callee of height 32 that takes two values, over none and over one more
+    (
+        "32 32 300000 64 | 0 | 2 2 - | 2 2 -",
+        "truth,truth>- 30*true, 32*pop, ret / ->- 2*true, call 0, ret / ->- ret",
+        "ok",
+    ),
+    (
+        "32 32 300000 64 | 0 | 2 2 - | 2 2 -",
+        "truth,truth>- 30*true, 32*pop, ret / ->- 3*true, call 0, pop, ret / ->- ret",
+        "refused V10 routine 1 place 0",
+    ),
+    // ways that disagree behind a call, and such that agree over a parameter
+    (
+        "32 32 300000 64 | 0 | 2 2 - | 2 2 -",
+        "command>truth queue, true, ret / ->- true, jf 4, cmd 0, call 0, ret / ->- ret",
+        "refused V7 routine 1 place 3",
+    ),
+    (
+        "32 32 300000 64 | 0 | 2 2 - | 2 2 -",
+        "state,truth>state jf 1, ret / ->- state 0, true, call 0, want, ret / ->- ret",
+        "ok",
+    ),
+    // budgets that just suffice, and one less of each
+    (
+        "3 2 13 1 | 0 | 2 2 - | 2 3 -",
+        "->truth,command,state true, cmd 0, state 0, ret / truth,command,state>- want, queue, pop, ret / ->- ret / ->- call 0, call 1, ret",
+        "ok",
+    ),
+    (
+        "2 1 12 0 | 0 | 2 2 - | 2 3 -",
+        "->truth,command,state true, cmd 0, state 0, ret / truth,command,state>- want, queue, pop, ret / ->- ret / ->- call 0, call 1, ret",
+        "refused V10 head",
+    ),
+    (
+        "3 1 12 0 | 0 | 2 2 - | 2 3 -",
+        "->truth,command,state true, cmd 0, state 0, ret / truth,command,state>- want, queue, pop, ret / ->- ret / ->- call 0, call 1, ret",
+        "refused V11 head",
+    ),
+    (
+        "3 2 12 0 | 0 | 2 2 - | 2 3 -",
+        "->truth,command,state true, cmd 0, state 0, ret / truth,command,state>- want, queue, pop, ret / ->- ret / ->- call 0, call 1, ret",
+        "refused V12 head",
+    ),
+    (
+        "3 2 13 0 | 0 | 2 2 - | 2 3 -",
+        "->truth,command,state true, cmd 0, state 0, ret / truth,command,state>- want, queue, pop, ret / ->- ret / ->- call 0, call 1, ret",
+        "refused V13 head",
+    ),
+];
+
 // A proof that calls these sees no image of them, and so stays short.
 fn in_order() -> &'static [Case] {
     IN_ORDER
@@ -514,13 +615,18 @@ fn at_a_limit() -> &'static [Case] {
     AT_A_LIMIT
 }
 
+fn of_version_two() -> &'static [Case] {
+    OF_VERSION_TWO
+}
+
 /// Tries every image whose answer is known. Each wrong answer is printed.
 pub fn try_all<R: Print + AllocGlobal>(rt: &R) -> Result<Tally> {
     let order = try_cases(rt, in_order())?;
     let past = try_cases(rt, past_a_limit())?;
     let at = try_cases(rt, at_a_limit())?;
-    let rows = try_refusals(rt)?.and(try_doubled(rt)?).and(try_rows(rt)?);
-    Ok(order.and(past).and(at).and(rows))
+    let second = try_cases(rt, of_version_two())?;
+    let rows = try_worked(rt)?;
+    Ok(order.and(past).and(at).and(second).and(rows))
 }
 
 /// Images in short.
@@ -533,10 +639,16 @@ fn try_cases<R: Print + AllocGlobal>(rt: &R, cases: &[Case]) -> Result<Tally> {
     Ok(tally)
 }
 
+/// The worked rows.
+fn try_worked<R: Print + AllocGlobal>(rt: &R) -> Result<Tally> {
+    let refused = try_refusals(rt, refusals())?.and(try_refusals(rt, version_two::refusals())?);
+    Ok(refused.and(try_doubled(rt)?).and(try_rows(rt)?))
+}
+
 /// The worked rows that are refused.
-fn try_refusals<R: Print + AllocGlobal>(rt: &R) -> Result<Tally> {
+fn try_refusals<R: Print + AllocGlobal>(rt: &R, refusals: &[Refusal]) -> Result<Tally> {
     let mut tally = Tally::default();
-    for refusal in refusals() {
+    for refusal in refusals {
         let bytes = bytes_of(rt.alloc(), refusal.image)?;
         tally = tally.and(try_one(rt, refusal.name, bytes.as_slice(), refusal.answer)?);
     }

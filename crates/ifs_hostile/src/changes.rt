@@ -6,11 +6,11 @@ use crate::tally::{Change, Tally, told};
 use crate::verdict::{compare, judged, refuse};
 use anyhow::Result;
 use ifs_image::{ImageFault, read};
-use ifs_rows::images;
+use ifs_rows::{images, version_two};
 use std::io;
 
 /// The images, by the names of their rows.
-pub fn changed_images() -> [(&'static str, &'static str); 8] {
+pub fn changed_images() -> [(&'static str, &'static str); 10] {
     [
         ("smallest image", images::SMALLEST_IMAGE),
         ("first run", images::FIRST_RUN),
@@ -20,6 +20,8 @@ pub fn changed_images() -> [(&'static str, &'static str); 8] {
         ("held back", images::HELD_BACK),
         ("stale", images::STALE),
         ("shared condition", images::SHARED_CONDITION),
+        ("call in a call", version_two::call_in_a_call().image),
+        ("four kinds", version_two::four_kinds().image),
     ]
 }
 

@@ -3,7 +3,8 @@
 //! A head is the stated stack, frames, cost and commands, the initial state, the always part and the states, as
 //! `32 32 300000 64 | 0 | 0 0 - | 0 0 -, 1 0 0`; the always part and a state are init, body and tests. There are one interface,
 //! one test and one command. Code is routines with `/` between them, each its results and its instructions, as
-//! `0 true, jf 2, ret`. `33*true` is so many of one instruction, `9*true+pop` so many of two in turn, `31#0 before, ret` so
+//! `0 true, jf 2, ret`. Where a `>` stands in the code, the image is of version 2, and in the place of the results stand
+//! the kinds that a routine takes and those that it leaves, as `command>- queue, ret`. `33*true` is so many of one instruction, `9*true+pop` so many of two in turn, `31#0 before, ret` so
 //! many routines, and `before` a call of the routine before this one.
 
 use anyhow::Result;
@@ -14,7 +15,7 @@ use std::alloc::{AllocError, Global};
 /// The bytes of an image in short.
 pub fn drafted(alloc: Global, head: &str, code: &str) -> Result<Vec<u8>> {
     let mut text = String::new(alloc);
-    put_head(&mut text, head)?;
+    put_head(&mut text, if code.contains('>') { 2 } else { 1 }, head)?;
     put_routines(&mut text, code)?;
     bytes_in(alloc, text.as_str())
 }
@@ -43,8 +44,8 @@ fn times(text: &str, mark: char) -> (u16, &str) {
 }
 
 /// Adds the lines before the routines.
-fn put_head(text: &mut String, head: &str) -> Result<(), AllocError> {
-    text.push_str("ifsv 1\n")?;
+fn put_head(text: &mut String, version: u8, head: &str) -> Result<(), AllocError> {
+    write!(text, "ifsv {version}\n")?;
     put_budgets(text, part(head, '|', 0))?;
     write!(text, "start {}\nalways", part(head, '|', 1))?;
     put_handlers(text, part(head, '|', 2))?;
@@ -88,7 +89,10 @@ fn put_routines(text: &mut String, code: &str) -> Result<(), AllocError> {
 /// Adds a routine, given the one before it.
 fn put_routine(text: &mut String, routine: &str, before: u16) -> Result<(), AllocError> {
     let (results, code) = routine.split_once(' ').unwrap_or((routine, ""));
-    write!(text, "routine results {results}\n")?;
+    match results.split_once('>') {
+        Some((taken, left)) => write!(text, "routine params {taken} results {left}\n")?,
+        None => write!(text, "routine results {results}\n")?,
+    }
     for item in code.split(',') {
         let (count, ops) = times(item, '*');
         for _item in 0..count {

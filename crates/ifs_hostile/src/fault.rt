@@ -32,7 +32,7 @@ pub enum Check {
     Cost = 12,
     /// The queued commands.
     Commands = 13,
-    /// A handler leaves nothing.
+    /// A handler takes and leaves nothing.
     Leaves = 14,
 }
 

@@ -30,7 +30,7 @@ fn put_rest(lengths: &mut Vec<usize>, parts: &ImageParts) -> Result<(), AllocErr
         lengths.extend_from_slice([2, 2, 8].as_slice())?;
     }
     for routine in parts.routines.as_slice() {
-        put_routine(lengths, routine)?;
+        put_routine(lengths, parts.version, routine)?;
     }
     Ok(())
 }
@@ -40,11 +40,26 @@ fn put_text(lengths: &mut Vec<usize>, text: &Text) -> Result<(), AllocError> {
     lengths.extend_from_slice([2, text.as_bytes().len()].as_slice())
 }
 
-/// Adds the results of a routine, the number of its instructions, and these.
-fn put_routine(lengths: &mut Vec<usize>, routine: &Routine) -> Result<(), AllocError> {
-    lengths.extend_from_slice([1, 2].as_slice())?;
+/// Adds what a routine takes and leaves, the number of its instructions, and these.
+fn put_routine(lengths: &mut Vec<usize>, version: u8, routine: &Routine) -> Result<(), AllocError> {
+    if version == 1 {
+        lengths.push(1)?;
+    } else {
+        put_kinds(lengths, routine.params.len())?;
+        put_kinds(lengths, routine.results.len())?;
+    }
+    lengths.push(2)?;
     for _op in routine.code.as_slice() {
         lengths.push(4)?;
+    }
+    Ok(())
+}
+
+/// Adds a number of kinds, and so many kinds.
+fn put_kinds(lengths: &mut Vec<usize>, count: usize) -> Result<(), AllocError> {
+    lengths.push(1)?;
+    for _kind in 0..count {
+        lengths.push(1)?;
     }
     Ok(())
 }

@@ -1,7 +1,7 @@
 -- An image that is read is the one that the bytes spell, and what spells an image is read.
-use Rattle.std.proofs.Common.{◌≡◌, ◌≢◌, ℕ, ◌+◌, ◌-◌, ◌^◌, ◌<◌, ◌≤◌, false, cond, List, [], ◌∷◌, ◌++◌, length}
+use Rattle.std.proofs.Common.{◌≡◌, ◌≢◌, ℕ, ◌+◌, ◌-◌, ◌^◌, ◌<◌, ◌≤◌, Bool, true, false, cond, inl, inr, List, [], ◌∷◌, ◌++◌, length}
 use Rattle.std.proofs.Common.{get_or, take, Result, Ok, Err, refl, sym, ap, subst, ◌∙◌, append_assoc, arith, All}
-use Rattle.std.specs.Prelude.{◌==◌, codes, IsUtf8, IfOk}
+use Rattle.std.specs.Prelude.{◌==◌, ◌||◌, ◌⊎◌, codes, IsUtf8, IfOk}
 use Rattle.std.specs.Int.{w16, w32, to_be_bytes}
 use Rattle.std.specs.List.{flat_map}
 use Rattle.std.specs.Str.{bytes_eq}
@@ -23,18 +23,19 @@ use Rattle.ifs_image.specs.declared.parts.Routine.{Routine}
 use Rattle.ifs_image.specs.declared.parts.ImageParts.{ImageParts}
 use Rattle.ifs_base.specs.Sizes.{TextFits}
 use Rattle.ifs_base.specs.Results.{◌>>=◌}
-use Rattle.ifs_image.specs.Limits.{BudgetsFit, CountsFit, TestFits, RoutineFits, AreDistinct}
-use Rattle.ifs_image.specs.Limits.{HandlersInRange, StateInRange, names_of, instructions, Fits, InRange}
+use Rattle.ifs_image.specs.Limits.{IsVersion, BudgetsFit, CountsFit, TestFits, RoutineFits, RoutineInRange, AreDistinct}
+use Rattle.ifs_image.specs.Limits.{HandlersInRange, StateInRange, names_of, instructions, code_limit, Fits, InRange}
 use Rattle.ifs_image.specs.Spelling.{front_bytes, budgets_bytes, counts_bytes, handlers_bytes, text_bytes}
 use Rattle.ifs_image.specs.Spelling.{test_bytes, state_bytes, routine_bytes, counts, image_bytes, Spells}
 use Rattle.ifs_image.specs.Reading.{Cursor, cursor, bytes_at, byte_at, number_at, number_within, magic_at}
 use Rattle.ifs_image.specs.Reading.{version_at, budgets_at, counts_at, handlers_at, text_at, stands_in, name_at}
-use Rattle.ifs_image.specs.Reading.{test_at, state_at, items_at, routine_at, room_after, parts_at, image_of}
+use Rattle.ifs_image.specs.Reading.{test_at, state_at, items_at, routine_after, room_after, parts_at, image_of}
 use Rattle.ifs_image.specs.Answers.{Answers}
 use Rattle.ifs_image.proofs.Names.{AreDistinct-push, distinct_broken}
 use Rattle.ifs_image.proofs.FieldLaws.{IsBytes, bind_ok, again_bind, passed_ok, ok_is, Took, Took-then}
 use Rattle.ifs_image.proofs.FieldLaws.{IsField, bytes_again, bytes_taken, wide16, number_field, within16}
 use Rattle.ifs_image.proofs.FieldLaws.{within32, byte_again, byte_taken, AllAfter, table_field}
+use Rattle.ifs_image.proofs.KindLaws.{version_cases}
 use Rattle.ifs_image.proofs.PartLaws.{TextGood, text_field, name_field, handlers_field, TestGood}
 use Rattle.ifs_image.proofs.PartLaws.{test_field, StateGood, state_field, RoutineGood, routine_field}
 
@@ -53,17 +54,34 @@ magic_taken p y fits e =
     let same : b.0.0 ≡ codes "IFSV" = (bytes_eq-Decides b.0.0 (codes "IFSV")).0 g.0 in
     subst (λ (z : Unit {0} × Cursor). Took p.left (codes "IFSV") z.1.left) g.1 (subst (λ (text : List ℕ). Took p.left text b.0.1.left) same t.0)
 
-version_again : (at : ℕ) (rest : List ℕ) → version_at (cursor at (1 ∷ rest)) ≡ Ok (tt, cursor (at + 1) rest)
-unfolding version_at
-version_again at rest = again_bind _ _ _ _ (byte_again 1 at rest) refl
+either : (a b : Bool) → (a || b) ≡ true → (a ≡ true) ⊎ (b ≡ true)
+either true b e = inl refl
+either false b e = inr e
 
-version_taken : (p : Cursor) (y : Unit {0} × Cursor) → IsBytes p.left → version_at p ≡ Ok y → Took p.left (1 ∷ []) y.1.left
+version_tests : (version : ℕ) → IsVersion version → ((version == 1) || (version == 2)) ≡ true
+version_tests version is =
+    elim (version_cases version is) [
+      | inl one ↦ rw one refl
+      | inr two ↦ rw two refl
+    ]
+
+version_is : (version : ℕ) → ((version == 1) || (version == 2)) ≡ true → IsVersion version
+version_is version e =
+    elim (either (version == 1) (version == 2) e) [
+      | inl one ↦ let is = eqb-true version 1 one in (omega (arith, is), omega (arith, is))
+      | inr two ↦ let is = eqb-true version 2 two in (omega (arith, is), omega (arith, is))
+    ]
+
+version_again : (version at : ℕ) (rest : List ℕ) → IsVersion version → version_at (cursor at (version ∷ rest)) ≡ Ok (version, cursor (at + 1) rest)
+unfolding version_at
+version_again version at rest is = again_bind _ _ _ _ (byte_again version at rest) (rw (version_tests version is) refl)
+
+version_taken : (p : Cursor) (y : ℕ × Cursor) → IsBytes p.left → version_at p ≡ Ok y → Took p.left (y.0 ∷ []) y.1.left × IsVersion y.0
 unfolding version_at
 version_taken p y fits e =
-    let b = bind_ok (byte_at p) (λ version. cond (version.0 == 1) (Ok (tt, version.1)) (Err (WrongVersion p.at))) y e in
-    let g = passed_ok (b.0.0 == 1) (WrongVersion p.at) (tt, b.0.1) y b.2 in
-    let one : b.0.0 ≡ 1 = eqb-true _ _ g.0 in
-    subst (λ (z : Unit {0} × Cursor). Took p.left (1 ∷ []) z.1.left) g.1 (subst (λ (n : ℕ). Took p.left (n ∷ []) b.0.1.left) one (byte_taken p b.0 fits b.1))
+    let b = bind_ok (byte_at p) (λ version. cond ((version.0 == 1) || (version.0 == 2)) (Ok version) (Err (WrongVersion p.at))) y e in
+    let g = passed_ok ((b.0.0 == 1) || (b.0.0 == 2)) (WrongVersion p.at) b.0 y b.2 in
+    subst (λ (z : ℕ × Cursor). Took p.left (z.0 ∷ []) z.1.left × IsVersion z.0) g.1 (byte_taken p b.0 fits b.1, version_is b.0.0 g.0)
 
 budgets_field : IsField budgets_at budgets_bytes BudgetsFit
 unfolding budgets_at budgets_bytes
@@ -185,22 +203,26 @@ instructions-append xs ys = sum_by-append (λ (r : Routine). length r.code) xs y
 instructions-cons : (x : Routine) (xs : List Routine) → instructions (x ∷ xs) ≡ length x.code + instructions xs
 instructions-cons x xs = omega (arith, instructions-append (x ∷ []) xs)
 
-abbrev pub HasRoom : List Routine → Routine → Type 0
-HasRoom before r = length r.code ≤ room_after before
+abbrev pub HasRoom : ℕ → List Routine → Routine → Type 0
+HasRoom version before r = length r.code ≤ room_after version before
 
-routines_within : (xs before : List Routine) → instructions before ≤ 8192 → AllAfter HasRoom before xs → instructions (before ++ xs) ≤ 8192
-routines_within [] before few all = subst (λ (b : List Routine). instructions b ≤ 8192) (sym (append-nil before)) few
-routines_within (x ∷ xs) before few all =
-    let here : length x.code ≤ 8192 - instructions before = all.0 in
-    let more : instructions (before ++ x ∷ []) ≤ 8192 = omega (arith, instructions-append before (x ∷ []), instructions-cons x []) in
-    subst (λ (b : List Routine). instructions b ≤ 8192) (append_assoc before (x ∷ []) xs) (routines_within xs (before ++ x ∷ []) more all.1)
+routines_within : (version : ℕ) (xs before : List Routine) → instructions before ≤ code_limit version → AllAfter (HasRoom version) before xs → instructions (before ++ xs) ≤ code_limit version
+routines_within version [] before few all = subst (λ (b : List Routine). instructions b ≤ code_limit version) (sym (append-nil before)) few
+routines_within version (x ∷ xs) before few all =
+    let here : length x.code ≤ code_limit version - instructions before = all.0 in
+    let more : instructions (before ++ x ∷ []) ≤ code_limit version = omega (arith, instructions-append before (x ∷ []), instructions-cons x []) in
+    subst (λ (b : List Routine). instructions b ≤ code_limit version) (append_assoc before (x ∷ []) xs) (routines_within version xs (before ++ x ∷ []) more all.1)
 
-routines_room : (xs before : List Routine) → instructions (before ++ xs) ≤ 8192 → AllAfter HasRoom before xs
-routines_room [] before few = tt
-routines_room (x ∷ xs) before few = (
+routines_room : (version : ℕ) (xs before : List Routine) → instructions (before ++ xs) ≤ code_limit version → AllAfter (HasRoom version) before xs
+routines_room version [] before few = tt
+routines_room version (x ∷ xs) before few = (
   omega (arith, instructions-append before (x ∷ xs), instructions-cons x xs),
-  routines_room xs (before ++ x ∷ []) (subst (λ (b : List Routine). instructions b ≤ 8192) (sym (append_assoc before (x ∷ []) xs)) few),
+  routines_room version xs (before ++ x ∷ []) (subst (λ (b : List Routine). instructions b ≤ code_limit version) (sym (append_assoc before (x ∷ []) xs)) few),
 )
+
+-- a routine fits after those before it
+abbrev pub IsGood : ℕ → List Routine → Routine → Type 0
+IsGood version before r = RoutineGood version (room_after version before) r
 
 -- ---- the five tables
 
@@ -216,8 +238,8 @@ commands_table n = table_field (λ _. text_at) text_bytes (λ _. TextGood) (λ _
 states_table : (n : ℕ) → IsField (items_at state_at n []) (flat_map state_bytes) (λ xs. (length xs ≡ n) × AllAfter StateGood [] xs)
 states_table n = table_field state_at state_bytes StateGood state_field n
 
-routines_table : (n : ℕ) → IsField (items_at (λ before. routine_at (room_after before)) n []) (flat_map routine_bytes) (λ xs. (length xs ≡ n) × AllAfter (λ before. RoutineGood (room_after before)) [] xs)
-routines_table n = table_field (λ before. routine_at (room_after before)) routine_bytes (λ before. RoutineGood (room_after before)) (λ before. routine_field (room_after before)) n
+routines_table : (version n : ℕ) → IsVersion version → IsField (items_at (routine_after version) n []) (flat_map (routine_bytes version)) (λ xs. (length xs ≡ n) × AllAfter (IsGood version) [] xs)
+routines_table version n is = table_field (routine_after version) (routine_bytes version) (IsGood version) (λ before. routine_field version (room_after version before) is) n
 
 -- what the tables of an image have, as reading sees it
 pub record TablesGood (p : ImageParts) : Type 0 where
@@ -225,13 +247,14 @@ pub record TablesGood (p : ImageParts) : Type 0 where
   pub tests : AllAfter (λ _. TestGood) [] p.tests
   pub commands : AllAfter (λ _. TextGood) [] p.commands
   pub states : AllAfter StateGood [] p.states
-  pub routines : AllAfter (λ before. RoutineGood (room_after before)) [] p.routines
+  pub routines : AllAfter (IsGood p.version) [] p.routines
 
 no_names : AreDistinct []
 no_names i j d lt below = absurd (omega arith)
 
-fits_from_tables : (p : ImageParts) → BudgetsFit p.budgets → CountsFit p → TablesGood p → Fits p
-fits_from_tables p budgets counts t = record {
+fits_from_tables : (p : ImageParts) → IsVersion p.version → BudgetsFit p.budgets → CountsFit p → TablesGood p → Fits p
+fits_from_tables p version budgets counts t = record {
+  version = version;
   budgets = budgets;
   counts = counts;
   interfaces = record {
@@ -245,8 +268,8 @@ fits_from_tables p budgets counts t = record {
     distinct = names_distinct (names_of p.states) [] no_names (names_of_states p.states [] (AllAfter-weaker StateGood IsFirstState (λ before s good. good.first) p.states [] t.states));
   };
   routines = record {
-    each = all_after (λ before. RoutineGood (room_after before)) RoutineFits (λ before r good. good.fits) p.routines [] t.routines;
-    together = routines_within p.routines [] (omega arith) (AllAfter-weaker (λ before. RoutineGood (room_after before)) HasRoom (λ before r good. good.within) p.routines [] t.routines);
+    each = all_after (IsGood p.version) (RoutineFits p.version) (λ before r good. good.fits) p.routines [] t.routines;
+    together = routines_within p.version p.routines [] (omega arith) (AllAfter-weaker (IsGood p.version) (HasRoom p.version) (λ before r good. good.within) p.routines [] t.routines);
   };
 }
 
@@ -258,7 +281,7 @@ in_range_from_tables p initial always t = record {
   tests = all_after (λ _. TestGood) (λ t. IsUtf8 t.text) (λ before t good. good.utf8) p.tests [] t.tests;
   commands = all_after (λ _. TextGood) IsUtf8 (λ before t good. good.utf8) p.commands [] t.commands;
   states = all_after StateGood StateInRange (λ before s good. good.in_range) p.states [] t.states;
-  routines = all_after (λ before. RoutineGood (room_after before)) (λ r. All HasSpelling r.code) (λ before r good. all_after (λ _. HasSpelling) HasSpelling (λ _ op has. has) r.code [] good.code) p.routines [] t.routines;
+  routines = all_after (IsGood p.version) RoutineInRange (λ before r good. record { params = good.params; results = good.results; code = all_after (λ _. HasSpelling) HasSpelling (λ _ op has. has) r.code [] good.code }) p.routines [] t.routines;
 }
 
 tables_from_fits : (p : ImageParts) → Fits p → InRange p → TablesGood p
@@ -267,7 +290,7 @@ tables_from_fits p f r = record {
   tests = each_after TestGood p.tests [] (λ k d lt. record { fits = f.tests k d lt; utf8 = r.tests k d lt });
   commands = each_after TextGood p.commands [] (λ k d lt. record { fits = f.commands k d lt; utf8 = r.commands k d lt });
   states = after_all IsFirstState (λ s. TextFits s.name × StateInRange s) StateGood (λ before s good first. record { fits = good.0; in_range = good.1; first = first }) p.states [] (λ k d lt. (f.states.texts k d lt, r.states k d lt)) (states_of_names p.states [] (names_first (names_of p.states) [] f.states.distinct));
-  routines = after_all HasRoom (λ x. RoutineFits x × All HasSpelling x.code) (λ before. RoutineGood (room_after before)) (λ before x good room. record { fits = good.0; within = room; code = each_after HasSpelling x.code [] good.1 }) p.routines [] (λ k d lt. (f.routines.each k d lt, r.routines k d lt)) (routines_room p.routines [] f.routines.together);
+  routines = after_all (HasRoom p.version) (λ x. RoutineFits p.version x × RoutineInRange x) (IsGood p.version) (λ before x good room. record { fits = good.0; within = room; params = good.1.params; results = good.1.results; code = each_after HasSpelling x.code [] good.1.code }) p.routines [] (λ k d lt. (f.routines.each k d lt, r.routines k d lt)) (routines_room p.version p.routines [] f.routines.together);
 }
 
 -- ---- the whole image
@@ -292,7 +315,7 @@ pub record TookImage (bytes : List ℕ) (parts : ImageParts) (rest : List ℕ) :
 pub record Steps (p : Cursor) (y : ImageParts × Cursor) : Type 0 where
   pub magic : Unit {0} × Cursor
   pub is_magic : magic_at p ≡ Ok magic
-  pub version : Unit {0} × Cursor
+  pub version : ℕ × Cursor
   pub is_version : version_at magic.1 ≡ Ok version
   pub budgets : Budgets × Cursor
   pub is_budgets : budgets_at version.1 ≡ Ok budgets
@@ -311,23 +334,23 @@ pub record Steps (p : Cursor) (y : ImageParts × Cursor) : Type 0 where
   pub states : List StateSpec × Cursor
   pub is_states : items_at state_at counts.0.states [] commands.1 ≡ Ok states
   pub routines : List Routine × Cursor
-  pub is_routines : items_at (λ before. routine_at (room_after before)) counts.0.routines [] states.1 ≡ Ok routines
-  pub made_is : done (record { budgets = budgets.0; initial = record { 0 = initial.0 }; always = always.0; interfaces = interfaces.0; tests = tests.0; commands = commands.0; states = states.0; routines = routines.0 }, routines.1) ≡ Ok y
+  pub is_routines : items_at (routine_after version.0) counts.0.routines [] states.1 ≡ Ok routines
+  pub made_is : done (record { version = version.0; budgets = budgets.0; initial = record { 0 = initial.0 }; always = always.0; interfaces = interfaces.0; tests = tests.0; commands = commands.0; states = states.0; routines = routines.0 }, routines.1) ≡ Ok y
 
 steps_of : (p : Cursor) (y : ImageParts × Cursor) → parts_at p ≡ Ok y → Steps p y
 unfolding parts_at
 steps_of p y e =
-    bind_elim (magic_at p) (λ magic. version_at magic.1 >>= λ version. budgets_at version.1 >>= λ budgets. counts_at budgets.1 >>= λ counts. number_at w16 counts.1 >>= λ initial. handlers_at initial.1 >>= λ always. items_at name_at counts.0.interfaces [] always.1 >>= λ interfaces. items_at (λ _. test_at) counts.0.tests [] interfaces.1 >>= λ tests. items_at (λ _. text_at) counts.0.commands [] tests.1 >>= λ commands. items_at state_at counts.0.states [] commands.1 >>= λ states. items_at (λ before. routine_at (room_after before)) counts.0.routines [] states.1 >>= λ routines. Ok (record { budgets = budgets.0; initial = record { 0 = initial.0 }; always = always.0; interfaces = interfaces.0; tests = tests.0; commands = commands.0; states = states.0; routines = routines.0 }, routines.1)) y (Steps p y) e (λ magic e_magic g_magic.
-    bind_elim (version_at magic.1) (λ version. budgets_at version.1 >>= λ budgets. counts_at budgets.1 >>= λ counts. number_at w16 counts.1 >>= λ initial. handlers_at initial.1 >>= λ always. items_at name_at counts.0.interfaces [] always.1 >>= λ interfaces. items_at (λ _. test_at) counts.0.tests [] interfaces.1 >>= λ tests. items_at (λ _. text_at) counts.0.commands [] tests.1 >>= λ commands. items_at state_at counts.0.states [] commands.1 >>= λ states. items_at (λ before. routine_at (room_after before)) counts.0.routines [] states.1 >>= λ routines. Ok (record { budgets = budgets.0; initial = record { 0 = initial.0 }; always = always.0; interfaces = interfaces.0; tests = tests.0; commands = commands.0; states = states.0; routines = routines.0 }, routines.1)) y (Steps p y) g_magic (λ version e_version g_version.
-    bind_elim (budgets_at version.1) (λ budgets. counts_at budgets.1 >>= λ counts. number_at w16 counts.1 >>= λ initial. handlers_at initial.1 >>= λ always. items_at name_at counts.0.interfaces [] always.1 >>= λ interfaces. items_at (λ _. test_at) counts.0.tests [] interfaces.1 >>= λ tests. items_at (λ _. text_at) counts.0.commands [] tests.1 >>= λ commands. items_at state_at counts.0.states [] commands.1 >>= λ states. items_at (λ before. routine_at (room_after before)) counts.0.routines [] states.1 >>= λ routines. Ok (record { budgets = budgets.0; initial = record { 0 = initial.0 }; always = always.0; interfaces = interfaces.0; tests = tests.0; commands = commands.0; states = states.0; routines = routines.0 }, routines.1)) y (Steps p y) g_version (λ budgets e_budgets g_budgets.
-    bind_elim (counts_at budgets.1) (λ counts. number_at w16 counts.1 >>= λ initial. handlers_at initial.1 >>= λ always. items_at name_at counts.0.interfaces [] always.1 >>= λ interfaces. items_at (λ _. test_at) counts.0.tests [] interfaces.1 >>= λ tests. items_at (λ _. text_at) counts.0.commands [] tests.1 >>= λ commands. items_at state_at counts.0.states [] commands.1 >>= λ states. items_at (λ before. routine_at (room_after before)) counts.0.routines [] states.1 >>= λ routines. Ok (record { budgets = budgets.0; initial = record { 0 = initial.0 }; always = always.0; interfaces = interfaces.0; tests = tests.0; commands = commands.0; states = states.0; routines = routines.0 }, routines.1)) y (Steps p y) g_budgets (λ counts e_counts g_counts.
-    bind_elim (number_at w16 counts.1) (λ initial. handlers_at initial.1 >>= λ always. items_at name_at counts.0.interfaces [] always.1 >>= λ interfaces. items_at (λ _. test_at) counts.0.tests [] interfaces.1 >>= λ tests. items_at (λ _. text_at) counts.0.commands [] tests.1 >>= λ commands. items_at state_at counts.0.states [] commands.1 >>= λ states. items_at (λ before. routine_at (room_after before)) counts.0.routines [] states.1 >>= λ routines. Ok (record { budgets = budgets.0; initial = record { 0 = initial.0 }; always = always.0; interfaces = interfaces.0; tests = tests.0; commands = commands.0; states = states.0; routines = routines.0 }, routines.1)) y (Steps p y) g_counts (λ initial e_initial g_initial.
-    bind_elim (handlers_at initial.1) (λ always. items_at name_at counts.0.interfaces [] always.1 >>= λ interfaces. items_at (λ _. test_at) counts.0.tests [] interfaces.1 >>= λ tests. items_at (λ _. text_at) counts.0.commands [] tests.1 >>= λ commands. items_at state_at counts.0.states [] commands.1 >>= λ states. items_at (λ before. routine_at (room_after before)) counts.0.routines [] states.1 >>= λ routines. Ok (record { budgets = budgets.0; initial = record { 0 = initial.0 }; always = always.0; interfaces = interfaces.0; tests = tests.0; commands = commands.0; states = states.0; routines = routines.0 }, routines.1)) y (Steps p y) g_initial (λ always e_always g_always.
-    bind_elim (items_at name_at counts.0.interfaces [] always.1) (λ interfaces. items_at (λ _. test_at) counts.0.tests [] interfaces.1 >>= λ tests. items_at (λ _. text_at) counts.0.commands [] tests.1 >>= λ commands. items_at state_at counts.0.states [] commands.1 >>= λ states. items_at (λ before. routine_at (room_after before)) counts.0.routines [] states.1 >>= λ routines. Ok (record { budgets = budgets.0; initial = record { 0 = initial.0 }; always = always.0; interfaces = interfaces.0; tests = tests.0; commands = commands.0; states = states.0; routines = routines.0 }, routines.1)) y (Steps p y) g_always (λ interfaces e_interfaces g_interfaces.
-    bind_elim (items_at (λ _. test_at) counts.0.tests [] interfaces.1) (λ tests. items_at (λ _. text_at) counts.0.commands [] tests.1 >>= λ commands. items_at state_at counts.0.states [] commands.1 >>= λ states. items_at (λ before. routine_at (room_after before)) counts.0.routines [] states.1 >>= λ routines. Ok (record { budgets = budgets.0; initial = record { 0 = initial.0 }; always = always.0; interfaces = interfaces.0; tests = tests.0; commands = commands.0; states = states.0; routines = routines.0 }, routines.1)) y (Steps p y) g_interfaces (λ tests e_tests g_tests.
-    bind_elim (items_at (λ _. text_at) counts.0.commands [] tests.1) (λ commands. items_at state_at counts.0.states [] commands.1 >>= λ states. items_at (λ before. routine_at (room_after before)) counts.0.routines [] states.1 >>= λ routines. Ok (record { budgets = budgets.0; initial = record { 0 = initial.0 }; always = always.0; interfaces = interfaces.0; tests = tests.0; commands = commands.0; states = states.0; routines = routines.0 }, routines.1)) y (Steps p y) g_tests (λ commands e_commands g_commands.
-    bind_elim (items_at state_at counts.0.states [] commands.1) (λ states. items_at (λ before. routine_at (room_after before)) counts.0.routines [] states.1 >>= λ routines. Ok (record { budgets = budgets.0; initial = record { 0 = initial.0 }; always = always.0; interfaces = interfaces.0; tests = tests.0; commands = commands.0; states = states.0; routines = routines.0 }, routines.1)) y (Steps p y) g_commands (λ states e_states g_states.
-    bind_elim (items_at (λ before. routine_at (room_after before)) counts.0.routines [] states.1) (λ routines. Ok (record { budgets = budgets.0; initial = record { 0 = initial.0 }; always = always.0; interfaces = interfaces.0; tests = tests.0; commands = commands.0; states = states.0; routines = routines.0 }, routines.1)) y (Steps p y) g_states (λ routines e_routines g_routines.
+    bind_elim (magic_at p) (λ magic. version_at magic.1 >>= λ version. budgets_at version.1 >>= λ budgets. counts_at budgets.1 >>= λ counts. number_at w16 counts.1 >>= λ initial. handlers_at initial.1 >>= λ always. items_at name_at counts.0.interfaces [] always.1 >>= λ interfaces. items_at (λ _. test_at) counts.0.tests [] interfaces.1 >>= λ tests. items_at (λ _. text_at) counts.0.commands [] tests.1 >>= λ commands. items_at state_at counts.0.states [] commands.1 >>= λ states. items_at (routine_after version.0) counts.0.routines [] states.1 >>= λ routines. Ok (record { version = version.0; budgets = budgets.0; initial = record { 0 = initial.0 }; always = always.0; interfaces = interfaces.0; tests = tests.0; commands = commands.0; states = states.0; routines = routines.0 }, routines.1)) y (Steps p y) e (λ magic e_magic g_magic.
+    bind_elim (version_at magic.1) (λ version. budgets_at version.1 >>= λ budgets. counts_at budgets.1 >>= λ counts. number_at w16 counts.1 >>= λ initial. handlers_at initial.1 >>= λ always. items_at name_at counts.0.interfaces [] always.1 >>= λ interfaces. items_at (λ _. test_at) counts.0.tests [] interfaces.1 >>= λ tests. items_at (λ _. text_at) counts.0.commands [] tests.1 >>= λ commands. items_at state_at counts.0.states [] commands.1 >>= λ states. items_at (routine_after version.0) counts.0.routines [] states.1 >>= λ routines. Ok (record { version = version.0; budgets = budgets.0; initial = record { 0 = initial.0 }; always = always.0; interfaces = interfaces.0; tests = tests.0; commands = commands.0; states = states.0; routines = routines.0 }, routines.1)) y (Steps p y) g_magic (λ version e_version g_version.
+    bind_elim (budgets_at version.1) (λ budgets. counts_at budgets.1 >>= λ counts. number_at w16 counts.1 >>= λ initial. handlers_at initial.1 >>= λ always. items_at name_at counts.0.interfaces [] always.1 >>= λ interfaces. items_at (λ _. test_at) counts.0.tests [] interfaces.1 >>= λ tests. items_at (λ _. text_at) counts.0.commands [] tests.1 >>= λ commands. items_at state_at counts.0.states [] commands.1 >>= λ states. items_at (routine_after version.0) counts.0.routines [] states.1 >>= λ routines. Ok (record { version = version.0; budgets = budgets.0; initial = record { 0 = initial.0 }; always = always.0; interfaces = interfaces.0; tests = tests.0; commands = commands.0; states = states.0; routines = routines.0 }, routines.1)) y (Steps p y) g_version (λ budgets e_budgets g_budgets.
+    bind_elim (counts_at budgets.1) (λ counts. number_at w16 counts.1 >>= λ initial. handlers_at initial.1 >>= λ always. items_at name_at counts.0.interfaces [] always.1 >>= λ interfaces. items_at (λ _. test_at) counts.0.tests [] interfaces.1 >>= λ tests. items_at (λ _. text_at) counts.0.commands [] tests.1 >>= λ commands. items_at state_at counts.0.states [] commands.1 >>= λ states. items_at (routine_after version.0) counts.0.routines [] states.1 >>= λ routines. Ok (record { version = version.0; budgets = budgets.0; initial = record { 0 = initial.0 }; always = always.0; interfaces = interfaces.0; tests = tests.0; commands = commands.0; states = states.0; routines = routines.0 }, routines.1)) y (Steps p y) g_budgets (λ counts e_counts g_counts.
+    bind_elim (number_at w16 counts.1) (λ initial. handlers_at initial.1 >>= λ always. items_at name_at counts.0.interfaces [] always.1 >>= λ interfaces. items_at (λ _. test_at) counts.0.tests [] interfaces.1 >>= λ tests. items_at (λ _. text_at) counts.0.commands [] tests.1 >>= λ commands. items_at state_at counts.0.states [] commands.1 >>= λ states. items_at (routine_after version.0) counts.0.routines [] states.1 >>= λ routines. Ok (record { version = version.0; budgets = budgets.0; initial = record { 0 = initial.0 }; always = always.0; interfaces = interfaces.0; tests = tests.0; commands = commands.0; states = states.0; routines = routines.0 }, routines.1)) y (Steps p y) g_counts (λ initial e_initial g_initial.
+    bind_elim (handlers_at initial.1) (λ always. items_at name_at counts.0.interfaces [] always.1 >>= λ interfaces. items_at (λ _. test_at) counts.0.tests [] interfaces.1 >>= λ tests. items_at (λ _. text_at) counts.0.commands [] tests.1 >>= λ commands. items_at state_at counts.0.states [] commands.1 >>= λ states. items_at (routine_after version.0) counts.0.routines [] states.1 >>= λ routines. Ok (record { version = version.0; budgets = budgets.0; initial = record { 0 = initial.0 }; always = always.0; interfaces = interfaces.0; tests = tests.0; commands = commands.0; states = states.0; routines = routines.0 }, routines.1)) y (Steps p y) g_initial (λ always e_always g_always.
+    bind_elim (items_at name_at counts.0.interfaces [] always.1) (λ interfaces. items_at (λ _. test_at) counts.0.tests [] interfaces.1 >>= λ tests. items_at (λ _. text_at) counts.0.commands [] tests.1 >>= λ commands. items_at state_at counts.0.states [] commands.1 >>= λ states. items_at (routine_after version.0) counts.0.routines [] states.1 >>= λ routines. Ok (record { version = version.0; budgets = budgets.0; initial = record { 0 = initial.0 }; always = always.0; interfaces = interfaces.0; tests = tests.0; commands = commands.0; states = states.0; routines = routines.0 }, routines.1)) y (Steps p y) g_always (λ interfaces e_interfaces g_interfaces.
+    bind_elim (items_at (λ _. test_at) counts.0.tests [] interfaces.1) (λ tests. items_at (λ _. text_at) counts.0.commands [] tests.1 >>= λ commands. items_at state_at counts.0.states [] commands.1 >>= λ states. items_at (routine_after version.0) counts.0.routines [] states.1 >>= λ routines. Ok (record { version = version.0; budgets = budgets.0; initial = record { 0 = initial.0 }; always = always.0; interfaces = interfaces.0; tests = tests.0; commands = commands.0; states = states.0; routines = routines.0 }, routines.1)) y (Steps p y) g_interfaces (λ tests e_tests g_tests.
+    bind_elim (items_at (λ _. text_at) counts.0.commands [] tests.1) (λ commands. items_at state_at counts.0.states [] commands.1 >>= λ states. items_at (routine_after version.0) counts.0.routines [] states.1 >>= λ routines. Ok (record { version = version.0; budgets = budgets.0; initial = record { 0 = initial.0 }; always = always.0; interfaces = interfaces.0; tests = tests.0; commands = commands.0; states = states.0; routines = routines.0 }, routines.1)) y (Steps p y) g_tests (λ commands e_commands g_commands.
+    bind_elim (items_at state_at counts.0.states [] commands.1) (λ states. items_at (routine_after version.0) counts.0.routines [] states.1 >>= λ routines. Ok (record { version = version.0; budgets = budgets.0; initial = record { 0 = initial.0 }; always = always.0; interfaces = interfaces.0; tests = tests.0; commands = commands.0; states = states.0; routines = routines.0 }, routines.1)) y (Steps p y) g_commands (λ states e_states g_states.
+    bind_elim (items_at (routine_after version.0) counts.0.routines [] states.1) (λ routines. Ok (record { version = version.0; budgets = budgets.0; initial = record { 0 = initial.0 }; always = always.0; interfaces = interfaces.0; tests = tests.0; commands = commands.0; states = states.0; routines = routines.0 }, routines.1)) y (Steps p y) g_states (λ routines e_routines g_routines.
     record { magic = magic; is_magic = e_magic; version = version; is_version = e_version; budgets = budgets; is_budgets = e_budgets; counts = counts; is_counts = e_counts; initial = initial; is_initial = e_initial; always = always; is_always = e_always; interfaces = interfaces; is_interfaces = e_interfaces; tests = tests; is_tests = e_tests; commands = commands; is_commands = e_commands; states = states; is_states = e_states; routines = routines; is_routines = e_routines; made_is = g_routines })))))))))))
 
 steps_taken : (p : Cursor) (y : ImageParts × Cursor) → IsBytes p.left → Steps p y → TookImage p.left y.0 y.1.left
@@ -335,7 +358,7 @@ unfolding image_bytes front_bytes
 steps_taken p y fits s =
     let t1 = magic_taken p s.magic fits s.is_magic in
     let t2 = version_taken s.magic.1 s.version t1.rest_fits s.is_version in
-    let t3 = budgets_field.taken s.version.1 s.budgets t2.rest_fits s.is_budgets in
+    let t3 = budgets_field.taken s.version.1 s.budgets t2.0.rest_fits s.is_budgets in
     let t4 = counts_field.taken s.budgets.1 s.counts t3.0.rest_fits s.is_counts in
     let t5 = (number_field w16 (2 ^ 16) wide16).taken s.counts.1 s.initial t4.0.rest_fits s.is_initial in
     let t6 = handlers_field.taken s.initial.1 s.always t5.0.rest_fits s.is_always in
@@ -343,9 +366,9 @@ steps_taken p y fits s =
     let t8 = (tests_table s.counts.0.tests).taken s.interfaces.1 s.tests t7.0.rest_fits s.is_tests in
     let t9 = (commands_table s.counts.0.commands).taken s.tests.1 s.commands t8.0.rest_fits s.is_commands in
     let t10 = (states_table s.counts.0.states).taken s.commands.1 s.states t9.0.rest_fits s.is_states in
-    let t11 = (routines_table s.counts.0.routines).taken s.states.1 s.routines t10.0.rest_fits s.is_routines in
-    let front = Took-then (Took-then t1 t2) t3.0 in
-    let parts : ImageParts = record { budgets = s.budgets.0; initial = record { 0 = s.initial.0 }; always = s.always.0; interfaces = s.interfaces.0; tests = s.tests.0; commands = s.commands.0; states = s.states.0; routines = s.routines.0 } in
+    let t11 = (routines_table s.version.0 s.counts.0.routines t2.1).taken s.states.1 s.routines t10.0.rest_fits s.is_routines in
+    let front = Took-then (Took-then t1 t2.0) t3.0 in
+    let parts : ImageParts = record { version = s.version.0; budgets = s.budgets.0; initial = record { 0 = s.initial.0 }; always = s.always.0; interfaces = s.interfaces.0; tests = s.tests.0; commands = s.commands.0; states = s.states.0; routines = s.routines.0 } in
     let same : s.counts.0 ≡ counts parts = counts_same s.counts.0 parts (sym t7.1.0) (sym t8.1.0) (sym t9.1.0) (sym t10.1.0) (sym t11.1.0) in
     let with_counts : Took s.budgets.1.left (counts_bytes (counts parts)) s.counts.1.left = subst (λ (c : Counts). Took s.budgets.1.left (counts_bytes c) s.counts.1.left) same t4.0 in
     let limits : CountsGood (counts parts) = subst CountsGood same t4.1 in
@@ -353,7 +376,7 @@ steps_taken p y fits s =
     let tables : TablesGood parts = record { interfaces = t7.1.1; tests = t8.1.1; commands = t9.1.1; states = t10.1.1; routines = t11.1.1 } in
     let made : ImageParts × Cursor = (parts, s.routines.1) in
     subst (λ (z : ImageParts × Cursor). TookImage p.left z.0 z.1.left) (ok_is made y s.made_is)
-    (record { took = whole; fits = fits_from_tables parts t3.1 (record { interfaces = limits.interfaces; tests = limits.tests; commands = limits.commands; some_state = limits.some_state; states = limits.states; routines = limits.routines }) tables; in_range = in_range_from_tables parts t5.1 t6.1 tables })
+    (record { took = whole; fits = fits_from_tables parts t2.1 t3.1 (record { interfaces = limits.interfaces; tests = limits.tests; commands = limits.commands; some_state = limits.some_state; states = limits.states; routines = limits.routines }) tables; in_range = in_range_from_tables parts t5.1 t6.1 tables })
 
 pub parts_taken : (p : Cursor) (y : ImageParts × Cursor) → IsBytes p.left → parts_at p ≡ Ok y → TookImage p.left y.0 y.1.left
 parts_taken p y fits e = steps_taken p y fits (steps_of p y e)
@@ -363,7 +386,7 @@ pub parts_again : (p : ImageParts) (at : ℕ) (rest : List ℕ) → Fits p → I
 unfolding parts_at image_bytes front_bytes
 parts_again p at rest f r =
     let t = tables_from_fits p f r in
-    let r11 = flat_map routine_bytes p.routines ++ rest in
+    let r11 = flat_map (routine_bytes p.version) p.routines ++ rest in
     let r10 = flat_map state_bytes p.states ++ r11 in
     let r9 = flat_map text_bytes p.commands ++ r10 in
     let r8 = flat_map test_bytes p.tests ++ r9 in
@@ -372,7 +395,7 @@ parts_again p at rest f r =
     let r5 = to_be_bytes w16 p.initial.0 ++ r6 in
     let r4 = counts_bytes (counts p) ++ r5 in
     let r3 = budgets_bytes p.budgets ++ r4 in
-    let regrouped : image_bytes p ++ rest ≡ codes "IFSV" ++ ((1 ∷ []) ++ r3) = simp append_assoc in
+    let regrouped : image_bytes p ++ rest ≡ codes "IFSV" ++ ((p.version ∷ []) ++ r3) = simp append_assoc in
     let k3 = at + 4 + 1 in
     let k4 = k3 + length (budgets_bytes p.budgets) in
     let k5 = k4 + length (counts_bytes (counts p)) in
@@ -383,8 +406,8 @@ parts_again p at rest f r =
     let k10 = k9 + length (flat_map text_bytes p.commands) in
     let k11 = k10 + length (flat_map state_bytes p.states) in
     let limits : CountsGood (counts p) = record { interfaces = f.counts.interfaces; tests = f.counts.tests; commands = f.counts.commands; some_state = f.counts.some_state; states = f.counts.states; routines = f.counts.routines } in
-    let a1 = magic_again at ((1 ∷ []) ++ r3) in
-    let a2 = version_again (at + 4) r3 in
+    let a1 = magic_again at ((p.version ∷ []) ++ r3) in
+    let a2 = version_again p.version (at + 4) r3 f.version in
     let a3 = budgets_field.again p.budgets k3 r4 f.budgets in
     let a4 = counts_field.again (counts p) k4 r5 limits in
     let a5 = (number_field w16 (2 ^ 16) wide16).again p.initial.0 k5 r6 r.initial in
@@ -393,8 +416,8 @@ parts_again p at rest f r =
     let a8 = (tests_table (length p.tests)).again p.tests k8 r9 (refl, t.tests) in
     let a9 = (commands_table (length p.commands)).again p.commands k9 r10 (refl, t.commands) in
     let a10 = (states_table (length p.states)).again p.states k10 r11 (refl, t.states) in
-    let a11 = (routines_table (length p.routines)).again p.routines k11 rest (refl, t.routines) in (
-      k11 + length (flat_map routine_bytes p.routines),
+    let a11 = (routines_table p.version (length p.routines) f.version).again p.routines k11 rest (refl, t.routines) in (
+      k11 + length (flat_map (routine_bytes p.version) p.routines),
       ap (λ (bytes : List ℕ). parts_at (cursor at bytes)) regrouped
           ∙ again_bind _ _ _ _ a1 (again_bind _ _ _ _ a2 (again_bind _ _ _ _ a3 (again_bind _ _ _ _ a4 (again_bind _ _ _ _ a5 (again_bind _ _ _ _ a6
           (again_bind _ _ _ _ a7 (again_bind _ _ _ _ a8 (again_bind _ _ _ _ a9 (again_bind _ _ _ _ a10 (again_bind _ _ _ _ a11 refl)))))))))),

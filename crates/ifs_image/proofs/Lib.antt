@@ -2,6 +2,7 @@ pub mod Names
 pub mod Texts
 pub mod FieldLaws
 pub mod Ops
+pub mod KindLaws
 pub mod PartLaws
 pub mod ImageLaws
 pub mod Loops

@@ -38,5 +38,5 @@ is_done entry count i before all p total le same so_far =
 pub instructions-push : (before : List Routine) (r : Routine) → instructions (before ++ r ∷ []) ≡ instructions before + length r.code
 instructions-push before r = omega (arith, sum_by-append (λ (x : Routine). length x.code) before (r ∷ []))
 
-pub room_less : (before : List Routine) (r : Routine) (all : List Routine) (room n : ℕ) → room ≡ room_after before → n ≡ length r.code → all ≡ before ++ r ∷ [] → room - n ≡ room_after all
-room_less before r all room n e len pushed = rw (pushed, instructions-push) (omega arith)
+pub room_less : (version : ℕ) (before : List Routine) (r : Routine) (all : List Routine) (room n : ℕ) → room ≡ room_after version before → n ≡ length r.code → all ≡ before ++ r ∷ [] → room - n ≡ room_after version all
+room_less version before r all room n e len pushed = rw (pushed, instructions-push) (omega arith)

@@ -1,8 +1,8 @@
 -- The parts of an image, each read as it is spelled.
 use Rattle.std.proofs.Common.{◌≡◌, ◌≢◌, ℕ, ◌+◌, ◌^◌, ◌≤◌, Bool, true, false, cond, eqb}
-use Rattle.std.proofs.Common.{ltb, List, [], ◌∷◌, ◌++◌, length, get_or, Option, Some, None}
+use Rattle.std.proofs.Common.{ltb, List, [], ◌++◌, length, get_or, inl, inr}
 use Rattle.std.proofs.Common.{Ok, Err, refl, sym, ap, subst, ◌∙◌, append_assoc, arith, All}
-use Rattle.std.specs.Prelude.{◌&&◌, ◌||◌, not, ◌==◌, min, IsUtf8}
+use Rattle.std.specs.Prelude.{◌&&◌, ◌||◌, not, ◌==◌, ◌⊎◌, min, IsUtf8}
 use Rattle.std.specs.Int.{w16, w32, w64, to_be_bytes}
 use Rattle.std.specs.List.{list_any, flat_map}
 use Rattle.std.specs.Option.{ok_or}
@@ -17,22 +17,23 @@ use Rattle.ifs_base.specs.declared.op.Op.TheVariants.{Ret, Yes, No, Link, Test, 
 use Rattle.ifs_base.specs.declared.op.Op.TheVariants.{Either, PushCommand, PushState, Queue, Want}
 use Rattle.ifs_base.specs.declared.op.Op.TheVariants.{Jump, JumpFalse, JumpTrue, Call, Pop, Dup}
 use Rattle.ifs_base.specs.Spelling.{spelling, op_of, HasSpelling}
-use Rattle.ifs_image.specs.declared.fault.ImageFault.{ImageFault}
-use Rattle.ifs_image.specs.declared.fault.ImageFault.TheVariants.{BadText, RepeatedName, OutOfLimit, NoInstruction}
+use Rattle.ifs_image.specs.declared.fault.ImageFault.TheVariants.{BadText, RepeatedName, NoInstruction}
 use Rattle.ifs_image.specs.declared.parts.Handlers.{Handlers}
 use Rattle.ifs_image.specs.declared.parts.TestSpec.{TestSpec}
 use Rattle.ifs_image.specs.declared.parts.StateSpec.{StateSpec}
 use Rattle.ifs_image.specs.declared.parts.Routine.{Routine}
 use Rattle.ifs_base.specs.Sizes.{TextFits}
 use Rattle.ifs_base.specs.Results.{◌>>=◌}
-use Rattle.ifs_image.specs.Limits.{TestFits, HandlersInRange, StateInRange, RoutineFits, names_of}
-use Rattle.ifs_image.specs.Spelling.{handlers_bytes, text_bytes, test_bytes, state_bytes, routine_bytes}
-use Rattle.ifs_image.specs.Reading.{Cursor, cursor, bytes_at, byte_at, number_at, number_within}
+use Rattle.ifs_image.specs.Limits.{TestFits, HandlersInRange, StateInRange, IsVersion, IsPlain, RoutineFits, names_of}
+use Rattle.ifs_image.specs.Spelling.{handlers_bytes, text_bytes, test_bytes, state_bytes}
+use Rattle.ifs_image.specs.Spelling.{params_bytes, results_bytes, routine_bytes}
+use Rattle.ifs_image.specs.Reading.{Cursor, cursor, bytes_at, number_at, number_within}
 use Rattle.ifs_image.specs.Reading.{handlers_at, length_at, is_text, text_sized, text_at, stands_in, name_at}
-use Rattle.ifs_image.specs.Reading.{test_at, state_at, instruction_at, items_at, results_at, routine_at}
+use Rattle.ifs_image.specs.Reading.{test_at, state_at, instruction_at, items_at, params_at, results_at, routine_at}
 use Rattle.ifs_image.proofs.FieldLaws.{IsBytes, bind_ok, again_bind, guard_ok, passed_ok, ok_is, or_false, Took}
 use Rattle.ifs_image.proofs.FieldLaws.{Took-then, IsField, bytes_again, bytes_taken, wide16, wide64, number_field}
-use Rattle.ifs_image.proofs.FieldLaws.{within16, within32, byte_again, byte_taken, AllAfter, table_field}
+use Rattle.ifs_image.proofs.FieldLaws.{within16, within32, AllAfter, table_field}
+use Rattle.ifs_image.proofs.KindLaws.{AreTruths, ok_or_ok, params_field, results_field}
 use Rattle.ifs_image.proofs.Ops.{op_of-spelling, op_of-spelled}
 
 -- ---- texts
@@ -238,10 +239,6 @@ length-spelling (Call n) = refl
 length-spelling Pop = refl
 length-spelling Dup = refl
 
-pub ok_or_ok : (o : Option Op) (d : ImageFault) (op : Op) → ok_or o d ≡ Ok op → o ≡ Some op
-ok_or_ok None d op e = absurd cc
-ok_or_ok (Some x) d op e = ap (λ (z : Op). Some z) (ok_is x op e)
-
 pub op_field : IsField instruction_at spelling HasSpelling
 unfolding instruction_at
 op_field = record {
@@ -257,46 +254,60 @@ op_field = record {
       (subst (λ (text : List ℕ). Took p.left text b.0.1.left) s.0 t.0, s.1);
 }
 
-pub results_field : IsField results_at (λ n. n ∷ []) (λ n. n ≤ 1)
-unfolding results_at
-results_field = record {
-  again = λ n at rest fits. again_bind _ _ _ _ (byte_again n at rest) (let few : ltb 1 n ≡ false = le-ltb _ _ fits in rw few refl);
-  taken = λ p y fits e.
-      let b = bind_ok (byte_at p) (λ n. cond (ltb 1 n.0) (Err (OutOfLimit p.at)) (Ok n)) y e in
-      let g = guard_ok (ltb 1 b.0.0) (OutOfLimit p.at) b.0 y b.2 in
-      subst (λ (z : ℕ × Cursor). Took p.left (z.0 ∷ []) z.1.left × (z.0 ≤ 1)) g.1 (byte_taken p b.0 fits b.1, ltb-false _ _ g.0);
-}
-
 -- a routine that fits into the room that is left
-pub record RoutineGood (room : ℕ) (r : Routine) : Type 0 where
-  pub fits : RoutineFits r
+pub record RoutineGood (version room : ℕ) (r : Routine) : Type 0 where
+  pub fits : RoutineFits version r
   pub within : length r.code ≤ room
+  pub params : length r.params.items ≤ 4
+  pub results : length r.results.items ≤ 4
   pub code : AllAfter (λ _. HasSpelling) [] r.code
 
 pub code_field : (n : ℕ) → IsField (items_at (λ _. instruction_at) n []) (flat_map spelling) (λ code. (length code ≡ n) × AllAfter (λ _. HasSpelling) [] code)
 code_field n = table_field (λ _. instruction_at) spelling (λ _. HasSpelling) (λ _. op_field) n
 
-pub routine_field : (room : ℕ) → IsField (routine_at room) routine_bytes (RoutineGood room)
+-- what version 1 can say of a routine, from its two lists
+plain_or : (version : ℕ) (r : Routine) → (version ≡ 2) ⊎ (r.params.items ≡ []) → (version ≡ 2) ⊎ AreTruths r.results.items → (version ≡ 2) ⊎ IsPlain r
+plain_or version r (inl two) b = inl two
+plain_or version r (inr none) (inl two) = inl two
+plain_or version r (inr none) (inr truths) = inr (record { params = none; results = truths })
+
+or_params : (version : ℕ) (r : Routine) → (version ≡ 2) ⊎ IsPlain r → (version ≡ 2) ⊎ (r.params.items ≡ [])
+or_params version r (inl two) = inl two
+or_params version r (inr plain) = inr plain.params
+
+or_results : (version : ℕ) (r : Routine) → (version ≡ 2) ⊎ IsPlain r → (version ≡ 2) ⊎ AreTruths r.results.items
+or_results version r (inl two) = inl two
+or_results version r (inr plain) = inr plain.results
+
+pub routine_field : (version room : ℕ) → IsVersion version → IsField (routine_at version room) (routine_bytes version) (RoutineGood version room)
 unfolding routine_at routine_bytes
-routine_field room = record {
+routine_field version room is = record {
   again = λ r at rest good.
-      let regrouped : routine_bytes r ++ rest ≡ (r.results ∷ []) ++ (to_be_bytes w16 (length r.code) ++ (flat_map spelling r.code ++ rest)) = simp append_assoc in
-      let a = results_field.again r.results at (to_be_bytes w16 (length r.code) ++ (flat_map spelling r.code ++ rest)) good.fits.results in
-      let b = (within16 0 (min room 1024) (omega arith)).again (length r.code) (at + 1) (flat_map spelling r.code ++ rest) (omega arith, omega (arith, good.fits.code, good.within)) in
-      let c = (code_field (length r.code)).again r.code (at + 1 + 2) rest (refl, good.code) in
-      ap (λ (bytes : List ℕ). routine_at room (cursor at bytes)) regrouped
-      ∙ again_bind _ _ _ _ a (again_bind _ _ _ _ b (again_bind _ _ _ _ c (ap (λ (k : ℕ). Ok (r, cursor k rest)) (omega (arith, length-append ((r.results ∷ []) ++ to_be_bytes w16 (length r.code)) (flat_map spelling r.code))))));
+      let code = flat_map spelling r.code ++ rest in
+      let counted = to_be_bytes w16 (length r.code) ++ code in
+      let regrouped : routine_bytes version r ++ rest ≡ params_bytes version r.params.items ++ (results_bytes version r.results.items ++ counted) = simp append_assoc in
+      let k1 = at + length (params_bytes version r.params.items) in
+      let k2 = k1 + length (results_bytes version r.results.items) in
+      let a = (params_field version is).again r.params.items at (results_bytes version r.results.items ++ counted) (good.params, or_params version r good.fits.kinds) in
+      let b = (results_field version is).again r.results.items k1 counted (good.results, or_results version r good.fits.kinds) in
+      let c = (within16 0 (min room 1024) (omega arith)).again (length r.code) k2 code (omega arith, omega (arith, good.fits.code, good.within)) in
+      let d = (code_field (length r.code)).again r.code (k2 + 2) rest (refl, good.code) in
+      let sums : k2 + 2 + length (flat_map spelling r.code) ≡ at + length (routine_bytes version r) = omega (arith, length-append (((params_bytes version r.params.items ++ results_bytes version r.results.items)) ++ to_be_bytes w16 (length r.code)) (flat_map spelling r.code), length-append (params_bytes version r.params.items ++ results_bytes version r.results.items) (to_be_bytes w16 (length r.code)), length-append (params_bytes version r.params.items) (results_bytes version r.results.items)) in
+      ap (λ (bytes : List ℕ). routine_at version room (cursor at bytes)) regrouped
+      ∙ again_bind _ _ _ _ a (again_bind _ _ _ _ b (again_bind _ _ _ _ c (again_bind _ _ _ _ d (ap (λ (k : ℕ). Ok (r, cursor k rest)) sums))));
   taken = λ p y fits e.
-      let a = bind_ok (results_at p) (λ results. number_within w16 0 (min room 1024) results.1 >>= λ n. items_at (λ _. instruction_at) n.0 [] n.1 >>= λ code. Ok (record { results = results.0; code = code.0 }, code.1)) y e in
-      let b = bind_ok (number_within w16 0 (min room 1024) a.0.1) (λ n. items_at (λ _. instruction_at) n.0 [] n.1 >>= λ code. Ok (record { results = a.0.0; code = code.0 }, code.1)) y a.2 in
-      let c = bind_ok (items_at (λ _. instruction_at) b.0.0 [] b.0.1) (λ code. Ok (record { results = a.0.0; code = code.0 }, code.1)) y b.2 in
-      let ta = results_field.taken p a.0 fits a.1 in
-      let tb = (within16 0 (min room 1024) (omega arith)).taken a.0.1 b.0 ta.0.rest_fits b.1 in
-      let tc = (code_field b.0.0).taken b.0.1 c.0 tb.0.rest_fits c.1 in
-      let made : Routine × Cursor = (record { results = a.0.0; code = c.0.0 }, c.0.1) in
-      let whole : Took p.left (((a.0.0 ∷ []) ++ to_be_bytes w16 b.0.0) ++ flat_map spelling c.0.0) c.0.1.left = Took-then (Took-then ta.0 tb.0) tc.0 in
-      subst (λ (z : Routine × Cursor). Took p.left (routine_bytes z.0) z.1.left × RoutineGood room z.0) (ok_is made y c.2) (
-        subst (λ (k : ℕ). Took p.left (((a.0.0 ∷ []) ++ to_be_bytes w16 k) ++ flat_map spelling c.0.0) c.0.1.left) (sym tc.1.0) whole,
-        record { fits = record { results = ta.1; code = omega (arith, tc.1.0, tb.1.1) }; within = omega (arith, tc.1.0, tb.1.1); code = tc.1.1 },
+      let a = bind_ok (params_at version p) (λ params. results_at version params.1 >>= λ results. number_within w16 0 (min room 1024) results.1 >>= λ n. items_at (λ _. instruction_at) n.0 [] n.1 >>= λ code. Ok (record { params = record { items = params.0 }; results = record { items = results.0 }; code = code.0 }, code.1)) y e in
+      let b = bind_ok (results_at version a.0.1) (λ results. number_within w16 0 (min room 1024) results.1 >>= λ n. items_at (λ _. instruction_at) n.0 [] n.1 >>= λ code. Ok (record { params = record { items = a.0.0 }; results = record { items = results.0 }; code = code.0 }, code.1)) y a.2 in
+      let c = bind_ok (number_within w16 0 (min room 1024) b.0.1) (λ n. items_at (λ _. instruction_at) n.0 [] n.1 >>= λ code. Ok (record { params = record { items = a.0.0 }; results = record { items = b.0.0 }; code = code.0 }, code.1)) y b.2 in
+      let d = bind_ok (items_at (λ _. instruction_at) c.0.0 [] c.0.1) (λ code. Ok (record { params = record { items = a.0.0 }; results = record { items = b.0.0 }; code = code.0 }, code.1)) y c.2 in
+      let ta = (params_field version is).taken p a.0 fits a.1 in
+      let tb = (results_field version is).taken a.0.1 b.0 ta.0.rest_fits b.1 in
+      let tc = (within16 0 (min room 1024) (omega arith)).taken b.0.1 c.0 tb.0.rest_fits c.1 in
+      let td = (code_field c.0.0).taken c.0.1 d.0 tc.0.rest_fits d.1 in
+      let made : Routine = record { params = record { items = a.0.0 }; results = record { items = b.0.0 }; code = d.0.0 } in
+      let whole : Took p.left (((params_bytes version a.0.0 ++ results_bytes version b.0.0) ++ to_be_bytes w16 c.0.0) ++ flat_map spelling d.0.0) d.0.1.left = Took-then (Took-then (Took-then ta.0 tb.0) tc.0) td.0 in
+      subst (λ (z : Routine × Cursor). Took p.left (routine_bytes version z.0) z.1.left × RoutineGood version room z.0) (ok_is (made, d.0.1) y d.2) (
+        subst (λ (k : ℕ). Took p.left (((params_bytes version a.0.0 ++ results_bytes version b.0.0) ++ to_be_bytes w16 k) ++ flat_map spelling d.0.0) d.0.1.left) (sym td.1.0) whole,
+        record { fits = record { kinds = plain_or version made ta.1.1 tb.1.1; code = omega (arith, td.1.0, tc.1.1) }; within = omega (arith, td.1.0, tc.1.1); params = ta.1.0; results = tb.1.0; code = td.1.1 },
       );
 }

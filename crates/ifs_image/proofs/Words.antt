@@ -14,7 +14,7 @@ use Rattle.ifs_image.specs.declared.fault.ImageFault.TheVariants.{Truncated, NoI
 use Rattle.ifs_image.specs.Reading.{Cursor, cursor, bytes_at, instruction_at}
 use Rattle.ifs_image.specs.Lent.{op_in, ops_in, IsInstruction}
 use Rattle.ifs_image.proofs.FieldLaws.{bind_ok, guard_ok, ok_is}
-use Rattle.ifs_image.proofs.PartLaws.{ok_or_ok}
+use Rattle.ifs_image.proofs.KindLaws.{ok_or_ok}
 use Rattle.std.specs.Option.{ok_or}
 
 first_chunks-push : (k : ℕ) (xs : List ℕ) → first_chunks 4 (suc k) xs ≡ first_chunks 4 k xs ++ take 4 (drop (4 * k) xs) ∷ []

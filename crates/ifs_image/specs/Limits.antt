@@ -1,5 +1,7 @@
--- What an image keeps to: numbers, counts and texts within their limits, and names that stand once.
-use Rattle.std.specs.Prelude.{ℕ, ◌≢◌, ◌<◌, ◌≤◌, ◌^◌, List, length, map, All, AllPairs, sum_by, IsUtf8}
+-- What an image keeps to: numbers, counts and texts within their limits, names that stand once, and what its version can say.
+use Rattle.std.specs.Prelude.{ℕ, ◌≡◌, ◌≢◌, ◌<◌, ◌≤◌, ◌^◌, ◌⊎◌, ◌==◌, if◌then◌else◌}
+use Rattle.std.specs.Prelude.{List, [], ◌∷◌, length, map, All, AllPairs, sum_by, IsUtf8}
+use Rattle.ifs_base.specs.declared.op.Kind.TheVariants.{Truth}
 use Rattle.ifs_base.specs.Sizes.{TextFits, PeriodFits}
 use Rattle.ifs_base.specs.Spelling.{HasSpelling}
 use Rattle.ifs_image.specs.declared.parts.Budgets.{Budgets}
@@ -30,9 +32,18 @@ pub record TestFits (t : TestSpec) : Type 0 where
   pub period : PeriodFits t.period
   pub text : TextFits t.text
 
--- A routine has one result at most, and at most 1,024 instructions.
-pub record RoutineFits (r : Routine) : Type 0 where
-  pub results : r.results ≤ 1
+-- The versions of the format.
+abbrev pub IsVersion : ℕ → Type 0
+IsVersion version = (1 ≤ version) × (version ≤ 2)
+
+-- A routine that takes nothing, and leaves nothing or one truth.
+pub record IsPlain (r : Routine) : Type 0 where
+  pub params : r.params.items ≡ []
+  pub results : (r.results.items ≡ []) ⊎ (r.results.items ≡ Truth ∷ [])
+
+-- A routine is plain or the version is 2, and it has at most 1,024 instructions.
+pub record RoutineFits (version : ℕ) (r : Routine) : Type 0 where
+  pub kinds : (version ≡ 2) ⊎ IsPlain r
   pub code : length r.code ≤ 1024
 
 -- No name stands twice.
@@ -57,20 +68,25 @@ pub record StatesFit (states : List StateSpec) : Type 0 where
 abbrev pub instructions : List Routine → ℕ
 instructions routines = sum_by (λ r. length r.code) routines
 
--- Each routine keeps to its limits, and all together have at most 8,192 instructions.
-pub record RoutinesFit (routines : List Routine) : Type 0 where
-  pub each : All RoutineFits routines
-  pub together : instructions routines ≤ 8192
+-- How many instructions all routines may have together.
+abbrev pub code_limit : ℕ → ℕ
+code_limit version = if version == 1 then 8192 else 65535
+
+-- Each routine keeps to its limits, and so do all together.
+pub record RoutinesFit (version : ℕ) (routines : List Routine) : Type 0 where
+  pub each : All (RoutineFits version) routines
+  pub together : instructions routines ≤ code_limit version
 
 -- The limits of an image, and its distinct names.
 pub record Fits (p : ImageParts) : Type 0 where
+  pub version : IsVersion p.version
   pub budgets : BudgetsFit p.budgets
   pub counts : CountsFit p
   pub interfaces : NamesFit p.interfaces
   pub tests : All TestFits p.tests
   pub commands : All TextFits p.commands
   pub states : StatesFit p.states
-  pub routines : RoutinesFit p.routines
+  pub routines : RoutinesFit p.version p.routines
 
 -- A handler's routines and its mask fit their fields.
 pub record HandlersInRange (h : Handlers) : Type 0 where
@@ -83,7 +99,13 @@ pub record StateInRange (s : StateSpec) : Type 0 where
   pub name : IsUtf8 s.name
   pub handlers : HandlersInRange s.handlers
 
--- What the types of the parts give for nothing, beyond the limits: numbers fit their fields, texts are UTF-8.
+-- At most four kinds are taken and left, and each operand fits its field.
+pub record RoutineInRange (r : Routine) : Type 0 where
+  pub params : length r.params.items ≤ 4
+  pub results : length r.results.items ≤ 4
+  pub code : All HasSpelling r.code
+
+-- What the types of the parts give for nothing, beyond the limits: numbers and lists of kinds fit their fields, texts are UTF-8.
 pub record InRange (p : ImageParts) : Type 0 where
   pub initial : p.initial.0 < 2 ^ 16
   pub always : HandlersInRange p.always
@@ -91,4 +113,4 @@ pub record InRange (p : ImageParts) : Type 0 where
   pub tests : All (λ t. IsUtf8 t.text) p.tests
   pub commands : All IsUtf8 p.commands
   pub states : All StateInRange p.states
-  pub routines : All (λ r. All HasSpelling r.code) p.routines
+  pub routines : All RoutineInRange p.routines

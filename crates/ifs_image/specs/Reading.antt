@@ -1,12 +1,14 @@
 -- Reading an image from the left, field by field down its table: to the image, or to the first fault.
 use Rattle.std.specs.Prelude.{ℕ, zero, suc, ◌+◌, ◌-◌, min, Bool, ◌&&◌, ◌||◌, not, ◌==◌, nat_lt, if◌then◌else◌}
-use Rattle.std.specs.Prelude.{List, [], ◌∷◌, ◌++◌, length, take, drop, slice_index, Result, Ok, Err, codes}
+use Rattle.std.specs.Prelude.{List, [], ◌∷◌, ◌++◌, length, take, drop, replicate, slice_index, Result, Ok, Err, codes}
 use Rattle.std.specs.Int.{Width, w16, w32, w64, byte_len, from_be_bytes}
 use Rattle.std.specs.List.{list_any}
 use Rattle.std.specs.Option.{ok_or}
 use Rattle.std.specs.Str.{bytes_eq, is_utf8}
+use Rattle.ifs_base.specs.declared.op.Kind.{Kind}
+use Rattle.ifs_base.specs.declared.op.Kind.TheVariants.{Truth}
 use Rattle.ifs_base.specs.declared.op.Op.{Op}
-use Rattle.ifs_base.specs.Spelling.{op_of}
+use Rattle.ifs_base.specs.Spelling.{op_of, kind_of_code}
 use Rattle.ifs_base.specs.Results.{◌>>=◌}
 use Rattle.ifs_image.specs.declared.fault.ImageFault.{ImageFault}
 use Rattle.ifs_image.specs.declared.fault.ImageFault.TheVariants.{Truncated, WrongMagic, WrongVersion, OutOfLimit}
@@ -18,7 +20,7 @@ use Rattle.ifs_image.specs.declared.parts.TestSpec.{TestSpec}
 use Rattle.ifs_image.specs.declared.parts.StateSpec.{StateSpec}
 use Rattle.ifs_image.specs.declared.parts.Routine.{Routine}
 use Rattle.ifs_image.specs.declared.parts.ImageParts.{ImageParts}
-use Rattle.ifs_image.specs.Limits.{names_of, instructions}
+use Rattle.ifs_image.specs.Limits.{names_of, instructions, code_limit}
 
 -- A place in the bytes: how many stand before it, and those that are left.
 pub record Cursor : Type 0 where
@@ -60,11 +62,11 @@ magic_at p = do
   bytes ← bytes_at 4 p
   if bytes_eq bytes.0 (codes "IFSV") then Ok (tt, bytes.1) else Err (WrongMagic p.at)
 
--- The version, 1.
-unfoldable pub version_at : Cursor → Read (Unit {0})
+-- The version, 1 or 2.
+unfoldable pub version_at : Cursor → Read ℕ
 version_at p = do
   version ← byte_at p
-  if version.0 == 1 then Ok (tt, version.1) else Err (WrongVersion p.at)
+  if (version.0 == 1) || (version.0 == 2) then Ok version else Err (WrongVersion p.at)
 
 -- What one event may use at most.
 unfoldable pub budgets_at : Cursor → Read Budgets
@@ -154,23 +156,55 @@ items_at entry (suc n) before p = do
   x ← entry before p
   items_at entry n (before ++ x.0 ∷ []) x.1
 
--- How many results a routine has, at most one.
-unfoldable pub results_at : Cursor → Read ℕ
-results_at p = do
+-- A number of one byte, up to a limit.
+unfoldable pub byte_within : ℕ → Cursor → Read ℕ
+byte_within most p = do
   n ← byte_at p
-  if nat_lt 1 n.0 then Err (OutOfLimit p.at) else Ok n
+  if nat_lt most n.0 then Err (OutOfLimit p.at) else Ok n
+
+-- A kind of values.
+unfoldable pub kind_at : Cursor → Read Kind
+kind_at p = do
+  code ← byte_at p
+  kind ← ok_or (kind_of_code code.0) (OutOfLimit p.at)
+  Ok (kind, code.1)
+
+-- A number of kinds, at most four, and the kinds, the topmost last.
+unfoldable pub kinds_at : Cursor → Read (List Kind)
+kinds_at p = do
+  n ← byte_within 4 p
+  items_at (λ _. kind_at) n.0 [] n.1
+
+-- A number of truths, at most one.
+unfoldable pub truths_at : Cursor → Read (List Kind)
+truths_at p = do
+  n ← byte_within 1 p
+  Ok (replicate n.0 Truth, n.1)
+
+-- What a routine takes: version 1 says nothing of it.
+unfoldable pub params_at : ℕ → Cursor → Read (List Kind)
+params_at version p = if version == 1 then Ok ([], p) else kinds_at p
+
+-- What a routine leaves: in version 1 a number of truths.
+unfoldable pub results_at : ℕ → Cursor → Read (List Kind)
+results_at version p = if version == 1 then truths_at p else kinds_at p
 
 -- A routine, where there is room for so many instructions.
-unfoldable pub routine_at : ℕ → Cursor → Read Routine
-routine_at room p = do
-  results ← results_at p
+unfoldable pub routine_at : ℕ → ℕ → Cursor → Read Routine
+routine_at version room p = do
+  params ← params_at version p
+  results ← results_at version params.1
   n ← number_within w16 0 (min room 1024) results.1
   code ← items_at (λ _. instruction_at) n.0 [] n.1
-  Ok (record { results = results.0; code = code.0 }, code.1)
+  Ok (record { params = record { items = params.0 }; results = record { items = results.0 }; code = code.0 }, code.1)
 
 -- The room that routines leave to those after them.
-abbrev pub room_after : List Routine → ℕ
-room_after before = 8192 - instructions before
+abbrev pub room_after : ℕ → List Routine → ℕ
+room_after version before = code_limit version - instructions before
+
+-- A routine after those before it.
+abbrev pub routine_after : ℕ → List Routine → Cursor → Read Routine
+routine_after version before = routine_at version (room_after version before)
 
 -- The fields before the tables.
 unfoldable pub head_at : Cursor → Read (Unit {0})
@@ -196,8 +230,8 @@ parts_at p = do
   tests ← items_at (λ _. test_at) counts.0.tests [] interfaces.1
   commands ← items_at (λ _. text_at) counts.0.commands [] tests.1
   states ← items_at state_at counts.0.states [] commands.1
-  routines ← items_at (λ before. routine_at (room_after before)) counts.0.routines [] states.1
-  Ok (record { budgets = budgets.0; initial = record { 0 = initial.0 }; always = always.0; interfaces = interfaces.0; tests = tests.0; commands = commands.0; states = states.0; routines = routines.0 }, routines.1)
+  routines ← items_at (routine_after version.0) counts.0.routines [] states.1
+  Ok (record { version = version.0; budgets = budgets.0; initial = record { 0 = initial.0 }; always = always.0; interfaces = interfaces.0; tests = tests.0; commands = commands.0; states = states.0; routines = routines.0 }, routines.1)
 
 -- The image that all of the bytes spell, or the first fault.
 unfoldable pub image_of : List ℕ → Result ImageParts ImageFault

@@ -1,8 +1,9 @@
 -- The bytes of an image, down the table of the format in its order.
-use Rattle.std.specs.Prelude.{◌≡◌, ℕ, List, [], ◌∷◌, ◌++◌, length, codes}
+use Rattle.std.specs.Prelude.{◌≡◌, ℕ, ◌==◌, if◌then◌else◌, List, [], ◌∷◌, ◌++◌, length, map, codes}
 use Rattle.std.specs.Int.{w16, w32, w64, to_be_bytes}
 use Rattle.std.specs.List.{flat_map}
-use Rattle.ifs_base.specs.Spelling.{spelling}
+use Rattle.ifs_base.specs.declared.op.Kind.{Kind}
+use Rattle.ifs_base.specs.Spelling.{spelling, code_of_kind}
 use Rattle.ifs_image.specs.declared.parts.Budgets.{Budgets}
 use Rattle.ifs_image.specs.declared.parts.Counts.{Counts}
 use Rattle.ifs_image.specs.declared.parts.Handlers.{Handlers}
@@ -13,8 +14,8 @@ use Rattle.ifs_image.specs.declared.parts.ImageParts.{ImageParts}
 use Rattle.ifs_image.specs.Limits.{Fits, InRange}
 
 -- Magic and version.
-unfoldable pub front_bytes : List ℕ
-front_bytes = codes "IFSV" ++ 1 ∷ []
+unfoldable pub front_bytes : ℕ → List ℕ
+front_bytes version = codes "IFSV" ++ version ∷ []
 
 -- Stack, frames, cost, commands.
 unfoldable pub budgets_bytes : Budgets → List ℕ
@@ -40,9 +41,23 @@ test_bytes t = to_be_bytes w32 t.period ++ text_bytes t.text
 unfoldable pub state_bytes : StateSpec → List ℕ
 state_bytes s = text_bytes s.name ++ handlers_bytes s.handlers
 
--- Results, number of instructions, instructions.
-unfoldable pub routine_bytes : Routine → List ℕ
-routine_bytes r = (r.results ∷ []) ++ to_be_bytes w16 (length r.code) ++ flat_map spelling r.code
+-- Number of kinds, kinds.
+unfoldable pub kinds_bytes : List Kind → List ℕ
+kinds_bytes kinds = length kinds ∷ map code_of_kind kinds
+
+-- What a routine takes, which version 1 does not spell.
+unfoldable pub params_bytes : ℕ → List Kind → List ℕ
+params_bytes version params = if version == 1 then [] else kinds_bytes params
+
+-- What a routine leaves: in version 1 the number alone.
+unfoldable pub results_bytes : ℕ → List Kind → List ℕ
+results_bytes version results = if version == 1 then length results ∷ [] else kinds_bytes results
+
+-- Parameters, results, number of instructions, instructions.
+unfoldable pub routine_bytes : ℕ → Routine → List ℕ
+routine_bytes version r =
+    params_bytes version r.params.items ++ results_bytes version r.results.items
+    ++ to_be_bytes w16 (length r.code) ++ flat_map spelling r.code
 
 -- How many entries each table of an image has.
 abbrev pub counts : ImageParts → Counts
@@ -51,9 +66,9 @@ counts p = record { interfaces = length p.interfaces; tests = length p.tests; co
 -- The spelling of an image.
 unfoldable pub image_bytes : ImageParts → List ℕ
 image_bytes p =
-    front_bytes ++ budgets_bytes p.budgets ++ counts_bytes (counts p) ++ to_be_bytes w16 p.initial.0 ++ handlers_bytes p.always
+    front_bytes p.version ++ budgets_bytes p.budgets ++ counts_bytes (counts p) ++ to_be_bytes w16 p.initial.0 ++ handlers_bytes p.always
     ++ flat_map text_bytes p.interfaces ++ flat_map test_bytes p.tests ++ flat_map text_bytes p.commands
-    ++ flat_map state_bytes p.states ++ flat_map routine_bytes p.routines
+    ++ flat_map state_bytes p.states ++ flat_map (routine_bytes p.version) p.routines
 
 -- Bytes spell an image that keeps to its limits.
 pub record Spells (bytes : List ℕ) (p : ImageParts) : Type 0 where

@@ -41,6 +41,7 @@ fn image_copied(alloc: Global, lent: &ImageView<'_>) -> Result<Image, AllocError
 {
     let parts = lent.parts();
     Ok(Image::new(ImageParts {
+        version: parts.version,
         budgets: parts.budgets,
         initial: parts.initial,
         always: parts.always,
@@ -120,7 +121,8 @@ fn routine_copied(alloc: Global, routine: &LentRoutine<'_>) -> Result<Routine, A
     ensures { IfOk result (λ copied. copied ≡ routine.now) }
 {
     Ok(Routine {
-        results: routine.results,
+        params: routine.params.clone()?,
+        results: routine.results.clone()?,
         code: code_copied(alloc, &routine.code)?,
     })
 }

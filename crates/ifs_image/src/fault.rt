@@ -16,10 +16,10 @@ pub enum ImageFault {
     /// I2: the first four bytes are not `IFSV`.
     #[error("I2 byte {at}")]
     WrongMagic { at: usize },
-    /// I3: a version other than 1.
+    /// I3: a version other than 1 and 2.
     #[error("I3 byte {at}")]
     WrongVersion { at: usize },
-    /// I4: a number over or under its limit.
+    /// I4: a number over or under its limit, or a byte that is no kind.
     #[error("I4 byte {at}")]
     OutOfLimit { at: usize },
     /// I5: a text of 0 or over 1,024 bytes, at its length; or one that is not UTF-8 or has a NUL, at its first byte.

@@ -4,13 +4,13 @@ ghost use Rattle.std.specs.Prelude.{◌≡◌, ◌≤◌, ◌/◌, ◌==◌, len
 ghost use Rattle.std.specs.Simd.{first_chunks};
 ghost use Rattle.std.specs.Int.{w16, w32, w64};
 ghost use Rattle.ifs_image.specs.Reading.{bytes_at, byte_at, number_at, number_within, length_at};
-ghost use Rattle.ifs_image.specs.Reading.{is_text, text_sized, text_at, instruction_at};
+ghost use Rattle.ifs_image.specs.Reading.{is_text, text_sized, text_at, instruction_at, byte_within, kind_at};
 ghost use Rattle.ifs_image.specs.Answers.{Gives, GivesAtOnce, GivesAtOnceBy};
 
 use crate::fault::ImageFault;
 use crate::lent::LentText;
 use crate::limits;
-use ifs_base::{Op, decode_op};
+use ifs_base::{Kind, Op, decode_kind, decode_op};
 use std::marker::Model;
 
 /// The bytes of an image that are not read yet, and how many were.
@@ -118,6 +118,20 @@ impl<'a> Reader<'a> {
         Ok(u64::from_be_bytes([a, b, c, d, e, f, g, h]))
     }
 
+    /// A number of one byte, up to `most`; I4 over it.
+    #[tactic(auto, unfolding(crate::specs::Reading::byte_within))]
+    pub fn u8_within(&mut self, most: u8) -> Result<u8, ImageFault>
+        ensures given { GivesAtOnce result self.new (byte_within most self.old) }
+        ensures within { IfOk result (λ number. number ≤ most) }
+    {
+        let at = self.at;
+        let number = self.u8()?;
+        if most < number {
+            return Err(ImageFault::OutOfLimit { at });
+        }
+        Ok(number)
+    }
+
     /// A number of two bytes from `least` to `most`; I4 outside.
     #[tactic(auto, unfolding(crate::specs::Reading::number_within))]
     pub fn u16_within(&mut self, least: u16, most: u16) -> Result<u16, ImageFault>
@@ -187,6 +201,18 @@ impl<'a> Reader<'a> {
     {
         let rest = self.rest;
         rest.as_chunks::<4>().0
+    }
+
+    /// A kind of values; I4 where the byte is none.
+    #[tactic(auto, unfolding(crate::specs::Reading::kind_at))]
+    pub fn kind(&mut self) -> Result<Kind, ImageFault>
+        ensures { GivesAtOnce result self.new (kind_at self.old) }
+    {
+        let at = self.at;
+        match decode_kind(self.u8()?) {
+            Some(kind) => Ok(kind),
+            None => Err(ImageFault::OutOfLimit { at }),
+        }
     }
 
     /// An instruction; I8 where the four bytes spell none.

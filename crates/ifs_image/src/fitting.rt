@@ -1,8 +1,10 @@
 //! Whether parts keep to the limits of the format.
 
-ghost use Rattle.std.specs.Prelude.{◌≡◌, ◌↔◌, ◌≤◌, IsTrue};
-ghost use Rattle.ifs_image.specs.Limits.{Fits, BudgetsFit, CountsFit, TestFits, RoutineFits, RoutinesFit};
-ghost use Rattle.ifs_image.specs.Limits.{NamesFit, StatesFit, AreDistinct, names_of, instructions};
+ghost use Rattle.std.specs.Prelude.{◌≡◌, ◌↔◌, ◌≤◌, ◌⊎◌, [], ◌∷◌, IsTrue};
+ghost use Rattle.ifs_image.specs.Limits.{Fits, IsVersion, BudgetsFit, CountsFit, TestFits, IsPlain, RoutineFits, RoutinesFit};
+ghost use Rattle.ifs_image.specs.Limits.{NamesFit, StatesFit, AreDistinct, names_of, instructions, code_limit};
+ghost use Rattle.ifs_base.specs.declared.op.Kind.{Kind};
+ghost use Rattle.ifs_base.specs.declared.op.Kind.TheVariants.{Truth};
 ghost use Rattle.ifs_base.specs.Sizes.{TextFits};
 ghost use Rattle.std.specs.List.{list_any};
 ghost use Rattle.std.specs.Str.{bytes_eq};
@@ -10,20 +12,21 @@ ghost use Rattle.ifs_image.specs.Reading.{stands_in};
 
 use crate::limits;
 use crate::parts::{Budgets, ImageParts, Routine, StateSpec, TestSpec};
-use ifs_base::Text;
+use ifs_base::{Kind, Text};
 
 impl ImageParts {
     /// Whether all limits hold, and no two interfaces and no two states have one name.
     pub fn fits(&self) -> bool
         ensures { IsTrue result ↔ Fits self.now }
     {
-        self.budgets.fit()
+        is_version(self.version)
+            && self.budgets.fit()
             && self.counts_fit()
             && names_fit(self.interfaces.as_slice())
             && self.tests.as_slice().iter().all(test_fits)
             && self.commands.as_slice().iter().all(text_fits)
             && states_fit(self.states.as_slice())
-            && routines_fit(self.routines.as_slice())
+            && routines_fit(self.version, self.routines.as_slice())
     }
 
     fn counts_fit(&self) -> bool
@@ -61,10 +64,34 @@ fn test_fits(test: &TestSpec) -> bool
     limits::period_fits(test.period) && text_fits(&test.text)
 }
 
-fn routine_fits(routine: &Routine) -> bool
-    ensures { IsTrue result ↔ RoutineFits routine.now }
+fn is_version(version: u8) -> bool
+    ensures { IsTrue result ↔ IsVersion version }
 {
-    routine.results <= limits::RESULTS && routine.code.len() <= usize::from(limits::CODE_OF_ROUTINE)
+    1 <= version && version <= limits::VERSIONS
+}
+
+fn routine_fits(version: u8, routine: &Routine) -> bool
+    ensures { IsTrue result ↔ RoutineFits version routine.now }
+{
+    (version == 2 || is_plain(routine))
+        && routine.code.len() <= usize::from(limits::CODE_OF_ROUTINE)
+}
+
+/// Whether a routine takes nothing, and leaves nothing or one truth.
+fn is_plain(routine: &Routine) -> bool
+    ensures { IsTrue result ↔ IsPlain routine.now }
+{
+    routine.params.is_empty() && are_truths(routine.results.as_slice())
+}
+
+/// Whether kinds are none, or one truth.
+fn are_truths(kinds: &[Kind]) -> bool
+    ensures { IsTrue result ↔ ((kinds.now ≡ []) ⊎ (kinds.now ≡ Truth ∷ [])) }
+{
+    match kinds {
+        [] | [Kind::Truth] => true,
+        _ => false,
+    }
 }
 
 /// Whether a name stands in a table.
@@ -99,10 +126,13 @@ fn states_fit(states: &[StateSpec]) -> bool
     states.iter().all(|state| text_fits(&state.name)) && have_distinct_names(states)
 }
 
-fn routines_fit(routines: &[Routine]) -> bool
-    ensures { IsTrue result ↔ RoutinesFit routines.now }
+fn routines_fit(version: u8, routines: &[Routine]) -> bool
+    ensures { IsTrue result ↔ RoutinesFit version routines.now }
 {
-    routines.iter().all(routine_fits) && code_fits(routines)
+    routines
+        .iter()
+        .all(|routine| routine_fits(version, routine))
+        && code_fits(version, routines)
 }
 
 fn are_distinct(names: &[Text]) -> bool
@@ -128,10 +158,10 @@ fn have_distinct_names(states: &[StateSpec]) -> bool
 }
 
 /// Whether all routines together are within their limit; stops at the first that passes it.
-fn code_fits(routines: &[Routine]) -> bool
-    ensures { IsTrue result ↔ (instructions routines.now ≤ 8192) }
+fn code_fits(version: u8, routines: &[Routine]) -> bool
+    ensures { IsTrue result ↔ (instructions routines.now ≤ code_limit version) }
 {
-    let mut room = usize::from(limits::CODE_OF_IMAGE);
+    let mut room = usize::from(limits::code_of_image(version));
     for routine in routines {
         let length = routine.code.len();
         if room < length {

@@ -1,6 +1,7 @@
 //! An image in memory.
 
 ghost use Rattle.std.specs.Prelude.{◌≡◌};
+ghost use Rattle.ifs_image.specs.Upgrade.{upgraded};
 
 use crate::parts::ImageParts;
 use std::marker::Model;
@@ -40,4 +41,16 @@ impl Image {
     {
         &self.parts
     }
+}
+
+/// The image of version 2 that says what an image says: an image of version 2 is itself. Takes no memory.
+pub fn upgrade(image: Image) -> Image
+    ensures value { result ≡ upgraded image }
+    ensures same { image.version ≡ 2 → result ≡ image }
+{
+    let Image { parts } = image;
+    Image::new(ImageParts {
+        version: 2,
+        ..parts
+    })
 }

@@ -1,12 +1,12 @@
 //! An image that lies in its bytes.
 
-ghost use Rattle.std.specs.Prelude.{◌≡◌, ◌<◌, Some, IfSome, length, slice_get, option_map, position};
+ghost use Rattle.std.specs.Prelude.{◌≡◌, ◌<◌, ◌≤◌, Some, IfSome, length, slice_get, option_map, position};
 ghost use Rattle.std.specs.Str.{bytes_eq};
 ghost use Rattle.ifs_image.specs.Code.{code_of, op_at};
 
 use crate::lent::{LentCode, LentParts, LentText};
 use crate::parts::{Budgets, Handlers};
-use ifs_base::{Op, StateId};
+use ifs_base::{Kind, Op, StateId};
 use std::marker::Model;
 
 /// An image, seen as its parts, whose texts and instructions lie in its bytes. They keep to the limits of the format,
@@ -44,6 +44,13 @@ impl<'a> ImageView<'a> {
         ensures fits { Fits self.now }
     {
         &self.parts
+    }
+
+    /// The version of the format, 1 or 2.
+    pub fn version(&self) -> u8
+        ensures { result ≡ self.now.version }
+    {
+        self.parts.version
     }
 
     /// What one event may use at most, as the image states it.
@@ -164,13 +171,24 @@ impl<'a> ImageView<'a> {
         self.parts.routines.len()
     }
 
-    /// How many truths a routine that is in the table leaves on the stack, 0 or 1.
-    pub fn results(&self, index: usize) -> u8
+    /// The kinds that a routine that is in the table takes, at most 4, the topmost last.
+    pub fn params(&self, index: usize) -> &[Kind]
         requires { index < length self.now.routines }
-        ensures { option_map (λ routine. routine.results) (slice_get self.now.routines index) ≡ Some result }
+        ensures value { option_map (λ routine. routine.params.items) (slice_get self.now.routines index) ≡ Some result.now }
+        ensures few { length result.now ≤ 4 }
     {
         let routine = &self.parts.routines.as_slice()[index];
-        routine.results
+        routine.params.as_slice()
+    }
+
+    /// The kinds that a routine that is in the table leaves, at most 4, the topmost last.
+    pub fn results(&self, index: usize) -> &[Kind]
+        requires { index < length self.now.routines }
+        ensures value { option_map (λ routine. routine.results.items) (slice_get self.now.routines index) ≡ Some result.now }
+        ensures few { length result.now ≤ 4 }
+    {
+        let routine = &self.parts.routines.as_slice()[index];
+        routine.results.as_slice()
     }
 
     /// The code of a routine that is in the table, at most 1,024 instructions.

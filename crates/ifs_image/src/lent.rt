@@ -5,7 +5,7 @@ ghost use Rattle.ifs_base.specs.Spelling.{op_of};
 ghost use Rattle.ifs_image.specs.Lent.{ops_in, IsInstruction};
 
 use crate::decoding::known_op;
-use crate::parts::{Budgets, Handlers};
+use crate::parts::{Budgets, Handlers, Kinds};
 use ifs_base::{Items, Op, StateId};
 use std::marker::Model;
 
@@ -156,8 +156,10 @@ impl<'a> LentCode<'a> {
 /// A routine whose code lies in bytes. Clauses see the routine.
 #[derive(Debug, Drop)]
 pub struct LentRoutine<'a> {
-    /// How many truths it leaves on the stack, 0 or 1.
-    pub results: u8,
+    /// The kinds that it takes, at most 4, the topmost last.
+    pub params: Kinds,
+    /// The kinds that it leaves, at most 4, the topmost last.
+    pub results: Kinds,
     /// Its instructions.
     pub code: LentCode<'a>,
 }
@@ -167,12 +169,13 @@ impl<'a> Model for LentRoutine<'a> {
 
     ghost Value = { Routine };
 
-    ghost view = { λ r. record { results = r.results; code = r.code } };
+    ghost view = { λ r. record { params = r.params; results = r.results; code = r.code } };
 }
 
 /// All that an image says, with texts and code that lie in its bytes. Clauses see the image.
 #[derive(Debug, Drop)]
 pub struct LentParts<'a> {
+    pub version: u8,
     pub budgets: Budgets,
     pub initial: StateId,
     pub always: Handlers,
@@ -189,6 +192,7 @@ impl<'a> Model for LentParts<'a> {
     ghost Value = { ImageParts };
 
     ghost view = { λ p. record {
+      version = p.version;
       budgets = p.budgets;
       initial = p.initial;
       always = p.always;

@@ -23,9 +23,9 @@ mod writing;
 
 pub use copying::read;
 pub use fault::ImageFault;
-pub use image::Image;
+pub use image::{Image, upgrade};
 pub use image_view::ImageView;
 pub use lent::LentCode;
-pub use parts::{Budgets, Handlers, ImageParts, Routine, StateSpec, TestSpec};
+pub use parts::{Budgets, Handlers, ImageParts, Kinds, Routine, StateSpec, TestSpec};
 pub use reading::view;
 pub use writing::write;

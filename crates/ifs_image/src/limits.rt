@@ -1,5 +1,8 @@
 //! The limits of an image, beside those that it shares with texts.
 
+ghost use Rattle.std.specs.Prelude.{◌≡◌};
+ghost use Rattle.ifs_image.specs.Limits.{code_limit};
+
 pub use ifs_base::limits::{
     COMMANDS, INTERFACES, PERIOD, STATES, TESTS, TEXT, period_fits, text_fits,
 };
@@ -22,8 +25,18 @@ pub const ROUTINES: u16 = 1_024;
 /// Instructions of one routine.
 pub const CODE_OF_ROUTINE: u16 = 1_024;
 
-/// Instructions of all routines together.
-pub const CODE_OF_IMAGE: u16 = 8_192;
+/// Versions of the format, of which the first is 1.
+pub const VERSIONS: u8 = 2;
 
-/// Results of a routine: none, or one truth.
-pub const RESULTS: u8 = 1;
+/// Results of a routine in version 1: none, or one truth.
+pub const TRUTHS: u8 = 1;
+
+/// Parameters of a routine in version 2, and results.
+pub const KINDS: u8 = 4;
+
+/// Instructions of all routines together, by the version of the format.
+pub fn code_of_image(version: u8) -> u16
+    ensures { result ≡ code_limit version }
+{
+    if version == 1 { 8_192 } else { 65_535 }
+}

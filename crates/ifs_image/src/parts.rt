@@ -1,6 +1,7 @@
 //! What an image is made of.
 
-use ifs_base::{Items, Op, RoutineId, StateId, Text};
+use arrayvec::ArrayVec;
+use ifs_base::{Items, Kind, Op, RoutineId, StateId, Text};
 
 /// What one event may use at most, as the image states it.
 #[derive(Clone, Copy, Debug, PartialEq, Eq)]
@@ -54,11 +55,16 @@ pub struct StateSpec {
     pub handlers: Handlers,
 }
 
+/// Kinds of values, at most 4, the topmost last.
+pub type Kinds = ArrayVec<Kind, 4>;
+
 /// A routine of byte code.
 #[derive(Debug, Drop)]
 pub struct Routine {
-    /// How many truths it leaves on the stack, 0 or 1.
-    pub results: u8,
+    /// The kinds that it takes off its caller's list, at most 4, the topmost last. None in version 1.
+    pub params: Kinds,
+    /// The kinds that it leaves, at most 4, the topmost last. In version 1 none, or one truth.
+    pub results: Kinds,
     /// Its instructions, at most 1,024.
     pub code: Items<Op>,
 }
@@ -66,6 +72,8 @@ pub struct Routine {
 /// All that an image says.
 #[derive(Debug, Drop)]
 pub struct ImageParts {
+    /// The version of the format, 1 or 2.
+    pub version: u8,
     pub budgets: Budgets,
     /// The state that a policy starts in.
     pub initial: StateId,
@@ -79,6 +87,6 @@ pub struct ImageParts {
     pub commands: Items<Text>,
     /// From 1 to 256, each name once.
     pub states: Items<StateSpec>,
-    /// At most 1,024, with at most 8,192 instructions together.
+    /// At most 1,024, with at most 8,192 instructions together in version 1, and 65,535 in version 2.
     pub routines: Items<Routine>,
 }

@@ -6,21 +6,22 @@ ghost use Rattle.ifs_image.specs.declared.parts.ImageParts.{ImageParts};
 ghost use Rattle.ifs_image.specs.declared.fault.ImageFault.TheVariants.{Memory};
 ghost use Rattle.ifs_image.specs.Spelling.{Spells};
 ghost use Rattle.ifs_image.specs.Reading.{magic_at, version_at, budgets_at, counts_at, handlers_at};
-ghost use Rattle.ifs_image.specs.Reading.{name_at, test_at, state_at, text_at, instruction_at, results_at};
-ghost use Rattle.ifs_image.specs.Reading.{routine_at, room_after, items_at, parts_at, head_at, image_of, cursor};
+ghost use Rattle.ifs_image.specs.Reading.{name_at, test_at, state_at, text_at, instruction_at};
+ghost use Rattle.ifs_image.specs.Reading.{kind_at, kinds_at, truths_at, params_at, results_at, routine_at, routine_after};
+ghost use Rattle.ifs_image.specs.Reading.{items_at, parts_at, head_at, image_of, cursor};
 ghost use Rattle.ifs_image.specs.Reading.{stands_in};
 ghost use Rattle.ifs_image.specs.Limits.{names_of};
 ghost use Rattle.std.specs.List.{list_any};
 ghost use Rattle.std.specs.Str.{bytes_eq};
-ghost use Rattle.ifs_image.specs.Answers.{Gives, GivesAtOnce, Answers, RefusesHead};
+ghost use Rattle.ifs_image.specs.Answers.{Gives, GivesAtOnce, GivesAtOnceBy, Answers, RefusesHead};
 
 use crate::fault::ImageFault;
 use crate::fields::Reader;
 use crate::image_view::ImageView;
 use crate::lent::{LentCode, LentParts, LentRoutine, LentState, LentTest, LentText};
 use crate::limits;
-use crate::parts::{Budgets, Counts, Handlers};
-use ifs_base::{Items, RoutineId, StateId};
+use crate::parts::{Budgets, Counts, Handlers, Kinds};
+use ifs_base::{Items, Kind, RoutineId, StateId};
 use std::alloc::Global;
 
 /// The image that the bytes spell, all of them, where it lies in them: texts and instructions are lent and not copied.
@@ -53,7 +54,7 @@ fn parts_of<'a>(alloc: Global, reader: &mut Reader<'a>) -> Result<LentParts<'a>,
     ensures at_once { RefusesHead result reader.old }
 {
     magic_of(reader)?;
-    version_of(reader)?;
+    let version = version_of(reader)?;
     let budgets = budgets_of(reader)?;
     let counts = counts_of(reader)?;
     let initial = StateId(reader.u16()?);
@@ -62,8 +63,9 @@ fn parts_of<'a>(alloc: Global, reader: &mut Reader<'a>) -> Result<LentParts<'a>,
     let tests = tests_of(alloc, reader, counts.tests)?;
     let commands = commands_of(alloc, reader, counts.commands)?;
     let states = states_of(alloc, reader, counts.states)?;
-    let routines = routines_of(alloc, reader, counts.routines)?;
+    let routines = routines_of(alloc, reader, version, counts.routines)?;
     Ok(LentParts {
+        version,
         budgets,
         initial,
         always,
@@ -87,14 +89,15 @@ fn magic_of(reader: &mut Reader<'_>) -> Result<(), ImageFault>
 }
 
 #[tactic(auto, unfolding(crate::specs::Reading::version_at))]
-fn version_of(reader: &mut Reader<'_>) -> Result<(), ImageFault>
+fn version_of(reader: &mut Reader<'_>) -> Result<u8, ImageFault>
     ensures { GivesAtOnce result reader.new (version_at reader.old) }
 {
     let at = reader.at();
-    if reader.u8()? != 1 {
+    let version = reader.u8()?;
+    if version != 1 && version != limits::VERSIONS {
         return Err(ImageFault::WrongVersion { at });
     }
-    Ok(())
+    Ok(version)
 }
 
 #[tactic(auto, unfolding(crate::specs::Reading::budgets_at))]
@@ -247,43 +250,95 @@ fn states_of<'a>(
 
 /// A routine, where there is room for so many instructions.
 #[tactic(auto, unfolding(crate::specs::Reading::routine_at))]
-fn routine_of<'a>(reader: &mut Reader<'a>, room: u16) -> Result<LentRoutine<'a>, ImageFault>
-    ensures given { Gives result reader.new (routine_at room reader.old) }
+fn routine_of<'a>(
+    reader: &mut Reader<'a>,
+    version: u8,
+    room: u16,
+) -> Result<LentRoutine<'a>, ImageFault>
+    ensures given { Gives result reader.new (routine_at version room reader.old) }
     ensures room { IfOk result (λ routine. length routine.code ≤ room) }
 {
-    let results = results_of(reader)?;
+    let params = params_of(reader, version)?;
+    let results = results_of(reader, version)?;
     let length = reader.u16_within(0, room.min(limits::CODE_OF_ROUTINE))?;
     let code = code_of(reader, length)?;
-    Ok(LentRoutine { results, code })
+    Ok(LentRoutine {
+        params,
+        results,
+        code,
+    })
 }
 
 fn routines_of<'a>(
     alloc: Global,
     reader: &mut Reader<'a>,
+    version: u8,
     count: u16,
 ) -> Result<Items<LentRoutine<'a>>, ImageFault>
-    ensures { Gives result reader.new (items_at (λ before. routine_at (room_after before)) count [] reader.old) }
+    ensures { Gives result reader.new (items_at (routine_after version) count [] reader.old) }
 {
     let mut routines = Vec::new(alloc);
-    let mut room = limits::CODE_OF_IMAGE;
+    let mut room = limits::code_of_image(version);
     'entries: for _ in 0..count {
-        let routine = routine_of(reader, room)?;
+        let routine = routine_of(reader, version, room)?;
         room -= routine.code.len() as u16;
         routines.push(routine)?;
     }
     Ok(Items::new(routines))
 }
 
-#[tactic(auto, unfolding(crate::specs::Reading::results_at))]
-fn results_of(reader: &mut Reader<'_>) -> Result<u8, ImageFault>
-    ensures { Gives result reader.new (results_at reader.old) }
+/// What a routine takes.
+#[tactic(auto, unfolding(crate::specs::Reading::params_at))]
+fn params_of(reader: &mut Reader<'_>, version: u8) -> Result<Kinds, ImageFault>
+    ensures { GivesAtOnceBy (λ kinds. kinds.items) result reader.new (params_at version reader.old) }
 {
-    let at = reader.at();
-    let results = reader.u8()?;
-    if limits::RESULTS < results {
-        return Err(ImageFault::OutOfLimit { at });
+    if version == 1 {
+        return Ok(Kinds::new());
     }
-    Ok(results)
+    kinds_of(reader)
+}
+
+/// What a routine leaves.
+#[tactic(auto, unfolding(crate::specs::Reading::results_at))]
+fn results_of(reader: &mut Reader<'_>, version: u8) -> Result<Kinds, ImageFault>
+    ensures { GivesAtOnceBy (λ kinds. kinds.items) result reader.new (results_at version reader.old) }
+{
+    if version == 1 {
+        return truths_of(reader);
+    }
+    kinds_of(reader)
+}
+
+/// A number of truths.
+#[tactic(auto, unfolding(crate::specs::Reading::truths_at))]
+fn truths_of(reader: &mut Reader<'_>) -> Result<Kinds, ImageFault>
+    ensures { GivesAtOnceBy (λ kinds. kinds.items) result reader.new (truths_at reader.old) }
+{
+    let mut truths = Kinds::new();
+    if reader.u8_within(limits::TRUTHS)? == 1 {
+        truths.push(Kind::Truth);
+    }
+    Ok(truths)
+}
+
+/// A number of kinds, and the kinds.
+#[tactic(auto, unfolding(crate::specs::Reading::kinds_at))]
+fn kinds_of(reader: &mut Reader<'_>) -> Result<Kinds, ImageFault>
+    ensures { GivesAtOnceBy (λ kinds. kinds.items) result reader.new (kinds_at reader.old) }
+{
+    let count = reader.u8_within(limits::KINDS)?;
+    so_many_kinds(reader, count)
+}
+
+fn so_many_kinds(reader: &mut Reader<'_>, count: u8) -> Result<Kinds, ImageFault>
+    requires { count ≤ 4 }
+    ensures { GivesAtOnceBy (λ kinds. kinds.items) result reader.new (items_at (λ _. kind_at) count [] reader.old) }
+{
+    let mut kinds = Kinds::new();
+    'entries: for _ in 0..count {
+        kinds.push(reader.kind()?);
+    }
+    Ok(kinds)
 }
 
 fn code_of<'a>(reader: &mut Reader<'a>, count: u16) -> Result<LentCode<'a>, ImageFault>

@@ -1,17 +1,18 @@
 //! Image to bytes, field by field down the table of the format.
 
-ghost use Rattle.std.specs.Prelude.{◌≡◌, ◌++◌, ◌^◌, ◌<◌, All, OnOk, IfOk, IsUtf8};
+ghost use Rattle.std.specs.Prelude.{◌≡◌, ◌++◌, ◌^◌, ◌<◌, ◌≤◌, length, map, All, OnOk, IfOk, IsUtf8};
 ghost use Rattle.std.specs.Int.{w16, to_be_bytes};
 ghost use Rattle.std.specs.List.{flat_map};
-ghost use Rattle.ifs_base.specs.Spelling.{spelling, HasSpelling};
+ghost use Rattle.ifs_base.specs.Spelling.{spelling, HasSpelling, code_of_kind};
 ghost use Rattle.ifs_base.specs.Sizes.{TextFits};
-ghost use Rattle.ifs_image.specs.Limits.{CountsFit, TestFits, RoutineFits, HandlersInRange, StateInRange};
+ghost use Rattle.ifs_image.specs.Limits.{CountsFit, TestFits, RoutineFits, HandlersInRange, StateInRange, RoutineInRange};
 ghost use Rattle.ifs_image.specs.Spelling.{Spells, front_bytes, budgets_bytes, counts_bytes, counts, handlers_bytes};
-ghost use Rattle.ifs_image.specs.Spelling.{text_bytes, test_bytes, state_bytes, routine_bytes, image_bytes};
+ghost use Rattle.ifs_image.specs.Spelling.{text_bytes, test_bytes, state_bytes, image_bytes};
+ghost use Rattle.ifs_image.specs.Spelling.{kinds_bytes, params_bytes, results_bytes, routine_bytes};
 
 use crate::image::Image;
 use crate::parts::{Budgets, Handlers, ImageParts, Routine, StateSpec, TestSpec};
-use ifs_base::{Op, Text, encode_op};
+use ifs_base::{Kind, Op, Text, encode_kind, encode_op};
 use std::alloc::{AllocError, Global};
 
 /// The bytes of an image: its one spelling.
@@ -20,7 +21,7 @@ pub fn write(alloc: Global, image: &Image) -> Result<Vec<u8>, AllocError>
 {
     let parts = image.parts();
     let mut out = Vec::new(alloc);
-    put_front(&mut out)?;
+    put_front(&mut out, parts.version)?;
     put_budgets(&mut out, parts.budgets)?;
     put_counts(&mut out, parts)?;
     put_u16(&mut out, parts.initial.0)?;
@@ -29,7 +30,7 @@ pub fn write(alloc: Global, image: &Image) -> Result<Vec<u8>, AllocError>
     put_tests(&mut out, parts.tests.as_slice())?;
     put_texts(&mut out, parts.commands.as_slice())?;
     put_states(&mut out, parts.states.as_slice())?;
-    put_routines(&mut out, parts.routines.as_slice())?;
+    put_routines(&mut out, parts.version, parts.routines.as_slice())?;
     Ok(out)
 }
 
@@ -42,10 +43,11 @@ fn put_u16(out: &mut Vec<u8>, number: u16) -> Result<(), AllocError>
 }
 
 #[tactic(auto, unfolding(crate::specs::Spelling::front_bytes))]
-fn put_front(out: &mut Vec<u8>) -> Result<(), AllocError>
-    ensures { OnOk result (out.new.items ≡ out.old.items ++ front_bytes) }
+fn put_front(out: &mut Vec<u8>, version: u8) -> Result<(), AllocError>
+    ensures { OnOk result (out.new.items ≡ out.old.items ++ front_bytes version) }
 {
-    out.extend_from_slice(b"IFSV\x01")?;
+    out.extend_from_slice(b"IFSV")?;
+    out.push(version)?;
     Ok(())
 }
 
@@ -169,25 +171,70 @@ fn put_code(out: &mut Vec<u8>, code: &[Op]) -> Result<(), AllocError>
     Ok(())
 }
 
-#[tactic(auto, unfolding(crate::specs::Spelling::routine_bytes))]
-fn put_routine(out: &mut Vec<u8>, routine: &Routine) -> Result<(), AllocError>
-    requires { RoutineFits routine.now }
-    ensures bytes { OnOk result (out.new.items ≡ out.old.items ++ routine_bytes routine.now) }
-    ensures in_range { OnOk result (All HasSpelling routine.now.code) }
+/// What a routine takes.
+#[tactic(auto, unfolding(crate::specs::Spelling::params_bytes))]
+fn put_params(out: &mut Vec<u8>, version: u8, params: &[Kind]) -> Result<(), AllocError>
+    requires { length params.now ≤ 4 }
+    ensures { OnOk result (out.new.items ≡ out.old.items ++ params_bytes version params.now) }
 {
-    out.push(routine.results)?;
+    if version == 1 {
+        return Ok(());
+    }
+    put_kinds(out, params)
+}
+
+/// What a routine leaves.
+#[tactic(auto, unfolding(crate::specs::Spelling::results_bytes))]
+fn put_results(out: &mut Vec<u8>, version: u8, results: &[Kind]) -> Result<(), AllocError>
+    requires { length results.now ≤ 4 }
+    ensures { OnOk result (out.new.items ≡ out.old.items ++ results_bytes version results.now) }
+{
+    if version == 1 {
+        out.push(results.len() as u8)?;
+        return Ok(());
+    }
+    put_kinds(out, results)
+}
+
+#[tactic(auto, unfolding(crate::specs::Spelling::kinds_bytes))]
+fn put_kinds(out: &mut Vec<u8>, kinds: &[Kind]) -> Result<(), AllocError>
+    requires { length kinds.now ≤ 4 }
+    ensures { OnOk result (out.new.items ≡ out.old.items ++ kinds_bytes kinds.now) }
+{
+    out.push(kinds.len() as u8)?;
+    put_codes(out, kinds)?;
+    Ok(())
+}
+
+fn put_codes(out: &mut Vec<u8>, kinds: &[Kind]) -> Result<(), AllocError>
+    ensures { OnOk result (out.new.items ≡ out.old.items ++ map code_of_kind kinds.now) }
+{
+    for kind in kinds {
+        out.push(encode_kind(*kind))?;
+    }
+    Ok(())
+}
+
+#[tactic(auto, unfolding(crate::specs::Spelling::routine_bytes))]
+fn put_routine(out: &mut Vec<u8>, version: u8, routine: &Routine) -> Result<(), AllocError>
+    requires { RoutineFits version routine.now }
+    ensures bytes { OnOk result (out.new.items ≡ out.old.items ++ routine_bytes version routine.now) }
+    ensures in_range { OnOk result (RoutineInRange routine.now) }
+{
+    put_params(out, version, routine.params.as_slice())?;
+    put_results(out, version, routine.results.as_slice())?;
     put_u16(out, routine.code.len() as u16)?;
     put_code(out, routine.code.as_slice())?;
     Ok(())
 }
 
-fn put_routines(out: &mut Vec<u8>, routines: &[Routine]) -> Result<(), AllocError>
-    requires { All RoutineFits routines.now }
-    ensures bytes { OnOk result (out.new.items ≡ out.old.items ++ flat_map routine_bytes routines.now) }
-    ensures in_range { OnOk result (All (λ r. All HasSpelling r.code) routines.now) }
+fn put_routines(out: &mut Vec<u8>, version: u8, routines: &[Routine]) -> Result<(), AllocError>
+    requires { All (RoutineFits version) routines.now }
+    ensures bytes { OnOk result (out.new.items ≡ out.old.items ++ flat_map (routine_bytes version) routines.now) }
+    ensures in_range { OnOk result (All RoutineInRange routines.now) }
 {
     for routine in routines {
-        put_routine(out, routine)?;
+        put_routine(out, version, routine)?;
     }
     Ok(())
 }

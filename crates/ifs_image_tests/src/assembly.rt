@@ -2,7 +2,7 @@
 
 use ifs_asm::{assemble, disassemble};
 use ifs_image::{Image, read, write};
-use ifs_rows::{LARGEST_BYTES, bytes_of, images, largest_listing};
+use ifs_rows::{LARGEST_BYTES, bytes_of, images, largest_listing, rows, version_two};
 use std::alloc::{AllocError, Global};
 use std::process::Abort;
 use std::test::Fail;
@@ -44,8 +44,18 @@ fn check_told(
 
 /// The smallest image's text, of which a line from 1 gives way to others.
 fn with_line(alloc: Global, number: usize, others: &str) -> Result<String, AllocError> {
+    line_changed(alloc, images::SMALLEST_TEXT, number, others)
+}
+
+/// A text, of which a line from 1 gives way to others.
+fn line_changed(
+    alloc: Global,
+    base: &str,
+    number: usize,
+    others: &str,
+) -> Result<String, AllocError> {
     let mut text = String::new(alloc);
-    for (index, line) in images::SMALLEST_TEXT.lines().enumerate() {
+    for (index, line) in base.lines().enumerate() {
         if index.saturating_add(1) == number {
             text.push_str(others)?;
         } else {
@@ -65,12 +75,18 @@ fn put_line(text: &mut String, line: &str) -> Result<(), AllocError> {
 /// next, `nothing` is none), and the answer.
 const CHANGED: &str = "
 1 => ifsv 1 => ok 61 bytes
-1 => ifsv 2 => A1 line 1
+1 => ifsv 2 => A1 line 9
 1 => ifsv 01 => A1 line 1
 1 => ifsv 3 => A1 line 1
 1 => \troutine  results 0 => A3 line 1
 1 => routine results 2 => A2 line 1
-1 => routine params - results - => A1 line 1
+1 => routine params - results - => A3 line 1
+1 => routine params truth,x results - => A1 line 1
+1 => routine params truth,truth,truth,truth,truth results - => A2 line 1
+1 => |; ifsv 2|ifsv 1 => ok 61 bytes
+5 => routine params - results -|commands 0 => A1 line 5
+5 => routine results 0|commands 0 => A3 line 5
+5 => routine results 2|commands 0 => A2 line 5
 2 => stack 33 => A2 line 2
 2 => stack 032 => ok 61 bytes
 2 => stack 18446744073709551616 => A2 line 2
@@ -133,6 +149,8 @@ const CHANGED: &str = "
 9 => routine results 2 => A2 line 9
 9 => state \"b\" init 0 body 0 tests -|command \"x\" => A3 line 10
 9 => routine results 1 => ok 61 bytes
+9 => routine params - results - => A1 line 9
+9 => routine params truth,truth,truth,truth,truth results - => A1 line 9
 9 => routine => A1 line 9
 9 => ret => A3 line 9
 10 => Ret => A1 line 10
@@ -146,6 +164,49 @@ const CHANGED: &str = "
 10 => ret ; back => A1 line 10
 ";
 
+/// The same of the text of the smallest image's upgrade.
+const CHANGED_OF_TWO: &str = "
+1 => ifsv 1 => A1 line 9
+1 => ifsv 02 => A1 line 1
+1 => ifsv 2 2 => A1 line 1
+1 => routine results 0 => A3 line 1
+1 => routine results 2 => A2 line 1
+1 => |\t|;|  ifsv\t2  => ok 62 bytes
+2 => stack 33 => A2 line 2
+5 => routine results 0|commands 0 => A1 line 5
+5 => routine results 2|commands 0 => A1 line 5
+5 => routine params - results -|commands 0 => A3 line 5
+5 => routine params truth,truth,truth,truth,truth results -|commands 0 => A2 line 5
+9 => routine results 0 => A1 line 9
+9 => routine results 1 => A1 line 9
+9 => routine results 2 => A1 line 9
+9 => routine params truth results - => ok 63 bytes
+9 => routine params - results state => ok 63 bytes
+9 => routine  params\t-  results -  => ok 62 bytes
+9 => routine params truth,command,state,truth results state,state,command,truth => ok 70 bytes
+9 => routine params truth,command,state,truth,truth results - => A2 line 9
+9 => routine params - results truth,truth,truth,truth,truth => A2 line 9
+9 => routine params truth,truth,truth,truth,truths results - => A1 line 9
+9 => routine params truths results - => A1 line 9
+9 => routine params Truth results - => A1 line 9
+9 => routine params statename results - => A1 line 9
+9 => routine params truth, results - => A1 line 9
+9 => routine params ,truth results - => A1 line 9
+9 => routine params truth,,truth results - => A1 line 9
+9 => routine params truth, truth results - => A1 line 9
+9 => routine params -,truth results - => A1 line 9
+9 => routine params results - => A1 line 9
+9 => routine params - results => A1 line 9
+9 => routine params - results - - => A1 line 9
+9 => routine params 0 results 0 => A1 line 9
+9 => routine results - params - => A1 line 9
+9 => routine => A1 line 9
+9 => ret => A3 line 9
+9 => routine params - results -|state \"b\" init 0 body 0 tests - => A3 line 10
+10 => ret|routine params command results command,truth|queue => ok 73 bytes
+10 => Ret => A1 line 10
+";
+
 /// The lines of a row, with a newline after each.
 fn lines_of(alloc: Global, row: &str) -> Result<String, AllocError> {
     let mut lines = String::new(alloc);
@@ -155,21 +216,61 @@ fn lines_of(alloc: Global, row: &str) -> Result<String, AllocError> {
     Ok(lines)
 }
 
-fn check_changed(rt: &impl Abort, alloc: Global, row: &str) -> Result<(), Fail> {
+fn check_changed(rt: &impl Abort, alloc: Global, base: &str, row: &str) -> Result<(), Fail> {
     let (number, rest) = row.split_once(" => ").ok_or("a number")?;
     let (lines, wanted) = rest.rsplit_once(" => ").ok_or("an answer")?;
     let number = number.parse::<usize>()?;
     let others = lines_of(alloc, lines)?;
-    let text = with_line(alloc, number, others.as_str())?;
+    let text = line_changed(alloc, base, number, others.as_str())?;
     check_told(rt, alloc, text.as_str(), wanted, row)
 }
 
 #[test]
 fn answers_changed_lines(rt: HostRuntime) -> Result<(), Fail> {
     for row in CHANGED.lines().filter(|row| !row.is_empty()) {
-        check_changed(&rt, rt.alloc(), row)?;
+        check_changed(&rt, rt.alloc(), images::SMALLEST_TEXT, row)?;
     }
     Ok(())
+}
+
+#[test]
+fn answers_changed_lines_of_version_two(rt: HostRuntime) -> Result<(), Fail> {
+    let base = version_two::smallest_upgraded_text();
+    for row in CHANGED_OF_TWO.lines().filter(|row| !row.is_empty()) {
+        check_changed(&rt, rt.alloc(), base, row)?;
+    }
+    Ok(())
+}
+
+/// Asserts the text of an image.
+fn check_text(rt: &impl Abort, alloc: Global, hex: &str, wanted: &str) -> Result<(), Fail> {
+    let bytes = bytes_of(alloc, hex)?;
+    let text = text_in(alloc, bytes.as_slice())?;
+    assert_eq!(rt; text.as_str(), wanted);
+    let back = bytes_in(alloc, wanted)?;
+    assert_eq!(rt; back.as_slice(), bytes.as_slice());
+    Ok(())
+}
+
+#[test]
+fn texts_of_version_two(rt: HostRuntime) -> Result<(), Fail> {
+    let smallest = version_two::smallest_upgraded();
+    let given = version_two::given_command();
+    let call = version_two::call_in_a_call();
+    let smallest_text = version_two::smallest_upgraded_text();
+    check_text(&rt, rt.alloc(), smallest.image, smallest_text)?;
+    check_text(
+        &rt,
+        rt.alloc(),
+        given.image,
+        version_two::given_command_text(),
+    )?;
+    check_text(
+        &rt,
+        rt.alloc(),
+        call.image,
+        version_two::call_in_a_call_text(),
+    )
 }
 
 /// Asserts the answer to a front of so many lines: what is missing is told at the next line, up to the
@@ -260,29 +361,6 @@ fn writes_each_instruction(rt: HostRuntime) -> Result<(), Fail> {
     Ok(())
 }
 
-/// Images that are accepted, one for each worked policy.
-const IMAGES: [&str; 19] = [
-    images::SMALLEST_IMAGE,
-    images::FIRST_RUN,
-    images::FIRST_POLICY,
-    images::WAYS_THAT_MEET,
-    images::SHORT_JUMP,
-    images::LAST_WISH,
-    images::LAST_WISH_STRAIGHT,
-    images::OWN_STATE,
-    images::OWN_STATE_STRAIGHT,
-    images::WISHING_INIT,
-    images::MACROS,
-    images::BUSY,
-    images::HELD_BACK,
-    images::STALE,
-    images::BINDING,
-    images::BINDING_OTHER_WAY,
-    images::INITIAL_STATE,
-    images::BEFORE_STARTS,
-    images::SHARED_CONDITION,
-];
-
 fn check_there_and_back(rt: &impl Abort, alloc: Global, hex: &str) -> Result<(), Fail> {
     let bytes = bytes_of(alloc, hex)?;
     let text = text_in(alloc, bytes.as_slice())?;
@@ -293,8 +371,8 @@ fn check_there_and_back(rt: &impl Abort, alloc: Global, hex: &str) -> Result<(),
 
 #[test]
 fn reads_back_what_it_writes(rt: HostRuntime) -> Result<(), Fail> {
-    for hex in IMAGES {
-        check_there_and_back(&rt, rt.alloc(), hex)?;
+    for row in rows() {
+        check_there_and_back(&rt, rt.alloc(), row.image)?;
     }
     Ok(())
 }
@@ -464,6 +542,44 @@ fn takes_8192_instructions(rt: HostRuntime) -> Result<(), Fail> {
     check_told(&rt, rt.alloc(), text.as_str(), "ok 32846 bytes", "8,192")?;
     text.push_str("routine results 0\npop\n")?;
     check_told(&rt, rt.alloc(), text.as_str(), "A2 line 8210", "one more")
+}
+
+/// The text of the smallest image's upgrade with so many routines in its routine's place, each of 1,024 instructions but
+/// for the last, which has one less.
+fn long_text(alloc: Global, routines: usize) -> Result<String, AllocError> {
+    let mut text = String::new(alloc);
+    for line in version_two::smallest_upgraded_text().lines().take(8) {
+        put_line(&mut text, line)?;
+    }
+    for routine in 0..routines {
+        let last = routine.saturating_add(1) == routines;
+        put_routine_of_two(&mut text, if last { 1_023 } else { 1_024 })?;
+    }
+    Ok(text)
+}
+
+fn put_routine_of_two(text: &mut String, count: usize) -> Result<(), AllocError> {
+    text.push_str("routine params - results -\n")?;
+    for _ in 0..count {
+        text.push_str("pop\n")?;
+    }
+    Ok(())
+}
+
+#[test]
+fn takes_65535_instructions_in_version_two(rt: HostRuntime) -> Result<(), Fail> {
+    let mut text = long_text(rt.alloc(), 64)?;
+    check_told(&rt, rt.alloc(), text.as_str(), "ok 262450 bytes", "65,535")?;
+    put_routine_of_two(&mut text, 0)?;
+    check_told(
+        &rt,
+        rt.alloc(),
+        text.as_str(),
+        "ok 262454 bytes",
+        "none more",
+    )?;
+    text.push_str("pop\n")?;
+    check_told(&rt, rt.alloc(), text.as_str(), "A2 line 65609", "one more")
 }
 
 /// A state's name of 1,024 bytes and then this.

@@ -1,10 +1,11 @@
 //! Images whose bytes were written by hand from the table of the format, and one fault for each rule.
 
-use ifs_base::{CommandId, IfaceId, Items, LinkState, Op, RoutineId, StateId, Text};
+use ifs_base::{CommandId, IfaceId, Items, Kind, LinkState, Op, RoutineId, StateId, Text};
 use ifs_image::{
-    Budgets, Handlers, Image, ImageFault, ImageParts, Routine, StateSpec, read, view, write,
+    Budgets, Handlers, Image, ImageFault, ImageParts, Kinds, Routine, StateSpec, read, upgrade,
+    view, write,
 };
-use ifs_rows::{bytes_of, images, rows};
+use ifs_rows::{bytes_of, images, rows, version_two};
 use std::alloc::{AllocError, Global};
 use std::process::Abort;
 use std::test::Fail;
@@ -15,7 +16,10 @@ const FAULTS: &str = "
 0 61 49465358: I2 byte 0
 0 61 58: I1 byte 0
 0 61 49465356: I1 byte 4
-4 1 02: I3 byte 4
+4 1 00: I3 byte 4
+4 1 02: I1 byte 58
+4 1 03: I3 byte 4
+4 1 ff: I3 byte 4
 5 2 0021: I4 byte 5
 7 2 0021: I4 byte 7
 9 4 000493e1: I4 byte 9
@@ -39,6 +43,27 @@ const FAULTS: &str = "
 15 24 00000001000000010001000000000000000000000000000000093a81000178: I4 byte 39
 15 24 000200000000000100010000000000000000000000000000000161000161: I6 byte 44
 15 39 000000000000000200010000000000000000000000000000000161000000000000000000000000000161: I6 byte 56
+";
+
+/// The same of the upgrade of the smallest image.
+const FAULTS_OF_TWO: &str = "
+4 1 01: I7 byte 57
+4 1 03: I3 byte 4
+54 1 05: I4 byte 54
+54 1 ff: I4 byte 54
+54 1 0103: I4 byte 55
+54 1 01ff: I4 byte 55
+54 1 0400010203: I4 byte 58
+54 8 0200: I1 byte 56
+54 8 0203: I4 byte 55
+55 1 05: I4 byte 55
+55 1 0103: I4 byte 56
+55 1 0400010203: I4 byte 59
+55 7 0203: I4 byte 56
+55 7 0202: I1 byte 57
+56 2 0401: I4 byte 56
+58 4 00000001: I8 byte 58
+62 0 00: I7 byte 62
 ";
 
 /// An image of which so many bytes at an offset give way to others.
@@ -91,14 +116,27 @@ fn one_more(rt: &impl Abort, alloc: Global, image: &[u8]) -> Result<(), Fail> {
 fn every_byte_cut_off(rt: HostRuntime) -> Result<(), Fail> {
     cut_off(&rt, rt.alloc(), images::SMALLEST_IMAGE)?;
     cut_off(&rt, rt.alloc(), images::FIRST_RUN)?;
-    cut_off(&rt, rt.alloc(), images::FIRST_POLICY)
+    cut_off(&rt, rt.alloc(), images::FIRST_POLICY)?;
+    cut_off(&rt, rt.alloc(), version_two::given_command().image)?;
+    cut_off(&rt, rt.alloc(), version_two::call_in_a_call().image)
 }
 
-/// The smallest image, of which so many bytes at an offset give way to others.
-fn smallest_changed(alloc: Global, at: usize, removed: usize, hex: &str) -> Result<Vec<u8>, Fail> {
+/// An image in hexadecimal, of which so many bytes at an offset give way to others.
+fn image_changed(
+    alloc: Global,
+    image: &str,
+    at: usize,
+    removed: usize,
+    hex: &str,
+) -> Result<Vec<u8>, Fail> {
     let put = bytes_of(alloc, hex)?;
-    let image = bytes_of(alloc, images::SMALLEST_IMAGE)?;
+    let image = bytes_of(alloc, image)?;
     changed(alloc, image.as_slice(), at, removed, put.as_slice())
+}
+
+/// The same of the smallest image.
+fn smallest_changed(alloc: Global, at: usize, removed: usize, hex: &str) -> Result<Vec<u8>, Fail> {
+    image_changed(alloc, images::SMALLEST_IMAGE, at, removed, hex)
 }
 
 /// The text of the fault that refuses bytes.
@@ -107,13 +145,13 @@ fn fault_text(alloc: Global, bytes: &[u8]) -> Result<String, Fail> {
     Ok(format!(in alloc; "{fault}")?)
 }
 
-fn check_fault(rt: &impl Abort, alloc: Global, row: &str) -> Result<(), Fail> {
+fn check_fault(rt: &impl Abort, alloc: Global, image: &str, row: &str) -> Result<(), Fail> {
     let (change, expected) = row.split_once(": ").ok_or("a change and a fault")?;
     let mut words = change.split(' ');
     let at = words.next().ok_or("an offset")?.parse::<usize>()?;
     let removed = words.next().ok_or("a number of bytes")?.parse::<usize>()?;
     let put = words.next().ok_or("bytes")?;
-    let bytes = smallest_changed(alloc, at, removed, put)?;
+    let bytes = image_changed(alloc, image, at, removed, put)?;
     let told = fault_text(alloc, bytes.as_slice())?;
     assert_eq!(rt; told.as_str(), expected, "{row}");
     let seen = view(alloc, bytes.as_slice()).err();
@@ -121,14 +159,21 @@ fn check_fault(rt: &impl Abort, alloc: Global, row: &str) -> Result<(), Fail> {
     Ok(())
 }
 
-#[test]
-fn first_faults(rt: HostRuntime) -> Result<(), Fail> {
-    for row in FAULTS.lines() {
+/// Each row of an image.
+fn check_faults(rt: &impl Abort, alloc: Global, image: &str, rows: &str) -> Result<(), Fail> {
+    for row in rows.lines() {
         if !row.is_empty() {
-            check_fault(&rt, rt.alloc(), row)?;
+            check_fault(rt, alloc, image, row)?;
         }
     }
     Ok(())
+}
+
+#[test]
+fn first_faults(rt: HostRuntime) -> Result<(), Fail> {
+    let second = version_two::smallest_upgraded().image;
+    check_faults(&rt, rt.alloc(), images::SMALLEST_IMAGE, FAULTS)?;
+    check_faults(&rt, rt.alloc(), second, FAULTS_OF_TWO)
 }
 
 /// The smallest image with nine routines, of which eight with 1,024 instructions each are there.
@@ -158,6 +203,85 @@ fn instructions_in_all(rt: HostRuntime) -> Result<(), Fail> {
     bytes.extend_from_slice(b"\x00\x01\x00\x00\x00\x00")?;
     let fault = ImageFault::OutOfLimit { at: 32_847 };
     check_refused(&rt, rt.alloc(), bytes.as_slice(), fault);
+    Ok(())
+}
+
+/// The smallest image of version 2 with 65 routines, of which 64 with 65,535 instructions in all are there.
+fn sixty_five_routines(alloc: Global) -> Result<Vec<u8>, Fail> {
+    let smallest = version_two::smallest_upgraded().image;
+    let mut bytes = image_changed(alloc, smallest, 24, 1, "41")?;
+    bytes.truncate(54);
+    for _ in 0..63 {
+        put_long_routine(&mut bytes, 1_024)?;
+    }
+    put_long_routine(&mut bytes, 1_023)?;
+    Ok(bytes)
+}
+
+/// Puts a routine of version 2 with so many instructions.
+fn put_long_routine(bytes: &mut Vec<u8>, count: u16) -> Result<(), AllocError> {
+    bytes.extend_from_slice(b"\x00\x00")?;
+    bytes.extend_from_slice(&count.to_be_bytes())?;
+    for _ in 0..count {
+        bytes.extend_from_slice(&[0; 4])?;
+    }
+    Ok(())
+}
+
+#[test]
+fn instructions_in_all_of_version_two(rt: HostRuntime) -> Result<(), Fail> {
+    let mut bytes = sixty_five_routines(rt.alloc())?;
+    bytes.extend_from_slice(&[0; 4])?;
+    assert_eq!(rt; read(rt.alloc(), &bytes).err(), None);
+    bytes.truncate(262_450);
+    bytes.extend_from_slice(b"\x00\x00\x00\x01\x00\x00\x00\x00")?;
+    let fault = ImageFault::OutOfLimit { at: 262_452 };
+    check_refused(&rt, rt.alloc(), bytes.as_slice(), fault);
+    Ok(())
+}
+
+/// What an image is upgraded to, in its bytes.
+fn upgraded_bytes(alloc: Global, bytes: &[u8]) -> Result<Vec<u8>, Fail> {
+    let image = upgrade(read(alloc, bytes)?);
+    Ok(write(alloc, &image)?)
+}
+
+/// Asserts the upgrade of an image, and that it is its own upgrade.
+fn check_upgrade(
+    rt: &impl Abort,
+    alloc: Global,
+    name: &str,
+    image: &str,
+    upgraded: &str,
+) -> Result<(), Fail> {
+    let bytes = bytes_of(alloc, image)?;
+    let wanted = bytes_of(alloc, upgraded)?;
+    let made = upgraded_bytes(alloc, bytes.as_slice())?;
+    assert_eq!(rt; made.as_slice(), wanted.as_slice(), "{name}");
+    let again = upgraded_bytes(alloc, made.as_slice())?;
+    assert_eq!(rt; again.as_slice(), wanted.as_slice(), "{name}");
+    Ok(())
+}
+
+#[test]
+fn worked_upgrades(rt: HostRuntime) -> Result<(), Fail> {
+    for row in version_two::upgrades() {
+        check_upgrade(&rt, rt.alloc(), row.name, row.image, row.upgraded)?;
+        assert_eq!(rt; bytes_of(rt.alloc(), row.upgraded)?.len(), row.bytes);
+    }
+    Ok(())
+}
+
+/// An image of version 2 stays as it was.
+#[test]
+fn upgrades_of_version_two(rt: HostRuntime) -> Result<(), Fail> {
+    for row in [
+        version_two::given_command(),
+        version_two::call_in_a_call(),
+        version_two::four_kinds(),
+    ] {
+        check_upgrade(&rt, rt.alloc(), row.name, row.image, row.image)?;
+    }
     Ok(())
 }
 
@@ -297,8 +421,14 @@ fn check_code(rt: &impl Abort, parts: &ImageParts, routines: usize, body: usize,
     }
 }
 
-/// The parts of the smallest image, with a stated stack.
-fn smallest_parts(alloc: Global, stack: u16) -> Result<ImageParts, AllocError> {
+/// The parts of the smallest image, with a stated stack, in a version in which its routine takes and leaves these kinds.
+fn parts_with(
+    alloc: Global,
+    stack: u16,
+    version: u8,
+    params: Kinds,
+    results: Kinds,
+) -> Result<ImageParts, AllocError> {
     let handlers = Handlers {
         init: RoutineId(0),
         body: RoutineId(0),
@@ -309,8 +439,13 @@ fn smallest_parts(alloc: Global, stack: u16) -> Result<ImageParts, AllocError> {
     states.push(StateSpec { name, handlers })?;
     let mut routines = Vec::new(alloc);
     let code = Items::new([Op::Ret].to_vec(alloc)?);
-    routines.push(Routine { results: 0, code })?;
+    routines.push(Routine {
+        params,
+        results,
+        code,
+    })?;
     Ok(ImageParts {
+        version,
         budgets: Budgets {
             stack,
             frames: 1,
@@ -325,6 +460,50 @@ fn smallest_parts(alloc: Global, stack: u16) -> Result<ImageParts, AllocError> {
         states: Items::new(states),
         routines: Items::new(routines),
     })
+}
+
+/// The parts of the smallest image, with a stated stack.
+fn smallest_parts(alloc: Global, stack: u16) -> Result<ImageParts, AllocError> {
+    parts_with(alloc, stack, 1, Kinds::new(), Kinds::new())
+}
+
+/// So many of one kind.
+fn kinds_of(kind: Kind, count: usize) -> Kinds {
+    let mut kinds = Kinds::new();
+    for _ in 0..count {
+        if !kinds.is_full() {
+            kinds.push(kind);
+        }
+    }
+    kinds
+}
+
+/// In each row: a version, the kinds that a routine takes and leaves with their numbers, and whether that fits.
+const FITTING: [(u8, (Kind, usize), (Kind, usize), bool); 13] = [
+    (0, (Kind::Truth, 0), (Kind::Truth, 0), false),
+    (1, (Kind::Truth, 0), (Kind::Truth, 0), true),
+    (1, (Kind::Truth, 0), (Kind::Truth, 1), true),
+    (1, (Kind::Truth, 0), (Kind::Truth, 2), false),
+    (1, (Kind::Truth, 0), (Kind::Command, 1), false),
+    (1, (Kind::Truth, 0), (Kind::StateName, 1), false),
+    (1, (Kind::Truth, 1), (Kind::Truth, 0), false),
+    (1, (Kind::Command, 1), (Kind::Truth, 1), false),
+    (2, (Kind::Truth, 0), (Kind::Truth, 0), true),
+    (2, (Kind::Truth, 4), (Kind::StateName, 4), true),
+    (2, (Kind::Command, 1), (Kind::Command, 2), true),
+    (3, (Kind::Truth, 0), (Kind::Truth, 0), false),
+    (255, (Kind::Truth, 0), (Kind::Truth, 0), false),
+];
+
+#[test]
+fn what_fits_a_version(rt: HostRuntime) -> Result<(), Fail> {
+    for (version, (param, params), (result, results), fits) in FITTING {
+        let taken = kinds_of(param, params);
+        let left = kinds_of(result, results);
+        let parts = parts_with(rt.alloc(), 0, version, taken, left)?;
+        assert_eq!(rt; parts.fits(), fits, "{version} {params} {results}");
+    }
+    Ok(())
 }
 
 /// The bytes of the parts of the smallest image.

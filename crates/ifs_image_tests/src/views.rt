@@ -1,8 +1,8 @@
 //! Images that are seen where they lie: what each reader tells, and texts that outlive their view.
 
-use ifs_base::{CommandId, IfaceId, LinkState, Op, RoutineId, StateId};
+use ifs_base::{CommandId, IfaceId, Kind, LinkState, Op, RoutineId, StateId};
 use ifs_image::{Budgets, Handlers, Image, ImageView, read, view};
-use ifs_rows::{bytes_of, rows};
+use ifs_rows::{bytes_of, rows, version_two};
 use std::alloc::Global;
 use std::process::Abort;
 use std::test::Fail;
@@ -41,7 +41,9 @@ fn each_reader(rt: HostRuntime) -> Result<(), Fail> {
     check_tests(&rt, &image);
     check_states(&rt, &image);
     assert_eq!(rt; image.routines(), 2);
-    check_code(&rt, &image, 0, 1, &[Op::Yes, Op::Ret])?;
+    check_code(&rt, &image, 0, &[Op::Yes, Op::Ret])?;
+    check_kinds(&rt, &image, 0, &[], &[Kind::Truth])?;
+    check_kinds(&rt, &image, 1, &[], &[])?;
     let link = Op::Link(IfaceId(1), LinkState::Down);
     let code = [
         link,
@@ -49,7 +51,7 @@ fn each_reader(rt: HostRuntime) -> Result<(), Fail> {
         Op::PushState(StateId(1)),
         Op::Ret,
     ];
-    check_code(&rt, &image, 1, 0, &code)
+    check_code(&rt, &image, 1, &code)
 }
 
 fn check_head(rt: &impl Abort, image: &ImageView<'_>) {
@@ -59,6 +61,7 @@ fn check_head(rt: &impl Abort, image: &ImageView<'_>) {
         cost: 9,
         commands: 3,
     };
+    assert_eq!(rt; image.version(), 1);
     assert_eq!(rt; image.budgets(), budgets);
     assert_eq!(rt; image.initial(), StateId(1));
     assert_eq!(rt; image.always(), handlers(1, 0, 2));
@@ -100,18 +103,46 @@ fn check_states(rt: &impl Abort, image: &ImageView<'_>) {
     }
 }
 
-/// A routine has so many results and these instructions, by each way to ask for them.
+/// A routine takes and leaves these kinds.
+fn check_kinds(
+    rt: &impl Abort,
+    image: &ImageView<'_>,
+    routine: usize,
+    params: &[Kind],
+    results: &[Kind],
+) -> Result<(), Fail> {
+    if image.routines() <= routine {
+        return Err(Fail::from("a routine"));
+    }
+    assert_eq!(rt; image.params(routine), params);
+    assert_eq!(rt; image.results(routine), results);
+    Ok(())
+}
+
+/// What each routine of an image of version 2 takes and leaves.
+#[test]
+fn each_kind(rt: HostRuntime) -> Result<(), Fail> {
+    let bytes = bytes_of(rt.alloc(), version_two::call_in_a_call().image)?;
+    let image = view(rt.alloc(), bytes.as_slice())?;
+    assert_eq!(rt; image.version(), 2);
+    let both = [Kind::Command, Kind::Truth];
+    check_kinds(&rt, &image, 0, &both, &both)?;
+    check_kinds(&rt, &image, 1, &[], &[Kind::Truth, Kind::Command])?;
+    check_kinds(&rt, &image, 2, &[Kind::StateName], &[])?;
+    check_kinds(&rt, &image, 3, &[Kind::Command], &[])?;
+    check_kinds(&rt, &image, 4, &[], &[])
+}
+
+/// A routine has these instructions, by each way to ask for them.
 fn check_code(
     rt: &impl Abort,
     image: &ImageView<'_>,
     routine: usize,
-    results: u8,
     expected: &[Op],
 ) -> Result<(), Fail> {
     if image.routines() <= routine {
         return Err(Fail::from("a routine"));
     }
-    assert_eq!(rt; image.results(routine), results);
     assert_eq!(rt; image.code_len(routine), expected.len());
     let code = image.code(routine);
     assert_eq!(rt; code.len(), expected.len());
@@ -139,6 +170,7 @@ fn every_row_seen(rt: HostRuntime) -> Result<(), Fail> {
 
 fn check_same(rt: &impl Abort, seen: &ImageView<'_>, copied: &Image) -> Result<(), Fail> {
     let parts = copied.parts();
+    assert_eq!(rt; seen.version(), parts.version);
     assert_eq!(rt; seen.budgets(), parts.budgets);
     assert_eq!(rt; seen.states(), parts.states.len());
     for (index, state) in parts.states.as_slice().iter().enumerate() {
@@ -148,7 +180,14 @@ fn check_same(rt: &impl Abort, seen: &ImageView<'_>, copied: &Image) -> Result<(
     }
     assert_eq!(rt; seen.routines(), parts.routines.len());
     for (index, routine) in parts.routines.as_slice().iter().enumerate() {
-        check_code(rt, seen, index, routine.results, routine.code.as_slice())?;
+        check_kinds(
+            rt,
+            seen,
+            index,
+            routine.params.as_slice(),
+            routine.results.as_slice(),
+        )?;
+        check_code(rt, seen, index, routine.code.as_slice())?;
     }
     Ok(())
 }

@@ -1,7 +1,9 @@
 pub mod After
 pub mod Moves
+pub mod Taking
 pub mod Ending
 pub mod Standing
 pub mod Shift
 pub mod Loop
 pub mod Within
+pub mod Upgraded

@@ -1,6 +1,7 @@
 //! What holds of handler runs, whoever makes them.
 
-ghost use Rattle.ifs_machine.specs.Run.{RunsAreUnique, RunsFollow, RunsStayWithin, HandlersEnd, EmptyQueueHasRoom};
+ghost use Rattle.ifs_machine.specs.Run.{RunsAreUnique, RunsFollow, RunsStayWithin, HandlersEnd};
+ghost use Rattle.ifs_machine.specs.Run.{EmptyQueueHasRoom, UpgradeKeepsRuns};
 
 /// A handler run has one cost and one end.
 pub fn runs_are_unique()
@@ -27,4 +28,9 @@ pub fn handlers_end()
 /// An empty queue leaves room for each handler of an accepted image.
 pub fn empty_queue_has_room()
     ensures { EmptyQueueHasRoom }
+{}
+
+/// An image and its upgrade to version 2 have the same runs, whatever the facts, accepted or not.
+pub fn upgrade_keeps_runs()
+    ensures { UpgradeKeepsRuns }
 {}

@@ -11,6 +11,7 @@ mod refused;
 pub mod sessions;
 pub mod sharing;
 mod texts;
+pub mod version_two;
 
 pub use hexadecimal::{bytes_of, digits_of};
 pub use largest::{

@@ -1,6 +1,6 @@
 //! Sessions on accepted images, each from a fresh core.
 
-use crate::{Row, images, texts};
+use crate::{Row, images, texts, version_two};
 
 /// The smallest image: one state `a`, whose handlers are the one routine.
 pub fn smallest_image() -> Row {
@@ -551,7 +551,7 @@ pub fn shared_condition_not_met() -> Row {
 }
 
 /// Every session.
-pub fn rows() -> [Row; 24] {
+pub fn rows() -> [Row; 31] {
     [
         smallest_image(),
         first_run(),
@@ -577,5 +577,12 @@ pub fn rows() -> [Row; 24] {
         before_starts(),
         shared_condition(),
         shared_condition_not_met(),
+        version_two::smallest_upgraded(),
+        version_two::first_run_upgraded(),
+        version_two::first_policy_upgraded(),
+        version_two::given_command(),
+        version_two::call_in_a_call(),
+        version_two::three_kinds(),
+        version_two::four_kinds(),
     ]
 }

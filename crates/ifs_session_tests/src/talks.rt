@@ -4,7 +4,7 @@ mod devices;
 mod order;
 mod serving;
 
-use ifs_rows::{Row, digits_of, images, refusals, sessions};
+use ifs_rows::{Refusal, Row, digits_of, images, refusals, sessions, version_two};
 use ifs_session::{
     ByteIn, DeviceFault, FromRead, MemoryIn, MemoryOut, RequestFault, RunFault, SessionFault,
     Summary, ToWrite, run_hex,
@@ -292,13 +292,20 @@ fn is_refused(alloc: Global, line: &[u8], answer: &str) -> bool {
         && input.left() == buffered.peek()
 }
 
-#[test]
-fn refused(rt: HostRuntime) -> Result<(), Fail> {
-    for refusal in refusals() {
-        let line = input_of(rt.alloc(), refusal.image, "")?;
-        let is_so = is_refused(rt.alloc(), line.as_slice(), refusal.answer);
+/// Asserts that each image is refused as it says.
+fn check_refused(rt: &impl Abort, alloc: Global, rows: &[Refusal]) -> Result<(), Fail> {
+    for refusal in rows {
+        let line = input_of(alloc, refusal.image, "")?;
+        let is_so = is_refused(alloc, line.as_slice(), refusal.answer);
         assert!(rt; is_so, "{}", refusal.name);
     }
+    Ok(())
+}
+
+#[test]
+fn refused(rt: HostRuntime) -> Result<(), Fail> {
+    check_refused(&rt, rt.alloc(), refusals())?;
+    check_refused(&rt, rt.alloc(), version_two::refusals())?;
     for (line, answer) in BROKEN {
         assert!(rt; is_refused(rt.alloc(), line.as_bytes(), answer), "{line}");
     }

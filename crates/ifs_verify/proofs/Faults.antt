@@ -11,7 +11,7 @@ use Rattle.ifs_verify.specs.declared.fault.VerifyFault.TheVariants.{NoImage, NoE
 use Rattle.ifs_verify.specs.declared.fault.VerifyFault.TheVariants.{WrongOperand, WaysDisagree, CallNotLower}
 use Rattle.ifs_verify.specs.declared.fault.VerifyFault.TheVariants.{WrongResults, StackOver, FramesOver, CostOver}
 use Rattle.ifs_verify.specs.declared.fault.VerifyFault.TheVariants.{CommandsOver, HandlerLeaves, OutOfMemory}
-use Rattle.ifs_verify.specs.Rules.{IndexesFit, HandlersLeaveNothing}
+use Rattle.ifs_verify.specs.Rules.{IndexesFit, HandlersStandAlone}
 use Rattle.ifs_verify.specs.Typing.{IsTyped, IsTyping, FlowsOn}
 use Rattle.ifs_verify.specs.Bounds.{cost_of, commands_of, FitsEvents, FitsHandlers, AreDepths}
 use Rattle.ifs_verify.specs.Accepted.{IsAccepted, EachWithin, StackFits}
@@ -26,7 +26,7 @@ lacks_entry Head image fits lacks = lacks (fits.initial, (fits.always, fits.alwa
 lacks_entry (State state) image fits lacks = lacks.2 (fits.states state.0 lacks.0 lacks.1, fits.masks state.0 lacks.0 lacks.1)
 lacks_entry (Code routine place) image fits lacks = lacks.2 (fits.operands routine.0 place lacks.0 lacks.1)
 
-leaves_value : (at : At) (image : ImageParts) → HandlersLeaveNothing image → LeavesValue image at → ⊥
+leaves_value : (at : At) (image : ImageParts) → HandlersStandAlone image → LeavesValue image at → ⊥
 leaves_value Head image fits leaves = leaves fits.always
 leaves_value (State state) image fits leaves = leaves.2 (fits.states state.0 leaves.0 leaves.1)
 leaves_value (Code routine place) image fits leaves = leaves

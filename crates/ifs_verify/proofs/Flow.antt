@@ -1,5 +1,5 @@
 -- The forward pass: what its rows keep when a list of kinds is handed on, and what a refusal shows.
-use Rattle.std.proofs.Common.{ℕ, ◌≡◌, ◌≢◌, ◌<◌, ◌≤◌, ◌+◌, ◌-◌, List, [], length, replicate}
+use Rattle.std.proofs.Common.{ℕ, ◌≡◌, ◌≢◌, ◌<◌, ◌≤◌, ◌+◌, ◌-◌, List, length, replicate}
 use Rattle.std.proofs.Common.{Option, Some, None, arith, ap, sym, ◌∙◌, subst, inl, inr, ◌⊎◌}
 use Rattle.std.proofs.Math.ListN.{set, length-set}
 use Rattle.std.proofs.lemmas.Bool.{cases_eq, cases_lt}
@@ -10,7 +10,7 @@ use Rattle.ifs_base.specs.declared.op.Kind.{Kind}
 use Rattle.ifs_base.specs.declared.op.Op.{Op}
 use Rattle.ifs_base.specs.declared.op.Op.TheVariants.{Ret, Jump, JumpFalse, JumpTrue}
 use Rattle.ifs_image.specs.declared.parts.ImageParts.{ImageParts}
-use Rattle.ifs_image.specs.Code.{op_at, code_of, target_of, effect, IsSuccessor}
+use Rattle.ifs_image.specs.Code.{op_at, code_of, params_of, target_of, effect, IsSuccessor}
 use Rattle.ifs_verify.specs.Rules.{IsRoutine, RoutinesEnd, JumpsLeadOn}
 use Rattle.ifs_verify.specs.Ways.{Leads, begins, goes_on}
 use Rattle.ifs_verify.specs.Refused.{LeavesList, Disagrees}
@@ -119,7 +119,7 @@ handed image routine rows place to op after typed here leaves successor within s
     let extends : Extends rows (set rows to (Some after)) = Extends-set rows to after within same in
     record {
       long = length-set rows to (Some after) ∙ typed.long;
-      start = extends 0 [] typed.start;
+      start = extends 0 (params_of image routine) typed.start;
       within = λ k kinds is.
           elim (row_at-set_cases rows to after within k kinds is) [
             | inl new ↦ subst (λ (list : List Kind). length list ≤ 32) (sym new.1) leaves.within
@@ -159,7 +159,7 @@ pub row_found : (image : ImageParts) (routine place : ℕ) (rows : List (Option 
     → place < length (code_of image routine) → (kinds : List Kind) × (row_at rows place ≡ Some kinds)
 row_found image routine place rows plain typed within =
     elim (cases_eq place 0) [
-      | inl e ↦ ([], subst (λ (n : ℕ). row_at rows n ≡ Some []) (sym e) typed.start)
+      | inl e ↦ (params_of image routine, subst (λ (n : ℕ). row_at rows n ≡ Some (params_of image routine)) (sym e) typed.start)
       | inr ne ↦
           let r = plain.reached routine place (omega arith) within in
           let p = typed.passed r.0 r.1 r.2 r.3 in
@@ -327,26 +327,27 @@ takes_up image routine place op after here brought new plain is left none later 
       };
     }
 
--- Before the first place, with the empty list and none that was brought to another place.
+-- Before the first place, with the routine's parameters and no list that was brought to another place.
 pub stands_first : (image : ImageParts) (routine : ℕ) (brought : List (Option (List Kind))) → 0 < length (code_of image routine)
-    → AreClear image brought → Stands image routine 0 [] brought
-stands_first image routine brought some clear =
+    → length (params_of image routine) ≤ 32 → AreClear image brought → Stands image routine 0 (params_of image routine) brought
+stands_first image routine brought some few clear =
+    let params : List Kind = params_of image routine in
     let empty : List (Option (List Kind)) = replicate (length (code_of image routine)) None in
     let long : length empty ≡ length (code_of image routine) = length-replicate (length (code_of image routine)) None in
     let within : 0 < length empty = omega arith in
-    let written : row_at (set empty 0 (Some [])) 0 ≡ Some [] = row_at-set_same empty 0 [] within in
-    let only : (place : ℕ) (kinds : List Kind) → row_at (set empty 0 (Some [])) place ≡ Some kinds → (place ≡ 0) × (kinds ≡ []) =
+    let written : row_at (set empty 0 (Some params)) 0 ≡ Some params = row_at-set_same empty 0 params within in
+    let only : (place : ℕ) (kinds : List Kind) → row_at (set empty 0 (Some params)) place ≡ Some kinds → (place ≡ 0) × (kinds ≡ params) =
     λ place kinds is.
-    elim (row_at-set_cases empty 0 [] within place kinds is) [
+    elim (row_at-set_cases empty 0 params within place kinds is) [
       | inl new ↦ new
       | inr old ↦ let never : None ≡ Some kinds = sym (row_at-none (length (code_of image routine)) place) ∙ old in cc
     ] in
     record {
-      rows = set empty 0 (Some []);
+      rows = set empty 0 (Some params);
       typed = record {
-        long = length-set empty 0 (Some []) ∙ long;
+        long = length-set empty 0 (Some params) ∙ long;
         start = written;
-        within = λ place kinds is. subst (λ (list : List Kind). length list ≤ 32) (sym (only place kinds is).1) (omega arith);
+        within = λ place kinds is. subst (λ (list : List Kind). length list ≤ 32) (sym (only place kinds is).1) few;
         passed = λ place op below. absurd (omega arith);
         leads = λ place kinds is.
             let first = only place kinds is in
@@ -354,11 +355,11 @@ stands_first image routine brought some clear =
       };
       at_place = λ _. written;
       ahead = record {
-        long = omega (arith, length-set empty 0 (Some []), clear.room routine);
+        long = omega (arith, length-set empty 0 (Some params), clear.room routine);
         room = clear.room;
         passed = λ to le. clear.none to;
         later = λ to past.
-            row_at-set_other empty 0 to (Some []) (omega arith) ∙ row_at-none (length (code_of image routine)) to ∙ sym (clear.none to);
+            row_at-set_other empty 0 to (Some params) (omega arith) ∙ row_at-none (length (code_of image routine)) to ∙ sym (clear.none to);
       };
     }
 

@@ -17,7 +17,7 @@ some_kinds : (a b : List Kind) → Some a ≡ Some b → a ≡ b
 some_kinds a b e = cc
 
 holds_of_lengths : (image : ImageParts) (heights : ℕ → ℕ) (op : Op) (before after : List Kind) (low high height : ℕ) → effect image op before ≡ Some after
-    → low ≡ length before → high ≡ length after → IsHighEnough heights op low high height → HoldsHeight image heights op before height
+    → low ≡ length before → high ≡ length after → IsHighEnough image heights op low high height → HoldsHeight image heights op before height
 holds_of_lengths image heights op before after low high height left low_is high_is enough = record {
   before = omega (arith, low_is, enough.holds_before);
   after = λ other is. omega (arith, ap (λ (k : List Kind). length k) (some_kinds after other (sym left ∙ is)), high_is, enough.holds_after);
@@ -27,8 +27,8 @@ holds_of_lengths image heights op before after low high height left low_is high_
 -- The height that an instruction needs by the lengths around it is the one that its place needs.
 pub needs_height : (image : ImageParts) (routine : ℕ) (heights : ℕ → ℕ) (place : ℕ) (op : Op) (before after : List Kind) (brought : List (Option (List Kind)))
     (low high height : ℕ) → PlainRulesHold image → place < length (code_of image routine) → op_at image routine place ≡ Some op → Stands image routine place before brought
-    → Yields image routine op before after → low ≡ length before → high ≡ length after → IsHighEnough heights op low high height
-    → ((bound : ℕ) → IsHighEnough heights op low high bound → height ≤ bound) → NeedsHeight image routine heights place height
+    → Yields image routine op before after → low ≡ length before → high ≡ length after → IsHighEnough image heights op low high height
+    → ((bound : ℕ) → IsHighEnough image heights op low high bound → height ≤ bound) → NeedsHeight image routine heights place height
 needs_height image routine heights place op before after brought low high height plain within here stands yields low_is high_is enough least = record {
   holds = λ other kinds is way.
       let row = led_row image routine place (length (code_of image routine)) place stands.rows kinds plain stands.typed (omega arith) way in

@@ -5,8 +5,10 @@ pub mod Faults
 pub mod Flow
 pub mod Holding
 pub mod Instructions
+pub mod KindLists
 pub mod Reaching
 pub mod Rows
 pub mod Entering
 pub mod Verdict
+pub mod Versions
 pub mod Ways

@@ -25,13 +25,14 @@ use Rattle.ifs_verify.specs.inner.Passes.{IsSized, IsImageRefused}
 use Rattle.ifs_image.proofs.ImageLaws.{image_again}
 use Rattle.ifs_verify.proofs.Faults.{fails_of_accepted}
 
-entry_fits : (routines : List Routine) (k : ℕ) (routine : Routine) → All RoutineFits routines → slice_get routines k ≡ Some routine → RoutineFits routine
-entry_fits routines k routine fits is =
-    subst RoutineFits (get_or_from_slice_get routines k routine routine is) (fits k routine (slice_get_within routines k routine is))
+entry_fits : (version : ℕ) (routines : List Routine) (k : ℕ) (routine : Routine) → All (RoutineFits version) routines → slice_get routines k ≡ Some routine
+    → RoutineFits version routine
+entry_fits version routines k routine fits is =
+    subst (RoutineFits version) (get_or_from_slice_get routines k routine routine is) (fits k routine (slice_get_within routines k routine is))
 
-code_fits : (found : Option Routine) → ((routine : Routine) → found ≡ Some routine → RoutineFits routine) → length (code_in found) ≤ 1024
-code_fits None fits = omega arith
-code_fits (Some routine) fits = (fits routine refl).code
+code_fits : (version : ℕ) (found : Option Routine) → ((routine : Routine) → found ≡ Some routine → RoutineFits version routine) → length (code_in found) ≤ 1024
+code_fits version None fits = omega arith
+code_fits version (Some routine) fits = (fits routine refl).code
 
 -- An image within its limits is small enough for the checks.
 pub sized : (image : ImageParts) → Fits image → IsSized image
@@ -39,8 +40,7 @@ sized image fits = record {
   tests = fits.counts.tests;
   states = fits.counts.states;
   routines = fits.counts.routines;
-  code = λ k. code_fits (slice_get image.routines k) (λ routine is. entry_fits image.routines k routine fits.routines.each is);
-  results = λ k routine is. (entry_fits image.routines k routine fits.routines.each is).results;
+  code = λ k. code_fits image.version (slice_get image.routines k) (λ routine is. entry_fits image.version image.routines k routine fits.routines.each is);
 }
 
 -- A check that fails in the image that the bytes spell is a refusal of them.

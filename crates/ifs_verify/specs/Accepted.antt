@@ -2,7 +2,7 @@
 use Rattle.std.specs.Prelude.{ℕ, ◌≤◌, List}
 use Rattle.ifs_base.specs.declared.op.Kind.{Kind}
 use Rattle.ifs_image.specs.declared.parts.ImageParts.{ImageParts}
-use Rattle.ifs_verify.specs.Rules.{IsRoutine, IndexesFit, HandlersLeaveNothing}
+use Rattle.ifs_verify.specs.Rules.{IsRoutine, IndexesFit, HandlersStandAlone}
 use Rattle.ifs_verify.specs.Rules.{JumpsLeadOn, RoutinesEnd, CallsGoDown, PlacesAreReached}
 use Rattle.ifs_verify.specs.Typing.{AreTypings, IsTyped}
 use Rattle.ifs_verify.specs.Bounds.{AreHeights, AreDepths, AreAmounts, cost_of, commands_of, FitsEvents, FitsHandlers}
@@ -33,7 +33,7 @@ CommandsFit image = (commands : ℕ → ℕ → ℕ) × AreAmounts commands_of i
 -- An image that may run without a trap test.
 pub record IsAccepted (image : ImageParts) : Type 0 where
   pub indexes : IndexesFit image
-  pub handlers : HandlersLeaveNothing image
+  pub handlers : HandlersStandAlone image
   pub jumps : JumpsLeadOn image
   pub ends : RoutinesEnd image
   pub calls : CallsGoDown image

@@ -1,21 +1,21 @@
 -- Bounds: how high the stack grows, how many frames stand at one time, what a run costs and how many commands it queues.
 -- They are any numbers that are large enough; a routine's own bounds are the least such numbers.
-use Rattle.std.specs.Prelude.{ℕ, ◌≡◌, ◌+◌, ◌≤◌, List, length, Some, slice_get}
+use Rattle.std.specs.Prelude.{ℕ, ◌≡◌, ◌+◌, ◌-◌, ◌≤◌, List, length, Some, slice_get}
 use Rattle.ifs_base.specs.declared.ids.RoutineId.{RoutineId}
 use Rattle.ifs_base.specs.declared.op.Kind.{Kind}
 use Rattle.ifs_base.specs.declared.op.Op.{Op}
 use Rattle.ifs_base.specs.declared.op.Op.TheVariants.{Queue, Call}
 use Rattle.ifs_image.specs.declared.parts.StateSpec.{StateSpec}
 use Rattle.ifs_image.specs.declared.parts.ImageParts.{ImageParts}
-use Rattle.ifs_image.specs.Code.{op_at, IsSuccessor, effect}
+use Rattle.ifs_image.specs.Code.{op_at, params_of, IsSuccessor, effect}
 
--- Heights are large enough for each list of kinds, before and after each instruction, and at a call for the callee above the list before it.
+-- Heights are large enough for each list of kinds, before and after each instruction, and at a call for the callee above what its parameters leave of the list before it.
 pub record AreHeights (image : ImageParts) (kinds : ℕ → ℕ → List Kind) (heights : ℕ → ℕ) : Type 0 where
   pub before : (routine place : ℕ) (op : Op) → op_at image routine place ≡ Some op → length (kinds routine place) ≤ heights routine
   pub after : (routine place : ℕ) (op : Op) (next : List Kind) → op_at image routine place ≡ Some op
       → effect image op (kinds routine place) ≡ Some next → length next ≤ heights routine
   pub calls : (routine place : ℕ) (callee : RoutineId) → op_at image routine place ≡ Some (Call callee)
-      → length (kinds routine place) + heights callee.0 ≤ heights routine
+      → length (kinds routine place) - length (params_of image callee.0) + heights callee.0 ≤ heights routine
 
 -- Depths are large enough for a routine's own frame, and for those of each callee above it.
 pub record AreDepths (image : ImageParts) (depths : ℕ → ℕ) : Type 0 where

@@ -18,7 +18,7 @@ use Rattle.ifs_verify.specs.declared.fault.VerifyFault.TheVariants.{NoImage, NoE
 use Rattle.ifs_verify.specs.declared.fault.VerifyFault.TheVariants.{WrongOperand, WaysDisagree, CallNotLower}
 use Rattle.ifs_verify.specs.declared.fault.VerifyFault.TheVariants.{WrongResults, StackOver, FramesOver, CostOver}
 use Rattle.ifs_verify.specs.declared.fault.VerifyFault.TheVariants.{CommandsOver, HandlerLeaves, OutOfMemory}
-use Rattle.ifs_verify.specs.Rules.{IsRoutine, AreIndexes, HasOperand, LeaveNothing, IsReached}
+use Rattle.ifs_verify.specs.Rules.{IsRoutine, AreIndexes, HasOperand, BothStandAlone, IsReached}
 use Rattle.ifs_verify.specs.Typing.{AreTypings}
 use Rattle.ifs_verify.specs.Ways.{Leads}
 use Rattle.ifs_verify.specs.Bounds.{AreHeights, AreDepths, AreAmounts, cost_of, commands_of, FitsEvents, FitsHandlers}
@@ -30,10 +30,10 @@ LacksEntry image Head = ¬ ((image.initial.0 < length image.states) × AreIndexe
 LacksEntry image (State state) = (found : StateSpec) × (slice_get image.states state.0 ≡ Some found) × ¬ AreIndexes image found.handlers
 LacksEntry image (Code routine place) = (op : Op) × (op_at image routine.0 place ≡ Some op) × ¬ HasOperand image op
 
--- A handler has results: of the always part, or of a state.
+-- A handler takes or leaves a value: of the always part, or of a state.
 abbrev pub LeavesValue : ImageParts → At → Type 0
-LeavesValue image Head = ¬ LeaveNothing image image.always
-LeavesValue image (State state) = (found : StateSpec) × (slice_get image.states state.0 ≡ Some found) × ¬ LeaveNothing image found.handlers
+LeavesValue image Head = ¬ BothStandAlone image image.always
+LeavesValue image (State state) = (found : StateSpec) × (slice_get image.states state.0 ≡ Some found) × ¬ BothStandAlone image found.handlers
 LeavesValue image (Code routine place) = ⊥
 
 -- What is said of a place of a routine, and of nothing else.

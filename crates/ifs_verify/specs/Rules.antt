@@ -6,7 +6,7 @@ use Rattle.ifs_base.specs.declared.op.Op.TheVariants.{Ret, Link, Test, Known, Pu
 use Rattle.ifs_image.specs.declared.parts.Handlers.{Handlers}
 use Rattle.ifs_image.specs.declared.parts.StateSpec.{StateSpec}
 use Rattle.ifs_image.specs.declared.parts.ImageParts.{ImageParts}
-use Rattle.ifs_image.specs.Code.{op_at, results_of, code_of, IsSuccessor, target_of}
+use Rattle.ifs_image.specs.Code.{op_at, params_of, results_of, code_of, IsSuccessor, target_of}
 
 -- A routine of the image.
 abbrev pub IsRoutine : ImageParts → ℕ → Type 0
@@ -43,14 +43,18 @@ pub record IndexesFit (image : ImageParts) : Type 0 where
   pub masks : (k : ℕ) (state : StateSpec) → slice_get image.states k ≡ Some state → IsMask image state.handlers.mask
   pub operands : (routine place : ℕ) (op : Op) → op_at image routine place ≡ Some op → HasOperand image op
 
--- Neither handler has results.
-abbrev pub LeaveNothing : ImageParts → Handlers → Type 0
-LeaveNothing image handlers = (results_of image handlers.init.0 ≡ []) × (results_of image handlers.body.0 ≡ [])
+-- A routine takes nothing from a caller, and leaves nothing.
+abbrev pub StandsAlone : ImageParts → ℕ → Type 0
+StandsAlone image routine = (params_of image routine ≡ []) × (results_of image routine ≡ [])
 
--- No handler has results.
-pub record HandlersLeaveNothing (image : ImageParts) : Type 0 where
-  pub always : LeaveNothing image image.always
-  pub states : (k : ℕ) (state : StateSpec) → slice_get image.states k ≡ Some state → LeaveNothing image state.handlers
+-- Neither handler takes or leaves values.
+abbrev pub BothStandAlone : ImageParts → Handlers → Type 0
+BothStandAlone image handlers = StandsAlone image handlers.init.0 × StandsAlone image handlers.body.0
+
+-- No handler takes or leaves values.
+pub record HandlersStandAlone (image : ImageParts) : Type 0 where
+  pub always : BothStandAlone image image.always
+  pub states : (k : ℕ) (state : StateSpec) → slice_get image.states k ≡ Some state → BothStandAlone image state.handlers
 
 -- Each jump leads to a later place of its routine.
 abbrev pub JumpsLeadOn : ImageParts → Type 0

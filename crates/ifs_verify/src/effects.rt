@@ -1,12 +1,10 @@
 //! What an instruction leaves on the stack.
 
-ghost use Rattle.std.specs.Prelude.{◌≡◌, ◌≤◌, ◌<◌, ◌↔◌, ◌++◌, IsTrue, length, Some, None, MatchOption};
+ghost use Rattle.std.specs.Prelude.{◌≡◌, ◌≤◌, ◌↔◌, IsTrue, [], length, Some, None, MatchOption};
 ghost use Rattle.ifs_base.specs.declared.op.Op.TheVariants.{Ret};
-ghost use Rattle.ifs_image.specs.Code.{effect, results_of};
+ghost use Rattle.ifs_image.specs.Code.{effect, called, params_of, results_of};
 ghost use Rattle.ifs_verify.specs.Rules.{IsRoutine, HasOperand};
-ghost use Rattle.ifs_verify.specs.inner.Passes.{IsSized};
 
-use crate::places::result_count;
 use crate::stack::Stack;
 use ifs_base::{Kind, Op};
 use ifs_image::ImageView;
@@ -14,7 +12,6 @@ use ifs_image::ImageView;
 /// Does to a list of kinds what an instruction does. `None` where an operand is missing or of the wrong
 /// kind; what stands then in the list is not said.
 pub fn apply(image: &ImageView<'_>, op: Op, stack: &mut Stack) -> Option<()>
-    requires sized { IsSized image.now }
     requires operand { HasOperand image.now op }
     requires within { length stack.old ≤ 32 }
     ensures { MatchOption result (effect image.now op stack.old ≡ None) (λ _. effect image.now op stack.old ≡ Some stack.new) }
@@ -47,10 +44,7 @@ pub fn apply(image: &ImageView<'_>, op: Op, stack: &mut Stack) -> Option<()>
         Op::Queue => stack.take(Kind::Command),
         Op::Want => stack.take(Kind::StateName),
         Op::JumpFalse(_) | Op::JumpTrue(_) => stack.take(Kind::Truth),
-        Op::Call(callee) => {
-            push_results(image, usize::from(callee.0), stack);
-            Some(())
-        }
+        Op::Call(callee) => call(image, usize::from(callee.0), stack),
         Op::Pop => {
             stack.pop()?;
             Some(())
@@ -64,23 +58,24 @@ pub fn apply(image: &ImageView<'_>, op: Op, stack: &mut Stack) -> Option<()>
     }
 }
 
-/// Puts a routine's results on top.
-fn push_results(image: &ImageView<'_>, routine: usize, stack: &mut Stack)
-    requires sized { IsSized image.now }
+/// Does to a list of kinds what a call of a routine does: its results stand where its parameters stood. `None`
+/// where a parameter is missing or of another kind.
+fn call(image: &ImageView<'_>, routine: usize, stack: &mut Stack) -> Option<()>
     requires routine { IsRoutine image.now routine }
     requires within { length stack.old ≤ 32 }
-    ensures { stack.new ≡ results_of image.now routine ++ stack.old }
+    ensures { MatchOption result (called image.now routine stack.old ≡ None) (λ _. called image.now routine stack.old ≡ Some stack.new) }
 {
-    if result_count(image, routine) == 0 {
-        return;
+    let params = image.params(routine);
+    if !params.is_empty() {
+        stack.take_all(params)?;
     }
-    stack.push(Kind::Truth);
+    stack.push_all(image.results(routine));
+    Some(())
 }
 
 /// Whether a list is a routine's results, where the instruction is `ret`.
 pub fn keeps_results(image: &ImageView<'_>, routine: usize, op: Op, stack: &Stack) -> bool
-    requires sized { IsSized image.now }
-    requires routine { IsRoutine image.now routine }
+    requires { IsRoutine image.now routine }
     ensures { IsTrue result ↔ (op ≡ Ret → stack.now ≡ results_of image.now routine) }
 {
     op != Op::Ret || are_results(image, routine, stack)
@@ -88,11 +83,18 @@ pub fn keeps_results(image: &ImageView<'_>, routine: usize, op: Op, stack: &Stac
 
 /// Whether a list is a routine's results.
 fn are_results(image: &ImageView<'_>, routine: usize, stack: &Stack) -> bool
-    requires sized { IsSized image.now }
-    requires routine { IsRoutine image.now routine }
+    requires { IsRoutine image.now routine }
     ensures { IsTrue result ↔ (stack.now ≡ results_of image.now routine) }
 {
-    let mut results = Stack::new();
-    push_results(image, routine, &mut results);
-    stack.is_same(&results)
+    stack.is_of(image.results(routine))
+}
+
+/// Puts a routine's parameters on the empty list.
+pub fn put_params(image: &ImageView<'_>, routine: usize, stack: &mut Stack)
+    requires routine { IsRoutine image.now routine }
+    requires empty { stack.old ≡ [] }
+    ensures value { stack.new ≡ params_of image.now routine }
+    ensures few { length (params_of image.now routine) ≤ 4 }
+{
+    stack.push_all(image.params(routine));
 }

@@ -48,7 +48,7 @@ pub enum VerifyFault {
     /// V5: an instruction that nothing reaches.
     #[error("V5 {0}")]
     Unreached(At),
-    /// V6: an operand on the stack that is missing or of the wrong kind.
+    /// V6: an operand on the stack, or a parameter of what is called, that is missing or of the wrong kind.
     #[error("V6 {0}")]
     WrongOperand(At),
     /// V7: two ways to one place that disagree on the stack.
@@ -72,7 +72,7 @@ pub enum VerifyFault {
     /// V13: the commands pass their limit or the stated commands.
     #[error("V13 {0}")]
     CommandsOver(At),
-    /// V14: a handler that leaves a value.
+    /// V14: a handler that takes or leaves a value.
     #[error("V14 {0}")]
     HandlerLeaves(At),
     /// V0: no memory was found, in reading or in verifying.

@@ -1,13 +1,14 @@
 //! How high the stack grows in a routine.
 
-ghost use Rattle.std.specs.Prelude.{ℕ, ◌≡◌, ◌≤◌, ◌<◌, ◌+◌, length, slice_index, IfOk, OnOk, IfErr};
+ghost use Rattle.std.specs.Prelude.{ℕ, ◌≡◌, ◌≤◌, ◌<◌, ◌+◌, ◌-◌, length, slice_index, IfOk, OnOk, IfErr};
 ghost use Rattle.ifs_base.specs.declared.ids.RoutineId.{RoutineId};
 ghost use Rattle.ifs_base.specs.declared.op.Op.TheVariants.{Call};
-ghost use Rattle.ifs_image.specs.Code.{code_of};
+ghost use Rattle.ifs_image.specs.Code.{code_of, params_of};
 ghost use Rattle.ifs_verify.specs.Rules.{IsRoutine};
 ghost use Rattle.ifs_verify.specs.inner.Passes.{PlainRulesHold, IsImageRefused, IsTypable};
 ghost use Rattle.ifs_verify.specs.inner.Passes.{AllHold, IsHighEnough, AreLow, AreClear};
 
+use crate::effects::put_params;
 use crate::fault::VerifyFault;
 use crate::places::{code, op_at};
 use crate::stack::Stack;
@@ -17,8 +18,8 @@ use ifs_base::Op;
 use ifs_image::ImageView;
 
 /// The greatest length of a list at any place or after any instruction, and at a call the length
-/// before it and the callee's height, where the routine has a typing: V6, V7, V9, and V10 at an
-/// instruction.
+/// before it, less the callee's parameters, and the callee's height, where the routine has a typing: V6, V7,
+/// V9, and V10 at an instruction.
 ///
 /// `brought` is room for lists, without any before and, where an `Ok` is answered, after.
 pub fn height_of(
@@ -39,6 +40,7 @@ pub fn height_of(
     ensures refused { IfErr result (IsImageRefused image.now) }
 {
     let mut here = Stack::new();
+    put_params(image, routine, &mut here);
     let mut height = 0;
     let code = code(image, routine);
     for place in 0..code.len() {
@@ -50,17 +52,28 @@ pub fn height_of(
 }
 
 /// The height that an instruction needs, with so many kinds before and after it.
-pub fn height_at(op: Op, before: usize, after: usize, heights: &[u32]) -> u32
+pub fn height_at(image: &ImageView<'_>, op: Op, before: usize, after: usize, heights: &[u32]) -> u32
     requires callee { (callee : RoutineId) → op ≡ Call callee → callee.0 < length heights.now }
+    requires routines { length heights.now ≤ length image.now.routines }
     requires before { before ≤ 32 }
     requires after { after ≤ 32 }
     requires low { (routine : ℕ) → slice_index heights.now routine ≤ 32800 }
-    ensures holds { IsHighEnough (slice_index heights.now) op before after result }
-    ensures least { (bound : ℕ) → IsHighEnough (slice_index heights.now) op before after bound → result ≤ bound }
+    ensures holds { IsHighEnough image.now (slice_index heights.now) op before after result }
+    ensures least { (bound : ℕ) → IsHighEnough image.now (slice_index heights.now) op before after bound → result ≤ bound }
 {
     let called = match op {
-        Op::Call(callee) => before as u32 + heights[usize::from(callee.0)],
+        Op::Call(callee) => below(image, usize::from(callee.0), before)
+            + heights[usize::from(callee.0)],
         _ => 0,
     };
     greater(greater(before as u32, after as u32), called)
+}
+
+/// How many kinds stand below a routine's parameters, of so many.
+fn below(image: &ImageView<'_>, routine: usize, kinds: usize) -> u32
+    requires routine { IsRoutine image.now routine }
+    requires kinds { kinds ≤ 32 }
+    ensures { result ≡ kinds - length (params_of image.now routine) }
+{
+    kinds.saturating_sub(image.params(routine).len()) as u32
 }

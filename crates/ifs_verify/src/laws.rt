@@ -1,6 +1,6 @@
 //! Laws of the definitions.
 
-ghost use Rattle.ifs_verify.specs.Laws.{HasOneTyping, RefusedAreNotAccepted};
+ghost use Rattle.ifs_verify.specs.Laws.{HasOneTyping, RefusedAreNotAccepted, UpgradeKeepsAcceptance};
 
 use ifs_image::laws::one_image;
 
@@ -16,3 +16,8 @@ pub fn refused_are_not_accepted()
 {
     one_image();
 }
+
+/// An image and its upgrade to version 2 are accepted alike, with the same least budgets.
+pub fn upgrade_keeps_acceptance()
+    ensures { UpgradeKeepsAcceptance }
+{}

@@ -2,7 +2,6 @@
 
 ghost use Rattle.std.specs.Prelude.{◌≡◌, ◌<◌, ◌≤◌, ◌+◌, ◌^◌, length, slice_get};
 ghost use Rattle.ifs_image.specs.Code.{code_of, target_of};
-ghost use Rattle.ifs_image.specs.declared.parts.Routine.{Routine};
 ghost use Rattle.ifs_image.specs.declared.parts.StateSpec.{StateSpec};
 ghost use Rattle.ifs_verify.specs.declared.fault.At.TheVariants.{State, Code};
 ghost use Rattle.ifs_verify.specs.Rules.{IsRoutine};
@@ -30,14 +29,6 @@ pub fn room(image: &ImageView<'_>) -> usize
         longest = longest.max(code(image, routine).len());
     }
     longest + 1
-}
-
-/// How many results a routine has.
-pub fn result_count(image: &ImageView<'_>, routine: usize) -> u8
-    requires { IsRoutine image.now routine }
-    ensures { (found : Routine) × (slice_get image.now.routines routine ≡ Some found) × (found.results ≡ result) }
-{
-    image.results(routine)
 }
 
 /// The instruction at a place.

@@ -9,13 +9,13 @@ ghost use Rattle.ifs_image.specs.Code.{op_at, code_of, target_of};
 ghost use Rattle.std.specs.Bool.{OnTrue, OnFalse};
 ghost use Rattle.ifs_verify.specs.declared.fault.At.TheVariants.{Code};
 ghost use Rattle.ifs_verify.specs.declared.rules.OpRule.{OpRule};
-ghost use Rattle.ifs_verify.specs.Rules.{IsRoutine, AreRoutines, IsMask, HasOperand, LeaveNothing, IndexesFit};
-ghost use Rattle.ifs_verify.specs.Rules.{HandlersLeaveNothing, JumpsLeadOn, RoutinesEnd, CallsGoDown, PlacesAreReached};
+ghost use Rattle.ifs_verify.specs.Rules.{IsRoutine, AreRoutines, IsMask, HasOperand, StandsAlone, BothStandAlone, IndexesFit};
+ghost use Rattle.ifs_verify.specs.Rules.{HandlersStandAlone, JumpsLeadOn, RoutinesEnd, CallsGoDown, PlacesAreReached};
 ghost use Rattle.ifs_verify.specs.Refused.{Fails};
 ghost use Rattle.ifs_verify.specs.inner.Passes.{IsSized, Keeps, KeepAll, fault_of};
 
 use crate::fault::{At, VerifyFault};
-use crate::places::{at, at_state, code, handlers_of, op_at, result_count, target};
+use crate::places::{at, at_state, code, handlers_of, op_at, target};
 use ifs_base::{Op, RoutineId};
 use ifs_image::{Handlers, ImageView};
 
@@ -115,31 +115,39 @@ fn is_mask(image: &ImageView<'_>, mask: u64) -> bool
     64 <= tests || mask < 1 << tests
 }
 
-/// V14: no handler has results.
+/// V14: no handler takes or leaves values.
 pub fn check_handlers(image: &ImageView<'_>) -> Result<(), VerifyFault>
     requires sized { IsSized image.now }
     requires indexes { IndexesFit image.now }
-    ensures kept { OnOk result (HandlersLeaveNothing image.now) }
+    ensures kept { OnOk result (HandlersStandAlone image.now) }
     ensures refused { IfErr result (λ fault. Fails fault image.now) }
 {
-    if !leave_nothing(image, image.always()) {
+    if !both_stand_alone(image, image.always()) {
         return Err(VerifyFault::HandlerLeaves(At::Head));
     }
     for state in 0..image.states() {
-        if !leave_nothing(image, handlers_of(image, state)) {
+        if !both_stand_alone(image, handlers_of(image, state)) {
             return Err(VerifyFault::HandlerLeaves(at_state(state)));
         }
     }
     Ok(())
 }
 
-/// Whether neither handler has results.
-fn leave_nothing(image: &ImageView<'_>, handlers: Handlers) -> bool
+/// Whether neither handler takes or leaves values.
+fn both_stand_alone(image: &ImageView<'_>, handlers: Handlers) -> bool
     requires { AreRoutines image.now handlers }
-    ensures { IsTrue result ↔ LeaveNothing image.now handlers }
+    ensures { IsTrue result ↔ BothStandAlone image.now handlers }
 {
-    result_count(image, usize::from(handlers.init.0)) == 0
-        && result_count(image, usize::from(handlers.body.0)) == 0
+    stands_alone(image, usize::from(handlers.init.0))
+        && stands_alone(image, usize::from(handlers.body.0))
+}
+
+/// Whether a routine takes nothing from a caller, and leaves nothing.
+fn stands_alone(image: &ImageView<'_>, routine: usize) -> bool
+    requires { IsRoutine image.now routine }
+    ensures { IsTrue result ↔ StandsAlone image.now routine }
+{
+    image.params(routine).is_empty() && image.results(routine).is_empty()
 }
 
 /// V4: the last instruction of each routine, which has one, is `ret`.

@@ -3,11 +3,11 @@
 use ifs_base::Kind;
 use std::marker::Model;
 
-/// A list of kinds, topmost first, in a fixed row. The row has one place more than the stack's limit
-/// of 32, so that a list that passes the limit can be held, and told.
+/// A list of kinds, topmost first, in a fixed row. The row has room for the four results of a routine above
+/// the stack's limit of 32, so that a list that passes the limit can be held, and told.
 #[derive(Drop)]
 pub struct Stack {
-    kinds: [Kind; 33],
+    kinds: [Kind; 36],
     len: usize,
 }
 
@@ -19,11 +19,13 @@ impl Model for Stack {
 
     ghost view = { λ s. reverse (take s.len s.kinds) };
 
-    ghost invariant = { λ s. (s.len ≤ 33) × (length s.kinds ≡ 33) };
+    ghost invariant = { λ s. (s.len ≤ 36) × (length s.kinds ≡ 36) };
 }
 
 impl Stack {
-    ghost use Rattle.std.specs.Prelude.{◌≡◌, ◌<◌, ◌≤◌, ◌↔◌, IsTrue, [], ◌∷◌, length, MatchOption};
+    ghost use Rattle.std.specs.Prelude.{◌≡◌, ◌+◌, ◌<◌, ◌≤◌, ◌↔◌, IsTrue, [], ◌∷◌, ◌++◌};
+    ghost use Rattle.std.specs.Prelude.{length, reverse, Some, None, IfSome, MatchOption};
+    ghost use Rattle.ifs_base.specs.Kinds.{without};
     ghost use Rattle.ifs_verify.specs.inner.Passes.{LacksTop};
 
     /// The empty list.
@@ -31,7 +33,7 @@ impl Stack {
         ensures { result ≡ [] }
     {
         Stack {
-            kinds: [Kind::Truth; 33],
+            kinds: [Kind::Truth; 36],
             len: 0,
         }
     }
@@ -39,7 +41,7 @@ impl Stack {
     /// How many kinds there are.
     pub fn len(&self) -> usize
         ensures value { result ≡ length self.now }
-        ensures room { length self.now ≤ 33 }
+        ensures room { length self.now ≤ 36 }
     {
         self.len
     }
@@ -56,7 +58,7 @@ impl Stack {
 
     /// Puts a kind on top.
     pub fn push(&mut self, kind: Kind)
-        requires { length self.old < 33 }
+        requires { length self.old < 36 }
         ensures { self.new ≡ kind ∷ self.old }
     {
         self.kinds[self.len] = kind;
@@ -83,6 +85,38 @@ impl Stack {
             return None;
         }
         Some(())
+    }
+
+    /// Takes kinds off that are wanted on top, the last of them topmost; `None` where one is missing or of another
+    /// kind. What stands then in the list is not said.
+    #[inline(never)]
+    pub fn take_all(&mut self, kinds: &[Kind]) -> Option<()>
+        ensures left { MatchOption result (without (reverse kinds.now) self.old ≡ None) (λ _. without (reverse kinds.now) self.old ≡ Some self.new) }
+        ensures short { IfSome result (λ _. length self.new ≤ length self.old) }
+    {
+        let mut left = kinds.len();
+        while left > 0 {
+            left -= 1;
+            self.take(kinds[left])?;
+        }
+        Some(())
+    }
+
+    /// Puts kinds on top, the last of them topmost.
+    pub fn push_all(&mut self, kinds: &[Kind])
+        requires { length self.old + length kinds.now ≤ 36 }
+        ensures { self.new ≡ reverse kinds.now ++ self.old }
+    {
+        for index in 0..kinds.len() {
+            self.push(kinds[index]);
+        }
+    }
+
+    /// Whether it is a list of these kinds, the last of them topmost.
+    pub fn is_of(&self, kinds: &[Kind]) -> bool
+        ensures { IsTrue result ↔ (self.now ≡ reverse kinds.now) }
+    {
+        self.kinds[..self.len] == kinds[..]
     }
 
     /// Whether both are the same list.

@@ -62,7 +62,7 @@ pub fn pass(
 {
     let before = here.len();
     leave(image, routine, place, op, here)?;
-    let needed = height_at(op, before, here.len(), heights);
+    let needed = height_at(image, op, before, here.len(), heights);
     if !hand_on(image, routine, place, op, here, brought) {
         return Err(VerifyFault::WaysDisagree(at(routine, place)));
     }
@@ -107,7 +107,6 @@ fn returns_others(
     op: Op,
     before: &Stack,
 ) -> bool
-    requires sized { IsSized image.now }
     requires routine { IsRoutine image.now routine }
     requires op { op_at image.now routine place ≡ Some op }
     requires leads { Leads image.now routine place place before.now }
@@ -120,7 +119,6 @@ fn returns_others(
 /// Turns the list at the end of a way into what an instruction leaves. V6: says whether no operand is
 /// missing or of the wrong kind.
 fn applies(image: &ImageView<'_>, routine: usize, place: usize, op: Op, kinds: &mut Stack) -> bool
-    requires sized { IsSized image.now }
     requires operand { HasOperand image.now op }
     requires op { op_at image.now routine place ≡ Some op }
     requires leads { Leads image.now routine place place kinds.old }
@@ -293,6 +291,9 @@ fn take_up(here: &mut Stack, brought: &mut Vec<Option<Stack>>, place: usize)
     ensures taken { (kinds : List Kind) → row_at brought.old.items place ≡ Some kinds → here.new ≡ kinds }
     ensures cleared { IsCleared brought.old.items brought.new.items place }
 {
+    if brought[place].is_none() {
+        return;
+    }
     if let Some(kinds) = brought[place].take() {
         *here = kinds;
     }

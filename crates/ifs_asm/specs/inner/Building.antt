@@ -3,6 +3,7 @@ use Rattle.std.specs.Prelude.{ℕ, ◌+◌, ◌==◌, ◌&&◌, ◌||◌, not, n
 use Rattle.std.specs.Prelude.{◌∷◌, ◌++◌, length, Option, Some, None, option_and_then, is_some, take, map, min}
 use Rattle.std.specs.List.{flat_map}
 use Rattle.ifs_base.specs.declared.ids.StateId.{StateId}
+use Rattle.ifs_base.specs.declared.op.Kind.TheVariants.{Truth}
 use Rattle.ifs_base.specs.declared.op.Op.{Op}
 use Rattle.ifs_image.specs.declared.parts.Budgets.{Budgets}
 use Rattle.ifs_image.specs.declared.parts.Handlers.{Handlers}
@@ -10,19 +11,25 @@ use Rattle.ifs_image.specs.declared.parts.TestSpec.{TestSpec}
 use Rattle.ifs_image.specs.declared.parts.StateSpec.{StateSpec}
 use Rattle.ifs_image.specs.declared.parts.Routine.{Routine}
 use Rattle.ifs_image.specs.declared.parts.ImageParts.{ImageParts}
-use Rattle.ifs_image.specs.Limits.{names_of}
+use Rattle.ifs_image.specs.Limits.{names_of, code_limit}
 use Rattle.ifs_image.specs.Reading.{stands_in}
+use Rattle.ifs_asm.specs.declared.building.Begun.{Begun}
+use Rattle.ifs_asm.specs.declared.line.Version.{Version}
+use Rattle.ifs_asm.specs.declared.line.Version.TheVariants.{One, Two}
+use Rattle.ifs_asm.specs.declared.line.Head.{Head}
+use Rattle.ifs_asm.specs.declared.line.Head.TheVariants.{Plain, Signature}
 use Rattle.ifs_asm.specs.declared.line.Line.{Line}
 use Rattle.ifs_asm.specs.declared.line.Line.TheVariants as lines
-use Rattle.ifs_asm.specs.Texts.{front_lines, routine_lines}
+use Rattle.ifs_asm.specs.Texts.{version_number, front_lines, routine_lines}
 use Rattle.ifs_asm.specs.Spellings.{is_silent}
 use Rattle.ifs_asm.specs.inner.Words.{words_up_to}
 use Rattle.ifs_asm.specs.inner.Forms.{line_of}
 
--- What was said: how many of the lines before the tables, what they say, the tables, the routines that are whole and
+-- What was said: how many of the lines before the tables, what they say (version 1 where none was said), the tables, the routines that are whole and
 -- the one that instructions go to, and how many instructions all have, up to 65,535.
 pub record Built : Type 0 where
   pub front : ℕ
+  pub version : Version
   pub budgets : Budgets
   pub initial : StateId
   pub always : Handlers
@@ -39,20 +46,26 @@ abbrev pub listed_routine : Option Routine → List Routine
 listed_routine None = []
 listed_routine (Some r) = r ∷ []
 
--- The current routine, by its results and its instructions.
-abbrev pub current_routine : Option ℕ → List Op → Option Routine
+-- The current routine, by how it begins and its instructions.
+abbrev pub current_routine : Option Begun → List Op → Option Routine
 current_routine None code = None
-current_routine (Some results) code = Some (record { results = results; code = code })
+current_routine (Some begun) code = Some (record { params = begun.params; results = begun.results; code = code })
+
+-- A routine without instructions, by how it begins.
+abbrev pub begun : Head → Routine
+begun (Plain true) = record { params = record { items = [] }; results = record { items = Truth ∷ [] }; code = [] }
+begun (Plain false) = record { params = record { items = [] }; results = record { items = [] }; code = [] }
+begun (Signature params results) = record { params = params; results = results; code = [] }
 
 -- The parts of what was said.
 abbrev pub parts_said : Built → ImageParts
-parts_said b = record { budgets = b.budgets; initial = b.initial; always = b.always; interfaces = b.interfaces; tests = b.tests; commands = b.commands; states = b.states; routines = b.routines ++ listed_routine b.current }
+parts_said b = record { version = version_number b.version; budgets = b.budgets; initial = b.initial; always = b.always; interfaces = b.interfaces; tests = b.tests; commands = b.commands; states = b.states; routines = b.routines ++ listed_routine b.current }
 
 -- The lines that were said.
 abbrev pub lines_said : Built → List Line
 lines_said b =
     take b.front (front_lines (parts_said b)) ++ map lines.Interface b.interfaces ++ map lines.Test b.tests ++ map lines.Command b.commands
-    ++ map lines.State b.states ++ flat_map routine_lines (b.routines ++ listed_routine b.current)
+    ++ map lines.State b.states ++ flat_map (routine_lines b.version) (b.routines ++ listed_routine b.current)
 
 abbrev pub is_none : {A : Type 0} → List A → Bool
 is_none [] = true
@@ -67,11 +80,18 @@ current_len (Some r) = length r.code
 abbrev pub routine_count : Built → ℕ
 routine_count b = length (b.routines ++ listed_routine b.current)
 
--- The name of an interface or a state stands before in its table.
-abbrev pub has_name : Built → Line → Bool
-has_name b (lines.Interface name) = stands_in name b.interfaces
-has_name b (lines.State s) = stands_in s.name (names_of b.states)
-has_name b _ = false
+-- A routine begins in the form of the other version.
+abbrev pub is_of_other : Version → Head → Bool
+is_of_other One (Signature params results) = true
+is_of_other Two (Plain truth) = true
+is_of_other _ _ = false
+
+-- No form fits a line: the name of an interface or a state stands before in its table, or a routine begins in the form of the other version than was said.
+abbrev pub has_no_form : Built → Line → Bool
+has_no_form b (lines.Interface name) = stands_in name b.interfaces
+has_no_form b (lines.State s) = stands_in s.name (names_of b.states)
+has_no_form b (lines.Routine head) = nat_lt 0 b.front && is_of_other b.version head
+has_no_form b _ = false
 
 -- A table has no room for a line.
 abbrev pub is_full : Built → Line → Bool
@@ -79,13 +99,13 @@ is_full b (lines.Interface name) = not (nat_lt (length b.interfaces) 64)
 is_full b (lines.Test t) = not (nat_lt (length b.tests) 64)
 is_full b (lines.Command text) = not (nat_lt (length b.commands) 1024)
 is_full b (lines.State s) = not (nat_lt (length b.states) 256)
-is_full b (lines.Routine results) = not (nat_lt (routine_count b) 1024)
-is_full b (lines.Instruction op) = not (nat_lt (current_len b.current) 1024) || not (nat_lt b.count 8192)
+is_full b (lines.Routine head) = not (nat_lt (routine_count b) 1024)
+is_full b (lines.Instruction op) = not (nat_lt (current_len b.current) 1024) || not (nat_lt b.count (code_limit (version_number b.version)))
 is_full b _ = false
 
 -- A line may stand here: no later line was said, and each line before the tables stands once.
 abbrev pub is_in_order : Built → Line → Bool
-is_in_order b lines.Version = b.front == 0
+is_in_order b (lines.Version version) = b.front == 0
 is_in_order b (lines.Stack n) = b.front == 1
 is_in_order b (lines.Frames n) = b.front == 2
 is_in_order b (lines.Cost n) = b.front == 3
@@ -96,7 +116,7 @@ is_in_order b (lines.Interface name) = (b.front == 7) && (is_none b.tests && (is
 is_in_order b (lines.Test t) = (b.front == 7) && (is_none b.commands && is_none b.states)
 is_in_order b (lines.Command text) = (b.front == 7) && is_none b.states
 is_in_order b (lines.State s) = (b.front == 7) && not (is_some b.current)
-is_in_order b (lines.Routine results) = not (is_none b.states)
+is_in_order b (lines.Routine head) = not (is_none b.states)
 is_in_order b (lines.Instruction op) = is_some b.current
 
 -- A routine with one instruction more.
@@ -106,7 +126,7 @@ with_op op (Some r) = Some (record r { code = r.code ++ op ∷ [] })
 
 -- What was said, with a line more.
 abbrev pub with_line : Built → Line → Built
-with_line b lines.Version = record b { front = 1 }
+with_line b (lines.Version version) = record b { front = 1; version = version }
 with_line b (lines.Stack n) = record b { front = 2; budgets = record b.budgets { stack = n } }
 with_line b (lines.Frames n) = record b { front = 3; budgets = record b.budgets { frames = n } }
 with_line b (lines.Cost n) = record b { front = 4; budgets = record b.budgets { cost = n } }
@@ -117,12 +137,12 @@ with_line b (lines.Interface name) = record b { interfaces = b.interfaces ++ nam
 with_line b (lines.Test t) = record b { tests = b.tests ++ t ∷ [] }
 with_line b (lines.Command text) = record b { commands = b.commands ++ text ∷ [] }
 with_line b (lines.State s) = record b { states = b.states ++ s ∷ [] }
-with_line b (lines.Routine results) = record b { routines = b.routines ++ listed_routine b.current; current = Some (record { results = results; code = [] }) }
+with_line b (lines.Routine head) = record b { routines = b.routines ++ listed_routine b.current; current = Some (begun head) }
 with_line b (lines.Instruction op) = record b { current = with_op op b.current; count = min (b.count + 1) 65535 }
 
 -- One line more, where it may stand here.
 abbrev pub one_line_more : Built → Line → Option Built
-one_line_more b line = if has_name b line || (is_full b line || not (is_in_order b line)) then None else Some (with_line b line)
+one_line_more b line = if has_no_form b line || (is_full b line || not (is_in_order b line)) then None else Some (with_line b line)
 
 -- The line of bytes without newline.
 unfoldable pub line_in : List ℕ → Option Line
@@ -146,6 +166,7 @@ spoken_line bytes = if is_silent bytes then [] else bytes ∷ []
 abbrev pub nothing : Built
 nothing = record {
   front = 0;
+  version = One;
   budgets = record { stack = 0; frames = 0; cost = 0; commands = 0 };
   initial = record { 0 = 0 };
   always = record { init = record { 0 = 0 }; body = record { 0 = 0 }; mask = 0 };

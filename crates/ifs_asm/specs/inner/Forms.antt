@@ -4,6 +4,7 @@ use Rattle.std.specs.Prelude.{codes, length, Option, Some, None, option_and_then
 use Rattle.std.specs.List.{slice_split}
 use Rattle.std.specs.Str.{bytes_eq}
 use Rattle.ifs_base.specs.Numbers.{number_of}
+use Rattle.ifs_base.specs.declared.op.Kind.{Kind}
 use Rattle.ifs_base.specs.declared.op.LinkState.{LinkState}
 use Rattle.ifs_base.specs.declared.op.LinkState.TheVariants.{Unknown, Down, Up}
 use Rattle.ifs_base.specs.declared.op.Op.{Op}
@@ -11,6 +12,8 @@ use Rattle.ifs_base.specs.declared.op.Op.TheVariants.{Ret, Yes, No, Link, Test, 
 use Rattle.ifs_base.specs.declared.op.Op.TheVariants.{Either, PushCommand, PushState, Queue, Want}
 use Rattle.ifs_base.specs.declared.op.Op.TheVariants.{Jump, JumpFalse, JumpTrue, Call, Pop, Dup}
 use Rattle.ifs_image.specs.declared.parts.Handlers.{Handlers}
+use Rattle.ifs_asm.specs.declared.line.Version.TheVariants.{One, Two}
+use Rattle.ifs_asm.specs.declared.line.Head.TheVariants.{Plain, Signature}
 use Rattle.ifs_asm.specs.declared.line.Line.{Line}
 use Rattle.ifs_asm.specs.declared.line.Line.TheVariants as lines
 use Rattle.ifs_asm.specs.declared.forms.Formed.{Formed}
@@ -18,8 +21,9 @@ use Rattle.ifs_asm.specs.declared.forms.Bounded.{Bounded}
 use Rattle.ifs_asm.specs.declared.forms.SizedText.{SizedText}
 use Rattle.ifs_asm.specs.declared.forms.HandlersForm.{HandlersForm}
 use Rattle.ifs_asm.specs.declared.lists.ListForm.{ListForm}
+use Rattle.ifs_asm.specs.declared.kinds.KindsForm.{KindsForm}
 use Rattle.ifs_asm.specs.declared.lists.ListForm.TheVariants.{Mask, OutOfRange}
-use Rattle.ifs_asm.specs.inner.Words.{text_in, mask_in, masked}
+use Rattle.ifs_asm.specs.inner.Words.{text_in, mask_in, masked, kinds_in, kinds_from}
 
 -- An instruction without operand.
 abbrev pub plain_op : List ℕ → Option Op
@@ -75,9 +79,11 @@ period_within n = if nat_lt 0 n && nat_lt n 604801 then Some n else None
 abbrev pub period_in : List ℕ → Option ℕ
 period_in word = option_and_then period_within (number_of word)
 
--- The version, which is written in one way.
+-- The version, each written in one way.
 abbrev pub version : List ℕ → Option Line
-version word = if bytes_eq word (codes "1") then Some lines.Version else None
+version word =
+    if bytes_eq word (codes "1") then Some (lines.Version One) else
+    if bytes_eq word (codes "2") then Some (lines.Version Two) else None
 
 -- An instruction with an operand that fits.
 abbrev pub indexed_line : List ℕ → List ℕ → Option Line
@@ -101,9 +107,19 @@ two_words name word =
     if bytes_eq name (codes "command") then option_map lines.Command (sized_text word) else
     number_line name word
 
--- The line that begins a routine.
+-- The line that begins a routine in version 1.
 abbrev pub routine_line : List ℕ → List ℕ → Option Line
-routine_line word number = if bytes_eq word (codes "results") then option_map lines.Routine (number_up_to 1 number) else None
+routine_line word number = if bytes_eq word (codes "results") then option_map (λ n. lines.Routine (Plain (n == 1))) (number_up_to 1 number) else None
+
+-- The same in version 2, by two lists of kinds.
+abbrev pub signed_line : List ℕ → List ℕ → Option Line
+signed_line params results =
+    option_and_then (λ p. option_map (λ r. lines.Routine (Signature (record { items = p }) (record { items = r }))) (kinds_in results)) (kinds_in params)
+
+-- The words that begin a routine in version 2.
+abbrev pub signature_line : List ℕ → List ℕ → List ℕ → List ℕ → List ℕ → Option Line
+signature_line name a params b results =
+    if bytes_eq name (codes "routine") && (bytes_eq a (codes "params") && bytes_eq b (codes "results")) then signed_line params results else None
 
 -- The instruction on a link.
 abbrev pub link_line : List ℕ → List ℕ → Option Line
@@ -144,6 +160,7 @@ abbrev pub line_of : List (List ℕ) → Option Line
 line_of (name ∷ []) = option_map lines.Instruction (plain_op name)
 line_of (name ∷ word ∷ []) = two_words name word
 line_of (name ∷ first ∷ second ∷ []) = three_words name first second
+line_of (name ∷ a ∷ params ∷ b ∷ results ∷ []) = signature_line name a params b results
 line_of (name ∷ a ∷ init ∷ b ∷ body ∷ c ∷ tests ∷ []) = always_line name (handlers_in a init b body c tests)
 line_of (name ∷ text ∷ a ∷ init ∷ b ∷ body ∷ c ∷ tests ∷ []) = state_line name text (handlers_in a init b body c tests)
 line_of words = None
@@ -164,6 +181,15 @@ sized_by (Some s) = if s.fits then Some s.text else None
 abbrev pub handlers_by : Option HandlersForm → Option Handlers
 handlers_by None = None
 handlers_by (Some h) = if h.fits then Some h.handlers else None
+
+abbrev pub kinds_by : Option KindsForm → Option (List Kind)
+kinds_by None = None
+kinds_by (Some k) = if k.fits then Some k.kinds.items else None
+
+-- The kinds after parts that are left.
+abbrev pub kinds_on : Option (List Kind) → List (List ℕ) → Option (List Kind)
+kinds_on None parts = None
+kinds_on (Some kinds) parts = kinds_from kinds parts
 
 abbrev pub mask_by : ListForm → Option ℕ
 mask_by (Mask mask) = Some mask

@@ -1,8 +1,9 @@
 -- A list that is written item by item.
-use Rattle.std.specs.Prelude.{ℕ, Bool, true, false, List, [], ◌++◌, ◌-◌, map, decimal, codes}
+use Rattle.std.specs.Prelude.{ℕ, Bool, true, false, List, [], ◌++◌, ◌-◌, drop, map, decimal, codes}
 use Rattle.std.specs.List.{flat_map}
 use Rattle.ifs_base.specs.Words.{listed}
-use Rattle.ifs_asm.specs.Texts.{tests_from}
+use Rattle.ifs_base.specs.declared.op.Kind.{Kind}
+use Rattle.ifs_asm.specs.Texts.{tests_from, kind_word}
 
 -- What stands before an item: a comma, unless it is the first.
 abbrev pub before_item : Bool → List ℕ
@@ -17,3 +18,7 @@ left_of_list false items = flat_map (λ other. codes "," ++ other) items
 -- What is left to write of the tests of a mask before a test.
 abbrev pub left_at : Bool → ℕ → ℕ → List ℕ
 left_at is_first mask t = left_of_list is_first (map decimal (tests_from (64 - t) t mask))
+
+-- What is left to write of kinds before one of them.
+abbrev pub kinds_left : Bool → ℕ → List Kind → List ℕ
+kinds_left is_first index kinds = left_of_list is_first (map kind_word (drop index kinds))

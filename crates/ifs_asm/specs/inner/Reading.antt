@@ -6,7 +6,7 @@ use Rattle.ifs_asm.specs.declared.fault.LineFault.{LineFault}
 use Rattle.ifs_asm.specs.declared.fault.LineFault.TheVariants.{Unknown, OutOfRange, OutOfOrder, Memory}
 use Rattle.ifs_asm.specs.declared.line.Line.{Line}
 use Rattle.ifs_asm.specs.Refused.{text_lines, speaking}
-use Rattle.ifs_asm.specs.inner.Building.{Built, has_name, is_full, built_by, nothing}
+use Rattle.ifs_asm.specs.inner.Building.{Built, has_no_form, is_full, built_by, nothing}
 
 -- The lines before the rest of a text said what was built; the next line has the number after theirs. Each took a byte.
 pub record AreRead (text left : List ℕ) (b : Built) (number : ℕ) : Type 0 where
@@ -25,7 +25,7 @@ fault_at Memory number = told.Memory
 
 -- What a fault says of the line that is read, if one is, after what was built.
 abbrev pub Blames : Built → Option Line → LineFault → Type 0
-Blames b read Unknown = (line : Line) → read ≡ Some line → has_name b line ≡ true
-Blames b read OutOfRange = (line : Line) → read ≡ Some line → (has_name b line ≡ false) × (is_full b line ≡ true)
-Blames b read OutOfOrder = (line : Line) × (read ≡ Some line) × (has_name b line ≡ false) × (is_full b line ≡ false)
+Blames b read Unknown = (line : Line) → read ≡ Some line → has_no_form b line ≡ true
+Blames b read OutOfRange = (line : Line) → read ≡ Some line → (has_no_form b line ≡ false) × (is_full b line ≡ true)
+Blames b read OutOfOrder = (line : Line) × (read ≡ Some line) × (has_no_form b line ≡ false) × (is_full b line ≡ false)
 Blames b read Memory = Unit {0}

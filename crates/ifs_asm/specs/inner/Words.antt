@@ -1,8 +1,10 @@
--- Reading words: where a word ends, the words of a line, and what quoted texts and lists of tests say.
+-- Reading words: where a word ends, the words of a line, and what quoted texts, lists of tests and lists of kinds say.
 use Rattle.std.specs.Prelude.{ℕ, zero, suc, ◌+◌, ◌-◌, ◌*◌, ◌^◌, ◌==◌, ◌&&◌, ◌||◌, not, nat_lt, Bool, false}
-use Rattle.std.specs.Prelude.{if◌then◌else◌, List, [], ◌∷◌, codes, take, drop, Option, Some, None, option_and_then}
+use Rattle.std.specs.Prelude.{if◌then◌else◌, List, [], ◌∷◌, ◌++◌, length, codes, take, drop, Option, Some, None, option_and_then}
 use Rattle.std.specs.List.{slice_split, prefix_len}
 use Rattle.std.specs.Str.{bytes_eq, is_utf8}
+use Rattle.ifs_base.specs.declared.op.Kind.{Kind}
+use Rattle.ifs_base.specs.declared.op.Kind.TheVariants.{Truth, Command, StateName}
 use Rattle.ifs_base.specs.Numbers.{number_of}
 use Rattle.ifs_asm.specs.Spellings.{is_space_or_tab, is_plain}
 
@@ -157,3 +159,25 @@ masked mask (part ∷ parts) = option_and_then (λ test. option_and_then (λ mor
 -- The mask that a list stands for.
 abbrev pub mask_in : List ℕ → Option ℕ
 mask_in word = if bytes_eq word (codes "-") then Some 0 else masked 0 (slice_split (λ byte. byte == 44) word)
+
+-- ---- lists of kinds
+
+-- The kind of a word.
+abbrev pub kind_in : List ℕ → Option Kind
+kind_in word =
+    if bytes_eq word (codes "truth") then Some Truth else
+    if bytes_eq word (codes "command") then Some Command else
+    if bytes_eq word (codes "state") then Some StateName else None
+
+-- Kinds with one more on top, of which there are at most four.
+abbrev pub with_kind : List Kind → Kind → Option (List Kind)
+with_kind kinds kind = if nat_lt (length kinds) 4 then Some (kinds ++ kind ∷ []) else None
+
+-- Kinds with those of words.
+abbrev pub kinds_from : List Kind → List (List ℕ) → Option (List Kind)
+kinds_from kinds [] = Some kinds
+kinds_from kinds (part ∷ parts) = option_and_then (λ kind. option_and_then (λ more. kinds_from more parts) (with_kind kinds kind)) (kind_in part)
+
+-- The kinds that a list stands for.
+abbrev pub kinds_in : List ℕ → Option (List Kind)
+kinds_in word = if bytes_eq word (codes "-") then Some [] else kinds_from [] (slice_split (λ byte. byte == 44) word)

@@ -1,7 +1,7 @@
 //! The machine's table once more, as a slow program: each frame has a list of its own, and each trap
 //! is looked for.
 
-use ifs_base::{LinkState, Op};
+use ifs_base::{Kind, LinkState, Op};
 use ifs_image::ImageParts;
 use std::alloc::{AllocFailed, Global};
 use std::mem;
@@ -12,6 +12,16 @@ enum Item {
     Truth(bool),
     Command(u16),
     State(u16),
+}
+
+impl Item {
+    fn kind(self) -> Kind {
+        match self {
+            Item::Truth(_) => Kind::Truth,
+            Item::Command(_) => Kind::Command,
+            Item::State(_) => Kind::StateName,
+        }
+    }
 }
 
 /// A routine under way, with its own values, the topmost last.
@@ -139,9 +149,7 @@ impl Plain<'_> {
 
     fn call(&mut self, alloc: Global, routine: u16) -> Result<(), Stop> {
         let routine = usize::from(routine);
-        if routine >= self.parts.routines.len() {
-            return Err(Stop::Trap);
-        }
+        let values = self.given(alloc, routine)?;
         if self.callers.len().saturating_add(1) >= usize::from(self.parts.budgets.frames) {
             return Err(Stop::Trap);
         }
@@ -150,11 +158,27 @@ impl Plain<'_> {
             Frame {
                 routine,
                 place: 0,
-                values: Vec::new(alloc),
+                values,
             },
         );
         self.callers.push(caller)?;
         Ok(())
+    }
+
+    /// What a routine takes off the list, the topmost last.
+    fn given(&mut self, alloc: Global, routine: usize) -> Result<Vec<Item>, Stop> {
+        let Some(callee) = self.parts.routines.as_slice().get(routine) else {
+            return Err(Stop::Trap);
+        };
+        let mut values = Vec::new(alloc);
+        for kind in callee.params.as_slice().iter().rev() {
+            let item = self.pop()?;
+            if item.kind() != *kind {
+                return Err(Stop::Trap);
+            }
+            values.insert(0, item)?;
+        }
+        Ok(values)
     }
 
     /// Whether the handler ended.
@@ -162,13 +186,9 @@ impl Plain<'_> {
         let Some(routine) = self.parts.routines.as_slice().get(self.top.routine) else {
             return Err(Stop::Trap);
         };
-        if self.top.values.len() != usize::from(routine.results) {
+        let kinds = self.top.values.iter().map(|item| item.kind());
+        if !kinds.eq(routine.results.as_slice().iter().copied()) {
             return Err(Stop::Trap);
-        }
-        for item in &self.top.values {
-            if !matches!(item, Item::Truth(_)) {
-                return Err(Stop::Trap);
-            }
         }
         let Some(mut caller) = self.callers.pop() else {
             return Ok(true);

@@ -3,7 +3,7 @@
 use crate::fault::{Check, Fault, Place};
 use crate::slow::kinds::{Kinds, left_by};
 use crate::slow::listing::{Line, Listing};
-use ifs_base::Op;
+use ifs_base::{Op, RoutineId};
 use std::alloc::{AllocError, Global};
 
 /// What may be used at most from a place on. What is past all numbers is the greatest one.
@@ -142,8 +142,16 @@ fn used_at(listing: &Listing, line: &Line, here: Kinds) -> Bounds {
 /// What is used by the routine that an instruction calls; nothing where it calls none.
 fn called(listing: &Listing, line: &Line, here: Kinds, last: &[Bounds]) -> Bounds {
     match line.op {
-        Op::Call(callee) => at(last, listing.first_of(callee)).above(here.len()),
+        Op::Call(callee) => at(last, listing.first_of(callee)).above(kept(listing, callee, here)),
         _ => Bounds::default(),
+    }
+}
+
+/// How many values stay below a called routine.
+fn kept(listing: &Listing, callee: RoutineId, here: Kinds) -> u32 {
+    match listing.signature_of(callee) {
+        Some(signature) => here.len().saturating_sub(signature.params.len()),
+        None => here.len(),
     }
 }
 

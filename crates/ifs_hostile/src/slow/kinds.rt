@@ -3,6 +3,7 @@
 use crate::fault::{Check, Fault, Place};
 use crate::slow::listing::{Line, Listing};
 use ifs_base::{Kind, Op};
+use ifs_image::Routine;
 use std::alloc::{AllocError, Global};
 
 /// How many kinds may lie on the stack.
@@ -15,7 +16,33 @@ pub struct Kinds {
     count: usize,
 }
 
+/// What a routine takes off its caller's list, and what it leaves there.
+#[derive(Clone, Copy, Debug, Default, PartialEq, Eq)]
+pub struct Signature {
+    pub params: Kinds,
+    pub results: Kinds,
+}
+
+impl Signature {
+    /// What a routine says of itself.
+    pub fn of(routine: &Routine) -> Signature {
+        Signature {
+            params: Kinds::of(routine.params.as_slice()),
+            results: Kinds::of(routine.results.as_slice()),
+        }
+    }
+}
+
 impl Kinds {
+    /// These kinds, the topmost last, of which there are fewer than 32.
+    fn of(kinds: &[Kind]) -> Kinds {
+        let mut list = Kinds::default();
+        for kind in kinds {
+            list = list.with(*kind).unwrap_or(list);
+        }
+        list
+    }
+
     /// How many kinds there are, at most 32.
     pub fn len(self) -> u32 {
         u32::try_from(self.count).unwrap_or(u32::MAX)
@@ -53,12 +80,30 @@ impl Kinds {
             Err(Check::Operand)
         }
     }
+
+    /// Without these, which have to be on top.
+    fn without_all(self, wanted: Kinds) -> Result<Kinds, Check> {
+        let mut left = self;
+        for kind in wanted.kinds.iter().rev().flatten() {
+            left = left.without(*kind)?;
+        }
+        Ok(left)
+    }
+
+    /// With these on top, where there is room.
+    fn with_all(self, more: Kinds) -> Result<Kinds, Check> {
+        let mut list = self;
+        for kind in more.kinds.iter().flatten() {
+            list = put(list, *kind)?;
+        }
+        Ok(list)
+    }
 }
 
 /// What an instruction leaves of the kinds that it finds. An error is the check that fails.
 pub fn left_by(listing: &Listing, line: &Line, kinds: Kinds) -> Result<Kinds, Check> {
     match line.op {
-        Op::Ret => returned(line.results, kinds),
+        Op::Ret => returned(listing.signature_at(line.routine), kinds),
         Op::Yes | Op::No | Op::Link(_, _) | Op::Test(_) | Op::Known(_) => put(kinds, Kind::Truth),
         Op::Negate => put(kinds.without(Kind::Truth)?, Kind::Truth),
         Op::Both | Op::Either => {
@@ -71,8 +116,7 @@ pub fn left_by(listing: &Listing, line: &Line, kinds: Kinds) -> Result<Kinds, Ch
         Op::Want => kinds.without(Kind::StateName),
         Op::Jump(_) => Ok(kinds),
         Op::JumpFalse(_) | Op::JumpTrue(_) => kinds.without(Kind::Truth),
-        Op::Call(callee) if listing.results_of(callee) == Some(1) => put(kinds, Kind::Truth),
-        Op::Call(_) => Ok(kinds),
+        Op::Call(callee) => called(listing.signature_of(callee), kinds),
         Op::Pop => kinds.without(kinds.top().ok_or(Check::Operand)?),
         Op::Dup => put(kinds, kinds.top().ok_or(Check::Operand)?),
     }
@@ -84,16 +128,17 @@ fn put(kinds: Kinds, kind: Kind) -> Result<Kinds, Check> {
 }
 
 /// The kinds at `ret`, which are the routine's results.
-fn returned(results: u8, kinds: Kinds) -> Result<Kinds, Check> {
-    let wanted = match results {
-        0 => Some(Kinds::default()),
-        _ => Kinds::default().with(Kind::Truth),
-    };
-    if wanted == Some(kinds) {
-        Ok(kinds)
-    } else {
-        Err(Check::Results)
+fn returned(signature: Option<Signature>, kinds: Kinds) -> Result<Kinds, Check> {
+    match signature {
+        Some(Signature { results, .. }) if results == kinds => Ok(kinds),
+        _ => Err(Check::Results),
     }
+}
+
+/// The kinds behind a call: the callee's results in the place of its parameters.
+fn called(signature: Option<Signature>, kinds: Kinds) -> Result<Kinds, Check> {
+    let Signature { params, results } = signature.ok_or(Check::Entry)?;
+    kinds.without_all(params)?.with_all(results)
 }
 
 /// The kinds at each line, where all ways to a line agree and each instruction fits what it finds.
@@ -131,7 +176,7 @@ fn round(
         .collect(alloc)
 }
 
-/// The kinds at a line: none at a routine's first place, else those that the first line that leads there leaves.
+/// The kinds at a line: the parameters at a routine's first place, else those that the first line that leads there leaves.
 fn found(
     listing: &Listing,
     line: &Line,
@@ -139,7 +184,9 @@ fn found(
     last: &[Option<Kinds>],
 ) -> Option<Kinds> {
     if line.place == 0 {
-        return Some(Kinds::default());
+        return listing
+            .signature_at(line.routine)
+            .map(|signature| signature.params);
     }
     let before = listing.lines().get(origin?)?;
     let kinds = last.get(origin?).copied().flatten()?;

@@ -1,5 +1,6 @@
 //! The instructions of an image in one list, with where each may lead.
 
+use crate::slow::kinds::Signature;
 use ifs_base::{Op, RoutineId};
 use ifs_image::Routine;
 use std::alloc::{AllocError, Global};
@@ -13,8 +14,6 @@ pub struct Line {
     pub place: usize,
     /// How many instructions the routine has.
     pub length: usize,
-    /// How many truths the routine leaves.
-    pub results: u8,
     pub op: Op,
 }
 
@@ -46,8 +45,8 @@ pub struct Listing {
     lines: Vec<Line>,
     /// Of each routine, the index of its first line.
     firsts: Vec<usize>,
-    /// Of each routine, how many truths it leaves.
-    results: Vec<u8>,
+    /// Of each routine, what it takes and leaves.
+    signatures: Vec<Signature>,
     /// Of each line, the index of the first line that leads to it.
     origins: Vec<Option<usize>>,
 }
@@ -58,7 +57,7 @@ impl Listing {
         let mut listing = Listing {
             lines: Vec::new(alloc),
             firsts: Vec::new(alloc),
-            results: Vec::new(alloc),
+            signatures: Vec::new(alloc),
             origins: Vec::new(alloc),
         };
         listing.fill(routines)?;
@@ -68,7 +67,7 @@ impl Listing {
     fn fill(&mut self, routines: &[Routine]) -> Result<(), AllocError> {
         for (index, routine) in routines.iter().enumerate() {
             self.firsts.push(self.lines.len())?;
-            self.results.push(routine.results)?;
+            self.signatures.push(Signature::of(routine))?;
             push_lines(&mut self.lines, index, routine)?;
         }
         push_origins(self.lines.as_slice(), &mut self.origins)
@@ -89,9 +88,14 @@ impl Listing {
         self.firsts.as_slice().get(usize::from(routine.0)).copied()
     }
 
-    /// How many truths a routine leaves.
-    pub fn results_of(&self, routine: RoutineId) -> Option<u8> {
-        self.results.as_slice().get(usize::from(routine.0)).copied()
+    /// What a routine takes and leaves.
+    pub fn signature_of(&self, routine: RoutineId) -> Option<Signature> {
+        self.signature_at(usize::from(routine.0))
+    }
+
+    /// What the routine of an index takes and leaves.
+    pub fn signature_at(&self, routine: usize) -> Option<Signature> {
+        self.signatures.as_slice().get(routine).copied()
     }
 
     /// The index of the line at a place of the routine of another line.
@@ -109,7 +113,6 @@ fn push_lines(lines: &mut Vec<Line>, index: usize, routine: &Routine) -> Result<
             routine: index,
             place,
             length: code.len(),
-            results: routine.results,
             op: *op,
         })?;
     }

@@ -1,6 +1,7 @@
 //! The checks that look at each entry and instruction by itself.
 
 use crate::fault::{Check, Fault, Place};
+use crate::slow::kinds::Signature;
 use crate::slow::listing::{Line, Listing};
 use ifs_base::Op;
 use ifs_image::{Handlers, ImageParts, Routine};
@@ -11,7 +12,7 @@ pub fn check_plain(parts: &ImageParts, listing: &Listing) -> Result<(), Fault> {
     check_head(parts)?;
     check_states(parts)?;
     check_operands(parts, lines)?;
-    check_leaving(parts, listing)?;
+    check_handlers(parts, listing)?;
     check_jumps(lines)?;
     check_ends(parts.routines.as_slice())?;
     check_calls(lines)?;
@@ -85,23 +86,24 @@ fn entry_of(parts: &ImageParts, op: Op) -> (usize, usize) {
     }
 }
 
-/// No handler leaves a value.
-fn check_leaving(parts: &ImageParts, listing: &Listing) -> Result<(), Fault> {
+/// No handler takes or leaves a value.
+fn check_handlers(parts: &ImageParts, listing: &Listing) -> Result<(), Fault> {
     wanted(
-        leave_nothing(listing, parts.always),
+        stand_alone(listing, parts.always),
         Check::Leaves,
         Place::Head,
     )?;
     for (index, state) in parts.states.as_slice().iter().enumerate() {
-        let nothing = leave_nothing(listing, state.handlers);
-        wanted(nothing, Check::Leaves, Place::State(index))?;
+        let alone = stand_alone(listing, state.handlers);
+        wanted(alone, Check::Leaves, Place::State(index))?;
     }
     Ok(())
 }
 
-/// Whether neither handler leaves a value.
-fn leave_nothing(listing: &Listing, handlers: Handlers) -> bool {
-    listing.results_of(handlers.init) == Some(0) && listing.results_of(handlers.body) == Some(0)
+/// Whether neither handler takes or leaves a value.
+fn stand_alone(listing: &Listing, handlers: Handlers) -> bool {
+    let alone = Some(Signature::default());
+    listing.signature_of(handlers.init) == alone && listing.signature_of(handlers.body) == alone
 }
 
 /// Each jump leads forward and stays in its routine.

@@ -1,7 +1,8 @@
 //! What the verifier says of the worked rows.
 
 use super::told;
-use ifs_rows::{Row, bytes_of, cost_through_calls, images, refusals, rows};
+use ifs_image::{read, upgrade, write};
+use ifs_rows::{Refusal, Row, bytes_of, cost_through_calls, images, refusals, rows, version_two};
 use ifs_verify::{Verified, verify};
 use std::alloc::Global;
 use std::process::Abort;
@@ -46,11 +47,59 @@ fn check_told(
     Ok(())
 }
 
+/// Asserts that each row is refused as it says.
+fn check_refusals(rt: &impl Abort, alloc: Global, rows: &[Refusal]) -> Result<(), Fail> {
+    for row in rows {
+        check_told(rt, alloc, row.name, row.image, row.answer)?;
+    }
+    Ok(())
+}
+
+/// What the verifier says of the upgrade of an image; empty where the bytes are none.
+fn upgrade_told(alloc: Global, bytes: &[u8]) -> Result<String, Fail> {
+    let Ok(image) = read(alloc, bytes) else {
+        return Ok(String::new(alloc));
+    };
+    let upgraded = write(alloc, &upgrade(image))?;
+    match verify(alloc, upgraded.as_slice()) {
+        Ok(_) => budgets_of(alloc, upgraded.as_slice()),
+        Err(fault) => Ok(format!(in alloc; "refused {fault}\n")?),
+    }
+}
+
+/// Asserts that the upgrade of an image, where the bytes are one, is answered as the image.
+fn check_alike(
+    rt: &impl Abort,
+    alloc: Global,
+    name: &str,
+    image: &str,
+    answer: &str,
+) -> Result<(), Fail> {
+    let bytes = bytes_of(alloc, image)?;
+    let said = upgrade_told(alloc, bytes.as_slice())?;
+    assert!(rt;
+        said.is_empty() || said.as_str() == answer,
+        "{name}: {said}"
+    );
+    Ok(())
+}
+
+/// The upgrade of each row is accepted with the same budgets, or refused by the same check at the same place.
+#[test]
+fn upgrades_are_answered_alike(rt: HostRuntime) -> Result<(), Fail> {
+    for row in rows() {
+        check_alike(&rt, rt.alloc(), row.name, row.image, row.answer)?;
+    }
+    for row in refusals() {
+        check_alike(&rt, rt.alloc(), row.name, row.image, row.answer)?;
+    }
+    Ok(())
+}
+
 #[test]
 fn refused(rt: HostRuntime) -> Result<(), Fail> {
-    for row in refusals() {
-        check_told(&rt, rt.alloc(), row.name, row.image, row.answer)?;
-    }
+    check_refusals(&rt, rt.alloc(), refusals())?;
+    check_refusals(&rt, rt.alloc(), version_two::refusals())?;
     let doubling = cost_through_calls(rt.alloc())?;
     check_told(
         &rt,

@@ -1,5 +1,5 @@
 -- What the verifier's passes find, and what they rest on.
-use Rattle.std.specs.Prelude.{ℕ, ◌≡◌, ◌≢◌, ◌+◌, ◌<◌, ◌≤◌, Bool, true, List, [], ◌∷◌}
+use Rattle.std.specs.Prelude.{ℕ, ◌≡◌, ◌≢◌, ◌+◌, ◌-◌, ◌<◌, ◌≤◌, Bool, true, List, ◌∷◌}
 use Rattle.std.specs.Prelude.{length, Option, Some, None, slice_get, slice_index, ◌*◌}
 use Rattle.std.specs.Option.{option_flatten}
 use Rattle.ifs_base.specs.declared.ids.RoutineId.{RoutineId}
@@ -8,9 +8,8 @@ use Rattle.ifs_base.specs.declared.op.Op.{Op}
 use Rattle.ifs_base.specs.declared.op.Op.TheVariants.{Ret, Jump, Call}
 use Rattle.ifs_image.specs.declared.parts.Handlers.{Handlers}
 use Rattle.ifs_image.specs.declared.parts.StateSpec.{StateSpec}
-use Rattle.ifs_image.specs.declared.parts.Routine.{Routine}
 use Rattle.ifs_image.specs.declared.parts.ImageParts.{ImageParts}
-use Rattle.ifs_image.specs.Code.{op_at, code_of, results_of, target_of, effect, IsSuccessor}
+use Rattle.ifs_image.specs.Code.{op_at, code_of, params_of, results_of, target_of, effect, IsSuccessor}
 use Rattle.ifs_verify.specs.declared.fault.VerifyFault.{VerifyFault}
 use Rattle.ifs_verify.specs.declared.fault.At.{At}
 use Rattle.ifs_verify.specs.declared.fault.VerifyFault.TheVariants.{NoEntry, JumpTarget, CallNotLower, OutOfMemory}
@@ -32,7 +31,6 @@ pub record IsSized (image : ImageParts) : Type 0 where
   pub states : length image.states ≤ 256
   pub routines : length image.routines ≤ 1024
   pub code : (routine : ℕ) → length (code_of image routine) ≤ 1024
-  pub results : (k : ℕ) (routine : Routine) → slice_get image.routines k ≡ Some routine → routine.results ≤ 1
 
 -- A fault names a check that fails, and where, unless it is want of memory.
 abbrev pub IsImageRefused : ImageParts → VerifyFault → Type 0
@@ -85,7 +83,7 @@ pub record HasPassed (image : ImageParts) (routine : ℕ) (rows : List (Option (
 -- The rows of a routine, whose places below one are passed. What they hold is left by some way over places up to that one.
 pub record IsTypedUpTo (image : ImageParts) (routine : ℕ) (rows : List (Option (List Kind))) (done : ℕ) : Type 0 where
   pub long : length rows ≡ length (code_of image routine)
-  pub start : row_at rows 0 ≡ Some []
+  pub start : row_at rows 0 ≡ Some (params_of image routine)
   pub within : (place : ℕ) (kinds : List Kind) → row_at rows place ≡ Some kinds → length kinds ≤ 32
   pub passed : (place : ℕ) (op : Op) → place < done → op_at image routine place ≡ Some op → HasPassed image routine rows place op
   pub leads : (place : ℕ) (kinds : List Kind) → row_at rows place ≡ Some kinds → Leads image routine done place kinds
@@ -157,13 +155,13 @@ IsMarked marks k = slice_get marks k ≡ Some true
 pub record HoldsHeight (image : ImageParts) (heights : ℕ → ℕ) (op : Op) (kinds : List Kind) (height : ℕ) : Type 0 where
   pub before : length kinds ≤ height
   pub after : (left : List Kind) → effect image op kinds ≡ Some left → length left ≤ height
-  pub call : (callee : RoutineId) → op ≡ Call callee → length kinds + heights callee.0 ≤ height
+  pub call : (callee : RoutineId) → op ≡ Call callee → length kinds - length (params_of image callee.0) + heights callee.0 ≤ height
 
--- A height is large enough for the lengths before and after an instruction, and at a call for the callee above the first.
-pub record IsHighEnough (heights : ℕ → ℕ) (op : Op) (before after height : ℕ) : Type 0 where
+-- A height is large enough for the lengths before and after an instruction, and at a call for the callee above what its parameters leave of the first.
+pub record IsHighEnough (image : ImageParts) (heights : ℕ → ℕ) (op : Op) (before after height : ℕ) : Type 0 where
   pub holds_before : before ≤ height
   pub holds_after : after ≤ height
-  pub call : (callee : RoutineId) → op ≡ Call callee → before + heights callee.0 ≤ height
+  pub call : (callee : RoutineId) → op ≡ Call callee → before - length (params_of image callee.0) + heights callee.0 ≤ height
 
 -- A height is large enough for the instruction at a place, with each list that some way of the routine leads there.
 abbrev pub HoldsAt : ImageParts → ℕ → (ℕ → ℕ) → ℕ → ℕ → Type 0

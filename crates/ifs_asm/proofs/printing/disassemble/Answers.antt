@@ -14,7 +14,7 @@ returns c =
     (rw (c.as_slice-2.ensures, same) at c.in_ok-put_tests.ensures.bytes)
     (rw (c.as_slice-3.ensures, same) at c.in_ok-put_commands.ensures.bytes)
     (rw (c.as_slice-4.ensures, same) at c.in_ok-put_states.ensures.bytes)
-    (rw (c.as_slice-5.ensures, same) at c.in_ok-put_routines.ensures.bytes) in
+    (rw (c.of.ensures, c.as_slice-5.ensures, same) at c.in_ok-put_routines.ensures.bytes) in
     record {
       canonical = is_canonical;
       spelled = subst (λ text. TextSpells text c.args.image.now) (sym is_canonical) (canonical_spells c.args.image.now c.parts-parts.ensures.fits (record {

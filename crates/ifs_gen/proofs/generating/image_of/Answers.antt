@@ -57,6 +57,7 @@ returns-clause-image c =
     let shared_is = c.requires.shared in
     let routines = routines_are policy shared c.from-count.result c.len.result c.always.result.now c.states.result.now all count_is c.len.ensures c.always.ensures c.states.ensures.value all_is in
     λ i. record {
+      version = 1;
       budgets = budgets_are policy shared shared_is c.args.bounds c.event_cost-cost.result c.budgets_with.result c.requires.bounds cost c.budgets_with.ensures i;
       initial = c.initial-2.ensures i;
       always = always_are policy shared shared_is c.len-2.result c.from-count.result c.in_ok-mask.mask c.always.result.now c.handlers_of.result c.len-2.ensures count_is c.always.ensures c.in_ok-mask.ensures.mask

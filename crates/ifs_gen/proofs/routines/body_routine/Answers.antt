@@ -1,6 +1,6 @@
 -- One test more, room for the statements, and the whole.
-use Rattle.std.proofs.Common.{ap, ◌∙◌, arith, refl}
-use Rattle.ifs_gen.specs.PolicyImage.{routine_of_code}
+use Rattle.std.proofs.Common.{◌∙◌, arith, refl}
+use Rattle.ifs_gen.specs.PolicyImage.{routine_leaving}
 use Rattle.ifs_gen.specs.Sharing.{shared_coder}
 use Rattle.ifs_gen.proofs.Called.{coder_sized}
 use Rattle.ifs_gen.proofs.Chains.{held_next, held_room, body_ends, body_is, get_or_same}
@@ -24,6 +24,7 @@ set_held-requires c =
 
 pub returns : goal.returns
 returns c =
-    ap routine_of_code (c.new.ensures ∙ body_is (shared_coder c.args.shared.now) (coder_sized c.args.shared.now) c.loop-test.code.items c.put_block.new.code.items c.set_held.new.code.items
+    let code = body_is (shared_coder c.args.shared.now) (coder_sized c.args.shared.now) c.loop-test.code.items c.put_block.new.code.items c.set_held.new.code.items
     c.push-2.new.self.items c.args.tests.now c.loop-test.test-index c.args.body.now c.loop-test-test.false c.loop-test.invariant c.in_ok-put_block.ensures
-    (λ rest. c.set_held.ensures c.args.tests.now rest refl) c.in_ok-push-3.ensures.items)
+    (λ rest. c.set_held.ensures c.args.tests.now rest refl) c.in_ok-push-3.ensures.items in
+    c.routine_leaving.ensures ∙ (λ i. routine_leaving (c.new.ensures i) (code i))

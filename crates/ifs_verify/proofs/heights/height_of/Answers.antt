@@ -11,9 +11,9 @@ pub loop-place-init : goal.loop-place-init
 loop-place-init c =
     let image = c.args.image.now in
     record {
-      stands = subst (λ (list : List Kind). Stands image c.args.routine 0 list c.args.brought.now.items) (sym c.new-here.ensures)
+      stands = subst (λ (list : List Kind). Stands image c.args.routine 0 list c.args.brought.now.items) (sym c.put_params.ensures.value)
           (stands_first image c.args.routine c.args.brought.now.items (some_code image c.args.routine c.requires.plain.ends c.requires.routine)
-          c.requires.clear);
+          (omega (arith, c.put_params.ensures.few)) c.requires.clear);
       holds = λ place below. absurd (omega arith);
       least = λ bound all. omega arith;
     }

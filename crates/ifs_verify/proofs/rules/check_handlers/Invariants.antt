@@ -1,8 +1,8 @@
 use Rattle.std.proofs.Common.{ℕ, ◌≡◌, ◌<◌, Some}
 use Rattle.std.specs.List.{slice_get}
 use Rattle.ifs_image.specs.declared.parts.StateSpec.{StateSpec}
-use Rattle.ifs_verify.specs.Rules.{LeaveNothing}
+use Rattle.ifs_verify.specs.Rules.{BothStandAlone}
 use Rattle.ifs_verify.proofs.rules.check_handlers.Given as goal
 
 abbrev pub invariant-loop-state : goal.invariant-loop-state
-invariant-loop-state l = (k : ℕ) (state : StateSpec) → k < l.state → slice_get l.image.states k ≡ Some state → LeaveNothing l.image state.handlers
+invariant-loop-state l = (k : ℕ) (state : StateSpec) → k < l.state → slice_get l.image.states k ≡ Some state → BothStandAlone l.image state.handlers

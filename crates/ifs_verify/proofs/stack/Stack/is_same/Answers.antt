@@ -1,24 +1,7 @@
-use Rattle.std.proofs.Common.{◌≡◌, Decides, List, take, reverse, rules, ap, sym, ◌∙◌}
+use Rattle.std.proofs.Common.{take, ap, sym, ◌∙◌, reverse}
 use Rattle.std.proofs.lemmas.Slice.Eq.{slice_eq-Decides}
-use Rattle.std.proofs.lemmas.List.{reverse-reverse}
-use Rattle.ifs_base.specs.declared.op.Kind.{Kind}
-use Rattle.ifs_base.specs.declared.op.Kind.TheVariants.{Truth, Command, StateName}
-use Rattle.ifs_base.specs.contracts.op.KindPartialEq.TheImpl as kinds
+use Rattle.ifs_verify.proofs.KindLists.{kind_eq-Decides, reverse_same}
 use Rattle.ifs_verify.proofs.stack.Stack.is_same.Goals as goal
-
-kind_eq-Decides : (a b : Kind) → Decides (kinds.eq-value.it a b) (a ≡ b)
-kind_eq-Decides Truth Truth = search rules
-kind_eq-Decides Truth Command = search rules
-kind_eq-Decides Truth StateName = search rules
-kind_eq-Decides Command Truth = search rules
-kind_eq-Decides Command Command = search rules
-kind_eq-Decides Command StateName = search rules
-kind_eq-Decides StateName Truth = search rules
-kind_eq-Decides StateName Command = search rules
-kind_eq-Decides StateName StateName = search rules
-
-reverse_same : (xs ys : List Kind) → reverse xs ≡ reverse ys → xs ≡ ys
-reverse_same xs ys e = sym (reverse-reverse xs) ∙ ap reverse e ∙ reverse-reverse ys
 
 pub returns : goal.returns
 returns c =

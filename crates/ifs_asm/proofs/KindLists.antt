@@ -1,0 +1,167 @@
+-- Lists of kinds: what is read of one is the kinds that it lists.
+use Rattle.std.proofs.Common.{◌≡◌, ℕ, ◌+◌, ◌<◌, ◌≤◌, Bool, true, false, cond, List, [], ◌∷◌, ◌++◌, length, map}
+use Rattle.std.proofs.Common.{Option, Some, None, refl, sym, ap, subst, ◌∙◌, arith, codes, append_assoc, length-append, inl, inr}
+use Rattle.std.specs.Prelude.{◌==◌, ◌⊎◌, nat_lt, option_and_then}
+use Rattle.std.specs.List.{flat_map, slice_split, AllByRecursion}
+use Rattle.std.specs.Str.{bytes_eq}
+use Rattle.std.proofs.lemmas.Bool.{cond_both, cond-false, ltb-true, lt-ltb}
+use Rattle.std.proofs.lemmas.List.{append-nil}
+use Rattle.std.proofs.lemmas.List.Elements.{All-from_recursion}
+use Rattle.std.proofs.lemmas.List.Splits.{slice_split_none, slice_split_at}
+use Rattle.std.proofs.lemmas.Option.{option_and_then_some, cond_some, same_Some}
+use Rattle.ifs_base.specs.Words.{listed}
+use Rattle.ifs_base.specs.declared.op.Kind.{Kind}
+use Rattle.ifs_base.specs.declared.op.Kind.TheVariants.{Truth, Command, StateName}
+use Rattle.ifs_asm.specs.Texts.{kind_word, kinds_word}
+use Rattle.ifs_asm.specs.inner.Words.{Bare, kind_in, with_kind, kinds_from, kinds_in}
+use Rattle.ifs_asm.proofs.Bytes.{each_append, same_word}
+use Rattle.ifs_asm.proofs.MaskLists.{IsSolid, joined, runs_solid}
+use Rattle.ifs_asm.proofs.Cutting.{runs}
+
+-- ---- one kind
+
+one_kind : (kind other : Kind) → Some kind ≡ Some other → kind ≡ other
+one_kind kind other e = cc
+
+picked : (b : Bool) (first : Kind) (others : Option Kind) (kind : Kind) → cond b (Some first) others ≡ Some kind → ((b ≡ true) × (first ≡ kind)) ⊎ (others ≡ Some kind)
+picked true first others kind e = inl (refl, one_kind first kind e)
+picked false first others kind e = inr e
+
+no_kind : (kind : Kind) → None ≡ Some kind → ⊥
+no_kind kind e = absurd cc
+
+kind_found : (word : List ℕ) (kind : Kind) → kind_in word ≡ Some kind → word ≡ kind_word kind
+kind_found word kind e =
+    let third : Option Kind = cond (bytes_eq word (codes "state")) (Some StateName) None in
+    let second : Option Kind = cond (bytes_eq word (codes "command")) (Some Command) third in
+    elim (picked (bytes_eq word (codes "truth")) Truth second kind e) [
+      | inl is ↦ same_word word (codes "truth") is.0 ∙ ap kind_word is.1
+      | inr more ↦ elim (picked (bytes_eq word (codes "command")) Command third kind more) [
+        | inl is ↦ same_word word (codes "command") is.0 ∙ ap kind_word is.1
+        | inr last ↦ elim (picked (bytes_eq word (codes "state")) StateName None kind last) [
+          | inl is ↦ same_word word (codes "state") is.0 ∙ ap kind_word is.1
+          | inr none ↦ absurd (no_kind kind none)
+        ]
+      ]
+    ]
+
+kind_again : (kind : Kind) → kind_in (kind_word kind) ≡ Some kind
+kind_again Truth = refl
+kind_again Command = refl
+kind_again StateName = refl
+
+-- ---- what is read lists the kinds
+
+kind_some : (kinds more : List Kind) (kind : Kind) → with_kind kinds kind ≡ Some more → (length kinds < 4) × (kinds ++ kind ∷ [] ≡ more)
+kind_some kinds more kind h =
+    let c = cond_some (nat_lt (length kinds) 4) (kinds ++ kind ∷ []) more h in
+    (ltb-true _ _ c.0, c.1)
+
+-- The kinds of parts that were read after some.
+record Found (before : List Kind) (parts : List (List ℕ)) (all : List Kind) : Type 0 where
+  more : List Kind
+  words : map kind_word more ≡ parts
+  are : all ≡ before ++ more
+  few : length before ≤ 4 → length all ≤ 4
+
+found_from : (parts : List (List ℕ)) (before all : List Kind) → kinds_from before parts ≡ Some all → Found before parts all
+found_from [] before all h =
+    let same : before ≡ all = same_Some before all h in
+    record { more = []; words = refl; are = sym same ∙ sym (append-nil before); few = λ le. subst (λ (ks : List Kind). length ks ≤ 4) same le }
+found_from (part ∷ parts) before all h =
+    option_and_then_some (λ kind. option_and_then (λ more. kinds_from more parts) (with_kind before kind)) (kind_in part) all h (λ kind is_kind rest.
+    option_and_then_some (λ more. kinds_from more parts) (with_kind before kind) all rest (λ more is_more last.
+    let k = kind_some before more kind is_more in
+    let f = found_from parts more all last in
+    record {
+      more = kind ∷ f.more;
+      words = ap (λ (word : List ℕ). word ∷ map kind_word f.more) (sym (kind_found part kind is_kind)) ∙ ap (λ (words : List (List ℕ)). part ∷ words) f.words;
+      are = f.are ∙ ap (λ (ks : List Kind). ks ++ f.more) (sym k.1) ∙ append_assoc before (kind ∷ []) f.more;
+      few = λ le. f.few (omega (arith, k.0, ap length k.1, length-append before (kind ∷ [])));
+    }))
+
+pub kinds_found : (word : List ℕ) (kinds : List Kind) → kinds_in word ≡ Some kinds → (word ≡ kinds_word kinds) × (length kinds ≤ 4)
+kinds_found word kinds h =
+    cond_both (bytes_eq word (codes "-")) (Some []) (kinds_from [] (slice_split (λ byte. byte == 44) word)) (λ (o : Option (List Kind)). o ≡ Some kinds → (word ≡ kinds_word kinds) × (length kinds ≤ 4))
+    (λ e g.
+    let same : [] ≡ kinds = same_Some [] kinds g in
+    (same_word word (codes "-") e ∙ ap kinds_word same, subst (λ (ks : List Kind). length ks ≤ 4) same (omega arith)))
+    (λ e g.
+    let f = found_from (slice_split (λ byte. byte == 44) word) [] kinds g in
+    (sym (joined word) ∙ ap listed (sym f.words) ∙ ap kinds_word (sym f.are), f.few (omega arith))) h
+
+-- ---- what lists kinds is read as them
+
+again_from : (kinds before : List Kind) → length before + length kinds ≤ 4 → kinds_from before (map kind_word kinds) ≡ Some (before ++ kinds)
+again_from [] before few = ap Some (sym (append-nil before))
+again_from (kind ∷ kinds) before few =
+    let room : nat_lt (length before) 4 ≡ true = lt-ltb (length before) 4 (omega (arith, few)) in
+    let one : kinds_from before (kind_word kind ∷ map kind_word kinds) ≡ kinds_from (before ++ kind ∷ []) (map kind_word kinds) = rw (kind_again kind, room) refl in
+    one ∙ again_from kinds (before ++ kind ∷ []) (omega (arith, few, length-append before (kind ∷ []))) ∙ ap Some (append_assoc before (kind ∷ []) kinds)
+
+no_comma : (kind : Kind) → AllByRecursion (λ byte. (byte == 44) ≡ false) (kind_word kind)
+no_comma Truth = (refl, (refl, (refl, (refl, (refl, tt)))))
+no_comma Command = (refl, (refl, (refl, (refl, (refl, (refl, (refl, tt)))))))
+no_comma StateName = (refl, (refl, (refl, (refl, (refl, tt)))))
+
+cut_kinds : (kind : Kind) (kinds : List Kind) → slice_split (λ byte. byte == 44) (kinds_word (kind ∷ kinds)) ≡ map kind_word (kind ∷ kinds)
+cut_kinds kind [] =
+    ap (slice_split (λ byte. byte == 44)) (append-nil (kind_word kind))
+    ∙ slice_split_none (λ byte. byte == 44) (kind_word kind) (All-from_recursion (λ byte. (byte == 44) ≡ false) (kind_word kind) (no_comma kind))
+cut_kinds kind (next ∷ kinds) =
+    slice_split_at (λ byte. byte == 44) (kind_word kind) 44 (kinds_word (next ∷ kinds)) (All-from_recursion (λ byte. (byte == 44) ≡ false) (kind_word kind) (no_comma kind)) refl
+    ∙ ap (λ (words : List (List ℕ)). kind_word kind ∷ words) (cut_kinds next kinds)
+
+no_dash : (kind : Kind) (rest : List ℕ) → bytes_eq (kind_word kind ++ rest) (codes "-") ≡ false
+no_dash Truth rest = refl
+no_dash Command rest = refl
+no_dash StateName rest = refl
+
+pub kinds_again : (kinds : List Kind) → length kinds ≤ 4 → kinds_in (kinds_word kinds) ≡ Some kinds
+kinds_again [] few = refl
+kinds_again (kind ∷ kinds) few =
+    let word = kinds_word (kind ∷ kinds) in
+    let dash : bytes_eq word (codes "-") ≡ false = no_dash kind (flat_map (λ other. codes "," ++ other) (map kind_word kinds)) in
+    cond-false (bytes_eq word (codes "-")) (Some []) (kinds_from [] (slice_split (λ byte. byte == 44) word)) dash
+    ∙ ap (kinds_from []) (cut_kinds kind kinds) ∙ again_from (kind ∷ kinds) [] (omega (arith, few))
+
+-- ---- a list is one word without blanks and quotes
+
+solid_word : (kind : Kind) → AllByRecursion IsSolid (kind_word kind)
+solid_word Truth = ((refl, refl), ((refl, refl), ((refl, refl), ((refl, refl), ((refl, refl), tt)))))
+solid_word Command = ((refl, refl), ((refl, refl), ((refl, refl), ((refl, refl), ((refl, refl), ((refl, refl), ((refl, refl), tt)))))))
+solid_word StateName = ((refl, refl), ((refl, refl), ((refl, refl), ((refl, refl), ((refl, refl), tt)))))
+
+solid_others : (kinds : List Kind) → AllByRecursion IsSolid (flat_map (λ other. codes "," ++ other) (map kind_word kinds))
+solid_others [] = tt
+solid_others (kind ∷ kinds) = ((refl, refl), each_append IsSolid (kind_word kind) (flat_map (λ other. codes "," ++ other) (map kind_word kinds)) (solid_word kind) (solid_others kinds))
+
+solid : (kinds : List Kind) → AllByRecursion IsSolid (kinds_word kinds)
+solid [] = ((refl, refl), tt)
+solid (kind ∷ kinds) = each_append IsSolid (kind_word kind) (flat_map (λ other. codes "," ++ other) (map kind_word kinds)) (solid_word kind) (solid_others kinds)
+
+pub kinds_run : (kinds : List Kind) → runs Bare (kinds_word kinds) ≡ true
+kinds_run kinds = runs_solid (kinds_word kinds) (solid kinds)
+
+pub kinds_some : (kinds : List Kind) → nat_lt 0 (length (kinds_word kinds)) ≡ true
+kinds_some [] = refl
+kinds_some (Truth ∷ kinds) = lt-ltb 0 (length (kinds_word (Truth ∷ kinds))) (omega arith)
+kinds_some (Command ∷ kinds) = lt-ltb 0 (length (kinds_word (Command ∷ kinds))) (omega arith)
+kinds_some (StateName ∷ kinds) = lt-ltb 0 (length (kinds_word (StateName ∷ kinds))) (omega arith)
+
+-- No byte of a list is a newline.
+abbrev IsNoLine : ℕ → Type 0
+IsNoLine byte = (byte == 10) ≡ false
+
+word_in_line : (kind : Kind) → AllByRecursion IsNoLine (kind_word kind)
+word_in_line Truth = (refl, (refl, (refl, (refl, (refl, tt)))))
+word_in_line Command = (refl, (refl, (refl, (refl, (refl, (refl, (refl, tt)))))))
+word_in_line StateName = (refl, (refl, (refl, (refl, (refl, tt)))))
+
+others_in_line : (kinds : List Kind) → AllByRecursion IsNoLine (flat_map (λ other. codes "," ++ other) (map kind_word kinds))
+others_in_line [] = tt
+others_in_line (kind ∷ kinds) = (refl, each_append IsNoLine (kind_word kind) (flat_map (λ other. codes "," ++ other) (map kind_word kinds)) (word_in_line kind) (others_in_line kinds))
+
+pub kinds_in_line : (kinds : List Kind) → AllByRecursion (λ byte. (byte == 10) ≡ false) (kinds_word kinds)
+kinds_in_line [] = (refl, tt)
+kinds_in_line (kind ∷ kinds) = each_append IsNoLine (kind_word kind) (flat_map (λ other. codes "," ++ other) (map kind_word kinds)) (word_in_line kind) (others_in_line kinds)
