@@ -27,6 +27,25 @@ SMALLEST = bytes.fromhex(
     "0001 61 0000 0000 0000000000000000"
     "00 0001 00000000"
 )
+# the upgrade of the smallest image
+UPGRADED = SMALLEST[:4] + b"\2" + SMALLEST[5:-7] + b"\0" + SMALLEST[-7:]
+# routine 0 of the body's routine takes a command
+GIVEN = bytes.fromhex(
+    "49465356 02 0001 0002 00000007 0001"
+    "0001 0000 0001 0001 0003 0000"
+    "0001 0001 0000000000000000"
+    "0005 6361727030"
+    "0006 6563686f206d"
+    "0001 61 0001 0002 0000000000000000"
+    "01 01 00 0002 0b000000 00000000"
+    "00 00 0001 00000000"
+    "00 00 0003 09000000 10000000 00000000"
+)
+GIVEN_LINES = [
+    "ifsv 2", "stack 1", "frames 2", "cost 7", "commands 1", "start 0", "always init 1 body 1 tests -", 'iface "carp0"',
+    'command "echo m"', 'state "a" init 1 body 2 tests -', "routine params command results -", "queue", "ret",
+    "routine params - results -", "ret", "routine params - results -", "cmd 0", "call 0", "ret",
+]
 SMALLEST_LINES = [
     "ifsv 1", "stack 0", "frames 1", "cost 3", "commands 0", "start 0", "always init 0 body 0 tests -",
     'state "a" init 0 body 0 tests -', "routine results 0", "ret",
@@ -61,6 +80,12 @@ TEXTS = {
     "smallest": smallest(),
     "loose": "; the smallest\n\n" + smallest().replace(" ", " \t").replace("init 0", "init 000").rstrip("\n"),
     "version": smallest(1, "ifsv 2"),
+    "third": smallest(1, "ifsv 3"),
+    "second": smallest(1, "ifsv 2").replace("routine results 0", "routine params - results -"),
+    "first_form": smallest(9, "routine params - results -"),
+    "given": lines(*GIVEN_LINES),
+    "given_five": lines(*GIVEN_LINES).replace("params command", "params command,command,truth,truth,state"),
+    "given_what": lines(*GIVEN_LINES).replace("params command", "params commands"),
     "stack": smallest(2, "stack 33"),
     "no_stack": smallest(2),
     "capital": smallest(10, "Ret"),
@@ -113,7 +138,13 @@ WRITING = [
     ("asm loose made/image", {}, 0, "ok 61 bytes\n", "", {"image": SMALLEST}),
     ("asm eight made/image", {}, 0, "ok 54 bytes\n", "", {"image": WITHOUT_ROUTINES}),
     ("asm empty made/image", {"image": OLD}, 1, "refused A3 line 1\n", "", {"image": OLD}),
-    ("asm version made/image", {}, 1, "refused A1 line 1\n", "", {}),
+    ("asm version made/image", {}, 1, "refused A1 line 9\n", "", {}),
+    ("asm third made/image", {}, 1, "refused A1 line 1\n", "", {}),
+    ("asm second made/image", {}, 0, "ok 62 bytes\n", "", {"image": UPGRADED}),
+    ("asm first_form made/image", {"image": OLD}, 1, "refused A1 line 9\n", "", {"image": OLD}),
+    ("asm given made/image", {}, 0, "ok 106 bytes\n", "", {"image": GIVEN}),
+    ("asm given_five made/image", {}, 1, "refused A2 line 11\n", "", {}),
+    ("asm given_what made/image", {}, 1, "refused A1 line 11\n", "", {}),
     ("asm stack made/image", {}, 1, "refused A2 line 2\n", "", {}),
     ("asm no_stack made/image", {}, 1, "refused A3 line 2\n", "", {}),
     ("asm seven made/image", {}, 1, "refused A3 line 8\n", "", {}),
@@ -127,6 +158,25 @@ WRITING = [
     ("asm smallest", {}, 2, "", missing("asm", "<FILE> <IMAGE>", "IMAGE"), {}),
     ("asm smallest made/image more", {}, 2, "", "error: unexpected argument 'more' found\n\n"
      f"Usage: ifsvm asm <FILE> <IMAGE>{TRY}", {}),
+    ("upgrade good made/image", {}, 0, "ok 62 bytes\n", "", {"image": UPGRADED}),
+    ("upgrade good made/image", {"image": OLD}, 0, "ok 62 bytes\n", "", {"image": UPGRADED}),
+    ("upgrade made/image made/image", {"image": SMALLEST}, 0, "ok 62 bytes\n", "", {"image": UPGRADED}),
+    ("upgrade made/old made/image", {"old": UPGRADED}, 0, "ok 62 bytes\n", "", {"old": UPGRADED, "image": UPGRADED}),
+    ("upgrade made/old made/image", {"old": GIVEN}, 0, "ok 106 bytes\n", "", {"old": GIVEN, "image": GIVEN}),
+    ("upgrade cheap made/image", {}, 0, "ok 62 bytes\n", "", {"image": UPGRADED[:12] + b"\2" + UPGRADED[13:]}),
+    ("upgrade made/old made/image", {"old": WITHOUT_ROUTINES}, 0, "ok 54 bytes\n", "",
+     {"old": WITHOUT_ROUTINES, "image": WITHOUT_ROUTINES[:4] + b"\2" + WITHOUT_ROUTINES[5:]}),
+    ("upgrade empty made/image", {"image": OLD}, 1, "refused I1 byte 0\n", "", {"image": OLD}),
+    ("upgrade made/old made/image", {"old": SMALLEST[:4] + b"\3"}, 1, "refused I3 byte 4\n", "", {"old": SMALLEST[:4] + b"\3"}),
+    ("upgrade longest made/image", {}, 1, "refused I2 byte 0\n", "", {}),
+    ("upgrade longer made/image", {"image": OLD}, 3, "", "device longer: too large\n", {"image": OLD}),
+    ("upgrade missing made/image", {}, 3, "", f"device missing: {MISSING}\n", {}),
+    ("upgrade good nowhere/image", {}, 3, "", f"device nowhere/image: {MISSING}\n", {}),
+    ("upgrade good /dev/full", {}, 3, "", f"device /dev/full: {FULL}\n", {}),
+    ("upgrade", {}, 2, "", missing("upgrade", "<IMAGE> <OUT>", "IMAGE", "OUT"), {}),
+    ("upgrade good", {}, 2, "", missing("upgrade", "<IMAGE> <OUT>", "OUT"), {}),
+    ("upgrade good made/image more", {}, 2, "", "error: unexpected argument 'more' found\n\n"
+     f"Usage: ifsvm upgrade <IMAGE> <OUT>{TRY}", {}),
 ]
 # policies with notes, which stand before the last line
 NOTED = [("compile binding made/image", NOTE + "ok 131 bytes\n"), ("compile none_told made/image", "ok 597 bytes\n")]
@@ -204,7 +254,7 @@ def cut_off():
 
 def no_room(program):
     """Where the bytes find no room the old image stands, and nothing else."""
-    for words in ("compile first made/image", "asm smallest made/image"):
+    for words in ("compile first made/image", "asm smallest made/image", "upgrade good made/image"):
         for before in ({}, {"image": OLD}):
             make(before)
             ran = run(program, words, stdout=subprocess.PIPE, preexec_fn=cut_off, restore_signals=False)
@@ -226,7 +276,9 @@ def streams(program):
         os.close(os.open("made/pipe", os.O_WRONLY))
     reader.join()
     yield "ifsvm asm smallest PIPE", (*ran, got, os.listdir("made")), (0, b"ok 61 bytes\n", b"", [SMALLEST], ["pipe"])
-    for words, after in (("compile first made/image", FIRST), ("asm smallest made/image", SMALLEST)):
+    for words, after in (
+        ("compile first made/image", FIRST), ("asm smallest made/image", SMALLEST), ("upgrade good made/image", UPGRADED),
+    ):
         make({})
         with open("/dev/full", "wb") as full:
             ran = run(program, words, stdout=full)
@@ -241,19 +293,22 @@ def starved(program):
     def limited():
         resource.setrlimit(resource.RLIMIT_AS, (limit, limit))
 
-    for word, code in (("compile", "P0"), ("asm", "A0")):
+    for word, code in (("compile", "P0"), ("asm", "A0"), ("upgrade", "I0")):
         make({"image": OLD})
         ran = run(program, f"{word} longest made/image", stdout=subprocess.PIPE, preexec_fn=limited)
         yield f"ifsvm {word} with little memory", (*ran, made()), (1, f"refused {code}\n".encode(), b"", {"image": OLD})
 
 
 def there_and_back(program):
-    """What compile and asm write is verified or refused as it has to be, and is the same through disasm and asm."""
+    """What compile, asm and upgrade write is verified or refused as it has to be, and is the same through disasm and asm."""
     for words, told in (
         ("compile first made/image", "ok stack 1 frames 1 cost 7 commands 1\n"),
         ("compile binding made/image", "ok stack 3 frames 1 cost 11 commands 1\n"),
         ("asm smallest made/image", "ok stack 0 frames 1 cost 3 commands 0\n"),
         ("asm eight made/image", "refused V2 head\n"),
+        ("asm given made/image", "ok stack 1 frames 2 cost 7 commands 1\n"),
+        ("upgrade good made/image", "ok stack 0 frames 1 cost 3 commands 0\n"),
+        ("upgrade cheap made/image", "refused V12 head\n"),
     ):
         make({})
         run(program, words, stdout=subprocess.PIPE)

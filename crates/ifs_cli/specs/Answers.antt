@@ -11,6 +11,7 @@ use Rattle.ifs_gen.specs.declared.compile_fault.CompileFault.TheVariants.{Memory
 use Rattle.ifs_image.specs.declared.parts.ImageParts.{ImageParts}
 use Rattle.ifs_image.specs.Spelling.{Spells}
 use Rattle.ifs_image.specs.Reading.{image_of}
+use Rattle.ifs_image.specs.Upgrade.{upgraded}
 use Rattle.ifs_parse.specs.Files.{File}
 use Rattle.ifs_policy.specs.Texts.{HasPolicy, SaysFile, IsTextRefused}
 use Rattle.ifs_policy.specs.declared.policy.PolicyParts.{PolicyParts}
@@ -19,7 +20,7 @@ use Rattle.ifs_verify.specs.Accepted.{IsAccepted}
 use Rattle.ifs_verify.specs.Refused as verifying
 use Rattle.ifs_verify.specs.declared.fault.VerifyFault.TheVariants.{OutOfMemory}
 use Rattle.ifs_cli.specs.declared.task.Task.{Task}
-use Rattle.ifs_cli.specs.declared.task.Task.TheVariants.{Check, Compile, Verify, Disasm, Asm}
+use Rattle.ifs_cli.specs.declared.task.Task.TheVariants.{Check, Compile, Verify, Disasm, Asm, Upgrade}
 use Rattle.ifs_cli.specs.Lines.{budgets_line, size_line, note_lines, counts_line, refusal_line}
 use Rattle.ifs_cli.specs.Faults.{no_text_words, policy_words, compile_words, assembly_words}
 
@@ -43,6 +44,10 @@ AreAssembly bytes = IsUtf8 bytes × ((image : ImageParts) × TextSpells bytes im
 abbrev pub IsAssembled : List ℕ → List ℕ → Type 0
 IsAssembled text bytes = (image : ImageParts) × TextSpells text image × Spells bytes image
 
+-- Bytes spell the upgrade of the image that other bytes spell.
+abbrev pub IsUpgraded : List ℕ → List ℕ → Type 0
+IsUpgraded bytes file = (image : ImageParts) × Spells bytes image × Spells file (upgraded image)
+
 -- Bytes are a text that has a policy under these definitions.
 abbrev pub ArePolicy : List ℕ → List (List ℕ × List ℕ) → Type 0
 ArePolicy bytes defs = IsUtf8 bytes × ((policy : PolicyParts) × HasPolicy bytes defs policy)
@@ -58,6 +63,7 @@ AreGood Compile bytes defs = AreCompiled bytes defs
 AreGood Verify bytes defs = AreAccepted bytes
 AreGood Disasm bytes defs = AreImage bytes
 AreGood Asm bytes defs = AreAssembly bytes
+AreGood Upgrade bytes defs = AreImage bytes
 
 -- A text is the line of the budgets that the image states which bytes spell.
 abbrev pub TellsBudgets : List ℕ → List ℕ → Type 0
@@ -84,6 +90,7 @@ IsPrinted Compile bytes defs file text = IsSomeAnd file (λ image. TellsCompiled
 IsPrinted Verify bytes defs file text = TellsBudgets bytes text
 IsPrinted Disasm bytes defs file text = IsListing bytes text
 IsPrinted Asm bytes defs file text = IsSomeAnd file (λ image. text ≡ size_line (length image))
+IsPrinted Upgrade bytes defs file text = IsSomeAnd file (λ image. text ≡ size_line (length image))
 
 -- A text is the line of a refusal, which tells in words a fault of which something holds.
 pub record Tells {Fault : Type 0} (words : Fault → List ℕ) (Holds : Fault → Type 0) (text : List ℕ) : Type 0 where
@@ -110,11 +117,13 @@ IsRefusedBy Compile bytes defs text = TellsNoText bytes text ⊎ Tells compile_w
 IsRefusedBy Verify bytes defs text = Tells verify_fault_words (λ fault. (fault ≢ OutOfMemory) × verifying.IsRefusal bytes fault) text
 IsRefusedBy Disasm bytes defs text = Tells image_fault_words (λ fault. image_of bytes ≡ Err fault) text
 IsRefusedBy Asm bytes defs text = TellsNoLine bytes text ⊎ Tells assembly_words (IsAssemblyRefused bytes) text
+IsRefusedBy Upgrade bytes defs text = Tells image_fault_words (λ fault. image_of bytes ≡ Err fault) text
 
--- The file that is given for good bytes: of a text that is compiled the image that means its policy, of assembly text the image that it spells, and none of the other tasks.
+-- The file that is given for good bytes: of a text that is compiled the image that means its policy, of assembly text the image that it spells, of an image its upgrade, and none of the other tasks.
 abbrev pub IsGiven : Task → List ℕ → List (List ℕ × List ℕ) → Option (List ℕ) → Type 0
 IsGiven Check bytes defs file = file ≡ None
 IsGiven Compile bytes defs file = IsSomeAnd file (IsCompiled bytes defs)
 IsGiven Verify bytes defs file = file ≡ None
 IsGiven Disasm bytes defs file = file ≡ None
 IsGiven Asm bytes defs file = IsSomeAnd file (IsAssembled bytes)
+IsGiven Upgrade bytes defs file = IsSomeAnd file (IsUpgraded bytes)

@@ -16,6 +16,7 @@ use crate::images::write_image;
 use crate::lines::of_budgets;
 use crate::refusing::Told;
 use crate::task::{Answer, Task};
+use crate::upgrading::upgrade;
 use ifs_verify::{VerifyFault, verify};
 use std::alloc::{AllocError, Global};
 use std::rt::Files;
@@ -47,6 +48,7 @@ pub fn answer(
         Task::Verify => verified(alloc, input),
         Task::Disasm => disasm(alloc, input),
         Task::Asm => asm(alloc, input),
+        Task::Upgrade => upgrade(alloc, input),
     }
 }
 

@@ -1,7 +1,6 @@
 //! What `asm` answers to the bytes of an assembly text.
 
 ghost use Rattle.std.specs.Prelude.{◌≡◌, ◌≢◌, ◌≤◌, ◌⊎◌, length, None, option_map, string_bytes, IsSomeAnd, IfOk};
-ghost use Rattle.ifs_image.specs.Spelling.{Spells};
 ghost use Rattle.ifs_cli.specs.Answers.{AreAssembly, IsAssembled, Tells, TellsNoLine};
 ghost use Rattle.ifs_asm.specs.Refused.{IsAssemblyRefused};
 ghost use Rattle.ifs_asm.specs.declared.fault.AsmFault.TheVariants.{Unknown};
@@ -9,11 +8,9 @@ ghost use Rattle.ifs_cli.specs.Faults.{assembly_words};
 ghost use Rattle.ifs_cli.specs.Lines.{size_line};
 
 use crate::checking::{NotText, text_of};
-use crate::lines::of_size;
 use crate::refusing::Told;
 use crate::task::Answer;
 use ifs_asm::{AsmFault, assemble};
-use ifs_image::{Image, write};
 use std::alloc::{AllocError, Global};
 
 /// The answer of `asm`: the length of the image that a text spells, which is the file. It is not verified.
@@ -31,21 +28,10 @@ pub fn asm(alloc: Global, bytes: &[u8]) -> Result<Answer, AllocError>
         Err(fault) => return Answer::refused(alloc, Told(unknown(fault))),
     };
     match assemble(alloc, text) {
-        Ok(image) => written(alloc, &image),
+        Ok(image) => Answer::written(alloc, &image),
         Err(AsmFault::Memory) => Err(AllocError),
         Err(fault) => Answer::refused(alloc, Told(fault)),
     }
-}
-
-/// What is told of an image, and its bytes.
-fn written(alloc: Global, image: &Image) -> Result<Answer, AllocError>
-    ensures good { IfOk result (λ answer. answer.status ≡ 0) }
-    ensures file { IfOk result (λ answer. IsSomeAnd (option_map (λ file. file.items) answer.file) (λ file. Spells file image.now)) }
-    ensures text { IfOk result (λ answer. IsSomeAnd (option_map (λ file. file.items) answer.file) (λ file. string_bytes answer.text ≡ size_line (length file))) }
-{
-    let file = write(alloc, image)?;
-    let line = of_size(alloc, file.len())?;
-    Ok(Answer::good(line, Some(file)))
 }
 
 /// A line with a byte that is no UTF-8 has no form that is known.

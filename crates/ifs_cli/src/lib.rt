@@ -25,3 +25,4 @@ pub mod runner;
 pub mod runner_host;
 pub mod shell;
 pub mod task;
+mod upgrading;

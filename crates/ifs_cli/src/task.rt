@@ -1,9 +1,12 @@
 //! Tasks on the bytes of a file, and their answers.
 
-ghost use Rattle.std.specs.Prelude.{◌≡◌, None, string_bytes, IfOk, IfSome};
+ghost use Rattle.std.specs.Prelude.{◌≡◌, None, length, option_map, string_bytes, IfOk, IfSome, IsSomeAnd};
+ghost use Rattle.ifs_image.specs.Spelling.{Spells};
 ghost use Rattle.ifs_cli.specs.Faults.{memory_words};
-ghost use Rattle.ifs_cli.specs.Lines.{refusal_line};
+ghost use Rattle.ifs_cli.specs.Lines.{refusal_line, size_line};
 
+use crate::lines::of_size;
+use ifs_image::{Image, write};
 use std::alloc::{AllocError, Global};
 use std::fmt::Display;
 
@@ -20,6 +23,8 @@ pub enum Task {
     Disasm,
     /// Make the image that an assembly text spells.
     Asm,
+    /// Make the image of version 2 that says what an image says.
+    Upgrade,
 }
 
 impl Task {
@@ -30,7 +35,7 @@ impl Task {
         match self {
             Task::Check | Task::Compile => "P0",
             Task::Verify => "V0",
-            Task::Disasm => "I0",
+            Task::Disasm | Task::Upgrade => "I0",
             Task::Asm => "A0",
         }
     }
@@ -56,6 +61,17 @@ impl Answer {
             text,
             file,
         }
+    }
+
+    /// The answer that gives the bytes of an image, and tells their number.
+    pub(crate) fn written(alloc: Global, image: &Image) -> Result<Answer, AllocError>
+        ensures status { IfOk result (λ answer. answer.status ≡ 0) }
+        ensures file { IfOk result (λ answer. IsSomeAnd (option_map (λ file. file.items) answer.file) (λ file. Spells file image.now)) }
+        ensures text { IfOk result (λ answer. IsSomeAnd (option_map (λ file. file.items) answer.file) (λ file. string_bytes answer.text ≡ size_line (length file))) }
+    {
+        let file = write(alloc, image)?;
+        let line = of_size(alloc, file.len())?;
+        Ok(Answer::good(line, Some(file)))
     }
 
     /// The answer to bytes that are refused: one line, with the fault.

@@ -5,7 +5,7 @@ use ifs_cli::definitions::definition_of;
 use ifs_cli::files::{FileFault, whole};
 use ifs_cli::task::{Answer, Task};
 use ifs_rows::policies::{accepted as policies, refused_names, refused_texts, refused_tokens};
-use ifs_rows::{Checked, bytes_of, cost_through_calls, refusals, rows};
+use ifs_rows::{Checked, Refusal, bytes_of, cost_through_calls, refusals, rows, version_two};
 use std::alloc::Global;
 use std::io::{self, ErrorKind, Read};
 use std::process::Abort;
@@ -41,11 +41,65 @@ fn accepted(rt: HostRuntime) -> Result<(), Fail> {
     Ok(())
 }
 
+fn check_refusals(rt: &impl Abort, alloc: Global, rows: &[Refusal]) -> Result<(), Fail> {
+    for row in rows {
+        check(rt, alloc, row.name, row.image, row.answer, 1)?;
+    }
+    Ok(())
+}
+
+/// The answer of `upgrade` to an image in hexadecimal is the length of this image, which is the file.
+fn check_upgrade(
+    rt: &impl Abort,
+    alloc: Global,
+    name: &str,
+    image: &str,
+    upgraded: &str,
+) -> Result<(), Fail> {
+    let bytes = bytes_of(alloc, image)?;
+    let wanted = bytes_of(alloc, upgraded)?;
+    let answer = answer(alloc, Task::Upgrade, bytes.as_slice(), &[])?;
+    let line = format!(in alloc; "ok {} bytes\n", wanted.len())?;
+    assert_eq!(rt; answer.text.as_str(), line.as_str(), "{name}");
+    assert_eq!(rt; answer.status, 0, "{name}");
+    match &answer.file {
+        Some(file) => assert_eq!(rt; file.as_slice(), wanted.as_slice(), "{name}"),
+        None => panic!(rt; "no image: {name}"),
+    }
+    Ok(())
+}
+
+/// An image of version 1 becomes one of version 2, and one of version 2 stays.
+#[test]
+fn upgraded(rt: HostRuntime) -> Result<(), Fail> {
+    for row in version_two::upgrades() {
+        check_upgrade(&rt, rt.alloc(), row.name, row.image, row.upgraded)?;
+        check_upgrade(&rt, rt.alloc(), row.name, row.upgraded, row.upgraded)?;
+    }
+    let call = version_two::call_in_a_call();
+    check_upgrade(&rt, rt.alloc(), call.name, call.image, call.image)
+}
+
+/// Bytes that are no image are refused as reading refuses them; an image that is not accepted is upgraded all the same.
+#[test]
+fn refused_upgrades(rt: HostRuntime) -> Result<(), Fail> {
+    for row in refusals() {
+        let bytes = bytes_of(rt.alloc(), row.image)?;
+        let answer = answer(rt.alloc(), Task::Upgrade, bytes.as_slice(), &[])?;
+        if row.answer.starts_with("refused I") {
+            check_answer(&rt, &answer, row.name, row.answer, 1);
+        } else {
+            assert_eq!(rt; answer.status, 0, "{}", row.name);
+            assert!(rt; answer.file.is_some(), "{}", row.name);
+        }
+    }
+    Ok(())
+}
+
 #[test]
 fn refused(rt: HostRuntime) -> Result<(), Fail> {
-    for row in refusals() {
-        check(&rt, rt.alloc(), row.name, row.image, row.answer, 1)?;
-    }
+    check_refusals(&rt, rt.alloc(), refusals())?;
+    check_refusals(&rt, rt.alloc(), version_two::refusals())?;
     let doubling = cost_through_calls(rt.alloc())?;
     check(
         &rt,

@@ -2,7 +2,7 @@
 
 use ifs_cli::answering::answer;
 use ifs_cli::task::{Answer, Task};
-use ifs_rows::{bytes_of, cost_through_calls, images, refusals, rows};
+use ifs_rows::{bytes_of, cost_through_calls, images, refusals, rows, version_two};
 use std::alloc::Global;
 use std::process::Abort;
 use std::test::Fail;
@@ -62,6 +62,9 @@ fn images_there_and_back(rt: HostRuntime) -> Result<(), Fail> {
     for row in refusals() {
         check_back(&rt, rt.alloc(), row.name, row.image, row.answer)?;
     }
+    for row in version_two::refusals() {
+        check_back(&rt, rt.alloc(), row.name, row.image, row.answer)?;
+    }
     let doubling = cost_through_calls(rt.alloc())?;
     let image = doubling.as_str();
     check_back(
@@ -88,7 +91,7 @@ fn refused_assembly_texts(rt: HostRuntime) -> Result<(), Fail> {
         ("the empty text", b"", "refused A3 line 1\n"),
         (
             "a version that is not known",
-            b"ifsv 2\n",
+            b"ifsv 3\n",
             "refused A1 line 1\n",
         ),
         (

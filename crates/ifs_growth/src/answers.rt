@@ -19,7 +19,7 @@ pub enum Call {
 }
 
 /// Each of them.
-pub fn calls() -> [Listed<Call>; 7] {
+pub fn calls() -> [Listed<Call>; 8] {
     [
         Listed::new(Call::Answer(Task::Check), "answer on check", "AllocError"),
         Listed::new(
@@ -30,6 +30,11 @@ pub fn calls() -> [Listed<Call>; 7] {
         Listed::new(Call::Answer(Task::Verify), "answer on verify", "AllocError"),
         Listed::new(Call::Answer(Task::Disasm), "answer on disasm", "AllocError"),
         Listed::new(Call::Answer(Task::Asm), "answer on asm", "AllocError"),
+        Listed::new(
+            Call::Answer(Task::Upgrade),
+            "answer on upgrade",
+            "AllocError",
+        ),
         Listed::new(Call::Definition, "Definition::new", "AllocError"),
         Listed::new(Call::Whole, "files::whole", "Memory"),
     ]

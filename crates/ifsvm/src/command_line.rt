@@ -25,6 +25,9 @@ const FILE: &str = "file";
 /// The operand that names the image that is written.
 const IMAGE: &str = "image";
 
+/// The operand that names the upgrade that is written.
+const UPGRADED: &str = "upgraded";
+
 /// The operand that names a socket.
 const SOCKET: &str = "socket";
 
@@ -83,6 +86,11 @@ pub enum Asked {
     Asm {
         file: String,
         image: String,
+    },
+    /// Write the image of version 2 that says what the image of a file says.
+    Upgrade {
+        image: String,
+        upgraded: String,
     },
     /// A session on the image of a file.
     Sim {
@@ -176,6 +184,10 @@ fn asked_with(
         "asm" => Ok(Asked::Asm {
             file: operand_of(alloc, operands, FILE)?,
             image: operand_of(alloc, operands, IMAGE)?,
+        }),
+        "upgrade" => Ok(Asked::Upgrade {
+            image: operand_of(alloc, operands, FILE)?,
+            upgraded: operand_of(alloc, operands, UPGRADED)?,
         }),
         "serve" => serve_asked(alloc, operands),
         "send" => send_asked(alloc, command, operands),
@@ -319,6 +331,7 @@ fn subcommands<'a>(alloc: Global) -> Result<Vec<Command<'a>>, AllocError> {
         Word::Verify,
         Word::Disasm,
         Word::Asm,
+        Word::Upgrade,
         Word::Sim,
         Word::Serve,
         Word::Send,
@@ -336,6 +349,7 @@ enum Word {
     Verify,
     Disasm,
     Asm,
+    Upgrade,
     Sim,
     Serve,
     Send,
@@ -350,6 +364,7 @@ impl Word {
             Word::Verify => verify(alloc),
             Word::Disasm => disasm(alloc),
             Word::Asm => asm(alloc),
+            Word::Upgrade => upgrade(alloc),
             Word::Sim => sim(alloc),
             Word::Serve => serve(alloc),
             Word::Send => send(alloc),
@@ -368,7 +383,7 @@ fn compile<'a>(alloc: Global) -> Result<Command<'a>, AllocError> {
     Command::new(alloc, "compile")
         .about("Compile a policy and write its image, with the notes of check")
         .arg(file(alloc, "FILE"))?
-        .arg(image(alloc))?
+        .arg(written(alloc, IMAGE, "IMAGE"))?
         .arg(definition(alloc))
 }
 
@@ -388,7 +403,14 @@ fn asm<'a>(alloc: Global) -> Result<Command<'a>, AllocError> {
     Command::new(alloc, "asm")
         .about("Write the image that assembly text spells, which is not verified")
         .arg(file(alloc, "FILE"))?
-        .arg(image(alloc))
+        .arg(written(alloc, IMAGE, "IMAGE"))
+}
+
+fn upgrade<'a>(alloc: Global) -> Result<Command<'a>, AllocError> {
+    Command::new(alloc, "upgrade")
+        .about("Write the image of version 2 that says what an image says, which is not verified")
+        .arg(file(alloc, "IMAGE"))?
+        .arg(written(alloc, UPGRADED, "OUT"))
 }
 
 fn sim<'a>(alloc: Global) -> Result<Command<'a>, AllocError> {
@@ -436,10 +458,10 @@ fn file<'a>(alloc: Global, name: &'a str) -> Arg<'a> {
         .required(true)
 }
 
-/// The operand that names the image that is written.
-fn image<'a>(alloc: Global) -> Arg<'a> {
-    Arg::new(alloc, IMAGE)
-        .value_name("IMAGE")
+/// An operand that names the image that is written, and what help calls it.
+fn written<'a>(alloc: Global, operand: &'a str, name: &'a str) -> Arg<'a> {
+    Arg::new(alloc, operand)
+        .value_name(name)
         .help(
             "the file that is written, whole or not at all; what is no regular file is written as it stands",
         )

@@ -42,6 +42,9 @@ fn ending_of(rt: &HostRuntime) -> Result<Ending, Ending> {
         Asked::Verify { image } => on_file(rt, Task::Verify, image, None, &[]),
         Asked::Disasm { image } => on_file(rt, Task::Disasm, image, None, &[]),
         Asked::Asm { file, image } => on_file(rt, Task::Asm, file, Some(image), &[]),
+        Asked::Upgrade { image, upgraded } => {
+            on_file(rt, Task::Upgrade, image, Some(upgraded), &[])
+        }
         Asked::Sim { image } => sessions::on_file(rt, image),
         Asked::Serve(serving) => serving::serve(rt, serving),
         Asked::Send(sending) => sending::send(rt, sending),
