@@ -31,9 +31,13 @@ abbrev pub run_as_number : Option ℕ → ℕ
 run_as_number None = 2 ^ 64
 run_as_number (Some run) = run
 
--- A schedule at moment 0 whose tests, of these periods, are all off.
+-- The same of a run number as callers give and get it: 0 says that none is left.
+abbrev pub run_from : ℕ → ℕ
+run_from run = if run == 0 then 2 ^ 64 else run
+
+-- A schedule at moment 0 whose tests, of these periods, are all off, and whose first run has this number, where one is left.
 unfoldable pub all_off : List ℕ → ℕ → Timetable
-all_off periods first_run = record { present = 0; next_run = first_run; tests = map inactive periods }
+all_off periods first_run = record { present = 0; next_run = run_from first_run; tests = map inactive periods }
 
 -- Whether a set, as a mask, has the test of an index: its bit of weight 2 ^ t is test t.
 abbrev pub has_test : ℕ → ℕ → Bool

@@ -3,7 +3,7 @@
 ghost use Rattle.std.specs.Prelude.{◌≡◌, ◌<◌, ◌≤◌, ◌↔◌, ◌+◌, IsTrue, IsOk, IsErr, IfOk, OnOk, OnErr, All, length, map};
 ghost use Rattle.std.specs.List.{range_with_len};
 ghost use Rattle.ifs_sched.specs.Schedule.{all_off, entered, finished, is_exhausted, is_running};
-ghost use Rattle.ifs_sched.specs.Schedule.{running_count, starts as starts_at, ticked};
+ghost use Rattle.ifs_sched.specs.Schedule.{run_as_number, run_from, running_count, starts as starts_at, ticked};
 ghost use Rattle.ifs_sched.specs.Idle.{AreIdle, IsNextDue};
 
 use crate::start::{MAX_TESTS, Start, Started};
@@ -39,21 +39,31 @@ impl Model for Schedule {
 
     ghost view = { λ a. record { present = a.present; next_run = run_as_number a.next_run; tests = a.timers } };
 
-    ghost invariant = { λ a. run_as_number a.next_run ≤ 2 ^ 64 };
+    ghost invariant = { λ a. (1 ≤ run_as_number a.next_run) × (run_as_number a.next_run ≤ 2 ^ 64) };
+}
+
+/// The first run number, where one is left: 0 is none.
+fn numbered_from(first_run: u64) -> Option<u64>
+    ensures { run_as_number result ≡ run_from first_run }
+{
+    if first_run == 0 {
+        None
+    } else {
+        Some(first_run)
+    }
 }
 
 impl Schedule {
     /// A schedule at moment 0 of tests of these periods, in seconds, all of them off. The first
-    /// start gets the number `first_run`, at least 1.
+    /// start gets the number `first_run`; 0 says that no number is left, so that nothing is started.
     #[tactic(auto, unfolding(crate::specs::Schedule::all_off))]
     pub fn new(periods: ArrayVec<u32, MAX_TESTS>, first_run: u64) -> Schedule
-        requires { 1 ≤ first_run }
         ensures value { result ≡ all_off periods.items first_run }
         ensures same_number { length result.tests ≡ length periods.items }
     {
         Schedule {
             present: 0,
-            next_run: Some(first_run),
+            next_run: numbered_from(first_run),
             timers: Timers::new(periods.as_slice()),
         }
     }
@@ -144,6 +154,13 @@ impl Schedule {
         ensures { result ≡ self.now.present }
     {
         self.present
+    }
+
+    /// The number of the next run, from which a schedule that is made with it goes on; 0 where none is left.
+    pub fn next_run(&self) -> u64
+        ensures { run_from result ≡ self.now.next_run }
+    {
+        self.next_run.unwrap_or(0)
     }
 
     /// How many tests run.
