@@ -7,3 +7,4 @@ pub mod RunnerHosts
 pub mod Definitions
 pub mod Files
 pub mod Shells
+pub mod Reloads

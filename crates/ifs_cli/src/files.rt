@@ -40,6 +40,19 @@ pub(crate) fn contents<R: Files + Alloc<A = Global>>(
     }
 }
 
+/// The bytes of a regular file. A folder, a pipe or a device in its place is an error of the system, and is not opened:
+/// its bytes may never come or never end. That holds of what the path leads to when it is looked at; between that
+/// and the opening it may be replaced.
+pub fn regular<R: Files + Alloc<A = Global>>(rt: &R, path: &str) -> Result<Vec<u8>, FileFault>
+    ensures { IfOk result (λ bytes. IsWithinLimit bytes.items) }
+{
+    match fs::metadata(rt, path) {
+        Ok(metadata) if metadata.is_file() => contents(rt, path),
+        Ok(_metadata) => Err(FileFault::System(ErrorKind::InvalidInput.into())),
+        Err(error) => Err(fault_of(error)),
+    }
+}
+
 /// Every byte that a reader has left, where they are at most 16,777,216.
 pub fn whole<R: Read + Drop>(alloc: Global, reader: R) -> Result<Vec<u8>, FileFault>
     ensures limit { IfOk result (λ bytes. IsWithinLimit bytes.items) }

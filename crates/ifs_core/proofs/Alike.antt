@@ -17,7 +17,7 @@ use Rattle.ifs_core.specs.declared.step.Reply.TheVariants.{Busy, Stale, Backward
 use Rattle.ifs_core.specs.Event.{Handler, AlwaysInit, AlwaysBody, Init, Body, Behaviour, Position}
 use Rattle.ifs_core.specs.Event.{Event, kept_values, change_of, with_change, entering, evaluation}
 use Rattle.ifs_core.specs.Machine.{routine_of, IsBehaviour, periods_in}
-use Rattle.ifs_core.specs.Gateway.{IsPositionOf, IsStateOf, opening_of, opened}
+use Rattle.ifs_core.specs.Gateway.{IsPositionOf, IsStateOf, Known, IsKnownOf, opening_of, opened}
 use Rattle.ifs_core.specs.Steps.{CoreState, Turn, at_position, unchanged, same, done, ticked_after, no_event}
 use Rattle.ifs_core.specs.Steps.{lacks_room, with_link, with_value, with_run_over, has_value, changing, LinkSeen}
 use Rattle.ifs_core.specs.Steps.{RunEnded, link_turn, finished_turn, tick_turn, turn, replies, after_steps}
@@ -158,35 +158,36 @@ module _ (ends : HandlersEnd) (unique : RunsAreUnique) (image : ImageParts) (acc
       ∙ states_alike steps (turn b image.budgets.commands step s).next (next_is step s is)
 
   -- the opening
-  abbrev opened_at : ℕ → ℕ → Position
-  opened_at always active = record {
-    facts = (opening_of b image).position.facts;
-    current = image.initial;
-    owed = true;
-    schedule = entered always active 0 (all_off (periods_in image) 1);
-  }
+  module _ (known : Known) (links : IsKnownOf image known) where
+    abbrev opened_at : ℕ → ℕ → Position
+    opened_at always active = record {
+      facts = (opening_of b image known).position.facts;
+      current = image.initial;
+      owed = true;
+      schedule = entered always active 0 (all_off (periods_in image) known.first_run);
+    }
 
-  pub opening_alike : opening_of a image ≡ opening_of b image
-  opening_alike =
-      let facts = (opening_of b image).position.facts in
-      let at = first_at ends unique image accepted b is_b in
-      let joined : Position → Paid → Paid → Event = λ p x y. record { position = p; commands = x.effects.commands ++ y.effects.commands; cost = x.cost + y.cost } in
-      let always = answers AlwaysInit image.always.init.0 facts refl at.facts in
-      let own = init_alike image.initial.0 facts at.current at.facts in
-      ap (λ always. joined (opened_at always (a.active image.initial.0)) (paid a AlwaysInit facts) (paid a (Init image.initial.0) facts)) always_alike
-      ∙ ap (λ active. joined (opened_at b.always active) (paid a AlwaysInit facts) (paid a (Init image.initial.0) facts)) (active_alike image.initial.0 at.current)
-      ∙ ap (λ x. joined (opened_at b.always (b.active image.initial.0)) x (paid a (Init image.initial.0) facts)) always
-      ∙ ap (λ y. joined (opened_at b.always (b.active image.initial.0)) (paid b AlwaysInit facts) y) own
+    pub opening_alike : opening_of a image known ≡ opening_of b image known
+    opening_alike =
+        let facts = (opening_of b image known).position.facts in
+        let at = first_at ends unique image accepted b is_b known links in
+        let joined : Position → Paid → Paid → Event = λ p x y. record { position = p; commands = x.effects.commands ++ y.effects.commands; cost = x.cost + y.cost } in
+        let always = answers AlwaysInit image.always.init.0 facts refl at.facts in
+        let own = init_alike image.initial.0 facts at.current at.facts in
+        ap (λ always. joined (opened_at always (a.active image.initial.0)) (paid a AlwaysInit facts) (paid a (Init image.initial.0) facts)) always_alike
+        ∙ ap (λ active. joined (opened_at b.always active) (paid a AlwaysInit facts) (paid a (Init image.initial.0) facts)) (active_alike image.initial.0 at.current)
+        ∙ ap (λ x. joined (opened_at b.always (b.active image.initial.0)) x (paid a (Init image.initial.0) facts)) always
+        ∙ ap (λ y. joined (opened_at b.always (b.active image.initial.0)) (paid b AlwaysInit facts) y) own
 
-  abbrev opened_by : Event → CoreState
-  opened_by e = record { position = e.position; queue = e.commands; trace = [] }
+    abbrev opened_by : Event → CoreState
+    opened_by e = record { position = e.position; queue = e.commands; trace = [] }
 
-  pub run_alike : Fits image → (steps : List Step) → RunAlike image a b steps
-  run_alike fits steps =
-      let start : opened a image ≡ opened b image = ap opened_by opening_alike in
-      let is = (opening_holds ends unique image accepted b is_b fits).state in
-      record {
-        opening = opening_alike;
-        replies = ap (λ s. replies a image.budgets.commands steps s) start ∙ replies_alike steps (opened b image) is;
-        state = ap (λ s. after_steps a image.budgets.commands steps s) start ∙ states_alike steps (opened b image) is;
-      }
+    pub run_alike : Fits image → (steps : List Step) → RunAlike image known a b steps
+    run_alike fits steps =
+        let start : opened a image known ≡ opened b image known = ap opened_by opening_alike in
+        let is = (opening_holds ends unique image accepted b is_b known links fits).state in
+        record {
+          opening = opening_alike;
+          replies = ap (λ s. replies a image.budgets.commands steps s) start ∙ replies_alike steps (opened b image known) is;
+          state = ap (λ s. after_steps a image.budgets.commands steps s) start ∙ states_alike steps (opened b image known) is;
+        }

@@ -17,12 +17,12 @@ use Rattle.ifs_core.specs.Event.{Handler, AlwaysInit, AlwaysBody, Init, Body, Be
 use Rattle.ifs_core.specs.Event.{Position, Event, change_of, with_change, entering, evaluation}
 use Rattle.ifs_core.specs.Machine.{routine_of, IsBehaviour, KeepsBudgets}
 use Rattle.ifs_core.specs.inner.Within.{RanBodies}
-use Rattle.ifs_core.specs.Gateway.{IsListed, IsPositionOf, IsStateOf, opening_of, opened}
+use Rattle.ifs_core.specs.Gateway.{IsListed, IsPositionOf, IsStateOf, Known, IsKnownOf, opening_of, opened}
 use Rattle.ifs_core.specs.HeadlineParts.{IsRun, EachRun, BothRuns, after_always, after_bodies}
 use Rattle.ifs_core.proofs.Runs.{room_for_body, room_for_init, room_for_first_init, body_of, init_of}
 use Rattle.ifs_core.proofs.Runs.{ran_bodies, ran_init, bodies_keep, change_keeps, count_after, two_known}
 use Rattle.ifs_core.proofs.Exists.{handles, state_at, room_from_nothing}
-use Rattle.ifs_core.proofs.Opening.{length-all_unknown, length-no_values, length-all_off}
+use Rattle.ifs_core.proofs.Opening.{length-no_values, length-all_off}
 use Rattle.ifs_core.proofs.Places.{length-entered, entering_stays, paid_stays}
 
 -- the wish of one handler alone is its own
@@ -41,10 +41,10 @@ change_known image current None next known e = absurd (none-some next e)
 change_known image current (Some wished) next known e = change_if image (wished.0 == current.0) wished next known e
 
 -- The opening: both inits run to their ends without a trap, within the image's budgets, and leave a state of its run.
-pub record OpeningHolds (image : ImageParts) (b : Behaviour) : Type 0 where
-  pub runs : BothRuns (IsRun image b) b image
-  pub budgets : KeepsBudgets image (opening_of b image).commands (opening_of b image).cost
-  pub state : IsStateOf image (opened b image)
+pub record OpeningHolds (image : ImageParts) (known : Known) (b : Behaviour) : Type 0 where
+  pub runs : BothRuns (IsRun image b) b image known
+  pub budgets : KeepsBudgets image (opening_of b image known).commands (opening_of b image known).cost
+  pub state : IsStateOf image (opened b image known)
 
 module _ (ends : HandlersEnd) (unique : RunsAreUnique) (image : ImageParts) (accepted : IsAccepted image) (b : Behaviour) (is : IsBehaviour image b) where
   -- A handler ran: what it costs and brings about is bounded.
@@ -150,39 +150,40 @@ module _ (ends : HandlersEnd) (unique : RunsAreUnique) (image : ImageParts) (acc
         entered_if (Some next) e = entered next e
 
   -- the opening
-  abbrev first : Position
-  first = (opening_of b image).position
+  module _ (known : Known) (links : IsKnownOf image known) where
+    abbrev first : Position
+    first = (opening_of b image known).position
 
-  pub first_at : IsPositionOf image first
-  first_at = record {
-    facts = record { links = length-all_unknown image; tests = length-no_values image };
-    current = accepted.indexes.initial;
-    tests = length-entered b.always (b.active image.initial.0) 0 _ ∙ length-all_off image 1;
-  }
+    pub first_at : IsPositionOf image first
+    first_at = record {
+      facts = record { links = links; tests = length-no_values image };
+      current = accepted.indexes.initial;
+      tests = length-entered b.always (b.active image.initial.0) 0 _ ∙ length-all_off image known.first_run;
+    }
 
-  pub opening_holds : Fits image → OpeningHolds image b
-  opening_holds fits =
-      let here = state_at image image.initial.0 accepted.indexes.initial in
-      let state = here.0 in
-      let always = ran AlwaysInit image.always.init.0 first.facts nothing_yet refl first_at.facts (room_from_nothing image AlwaysInit image.always.init.0 accepted refl) in
-      let mid = followed nothing_yet (b.answer AlwaysInit first.facts) in
-      let own = ran (Init image.initial.0) state.handlers.init.0 first.facts mid (init_of image image.initial.0 state here.1) first_at.facts
-      (room_for_first_init image image.initial.0 state [] mid.commands accepted refl here.1 refl always.commands) in
-      let end = followed mid (b.answer (Init image.initial.0) first.facts) in
-      let few = accepted.commands in
-      let cheap = accepted.cost in
-      let known = two_known image image.always.init.0 state.handlers.init.0 [] mid.commands end.commands refl always.commands own.commands in
-      let count : length end.commands ≤ image.budgets.commands =
-      omega (
-        arith,
-        few.3.opening state here.1,
-        count_after image image.always.init.0 [] mid.commands few.0 few.1 always.commands,
-        count_after image state.handlers.init.0 mid.commands end.commands few.0 few.1 own.commands,
-      ) in
-      let paid : b.cost AlwaysInit first.facts + b.cost (Init image.initial.0) first.facts ≤ image.budgets.cost =
-      omega (arith, cheap.3.opening state here.1, always.within cheap.0 cheap.1, own.within cheap.0 cheap.1) in
-      record {
-        runs = record { always = always.run; init = own.run };
-        budgets = record { cost = paid; count = count; known = known };
-        state = record { position = first_at; queue = omega (arith, count, fits.budgets.commands); commands = known; trace = All-nil (λ (r : Record). IsListed image r.state) };
-      }
+    pub opening_holds : Fits image → OpeningHolds image known b
+    opening_holds fits =
+        let here = state_at image image.initial.0 accepted.indexes.initial in
+        let state = here.0 in
+        let always = ran AlwaysInit image.always.init.0 first.facts nothing_yet refl first_at.facts (room_from_nothing image AlwaysInit image.always.init.0 accepted refl) in
+        let mid = followed nothing_yet (b.answer AlwaysInit first.facts) in
+        let own = ran (Init image.initial.0) state.handlers.init.0 first.facts mid (init_of image image.initial.0 state here.1) first_at.facts
+        (room_for_first_init image image.initial.0 state [] mid.commands accepted refl here.1 refl always.commands) in
+        let end = followed mid (b.answer (Init image.initial.0) first.facts) in
+        let few = accepted.commands in
+        let cheap = accepted.cost in
+        let known = two_known image image.always.init.0 state.handlers.init.0 [] mid.commands end.commands refl always.commands own.commands in
+        let count : length end.commands ≤ image.budgets.commands =
+        omega (
+          arith,
+          few.3.opening state here.1,
+          count_after image image.always.init.0 [] mid.commands few.0 few.1 always.commands,
+          count_after image state.handlers.init.0 mid.commands end.commands few.0 few.1 own.commands,
+        ) in
+        let paid : b.cost AlwaysInit first.facts + b.cost (Init image.initial.0) first.facts ≤ image.budgets.cost =
+        omega (arith, cheap.3.opening state here.1, always.within cheap.0 cheap.1, own.within cheap.0 cheap.1) in
+        record {
+          runs = record { always = always.run; init = own.run };
+          budgets = record { cost = paid; count = count; known = known };
+          state = record { position = first_at; queue = omega (arith, count, fits.budgets.commands); commands = known; trace = All-nil (λ (r : Record). IsListed image r.state) };
+        }

@@ -10,7 +10,7 @@ use Rattle.ifs_core.specs.declared.step.Step.{Step}
 use Rattle.ifs_core.specs.declared.step.Reply.{Reply}
 use Rattle.ifs_core.specs.Event.{Handler, AlwaysInit, AlwaysBody, Init, Body, Behaviour, Position, entering}
 use Rattle.ifs_core.specs.Machine.{IsBehaviour}
-use Rattle.ifs_core.specs.Gateway.{IsStateOf, opening_of, opened}
+use Rattle.ifs_core.specs.Gateway.{IsStateOf, Known, IsKnownOf, opening_of, opened}
 use Rattle.ifs_core.specs.Steps.{CoreState, Makes, turn}
 use Rattle.ifs_core.specs.HeadlineParts.{IsWithinBudgets, EachRun, BothRuns, after_always, after_bodies, changed_by}
 use Rattle.ifs_core.specs.Headline.{StepKeeps, OpeningKeeps, StepsKeep, RunKeeps, IsKept}
@@ -30,9 +30,9 @@ module _ (ends : HandlersEnd) (unique : RunsAreUnique) (follow : RunsFollow) (st
     init = λ next e. within (Init next.0) (entering b next p).facts (after_bodies b p);
   }
 
-  both_within : (b : Behaviour) → BothRuns (IsWithinBudgets image) b image
-  both_within b =
-      let facts = (opening_of b image).position.facts in
+  both_within : (b : Behaviour) (known : Known) → BothRuns (IsWithinBudgets image) b image known
+  both_within b known =
+      let facts = (opening_of b image known).position.facts in
       record {
         always = within AlwaysInit facts nothing_yet;
         init = within (Init image.initial.0) facts (followed nothing_yet (b.answer AlwaysInit facts));
@@ -59,19 +59,19 @@ module _ (ends : HandlersEnd) (unique : RunsAreUnique) (follow : RunsFollow) (st
           next = holds.state;
         }
 
-    pub opening_keeps : OpeningKeeps image (opened b image)
-    opening_keeps =
-        let holds : (a : Behaviour) → IsBehaviour image a → OpeningHolds image a = λ a is_a. opening_holds ends unique image accepted a is_a fits in
+    pub opening_keeps : (known : Known) → IsKnownOf image known → OpeningKeeps image known (opened b image known)
+    opening_keeps known links =
+        let holds : (a : Behaviour) → IsBehaviour image a → OpeningHolds image known a = λ a is_a. opening_holds ends unique image accepted a is_a known links fits in
         let state = (holds b is_b).state in
         record {
           behaviour = (b, is_b);
           no_trap = λ a is_a. (holds a is_a).runs;
           instructions = λ a is_a. (holds a is_a).budgets.cost;
-          stack_and_frames = λ a is_a. both_within a;
+          stack_and_frames = λ a is_a. both_within a known;
           commands = (holds b is_b).budgets.count;
           from_table = (holds b is_b).budgets.known;
           state_of_list = state.position.current;
-          of_table = λ a is_a. (run_alike ends unique image accepted b a is_b is_a fits []).state;
+          of_table = λ a is_a. (run_alike ends unique image accepted b a is_b is_a known links fits []).state;
           state = state;
         }
 
@@ -79,20 +79,20 @@ module _ (ends : HandlersEnd) (unique : RunsAreUnique) (follow : RunsFollow) (st
     steps_keep [] s is = tt
     steps_keep (step ∷ steps) s is = let one = step_keeps s is step in (one, steps_keep steps (turn b image.budgets.commands step s).next one.next)
 
-    pub run_keeps : (steps : List Step) → RunKeeps image b steps
-    run_keeps steps =
-        let opening = opening_keeps in
+    pub run_keeps : (known : Known) → IsKnownOf image known → (steps : List Step) → RunKeeps image known b steps
+    run_keeps known links steps =
+        let opening = opening_keeps known links in
         record {
           opening = opening;
-          each = steps_keep steps (opened b image) opening.state;
-          state = state_after ends unique image accepted b is_b steps (opened b image) opening.state;
+          each = steps_keep steps (opened b image known) opening.state;
+          state = state_after ends unique image accepted b is_b steps (opened b image known) opening.state;
         }
 
   pub is_kept : IsKept image
   is_kept = record {
     behaviour = exists ends follow image accepted;
     runs = λ b is. run_keeps b is;
-    one = λ a b is_a is_b steps. run_alike ends unique image accepted a b is_a is_b fits steps;
+    one = λ a b is_a is_b known links steps. run_alike ends unique image accepted a b is_a is_b known links fits steps;
     anywhere = λ b is s at step. step_keeps b is s at step;
   }
 
@@ -109,7 +109,8 @@ answer_keeps image s next step reply kept is makes =
     subst (StepKeeps image s step) same (kept.anywhere b kept.behaviour.1 s is step)
 
 -- what was opened keeps what is promised
-pub opened_keeps : (image : ImageParts) (s : CoreState) → IsKept image → ((b : Behaviour) → IsBehaviour image b → s ≡ opened b image) → OpeningKeeps image s
-opened_keeps image s kept is =
+pub opened_keeps : (image : ImageParts) (known : Known) (s : CoreState) → IsKept image → IsKnownOf image known
+    → ((b : Behaviour) → IsBehaviour image b → s ≡ opened b image known) → OpeningKeeps image known s
+opened_keeps image known s kept links is =
     let b = kept.behaviour.0 in
-    subst (OpeningKeeps image) (sym (is b kept.behaviour.1)) (kept.runs b kept.behaviour.1 []).opening
+    subst (OpeningKeeps image known) (sym (is b kept.behaviour.1)) (kept.runs b kept.behaviour.1 known links []).opening

@@ -9,3 +9,4 @@ pub mod Alike
 pub mod Keeping
 pub mod Tables
 pub mod Upgrades
+pub mod Handing

@@ -80,7 +80,7 @@ module _ (alike : UpgradeKeepsAcceptance) (same : UpgradeKeepsRuns) (image : Ima
   means_the_same = record {
     accepted = (alike image).accepted;
     behaviours = λ b. (behaviour_after b, behaviour_before b);
-    opening = λ b. refl;
+    opening = λ b known. refl;
     budgets = refl;
     enough = λ budgets. (alike (with_budgets image budgets)).accepted;
   }

@@ -3,6 +3,7 @@ use Rattle.std.specs.Prelude.{ℕ, ◌≡◌, ◌<◌, ◌≤◌, List, [], All,
 use Rattle.std.specs.Str.{bytes_eq}
 use Rattle.ifs_base.specs.declared.ids.IfaceId.{IfaceId}
 use Rattle.ifs_base.specs.declared.ids.StateId.{StateId}
+use Rattle.ifs_base.specs.declared.op.LinkState.{LinkState}
 use Rattle.ifs_image.specs.declared.parts.ImageParts.{ImageParts}
 use Rattle.ifs_machine.specs.Run.{AreFactsOf, IsCommand}
 use Rattle.ifs_machine.specs.Views.{facts_of}
@@ -43,13 +44,26 @@ pub record IsStateOf (image : ImageParts) (s : CoreState) : Type 0 where
 abbrev pub position_of : Standing → Position
 position_of p = record { facts = facts_of p.facts; current = p.current; owed = p.owed; schedule = p.schedule }
 
--- The event by which an image is opened: nothing is known of its links, and the first run number is 1.
-abbrev pub opening_of : Behaviour → ImageParts → Event
-opening_of b image = opening b (all_unknown image) (periods_in image) 1 image.initial
+-- What is known where an image is opened: the link states of its interfaces, and the number of its first run, which is 0 where none is left.
+pub record Known : Type 0 where
+  pub links : List LinkState
+  pub first_run : ℕ
+
+-- It has one link state for each interface.
+abbrev pub IsKnownOf : ImageParts → Known → Type 0
+IsKnownOf image known = length known.links ≡ length image.interfaces
+
+-- Nothing is known of the links, and runs are numbered from 1.
+abbrev pub nothing_known : ImageParts → Known
+nothing_known image = record { links = all_unknown image; first_run = 1 }
+
+-- The event by which an image is opened.
+abbrev pub opening_of : Behaviour → ImageParts → Known → Event
+opening_of b image known = opening b known.links (periods_in image) known.first_run image.initial
 
 -- The state after it: its commands are queued, and nothing is traced.
-abbrev pub opened : Behaviour → ImageParts → CoreState
-opened b image = record { position = (opening_of b image).position; queue = (opening_of b image).commands; trace = [] }
+abbrev pub opened : Behaviour → ImageParts → Known → CoreState
+opened b image known = record { position = (opening_of b image known).position; queue = (opening_of b image known).commands; trace = [] }
 
 -- The interface of a name, compared byte by byte, where the table has it.
 abbrev pub interface_of : List (List ℕ) → List ℕ → Option IfaceId

@@ -10,7 +10,7 @@ use Rattle.ifs_core.specs.declared.step.Step.{Step}
 use Rattle.ifs_core.specs.declared.step.Reply.TheVariants.{Busy}
 use Rattle.ifs_core.specs.Event.{Behaviour}
 use Rattle.ifs_core.specs.Machine.{IsBehaviour}
-use Rattle.ifs_core.specs.Gateway.{IsListed, IsReplyOf, IsStateOf, opening_of, opened}
+use Rattle.ifs_core.specs.Gateway.{IsListed, IsReplyOf, IsStateOf, Known, IsKnownOf, opening_of, opened}
 use Rattle.ifs_core.specs.Steps.{CoreState, Turn, cost_told, commands_told}
 use Rattle.ifs_core.specs.Steps.{state_told, ChangesNothing, turn, after_steps}
 use Rattle.ifs_core.specs.HeadlineParts.{IsRun, IsWithinBudgets, EachRun, BothRuns, changed_by, RunAlike}
@@ -51,16 +51,16 @@ pub record StepKeeps (image : ImageParts) (s : CoreState) (step : Step) (t : Tur
   -- and so the state after it is one of the image's run, as the state before it was
   pub next : IsStateOf image t.next
 
--- The same of the opening, which leaves this state.
-pub record OpeningKeeps (image : ImageParts) (s : CoreState) : Type 0 where
+-- The same of the opening, from what is known then, which leaves this state.
+pub record OpeningKeeps (image : ImageParts) (known : Known) (s : CoreState) : Type 0 where
   pub behaviour : (b : Behaviour) × IsBehaviour image b
-  pub no_trap : (b : Behaviour) → IsBehaviour image b → BothRuns (IsRun image b) b image
-  pub instructions : (b : Behaviour) → IsBehaviour image b → (opening_of b image).cost ≤ image.budgets.cost
-  pub stack_and_frames : (b : Behaviour) → IsBehaviour image b → BothRuns (IsWithinBudgets image) b image
+  pub no_trap : (b : Behaviour) → IsBehaviour image b → BothRuns (IsRun image b) b image known
+  pub instructions : (b : Behaviour) → IsBehaviour image b → (opening_of b image known).cost ≤ image.budgets.cost
+  pub stack_and_frames : (b : Behaviour) → IsBehaviour image b → BothRuns (IsWithinBudgets image) b image known
   pub commands : length s.queue ≤ image.budgets.commands
   pub from_table : All (IsCommand image) s.queue
   pub state_of_list : IsListed image s.position.current
-  pub of_table : (b : Behaviour) → IsBehaviour image b → s ≡ opened b image
+  pub of_table : (b : Behaviour) → IsBehaviour image b → s ≡ opened b image known
   pub state : IsStateOf image s
 
 -- It holds of each of a list of steps, made one after the other.
@@ -68,20 +68,20 @@ abbrev pub StepsKeep : ImageParts → Behaviour → List Step → CoreState → 
 StepsKeep image b [] s = Unit {0}
 StepsKeep image b (step ∷ steps) s = StepKeeps image s step (turn b image.budgets.commands step s) × StepsKeep image b steps (turn b image.budgets.commands step s).next
 
--- It holds of a run: of the opening, and of each of a list of steps that are made from there; and the state after them is one of the image's run.
-pub record RunKeeps (image : ImageParts) (b : Behaviour) (steps : List Step) : Type 0 where
-  pub opening : OpeningKeeps image (opened b image)
-  pub each : StepsKeep image b steps (opened b image)
-  pub state : IsStateOf image (after_steps b image.budgets.commands steps (opened b image))
+-- It holds of a run: of the opening, from what is known then, and of each of a list of steps that are made from there; and the state after them is one of the image's run.
+pub record RunKeeps (image : ImageParts) (known : Known) (b : Behaviour) (steps : List Step) : Type 0 where
+  pub opening : OpeningKeeps image known (opened b image known)
+  pub each : StepsKeep image b steps (opened b image known)
+  pub state : IsStateOf image (after_steps b image.budgets.commands steps (opened b image known))
 
--- An image keeps what is promised: its handlers have a behaviour on the machine's table, each list of steps has one run, which keeps it, and so does each step from any state of the image's run, as a step of a core that was lent.
+-- An image keeps what is promised: its handlers have a behaviour on the machine's table, each list of steps has one run from whatever is known at the opening, which keeps it, and so does each step from any state of the image's run, as a step of a core that was lent.
 pub record IsKept (image : ImageParts) : Type 0 where
   pub behaviour : (b : Behaviour) × IsBehaviour image b
-  pub runs : (b : Behaviour) → IsBehaviour image b → (steps : List Step) → RunKeeps image b steps
-  pub one : (a b : Behaviour) → IsBehaviour image a → IsBehaviour image b → (steps : List Step) → RunAlike image a b steps
+  pub runs : (b : Behaviour) → IsBehaviour image b → (known : Known) → IsKnownOf image known → (steps : List Step) → RunKeeps image known b steps
+  pub one : (a b : Behaviour) → IsBehaviour image a → IsBehaviour image b → (known : Known) → IsKnownOf image known → (steps : List Step) → RunAlike image known a b steps
   pub anywhere : (b : Behaviour) → IsBehaviour image b → (s : CoreState) → IsStateOf image s → (step : Step) → StepKeeps image s step (turn b image.budgets.commands step s)
 
--- For every byte string that `verify` accepts, its image keeps what is promised, whatever the steps are.
+-- For every byte string that `verify` accepts, its image keeps what is promised, whatever is known at the opening and whatever the steps are.
 abbrev pub Headline : Type 0
 Headline = (bytes : List ℕ) (image : ImageParts) → IsVerified bytes image → IsKept image
 

@@ -9,7 +9,7 @@ use Rattle.ifs_core.specs.declared.step.Step.{Step}
 use Rattle.ifs_core.specs.declared.step.Step.TheVariants.{Link, Finished, Tick, Take}
 use Rattle.ifs_core.specs.Event.{Handler, AlwaysInit, AlwaysBody, Init, Body, Behaviour, Position, change_of, entering}
 use Rattle.ifs_core.specs.Machine.{routine_of}
-use Rattle.ifs_core.specs.Gateway.{opening_of, opened}
+use Rattle.ifs_core.specs.Gateway.{Known, opening_of, opened}
 use Rattle.ifs_core.specs.Steps.{with_link, with_value, with_run_over, replies, after_steps}
 
 -- A handler's run on the machine ends without a trap, and what it costs and brings about is what the behaviour answers.
@@ -37,9 +37,9 @@ pub record EachRun (Holds : Handler → Facts → Effects → Type 0) (b : Behav
   pub init : (next : StateId) → change_of p.current (after_bodies b p).wish ≡ Some next → Holds (Init next.0) (entering b next p).facts (after_bodies b p)
 
 -- It holds of both handler runs of the opening: of the always init, and then of the initial state's.
-pub record BothRuns (Holds : Handler → Facts → Effects → Type 0) (b : Behaviour) (image : ImageParts) : Type 0 where
-  pub always : Holds AlwaysInit (opening_of b image).position.facts nothing_yet
-  pub init : Holds (Init image.initial.0) (opening_of b image).position.facts (followed nothing_yet (b.answer AlwaysInit (opening_of b image).position.facts))
+pub record BothRuns (Holds : Handler → Facts → Effects → Type 0) (b : Behaviour) (image : ImageParts) (known : Known) : Type 0 where
+  pub always : Holds AlwaysInit (opening_of b image known).position.facts nothing_yet
+  pub init : Holds (Init image.initial.0) (opening_of b image known).position.facts (followed nothing_yet (b.answer AlwaysInit (opening_of b image known).position.facts))
 
 -- Where a step evaluates, if it does: after the change that it tells of.
 abbrev pub changed_by : Step → Position → Position
@@ -49,7 +49,7 @@ changed_by (Tick now) p = p
 changed_by Take p = p
 
 -- Two behaviours have one opening, and for a list of steps the same replies and the same state after it.
-pub record RunAlike (image : ImageParts) (a b : Behaviour) (steps : List Step) : Type 0 where
-  pub opening : opening_of a image ≡ opening_of b image
-  pub replies : replies a image.budgets.commands steps (opened a image) ≡ replies b image.budgets.commands steps (opened b image)
-  pub state : after_steps a image.budgets.commands steps (opened a image) ≡ after_steps b image.budgets.commands steps (opened b image)
+pub record RunAlike (image : ImageParts) (known : Known) (a b : Behaviour) (steps : List Step) : Type 0 where
+  pub opening : opening_of a image known ≡ opening_of b image known
+  pub replies : replies a image.budgets.commands steps (opened a image known) ≡ replies b image.budgets.commands steps (opened b image known)
+  pub state : after_steps a image.budgets.commands steps (opened a image known) ≡ after_steps b image.budgets.commands steps (opened b image known)

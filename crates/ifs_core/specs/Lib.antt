@@ -2,6 +2,7 @@ pub mod Event
 pub mod Steps
 pub mod Machine
 pub mod Gateway
+pub mod Carrying
 pub mod HeadlineParts
 pub mod Headline
 pub mod UpgradeKeeps

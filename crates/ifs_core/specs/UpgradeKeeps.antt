@@ -8,7 +8,7 @@ use Rattle.ifs_image.specs.Upgrade.{upgraded}
 use Rattle.ifs_verify.specs.Accepted.{IsAccepted}
 use Rattle.ifs_core.specs.Event.{Behaviour}
 use Rattle.ifs_core.specs.Machine.{IsBehaviour}
-use Rattle.ifs_core.specs.Gateway.{opening_of}
+use Rattle.ifs_core.specs.Gateway.{Known, opening_of}
 use Rattle.ifs_core.specs.Headline.{IsVerified}
 
 -- An image with other budgets.
@@ -22,7 +22,7 @@ pub record MeansTheSame (image other : ImageParts) : Type 0 where
   -- they have the same behaviours, and an event is made of these alone,
   pub behaviours : (b : Behaviour) → IsBehaviour image b ↔ IsBehaviour other b
   -- but for the opening, which is the same too
-  pub opening : (b : Behaviour) → opening_of b other ≡ opening_of b image
+  pub opening : (b : Behaviour) (known : Known) → opening_of b other known ≡ opening_of b image known
   -- they state the same budgets,
   pub budgets : other.budgets ≡ image.budgets
   -- and any budgets would be enough for one exactly where they would be for the other, so the least are the same

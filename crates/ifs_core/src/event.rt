@@ -147,9 +147,10 @@ pub fn evaluate(verified: &Verified<'_>, position: &mut Position, effects: &mut 
 }
 
 /// Nothing is known of the links of an image's interfaces.
-fn unknown_links(image: &ImageView<'_>) -> ArrayVec<LinkState, 64>
+pub fn unknown_links(image: &ImageView<'_>) -> ArrayVec<LinkState, 64>
     requires { length image.now.interfaces ≤ 64 }
-    ensures { result.items ≡ all_unknown image.now }
+    ensures value { result.items ≡ all_unknown image.now }
+    ensures known { length result.items ≡ length image.now.interfaces }
 {
     let mut links = ArrayVec::new();
     for _interface in 0..image.interfaces() {
@@ -182,10 +183,16 @@ fn periods_of(image: &ImageView<'_>) -> ArrayVec<u32, 64>
     periods
 }
 
-/// The position before the inits: the initial state is entered at moment 0.
-pub fn open_position(verified: &Verified<'_>) -> Position
+/// The position before the inits: the initial state is entered at moment 0, with these link states of the
+/// interfaces, and the first run has this number; 0 says that no number is left.
+pub fn open_position(
+    verified: &Verified<'_>,
+    links: ArrayVec<LinkState, 64>,
+    first_run: u64,
+) -> Position
+    requires { length links.items ≡ length verified.now.interfaces }
     ensures exact { (b : Behaviour) → IsBehaviour verified.now b → position_of result
-        ≡ opening_position b (all_unknown verified.now) (periods_in verified.now) 1 verified.now.initial }
+        ≡ opening_position b links.items (periods_in verified.now) first_run verified.now.initial }
     ensures position { IsPositionOf verified.now (position_of result) }
     ensures current { result.current ≡ verified.now.initial }
 {
@@ -193,11 +200,11 @@ pub fn open_position(verified: &Verified<'_>) -> Position
     let current = image.initial();
     let always = always_of(verified).mask;
     let own = handlers_of(verified, current).mask;
-    let mut schedule = Schedule::new(periods_of(image), 1);
+    let mut schedule = Schedule::new(periods_of(image), first_run);
     schedule.enter(always, own, 0);
     Position {
         facts: Facts {
-            links: unknown_links(image),
+            links,
             tests: no_values(image),
         },
         current,

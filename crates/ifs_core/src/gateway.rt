@@ -1,13 +1,14 @@
 //! A core and its opening.
 
-use crate::event::{open_position, run_inits};
+use crate::carried::{Carried, CarryCause, CarryFault, known_links, links_by_name};
+use crate::event::{open_position, run_inits, unknown_links};
 use crate::position::Position;
 use crate::step::Record;
 use arrayvec::ArrayVec;
 use circular_buffer::HeapCircularBuffer;
-use ifs_base::CommandId;
+use ifs_base::{CommandId, LinkState};
 use ifs_verify::Verified;
-use std::alloc::Global;
+use std::alloc::{AllocError, Global};
 use std::marker::Model;
 use thiserror::Error;
 
@@ -15,7 +16,7 @@ use thiserror::Error;
 pub const TRACE: usize = 256;
 
 /// A gateway at work: an accepted image, and where its run stands.
-#[derive(Drop)]
+#[derive(Debug, Drop)]
 pub struct Core<'a> {
     pub(crate) verified: Verified<'a>,
     pub(crate) position: Position,
@@ -43,11 +44,12 @@ pub struct OpenFault<'a> {
 }
 
 impl<'a> Core<'a> {
-    ghost use Rattle.std.specs.Prelude.{◌≡◌, [], IfOk, IfErr};
+    ghost use Rattle.std.specs.Prelude.{◌≡◌, [], IfOk, IfErr, OnOk, length};
     ghost use Rattle.circular_buffer.specs.Buffer.{buffer};
+    ghost use Rattle.ifs_core.specs.Carrying.{CannotCarry, IsCarriedFrom, known_by};
     ghost use Rattle.ifs_core.specs.Event.{Behaviour};
     ghost use Rattle.ifs_core.specs.Machine.{IsBehaviour};
-    ghost use Rattle.ifs_core.specs.Gateway.{opened};
+    ghost use Rattle.ifs_core.specs.Gateway.{nothing_known, opened};
     ghost use Rattle.ifs_core.specs.Headline.{OpeningKeeps};
 
     /// Opens an image at moment 0: all links are unknown and no test has a value. The always init
@@ -56,14 +58,15 @@ impl<'a> Core<'a> {
     /// Only the trace takes memory; where none is found, the image comes back.
     pub fn open(alloc: Global, verified: Verified<'a>) -> Result<Core<'a>, OpenFault<'a>>
         ensures image { IfOk result (λ core. core.image ≡ verified.entry) }
-        ensures state { IfOk result (λ core. (b : Behaviour) → IsBehaviour verified.entry b → core.state ≡ opened b verified.entry) }
+        ensures state { IfOk result (λ core. (b : Behaviour) → IsBehaviour verified.entry b → core.state ≡ opened b verified.entry (nothing_known verified.entry)) }
         ensures fault { IfErr result (λ fault. fault.verified ≡ verified.entry) }
-        ensures kept { IfOk result (λ core. OpeningKeeps verified.entry core.state) }
+        ensures kept { IfOk result (λ core. OpeningKeeps verified.entry (nothing_known verified.entry) core.state) }
     {
         match HeapCircularBuffer::with_capacity(alloc, TRACE) {
             Err(_) => Err(OpenFault { verified }),
             Ok(trace) => {
-                let core = Core::started(verified, trace);
+                let links = unknown_links(verified.image());
+                let core = Core::started(verified, links, 1, trace);
                 // The image, which is accepted, keeps what is promised of its opening.
                 core.image();
                 Ok(core)
@@ -71,13 +74,73 @@ impl<'a> Core<'a> {
         }
     }
 
-    /// A core whose image was opened, with this trace, which is empty.
-    fn started(verified: Verified<'a>, trace: HeapCircularBuffer<Record>) -> Core<'a>
-        requires { trace ≡ buffer [] TRACE }
-        ensures image { result.image ≡ verified.entry }
-        ensures state { (b : Behaviour) → IsBehaviour verified.entry b → result.state ≡ opened b verified.entry }
+    /// Opens an image in the place of a core that handed on what it knows. An interface has the link state that
+    /// was handed on under its name, and is unknown where none was; what was handed on under other names is
+    /// dropped. Run numbers go on. All else is as `open` has it: it is moment 0, no test has a value, the inits
+    /// run and their commands are queued, and the trace is empty.
+    ///
+    /// It takes no memory and always answers.
+    pub fn open_with(next: Verified<'a>, carried: Carried) -> Core<'a>
+        ensures image { result.image ≡ next.entry }
+        ensures state { (b : Behaviour) → IsBehaviour next.entry b → result.state ≡ opened b next.entry (known_by carried next.entry) }
+        ensures kept { OpeningKeeps next.entry (known_by carried next.entry) result.state }
     {
-        let position = open_position(&verified);
+        let links = links_by_name(next.image(), carried.links());
+        let first_run = carried.next_run();
+        let core = Core::started(next, links, first_run, carried.into_trace());
+        // The image, which is accepted, keeps what is promised of its opening.
+        core.image();
+        core
+    }
+
+    /// Ends the core, and hands on what the one that takes its place goes on with: the link states that are known,
+    /// by the names of their interfaces, the number of the next run, and the room of the trace.
+    ///
+    /// L1 where a command waits in the queue, which is looked at first; L0 where no memory is found for the names.
+    /// The core is then handed back as it was.
+    pub fn carry(self, alloc: Global) -> Result<Carried, CarryFault<'a>>
+        ensures carried { IfOk result (λ carried. IsCarriedFrom self.entry carried) }
+        ensures queue { OnOk result (self.entry.state.queue ≡ []) }
+        ensures fault { IfErr result (λ fault. fault.core ≡ self.entry) }
+        ensures cause { IfErr result (λ fault. CannotCarry self.entry.state.queue fault.cause) }
+    {
+        if !self.queue.is_empty() {
+            return Err(CarryFault {
+                core: self,
+                cause: CarryCause::Queued,
+            });
+        }
+        match known_links(
+            alloc,
+            self.verified.image(),
+            self.position.facts.links.as_slice(),
+        ) {
+            Err(AllocError) => Err(CarryFault {
+                core: self,
+                cause: CarryCause::Memory,
+            }),
+            Ok(links) => {
+                let next_run = self.position.schedule.next_run();
+                let Core { trace, .. } = self;
+                Ok(Carried::new(links, next_run, trace))
+            }
+        }
+    }
+
+    /// A core whose image was opened with these link states and this first run number, and with this trace, which
+    /// is empty.
+    fn started(
+        verified: Verified<'a>,
+        links: ArrayVec<LinkState, 64>,
+        first_run: u64,
+        trace: HeapCircularBuffer<Record>,
+    ) -> Core<'a>
+        requires trace { trace ≡ buffer [] TRACE }
+        requires links { length links.items ≡ length verified.interfaces }
+        ensures image { result.image ≡ verified.entry }
+        ensures state { (b : Behaviour) → IsBehaviour verified.entry b → result.state ≡ opened b verified.entry (record { links = links.items; first_run = first_run }) }
+    {
+        let position = open_position(&verified, links, first_run);
         let queue = run_inits(&verified, &position);
         Core {
             verified,

@@ -6,10 +6,13 @@
 //! the current state's body; the last wish of both leads to another state, whose init then runs in
 //! the same event.
 //!
+//! A core ends by `carry`, and what it knew of links and run numbers goes on in the one that `open_with` makes.
+//!
 //! Contract: the opening, each reply and each next state are exactly those of the run, whose handlers
 //! do what the machine's table says; `laws::headline` says what holds of every such run.
 #![tactic(auto)]
 
+mod carried;
 mod event;
 mod gateway;
 pub mod laws;
@@ -18,5 +21,6 @@ mod readers;
 mod step;
 mod stepping;
 
+pub use carried::{Carried, CarryCause, CarryFault};
 pub use gateway::{Core, OpenFault, TRACE};
 pub use step::{Answer, Lists, Outcome, Record, Reply, Step};

@@ -9,7 +9,7 @@ use Rattle.ifs_core.specs.declared.step.Step.{Step}
 use Rattle.ifs_core.specs.declared.step.Reply.{Reply}
 use Rattle.ifs_core.specs.Event.{Behaviour}
 use Rattle.ifs_core.specs.Machine.{IsBehaviour}
-use Rattle.ifs_core.specs.Gateway.{OpenCore, opened}
+use Rattle.ifs_core.specs.Gateway.{OpenCore, Known, IsKnownOf, opened}
 use Rattle.ifs_core.specs.Steps.{CoreState, Makes, turn, replies, after_steps}
 use Rattle.ifs_core.specs.Headline.{IsKept}
 use Rattle.ifs_gen.specs.Trees.{Policy}
@@ -50,9 +50,9 @@ next_steps (x ∷ steps) (suc i) step e =
     ap (λ (n : ℕ). take n (x ∷ steps)) next ∙ ap (λ (l : List Step). x ∷ l) (next_steps steps i step e)
 
 -- What runs as the policy does, from its opening, is a run of the policy.
-run_of : (policy : Policy) (b : Behaviour) (steps : List Step) (replied : List Reply) (before after : CoreState) → before ≡ opened b (image_of policy)
-    → IsRunBy b (room_of policy) steps replied before after → RunsAsPolicy policy b steps → IsRunOf policy steps replied after
-run_of policy b steps replied before after is run as_policy = record {
+run_of : (policy : Policy) (known : Known) (b : Behaviour) (steps : List Step) (replied : List Reply) (before after : CoreState) → before ≡ opened b (image_of policy) known
+    → IsRunBy b (room_of policy) steps replied before after → RunsAsPolicy policy known b steps → IsRunOf policy known steps replied after
+run_of policy known b steps replied before after is run as_policy = record {
   replies_are = ap (map reply_without_cost) (run.replies_are ∙ ap (λ (s : CoreState). replies b (room_of policy) steps s) is) ∙ as_policy.replies;
   state_is = ap state_without_costs (run.came_to ∙ ap (λ (s : CoreState). after_steps b (room_of policy) steps s) is) ∙ as_policy.state;
 }
@@ -79,14 +79,15 @@ lead_next image steps i replied replied' before after next step reply at more le
     (lead_on image (take i steps) replied before after next step reply leads made))
 
 module _ (text : List ℕ) (defs : List (List ℕ × List ℕ)) (bytes : List ℕ) (is : IsCompiled text defs bytes) where
-  opened_on : (core : OpenCore) → core.image ≡ image_of is.policy → IsKept core.image
-      → ((b : Behaviour) → IsBehaviour core.image b → core.state ≡ opened b core.image) → RunsText text defs core
-  opened_on core same kept state =
+  opened_on : (core : OpenCore) (known : Known) → core.image ≡ image_of is.policy → IsKept core.image → IsKnownOf core.image known
+      → ((b : Behaviour) → IsBehaviour core.image b → core.state ≡ opened b core.image known) → RunsText text defs known core
+  opened_on core known same kept links state =
       let policy = is.policy in
       let found = is.means.behaviour in
       let b = found.0 in
       let own : IsBehaviour core.image b = subst (λ (i : ImageParts). IsBehaviour i b) (sym same) found.1 in
-      let start : core.state ≡ opened b (image_of policy) = state b own ∙ ap (λ (i : ImageParts). opened b i) same in
+      let start : core.state ≡ opened b (image_of policy) known = state b own ∙ ap (λ (i : ImageParts). opened b i known) same in
+      let fits : IsKnownOf (image_of policy) known = subst (λ (i : ImageParts). IsKnownOf i known) same links in
       record {
         policy = policy;
         of_text = is.of_text;
@@ -96,15 +97,15 @@ module _ (text : List ℕ) (defs : List (List ℕ × List ℕ)) (bytes : List �
         kept = kept;
         names = subst (HasNamesOf policy) (sym same) is.means.names;
         room = ap (λ (i : ImageParts). i.budgets.commands) same ∙ is.means.room;
-        opening = ap state_without_costs start ∙ (is.means.runs b found.1 []).opening;
+        opening = ap state_without_costs start ∙ (is.means.runs b found.1 known fits []).opening;
         runs = λ steps replied after leads.
-            run_of policy b steps replied core.state after start
+            run_of policy known b steps replied core.state after start
             (run_by (image_of policy) b found.1 steps replied core.state after (subst (λ (i : ImageParts). LeadsTo i steps replied core.state after) same leads))
-            (is.means.runs b found.1 steps);
+            (is.means.runs b found.1 known fits steps);
       }
 
-  pub runs_text : (image : ImageParts) → Spells bytes image → (core : OpenCore) → core.image ≡ image → IsKept core.image
-      → ((b : Behaviour) → IsBehaviour image b → core.state ≡ opened b image) → RunsText text defs core
-  runs_text image spelled core of_image kept state =
-      opened_on core (of_image ∙ is.means.only image spelled) kept
-      (subst (λ (i : ImageParts). (b : Behaviour) → IsBehaviour i b → core.state ≡ opened b i) (sym of_image) state)
+  pub runs_text : (image : ImageParts) → Spells bytes image → (core : OpenCore) (known : Known) → core.image ≡ image → IsKept core.image → IsKnownOf core.image known
+      → ((b : Behaviour) → IsBehaviour image b → core.state ≡ opened b image known) → RunsText text defs known core
+  runs_text image spelled core known of_image kept links state =
+      opened_on core known (of_image ∙ is.means.only image spelled) kept links
+      (subst (λ (i : ImageParts). (b : Behaviour) → IsBehaviour i b → core.state ≡ opened b i known) (sym of_image) state)

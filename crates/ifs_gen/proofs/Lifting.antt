@@ -8,8 +8,6 @@ use Rattle.std.proofs.lemmas.Simd.{map-map}
 use Rattle.ifs_base.specs.Facts.{Facts}
 use Rattle.ifs_base.specs.Spelling.{IsReadBack}
 use Rattle.ifs_base.specs.Effects.{Effects, followed}
-use Rattle.ifs_base.specs.declared.op.LinkState.{LinkState}
-use Rattle.ifs_base.specs.declared.op.LinkState.TheVariants.{Unknown}
 use Rattle.ifs_image.specs.declared.parts.StateSpec.{StateSpec}
 use Rattle.ifs_image.specs.declared.parts.TestSpec.{TestSpec}
 use Rattle.ifs_image.specs.declared.parts.ImageParts.{ImageParts}
@@ -19,7 +17,7 @@ use Rattle.ifs_machine.specs.Run.{RunsTo, AreFactsOf, HasRoom}
 use Rattle.ifs_core.specs.declared.step.Step.{Step}
 use Rattle.ifs_core.specs.Event.{Handler, AlwaysInit, AlwaysBody, Init, Body, Behaviour, Event, opening}
 use Rattle.ifs_core.specs.Machine.{routine_of, IsBehaviour}
-use Rattle.ifs_core.specs.Gateway.{opened}
+use Rattle.ifs_core.specs.Gateway.{Known, IsKnownOf, opened}
 use Rattle.ifs_core.specs.Headline.{AcceptedIsKept}
 use Rattle.ifs_core.specs.HeadlineParts.{RunAlike}
 use Rattle.ifs_core.specs.Steps.{CoreState, replies, after_steps}
@@ -161,30 +159,29 @@ module _ (back : IsReadBack) (policy : Policy) (is : PolicyFits policy) (code : 
   }
 
   -- the opening does not depend on how the tests are told
-  same_opening : state_without_costs (opened at_cost image) ≡ policy_opened policy
-  same_opening =
-      let links : List LinkState = map (λ _. Unknown) policy.tables.interfaces in
-      let begun : List ℕ → Event = λ periods. opening (behaviour_of policy) links periods 1 policy.initial in
+  same_opening : (known : Known) → state_without_costs (opened at_cost image known) ≡ policy_opened policy known
+  same_opening known =
+      let begun : List ℕ → Event = λ periods. opening (behaviour_of policy) known.links periods known.first_run policy.initial in
       let made : List ℕ → CoreState = λ periods. record { position = (begun periods).position; queue = (begun periods).commands; trace = [] } in
       ap made (map-map (λ (test : TestSpec). test.period) (λ (test : External). record { period = test.period; text = test.command }) policy.tables.tests)
 
-  module _ (kept : AcceptedIsKept) (b : Behaviour) (is_b : IsBehaviour image b) (steps : List Step) where
-    alike : RunAlike image b at_cost steps
-    alike = let a = plain_is_accepted back policy is code in (kept image a.0 a.1).one b at_cost is_b is_behaviour steps
+  module _ (kept : AcceptedIsKept) (b : Behaviour) (is_b : IsBehaviour image b) (known : Known) (links : IsKnownOf image known) (steps : List Step) where
+    alike : RunAlike image known b at_cost steps
+    alike = let a = plain_is_accepted back policy is code in (kept image a.0 a.1).one b at_cost is_b is_behaviour known links steps
 
-    same_start : opened b image ≡ opened at_cost image
+    same_start : opened b image known ≡ opened at_cost image known
     same_start = let begun : Event → CoreState = λ e. record { position = e.position; queue = e.commands; trace = [] } in ap begun alike.opening
 
-    runs_as_policy : RunsAsPolicy policy b steps
+    runs_as_policy : RunsAsPolicy policy known b steps
     runs_as_policy = record {
-      opening = ap state_without_costs same_start ∙ same_opening;
+      opening = ap state_without_costs same_start ∙ same_opening known;
       replies =
-          ap (map reply_without_cost) alike.replies ∙ sym (replies_free at_cost (room_of policy) steps (opened at_cost image))
-          ∙ ap (replies (behaviour_of policy) (room_of policy) steps) same_opening;
+          ap (map reply_without_cost) alike.replies ∙ sym (replies_free at_cost (room_of policy) steps (opened at_cost image known))
+          ∙ ap (replies (behaviour_of policy) (room_of policy) steps) (same_opening known);
       state =
-          ap state_without_costs alike.state ∙ sym (states_free at_cost (room_of policy) steps (opened at_cost image))
-          ∙ ap (after_steps (behaviour_of policy) (room_of policy) steps) same_opening;
+          ap state_without_costs alike.state ∙ sym (states_free at_cost (room_of policy) steps (opened at_cost image known))
+          ∙ ap (after_steps (behaviour_of policy) (room_of policy) steps) (same_opening known);
     }
 
 pub image_means_policy : IsReadBack → AcceptedIsKept → ImageMeansPolicy
-image_means_policy back kept policy is code b is_b steps = runs_as_policy back policy is code kept b is_b steps
+image_means_policy back kept policy is code b is_b known links steps = runs_as_policy back policy is code kept b is_b known links steps

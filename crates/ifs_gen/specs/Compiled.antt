@@ -12,6 +12,7 @@ use Rattle.ifs_verify.specs.declared.fault.VerifyFault.{VerifyFault}
 use Rattle.ifs_verify.specs.declared.fault.VerifyFault.TheVariants.{OutOfMemory}
 use Rattle.ifs_core.specs.Event.{Behaviour}
 use Rattle.ifs_core.specs.Machine.{IsBehaviour}
+use Rattle.ifs_core.specs.Gateway.{Known, IsKnownOf}
 use Rattle.ifs_core.specs.Headline.{IsVerified}
 use Rattle.ifs_core.specs.declared.step.Step.{Step}
 use Rattle.ifs_gen.specs.declared.fault.GenFault.{GenFault}
@@ -44,9 +45,10 @@ pub record MeansPolicy (bytes : List ℕ) (policy : Policy) : Type 0 where
   pub names : HasNamesOf policy (image_of policy)
   -- a core that is opened on it is busy where its queue lacks the policy's room
   pub room : (image_of policy).budgets.commands ≡ room_of policy
-  -- its handlers have a behaviour on the machine, and for every list of steps the replies, the states, queues and traces are those of a run over the policy's own events, costs aside
+  -- its handlers have a behaviour on the machine, and whatever is known at the opening, for every list of steps the replies, the states, queues and traces are those of a run over the policy's own events, costs aside
   pub behaviour : (b : Behaviour) × IsBehaviour (image_of policy) b
-  pub runs : (b : Behaviour) → IsBehaviour (image_of policy) b → (steps : List Step) → RunsAsPolicy policy b steps
+  pub runs : (b : Behaviour) → IsBehaviour (image_of policy) b
+      → (known : Known) → IsKnownOf (image_of policy) known → (steps : List Step) → RunsAsPolicy policy known b steps
 
 -- A text has at most one policy; and where its code keeps the limits, bytes that spell its image mean that policy.
 pub record MeansThePolicy (text : List ℕ) (defs : List (List ℕ × List ℕ)) (policy : Policy) : Type 0 where

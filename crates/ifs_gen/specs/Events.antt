@@ -2,14 +2,13 @@
 use Rattle.std.specs.Prelude.{ℕ, ◌≡◌, ◌↔◌, ◌<◌, List, [], map, Option, Some, None, slice_get, IsTrue}
 use Rattle.ifs_base.specs.Facts.{Facts}
 use Rattle.ifs_base.specs.Effects.{Effects, nothing_yet}
-use Rattle.ifs_base.specs.declared.op.LinkState.TheVariants.{Unknown}
 use Rattle.ifs_core.specs.declared.step.Step.{Step}
 use Rattle.ifs_core.specs.declared.step.Reply.{Reply}
 use Rattle.ifs_core.specs.declared.step.Reply.TheVariants.{Done, Ticked}
 use Rattle.ifs_core.specs.declared.step.Record.{Record}
 use Rattle.ifs_core.specs.Event.{Handler, AlwaysInit, AlwaysBody, Init, Body, Behaviour, Event, opening}
 use Rattle.ifs_core.specs.Machine.{IsBehaviour}
-use Rattle.ifs_core.specs.Gateway.{opened}
+use Rattle.ifs_core.specs.Gateway.{Known, IsKnownOf, opened}
 use Rattle.ifs_core.specs.Steps.{CoreState, replies, after_steps}
 use Rattle.ifs_gen.specs.Trees.{Part, Policy}
 use Rattle.ifs_policy.specs.Meaning.{Mentions, body_yield, init_yield}
@@ -44,14 +43,14 @@ behaviour_of policy = record {
   active = λ k. mask_of_state (test_count policy) (slice_get policy.states k);
 }
 
--- The opening of a policy: nothing is known of its links, and the first run number is 1.
-abbrev pub policy_opening : Policy → Event
-policy_opening policy =
-    opening (behaviour_of policy) (map (λ _. Unknown) policy.tables.interfaces) (map (λ test. test.period) policy.tables.tests) 1 policy.initial
+-- The opening of a policy, from what is known then.
+abbrev pub policy_opening : Policy → Known → Event
+policy_opening policy known =
+    opening (behaviour_of policy) known.links (map (λ test. test.period) policy.tables.tests) known.first_run policy.initial
 
 -- The state after it.
-abbrev pub policy_opened : Policy → CoreState
-policy_opened policy = record { position = (policy_opening policy).position; queue = (policy_opening policy).commands; trace = [] }
+abbrev pub policy_opened : Policy → Known → CoreState
+policy_opened policy known = record { position = (policy_opening policy known).position; queue = (policy_opening policy known).commands; trace = [] }
 
 -- A reply, a record and a state, costs aside.
 abbrev pub reply_without_cost : Reply → Reply
@@ -65,15 +64,17 @@ record_without_cost r = record r { cost = 0 }
 abbrev pub state_without_costs : CoreState → CoreState
 state_without_costs s = record { position = s.position; queue = s.queue; trace = map record_without_cost s.trace }
 
--- Over a list of steps, the core that is opened on an image replies and comes to where the policy does, costs aside.
-pub record RunsAsPolicy (policy : Policy) (b : Behaviour) (steps : List Step) : Type 0 where
-  pub opening : state_without_costs (opened b (image_of policy)) ≡ policy_opened policy
-  pub replies : map reply_without_cost (replies b (room_of policy) steps (opened b (image_of policy))) ≡ replies (behaviour_of policy) (room_of policy) steps (policy_opened policy)
-  pub state : state_without_costs (after_steps b (room_of policy) steps (opened b (image_of policy))) ≡ after_steps (behaviour_of policy) (room_of policy) steps (policy_opened policy)
+-- Over a list of steps, the core that is opened on an image replies and comes to where the policy does, costs aside, from what is known at the opening.
+pub record RunsAsPolicy (policy : Policy) (known : Known) (b : Behaviour) (steps : List Step) : Type 0 where
+  pub opening : state_without_costs (opened b (image_of policy) known) ≡ policy_opened policy known
+  pub replies : map reply_without_cost (replies b (room_of policy) steps (opened b (image_of policy) known)) ≡ replies (behaviour_of policy) (room_of policy) steps (policy_opened policy known)
+  pub state : state_without_costs (after_steps b (room_of policy) steps (opened b (image_of policy) known)) ≡ after_steps (behaviour_of policy) (room_of policy) steps (policy_opened policy known)
 
--- The image of a policy means what the policy says: whatever behaves as its handlers do on the machine runs as the policy does, whatever the steps are.
+-- The image of a policy means what the policy says: whatever behaves as its handlers do on the machine runs as the policy does, whatever is known at the opening and whatever the steps are.
 abbrev pub ImageMeansPolicy : Type 0
-ImageMeansPolicy = (policy : Policy) → PolicyFits policy → CodeFits policy → (b : Behaviour) → IsBehaviour (image_of policy) b → (steps : List Step) → RunsAsPolicy policy b steps
+ImageMeansPolicy =
+    (policy : Policy) → PolicyFits policy → CodeFits policy → (b : Behaviour) → IsBehaviour (image_of policy) b
+    → (known : Known) → IsKnownOf (image_of policy) known → (steps : List Step) → RunsAsPolicy policy known b steps
 
 -- A part's set of active tests has exactly those that its body mentions.
 abbrev pub ActiveAreMentioned : Type 0

@@ -27,4 +27,4 @@ pub use compile_fault::CompileFault;
 pub use compiling::{CompiledText, compile, compile_with_notes};
 pub use fault::GenFault;
 pub use generating::generate;
-pub use opening::compiled_core;
+pub use opening::{compiled_core, opened_with};

@@ -2,6 +2,7 @@
 
 use ifs_base::{IfaceId, LinkState, StateId};
 use ifs_cli::quoting::Quoted;
+use ifs_cli::reloading::ReloadFault;
 use ifs_core::{Core, Record, Step};
 use ifs_session::End;
 use log::kv::Source;
@@ -41,8 +42,20 @@ impl Notes {
             End::Closed => info!(notes; "closed"),
             End::Stop => info!(notes; "stop"),
             End::Full => info!(notes; "full"),
+            End::Reload => info!(notes; "reload"),
         }
     }
+}
+
+/// Notes that an image took over, and in which state it begins.
+pub fn note_taken_over(notes: &impl Log, core: &Core<'_>) {
+    let state = Quoted(core.state_name(core.state()).unwrap_or_default());
+    info!(notes; "state {state} by reload");
+}
+
+/// Notes that no image took over, and why.
+pub fn note_not_taken_over(notes: &impl Log, fault: ReloadFault) {
+    warn!(notes; "reload refused {fault}");
 }
 
 /// Standard error, where the program's name stands before each note.

@@ -1,5 +1,5 @@
 use Rattle.std.proofs.Common.{◌≡◌, ◌∙◌}
-use Rattle.ifs_core.proofs.Opening.{length-all_unknown, length-no_values, length-periods_in}
+use Rattle.ifs_core.proofs.Opening.{length-no_values, length-periods_in}
 use Rattle.ifs_core.proofs.event.open_position.Goals as goal
 
 pub returns-clause-position : goal.returns-clause-position
@@ -8,7 +8,7 @@ returns-clause-position c =
     let image = c.args.verified.now in
     record {
       facts = record {
-        links = rw (c.unknown_links.ensures, e) (length-all_unknown image);
+        links = c.requires;
         tests = rw (c.no_values.ensures, e) (length-no_values image);
       };
       current = rw (c.initial-current.ensures, e) c.image-image.ensures.accepted.indexes.initial;

@@ -1,0 +1,46 @@
+-- Taking over: what a core hands on to the one that takes its place.
+use Rattle.std.specs.Prelude.{ℕ, ◌≡◌, ◌≢◌, if◌then◌else◌, List, [], ◌∷◌, ◌++◌, map}
+use Rattle.std.specs.Str.{bytes_eq}
+use Rattle.ifs_base.specs.declared.ids.CommandId.{CommandId}
+use Rattle.ifs_base.specs.declared.op.LinkState.{LinkState}
+use Rattle.ifs_base.specs.declared.op.LinkState.TheVariants.{Unknown}
+use Rattle.ifs_image.specs.declared.parts.ImageParts.{ImageParts}
+use Rattle.ifs_sched.specs.Schedule.{run_from}
+use Rattle.ifs_core.specs.declared.carried.CarryCause.{CarryCause}
+use Rattle.ifs_core.specs.declared.carried.CarryCause.TheVariants as causes
+use Rattle.ifs_core.specs.declared.carried.NamedLink.{NamedLink}
+use Rattle.ifs_core.specs.Gateway.{OpenCore, Known}
+
+-- What is handed on: the link states that are known, by the names of their interfaces, and the number of the next run, which is 0 where none is left.
+pub record Carrying : Type 0 where
+  pub links : List NamedLink
+  pub next_run : ℕ
+
+-- What is known of an interface: nothing where its link state is unknown.
+abbrev pub known_link : List ℕ → LinkState → List NamedLink
+known_link name Unknown = []
+known_link name link = record { name = name; link = link } ∷ []
+
+-- What is known of interfaces and their link states, one after the other.
+abbrev pub known_links : List (List ℕ) → List LinkState → List NamedLink
+known_links (name ∷ names) (link ∷ links) = known_link name link ++ known_links names links
+known_links names links = []
+
+-- This is handed on by a core.
+pub record IsCarriedFrom (core : OpenCore) (carried : Carrying) : Type 0 where
+  pub links : carried.links ≡ known_links core.image.interfaces core.state.position.facts.links
+  pub next_run : run_from carried.next_run ≡ core.state.position.schedule.next_run
+
+-- Why a core with this queue hands on nothing: a command waits; or none does, and no memory was found.
+abbrev pub CannotCarry : List CommandId → CarryCause → Type 0
+CannotCarry queue causes.Queued = queue ≢ []
+CannotCarry queue causes.Memory = queue ≡ []
+
+-- The link state that is known of the interface of a name; unknown where none is.
+abbrev pub link_named : List NamedLink → List ℕ → LinkState
+link_named [] name = Unknown
+link_named (known ∷ links) name = if bytes_eq known.name name then known.link else link_named links name
+
+-- What is known where an image is opened with what was handed on: of each interface what was handed on under its name, and nothing else.
+abbrev pub known_by : Carrying → ImageParts → Known
+known_by carried image = record { links = map (link_named carried.links) image.interfaces; first_run = carried.next_run }

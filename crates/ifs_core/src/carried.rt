@@ -1,0 +1,168 @@
+//! What a core hands on to the one that takes its place.
+
+ghost use Rattle.std.specs.Prelude.{◌≡◌, ◌++◌, ◌≤◌, ◌<◌, [], IfOk, OnOk, Some, length, map, slice_get};
+ghost use Rattle.ifs_core.specs.Carrying.{known_link, known_links as all_known, link_named as named_by};
+
+use crate::gateway::Core;
+use crate::step::Record;
+use arrayvec::ArrayVec;
+use circular_buffer::HeapCircularBuffer;
+use ifs_base::{Items, LinkState, Text};
+use ifs_image::ImageView;
+use std::alloc::{AllocError, Global};
+use std::marker::Model;
+use thiserror::Error;
+
+/// The link state of an interface, by its name.
+#[derive(Debug, Drop)]
+pub struct NamedLink {
+    pub name: Text,
+    pub link: LinkState,
+}
+
+/// What a core hands on: the link states that it knows, the number of its next run, and the room of its trace, in
+/// which no record is left.
+#[derive(Debug, Drop)]
+pub struct Carried {
+    links: Items<NamedLink>,
+    next_run: u64,
+    trace: HeapCircularBuffer<Record>,
+}
+
+impl Model for Carried {
+    ghost use Rattle.std.specs.Prelude.{◌≡◌, []};
+    ghost use Rattle.circular_buffer.specs.Buffer.{buffer};
+    ghost use Rattle.ifs_core.specs.Carrying.{Carrying};
+
+    ghost Value = { Carrying };
+
+    ghost view = { λ a. record { links = a.links; next_run = a.next_run } };
+
+    ghost invariant = { λ a. a.trace ≡ buffer [] 256 };
+}
+
+/// Why a core cannot hand on what it knows.
+#[derive(Clone, Copy, Debug, PartialEq, Eq, Error)]
+pub enum CarryCause {
+    /// L0: no memory was found.
+    #[error("L0")]
+    Memory,
+    /// L1: commands wait in the queue, and would be lost.
+    #[error("L1")]
+    Queued,
+}
+
+/// A core that could not hand on what it knows, which is as it was, and why.
+#[derive(Debug, Drop, Error)]
+#[error("{cause}")]
+pub struct CarryFault<'a> {
+    pub core: Core<'a>,
+    pub cause: CarryCause,
+}
+
+impl Carried {
+    ghost use Rattle.std.specs.Prelude.{◌≡◌, []};
+    ghost use Rattle.circular_buffer.specs.Buffer.{buffer};
+
+    /// These link states, this number of the next run, and the room of this trace, whose records are dropped.
+    pub(crate) fn new(
+        links: Items<NamedLink>,
+        next_run: u64,
+        mut trace: HeapCircularBuffer<Record>,
+    ) -> Carried
+        requires { trace.capacity ≡ 256 }
+        ensures { result ≡ record { links = links; next_run = next_run } }
+    {
+        trace.clear();
+        Carried {
+            links,
+            next_run,
+            trace,
+        }
+    }
+
+    /// The link states that are known.
+    pub(crate) fn links(&self) -> &[NamedLink]
+        ensures { result.now ≡ self.now.links }
+    {
+        self.links.as_slice()
+    }
+
+    /// The number of the next run; 0 where none is left.
+    pub(crate) fn next_run(&self) -> u64
+        ensures { result ≡ self.now.next_run }
+    {
+        self.next_run
+    }
+
+    /// The room of the trace.
+    pub(crate) fn into_trace(self) -> HeapCircularBuffer<Record>
+        ensures { result ≡ buffer [] 256 }
+    {
+        let Carried { trace, .. } = self;
+        trace
+    }
+}
+
+/// Adds what is known of an interface of this name: nothing where its link state is unknown.
+fn add_known(
+    alloc: Global,
+    known: &mut Vec<NamedLink>,
+    name: &str,
+    link: LinkState,
+) -> Result<(), AllocError>
+    ensures { OnOk result (known.new.items ≡ known.old.items ++ known_link name.now link) }
+{
+    if link == LinkState::Unknown {
+        return Ok(());
+    }
+    let name = Text::new(String::from_str(alloc, name)?);
+    known.push(NamedLink { name, link })?;
+    Ok(())
+}
+
+/// The link states that are known, of the interfaces of an image.
+pub fn known_links(
+    alloc: Global,
+    image: &ImageView<'_>,
+    links: &[LinkState],
+) -> Result<Items<NamedLink>, AllocError>
+    requires { length links.now ≡ length image.now.interfaces }
+    ensures { IfOk result (λ known. known ≡ all_known image.now.interfaces links.now) }
+{
+    let mut known = Vec::new(alloc);
+    for interface in 0..image.interfaces() {
+        add_known(
+            alloc,
+            &mut known,
+            image.interface(interface),
+            links[interface],
+        )?;
+    }
+    Ok(Items::new(known))
+}
+
+/// The link state that is known of the interface of a name; unknown where none is.
+fn link_named(links: &[NamedLink], name: &str) -> LinkState
+    ensures { result ≡ named_by links.now name.now }
+{
+    for known in links {
+        if known.name.as_str() == name {
+            return known.link;
+        }
+    }
+    LinkState::Unknown
+}
+
+/// The link states of an image's interfaces, as far as they are known by their names.
+pub fn links_by_name(image: &ImageView<'_>, known: &[NamedLink]) -> ArrayVec<LinkState, 64>
+    requires { length image.now.interfaces ≤ 64 }
+    ensures value { result.items ≡ map (named_by known.now) image.now.interfaces }
+    ensures known { length result.items ≡ length image.now.interfaces }
+{
+    let mut links = ArrayVec::new();
+    for interface in 0..image.interfaces() {
+        links.push(link_named(known, image.interface(interface)));
+    }
+    links
+}
