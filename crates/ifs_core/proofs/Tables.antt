@@ -1,5 +1,5 @@
 -- What is taken of a table, one entry after the other.
-use Rattle.std.proofs.Common.{◌≡◌, ℕ, zero, suc, ◌+◌, ◌<◌, List, [], ◌∷◌, ◌++◌, Option, Some, length, map, take, sym, ap, ◌∙◌, refl, arith}
+use Rattle.std.proofs.Common.{◌≡◌, ℕ, zero, suc, ◌+◌, ◌<◌, List, [], ◌∷◌, ◌++◌, Some, length, map, take, ap, ◌∙◌, refl, arith}
 use Rattle.std.specs.Prelude.{slice_get, option_map}
 
 -- the index after one, as loops write it

@@ -1,18 +1,16 @@
 -- An image of version 1 and its upgrade mean the same.
-use Rattle.std.proofs.Common.{◌≡◌, ℕ, ◌↔◌, ◌≤◌, List, Some, refl, sym, ◌∙◌, subst, arith, inl}
+use Rattle.std.proofs.Common.{◌≡◌, ◌≤◌, refl, sym, ◌∙◌, subst, arith, inl}
 use Rattle.std.proofs.lemmas.List.Elements.{All-weaker}
-use Rattle.ifs_base.specs.Facts.{Facts}
-use Rattle.ifs_image.specs.declared.parts.Routine.{Routine}
 use Rattle.ifs_image.specs.declared.parts.ImageParts.{ImageParts}
 use Rattle.ifs_image.specs.Limits.{Fits, InRange, RoutineFits, instructions, code_limit}
 use Rattle.ifs_image.specs.Spelling.{Spells, image_bytes}
 use Rattle.ifs_image.specs.Upgrade.{upgraded}
 use Rattle.ifs_verify.specs.Bounds.{commands_of}
 use Rattle.ifs_verify.specs.Laws.{UpgradeKeepsAcceptance}
-use Rattle.ifs_machine.specs.Run.{AreFactsOf, HasRoom, UpgradeKeepsRuns}
+use Rattle.ifs_machine.specs.Run.{UpgradeKeepsRuns}
 use Rattle.ifs_core.specs.Event.{Handler, AlwaysInit, AlwaysBody, Init, Body, Behaviour}
 use Rattle.ifs_core.specs.Machine.{routine_of, IsBehaviour}
-use Rattle.ifs_core.specs.UpgradeKeeps.{with_budgets, MeansTheSame, UpgradeKeeps, UpgradedBytes, UpgradeKeepsBytes}
+use Rattle.ifs_core.specs.UpgradeKeeps.{with_budgets, MeansTheSame, UpgradeKeeps, UpgradeKeepsBytes}
 
 upgraded_fits : (image : ImageParts) → Fits image → image.version ≡ 1 → Fits (upgraded image)
 upgraded_fits image fits first =

@@ -1,10 +1,11 @@
 -- Taking over: what a core hands on to the one that takes its place.
-use Rattle.std.specs.Prelude.{ℕ, ◌≡◌, ◌≢◌, if◌then◌else◌, List, [], ◌∷◌, ◌++◌, map}
+use Rattle.std.specs.Prelude.{ℕ, ◌≡◌, ◌≢◌, if◌then◌else◌, List, [], ◌∷◌, ◌++◌, map, length, All, Some, slice_get}
 use Rattle.std.specs.Str.{bytes_eq}
 use Rattle.ifs_base.specs.declared.ids.CommandId.{CommandId}
 use Rattle.ifs_base.specs.declared.op.LinkState.{LinkState}
 use Rattle.ifs_base.specs.declared.op.LinkState.TheVariants.{Unknown}
 use Rattle.ifs_image.specs.declared.parts.ImageParts.{ImageParts}
+use Rattle.ifs_image.specs.Limits.{Fits}
 use Rattle.ifs_sched.specs.Schedule.{run_from}
 use Rattle.ifs_core.specs.declared.carried.CarryCause.{CarryCause}
 use Rattle.ifs_core.specs.declared.carried.CarryCause.TheVariants as causes
@@ -44,3 +45,12 @@ link_named (known ∷ links) name = if bytes_eq known.name name then known.link 
 -- What is known where an image is opened with what was handed on: of each interface what was handed on under its name, and nothing else.
 abbrev pub known_by : Carrying → ImageParts → Known
 known_by carried image = record { links = map (link_named carried.links) image.interfaces; first_run = carried.next_run }
+
+-- Among these interfaces of distinct names, each one's link state is found by its name, and under any other name none is known.
+pub record AreFoundByName (names : List (List ℕ)) (links : List LinkState) : Type 0 where
+  pub each : (k : ℕ) (name : List ℕ) → slice_get names k ≡ Some name → slice_get links k ≡ Some (link_named (known_links names links) name)
+  pub others : (name : List ℕ) → All (λ other. other ≢ name) names → link_named (known_links names links) name ≡ Unknown
+
+-- What is handed on of an image's links is found again by the names of its interfaces.
+abbrev pub LinksStand : Type 0
+LinksStand = (image : ImageParts) (links : List LinkState) → Fits image → length links ≡ length image.interfaces → AreFoundByName image.interfaces links

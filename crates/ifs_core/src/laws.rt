@@ -5,6 +5,7 @@ ghost use Rattle.ifs_core.specs.Event.{Behaviour};
 ghost use Rattle.ifs_core.specs.Machine.{IsBehaviour};
 ghost use Rattle.ifs_core.specs.Steps.{cost_told, turn};
 ghost use Rattle.ifs_core.specs.Headline.{AcceptedIsKept, Headline};
+ghost use Rattle.ifs_core.specs.Carrying.{LinksStand};
 ghost use Rattle.ifs_core.specs.UpgradeKeeps.{UpgradeKeeps, UpgradeKeepsBytes};
 
 use crate::gateway::Core;
@@ -52,6 +53,12 @@ pub fn upgrade_keeps_bytes()
     one_spelling();
     upgrade_keeps();
 }
+
+/// What a core hands on of its links is found again by the names of their interfaces: an image with the same
+/// interfaces, in whatever order, begins with each link state as it was, and any other interface with none.
+pub fn links_stand()
+    ensures { LinksStand }
+{}
 
 /// Makes a step of a core that was lent, and tells how many instructions it executed: at most what the
 /// core's image states, whoever lent it and whatever was done with it before. An example of a caller

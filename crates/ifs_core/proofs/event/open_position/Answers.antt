@@ -1,4 +1,4 @@
-use Rattle.std.proofs.Common.{◌≡◌, ◌∙◌}
+use Rattle.std.proofs.Common.{◌∙◌}
 use Rattle.ifs_core.proofs.Opening.{length-no_values, length-periods_in}
 use Rattle.ifs_core.proofs.event.open_position.Goals as goal
 

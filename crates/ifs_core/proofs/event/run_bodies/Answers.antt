@@ -1,4 +1,4 @@
-use Rattle.std.proofs.Common.{length, ap, ◌∙◌, refl}
+use Rattle.std.proofs.Common.{length, ap, refl}
 use Rattle.ifs_base.specs.Effects.{Effects}
 use Rattle.ifs_machine.specs.Views.{facts_of, effects_of}
 use Rattle.ifs_core.specs.Event.{AlwaysBody, Body}

@@ -1,4 +1,3 @@
-use Rattle.std.proofs.Common.{◌≡◌, ◌∙◌}
 use Rattle.ifs_machine.specs.Views.{facts_of, effects_of}
 use Rattle.ifs_core.specs.Event.{Init}
 use Rattle.ifs_core.proofs.Runs.{one_run, init_of, ran_init}
