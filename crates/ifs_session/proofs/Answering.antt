@@ -1,15 +1,20 @@
 -- A line that was read: the host was heard, and what it asks was done and replied to.
-use Rattle.std.proofs.Common.{◌≡◌, ℕ, Bool, false, List, [], Option, Err, refl, sym, ap, ◌∙◌, subst}
+use Rattle.std.proofs.Common.{◌≡◌, ◌≢◌, ℕ, Bool, false, List, [], Option, None, Err, refl, sym, ap, ◌∙◌, subst}
 use Rattle.std.specs.Io.KnownBytes.{append_known}
 use Rattle.ifs_image.specs.declared.parts.ImageParts.{ImageParts}
 use Rattle.ifs_core.specs.Event.{Behaviour}
 use Rattle.ifs_session.specs.declared.fault.SessionFault.{SessionFault}
 use Rattle.ifs_session.specs.declared.service.Break.{Break}
+use Rattle.ifs_session.specs.declared.service.End.TheVariants.{Fault}
+use Rattle.ifs_session.specs.declared.service.Leave.{Leave}
+use Rattle.ifs_session.specs.declared.service.Leave.TheVariants as leaves
 use Rattle.ifs_session.specs.declared.fault.SessionFault.TheVariants.{ReadFailed, WriteFailed, TooMuchInput}
-use Rattle.ifs_session.specs.Requests.{Asked}
+use Rattle.ifs_session.specs.Requests.{Asked, ALink, AResult, ATick, ATake, AStatus, ATrace, AStop, AReload}
+use Rattle.ifs_session.specs.Requests.{AFault}
 use Rattle.ifs_session.specs.Sessions.{is_stop}
 use Rattle.ifs_session.specs.Hosts.{Ending}
 use Rattle.ifs_session.specs.Accounts.{client_asked, step_asked, acted, runs_ended, heard_out, answered, listened}
+use Rattle.ifs_session.specs.Service.{leave_of, left_by}
 use Rattle.ifs_session.specs.inner.Reading.{ReadsText, LineGives}
 use Rattle.ifs_session.specs.inner.Serving.{OnlyReads}
 use Rattle.ifs_session.specs.inner.Connections.{Standing, HasComeTo, Carries, ConnectionPoint, standing, taken_in}
@@ -29,20 +34,44 @@ pub no_reply : (b : Behaviour) (broken : Break) (stop : Bool) (before after : Co
     → ExchangeFails b WriteFailed stop before after → ExchangeFails b broken.fault broken.stopped before after
 no_reply b broken stop before after is fails = subst (λ x. ExchangeFails b x.fault x.stopped before after) (sym is) fails
 
+-- A reload makes no step.
+pub no_step : (image : ImageParts) (a : Asked) → leave_of a ≡ leaves.Reloads → step_asked image a ≡ None
+no_step image (ALink name link) h = cc
+no_step image (AResult test run value) h = cc
+no_step image (ATick moment) h = cc
+no_step image ATake h = cc
+no_step image AStatus h = cc
+no_step image ATrace h = cc
+no_step image AStop h = cc
+no_step image AReload h = refl
+no_step image (AFault fault) h = cc
+
+-- What is no reload leaves a connection as a write that fails says.
+pub left_unanswered : (a : Asked) → leave_of a ≢ leaves.Reloads → left_by (Fault WriteFailed) (is_stop a) ≡ leave_of a
+left_unanswered (ALink name link) h = refl
+left_unanswered (AResult test run value) h = refl
+left_unanswered (ATick moment) h = refl
+left_unanswered ATake h = refl
+left_unanswered AStatus h = refl
+left_unanswered ATrace h = refl
+left_unanswered AStop h = refl
+left_unanswered AReload h = absurd (h refl)
+left_unanswered (AFault fault) h = refl
+
 -- It was attended to.
-pub exchange_attended : (b : Behaviour) (text : List ℕ) (ended stop : Bool) (endings : List Ending) (before after : ConnectionPoint) (middle : Standing) (image : ImageParts) (a : Asked)
+pub exchange_attended : (b : Behaviour) (text : List ℕ) (ended : Bool) (leave : Leave) (endings : List Ending) (before after : ConnectionPoint) (middle : Standing) (image : ImageParts) (a : Asked)
     → ReadsText text ended (taken_in before) (taken_in after) → image ≡ before.moment.core.image → after.moment.core.image ≡ image → a ≡ client_asked text
     → Carries (λ account. heard_out (runs_ended b before.moment.core.image endings account)) (standing before) middle
-    → Carries (acted b image (step_asked image a)) middle (standing after) → stop ≡ is_stop a
-    → ServesExchange b (record { line = text; endings = endings }) ended stop before after
-exchange_attended b text ended stop endings before after middle image a r same kept asks heard acts stops = record {
+    → Carries (acted b image (step_asked image a)) middle (standing after) → leave ≡ leave_of a
+    → ServesExchange b (record { line = text; endings = endings }) ended leave before after
+exchange_attended b text ended leave endings before after middle image a r same kept asks heard acts left = record {
   read = r;
   image = kept ∙ same;
   attends = λ origin account h.
       subst (λ x. HasComeTo origin (acted b before.moment.core.image (step_asked before.moment.core.image x) (listened b before.moment.core.image (record { line = text; endings = endings }) account)) (standing after)) asks
       (subst (λ i. HasComeTo origin (acted b i (step_asked i a) (listened b before.moment.core.image (record { line = text; endings = endings }) account)) (standing after)) same
       (acts origin _ (heard origin account h)));
-  stops = stops ∙ ap is_stop asks;
+  asks = left ∙ ap leave_of asks;
 }
 
 -- And it was replied to.

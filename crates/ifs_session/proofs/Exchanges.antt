@@ -1,5 +1,5 @@
 -- A connection exchange by exchange: what was read so far, and what was made of it.
-use Rattle.std.proofs.Common.{◌≡◌, ◌⊎◌, ℕ, ◌+◌, ◌-◌, ◌<◌, ◌≤◌, Bool, true, false, nat_lt, cond, List, [], ◌∷◌, ◌++◌}
+use Rattle.std.proofs.Common.{◌≡◌, ◌≢◌, ◌⊎◌, ℕ, ◌+◌, ◌-◌, ◌<◌, ◌≤◌, Bool, true, false, nat_lt, cond, List, [], ◌∷◌, ◌++◌}
 use Rattle.std.proofs.Common.{length, All, Option, Some, None, Ok, Err, inl, inr, subst, refl, sym, ap, ◌∙◌}
 use Rattle.std.proofs.Common.{append_assoc, arith, length-append}
 use Rattle.std.proofs.lemmas.Bool.Decides.{nat_tests}
@@ -17,23 +17,27 @@ use Rattle.ifs_session.specs.declared.fault.SessionFault.{SessionFault}
 use Rattle.ifs_session.specs.declared.fault.SessionFault.TheVariants.{ReadFailed, WriteFailed, TooMuchInput}
 use Rattle.ifs_session.specs.declared.service.Break.{Break}
 use Rattle.ifs_session.specs.declared.service.End.{End}
-use Rattle.ifs_session.specs.declared.service.End.TheVariants.{Closed, Stop, Full, Fault}
+use Rattle.ifs_session.specs.declared.service.End.TheVariants.{Closed, Stop, Reload, Full, Fault}
+use Rattle.ifs_session.specs.declared.service.Leave.{Leave}
+use Rattle.ifs_session.specs.declared.service.Leave.TheVariants as leaves
 use Rattle.ifs_session.specs.declared.service.ServedLine.{ServedLine}
-use Rattle.ifs_session.specs.Device.{counted}
+use Rattle.ifs_session.specs.Device.{counted, HoldsNothing}
 use Rattle.ifs_session.specs.Lines.{input_lines, line_end}
-use Rattle.ifs_session.specs.Sessions.{Moment, is_stop, EndsLines}
+use Rattle.ifs_session.specs.Sessions.{Moment, EndsLines}
 use Rattle.ifs_session.specs.Hosts.{HostLog, Adds, ran}
 use Rattle.ifs_session.specs.Accounts.{Account, Exchange, takes_of, texts_of, client_asked, exchange_reply, attended}
 use Rattle.ifs_session.specs.Accounts.{served}
 use Rattle.ifs_session.specs.Accounts.{emptied, begun, account}
-use Rattle.ifs_session.specs.Service.{lines_in, AsksNoStop, Stops, ConnectionKeeps, HasAttended, HasAnswered, EndsAs}
+use Rattle.ifs_session.specs.Service.{lines_in, leave_of, AsksNeither, AskFor, left_by, ConnectionKeeps, HasAttended}
+use Rattle.ifs_session.specs.Service.{HasAnswered, EndsAs}
 use Rattle.ifs_session.specs.Service.{ConnectionCompletes}
 use Rattle.ifs_session.specs.Service.{ConnectionBreaksReading, ConnectionBreaksWriting, ConnectionReadsPast}
 use Rattle.ifs_session.specs.Service.{ConnectionGives}
 use Rattle.ifs_session.specs.inner.Reading.{ReadFails, ReadsTooMuch}
 use Rattle.ifs_session.specs.inner.Serving.{OnlyReads, OnlyWrites}
 use Rattle.ifs_session.specs.inner.Connections.{HasComeTo, ConnectionPoint, standing, taken_in, Idles, ServesExchange}
-use Rattle.ifs_session.specs.inner.Connections.{AnswersExchange, ExchangeFails, ExchangeGives, FlushGives, end_of}
+use Rattle.ifs_session.specs.inner.Connections.{AnswersExchange, ExchangeFails, ExchangeGives, FlushGives, stops_by, end_by}
+use Rattle.ifs_session.specs.inner.Connections.{end_of}
 use Rattle.ifs_session.proofs.Known.{consumes_nothing, consumes_more, consumes_kept, append_known-append}
 use Rattle.ifs_session.proofs.Known.{append_known-nil}
 use Rattle.ifs_session.proofs.Serving.{unlines, ArePlain, unlines-push, ArePlain-push, unlines-ends_lines, last_line}
@@ -49,7 +53,7 @@ so_far b exchanges before = account b before.core.image exchanges before.core.st
 -- These exchanges were served since a moment, at which the host told this, and none of them ended the connection.
 pub record Ongoing (b : Behaviour) (exchanges : List Exchange) (origin : Option HostLog) (before : Moment) (now : ConnectionPoint) : Type 0 where
   pub plain : ArePlain (lines_in exchanges)
-  pub on : All AsksNoStop (lines_in exchanges)
+  pub on : All AsksNeither (lines_in exchanges)
   pub given : Consumes before.left now.moment.left (unlines (lines_in exchanges))
   pub spent : 16777216 ≡ length (unlines (lines_in exchanges)) + now.budget
   pub read_faults : now.moment.read_faults ≡ before.read_faults
@@ -133,7 +137,7 @@ reading_fails {b} {exchanges} {origin} {before} {now} text after sound u r o idl
       attended = done.0;
       answered = done.1;
       one_fault = r.one_fault ∙ ap counted u.read_faults;
-      stops = subst (All AsksNoStop) (sym whole) u.on;
+      asks = subst (All AsksNeither) (sym whole) u.on;
       not_stopped = refl;
     }
 
@@ -151,7 +155,7 @@ reading_past {b} {exchanges} {origin} {before} {now} text byte after sound u r o
       attended = done.0;
       answered = done.1;
       same_faults = r.same_faults ∙ u.read_faults;
-      stops = subst (All AsksNoStop) (sym whole) u.on;
+      asks = subst (All AsksNeither) (sym whole) u.on;
       not_stopped = refl;
     }
 
@@ -165,7 +169,7 @@ flushing_fails {b} {exchanges} {origin} {before} {now} after sound u o idle one 
   lines = all_lines (lines_in exchanges) u.plain;
   attended = attends_so_far b exchanges origin before after sound (ap (λ c. c.image) o.core ∙ u.image) (idle_stands origin _ now after o.core idle u.stands);
   same_faults = o.same_faults ∙ u.read_faults;
-  stops = subst (All AsksNoStop) (sym (all_lines (lines_in exchanges) u.plain)) u.on;
+  asks = subst (All AsksNeither) (sym (all_lines (lines_in exchanges) u.plain)) u.on;
   one_fault = one ∙ ap counted u.write_faults;
 }
 
@@ -181,7 +185,7 @@ nothing_left {b} {exchanges} {origin} {before} {now} after sound u (r, o, idle) 
       attended = done.0;
       answered = done.1;
       same_faults = r.same_faults ∙ u.read_faults;
-      stops = subst (All AsksNoStop) (sym all) u.on;
+      asks = subst (All AsksNeither) (sym all) u.on;
       ends = (refl, r.at_end);
     }
 
@@ -206,7 +210,7 @@ served_stands : (b : Behaviour) (image : ImageParts) (exchange : Exchange) (orig
     → HasComeTo origin (attended b image exchange a) (standing now) → HasComeTo origin (served b image exchange a) (standing now)
 served_stands b image exchange origin a now h = record { state_is = h.state_is; steps_are = h.steps_are; told_is = h.told_is }
 
-advances : {b : Behaviour} {exchanges : List Exchange} {origin : Option HostLog} {before : Moment} {now after : ConnectionPoint} {exchange : Exchange} {ended stop : Bool} → Ongoing b exchanges origin before now → ServesExchange b exchange ended stop now after
+advances : {b : Behaviour} {exchanges : List Exchange} {origin : Option HostLog} {before : Moment} {now after : ConnectionPoint} {exchange : Exchange} {ended : Bool} {leave : Leave} → Ongoing b exchanges origin before now → ServesExchange b exchange ended leave now after
     → Advances b (exchanges ++ exchange ∷ []) origin (unlines (lines_in exchanges) ++ (exchange.line ++ line_end ended)) before after
 advances {b} {exchanges} {origin} {before} {now} {after} {exchange} {ended} u m = record {
   given = consumes_more before.left now.moment.left after.moment.left (unlines (lines_in exchanges)) (exchange.line ++ line_end ended) u.given m.read.given;
@@ -220,17 +224,18 @@ advances {b} {exchanges} {origin} {before} {now} {after} {exchange} {ended} u m 
       (subst (λ image. HasComeTo origin (attended b image exchange (so_far b exchanges before)) (standing after)) u.image (m.attends origin (so_far b exchanges before) u.stands)));
 }
 
-AsksNoStop-push : (exchanges : List Exchange) (exchange : Exchange) → All AsksNoStop (lines_in exchanges) → is_stop (client_asked exchange.line) ≡ false → All AsksNoStop (lines_in (exchanges ++ exchange ∷ []))
-AsksNoStop-push exchanges exchange on last = subst (All AsksNoStop) (sym (lines_in-push exchanges exchange)) (All-append AsksNoStop (lines_in exchanges) (exchange.line ∷ []) on (All-cons AsksNoStop exchange.line [] last (All-nil AsksNoStop)))
+AsksNeither-push : (exchanges : List Exchange) (exchange : Exchange) → All AsksNeither (lines_in exchanges) → leave_of (client_asked exchange.line) ≡ leaves.Stays → All AsksNeither (lines_in (exchanges ++ exchange ∷ []))
+AsksNeither-push exchanges exchange on last = subst (All AsksNeither) (sym (lines_in-push exchanges exchange)) (All-append AsksNeither (lines_in exchanges) (exchange.line ∷ []) on (All-cons AsksNeither exchange.line [] last (All-nil AsksNeither)))
 
--- Whether the service was stopped, by the last line.
-Stops-push : (stop : Bool) (exchanges : List Exchange) (exchange : Exchange) → All AsksNoStop (lines_in exchanges) → stop ≡ is_stop (client_asked exchange.line) → Stops stop (lines_in (exchanges ++ exchange ∷ []))
-Stops-push true exchanges exchange on is = (lines_in exchanges, exchange.line, lines_in-push exchanges exchange, on, sym is)
-Stops-push false exchanges exchange on is = AsksNoStop-push exchanges exchange on (sym is)
+-- What is asked for, by the last line.
+AskFor-push : (leave : Leave) (exchanges : List Exchange) (exchange : Exchange) → All AsksNeither (lines_in exchanges) → leave ≡ leave_of (client_asked exchange.line) → AskFor leave (lines_in (exchanges ++ exchange ∷ []))
+AskFor-push leaves.Stays exchanges exchange on is = AsksNeither-push exchanges exchange on (sym is)
+AskFor-push leaves.Stops exchanges exchange on is = (lines_in exchanges, exchange.line, lines_in-push exchanges exchange, on, sym is)
+AskFor-push leaves.Reloads exchanges exchange on is = (lines_in exchanges, exchange.line, lines_in-push exchanges exchange, on, sym is)
 
 -- The reply could not be written.
 replying_fails : {b : Behaviour} {exchanges : List Exchange} {origin : Option HostLog} {before : Moment} {now after : ConnectionPoint} {exchange : Exchange} {ended stop : Bool} → Sound b before → Ongoing b exchanges origin before now
-    → ServesExchange b exchange ended stop now after → after.moment.write_faults ≡ counted now.moment.write_faults
+    → ServesExchange b exchange ended (left_by (Fault WriteFailed) stop) now after → after.moment.write_faults ≡ counted now.moment.write_faults
     → ConnectionBreaksWriting b stop (unlines (lines_in exchanges) ++ (exchange.line ++ line_end ended)) (exchanges ++ exchange ∷ []) after.steps origin after.told before after.moment
 replying_fails {b} {exchanges} {origin} {before} {now} {after} {exchange} {ended} {stop} sound u m one =
     let a = advances u m in
@@ -240,7 +245,7 @@ replying_fails {b} {exchanges} {origin} {before} {now} {after} {exchange} {ended
       lines = a.lines_are;
       attended = attends_so_far b (exchanges ++ exchange ∷ []) origin before after sound a.image a.stands;
       same_faults = a.read_faults;
-      stops = subst (Stops stop) (sym a.lines_are) (Stops-push stop exchanges exchange u.on m.stops);
+      asks = subst (AskFor (left_by (Fault WriteFailed) stop)) (sym a.lines_are) (AskFor-push _ exchanges exchange u.on m.asks);
       one_fault = one ∙ ap counted u.write_faults;
     }
 
@@ -275,7 +280,7 @@ answers {b} {exchanges} {origin} {before} {now} {after} {exchange} u r =
 
 -- The connection goes on after the line.
 goes_on : {b : Behaviour} {exchanges : List Exchange} {origin : Option HostLog} {before : Moment} {now after : ConnectionPoint} {exchange : Exchange} → Ongoing b exchanges origin before now
-    → ServesExchange b exchange true false now after → AnswersExchange b exchange now after → Ongoing b (exchanges ++ exchange ∷ []) origin before after
+    → ServesExchange b exchange true leaves.Stays now after → AnswersExchange b exchange now after → Ongoing b (exchanges ++ exchange ∷ []) origin before after
 goes_on {b} {exchanges} {origin} {before} {now} {after} {exchange} u m r =
     let a = advances u m in
     let said = answers u r in
@@ -283,7 +288,7 @@ goes_on {b} {exchanges} {origin} {before} {now} {after} {exchange} u m r =
     let all : unlines (lines_in exchanges) ++ (exchange.line ++ 10 ∷ []) ≡ unlines (lines_in (exchanges ++ exchange ∷ [])) = sym (unlines-push (lines_in exchanges) exchange.line) ∙ ap unlines (sym push) in
     record {
       plain = subst ArePlain (sym push) (ArePlain-push (lines_in exchanges) exchange.line u.plain m.read.plain);
-      on = AsksNoStop-push exchanges exchange u.on (sym m.stops);
+      on = AsksNeither-push exchanges exchange u.on (sym m.asks);
       given = subst (λ t. Consumes before.left after.moment.left t) all a.given;
       spent = a.spent ∙ ap (λ t. length t + after.budget) all;
       read_faults = a.read_faults;
@@ -295,11 +300,11 @@ goes_on {b} {exchanges} {origin} {before} {now} {after} {exchange} u m r =
 
 -- ---- its end
 
-completes : {b : Behaviour} {exchanges : List Exchange} {origin : Option HostLog} {before : Moment} {now after : ConnectionPoint} {exchange : Exchange} {ended stop : Bool} (end : End) → Sound b before → Ongoing b exchanges origin before now
-    → ServesExchange b exchange ended stop now after → AnswersExchange b exchange now after
+completes : {b : Behaviour} {exchanges : List Exchange} {origin : Option HostLog} {before : Moment} {now after : ConnectionPoint} {exchange : Exchange} {ended stop : Bool} {leave : Leave} (end : End) → Sound b before → Ongoing b exchanges origin before now
+    → ServesExchange b exchange ended leave now after → AnswersExchange b exchange now after → left_by end stop ≡ leave
     → EndsAs end stop (unlines (lines_in exchanges) ++ (exchange.line ++ line_end ended)) after.steps after.moment
     → ConnectionCompletes b end stop (unlines (lines_in exchanges) ++ (exchange.line ++ line_end ended)) (exchanges ++ exchange ∷ []) after.steps origin after.told before after.moment
-completes {b} {exchanges} {origin} {before} {now} {after} {exchange} {stop = stop} end sound u m r ends =
+completes {b} {exchanges} {origin} {before} {now} {after} {exchange} {stop = stop} end sound u m r left ends =
     let a = advances u m in
     record {
       read = record { given = a.given; within = omega (arith, a.spent) };
@@ -307,7 +312,7 @@ completes {b} {exchanges} {origin} {before} {now} {after} {exchange} {stop = sto
       attended = attends_so_far b (exchanges ++ exchange ∷ []) origin before after sound a.image a.stands;
       answered = answers u r;
       same_faults = a.read_faults;
-      stops = subst (Stops stop) (sym a.lines_are) (Stops-push stop exchanges exchange u.on m.stops);
+      asks = subst (AskFor (left_by end stop)) (sym a.lines_are) (AskFor-push _ exchanges exchange u.on (left ∙ m.asks));
       ends = ends;
     }
 
@@ -317,43 +322,64 @@ no_room steps h = grind (arith, nat_tests)
 has_room : (steps : ℕ) → nat_lt (512 - steps) 65 ≡ false → steps ≤ 512 → steps + 65 ≤ 512
 has_room steps h within = grind (arith, nat_tests)
 
+same_end : (end other : End) → Some end ≡ Some other → end ≡ other
+same_end end other e = cc
+
 -- Why it ends after a line.
-abbrev EndsBy : Bool → Bool → Bool → End → Type 0
-EndsBy stop full ended end =
-    ((end ≡ Stop) × (stop ≡ true)) ⊎ (((end ≡ Full) × (stop ≡ false) × (full ≡ true)) ⊎ ((end ≡ Closed) × (stop ≡ false) × (ended ≡ false)))
+data EndsBy (full ended : Bool) : Leave → End → Type 0 where
+  OnStop : EndsBy full ended leaves.Stops Stop
+  OnReload : EndsBy full ended leaves.Reloads Reload
+  WithoutRoom : full ≡ true → EndsBy full ended leaves.Stays Full
+  AtEnd : ended ≡ false → EndsBy full ended leaves.Stays Closed
 
-abbrev end_by : Bool → Bool → Bool → Option End
-end_by stop full ended = cond stop (Some Stop) (cond full (Some Full) (cond ended None (Some Closed)))
+ends_by : (leave : Leave) (full ended : Bool) (end : End) → end_by leave full ended ≡ Some end → EndsBy full ended leave end
+ends_by leaves.Stops full ended end e = subst (EndsBy full ended leaves.Stops) (same_end Stop end e) OnStop
+ends_by leaves.Reloads full ended end e = subst (EndsBy full ended leaves.Reloads) (same_end Reload end e) OnReload
+ends_by leaves.Stays true ended end e = subst (EndsBy true ended leaves.Stays) (same_end Full end e) (WithoutRoom refl)
+ends_by leaves.Stays false false end e = subst (EndsBy false false leaves.Stays) (same_end Closed end e) (AtEnd refl)
+ends_by leaves.Stays false true end e = cc
 
-ends_by : (stop full ended : Bool) (end : End) → end_by stop full ended ≡ Some end → EndsBy stop full ended end
-ends_by true full ended end e = inl (cc, refl)
-ends_by false true ended end e = inr (inl (cc, refl, refl))
-ends_by false false false end e = inr (inr (cc, refl, refl))
-ends_by false false true end e = cc
+is_full : (leave : Leave) (full ended : Bool) → end_by leave full ended ≡ Some Full → full ≡ true
+is_full leaves.Stops full ended e = cc
+is_full leaves.Reloads full ended e = cc
+is_full leaves.Stays true ended e = refl
+is_full leaves.Stays false false e = cc
+is_full leaves.Stays false true e = cc
+
+is_reload : (leave : Leave) (full ended : Bool) → end_by leave full ended ≡ Some Reload → leave ≡ leaves.Reloads
+is_reload leaves.Stops full ended e = cc
+is_reload leaves.Reloads full ended e = refl
+is_reload leaves.Stays true ended e = cc
+is_reload leaves.Stays false false e = cc
+is_reload leaves.Stays false true e = cc
 
 -- Why it goes on.
-record OnBy (stop full ended : Bool) : Type 0 where
-  pub not_stop : stop ≡ false
+record OnBy (leave : Leave) (full ended : Bool) : Type 0 where
+  pub stays : leave ≡ leaves.Stays
   pub not_full : full ≡ false
   pub is_ended : ended ≡ true
 
-on_by : (stop full ended : Bool) → end_by stop full ended ≡ None → OnBy stop full ended
-on_by true full ended e = cc
-on_by false true ended e = cc
-on_by false false false e = cc
-on_by false false true e = record { not_stop = refl; not_full = refl; is_ended = refl }
+on_by : (leave : Leave) (full ended : Bool) → end_by leave full ended ≡ None → OnBy leave full ended
+on_by leaves.Stops full ended e = cc
+on_by leaves.Reloads full ended e = cc
+on_by leaves.Stays true ended e = cc
+on_by leaves.Stays false false e = cc
+on_by leaves.Stays false true e = record { stays = refl; not_full = refl; is_ended = refl }
 
-ends_as : {b : Behaviour} {now after : ConnectionPoint} {exchange : Exchange} {ended stop : Bool} (end : End) (front : List ℕ)
-    → ServesExchange b exchange ended stop now after → EndsBy stop (nat_lt (512 - length after.steps) 65) ended end
-    → EndsAs end stop (front ++ (exchange.line ++ line_end ended)) after.steps after.moment
-ends_as {b} {now} {after} {exchange} {ended} {stop} end front m (inl (is, stops)) =
-    subst (λ e. EndsAs e stop (front ++ (exchange.line ++ line_end ended)) after.steps after.moment) (sym is)
-    (stops, line_ends front exchange.line ended after.moment.left m.read.last)
-ends_as {b} {now} {after} {exchange} {ended} {stop} end front m (inr (inl (is, going, full))) =
-    subst (λ e. EndsAs e stop (front ++ (exchange.line ++ line_end ended)) after.steps after.moment) (sym is)
-    (going, no_room (length after.steps) full, inr (line_ends front exchange.line ended after.moment.left m.read.last))
-ends_as {b} {now} {after} {exchange} {ended} {stop} end front m (inr (inr (is, going, over))) =
-    subst (λ e. EndsAs e stop (front ++ (exchange.line ++ line_end ended)) after.steps after.moment) (sym is) (going, (m.read.last over).1)
+-- The end and whether the service was stopped say what the line asked for.
+left_so : {leave : Leave} {full ended : Bool} {end : End} → EndsBy full ended leave end → left_by end (stops_by leave) ≡ leave
+left_so OnStop = refl
+left_so OnReload = refl
+left_so (WithoutRoom full) = refl
+left_so (AtEnd over) = refl
+
+ends_as : {b : Behaviour} {now after : ConnectionPoint} {exchange : Exchange} {ended : Bool} {leave : Leave} (end : End) (front : List ℕ)
+    → ServesExchange b exchange ended leave now after → EndsBy (nat_lt (512 - length after.steps) 65) ended leave end
+    → EndsAs end (stops_by leave) (front ++ (exchange.line ++ line_end ended)) after.steps after.moment
+ends_as {after = after} {exchange} {ended} Stop front m OnStop = (refl, line_ends front exchange.line ended after.moment.left m.read.last)
+ends_as {after = after} {exchange} {ended} Reload front m OnReload = (refl, line_ends front exchange.line ended after.moment.left m.read.last)
+ends_as {after = after} {exchange} {ended} Full front m (WithoutRoom full) = (refl, no_room (length after.steps) full, inr (line_ends front exchange.line ended after.moment.left m.read.last))
+ends_as Closed front m (AtEnd over) = (refl, (m.read.last over).1)
 
 -- ---- what was written last goes out, or does not
 
@@ -364,6 +390,7 @@ at_end now written faults = record { core = now.core; left = now.left; written =
 ends_alike : (end : End) (stopped : Bool) (input : List ℕ) (steps : List Step) (now : Moment) (written : Option (List ℕ)) (faults : Option ℕ) → EndsAs end stopped input steps now → EndsAs end stopped input steps (at_end now written faults)
 ends_alike Closed stopped input steps now written faults e = e
 ends_alike Stop stopped input steps now written faults e = e
+ends_alike Reload stopped input steps now written faults e = e
 ends_alike Full stopped input steps now written faults e = e
 ends_alike (Fault fault) stopped input steps now written faults e = e
 
@@ -380,26 +407,35 @@ goes_out {end = end} {stopped} {input} {steps = steps} {now = now} written fault
   attended = attended_alike written faults c.attended;
   answered = record { written = put ∙ append_known-nil now.written ∙ c.answered.written; same_faults = same ∙ c.answered.same_faults };
   same_faults = c.same_faults;
-  stops = c.stops;
+  asks = c.asks;
   ends = ends_alike end stopped input steps now written faults c.ends;
 }
 
 whole_at_end : (end : End) (stopped : Bool) (input : List ℕ) (steps : List Step) (now : Moment) → EndsAs end stopped input steps now → EndsLines input now.left
 whole_at_end Closed stopped input steps now e = inr (inr e.1)
 whole_at_end Stop stopped input steps now e = inr e.1
+whole_at_end Reload stopped input steps now e = inr e.1
 whole_at_end Full stopped input steps now e = e.2
 whole_at_end (Fault fault) stopped input steps now e = absurd e
 
+-- Where it was no reload, a write that failed says the same of what was asked for.
+left_alike : (end : End) (stopped : Bool) → end ≢ Reload → left_by end stopped ≡ left_by (Fault WriteFailed) stopped
+left_alike Closed stopped h = refl
+left_alike Stop stopped h = refl
+left_alike Reload stopped h = absurd (h refl)
+left_alike Full stopped h = refl
+left_alike (Fault fault) stopped h = refl
+
 stays_in : {b : Behaviour} {end : End} {stopped : Bool} {input : List ℕ} {exchanges : List Exchange} {steps : List Step} {told told' : Option HostLog} {before now : Moment} (written : Option (List ℕ)) (faults : Option ℕ)
-    → ConnectionCompletes b end stopped input exchanges steps told told' before now → faults ≡ counted now.write_faults
+    → ConnectionCompletes b end stopped input exchanges steps told told' before now → end ≢ Reload → faults ≡ counted now.write_faults
     → ConnectionBreaksWriting b stopped input exchanges steps told told' before (at_end now written faults)
-stays_in {end = end} {stopped} {input} {steps = steps} {now = now} written faults c one = record {
+stays_in {end = end} {stopped} {input} {steps = steps} {now = now} written faults c no_reload one = record {
   read = record { given = c.read.given; within = c.read.within };
   whole = whole_at_end end stopped input steps now c.ends;
   lines = c.lines;
   attended = attended_alike written faults c.attended;
   same_faults = c.same_faults;
-  stops = c.stops;
+  asks = subst (λ leave. AskFor leave (input_lines input)) (left_alike end stopped no_reload) c.asks;
   one_fault = one ∙ ap counted c.answered.same_faults;
 }
 
@@ -407,6 +443,7 @@ completed : (b : Behaviour) (end : End) (stopped : Bool) (input : List ℕ) (exc
     → ConnectionCompletes b end stopped input exchanges steps told told' before now → ConnectionGives b end stopped steps told told' before now
 completed b Closed stopped input exchanges steps told told' before now c = (input, exchanges, c)
 completed b Stop stopped input exchanges steps told told' before now c = (input, exchanges, c)
+completed b Reload stopped input exchanges steps told told' before now c = (input, exchanges, c)
 completed b Full stopped input exchanges steps told told' before now c = (input, exchanges, c)
 completed b (Fault fault) stopped input exchanges steps told told' before now c = absurd c.ends
 
@@ -414,13 +451,15 @@ completed b (Fault fault) stopped input exchanges steps told told' before now c 
 pub ends_after : {b : Behaviour} {exchanges : List Exchange} {origin : Option HostLog} {before : Moment} {now : ConnectionPoint} (line : ServedLine) (end result : End) (after : ConnectionPoint) (written : Option (List ℕ)) (faults : Option ℕ)
     → Sound b before → Ongoing b exchanges origin before now → ExchangeGives b (Ok (Some line)) now after → Some end ≡ end_of line (length after.steps)
     → FlushGives end result after.moment.written written after.moment.write_faults faults
-    → ConnectionGives b result line.is_stop after.steps origin after.told before (at_end after.moment written faults)
+    → ConnectionGives b result (stops_by line.leave) after.steps origin after.told before (at_end after.moment written faults)
 ends_after {b} {origin = origin} {before} line end result after written faults sound u (exchange, m, r) is (inl (same, put, kept)) =
-    subst (λ e. ConnectionGives b e line.is_stop after.steps origin after.told before (at_end after.moment written faults)) (sym same)
-    (completed b end line.is_stop _ _ after.steps origin after.told before _ (goes_out written faults (completes end sound u m r (ends_as end _ m (ends_by line.is_stop _ line.is_ended end (sym is)))) put kept))
-ends_after {b} {origin = origin} {before} line end result after written faults sound u (exchange, m, r) is (inr (broken, one)) =
-    subst (λ e. ConnectionGives b e line.is_stop after.steps origin after.told before (at_end after.moment written faults)) (sym broken)
-    (_, _, stays_in written faults (completes end sound u m r (ends_as end _ m (ends_by line.is_stop _ line.is_ended end (sym is)))) one)
+    let by = ends_by line.leave _ line.is_ended end (sym is) in
+    subst (λ e. ConnectionGives b e (stops_by line.leave) after.steps origin after.told before (at_end after.moment written faults)) (sym same)
+    (completed b end (stops_by line.leave) _ _ after.steps origin after.told before _ (goes_out written faults (completes end sound u m r (left_so by) (ends_as end _ m by)) put kept))
+ends_after {b} {origin = origin} {before} line end result after written faults sound u (exchange, m, r) is (inr (no_reload, broken, one)) =
+    let by = ends_by line.leave _ line.is_ended end (sym is) in
+    subst (λ e. ConnectionGives b e (stops_by line.leave) after.steps origin after.told before (at_end after.moment written faults)) (sym broken)
+    (_, _, stays_in written faults (completes end sound u m r (left_so by) (ends_as end _ m by)) no_reload one)
 
 -- The connection goes on after a line.
 pub record GoesFurther (b : Behaviour) (origin : Option HostLog) (before : Moment) (after : ConnectionPoint) : Type 0 where
@@ -430,27 +469,27 @@ pub record GoesFurther (b : Behaviour) (origin : Option HostLog) (before : Momen
 pub goes_further : {b : Behaviour} {exchanges : List Exchange} {origin : Option HostLog} {before : Moment} {now : ConnectionPoint} (line : ServedLine) (after : ConnectionPoint)
     → Ongoing b exchanges origin before now → ExchangeGives b (Ok (Some line)) now after → None ≡ end_of line (length after.steps) → GoesFurther b origin before after
 goes_further {b} {exchanges} {origin} {before} {now} line after u (exchange, m, r) is =
-    let on = on_by line.is_stop _ line.is_ended (sym is) in
+    let on = on_by line.leave _ line.is_ended (sym is) in
     record {
       exchanges = exchanges ++ exchange ∷ [];
-      ongoing = goes_on u (subst (λ stop. ServesExchange b exchange true stop now after) on.not_stop (subst (λ ended. ServesExchange b exchange ended line.is_stop now after) on.is_ended m)) r;
+      ongoing = goes_on u (subst (λ leave. ServesExchange b exchange true leave now after) on.stays (subst (λ ended. ServesExchange b exchange ended line.leave now after) on.is_ended m)) r;
     }
 
 pub room_left : (line : ServedLine) (steps : ℕ) → None ≡ end_of line steps → steps ≤ 512 → steps + 65 ≤ 512
 room_left line steps is within =
-    let on = on_by line.is_stop (nat_lt (512 - steps) 65) line.is_ended (sym is) in
+    let on = on_by line.leave (nat_lt (512 - steps) 65) line.is_ended (sym is) in
     has_room steps on.not_full within
 
 -- Only where no room is left it ends so.
 pub full_without_room : (line : ServedLine) (steps : ℕ) (end result : End) (written written' : Option (List ℕ)) (faults faults' : Option ℕ)
     → Some end ≡ end_of line steps → FlushGives end result written written' faults faults' → result ≡ Full → 447 < steps
-full_without_room line steps end result written written' faults faults' is (inr (broken, one)) full = cc
+full_without_room line steps end result written written' faults faults' is (inr (no_reload, broken, one)) full = cc
 full_without_room line steps end result written written' faults faults' is (inl (same, put, kept)) full =
-    elim (ends_by line.is_stop (nat_lt (512 - steps) 65) line.is_ended end (sym is)) [
-      | inl stop ↦ cc
-      | inr (inl why) ↦ no_room steps why.2
-      | inr (inr closed) ↦ cc
-    ]
+    no_room steps (is_full line.leave (nat_lt (512 - steps) 65) line.is_ended (sym is ∙ ap Some (sym same ∙ full)))
+
+-- At a reload nothing is held back.
+pub reload_holds : (line : ServedLine) (steps : ℕ) (held : Option (List ℕ)) → (line.leave ≡ leaves.Reloads → HoldsNothing held) → Some Reload ≡ end_of line steps → HoldsNothing held
+reload_holds line steps held quiet is = quiet (is_reload line.leave (nat_lt (512 - steps) 65) line.is_ended (sym is))
 
 -- ---- whatever its end was
 
@@ -470,4 +509,5 @@ was_attended (Fault WriteFailed) stopped (input, exchanges, r) = these r.attende
 was_attended (Fault TooMuchInput) stopped (input, byte, exchanges, r) = these r.attended
 was_attended Closed stopped (input, exchanges, r) = these r.attended
 was_attended Stop stopped (input, exchanges, r) = these r.attended
+was_attended Reload stopped (input, exchanges, r) = these r.attended
 was_attended Full stopped (input, exchanges, r) = these r.attended

@@ -13,7 +13,8 @@ use Rattle.ifs_core.specs.Machine.{IsBehaviour}
 use Rattle.ifs_core.specs.Gateway.{IsStateOf, interface_of}
 use Rattle.ifs_core.specs.Headline.{IsKept}
 use Rattle.ifs_core.specs.Steps.{CoreState, turn}
-use Rattle.ifs_session.specs.Requests.{Asked, ALink, AResult, ATick, ATake, AStatus, ATrace, AStop, AFault}
+use Rattle.ifs_session.specs.Requests.{Asked, ALink, AResult, ATick, ATake, AStatus, ATrace, AStop, AReload}
+use Rattle.ifs_session.specs.Requests.{AFault}
 use Rattle.ifs_session.specs.Hosts.{Ending, HostLog, ran, launched, polled}
 use Rattle.ifs_session.specs.Accounts.{Account, Exchange, client_asked, step_asked, takes_of, texts_of, launches_told}
 use Rattle.ifs_session.specs.Accounts.{begun, emptied, heard, run_ended, runs_ended, acted, listened, served}
@@ -127,6 +128,7 @@ requested image ATake step e = cc
 requested image AStatus step e = cc
 requested image ATrace step e = cc
 requested image AStop step e = cc
+requested image AReload step e = cc
 requested image (AFault fault) step e = cc
 
 acted_lawful : (b : Behaviour) (image : ImageParts) (line : List ℕ) (wanted : Option Step) (lines : List (List ℕ)) (s : CoreState) (a : Account) → line_step image line ≡ wanted → Kept b image

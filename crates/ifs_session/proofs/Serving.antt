@@ -15,7 +15,8 @@ use Rattle.ifs_core.specs.Event.{Behaviour}
 use Rattle.ifs_core.specs.Steps.{CoreState}
 use Rattle.ifs_session.specs.inner.Reading.{HasNoNewline, ReadFails, ReadsTooMuch}
 use Rattle.ifs_session.specs.Lines.{input_lines, whole_lines, onto_line, line_end}
-use Rattle.ifs_session.specs.Requests.{Asked, ALink, AResult, ATick, ATake, AStatus, ATrace, AStop, AFault, asked}
+use Rattle.ifs_session.specs.Requests.{Asked, ALink, AResult, ATick, ATake, AStatus, ATrace, AStop, AReload}
+use Rattle.ifs_session.specs.Requests.{AFault, asked}
 use Rattle.ifs_session.specs.declared.session.LineKind.{LineKind}
 use Rattle.ifs_session.specs.declared.session.LineKind.TheVariants as kinds
 use Rattle.ifs_session.specs.Sessions.{SessionGives, deed, replies_to, after_lines, is_step, is_stop, NoneStops}
@@ -268,6 +269,7 @@ counted_line image ATake s running = counted_other image ATake true s refl refl 
 counted_line image AStatus s running = counted_other image AStatus false s refl refl running
 counted_line image ATrace s running = counted_other image ATrace false s refl refl running
 counted_line image AStop s running = record { requests = refl; steps = omega arith; stopped = refl }
+counted_line image AReload s running = counted_other image AReload false s refl refl running
 counted_line image (AFault fault) s running = counted_other image (AFault fault) false s refl refl running
 
 -- The last line of an input, whatever ends it.

@@ -13,7 +13,8 @@ use Rattle.ifs_core.specs.Event.{Behaviour}
 use Rattle.ifs_core.specs.Steps.{CoreState, turn, after_steps}
 use Rattle.ifs_core.specs.Gateway.{interface_of}
 use Rattle.ifs_session.specs.declared.request.RequestFault.TheVariants.{NoRequest, TooLong, NoInterface}
-use Rattle.ifs_session.specs.Requests.{Asked, ALink, ATick, AStatus, ATrace, AStop, AFault, starts_with, short_asked}
+use Rattle.ifs_session.specs.Requests.{Asked, ALink, ATick, AStatus, ATrace, AStop, AReload, AFault, starts_with}
+use Rattle.ifs_session.specs.Requests.{short_asked}
 use Rattle.ifs_session.specs.Replies.{command_text, reply_line, status_line, trace_lines, fault_line, bye_line}
 use Rattle.ifs_session.specs.Hosts.{Ending, Launch, HostLog, ran, launched, polled}
 
@@ -34,11 +35,12 @@ step_asked image (ALink name link) = option_map (λ interface. Link interface li
 step_asked image (ATick moment) = Some (Tick moment)
 step_asked image _ = None
 
--- The reply to what asks for no step, told of a core.
+-- The reply to what asks for no step, told of a core; nothing is said to `reload`.
 abbrev pub told_line : ImageParts → Asked → CoreState → List ℕ
 told_line image AStatus s = status_line image s
 told_line image ATrace s = trace_lines image s.trace
 told_line image AStop s = bye_line
+told_line image AReload s = []
 told_line image (AFault fault) s = fault_line fault
 told_line image (ALink name link) s = fault_line NoInterface
 told_line image _ s = fault_line NoRequest

@@ -90,6 +90,10 @@ abbrev pub status_line : ImageParts → CoreState → List ℕ
 status_line image s = ended_line (codes "status " ++ quoted (state_name image s.position.current.0)
     ++ codes " owed " ++ yes_or_no s.position.owed ++ status_numbers s)
 
+-- The line of a service that has read its image anew: the name of the state, and how many commands are queued.
+abbrev pub reloaded_line : ImageParts → CoreState → List ℕ
+reloaded_line image s = ended_line (codes "reloaded " ++ quoted (state_name image s.position.current.0) ++ codes " queue " ++ decimal (length s.queue))
+
 -- The value of a test.
 abbrev pub value_word : Bool → List ℕ
 value_word value = if value then codes "ok" else codes "fail"

@@ -18,6 +18,7 @@ pub data Asked : Type 0 where
   AStatus : Asked
   ATrace : Asked
   AStop : Asked
+  AReload : Asked
   AFault : (fault : RequestFault) → Asked
 
 -- A request for the link state of an interface, whose name has at least one byte.
@@ -77,6 +78,7 @@ word_asked word =
     if bytes_eq word (codes "status") then AStatus else
     if bytes_eq word (codes "trace") then ATrace else
     if bytes_eq word (codes "stop") then AStop else
+    if bytes_eq word (codes "reload") then AReload else
     AFault NoRequest
 
 -- What is asked by a line that is not too long.

@@ -1,6 +1,6 @@
 -- Service: what a served connection gives, in each way that it ends.
-use Rattle.std.specs.Prelude.{◌≡◌, ◌≢◌, ℕ, ◌<◌, Bool, true, false, List, [], ◌∷◌, ◌++◌, length, map, All, Option, Some}
-use Rattle.std.specs.Prelude.{None}
+use Rattle.std.specs.Prelude.{◌≡◌, ◌≢◌, ℕ, ◌<◌, Bool, true, false, if◌then◌else◌, List, [], ◌∷◌, ◌++◌, length, map, All}
+use Rattle.std.specs.Prelude.{Option, Some, None}
 use Rattle.std.specs.List.{flat_map, filter_map}
 use Rattle.std.specs.Io.KnownBytes.{append_known, Consumes, IsAtEnd}
 use Rattle.ifs_image.specs.declared.parts.ImageParts.{ImageParts}
@@ -12,13 +12,16 @@ use Rattle.ifs_core.specs.Event.{Behaviour}
 use Rattle.ifs_core.specs.Steps.{CoreState, replies, after_steps}
 use Rattle.ifs_session.specs.declared.fault.SessionFault.TheVariants.{ReadFailed, WriteFailed, TooMuchInput}
 use Rattle.ifs_session.specs.declared.service.End.{End}
-use Rattle.ifs_session.specs.declared.service.End.TheVariants.{Closed, Stop, Full, Fault}
+use Rattle.ifs_session.specs.declared.service.End.TheVariants.{Closed, Stop, Reload, Full, Fault}
+use Rattle.ifs_session.specs.declared.service.Leave.{Leave}
+use Rattle.ifs_session.specs.declared.service.Leave.TheVariants as leaves
 use Rattle.ifs_session.specs.Device.{counted}
 use Rattle.ifs_session.specs.declared.host.HostEvent.TheVariants.{Polled, Started, Ran}
 use Rattle.ifs_session.specs.Hosts.{Ending, Happening, HostLog, Adds, ran, launched}
 use Rattle.ifs_session.specs.Lines.{input_lines, whole_lines}
 use Rattle.ifs_session.specs.Replies.{command_text}
-use Rattle.ifs_session.specs.Sessions.{Moment, HasRead, EndsLine, EndsLines, is_stop}
+use Rattle.ifs_session.specs.Requests.{Asked, AStop, AReload}
+use Rattle.ifs_session.specs.Sessions.{Moment, HasRead, EndsLine, EndsLines}
 use Rattle.ifs_session.specs.Accounts.{Exchange, client_asked, step_asked, launches_told, account}
 
 -- ---- what the steps of a connection are, whatever its exchanges
@@ -69,14 +72,30 @@ pub record ConnectionKeeps (b : Behaviour) (image : ImageParts) (lines : List (L
 abbrev pub lines_in : List Exchange → List (List ℕ)
 lines_in exchanges = map (λ exchange. exchange.line) exchanges
 
--- A line does not ask for the end of the service.
-abbrev pub AsksNoStop : List ℕ → Type 0
-AsksNoStop line = is_stop (client_asked line) ≡ false
+-- What is asked of a connection: by `stop` to end, and the service with it, by `reload` to end for the image to be read anew, and by all else to go on.
+abbrev pub leave_of : Asked → Leave
+leave_of AStop = leaves.Stops
+leave_of AReload = leaves.Reloads
+leave_of _ = leaves.Stays
 
--- None of these lines before the last asks for the end of the service, and the last does exactly where the service was stopped.
-abbrev pub Stops : Bool → List (List ℕ) → Type 0
-Stops false lines = All AsksNoStop lines
-Stops true lines = (earlier : List (List ℕ)) × (stop : List ℕ) × (lines ≡ earlier ++ stop ∷ []) × All AsksNoStop earlier × (is_stop (client_asked stop) ≡ true)
+-- A line asks neither for the end of the service nor for the image to be read anew.
+abbrev pub AsksNeither : List ℕ → Type 0
+AsksNeither line = leave_of (client_asked line) ≡ leaves.Stays
+
+-- The last of these lines asks for this, and those before it for neither.
+abbrev pub OnlyLastAsks : Leave → List (List ℕ) → Type 0
+OnlyLastAsks leave lines = (earlier : List (List ℕ)) × (last : List ℕ) × (lines ≡ earlier ++ last ∷ []) × All AsksNeither earlier × (leave_of (client_asked last) ≡ leave)
+
+-- These lines ask this of a connection: to go on where none of them asks for either, and else only the last does, for just this.
+abbrev pub AskFor : Leave → List (List ℕ) → Type 0
+AskFor leaves.Stays lines = All AsksNeither lines
+AskFor leaves.Stops lines = OnlyLastAsks leaves.Stops lines
+AskFor leaves.Reloads lines = OnlyLastAsks leaves.Reloads lines
+
+-- What the lines of a connection asked of it, by its end and by whether the service was stopped: a reload where it ended with one, and in no other case.
+abbrev pub left_by : End → Bool → Leave
+left_by Reload stopped = leaves.Reloads
+left_by _ stopped = if stopped then leaves.Stops else leaves.Stays
 
 -- From one moment to another these exchanges were attended to, of a host that told this before and tells that now. Each of them left the queue empty.
 pub record HasAttended (b : Behaviour) (exchanges : List Exchange) (steps : List Step) (told told' : Option HostLog) (before after : Moment) : Type 0 where
@@ -92,10 +111,11 @@ pub record HasAnswered (b : Behaviour) (exchanges : List Exchange) (before after
   pub written : after.written ≡ append_known before.written (account b before.core.image exchanges before.core.state).said
   pub same_faults : after.write_faults ≡ before.write_faults
 
--- How a connection ends without a fault: at the end of input; with a line that asks for it; or where fewer than 65 places for steps are left. After the last line nothing more was read.
+-- How a connection ends without a fault: at the end of input; with a line that asks for the end of the service, or for the image to be read anew; or where fewer than 65 places for steps are left. After the last line nothing more was read.
 abbrev pub EndsAs : End → Bool → List ℕ → List Step → Moment → Type 0
 EndsAs Closed stopped input steps after = (stopped ≡ false) × IsAtEnd after.left
 EndsAs Stop stopped input steps after = (stopped ≡ true) × EndsLine input after.left
+EndsAs Reload stopped input steps after = (stopped ≡ false) × EndsLine input after.left
 EndsAs Full stopped input steps after = (stopped ≡ false) × (447 < length steps) × EndsLines input after.left
 EndsAs (Fault fault) stopped input steps after = ⊥
 
@@ -106,7 +126,7 @@ pub record ConnectionCompletes (b : Behaviour) (end : End) (stopped : Bool) (inp
   pub attended : HasAttended b exchanges steps told told' before after
   pub answered : HasAnswered b exchanges before after
   pub same_faults : after.read_faults ≡ before.read_faults
-  pub stops : Stops stopped (input_lines input)
+  pub asks : AskFor (left_by end stopped) (input_lines input)
   pub ends : EndsAs end stopped input steps after
 
 -- A read failed: the lines that were whole by then were served.
@@ -116,17 +136,17 @@ pub record ConnectionBreaksReading (b : Behaviour) (stopped : Bool) (input : Lis
   pub attended : HasAttended b exchanges steps told told' before after
   pub answered : HasAnswered b exchanges before after
   pub one_fault : after.read_faults ≡ counted before.read_faults
-  pub stops : Stops stopped (whole_lines input)
+  pub asks : AskFor (left_by (Fault ReadFailed) stopped) (whole_lines input)
   pub not_stopped : stopped ≡ false
 
--- A write failed: the lines that were read by then, each to its end, were attended to. Only the last may have asked for the end of the service.
+-- A write failed: the lines that were read by then, each to its end, were attended to. Only the last may have asked for the end of the service, and none asked for a reload.
 pub record ConnectionBreaksWriting (b : Behaviour) (stopped : Bool) (input : List ℕ) (exchanges : List Exchange) (steps : List Step) (told told' : Option HostLog) (before after : Moment) : Type 0 where
   pub read : HasRead input before after
   pub whole : EndsLines input after.left
   pub lines : input_lines input ≡ lines_in exchanges
   pub attended : HasAttended b exchanges steps told told' before after
   pub same_faults : after.read_faults ≡ before.read_faults
-  pub stops : Stops stopped (input_lines input)
+  pub asks : AskFor (left_by (Fault WriteFailed) stopped) (input_lines input)
   pub one_fault : after.write_faults ≡ counted before.write_faults
 
 -- A byte was read after the 16,777,216 of a connection: the lines that were whole before it were served.
@@ -137,7 +157,7 @@ pub record ConnectionReadsPast (b : Behaviour) (stopped : Bool) (input : List �
   pub attended : HasAttended b exchanges steps told told' before after
   pub answered : HasAnswered b exchanges before after
   pub same_faults : after.read_faults ≡ before.read_faults
-  pub stops : Stops stopped (whole_lines input)
+  pub asks : AskFor (left_by (Fault TooMuchInput) stopped) (whole_lines input)
   pub not_stopped : stopped ≡ false
 
 -- What a connection gives: there is an input that was read, and exchanges, one for each of its lines.

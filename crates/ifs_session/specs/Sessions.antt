@@ -12,10 +12,11 @@ use Rattle.ifs_core.specs.Steps.{CoreState, turn}
 use Rattle.ifs_core.specs.Gateway.{OpenCore, interface_of}
 use Rattle.ifs_session.specs.declared.fault.SessionFault.{SessionFault}
 use Rattle.ifs_session.specs.declared.fault.SessionFault.TheVariants.{ReadFailed, WriteFailed, TooMuchInput}
-use Rattle.ifs_session.specs.declared.request.RequestFault.TheVariants.{NoInterface}
+use Rattle.ifs_session.specs.declared.request.RequestFault.TheVariants.{NoRequest, NoInterface}
 use Rattle.ifs_session.specs.declared.session.Summary.{Summary}
 use Rattle.ifs_session.specs.Device.{counted}
-use Rattle.ifs_session.specs.Requests.{Asked, ALink, AResult, ATick, ATake, AStatus, ATrace, AStop, AFault, asked}
+use Rattle.ifs_session.specs.Requests.{Asked, ALink, AResult, ATick, ATake, AStatus, ATrace, AStop, AReload}
+use Rattle.ifs_session.specs.Requests.{AFault, asked}
 use Rattle.ifs_session.specs.Replies.{reply_line, status_line, trace_lines, fault_line, bye_line}
 use Rattle.ifs_session.specs.Lines.{input_lines, whole_lines}
 
@@ -39,7 +40,7 @@ abbrev pub link_deed : Behaviour → ImageParts → LinkState → Option IfaceId
 link_deed b image link None s = told (fault_line NoInterface) s
 link_deed b image link (Some interface) s = step_deed b image (Link interface link) s
 
--- What is made of what is asked.
+-- What is made of what is asked; `reload` is no request of a session, whose image is not read anew.
 abbrev pub deed : Behaviour → ImageParts → Asked → CoreState → Deed
 deed b image (ALink name link) s = link_deed b image link (interface_of image.interfaces name) s
 deed b image (AResult test run value) s = step_deed b image (Finished (record { 0 = test }) run value) s
@@ -48,6 +49,7 @@ deed b image ATake s = step_deed b image Take s
 deed b image AStatus s = told (status_line image s) s
 deed b image ATrace s = told (trace_lines image s.trace) s
 deed b image AStop s = told bye_line s
+deed b image AReload s = told (fault_line NoRequest) s
 deed b image (AFault fault) s = told (fault_line fault) s
 
 -- The replies to lines, one after the other.

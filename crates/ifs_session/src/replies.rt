@@ -1,17 +1,18 @@
 //! Reply lines, written piece by piece without allocation.
 
-ghost use Rattle.std.specs.Prelude.{◌≡◌, ◌<◌, decimal, map, length};
+ghost use Rattle.std.specs.Prelude.{◌≡◌, ◌<◌, decimal, map, length, IfErr, OnOk};
 ghost use Rattle.std.specs.List.{flat_map};
 ghost use Rattle.ifs_core.specs.Gateway.{IsListed, IsReplyOf};
 ghost use Rattle.ifs_core.specs.Steps.{reply_of};
-ghost use Rattle.ifs_session.specs.Device.{PutGives};
+ghost use Rattle.ifs_session.specs.Device.{HoldsNothing, PutGives};
 ghost use Rattle.ifs_base.specs.Words.{link_word, listed, quoted};
 ghost use Rattle.ifs_session.specs.Replies.{state_name, command_text, evaluation_words, start_word, starts_words};
 ghost use Rattle.ifs_session.specs.Replies.{before_starts, taken_line, reply_line, status_numbers, status_line};
 ghost use Rattle.ifs_session.specs.Replies.{yes_or_no, value_word, step_words, answer_word, answer_words, record_line};
-ghost use Rattle.ifs_session.specs.Replies.{trace_lines, fault_line};
+ghost use Rattle.ifs_session.specs.Replies.{reloaded_line, trace_lines, fault_line};
 
 use crate::device::{ByteOut, DeviceFault};
+use crate::fault::SessionFault;
 use crate::request::RequestFault;
 use crate::words::{put_commands, put_number, put_numbered, put_quoted};
 use ifs_base::{CommandId, LinkState, StateId};
@@ -203,6 +204,35 @@ fn put_status_numbers<W: ByteOut>(out: &mut W, core: &Core<'_>) -> Result<(), De
     put_numbered(out, b" queue ", core.queue_len() as u64)?;
     put_numbered(out, b" running ", u64::from(core.running()))?;
     put_numbered(out, b" now ", core.now())?;
+    Ok(())
+}
+
+/// Writes the line of a service that has read its image anew, `reloaded`, the name of the core's state in
+/// quotes, `queue` and how many commands are queued, and sees that it has gone out.
+///
+/// It fails with `SessionFault::WriteFailed` where a write fails; how much of the line went out is open then.
+pub fn write_reloaded<W: ByteOut>(core: &Core<'_>, writer: &mut W) -> Result<(), SessionFault>
+    ensures puts { PutGives result (reloaded_line core.now.image core.now.state) (W.written writer.old) (W.written writer.new) (W.faults writer.old) (W.faults writer.new) }
+    ensures out { OnOk result (HoldsNothing (W.held writer.new)) }
+    ensures fault { IfErr result (λ fault. fault ≡ SessionFault.WriteFailed) }
+{
+    match put_reloaded(writer, core) {
+        Ok(()) => Ok(()),
+        Err(_) => Err(SessionFault::WriteFailed),
+    }
+}
+
+/// Writes the line of a service that has read its image anew, and sees that it goes out.
+#[tactic(auto, using(crate::proofs::Known::written_laws))]
+fn put_reloaded<W: ByteOut>(out: &mut W, core: &Core<'_>) -> Result<(), DeviceFault>
+    ensures puts { PutGives result (reloaded_line core.now.image core.now.state) (W.written out.old) (W.written out.new) (W.faults out.old) (W.faults out.new) }
+    ensures out { OnOk result (HoldsNothing (W.held out.new)) }
+{
+    out.put(b"reloaded ")?;
+    put_state(out, core, core.state())?;
+    put_numbered(out, b" queue ", core.queue_len() as u64)?;
+    out.put(b"\n")?;
+    out.flush()?;
     Ok(())
 }
 

@@ -27,6 +27,8 @@ pub(crate) enum Request<'a> {
     Trace,
     /// The session ends.
     Stop,
+    /// The image is read anew, which a session does not do.
+    Reload,
 }
 
 /// Why a line is no request.
@@ -87,6 +89,8 @@ fn word_request(word: &[u8]) -> Result<Request<'_>, RequestFault>
         Ok(Request::Trace)
     } else if word == b"stop".as_slice() {
         Ok(Request::Stop)
+    } else if word == b"reload".as_slice() {
+        Ok(Request::Reload)
     } else {
         Err(RequestFault::NoRequest)
     }

@@ -1,7 +1,7 @@
 //! One served connection: requests of a client, ends of tests and commands, in one order.
 
 ghost use Rattle.std.specs.Prelude.{◌≡◌, ◌≢◌, ◌+◌, ◌-◌, ◌<◌, ◌≤◌, ◌∷◌, [], List, All, length, map, None, Some, IfOk};
-ghost use Rattle.std.specs.Prelude.{IfSome, MatchResult};
+ghost use Rattle.std.specs.Prelude.{IfSome, IsOk, MatchResult};
 ghost use Rattle.ifs_core.specs.Event.{Behaviour};
 ghost use Rattle.ifs_core.specs.Machine.{IsBehaviour};
 ghost use Rattle.ifs_core.specs.Gateway.{IsReplyOf};
@@ -10,11 +10,11 @@ ghost use Rattle.ifs_session.specs.Device.{HoldsNothing, PutGives};
 ghost use Rattle.ifs_session.specs.Hosts.{Ending, Adds, launched, polled};
 ghost use Rattle.ifs_session.specs.Accounts.{launch_of, launches_told, acted, runs_ended, heard_out, step_asked};
 ghost use Rattle.ifs_session.specs.Accounts.{told_line, answered};
-ghost use Rattle.ifs_session.specs.Service.{ConnectionGives};
+ghost use Rattle.ifs_session.specs.Service.{ConnectionGives, leave_of};
 ghost use Rattle.ifs_session.specs.Replies.{reply_line};
 ghost use Rattle.ifs_session.specs.Sessions.{is_stop};
 ghost use Rattle.ifs_session.specs.inner.Parsing.{told_by};
-ghost use Rattle.ifs_session.specs.inner.Connections.{Carries, HasFollowed, ExchangeGives, FlushGives, end_of};
+ghost use Rattle.ifs_session.specs.inner.Connections.{Carries, HasFollowed, ExchangeGives, FlushGives, end_of, stops_by};
 
 use crate::device::{ByteIn, ByteOut, DeviceFault};
 use crate::fault::SessionFault;
@@ -42,6 +42,9 @@ pub enum End {
     Closed,
     /// The last line asked for the end of the service.
     Stop,
+    /// The last line asked for the image to be read anew. Nothing was written for it; what came of it is
+    /// told by who reads the image, as with `write_reloaded`.
+    Reload,
     /// Fewer than 65 places for steps were left.
     Full,
     /// A read or a write failed, or too much was read.
@@ -67,6 +70,12 @@ pub struct Served {
 /// and the reply is written. It has gone out before the next line is waited for.
 ///
 /// A client cannot take commands nor tell results of tests: `take` and `result` are no requests here.
+///
+/// It ends at the end of input; with `stop`, once the reply to it has gone out; with `reload`, for which
+/// the host is polled as before other lines, no step is made and nothing is written; after a line that
+/// leaves fewer than 65 places for steps; where a read or a write fails; and at byte 16,777,217. Nothing
+/// behind its last line is read. A line `reload` that was read always ends it with `End::Reload`: what was
+/// written before has gone out by then, so there is no write after it that could fail.
 pub fn serve_one<H: Host, R: ByteIn, W: ByteOut>(
     core: &mut Core<'_>,
     host: &mut H,
@@ -110,11 +119,31 @@ pub(crate) struct Break {
     pub stopped: bool,
 }
 
+/// What a line asks of its connection.
+#[derive(Clone, Copy, Debug, PartialEq, Eq)]
+pub(crate) enum Leave {
+    /// To go on, as all lines do but `stop` and `reload`.
+    Stays,
+    /// To end, and the service with it.
+    Stops,
+    /// To end, for the image to be read anew.
+    Reloads,
+}
+
+impl Leave {
+    /// Whether the service is to end.
+    fn is_stop(self) -> bool
+        ensures { result ≡ stops_by self }
+    {
+        matches!(self, Leave::Stops)
+    }
+}
+
 /// A line that was served.
 #[derive(Clone, Copy, Debug, PartialEq, Eq)]
 pub(crate) struct ServedLine {
-    /// Whether it asked for the end of the service.
-    pub is_stop: bool,
+    /// What it asked of the connection.
+    pub leave: Leave,
     /// Whether a newline ends it; else the input does.
     pub is_ended: bool,
 }
@@ -158,7 +187,7 @@ fn serve_lines<H: Host, R: ByteIn, W: ByteOut>(
         if let Some(end) = end_after(line, steps.len()) {
             return Close {
                 end: flushed(writer, end),
-                stopped: line.is_stop,
+                stopped: line.leave.is_stop(),
             };
         }
     }
@@ -169,22 +198,25 @@ fn end_after(line: ServedLine, steps: usize) -> Option<End>
     requires { steps ≤ 512 }
     ensures { result ≡ end_of line steps }
 {
-    if line.is_stop {
-        Some(End::Stop)
-    } else if STEPS - steps < PLACES_OF_STEP {
-        Some(End::Full)
-    } else if line.is_ended {
-        None
-    } else {
-        Some(End::Closed)
+    match line.leave {
+        Leave::Stops => Some(End::Stop),
+        Leave::Reloads => Some(End::Reload),
+        Leave::Stays if STEPS - steps < PLACES_OF_STEP => Some(End::Full),
+        Leave::Stays if line.is_ended => None,
+        Leave::Stays => Some(End::Closed),
     }
 }
 
-/// This end, once what was written has gone out.
+/// This end, once what was written has gone out. At a reload it has already, and nothing is asked of the
+/// writer.
 fn flushed<W: ByteOut>(writer: &mut W, end: End) -> End
+    requires { end ≡ End.Reload → HoldsNothing (W.held writer.old) }
     ensures ends { FlushGives end result (W.written writer.old) (W.written writer.new) (W.faults writer.old) (W.faults writer.new) }
     ensures out { result ≢ End.Fault SessionFault.WriteFailed → HoldsNothing (W.held writer.new) }
 {
+    if let End::Reload = end {
+        return end;
+    }
     match writer.flush() {
         Ok(()) => end,
         Err(_) => End::Fault(SessionFault::WriteFailed),
@@ -207,6 +239,7 @@ fn next_exchange<H: Host, R: ByteIn, W: ByteOut>(
         (record { moment = record { core = core.old; left = R.left reader.old; written = W.written writer.old; read_faults = R.faults reader.old; write_faults = W.faults writer.old }; budget = budget.old; steps = steps.old.items; told = H.told host.old })
         (record { moment = record { core = core.new; left = R.left reader.new; written = W.written writer.new; read_faults = R.faults reader.new; write_faults = W.faults writer.new }; budget = budget.new; steps = steps.new.items; told = H.told host.new }) }
     ensures counts { IfOk result (λ next. IfSome next (λ _. budget.new < budget.old)) }
+    ensures reloads { IfOk result (λ next. IfSome next (λ line. line.leave ≡ Leave.Reloads → HoldsNothing (W.held writer.new))) }
     ensures out { MatchResult result (λ next. next ≡ None → HoldsNothing (W.held writer.new)) (λ broken. broken.fault ≢ SessionFault.WriteFailed → HoldsNothing (W.held writer.new)) }
     ensures few { length steps.new.items ≤ 512 }
 {
@@ -230,7 +263,7 @@ fn next_exchange<H: Host, R: ByteIn, W: ByteOut>(
     let asked = line.client_request();
     match answer(core, host, lists, steps, writer, asked) {
         Ok(()) => Ok(Some(ServedLine {
-            is_stop: asks_stop(asked),
+            leave: leave_asked(asked),
             is_ended: line.is_ended,
         })),
         Err(_) => Err(unanswered(asked)),
@@ -325,7 +358,7 @@ fn start_tests<H: Host>(core: &Core<'_>, host: &mut H, starts: &[Start])
     }
 }
 
-/// Makes the step that is asked for, if one is, and writes the reply.
+/// Makes the step that is asked for, if one is, and writes the reply; where a reload is asked for, nothing.
 fn answer<H: Host, W: ByteOut>(
     core: &mut Core<'_>,
     host: &mut H,
@@ -341,6 +374,7 @@ fn answer<H: Host, W: ByteOut>(
         (record { state = core.new.state; steps = steps.new.items; told = H.told host.new }) }
     ensures replies { (b : Behaviour) → IsBehaviour core.old.image b
         → PutGives result (answered b core.old.image (told_by asked.entry) core.old.state) (W.written writer.old) (W.written writer.new) (W.faults writer.old) (W.faults writer.new) }
+    ensures quiet { leave_of (told_by asked.entry) ≡ Leave.Reloads → IsOk result × (W.held writer.new ≡ W.held writer.old) }
     ensures few { length steps.new.items ≤ 512 }
 {
     match step_of(core, asked) {
@@ -402,23 +436,36 @@ fn step_of(core: &Core<'_>, asked: Result<Request<'_>, RequestFault>) -> Option<
     }
 }
 
-/// Writes the reply to what asks for no step.
+/// Writes the reply to what asks for no step; where it is a reload, nothing.
 fn tell<W: ByteOut>(
     core: &Core<'_>,
     writer: &mut W,
     asked: Result<Request<'_>, RequestFault>,
 ) -> Result<(), DeviceFault>
-    ensures { PutGives result (told_line core.now.image (told_by asked.entry) core.now.state) (W.written writer.old) (W.written writer.new) (W.faults writer.old) (W.faults writer.new) }
+    ensures replies { PutGives result (told_line core.now.image (told_by asked.entry) core.now.state) (W.written writer.old) (W.written writer.new) (W.faults writer.old) (W.faults writer.new) }
+    ensures quiet { leave_of (told_by asked.entry) ≡ Leave.Reloads → IsOk result × (W.held writer.new ≡ W.held writer.old) }
 {
     match asked {
         Ok(Request::Status) => put_status(writer, core),
         Ok(Request::Trace) => put_trace(writer, core),
         Ok(Request::Stop) => writer.put(b"bye\n"),
+        Ok(Request::Reload) => Ok(()),
         Ok(Request::Link(..)) => put_fault(writer, RequestFault::NoInterface),
         Ok(Request::Tick(_) | Request::Take | Request::Result(..)) => {
             put_fault(writer, RequestFault::NoRequest)
         }
         Err(fault) => put_fault(writer, fault),
+    }
+}
+
+/// What this asks of the connection.
+fn leave_asked(asked: Result<Request<'_>, RequestFault>) -> Leave
+    ensures { result ≡ leave_of (told_by asked.entry) }
+{
+    match asked {
+        Ok(Request::Stop) => Leave::Stops,
+        Ok(Request::Reload) => Leave::Reloads,
+        _ => Leave::Stays,
     }
 }
 

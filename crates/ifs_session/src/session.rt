@@ -53,7 +53,7 @@ pub(crate) struct Served {
 
 /// Serves request lines until `stop`, whose rest is left unread, or to the end of input: makes their
 /// steps and writes their replies, one after the other. Each reply has gone out before the next
-/// line is waited for.
+/// line is waited for. The line `reload` is no request here, and is answered `fault C1`.
 ///
 /// It fails where a read or a write fails, and at byte 16,777,217. The core then stands after the
 /// steps made. A read that fails, and too much input, leave the replies to the whole lines before,
@@ -220,6 +220,10 @@ fn serve_request<W: ByteOut>(
         Request::Stop => {
             writer.put(b"bye\n")?;
             Ok(LineKind::Stop)
+        }
+        Request::Reload => {
+            put_fault(writer, RequestFault::NoRequest)?;
+            Ok(LineKind::Other)
         }
     }
 }

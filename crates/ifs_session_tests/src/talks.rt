@@ -2,6 +2,7 @@
 
 mod devices;
 mod order;
+mod reloads;
 mod serving;
 
 use ifs_rows::{Refusal, Row, digits_of, images, refusals, sessions, version_two};
@@ -21,12 +22,18 @@ const QUOTES: &str =
     "4946535601000100010000000500010000000000010001000400000000000100000000000000000005225c1f7f7e00036120220002000300000000000000000000010000000000000100000000000003090000000b0000000000000000000100000000";
 
 /// Requests on an image, and their replies.
-const TALKS: [(&str, &str, &str, &str); 2] = [
+const TALKS: [(&str, &str, &str, &str); 3] = [
     (
         "quotes",
         QUOTES,
         "take\nstatus\n",
         "taken 0 \"\\\"\\\\\\x1f\\x7f~\"\nstatus \"a \\\"\" owed yes queue 0 running 0 now 0\n",
+    ),
+    (
+        "a session does not reload",
+        images::FIRST_RUN,
+        "reload\nlink carp0 up\nreload\nlink carp0 up\nstop\n",
+        "fault C1\ndone \"a\" cost 6 queue 0\nfault C1\nsame\nbye\n",
     ),
     (
         "requests with faults",

@@ -1,6 +1,6 @@
 -- What the functions that serve a connection give.
-use Rattle.std.specs.Prelude.{◌≡◌, ◌⊎◌, ℕ, Bool, false, nat_lt, ◌-◌, if◌then◌else◌, List, [], ◌++◌, Option, Some, None}
-use Rattle.std.specs.Prelude.{Result, Ok, Err}
+use Rattle.std.specs.Prelude.{◌≡◌, ◌≢◌, ◌⊎◌, ℕ, Bool, true, false, nat_lt, ◌-◌, if◌then◌else◌, List, [], ◌++◌, Option, Some}
+use Rattle.std.specs.Prelude.{None, Result, Ok, Err}
 use Rattle.std.specs.Io.KnownBytes.{append_known}
 use Rattle.ifs_image.specs.declared.parts.ImageParts.{ImageParts}
 use Rattle.ifs_core.specs.declared.step.Reply.{Reply}
@@ -13,14 +13,17 @@ use Rattle.ifs_session.specs.declared.lines.Line.{Line}
 use Rattle.ifs_session.specs.declared.request.RequestFault.TheVariants.{NoRequest, TooLong}
 use Rattle.ifs_session.specs.declared.service.Break.{Break}
 use Rattle.ifs_session.specs.declared.service.End.{End}
-use Rattle.ifs_session.specs.declared.service.End.TheVariants.{Closed, Stop, Full, Fault}
+use Rattle.ifs_session.specs.declared.service.End.TheVariants.{Closed, Stop, Reload, Full, Fault}
+use Rattle.ifs_session.specs.declared.service.Leave.{Leave}
+use Rattle.ifs_session.specs.declared.service.Leave.TheVariants as leaves
 use Rattle.ifs_session.specs.declared.service.ServedLine.{ServedLine}
 use Rattle.ifs_session.specs.Device.{counted}
 use Rattle.ifs_session.specs.Requests.{Asked, AFault, short_asked}
-use Rattle.ifs_session.specs.Sessions.{Moment, is_stop}
+use Rattle.ifs_session.specs.Sessions.{Moment}
 use Rattle.ifs_session.specs.Hosts.{HostLog, Adds, ran, launched}
 use Rattle.ifs_session.specs.Accounts.{Account, Exchange, asks_of_hosts, client_asked, launches_told, attended}
 use Rattle.ifs_session.specs.Accounts.{exchange_reply}
+use Rattle.ifs_session.specs.Service.{leave_of, left_by}
 use Rattle.ifs_session.specs.inner.Reading.{Intake, ReadsText, ReadsNothing, ReadFails, ReadsTooMuch}
 use Rattle.ifs_session.specs.inner.Serving.{intake, OnlyReads, OnlyWrites}
 
@@ -71,12 +74,12 @@ pub record Idles (before after : ConnectionPoint) : Type 0 where
   pub steps : after.steps ≡ before.steps
   pub told : after.told ≡ before.told
 
--- A line was read, which asks for the end of the service or does not, and attended to.
-pub record ServesExchange (b : Behaviour) (exchange : Exchange) (ended stop : Bool) (before after : ConnectionPoint) : Type 0 where
+-- A line was read, which asks this of the connection, and attended to.
+pub record ServesExchange (b : Behaviour) (exchange : Exchange) (ended : Bool) (leave : Leave) (before after : ConnectionPoint) : Type 0 where
   pub read : ReadsText exchange.line ended (taken_in before) (taken_in after)
   pub image : after.moment.core.image ≡ before.moment.core.image
   pub attends : Carries (attended b before.moment.core.image exchange) (standing before) (standing after)
-  pub stops : stop ≡ is_stop (client_asked exchange.line)
+  pub asks : leave ≡ leave_of (client_asked exchange.line)
 
 -- And it was replied to.
 pub record AnswersExchange (b : Behaviour) (exchange : Exchange) (before after : ConnectionPoint) : Type 0 where
@@ -92,23 +95,30 @@ ExchangeFails b TooMuchInput stopped before after =
     (text : List ℕ) × (byte : ℕ) × ReadsTooMuch text byte (taken_in before) (taken_in after) × OnlyReads before.moment after.moment × Idles before after × (stopped ≡ false)
 ExchangeFails b WriteFailed stopped before after =
     (after.moment.write_faults ≡ counted before.moment.write_faults)
-    × ((OnlyWrites before.moment after.moment × Idles before after × (stopped ≡ false)) ⊎ ((exchange : Exchange) × (ended : Bool) × ServesExchange b exchange ended stopped before after))
+    × ((OnlyWrites before.moment after.moment × Idles before after × (stopped ≡ false)) ⊎ ((exchange : Exchange) × (ended : Bool) × ServesExchange b exchange ended (left_by (Fault WriteFailed) stopped) before after))
 
 -- What the serving of the next line gives, from one point to another.
 abbrev pub ExchangeGives : Behaviour → Result (Option ServedLine) Break → ConnectionPoint → ConnectionPoint → Type 0
-ExchangeGives b (Ok (Some line)) before after = (exchange : Exchange) × ServesExchange b exchange line.is_ended line.is_stop before after × AnswersExchange b exchange before after
+ExchangeGives b (Ok (Some line)) before after = (exchange : Exchange) × ServesExchange b exchange line.is_ended line.leave before after × AnswersExchange b exchange before after
 ExchangeGives b (Ok None) before after = ReadsNothing (taken_in before) (taken_in after) × OnlyReads before.moment after.moment × Idles before after
 ExchangeGives b (Err broken) before after = ExchangeFails b broken.fault broken.stopped before after
 
--- The end after a line that was served, where so many steps were made, if it is one.
-abbrev pub end_of : ServedLine → ℕ → Option End
-end_of line steps =
-    if line.is_stop then Some Stop else
-    if nat_lt (512 - steps) 65 then Some Full else
-    if line.is_ended then None else
-    Some Closed
+-- Whether the service is to end.
+abbrev pub stops_by : Leave → Bool
+stops_by leaves.Stops = true
+stops_by _ = false
 
--- What the end of a connection gives, when what was written was to go out: that end, or that a write failed.
+-- The end after a line that asks this of its connection, if it is one: where it is to go on, by whether too few places are left and whether a newline ends the line.
+abbrev pub end_by : Leave → Bool → Bool → Option End
+end_by leaves.Stops full ended = Some Stop
+end_by leaves.Reloads full ended = Some Reload
+end_by leaves.Stays full ended = if full then Some Full else if ended then None else Some Closed
+
+-- The same, of a line that was served, where so many steps were made.
+abbrev pub end_of : ServedLine → ℕ → Option End
+end_of line steps = end_by line.leave (nat_lt (512 - steps) 65) line.is_ended
+
+-- What the end of a connection gives, when what was written was to go out: that end, or, but for a reload, that a write failed.
 abbrev pub FlushGives : End → End → Option (List ℕ) → Option (List ℕ) → Option ℕ → Option ℕ → Type 0
 FlushGives end result written written' faults faults' =
-    ((result ≡ end) × (written' ≡ append_known written []) × (faults' ≡ faults)) ⊎ ((result ≡ Fault WriteFailed) × (faults' ≡ counted faults))
+    ((result ≡ end) × (written' ≡ append_known written []) × (faults' ≡ faults)) ⊎ ((end ≢ Reload) × (result ≡ Fault WriteFailed) × (faults' ≡ counted faults))

@@ -6,7 +6,8 @@ use Rattle.ifs_base.specs.declared.numbers.Number.{Number}
 use Rattle.ifs_base.specs.declared.numbers.Number.TheVariants.{Within}
 use Rattle.ifs_session.specs.declared.request.Request.{Request}
 use Rattle.ifs_session.specs.declared.request.Request.TheVariants as requests
-use Rattle.ifs_session.specs.Requests.{Asked, ALink, AResult, ATick, ATake, AStatus, ATrace, AStop, AFault}
+use Rattle.ifs_session.specs.Requests.{Asked, ALink, AResult, ATick, ATake, AStatus, ATrace, AStop, AReload}
+use Rattle.ifs_session.specs.Requests.{AFault}
 
 -- What an answer of the parser says.
 abbrev pub told_by : Result Request RequestFault → Asked
@@ -17,6 +18,7 @@ told_by (Ok requests.Take) = ATake
 told_by (Ok requests.Status) = AStatus
 told_by (Ok requests.Trace) = ATrace
 told_by (Ok requests.Stop) = AStop
+told_by (Ok requests.Reload) = AReload
 told_by (Err fault) = AFault fault
 
 -- What is asked by `result` with these numbers, of which enough is kept.

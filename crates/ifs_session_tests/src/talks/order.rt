@@ -106,3 +106,11 @@ fn replies_come_after_what_they_tell_of(rt: HostRuntime) {
     let runs = order_of(&rt, rt.alloc(), images::FIRST_RUN, b"link carp0 up\nstop\n");
     assert_eq!(rt; runs, 423_434);
 }
+
+/// After a line that asks for a reload nothing is written and nothing sent on; the test that had ended
+/// before it runs its command.
+#[test]
+fn nothing_is_written_after_a_reload(rt: HostRuntime) {
+    let reload = order_of(&rt, rt.alloc(), images::MACROS, b"tick 0\nreload\nstatus\n");
+    assert_eq!(rt; reload, 41_342);
+}

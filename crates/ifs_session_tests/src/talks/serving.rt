@@ -28,24 +28,24 @@ pub(super) fn opened<'a>(rt: &impl Abort, alloc: Global, image: &'a [u8]) -> Cor
 }
 
 /// A host whose polls and runs answer nothing.
-fn quiet<A: Allocator + Copy>(alloc: A, script: Global) -> ScriptHost<A> {
+pub(super) fn quiet<A: Allocator + Copy>(alloc: A, script: Global) -> ScriptHost<A> {
     ScriptHost::new(alloc, Vec::new(script), Vec::new(script))
 }
 
 /// What a connection came to. One that is looked at is lent to a function that asserts, so that no
 /// assertion stands where all of it is dropped.
 #[derive(Drop)]
-struct Talk<A: Allocator + Copy> {
+pub(super) struct Talk<A: Allocator + Copy> {
     /// How many commands wait after it.
-    waiting: usize,
-    host: ScriptHost<A>,
+    pub waiting: usize,
+    pub host: ScriptHost<A>,
     output: MemoryOut<Global>,
-    served: Served,
+    pub served: Served,
 }
 
 impl<A: Allocator + Copy> Talk<A> {
     /// Serves a connection of this input over this host, on the image of these digits.
-    fn new(
+    pub fn new(
         rt: &impl Abort,
         alloc: Global,
         image: &str,
@@ -65,7 +65,7 @@ impl<A: Allocator + Copy> Talk<A> {
     }
 
     /// What was written.
-    fn written(&self) -> &[u8] {
+    pub fn written(&self) -> &[u8] {
         self.output.written()
     }
 
@@ -77,7 +77,12 @@ impl<A: Allocator + Copy> Talk<A> {
 }
 
 /// A connection of these requests on the image of these digits, over a host that answers nothing.
-fn quiet_talk(rt: &impl Abort, alloc: Global, image: &str, input: &mut MemoryIn) -> Talk<Global> {
+pub(super) fn quiet_talk(
+    rt: &impl Abort,
+    alloc: Global,
+    image: &str,
+    input: &mut MemoryIn,
+) -> Talk<Global> {
     let output = MemoryOut::new(alloc);
     Talk::new(rt, alloc, image, quiet(alloc, alloc), input, output)
 }
@@ -97,7 +102,7 @@ fn check_last_text(rt: &impl Abort, host: &ScriptHost<Global>, count: u32, text:
 }
 
 /// The end of the only run of the row of macros.
-const MACROS_ENDING: (TestId, u64, bool) = (TestId(0), 1, false);
+pub(super) const MACROS_ENDING: (TestId, u64, bool) = (TestId(0), 1, false);
 
 const MACROS_REPLIES: &str = "tick \"a\" cost 4 queue - starts 0:1\n\
                               status \"a\" owed no queue 0 running 0 now 0\n\
@@ -205,7 +210,7 @@ fn what_hosts_do_is_no_request(rt: HostRuntime) {
 }
 
 /// Steps after which three commands are queued.
-fn queue_three(core: &mut Core<'_>) {
+pub(super) fn queue_three(core: &mut Core<'_>) {
     for state in [LinkState::Up, LinkState::Down, LinkState::Up] {
         core.step(Step::Link(IfaceId(0), state));
     }

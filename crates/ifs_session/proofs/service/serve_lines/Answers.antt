@@ -1,8 +1,8 @@
-use Rattle.std.proofs.Common.{sym, ap, ◌∙◌, subst, refl, [], length, arith}
+use Rattle.std.proofs.Common.{sym, ap, ◌∙◌, subst, refl, [], length, Some, arith}
 use Rattle.ifs_core.specs.Machine.{IsBehaviour}
 use Rattle.ifs_session.specs.inner.Connections.{end_of}
 use Rattle.ifs_session.proofs.Exchanges.{sound, ongoing_start, not_served, nothing_left, ends_after, full_without_room}
-use Rattle.ifs_session.proofs.Exchanges.{goes_further, room_left}
+use Rattle.ifs_session.proofs.Exchanges.{reload_holds, goes_further, room_left}
 use Rattle.ifs_session.proofs.service.serve_lines.Goals as goal
 
 pub exchanges-init : goal.exchanges-init
@@ -22,6 +22,10 @@ returns-in-Ok-None-clause-connection g c = λ b h.
     let u = c.exchanges.invariant.ongoing b h in
     (_, _, nothing_left _ (sound b _ c.image.ensures.kept h c.image.ensures.stands) u.1 (rw c.in-Ok-None.field-0-is at (c.in-Ok-None.ensures.exchange b (subst (λ i. IsBehaviour i b) (sym c.exchanges.invariant.image) h))))
 
+pub flushed-requires : goal.flushed-requires
+flushed-requires g c = λ reload.
+    reload_holds c.in-Ok-Some.line _ _ c.in-Ok-Some.ensures.reloads (ap Some (sym reload) ∙ sym c.in-Some.is ∙ c.end_after.ensures)
+
 pub returns-in-Some-clause-full : goal.returns-in-Some-clause-full
 returns-in-Some-clause-full g c = λ full.
     full_without_room c.in-Ok-Some.line _ c.in-Some.end c.flushed.result _ _ _ _ (sym c.in-Some.is ∙ c.end_after.ensures ∙ ap (end_of c.in-Ok-Some.line) c.len.ensures.value) c.flushed.ensures.ends full
@@ -30,8 +34,8 @@ pub returns-in-Some-clause-connection : goal.returns-in-Some-clause-connection
 returns-in-Some-clause-connection g c = λ b h.
     let u = c.exchanges.invariant.ongoing b h in
     let is = sym c.in-Some.is ∙ c.end_after.ensures ∙ ap (end_of c.in-Ok-Some.line) c.len.ensures.value in
-    ends_after c.in-Ok-Some.line c.in-Some.end c.flushed.result _ _ _ (sound b _ c.image.ensures.kept h c.image.ensures.stands) u.1
-    (rw c.in-Ok-Some.field-0-is at (c.in-Ok-Some.ensures.exchange b (subst (λ i. IsBehaviour i b) (sym c.exchanges.invariant.image) h))) is c.flushed.ensures.ends
+    rw c.is_stop.ensures (ends_after c.in-Ok-Some.line c.in-Some.end c.flushed.result _ _ _ (sound b _ c.image.ensures.kept h c.image.ensures.stands) u.1
+    (rw c.in-Ok-Some.field-0-is at (c.in-Ok-Some.ensures.exchange b (subst (λ i. IsBehaviour i b) (sym c.exchanges.invariant.image) h))) is c.flushed.ensures.ends)
 
 pub exchanges-preserved : goal.exchanges-preserved
 exchanges-preserved g c =

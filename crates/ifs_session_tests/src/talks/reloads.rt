@@ -1,0 +1,222 @@
+//! Connections that ask for the image to be read anew, and the line that is written once it was.
+
+use super::QUOTES;
+use super::serving::{MACROS_ENDING, Talk, bytes_in, opened, queue_three, quiet, quiet_talk};
+use ifs_base::TestId;
+use ifs_core::{Core, Step};
+use ifs_rows::images;
+use ifs_session::{
+    ByteOut, DeviceFault, End, HostEvent, MemoryIn, MemoryOut, ScriptHost, SessionFault,
+    write_reloaded,
+};
+use std::alloc::Global;
+use std::process::Abort;
+use std::test::Fail;
+
+/// What connections on the image of the first run are asked, with their replies and what of it is
+/// left unread.
+const RELOADS: [(&str, &[u8], &str, &[u8]); 5] = [
+    (
+        "after other lines",
+        b"link carp0 up\nlink carp0 up\nreload\nstop\n",
+        "done \"a\" cost 6 queue 0\nsame\n",
+        b"stop\n",
+    ),
+    (
+        "at first",
+        b"reload\nlink carp0 up\n",
+        "",
+        b"link carp0 up\n",
+    ),
+    ("twice", b"reload\nreload\n", "", b"reload\n"),
+    ("without a newline", b"status\nreload", STATUS, b""),
+    (
+        "after what is no request",
+        b"take\nresult 0 1 ok\nreload\n",
+        "fault C1\nfault C1\n",
+        b"",
+    ),
+];
+
+/// The status of the first run at its beginning.
+const STATUS: &str = "status \"a\" owed yes queue 0 running 0 now 0\n";
+
+/// Asserts that a connection ended with a reload, and this was written.
+fn check_reload(rt: &impl Abort, talk: &Talk<Global>, replies: &str, name: &str) {
+    assert_eq!(rt; talk.served.end, End::Reload, "{name}");
+    assert!(rt; !talk.served.stopped, "{name}");
+    assert_eq!(rt; talk.written(), replies.as_bytes(), "{name}");
+    assert_eq!(rt; talk.waiting, 0, "{name}");
+}
+
+/// The replies to the lines before a reload stand, nothing is said to it, and no line after it is read.
+#[test]
+fn reloads(rt: HostRuntime) {
+    for (name, requests, replies, left) in RELOADS {
+        let mut input = MemoryIn::new(requests);
+        let talk = quiet_talk(&rt, rt.alloc(), images::FIRST_RUN, &mut input);
+        check_reload(&rt, &talk, replies, name);
+        assert_eq!(rt; input.left(), left, "{name}");
+    }
+}
+
+/// Lines that resemble `reload`, the last of which has 257 bytes, and one that is a request.
+const RESEMBLING: &[u8] =
+    b"reload \n reload\nReload\nreload x\nreloads\nreload\r\nreloadxxxxxxxxxxxxxxxxxxxxxxxxxxxxxxxxxxxxxxxxxxxxxxxxxxxxxxxxxxxxxxxxxxxxxxxxxxxxxxxxxxxxxxxxxxxxxxxxxxxxxxxxxxxxxxxxxxxxxxxxxxxxxxxxxxxxxxxxxxxxxxxxxxxxxxxxxxxxxxxxxxxxxxxxxxxxxxxxxxxxxxxxxxxxxxxxxxxxxxxxxxxxxxxxxxxxxxxxxxxxxxxxxxxxxxxxxxxxxxxxxxxxxxxxxxx\nlink carp0 up\n";
+
+const RESEMBLING_REPLIES: &str = "fault C1\nfault C1\nfault C1\nfault C1\nfault C1\nfault C1\n\
+                                  fault C2\ndone \"a\" cost 6 queue 0\n";
+
+fn check_resembling(rt: &impl Abort, talk: &Talk<Global>) {
+    assert_eq!(rt; talk.written(), RESEMBLING_REPLIES.as_bytes());
+    assert_eq!(rt; talk.served.end, End::Closed);
+    assert!(rt; !talk.served.stopped);
+}
+
+/// What resembles `reload` is no request and ends nothing; a line too long is told so first.
+#[test]
+fn what_resembles_a_reload(rt: HostRuntime) {
+    let mut input = MemoryIn::new(RESEMBLING);
+    let talk = quiet_talk(&rt, rt.alloc(), images::FIRST_RUN, &mut input);
+    check_resembling(&rt, &talk);
+}
+
+fn check_polled(rt: &impl Abort, talk: &Talk<Global>) {
+    check_reload(rt, talk, "tick \"a\" cost 4 queue - starts 0:1\n", "polled");
+    let steps = [
+        Step::Tick(0),
+        Step::Finished(TestId(0), 1, false),
+        Step::Take,
+    ];
+    assert_eq!(rt; talk.served.steps.as_slice(), steps.as_slice());
+    let [.., HostEvent::Ran(command), HostEvent::Polled(None)] = talk.host.events() else {
+        panic!(rt; "what happens at the host last is something else")
+    };
+    assert_eq!(rt; command.as_bytes(), b"echo d".as_slice());
+}
+
+/// A test that had ended before a reload is made a step, and its command is run.
+#[test]
+fn ends_of_tests_before_a_reload(rt: HostRuntime) -> Result<(), Fail> {
+    let endings = vec![in rt.alloc(); None, Some(MACROS_ENDING), None]?;
+    let talk = Talk::new(
+        &rt,
+        rt.alloc(),
+        images::MACROS,
+        ScriptHost::new(rt.alloc(), endings, Vec::new(rt.alloc())),
+        &mut MemoryIn::new(b"tick 0\nreload\nstatus\n"),
+        MemoryOut::new(rt.alloc()),
+    );
+    check_polled(&rt, &talk);
+    Ok(())
+}
+
+/// Whether a connection whose write after so many calls fails is told so, and no reload.
+fn is_cut(rt: &impl Abort, alloc: Global, calls: u64) -> bool {
+    let talk = Talk::new(
+        rt,
+        alloc,
+        images::FIRST_RUN,
+        quiet(alloc, alloc),
+        &mut MemoryIn::new(b"link carp0 up\nreload\n"),
+        MemoryOut::failing_after(alloc, calls),
+    );
+    assert!(rt; !talk.served.stopped, "{calls}");
+    if talk.served.end == End::Reload {
+        return false;
+    }
+    let end = End::Fault(SessionFault::WriteFailed);
+    assert_eq!(rt; talk.served.end, end, "{calls}");
+    true
+}
+
+/// A write that fails ends a connection before the line of a reload is read; after it there is none.
+#[test]
+fn each_write_before_a_reload_fails_in_turn(rt: HostRuntime) {
+    for calls in 0..100 {
+        if !is_cut(&rt, rt.alloc(), calls) {
+            assert!(rt; calls > 3, "{calls}");
+            return;
+        }
+    }
+    assert!(rt; false, "some call is past the last");
+}
+
+/// Asserts what is written once the image was read anew.
+fn check_line(rt: &impl Abort, core: &Core<'_>, output: &mut MemoryOut, line: &str) {
+    assert_eq!(rt; write_reloaded(core, output), Ok(()));
+    assert_eq!(rt; output.written(), line.as_bytes());
+}
+
+/// The name of the state and the length of the queue are written.
+#[test]
+fn lines_of_reloads(rt: HostRuntime) {
+    let image = bytes_in(&rt, rt.alloc(), images::FIRST_RUN);
+    let mut core = opened(&rt, rt.alloc(), image.as_slice());
+    let mut output = MemoryOut::new(rt.alloc());
+    check_line(&rt, &core, &mut output, "reloaded \"a\" queue 0\n");
+    queue_three(&mut core);
+    let mut output = MemoryOut::new(rt.alloc());
+    check_line(&rt, &core, &mut output, "reloaded \"a\" queue 3\n");
+}
+
+/// In a name with a quote the quote is escaped; the init has queued a command.
+#[test]
+fn a_quote_in_the_line_of_a_reload(rt: HostRuntime) {
+    let image = bytes_in(&rt, rt.alloc(), QUOTES);
+    let core = opened(&rt, rt.alloc(), image.as_slice());
+    let mut output = MemoryOut::new(rt.alloc());
+    check_line(&rt, &core, &mut output, "reloaded \"a \\\"\" queue 1\n");
+}
+
+/// Asserts what a writer was given whose write after so many calls fails. Whether there was such a write.
+fn is_line_cut(rt: &impl Abort, alloc: Global, core: &Core<'_>, calls: u64) -> bool {
+    let mut output = MemoryOut::failing_after(alloc, calls);
+    let answer = write_reloaded(core, &mut output);
+    let line = b"reloaded \"a\" queue 0\n".as_slice();
+    assert!(rt; line.starts_with(output.written()), "{calls}");
+    if answer.is_ok() {
+        return false;
+    }
+    assert_eq!(rt; answer, Err(SessionFault::WriteFailed), "{calls}");
+    true
+}
+
+/// Each write of the line fails in turn.
+#[test]
+fn each_write_of_the_line_fails_in_turn(rt: HostRuntime) {
+    let image = bytes_in(&rt, rt.alloc(), images::FIRST_RUN);
+    let core = opened(&rt, rt.alloc(), image.as_slice());
+    for calls in 0..100 {
+        if !is_line_cut(&rt, rt.alloc(), &core, calls) {
+            assert!(rt; calls > 3, "{calls}");
+            return;
+        }
+    }
+    assert!(rt; false, "some call is past the last");
+}
+
+/// A writer of which nothing goes out.
+#[derive(Drop)]
+struct Stuck;
+
+impl ByteOut for Stuck {
+    fn put(&mut self, _bytes: &[u8]) -> Result<(), DeviceFault> {
+        Ok(())
+    }
+
+    fn flush(&mut self) -> Result<(), DeviceFault> {
+        Err(DeviceFault)
+    }
+}
+
+/// A line that does not go out is a write that failed.
+#[test]
+fn a_line_that_does_not_go_out(rt: HostRuntime) {
+    let image = bytes_in(&rt, rt.alloc(), images::FIRST_RUN);
+    let core = opened(&rt, rt.alloc(), image.as_slice());
+    assert_eq!(rt;
+        write_reloaded(&core, &mut Stuck),
+        Err(SessionFault::WriteFailed)
+    );
+}
