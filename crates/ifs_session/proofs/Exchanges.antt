@@ -380,6 +380,7 @@ ends_as {after = after} {exchange} {ended} Stop front m OnStop = (refl, line_end
 ends_as {after = after} {exchange} {ended} Reload front m OnReload = (refl, line_ends front exchange.line ended after.moment.left m.read.last)
 ends_as {after = after} {exchange} {ended} Full front m (WithoutRoom full) = (refl, no_room (length after.steps) full, inr (line_ends front exchange.line ended after.moment.left m.read.last))
 ends_as Closed front m (AtEnd over) = (refl, (m.read.last over).1)
+ends_as (Fault fault) front m by = elim by [ ]
 
 -- ---- what was written last goes out, or does not
 

@@ -24,7 +24,7 @@ returns-in-Ok-None-clause-connection g c = λ b h.
 
 pub flushed-requires : goal.flushed-requires
 flushed-requires g c = λ reload.
-    reload_holds c.in-Ok-Some.line _ _ c.in-Ok-Some.ensures.reloads (ap Some (sym reload) ∙ sym c.in-Some.is ∙ c.end_after.ensures)
+    reload_holds c.in-Ok-Some.line _ _ (rw c.in-Ok-Some.field-0-is at c.in-Ok-Some.ensures.reloads) (ap Some (sym reload) ∙ sym c.in-Some.is ∙ c.end_after.ensures)
 
 pub returns-in-Some-clause-full : goal.returns-in-Some-clause-full
 returns-in-Some-clause-full g c = λ full.
