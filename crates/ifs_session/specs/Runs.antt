@@ -12,7 +12,7 @@ use Rattle.ifs_verify.specs.Accepted.{IsAccepted}
 use Rattle.ifs_verify.specs.Refused.{IsRefusal, AreNotAccepted}
 use Rattle.ifs_core.specs.Event.{Behaviour}
 use Rattle.ifs_core.specs.Machine.{IsBehaviour}
-use Rattle.ifs_core.specs.Gateway.{OpenCore, opened}
+use Rattle.ifs_core.specs.Gateway.{OpenCore, nothing_known, opened}
 use Rattle.ifs_session.specs.declared.fault.SessionFault.{SessionFault}
 use Rattle.ifs_session.specs.declared.fault.SessionFault.TheVariants.{ReadFailed, WriteFailed, TooMuchInput}
 use Rattle.ifs_session.specs.declared.fault.RunFault.{RunFault}
@@ -81,7 +81,7 @@ run_fault refusals.Memory = Memory
 pub record OpensImage (bytes : List ℕ) (core : OpenCore) : Type 0 where
   pub spelled : Spells bytes core.image
   pub accepted : IsAccepted core.image
-  pub state_is : (b : Behaviour) → IsBehaviour core.image b → core.state ≡ opened b core.image
+  pub state_is : (b : Behaviour) → IsBehaviour core.image b → core.state ≡ opened b core.image (nothing_known core.image)
 
 -- Why the first line is refused: it breaks its rule; or the bytes that it spells are not accepted, unless the fault is want of memory, and the check that is named fails in them; or no memory was found, in the line or after it.
 abbrev pub LineRefused : Refusal → Feed → Feed → Type 0
