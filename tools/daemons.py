@@ -12,7 +12,7 @@ import time
 # how long anything may take that is to come soon
 SOON = 10
 # what the notes say of how connections ended
-ENDS = ("closed", "stop", "full", "fault S1", "fault S2", "fault S3")
+ENDS = ("closed", "stop", "reload", "full", "fault S1", "fault S2", "fault S3")
 
 
 class Differs(Exception):
@@ -66,9 +66,7 @@ class Daemon:
         self.socket = os.path.join(self.folder, "socket")
         self.told = os.path.join(self.folder, "stderr")
         self.image = os.path.join(self.folder, "image")
-        with open(self.file("policy"), "w") as file:
-            file.write(policy)
-        subprocess.run([program, "compile", self.file("policy"), self.image], check=True, stdout=subprocess.DEVNULL)
+        self.compile(policy)
         with contextlib.ExitStack() as files:
             stderr = stderr or files.enter_context(open(self.told, "wb"))
             words = [program, "serve", *options, self.image, self.socket]
@@ -82,6 +80,12 @@ class Daemon:
         self.process.kill()
         self.process.wait()
         self.process.stdout.close()
+
+    def compile(self, policy):
+        """Puts the image of a policy into the place of the daemon's."""
+        with open(self.file("policy"), "w") as file:
+            file.write(policy)
+        subprocess.run([self.program, "compile", self.file("policy"), self.image], check=True, stdout=subprocess.DEVNULL)
 
     def send(self, request):
         """What send prints for a request."""

@@ -50,12 +50,12 @@ impl Notes {
 /// Notes that an image took over, and in which state it begins.
 pub fn note_taken_over(notes: &impl Log, core: &Core<'_>) {
     let state = Quoted(core.state_name(core.state()).unwrap_or_default());
-    info!(notes; "state {state} by reload");
+    info!(notes; "image taken over in state {state}");
 }
 
 /// Notes that no image took over, and why.
 pub fn note_not_taken_over(notes: &impl Log, fault: ReloadFault) {
-    warn!(notes; "reload refused {fault}");
+    warn!(notes; "image refused: {fault}");
 }
 
 /// Standard error, where the program's name stands before each note.

@@ -1,0 +1,278 @@
+"""Tests of `reload`: an image takes over in a daemon that runs."""
+import contextlib
+import os
+import socket
+import tempfile
+import threading
+import time
+
+from daemons import PLAIN, SOON, Daemon, commanding, holds, read_all, results, same, send, testing, until
+
+LIMIT = 16_777_216
+# how many images may take over
+RELOADS = 64
+
+
+def when_known(there):
+    """A policy whose init tells, by the files that it makes, which links it knows."""
+    known = "".join(
+        f'if {name}.link.{state} run "touch {there}/{name}.{state}" '
+        for name in ("carp0", "carp1", "em9")
+        for state in ("up", "down", "unknown")
+    )
+    return f"state x {{ init {{ {known} }} }}\n"
+
+
+def test_reload_takes_over(program):
+    """The links that are known stand in the new image by their names, whatever their order there."""
+    looking = "state a { if carp1.link.down run ':' if em0.link.up run ':' if carp0.link.up run ':' }\n"
+    with Daemon(program, looking) as daemon:
+        for request in ("link carp0 up", "link carp1 down", "link em0 up", "tick 5"):
+            daemon.send(request)
+        known = daemon.file("known")
+        os.mkdir(known)
+        daemon.compile(when_known(known))
+        same("reload", daemon.send("reload"), 'reloaded "x" queue 3\n')
+        same("status", daemon.send("status"), 'status "x" owed yes queue 0 running 0 now 0\n')
+        same("links that are known", sorted(os.listdir(known)), ["carp0.up", "carp1.down", "em9.unknown"])
+        same("trace", daemon.send("trace"), "trace 3\n" + 'take -> taken "x" cost 0 queue 0\n' * 3)
+        # an interface that the image between did not have is forgotten
+        daemon.compile(looking)
+        same("reload", daemon.send("reload"), 'reloaded "a" queue 0\n')
+        same("em0 is unknown again", daemon.send("link em0 unknown"), "same\n")
+        same("carp0 is still up", daemon.send("link carp0 up"), "same\n")
+        daemon.compile("state none { }\n")
+        same("reload without interfaces", daemon.send("reload"), 'reloaded "none" queue 0\n')
+        daemon.compile(looking)
+        same("reload", daemon.send("reload"), 'reloaded "a" queue 0\n')
+        same("all is forgotten", daemon.send("link carp0 unknown"), "same\n")
+        daemon.stop()
+        same("notes", [it for it in daemon.ends() if it != "closed"], ["reload"] * 4 + ["stop"])
+        taken = [note for level, note in daemon.changes() if level == "INFO" and "image" in note]
+        same("notes of the images", taken, [f'image taken over in state "{it}"' for it in ("x", "a", "none", "a")])
+
+
+def test_reload_that_is_refused(program):
+    """The core goes on as it was, its waiting tests too."""
+    with Daemon(program, testing(["sleep 1"])) as daemon:
+        same("tick", daemon.send("tick 3"), 'tick "a" cost 4 queue - starts 0:1\n')
+        with open(daemon.image, "rb") as file:
+            good = file.read()
+        before = daemon.send("status")
+        refused = []
+
+        def refuses(what, line):
+            began = time.monotonic()
+            same(what, daemon.send("reload"), f"refused {line}\n")
+            holds(f"{what}: it took long", time.monotonic() - began < SOON)
+            same(f"status after {what}", daemon.send("status").replace("running 0", "running 1"), before)
+            refused.append(("WARN", f"image refused: {line}"))
+
+        def put(content):
+            with open(daemon.image, "wb") as file:
+                file.write(content)
+
+        for what, content, line in (
+            ("another magic", b"IFSX", "I2 byte 0"),
+            ("an empty file", b"", "I1 byte 0"),
+            ("a cut image", good[:-1], f"I1 byte {len(good) - 4}"),
+            ("a byte more", good + b"\0", f"I7 byte {len(good)}"),
+            ("a budget too low", good[:9] + bytes(3) + b"\1" + good[13:], "V12 head"),
+            ("16,777,216 bytes", b"IFSX" + bytes(LIMIT - 4), "I2 byte 0"),
+            ("16,777,217 bytes", bytes(LIMIT + 1), "L2"),
+        ):
+            put(content)
+            refuses(what, line)
+        os.remove(daemon.image)
+        refuses("no file", "L2")
+        os.mkdir(daemon.image)
+        refuses("a folder", "L2")
+        os.rmdir(daemon.image)
+        os.mkfifo(daemon.image)
+        refuses("a pipe that nobody writes", "L2")
+        with open(os.open(daemon.image, os.O_RDWR), "wb", buffering=0) as writer:
+            writer.write(good)
+            refuses("a pipe that never ends", "L2")
+        os.remove(daemon.image)
+        os.symlink("/dev/zero", daemon.image)
+        refuses("a device that never ends", "L2")
+        os.remove(daemon.image)
+        os.symlink("nowhere", daemon.image)
+        refuses("a link that leads nowhere", "L2")
+        os.remove(daemon.image)
+        same("send --check of a refused reload", send(program, daemon.socket, "--check", "reload").returncode, 1)
+        refused.append(("WARN", "image refused: L2"))
+        until("the test's end", lambda: ("0", "1", "ok") in results(daemon.send("trace")))
+        put(good)
+        same("the image again", daemon.send("reload"), 'reloaded "a" queue 0\n')
+        daemon.stop()
+        same("notes", [it for it in daemon.changes() if it[0] == "WARN"], refused)
+
+
+def test_reload_while_tests_run(program):
+    """The end of a test of the image before is not taken for one of the new image's, whose runs go on in number."""
+    with room() as folder, Daemon(program, testing([f"until [ -e {folder}/end ]; do sleep 0.02; done"])) as daemon:
+        same("tick 0", daemon.send("tick 0"), 'tick "a" cost 4 queue - starts 0:1\n')
+        same("reload", daemon.send("reload"), 'reloaded "a" queue 0\n')
+        same("status", daemon.send("status"), 'status "a" owed yes queue 0 running 0 now 0\n')
+        same("tick 0 again", daemon.send("tick 0"), 'tick "a" cost 4 queue - starts 0:2\n')
+        same("both run", len(daemon.children()), 2)
+        open(f"{folder}/end", "w").close()
+        until("both ended", lambda: not running(daemon))
+        same("the ends that counted", results(daemon.send("trace")), [("0", "2", "ok")])
+        # and one whose index the new image has not
+        os.remove(f"{folder}/end")
+        same("tick 1", daemon.send("tick 1"), "tick starts 0:3\n")
+        daemon.compile("state none { }\n")
+        same("reload without tests", daemon.send("reload"), 'reloaded "none" queue 0\n')
+        open(f"{folder}/end", "w").close()
+        until("it ended", lambda: not running(daemon))
+        same("trace", daemon.send("trace"), "trace 0\n")
+        daemon.stop()
+
+
+def running(daemon):
+    """The children, where a request has had the daemon look at those that ended."""
+    daemon.send("status")
+    return daemon.children()
+
+
+@contextlib.contextmanager
+def room():
+    """A folder of its own, by its whole path."""
+    with tempfile.TemporaryDirectory(dir=".") as folder:
+        yield os.path.abspath(folder)
+
+
+def test_commands_of_the_opening(program):
+    """The reply comes before the opening's commands run, which wait in the queue till then, in their order."""
+    with room() as folder, Daemon(program, PLAIN) as daemon:
+        log = f"{folder}/log"
+        daemon.compile(commanding([f"sleep 1; echo 1 >> {log}", f"echo 2 >> {log}"], []))
+        with daemon.connect() as client:
+            client.sendall(b"status\nreload\nstatus\n")
+            client.shutdown(socket.SHUT_WR)
+            began = time.monotonic()
+            told = b""
+            while told.count(b"\n") < 2:
+                told += client.recv(65_536)
+            holds("the reply came after the commands", time.monotonic() - began < 0.9 and not os.path.exists(log))
+            same("what is told", told, b'status "a" owed yes queue 0 running 0 now 0\nreloaded "a" queue 2\n')
+            same("what is told after it", read_all(client), b"")
+        same("status", daemon.send("status"), 'status "a" owed yes queue 0 running 0 now 0\n')
+        with open(log) as file:
+            same("order of commands", file.read(), "1\n2\n")
+        daemon.stop()
+
+
+def test_reload_of_a_client_that_is_gone(program):
+    """The new image stands, and the commands of its opening ran, also where nobody could be told."""
+    with room() as folder, Daemon(program, commanding(["sleep 0.5"], [])) as daemon:
+        daemon.compile(f"state x {{ init run 'echo ran >> {folder}/log' }}\n")
+        for number in range(1, 4):
+            with daemon.connect() as first, daemon.connect() as client:
+                # the daemon waits for the first client, while the second goes away
+                first.sendall(b"status\n")
+                first.recv(65_536)
+                client.sendall(b"reload\n")
+                client.shutdown(socket.SHUT_RDWR)
+                client.close()
+            same("status", daemon.send("status"), 'status "x" owed yes queue 0 running 0 now 0\n')
+            with open(f"{folder}/log") as file:
+                same("how often the command ran", len(file.readlines()), number)
+        daemon.stop()
+        same("notes", [it for it in daemon.ends() if it != "closed"], ["reload"] * 3 + ["stop"])
+
+
+def test_most_reloads(program):
+    """After 64 images have taken over no other does, and what they took is theirs alone."""
+    with Daemon(program, PLAIN) as daemon:
+        policies = [commanding([], [f"echo {'x' * 100} {number}"]) for number in range(RELOADS)]
+        size = 0
+        for number, policy in enumerate(policies):
+            daemon.compile(policy)
+            same(f"reload {number}", daemon.send("reload"), 'reloaded "a" queue 0\n')
+            if number == 0:
+                descriptors, memory = daemon.descriptors(), daemon.memory()
+            size += os.path.getsize(daemon.image)
+        same("descriptors", daemon.descriptors(), descriptors)
+        # the arena takes its pieces twice as large as the one before
+        least = 64 + 2 * size // 1024
+        holds(f"memory grew from {memory} to {daemon.memory()} kB", all(b <= a + least for a, b in zip(memory, daemon.memory())))
+        same("link", daemon.send("link carp0 up"), 'done "a" cost 6 queue 0\n')
+        before = daemon.send("status")
+        same("the 65th", daemon.send("reload"), "refused L3\n")
+        same("status", daemon.send("status"), before)
+        os.remove(daemon.image)
+        same("it is refused before the file is read", daemon.send("reload"), "refused L3\n")
+        same("status", daemon.send("status"), before)
+        daemon.stop()
+        same("warnings", [note for level, note in daemon.changes() if level == "WARN"], ["image refused: L3"] * 2)
+
+
+def test_image_replaced_while_it_is_read(program):
+    """A file that is put in its place whole is read whole, as it was before or as it is after."""
+    states = [f"state {name} {{ {' '.join(f'if em{it}.link.up run {chr(34)}{name} {it} {120 * name}{chr(34)}' for it in range(40))} }}\n" for name in "xy"]
+    with Daemon(program, states[0]) as daemon:
+        images = []
+        for policy in states:
+            daemon.compile(policy)
+            with open(daemon.image, "rb") as file:
+                images.append(file.read())
+        going = threading.Event()
+
+        def replace():
+            number = 0
+            while not going.is_set():
+                number += 1
+                with open(daemon.file("next"), "wb") as file:
+                    file.write(images[number % 2])
+                os.rename(daemon.file("next"), daemon.image)
+
+        replacing = threading.Thread(target=replace)
+        replacing.start()
+        try:
+            told = {daemon.send("reload") for _ in range(RELOADS)}
+        finally:
+            going.set()
+            replacing.join()
+        same("what was told", told - {'reloaded "x" queue 0\n', 'reloaded "y" queue 0\n'}, set())
+        daemon.stop()
+
+
+def test_image_overwritten_while_it_is_read(program):
+    """A file that is written over in its place is taken as it was read, or refused; the daemon goes on."""
+    with Daemon(program, PLAIN) as daemon:
+        with open(daemon.image, "rb") as file:
+            good = file.read()
+        going = threading.Event()
+
+        def overwrite():
+            while not going.is_set():
+                with open(daemon.image, "wb") as file:
+                    for byte in good:
+                        file.write(bytes([byte]))
+                        file.flush()
+
+        writing = threading.Thread(target=overwrite)
+        writing.start()
+        try:
+            told = [daemon.send("reload") for _ in range(RELOADS)]
+        finally:
+            going.set()
+            writing.join()
+        wrong = [it for it in told if it != 'reloaded "a" queue 0\n' and not it.startswith(("refused I", "refused V"))]
+        same("what else was told", wrong, [])
+        same("status", daemon.send("status"), 'status "a" owed yes queue 0 running 0 now 0\n')
+        daemon.stop()
+
+
+def test_lines_like_reload(program):
+    """Other lines end nothing, and their faults are told."""
+    with Daemon(program, PLAIN) as daemon:
+        lines = ["reload ", " reload", "Reload", "reload x", "reload\r", "reload" + " " * 251]
+        same("faults", daemon.ask("".join(f"{it}\n" for it in lines).encode() + b"status\n"),
+             "fault C1\n" * 5 + "fault C2\n" + 'status "a" owed yes queue 0 running 0 now 0\n')
+        same("without newline", daemon.ask(b"reload"), 'reloaded "a" queue 0\n')
+        daemon.stop()
+        same("notes", daemon.ends(), ["closed", "reload", "stop"])
