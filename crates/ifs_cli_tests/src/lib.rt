@@ -18,4 +18,6 @@ mod images;
 #[cfg(test)]
 mod largest;
 #[cfg(test)]
+mod reloads;
+#[cfg(test)]
 mod sharing;

@@ -1,7 +1,5 @@
 //! Schedules as lists of calls with the answers that they must get.
 
-ghost use Rattle.std.specs.Prelude.{◌≤◌};
-
 use arrayvec::ArrayVec;
 use ifs_base::TestId;
 use ifs_sched::{Backwards, Schedule, Stale, Start};
@@ -25,16 +23,16 @@ enum Call {
     Stale(u16, u64),
     /// The present moment, and how many tests run.
     Reads(u64, u16),
+    /// The number of the next run.
+    NextRun(u64),
     /// The idle tests with their due moments, in order.
     Idle(&'static [(u64, u16)]),
 }
 
-use Call::{Enter, Finish, Idle, Reads, Tick};
+use Call::{Enter, Finish, Idle, NextRun, Reads, Tick};
 
 /// Makes the calls, one after the other, on a schedule of these periods.
-fn play(rt: &impl Abort, periods: &[u32], first_run: u64, calls: &[Call])
-    requires { 1 ≤ first_run }
-{
+fn play(rt: &impl Abort, periods: &[u32], first_run: u64, calls: &[Call]) {
     let mut table = ArrayVec::new();
     assert!(rt; table.try_extend_from_slice(periods).is_ok());
     let mut schedule = Schedule::new(table, first_run);
@@ -56,6 +54,7 @@ fn play_one(rt: &impl Abort, schedule: &mut Schedule, call: Call) {
             assert_eq!(rt; schedule.now(), now);
             assert_eq!(rt; schedule.running(), running, "at {now}");
         }
+        NextRun(run) => assert_eq!(rt; schedule.next_run(), run),
         Idle(entries) => assert_idle(rt, schedule, entries),
     }
 }
@@ -442,4 +441,55 @@ fn assert_idle_backwards(rt: &impl Abort, schedule: &Schedule) {
         assert_eq!(rt; *due, (place as u64).saturating_add(1));
         assert_eq!(rt; usize::from(test.0), 63_usize.saturating_sub(place));
     }
+}
+
+/// A schedule that goes on with the run numbers of another.
+#[test]
+fn numbers_go_on(rt: HostRuntime) {
+    let calls = [
+        NextRun(7),
+        Enter(1, 2, 0),
+        NextRun(7),
+        Tick(0, &[(0, 7), (1, 8)], false),
+        NextRun(9),
+        Call::Stale(0, 6),
+        Finish(0, 7),
+        Tick(10, &[(0, 9)], false),
+        NextRun(10),
+    ];
+    play(&rt, &[10, 20], 7, &calls);
+}
+
+/// The last number is given out, and none is left.
+#[test]
+fn last_number_goes_on(rt: HostRuntime) {
+    let calls = [
+        NextRun(LAST),
+        Enter(3, 0, 0),
+        Tick(0, &[(0, LAST)], true),
+        NextRun(0),
+        Finish(0, LAST),
+        Tick(10, &[], true),
+        NextRun(0),
+    ];
+    play(&rt, &[10, 20], LAST, &calls);
+}
+
+/// A schedule without a number starts nothing, and says so where a test is due.
+#[test]
+fn no_number_is_left(rt: HostRuntime) {
+    let calls = [
+        NextRun(0),
+        Tick(0, &[], false),
+        Enter(1, 2, 5),
+        Tick(4, &[], false),
+        Tick(5, &[], true),
+        Reads(5, 0),
+        Idle(&[(5, 0), (5, 1)]),
+        Call::Stale(0, 0),
+        NextRun(0),
+        Enter(0, 0, 6),
+        Tick(9, &[], false),
+    ];
+    play(&rt, &[10, 20], 0, &calls);
 }

@@ -11,6 +11,7 @@ use std::test::Fail;
 
 mod due;
 mod lent;
+mod reload;
 
 /// The bytes of an image in hexadecimal.
 fn bytes_in(rt: &impl Abort, alloc: Global, image: &str) -> Vec<u8> {

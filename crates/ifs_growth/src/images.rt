@@ -3,6 +3,7 @@
 use crate::calls::{Given, Listed};
 use crate::growths::{Code, Turn, code_of, no_memory};
 use crate::policies::{definitions, text, told, written};
+use crate::reloads::{handed_on, taken_over};
 use crate::standing::{opened, standing};
 use ifs_asm::laws::reads_back;
 use ifs_asm::{assemble, disassemble};
@@ -20,19 +21,28 @@ pub enum Call {
     Write,
     Verify,
     Open,
+    Carry,
+    TakeOver,
     Disassemble,
     Assemble,
     ReadsBack,
 }
 
 /// Each of them.
-pub fn calls() -> [Listed<Call>; 8] {
+pub fn calls() -> [Listed<Call>; 10] {
     [
         Listed::new(Call::View, "ifs_image::view", "I0"),
         Listed::new(Call::Read, "ifs_image::read", "I0"),
         Listed::new(Call::Write, "ifs_image::write", "AllocError"),
         Listed::new(Call::Verify, "ifs_verify::verify", "V0"),
         Listed::new(Call::Open, "ifs_core::Core::open", "OpenFault"),
+        Listed::new(Call::Carry, "ifs_core::Core::carry", "L0"),
+        Listed {
+            call: Call::TakeOver,
+            name: "take_over",
+            code: "V0",
+            other: "L0",
+        },
         Listed::new(Call::Disassemble, "ifs_asm::disassemble", "AllocError"),
         Listed::new(Call::Assemble, "ifs_asm::assemble", "A0"),
         Listed::new(Call::ReadsBack, "ifs_asm::laws::reads_back", "A0"),
@@ -79,6 +89,8 @@ impl Given for Images {
                 .map_err(no_memory),
             Call::Verify => made_verified(turn, self.bytes.as_slice()),
             Call::Open => made_core(turn, self.bytes.as_slice()),
+            Call::Carry => handed_on(turn, self.bytes.as_slice()),
+            Call::TakeOver => taken_over(turn, self.bytes.as_slice()),
             Call::Disassemble => made_text(turn, &self.image),
             Call::Assemble => assembled(turn, self.listing.as_str()),
             Call::ReadsBack => read_back(turn, &self.image),

@@ -14,6 +14,7 @@ mod faults;
 mod growths;
 mod images;
 mod policies;
+mod reloads;
 mod sessions;
 mod standing;
 mod talks;

@@ -8,6 +8,7 @@ pub mod images;
 mod largest;
 pub mod policies;
 mod refused;
+pub mod reloads;
 pub mod sessions;
 pub mod sharing;
 mod texts;

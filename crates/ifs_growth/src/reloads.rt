@@ -1,0 +1,68 @@
+//! Calls by which a core hands on what it knows.
+
+use crate::growths::{Code, Turn, code_of, no_memory};
+use crate::standing::{opened, standing};
+use bumpalo::Bump;
+use ifs_base::{IfaceId, LinkState};
+use ifs_cli::reloading::{ReloadRefused, take_over};
+use ifs_core::{Carried, CarryFault, Core, Step};
+use ifs_verify::verify;
+use std::alloc::Global;
+
+/// A core on the image of these bytes that knows each of its links, and in whose queue no command waits.
+fn knowing(alloc: Global, bytes: &[u8]) -> Result<Core<'_>, Code> {
+    let mut core = opened(alloc, bytes)?;
+    for index in 0..64 {
+        take_all(&mut core);
+        core.step(Step::Link(IfaceId(index), LinkState::Up));
+    }
+    take_all(&mut core);
+    Ok(core)
+}
+
+/// Takes the commands that wait.
+fn take_all(core: &mut Core<'_>) {
+    for _ in 0..core.queue_len() {
+        core.step(Step::Take);
+    }
+}
+
+/// Where a core stands that goes on with what another handed on. Of a refusal the core that comes back has to stand as it
+/// did.
+pub fn handed_on(turn: Turn, bytes: &[u8]) -> Result<Vec<u8>, Code> {
+    let core = knowing(turn.alloc(), bytes)?;
+    match turn.ended(core.carry(turn.begun())) {
+        Ok(carried) => gone_on(turn.alloc(), bytes, carried),
+        Err(CarryFault { core, cause }) => Err(code_of_kept(turn.alloc(), &core, bytes, code_of(cause))),
+    }
+}
+
+/// Where a core stands that is opened with what was handed on.
+fn gone_on(alloc: Global, bytes: &[u8], carried: Carried) -> Result<Vec<u8>, Code> {
+    let next = verify(alloc, bytes).map_err(code_of)?;
+    standing(alloc, &Core::open_with(next, carried))
+}
+
+/// The code of a refusal, where the core stands as one that knows its links does.
+fn code_of_kept(alloc: Global, core: &Core<'_>, bytes: &[u8], code: Code) -> Code {
+    match (standing(alloc, core), standing_of(alloc, bytes)) {
+        (Ok(one), Ok(other)) if one.as_slice() == other.as_slice() => code,
+        _ => code_of("a core that does not stand as it did"),
+    }
+}
+
+fn standing_of(alloc: Global, bytes: &[u8]) -> Result<Vec<u8>, Code> {
+    standing(alloc, &knowing(alloc, bytes)?)
+}
+
+/// Where the core stands that takes over with the image of the same bytes. Of a refusal the core that comes back has to
+/// stand as it did.
+pub fn taken_over(turn: Turn, bytes: &[u8]) -> Result<Vec<u8>, Code> {
+    let images = Bump::new(turn.alloc());
+    let kept = images.try_alloc_slice_copy(bytes).map_err(no_memory)?;
+    let core = knowing(turn.alloc(), kept)?;
+    match turn.ended(take_over(turn.begun(), &images, bytes, core)) {
+        Ok(next) => standing(turn.alloc(), &next),
+        Err(ReloadRefused { core, fault }) => Err(code_of_kept(turn.alloc(), &core, bytes, code_of(fault))),
+    }
+}
