@@ -63,9 +63,23 @@ fn check_reload(
     let second = bytes_of(alloc, after.image)?;
     let kept = images.try_alloc_slice_copy(first.as_slice())?;
     let mut core = opened(alloc, kept)?;
-    check_replies(rt, alloc, before.name, &mut core, before.requests, before.replies)?;
+    check_replies(
+        rt,
+        alloc,
+        before.name,
+        &mut core,
+        before.requests,
+        before.replies,
+    )?;
     let mut core = next(rt, alloc, images, second.as_slice(), core);
-    check_replies(rt, alloc, after.name, &mut core, after.requests, after.replies)
+    check_replies(
+        rt,
+        alloc,
+        after.name,
+        &mut core,
+        after.requests,
+        after.replies,
+    )
 }
 
 #[test]
@@ -175,7 +189,14 @@ fn refused_images(rt: HostRuntime) -> Result<(), Fail> {
     let bytes = bytes_of(rt.alloc(), row.image)?;
     let kept = images.try_alloc_slice_copy(bytes.as_slice())?;
     let mut core = opened(rt.alloc(), kept)?;
-    check_replies(&rt, rt.alloc(), row.name, &mut core, row.requests, row.replies)?;
+    check_replies(
+        &rt,
+        rt.alloc(),
+        row.name,
+        &mut core,
+        row.requests,
+        row.replies,
+    )?;
     let core = check_refused(&rt, rt.alloc(), &images, core, b"IFSX", "I2 byte 0")?;
     let core = check_refused(&rt, rt.alloc(), &images, core, b"", "I1 byte 0")?;
     // the image is good, and a command waits
@@ -254,6 +275,9 @@ fn check_line(
 fn lines_that_are_not_written(rt: HostRuntime) {
     for call in 0..3 {
         let mut output = MemoryOut::failing_after(rt.alloc(), call);
-        assert!(&rt; write_refused(&mut output, ReloadFault::File).is_err(), "{call}");
+        assert!(&rt;
+            write_refused(&mut output, ReloadFault::File).is_err(),
+            "{call}"
+        );
     }
 }

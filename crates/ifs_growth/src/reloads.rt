@@ -33,7 +33,12 @@ pub fn handed_on(turn: Turn, bytes: &[u8]) -> Result<Vec<u8>, Code> {
     let core = knowing(turn.alloc(), bytes)?;
     match turn.ended(core.carry(turn.begun())) {
         Ok(carried) => gone_on(turn.alloc(), bytes, carried),
-        Err(CarryFault { core, cause }) => Err(code_of_kept(turn.alloc(), &core, bytes, code_of(cause))),
+        Err(CarryFault { core, cause }) => Err(code_of_kept(
+            turn.alloc(),
+            &core,
+            bytes,
+            code_of(cause),
+        )),
     }
 }
 
@@ -63,6 +68,11 @@ pub fn taken_over(turn: Turn, bytes: &[u8]) -> Result<Vec<u8>, Code> {
     let core = knowing(turn.alloc(), kept)?;
     match turn.ended(take_over(turn.begun(), &images, bytes, core)) {
         Ok(next) => standing(turn.alloc(), &next),
-        Err(ReloadRefused { core, fault }) => Err(code_of_kept(turn.alloc(), &core, bytes, code_of(fault))),
+        Err(ReloadRefused { core, fault }) => Err(code_of_kept(
+            turn.alloc(),
+            &core,
+            bytes,
+            code_of(fault),
+        )),
     }
 }

@@ -1,7 +1,7 @@
 //! Images that take over from the core of another.
 
-use crate::sessions::{first_policy, macros};
 use crate::Row;
+use crate::sessions::{first_policy, macros};
 
 /// An image with a session, and one that takes over after it, with the session that follows.
 #[derive(Clone, Copy, Debug)]

@@ -1,7 +1,8 @@
 //! The daemon: one connection after another over a Unix socket, on one image after another.
 
-use crate::noting::{Backwards, Notes, StandardError, Standing};
-use crate::noting::{note_changes, note_not_taken_over, note_taken_over};
+use crate::noting::{
+    Backwards, Notes, StandardError, Standing, note_changes, note_not_taken_over, note_taken_over,
+};
 use crate::patience::{Patience, PatientReader, PatientWriter, Waits};
 use crate::sessions::core_on;
 use bumpalo::Bump;
@@ -12,8 +13,9 @@ use ifs_cli::reloading::{ReloadRefused, reload, write_refused};
 use ifs_cli::shell::{Limits, Shell, try_shell};
 use ifs_cli::task::Task;
 use ifs_core::{Core, Step};
-use ifs_session::{ByteOut, End, FromRead, Served, SessionFault, ToWrite};
-use ifs_session::{run_queue, serve_one, write_reloaded};
+use ifs_session::{
+    ByteOut, End, FromRead, Served, SessionFault, ToWrite, run_queue, serve_one, write_reloaded,
+};
 use log::{Log, Logged, warn};
 use std::alloc::{AllocError, Global};
 use std::fs::Permissions;

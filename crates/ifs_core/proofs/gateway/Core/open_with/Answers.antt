@@ -19,5 +19,5 @@ returns-clause-kept c =
     opened_keeps next (known_by carried next) c.started-core.result.state (rw c.started-core.ensures.image at c.image-2.ensures.kept)
     (length-map next.interfaces (link_named carried.links))
     (λ b is. c.started-core.ensures.state b is
-        ∙ ap (λ (l : List LinkState). opened b next (record { links = l; first_run = c.next_run-first_run.result })) links
-        ∙ ap (λ (r : ℕ). opened b next (record { links = map (link_named carried.links) next.interfaces; first_run = r })) c.next_run-first_run.ensures)
+    ∙ ap (λ (l : List LinkState). opened b next (record { links = l; first_run = c.next_run-first_run.result })) links
+    ∙ ap (λ (r : ℕ). opened b next (record { links = map (link_named carried.links) next.interfaces; first_run = r })) c.next_run-first_run.ensures)
