@@ -5,8 +5,14 @@
 # make failover  tries failovers by ucarp and keepalived in network namespaces (root)
 # make check   proves what changed since the last check, crate by crate
 # make clean   drops what the checks kept
+# make install  puts the program of `make run`, its scripts, units, manual pages, documents and examples below DESTDIR and
+#               PREFIX (/usr/local), make uninstall takes them away
+# make man     makes the manual pages from the documents
+# make lint    looks at scripts, units and manual pages (Debian's shellcheck, systemd and mandoc)
 
-.PHONY: run test plants bench failover check clean
+.PHONY: run test plants bench failover check clean install uninstall man lint
+
+PREFIX ?= /usr/local
 
 run:
 	@tools/run
@@ -28,3 +34,15 @@ check:
 
 clean:
 	rm -rf out crates/*/out
+
+install:
+	@PREFIX="$(PREFIX)" DESTDIR="$(DESTDIR)" tools/install install
+
+uninstall:
+	@PREFIX="$(PREFIX)" DESTDIR="$(DESTDIR)" tools/install uninstall
+
+man:
+	@tools/manual_pages
+
+lint:
+	@tools/lint
