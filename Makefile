@@ -7,10 +7,11 @@
 # make clean   drops what the checks kept
 # make install  puts the program of `make run`, its scripts, units, manual pages, documents and examples below DESTDIR and
 #               PREFIX (/usr/local), make uninstall takes them away
+# make deb     makes a Debian package of the same: make deb MAINTAINER='NAME <ADDRESS>'
 # make man     makes the manual pages from the documents
 # make lint    looks at scripts, units and manual pages (Debian's shellcheck, systemd and mandoc)
 
-.PHONY: run test plants bench failover check clean install uninstall man lint
+.PHONY: run test plants bench failover check clean install uninstall deb man lint
 
 PREFIX ?= /usr/local
 
@@ -40,6 +41,9 @@ install:
 
 uninstall:
 	@PREFIX="$(PREFIX)" DESTDIR="$(DESTDIR)" tools/install uninstall
+
+deb:
+	@tools/deb "$(MAINTAINER)"
 
 man:
 	@tools/manual_pages
