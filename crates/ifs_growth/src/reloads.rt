@@ -50,9 +50,18 @@ fn gone_on(alloc: Global, bytes: &[u8], carried: Carried) -> Result<Vec<u8>, Cod
 
 /// The code of a refusal, where the core stands as one that knows its links does.
 fn code_of_kept(alloc: Global, core: &Core<'_>, bytes: &[u8], code: Code) -> Code {
+    if stands_as_usual(alloc, core, bytes) {
+        code
+    } else {
+        code_of("a core that does not stand as it did")
+    }
+}
+
+/// Whether a core stands as one that knows its links does.
+fn stands_as_usual(alloc: Global, core: &Core<'_>, bytes: &[u8]) -> bool {
     match (standing(alloc, core), standing_of(alloc, bytes)) {
-        (Ok(one), Ok(other)) if one.as_slice() == other.as_slice() => code,
-        _ => code_of("a core that does not stand as it did"),
+        (Ok(one), Ok(other)) => one.as_slice() == other.as_slice(),
+        _ => false,
     }
 }
 
