@@ -205,6 +205,34 @@ fn refused_images(rt: HostRuntime) -> Result<(), Fail> {
     Ok(())
 }
 
+/// Asserts that no memory is found for an image, and that the core comes back.
+fn check_no_room<'m>(
+    rt: &impl Abort,
+    alloc: Global,
+    images: &'m Bump,
+    core: Core<'m>,
+    bytes: &[u8],
+) -> Result<(), Fail> {
+    match take_over(alloc, images, bytes, core) {
+        Ok(_) => Err(Fail::from("an image without room")),
+        Err(ReloadRefused { core, fault }) => {
+            assert_eq!(rt; fault, ReloadFault::Image(VerifyFault::OutOfMemory));
+            assert_eq!(rt; core.trace_len(), 0);
+            Ok(())
+        }
+    }
+}
+
+/// Images that may take no more memory take no image.
+#[test]
+fn no_room_for_an_image(rt: HostRuntime) -> Result<(), Fail> {
+    let images = Bump::new(rt.alloc());
+    images.set_allocation_limit(Some(0));
+    let bytes = bytes_of(rt.alloc(), ifs_rows::images::FIRST_RUN)?;
+    let core = opened(rt.alloc(), bytes.as_slice())?;
+    check_no_room(&rt, rt.alloc(), &images, core, bytes.as_slice())
+}
+
 /// Asserts why a file does not take over, after so many that did.
 fn check_file<'m, R: Files + Alloc<A = Global> + Abort>(
     rt: &R,

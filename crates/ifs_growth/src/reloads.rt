@@ -72,7 +72,9 @@ fn standing_of(alloc: Global, bytes: &[u8]) -> Result<Vec<u8>, Code> {
 /// Where the core stands that takes over with the image of the same bytes. Of a refusal the core that comes back has to
 /// stand as it did.
 pub fn taken_over(turn: Turn, bytes: &[u8]) -> Result<Vec<u8>, Code> {
-    let images = Bump::new(turn.alloc());
+    // an arena does without a large piece where a smaller one is found, so it has room before growths are refused
+    let room = bytes.len().saturating_mul(4).saturating_add(4_096);
+    let images = Bump::try_with_capacity(turn.alloc(), room).map_err(no_memory)?;
     let kept = images.try_alloc_slice_copy(bytes).map_err(no_memory)?;
     let core = knowing(turn.alloc(), kept)?;
     match turn.ended(take_over(turn.begun(), &images, bytes, core)) {
