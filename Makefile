@@ -2,7 +2,8 @@
 # make test    the gate: every proof from nothing, must-fail edits, tests, the program's runs, the examples
 # make plants  tries further wrong bodies; of one crate by CRATE=NAME
 # make bench   times the proved program
-# make failover  tries failovers by ucarp and keepalived in network namespaces (root)
+# make failover  tries failovers by ucarp and keepalived in network namespaces (root), and, where `make deb` made the package, follows
+#               docs/OPERATING.md with it on two machines of namespaces
 # make check   proves what changed since the last check, crate by crate
 # make clean   drops what the checks kept
 # make install  puts the program of `make run`, its scripts, units, manual pages, documents and examples below DESTDIR and
@@ -29,6 +30,7 @@ bench: run
 
 failover:
 	@tools/failover
+	@if ls out/ifsvm_*.deb > /dev/null 2>&1; then tools/first_hour; fi
 
 check:
 	rt all check

@@ -1,5 +1,5 @@
 -- What the program's answers say of the bytes of a file.
-use Rattle.std.specs.Prelude.{ℕ, ◌≡◌, ◌≢◌, ◌+◌, ◌==◌, ◌++◌, ◌⊎◌, List, length, take, count_by}
+use Rattle.std.specs.Prelude.{ℕ, ◌≡◌, ◌≢◌, ◌+◌, ◌==◌, ◌++◌, ◌⊎◌, ⊤, List, length, take, count_by}
 use Rattle.std.specs.Prelude.{Option, None, Err, IsSomeAnd}
 use Rattle.std.specs.Str.{IsUtf8, IsValidUpTo}
 use Rattle.ifs_asm.specs.Spellings.{TextSpells}
@@ -20,7 +20,7 @@ use Rattle.ifs_verify.specs.Accepted.{IsAccepted}
 use Rattle.ifs_verify.specs.Refused as verifying
 use Rattle.ifs_verify.specs.declared.fault.VerifyFault.TheVariants.{OutOfMemory}
 use Rattle.ifs_cli.specs.declared.task.Task.{Task}
-use Rattle.ifs_cli.specs.declared.task.Task.TheVariants.{Check, Compile, Verify, Disasm, Asm, Upgrade}
+use Rattle.ifs_cli.specs.declared.task.Task.TheVariants.{Check, Compile, Verify, Disasm, Asm, Upgrade, Graph}
 use Rattle.ifs_cli.specs.Lines.{budgets_line, size_line, note_lines, counts_line, refusal_line}
 use Rattle.ifs_cli.specs.Faults.{no_text_words, policy_words, compile_words, assembly_words}
 
@@ -64,6 +64,7 @@ AreGood Verify bytes defs = AreAccepted bytes
 AreGood Disasm bytes defs = AreImage bytes
 AreGood Asm bytes defs = AreAssembly bytes
 AreGood Upgrade bytes defs = AreImage bytes
+AreGood Graph bytes defs = ArePolicy bytes defs
 
 -- A text is the line of the budgets that the image states which bytes spell.
 abbrev pub TellsBudgets : List ℕ → List ℕ → Type 0
@@ -83,7 +84,7 @@ pub record TellsCompiled (bytes : List ℕ) (defs : List (List ℕ × List ℕ))
   pub says : SaysFile bytes defs said
   pub printed : text ≡ note_lines said.notes ++ size_line size
 
--- What is printed of good bytes, beside the file that is given: what was found in them, or its length.
+-- What is printed of good bytes, beside the file that is given: what was found in them, or its length. Of a picture nothing is said.
 abbrev pub IsPrinted : Task → List ℕ → List (List ℕ × List ℕ) → Option (List ℕ) → List ℕ → Type 0
 IsPrinted Check bytes defs file text = TellsPolicy bytes defs text
 IsPrinted Compile bytes defs file text = IsSomeAnd file (λ image. TellsCompiled bytes defs text (length image))
@@ -91,6 +92,7 @@ IsPrinted Verify bytes defs file text = TellsBudgets bytes text
 IsPrinted Disasm bytes defs file text = IsListing bytes text
 IsPrinted Asm bytes defs file text = IsSomeAnd file (λ image. text ≡ size_line (length image))
 IsPrinted Upgrade bytes defs file text = IsSomeAnd file (λ image. text ≡ size_line (length image))
+IsPrinted Graph bytes defs file text = ⊤
 
 -- A text is the line of a refusal, which tells in words a fault of which something holds.
 pub record Tells {Fault : Type 0} (words : Fault → List ℕ) (Holds : Fault → Type 0) (text : List ℕ) : Type 0 where
@@ -118,6 +120,7 @@ IsRefusedBy Verify bytes defs text = Tells verify_fault_words (λ fault. (fault 
 IsRefusedBy Disasm bytes defs text = Tells image_fault_words (λ fault. image_of bytes ≡ Err fault) text
 IsRefusedBy Asm bytes defs text = TellsNoLine bytes text ⊎ Tells assembly_words (IsAssemblyRefused bytes) text
 IsRefusedBy Upgrade bytes defs text = Tells image_fault_words (λ fault. image_of bytes ≡ Err fault) text
+IsRefusedBy Graph bytes defs text = TellsNoText bytes text ⊎ Tells policy_words (IsTextRefused bytes defs) text
 
 -- The file that is given for good bytes: of a text that is compiled the image that means its policy, of assembly text the image that it spells, of an image its upgrade, and none of the other tasks.
 abbrev pub IsGiven : Task → List ℕ → List (List ℕ × List ℕ) → Option (List ℕ) → Type 0
@@ -127,3 +130,4 @@ IsGiven Verify bytes defs file = file ≡ None
 IsGiven Disasm bytes defs file = file ≡ None
 IsGiven Asm bytes defs file = IsSomeAnd file (IsAssembled bytes)
 IsGiven Upgrade bytes defs file = IsSomeAnd file (IsUpgraded bytes)
+IsGiven Graph bytes defs file = file ≡ None

@@ -15,7 +15,7 @@ use Rattle.ifs_gen.specs.declared.compile_fault.CompileFault.TheVariants as comp
 use Rattle.ifs_asm.specs.declared.fault.AsmFault.{AsmFault}
 use Rattle.ifs_asm.specs.declared.fault.AsmFault.TheVariants as assembling
 use Rattle.ifs_cli.specs.declared.task.Task.{Task}
-use Rattle.ifs_cli.specs.declared.task.Task.TheVariants.{Check, Compile, Verify, Disasm, Asm, Upgrade}
+use Rattle.ifs_cli.specs.declared.task.Task.TheVariants.{Check, Compile, Verify, Disasm, Asm, Upgrade, Graph}
 
 -- Why a text has no tokens.
 abbrev pub lex_words : LexFault → List ℕ
@@ -85,3 +85,4 @@ memory_words Verify = codes "V0"
 memory_words Disasm = codes "I0"
 memory_words Asm = codes "A0"
 memory_words Upgrade = codes "I0"
+memory_words Graph = codes "P0"

@@ -12,6 +12,7 @@ use crate::compiling::compile;
 use crate::disassembling::disasm;
 use crate::ending::{Ending, out_of_memory};
 use crate::files::{FileFault, contents, fault_of};
+use crate::graphing::graph;
 use crate::images::write_image;
 use crate::lines::of_budgets;
 use crate::refusing::Told;
@@ -34,7 +35,7 @@ pub fn answer(
     // Bytes are told to be good exactly where they are what the task asks for.
     ensures good { IfOk result (λ answer. answer.status ≡ 0 → AreGood task input.now (map (λ d. (d.0.now, d.1.now)) defs.now)) }
     ensures refused { IfOk result (λ answer. answer.status ≢ 0 → ¬ AreGood task input.now (map (λ d. (d.0.now, d.1.now)) defs.now)) }
-    // What is printed of good bytes is what they are: budgets, counts, notes, lengths, an image's text.
+    // What is printed of good bytes is what they are: budgets, counts, notes, lengths, an image's text. Of a picture nothing is said.
     ensures text { IfOk result (λ answer. answer.status ≡ 0 → IsPrinted task input.now (map (λ d. (d.0.now, d.1.now)) defs.now) (option_map (λ file. file.items) answer.file) (string_bytes answer.text)) }
     // What is printed of refused bytes is a fault that they have.
     ensures told { IfOk result (λ answer. answer.status ≢ 0 → IsRefusedBy task input.now (map (λ d. (d.0.now, d.1.now)) defs.now) (string_bytes answer.text)) }
@@ -49,6 +50,7 @@ pub fn answer(
         Task::Disasm => disasm(alloc, input),
         Task::Asm => asm(alloc, input),
         Task::Upgrade => upgrade(alloc, input),
+        Task::Graph => graph(alloc, input, defs),
     }
 }
 

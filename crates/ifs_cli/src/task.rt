@@ -25,6 +25,8 @@ pub enum Task {
     Asm,
     /// Make the image of version 2 that says what an image says.
     Upgrade,
+    /// Show the states of a policy as a picture.
+    Graph,
 }
 
 impl Task {
@@ -33,7 +35,7 @@ impl Task {
         ensures { result.now ≡ memory_words self }
     {
         match self {
-            Task::Check | Task::Compile => "P0",
+            Task::Check | Task::Compile | Task::Graph => "P0",
             Task::Verify => "V0",
             Task::Disasm | Task::Upgrade => "I0",
             Task::Asm => "A0",

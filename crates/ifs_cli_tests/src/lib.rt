@@ -1,4 +1,5 @@
-//! Tests of what the program does: answers to words on files, the files, images in folders, and the host of the daemon.
+//! Tests of what the program does: answers to words on files, the files, images in folders, the host of the daemon, and what
+//! is told of its steps.
 //!
 //! They stand over the crate that they test, so that it is proved once and not again with its tests.
 #![tactic(auto)]
@@ -12,6 +13,8 @@ mod compiling;
 #[cfg(test)]
 mod devices;
 #[cfg(test)]
+mod graphs;
+#[cfg(test)]
 mod hosts;
 #[cfg(test)]
 mod images;
@@ -21,3 +24,5 @@ mod largest;
 mod reloads;
 #[cfg(test)]
 mod sharing;
+#[cfg(test)]
+mod stories;

@@ -19,7 +19,7 @@ pub enum Call {
 }
 
 /// Each of them.
-pub fn calls() -> [Listed<Call>; 8] {
+pub fn calls() -> [Listed<Call>; 9] {
     [
         Listed::new(Call::Answer(Task::Check), "answer on check", "AllocError"),
         Listed::new(
@@ -35,6 +35,7 @@ pub fn calls() -> [Listed<Call>; 8] {
             "answer on upgrade",
             "AllocError",
         ),
+        Listed::new(Call::Answer(Task::Graph), "answer on graph", "AllocError"),
         Listed::new(Call::Definition, "Definition::new", "AllocError"),
         Listed::new(Call::Whole, "files::whole", "Memory"),
     ]
@@ -54,6 +55,7 @@ impl Given for Files<'_> {
         let image = self.images.bytes.as_slice();
         match *call {
             Call::Answer(Task::Check) => answered(turn, Task::Check, text().as_bytes()),
+            Call::Answer(Task::Graph) => answered(turn, Task::Graph, text().as_bytes()),
             Call::Answer(Task::Compile) => answered(turn, Task::Compile, text().as_bytes()),
             Call::Answer(Task::Asm) => answered(turn, Task::Asm, self.images.listing()),
             Call::Answer(task) => answered(turn, task, image),

@@ -41,14 +41,26 @@ fn main(rt: HostRuntime) -> ExitCode {
 
 /// All that is tried, in turn.
 fn all(rt: &HostRuntime) -> Result<(), Failure> {
-    let policies = Policies::new(rt.alloc())?;
-    tried(rt, &policies, &policies::calls())?;
+    try_policies(rt)?;
     let images = Images::new(rt.alloc())?;
-    tried(rt, &images, &images::calls())?;
-    let files = Files { images: &images };
+    try_images(rt, &images)
+}
+
+fn try_policies(rt: &HostRuntime) -> Result<(), Failure> {
+    let policies = Policies::new(rt.alloc())?;
+    tried(rt, &policies, &policies::calls())
+}
+
+fn try_images(rt: &HostRuntime, images: &Images) -> Result<(), Failure> {
+    tried(rt, images, &images::calls())?;
+    let files = Files { images };
     tried(rt, &files, &answers::calls())?;
     let sessions = Sessions::new(rt.alloc(), images.bytes.as_slice())?;
-    tried(rt, &sessions, &sessions::calls())?;
+    try_sessions(rt, &sessions)
+}
+
+fn try_sessions(rt: &HostRuntime, sessions: &Sessions) -> Result<(), Failure> {
+    tried(rt, sessions, &sessions::calls())?;
     talked(rt, sessions.image())
 }
 

@@ -356,8 +356,13 @@ fn spells_each_instruction(rt: HostRuntime) -> Result<(), Fail> {
 #[test]
 fn writes_each_instruction(rt: HostRuntime) -> Result<(), Fail> {
     let image = assemble(rt.alloc(), EACH_INSTRUCTION)?;
-    let text = listing(rt.alloc(), &image)?;
-    assert_eq!(rt; text.as_str(), EACH_INSTRUCTION);
+    check_text_of(&rt, rt.alloc(), &image, EACH_INSTRUCTION)
+}
+
+/// Asserts the text of an image.
+fn check_text_of(rt: &impl Abort, alloc: Global, image: &Image, wanted: &str) -> Result<(), Fail> {
+    let text = listing(alloc, image)?;
+    assert_eq!(rt; text.as_str(), wanted);
     Ok(())
 }
 

@@ -1,5 +1,6 @@
 //! The words of the command line.
 
+use crate::explaining::Explaining;
 use crate::noting::Notes;
 use crate::sending::{Manner, Sending};
 use crate::serving::Serving;
@@ -8,6 +9,7 @@ use clap::error::ErrorKind;
 use clap::{Arg, ArgAction, ArgMatches, Command, Error};
 use ifs_cli::definitions::{Definition, definition_of};
 use ifs_cli::ending::Ending;
+use ifs_cli::explaining::Explained;
 use ifs_cli::shell::Limits;
 use std::alloc::{AllocError, Global};
 use std::env::{self, Args};
@@ -52,6 +54,9 @@ const NO_WAIT: &str = "no-wait";
 /// The flag of a client that looks at the reply.
 const CHECK: &str = "check";
 
+/// The flag that asks for request lines.
+const REQUESTS: &str = "requests";
+
 /// How many seconds an option may say at most: a week.
 const LONGEST: u64 = 604_800;
 
@@ -92,6 +97,11 @@ pub enum Asked {
         image: String,
         upgraded: String,
     },
+    /// Show the states of the policy of a file as a picture, with these definitions beside it.
+    Graph {
+        file: String,
+        definitions: Vec<Definition>,
+    },
     /// A session on the image of a file.
     Sim {
         image: String,
@@ -100,6 +110,8 @@ pub enum Asked {
     Serve(Serving),
     /// A request to the daemon of a socket.
     Send(Sending),
+    /// Tell what the daemon of a socket did.
+    Explain(Explaining),
 }
 
 /// Reads the words that the program was called with. The program ends where they ask for help or the
@@ -189,7 +201,9 @@ fn asked_with(
             image: operand_of(alloc, operands, FILE)?,
             upgraded: operand_of(alloc, operands, UPGRADED)?,
         }),
+        "graph" => graph_asked(alloc, command, operands),
         "serve" => serve_asked(alloc, operands),
+        "explain" => explain_asked(alloc, operands),
         "send" => send_asked(alloc, command, operands),
         "sim" => Ok(Asked::Sim {
             image: operand_of(alloc, operands, FILE)?,
@@ -223,6 +237,18 @@ fn compile_asked(
     })
 }
 
+fn graph_asked(
+    alloc: Global,
+    command: &mut Command<'_>,
+    operands: &ArgMatches<'_>,
+) -> Result<Asked, Error> {
+    let definitions = definitions_of(alloc, command, operands)?;
+    Ok(Asked::Graph {
+        file: operand_of(alloc, operands, FILE)?,
+        definitions,
+    })
+}
+
 fn serve_asked(alloc: Global, operands: &ArgMatches<'_>) -> Result<Asked, Error> {
     Ok(Asked::Serve(Serving {
         image: operand_of(alloc, operands, FILE)?,
@@ -251,6 +277,19 @@ fn send_asked(
         socket: operand_of(alloc, operands, SOCKET)?,
         request,
         manner: manner_of(operands),
+    }))
+}
+
+fn explain_asked(alloc: Global, operands: &ArgMatches<'_>) -> Result<Asked, Error> {
+    Ok(Asked::Explain(Explaining {
+        image: operand_of(alloc, operands, FILE)?,
+        socket: operand_of(alloc, operands, SOCKET)?,
+        explained: if operands.get_flag(REQUESTS) {
+            Explained::Requests
+        } else {
+            Explained::Steps
+        },
+        limit: seconds_of(operands, WAIT),
     }))
 }
 
@@ -332,9 +371,11 @@ fn subcommands<'a>(alloc: Global) -> Result<Vec<Command<'a>>, AllocError> {
         Word::Disasm,
         Word::Asm,
         Word::Upgrade,
+        Word::Graph,
         Word::Sim,
         Word::Serve,
         Word::Send,
+        Word::Explain,
     ] {
         commands.push(word.command(alloc)?)?;
     }
@@ -350,9 +391,11 @@ enum Word {
     Disasm,
     Asm,
     Upgrade,
+    Graph,
     Sim,
     Serve,
     Send,
+    Explain,
 }
 
 impl Word {
@@ -365,9 +408,11 @@ impl Word {
             Word::Disasm => disasm(alloc),
             Word::Asm => asm(alloc),
             Word::Upgrade => upgrade(alloc),
+            Word::Graph => graph(alloc),
             Word::Sim => sim(alloc),
             Word::Serve => serve(alloc),
             Word::Send => send(alloc),
+            Word::Explain => explain(alloc),
         }
     }
 }
@@ -413,6 +458,13 @@ fn upgrade<'a>(alloc: Global) -> Result<Command<'a>, AllocError> {
         .arg(written(alloc, UPGRADED, "OUT"))
 }
 
+fn graph<'a>(alloc: Global) -> Result<Command<'a>, AllocError> {
+    Command::new(alloc, "graph")
+        .about("Print the states of a policy as a picture, in the language of graphviz")
+        .arg(file(alloc, "FILE"))?
+        .arg(definition(alloc))
+}
+
 fn sim<'a>(alloc: Global) -> Result<Command<'a>, AllocError> {
     Command::new(alloc, "sim")
         .about("Answer the request lines of standard input on an image")
@@ -448,6 +500,21 @@ fn send<'a>(alloc: Global) -> Result<Command<'a>, AllocError> {
         ))?
         .arg(no_wait(alloc)?)?
         .arg(check_reply(alloc))
+}
+
+fn explain<'a>(alloc: Global) -> Result<Command<'a>, AllocError> {
+    Command::new(alloc, "explain")
+        .about(
+            "Print where the daemon of a Unix socket stands and what it did, with the names of its image",
+        )
+        .arg(file(alloc, "IMAGE"))?
+        .arg(socket(alloc, "the socket's file"))?
+        .arg(requests(alloc))?
+        .arg(seconds(
+            alloc,
+            WAIT,
+            "end with status 3 where the reply does not come whole in this time",
+        ))
 }
 
 /// The operand that names the file that is read, and what help calls it.
@@ -513,6 +580,14 @@ fn check_reply<'a>(alloc: Global) -> Arg<'a> {
     Arg::new(alloc, CHECK)
         .long(CHECK)
         .help("end with status 1 where the reply says that the request was not done")
+        .action(ArgAction::SetTrue)
+}
+
+/// The flag that asks for request lines.
+fn requests<'a>(alloc: Global) -> Arg<'a> {
+    Arg::new(alloc, REQUESTS)
+        .long(REQUESTS)
+        .help("print the request lines that make the same steps")
         .action(ArgAction::SetTrue)
 }
 

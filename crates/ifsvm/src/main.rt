@@ -1,4 +1,4 @@
-//! `ifsvm`: checks and compiles failover policies, and verifies, shows and runs their images.
+//! `ifsvm`: checks, shows and compiles failover policies, and verifies, shows and runs their images.
 //!
 //! Without words it reads an image as a line of hexadecimal digits and then request lines from
 //! standard input, and writes the replies to standard output. Exit statuses: 0 done, 1 refused
@@ -7,6 +7,7 @@
 #![tactic(auto)]
 
 mod command_line;
+mod explaining;
 mod noting;
 mod patience;
 mod sending;
@@ -45,9 +46,13 @@ fn ending_of(rt: &HostRuntime) -> Result<Ending, Ending> {
         Asked::Upgrade { image, upgraded } => {
             on_file(rt, Task::Upgrade, image, Some(upgraded), &[])
         }
+        Asked::Graph { file, definitions } => {
+            on_policy(rt, Task::Graph, file, None, definitions.as_slice())
+        }
         Asked::Sim { image } => sessions::on_file(rt, image),
         Asked::Serve(serving) => serving::serve(rt, serving),
         Asked::Send(sending) => sending::send(rt, sending),
+        Asked::Explain(explaining) => explaining::explain_socket(rt, explaining),
     }
 }
 

@@ -56,18 +56,36 @@ pub fn send<R: Net + Clock + Print + Alloc<A = Global>>(
         request,
         manner,
     } = asked;
-    match (written(rt, socket.as_str(), request.as_str()), manner) {
-        (Err(error), _) => Err(fault_at(socket, fault_of(error))),
-        (Ok(_stream), Manner::NoWait) => Ok(Ending::Done),
-        (Ok(stream), Manner::Wait { limit, check }) => match reply_of(rt, &stream, limit) {
+    match manner {
+        Manner::NoWait => match written(rt, socket.as_str(), request.as_str()) {
+            Ok(_stream) => Ok(Ending::Done),
+            Err(error) => Err(fault_at(socket, fault_of(error))),
+        },
+        Manner::Wait { limit, check } => {
+            let reply = replied(rt, socket, request.as_str(), limit)?;
+            printed(rt, reply.as_slice(), check)
+        }
+    }
+}
+
+/// What the daemon of a socket replies to request lines, of which the last has no newline, within this time.
+pub fn replied<R: Net + Clock + Print + Alloc<A = Global>>(
+    rt: &R,
+    socket: String,
+    requests: &str,
+    limit: Option<Duration>,
+) -> Result<Vec<u8>, Ending> {
+    match written(rt, socket.as_str(), requests) {
+        Ok(stream) => match reply_of(rt, &stream, limit) {
             Ok(reply) if reply.is_empty() => Err(Ending::NoReply { socket }),
-            Ok(reply) => printed(rt, reply.as_slice(), check),
-            Err(FileFault::Memory) => out_of_memory(rt, Task::Verify),
+            Ok(reply) => Ok(reply),
+            Err(FileFault::Memory) => Err(out_of_memory(rt, Task::Verify)?),
             Err(FileFault::System(error)) if error.kind() == ErrorKind::WouldBlock => {
                 Err(Ending::NoReply { socket })
             }
             Err(fault) => Err(fault_at(socket, fault)),
         },
+        Err(error) => Err(fault_at(socket, fault_of(error))),
     }
 }
 

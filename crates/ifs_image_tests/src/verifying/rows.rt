@@ -61,8 +61,13 @@ fn upgrade_told(alloc: Global, bytes: &[u8]) -> Result<String, Fail> {
         return Ok(String::new(alloc));
     };
     let upgraded = write(alloc, &upgrade(image))?;
-    match verify(alloc, upgraded.as_slice()) {
-        Ok(_) => budgets_of(alloc, upgraded.as_slice()),
+    line_told(alloc, upgraded.as_slice())
+}
+
+/// The line that is told of bytes.
+fn line_told(alloc: Global, bytes: &[u8]) -> Result<String, Fail> {
+    match verify(alloc, bytes) {
+        Ok(_) => budgets_of(alloc, bytes),
         Err(fault) => Ok(format!(in alloc; "refused {fault}\n")?),
     }
 }
