@@ -9,7 +9,7 @@ import time
 
 from daemons import SOON, Daemon, holds, same, until
 
-SYSTEM = os.path.join(os.path.dirname(os.path.abspath(__file__)), "..", "system")
+SYSTEM = os.path.join(os.path.dirname(os.path.abspath(__file__)), "..", "..", "system")
 
 POLICY = """\
 state a { if carp0.link.up { } if em0.link.up { } if em1.link.up { } if em2.link.up { } if tun0.link.up { }
