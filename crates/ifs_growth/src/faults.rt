@@ -7,10 +7,11 @@ use crate::talks::{
     REPLIES, REQUESTS, SERVED, SERVED_ENDS, SERVED_REPLIES, SERVED_STEPS, STEPS, first, head,
     is_cut_session, lines_of, served_as_told,
 };
+use ifs_core::Core;
 use ifs_rows::sessions;
 use ifs_session::{
-    ByteIn, ByteOut, DeviceFault, End, HostFault, MemoryIn, MemoryOut, ScriptHost, SessionFault,
-    Summary, serve_one, simulate,
+    ByteIn, ByteOut, DeviceFault, End, HostFault, MemoryIn, MemoryOut, ScriptHost, Served,
+    SessionFault, Summary, serve_one, simulate,
 };
 use std::alloc::{AllocError, Global};
 
@@ -170,11 +171,22 @@ impl Talk {
         let mut core = opened(alloc, image)?;
         let mut host = ScriptHost::new(alloc, Vec::new(alloc), statuses);
         let served = serve_one(&mut core, &mut host, reader, writer);
-        let stands = standing(alloc, &core)?;
+        Talk::of(alloc, image, &core, &served, writer.written())
+    }
+
+    /// What it came to where this was served, written and left.
+    fn of(
+        alloc: Global,
+        image: &[u8],
+        core: &Core<'_>,
+        served: &Served,
+        written: &[u8],
+    ) -> Result<Self, Code> {
+        let stands = standing(alloc, core)?;
         Ok(Talk {
             end: served.end,
             steps: served.steps.len(),
-            as_told: served_as_told(alloc, image, &served, stands.as_slice(), writer.written())?,
+            as_told: served_as_told(alloc, image, served, stands.as_slice(), written)?,
         })
     }
 

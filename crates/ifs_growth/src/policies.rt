@@ -9,7 +9,7 @@ use ifs_gen::{CompiledText, compile, compile_with_notes, compiled_core, generate
 use ifs_image::{Image, write};
 use ifs_lex::tokens;
 use ifs_parse::{Tree, parse};
-use ifs_policy::{Policy, PolicyText, policy_of, resolve};
+use ifs_policy::{Policy, policy_of, resolve};
 use std::alloc::Global;
 use std::fmt::Debug;
 use std::io::Write;
@@ -151,7 +151,12 @@ fn made_tree(turn: Turn) -> Result<Vec<u8>, Code> {
 
 fn told_tree(alloc: Global, tree: &Tree) -> Result<Vec<u8>, Code> {
     let policy = resolve(alloc, tree).map_err(code_of)?;
-    with_notes(bytes_of_policy(alloc, &policy)?, tree)
+    told_policy(alloc, &policy, tree)
+}
+
+/// The bytes of a policy, with the notes of its tree.
+fn told_policy(alloc: Global, policy: &Policy, tree: &Tree) -> Result<Vec<u8>, Code> {
+    with_notes(bytes_of_policy(alloc, policy)?, tree)
 }
 
 fn made_policy(turn: Turn, tree: &Tree) -> Result<Vec<u8>, Code> {
@@ -161,8 +166,8 @@ fn made_policy(turn: Turn, tree: &Tree) -> Result<Vec<u8>, Code> {
 
 fn made_policy_of_text(turn: Turn) -> Result<Vec<u8>, Code> {
     let made = turn.ended(policy_of(turn.begun(), text(), definitions()));
-    let PolicyText { tree, policy } = made.map_err(code_of)?;
-    with_notes(bytes_of_policy(turn.alloc(), &policy)?, &tree)
+    let found = made.map_err(code_of)?;
+    told_policy(turn.alloc(), &found.policy, &found.tree)
 }
 
 fn made_image(turn: Turn, policy: &Policy) -> Result<Vec<u8>, Code> {

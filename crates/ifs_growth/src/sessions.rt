@@ -7,10 +7,11 @@ use crate::policies::told;
 use crate::standing::{opened, standing};
 use crate::talks::{REQUESTS, SERVED, is_cut_session, served_as_told};
 use arrayvec::ArrayVec;
+use ifs_core::Core;
 use ifs_rows::sessions;
 use ifs_session::{
-    ByteOut, DeviceFault, End, MemoryIn, MemoryOut, RunFault, ScriptHost, Summary, run_hex,
-    serve_one, simulate,
+    ByteOut, DeviceFault, End, MemoryIn, MemoryOut, RunFault, ScriptHost, Served, SessionFault,
+    Summary, run_hex, serve_one, simulate,
 };
 use std::alloc::{AllocError, Global};
 
@@ -182,10 +183,21 @@ fn simulated(turn: Turn, image: &[u8]) -> Result<Vec<u8>, Code> {
     let mut reader = MemoryIn::new(REQUESTS);
     let mut writer = MemoryOut::new(turn.begun());
     let answer = turn.ended(simulate(&mut core, &mut reader, &mut writer));
-    let stands = standing(turn.alloc(), &core)?;
+    session_came_to(turn.alloc(), image, &core, answer, writer.written())
+}
+
+/// What a session came to that left this core and wrote these bytes.
+fn session_came_to(
+    alloc: Global,
+    image: &[u8],
+    core: &Core<'_>,
+    answer: Result<Summary, SessionFault>,
+    written: &[u8],
+) -> Result<Vec<u8>, Code> {
+    let stands = standing(alloc, core)?;
     match answer {
-        Ok(_summary) => followed(stands, writer.written()),
-        Err(fault) if is_cut_session(turn.alloc(), image, stands.as_slice(), writer.written())? => {
+        Ok(_summary) => followed(stands, written),
+        Err(fault) if is_cut_session(alloc, image, stands.as_slice(), written)? => {
             Err(code_of(fault))
         }
         Err(_) => Err(code_of("steps or replies of no lines")),
@@ -194,25 +206,30 @@ fn simulated(turn: Turn, image: &[u8]) -> Result<Vec<u8>, Code> {
 
 /// After a write that failed the steps are those of some of the lines, and the core stands after them.
 fn served(turn: Turn, image: &[u8]) -> Result<Vec<u8>, Code> {
-    let mut core = opened(turn.alloc(), image)?;
     let mut host = ScriptHost::new(turn.alloc(), Vec::new(turn.alloc()), Vec::new(turn.alloc()));
     host.reserve(NOTES).map_err(no_memory)?;
+    let mut core = opened(turn.alloc(), image)?;
     let mut reader = MemoryIn::new(SERVED);
     let mut writer = MemoryOut::new(turn.begun());
     let served = turn.ended(serve_one(&mut core, &mut host, &mut reader, &mut writer));
-    let stands = standing(turn.alloc(), &core)?;
-    if !served_as_told(
-        turn.alloc(),
-        image,
-        &served,
-        stands.as_slice(),
-        writer.written(),
-    )? {
+    service_came_to(turn.alloc(), image, &core, &served, writer.written())
+}
+
+/// What a served connection came to that left this core and wrote these bytes.
+fn service_came_to(
+    alloc: Global,
+    image: &[u8],
+    core: &Core<'_>,
+    served: &Served,
+    written: &[u8],
+) -> Result<Vec<u8>, Code> {
+    let stands = standing(alloc, core)?;
+    if !served_as_told(alloc, image, served, stands.as_slice(), written)? {
         return Err(code_of("steps or replies of no lines"));
     }
     match served.end {
         End::Fault(fault) => Err(code_of(fault)),
-        _ => followed(stands, writer.written()),
+        _ => followed(stands, written),
     }
 }
 
