@@ -65,7 +65,7 @@ def test_nothing_to_explain(program):
     with Daemon(program, POLICY) as daemon:
         with open(daemon.file("bad"), "wb") as file:
             file.write(b"IFSX")
-        same("no image", explain(program, daemon.file("bad"), daemon.socket), (1, "refused I2 byte 3\n", ""))
+        same("no image", explain(program, daemon.file("bad"), daemon.socket), (1, "refused I2 byte 0\n", ""))
         missing = f"device {daemon.file('none')}: No such file or directory (os error 2)\n"
         same("no file", explain(program, daemon.file("none"), daemon.socket), (3, "", missing))
         same("no daemon", explain(program, daemon.image, daemon.file("none")), (3, "", missing))
