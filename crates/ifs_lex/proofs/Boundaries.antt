@@ -12,8 +12,8 @@ use Rattle.std.proofs.lemmas.Str.{IsCharBoundary-start, IsCharBoundary-after_asc
 use Rattle.std.proofs.lemmas.Str.{IsCharBoundary-before_ascii, IsCharBoundary-from_rest, IsUtf8-drop}
 use Rattle.ifs_lex.specs.declared.token.What.{What}
 use Rattle.ifs_lex.specs.declared.token.What.TheVariants.{Quoted, And, Or}
-use Rattle.ifs_lex.specs.declared.scans.Gap.{Gap}
-use Rattle.ifs_lex.specs.declared.scans.Gap.TheVariants.{Blanks, Comment}
+use Rattle.ifs_lex.specs.Lexemes.{Gap}
+use Rattle.ifs_lex.specs.Lexemes.{Blanks, Comment}
 use Rattle.ifs_lex.specs.Characters.{is_blank, is_quote, begins_word, continues_word, continues_name}
 use Rattle.ifs_lex.specs.Lexemes.{gap_after, gap_len, inside_len, begins_with, begins_macro, Scan}
 use Rattle.ifs_lex.specs.Lexemes.{scan, One, Unclosed, quoted_value, use_here, twice, sign_here, lexeme_here}

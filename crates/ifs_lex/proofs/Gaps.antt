@@ -2,13 +2,15 @@
 use Rattle.std.proofs.Common.{◌≡◌, ℕ, zero, suc, ◌+◌, ◌<◌, ◌≤◌, Bool, true, false, cond, eqb, ◌&&◌}
 use Rattle.std.proofs.Common.{◌||◌, not, List, [], ◌∷◌, length, drop, get_or, Option, Some, None}
 use Rattle.std.proofs.Common.{option_map, refl, sym, ◌∙◌, ap, subst, arith, length-drop, drop-drop}
+use Rattle.std.proofs.lemmas.List.{drop_all}
 use Rattle.std.specs.Option.{option_map_or}
 use Rattle.std.proofs.lemmas.Bool.{eqb-true}
 use Rattle.std.proofs.lemmas.Bool.Decides.{nat_tests}
-use Rattle.ifs_lex.specs.declared.scans.Gap.TheVariants.{Blanks, Comment}
+use Rattle.ifs_lex.specs.Lexemes.{Blanks, Comment}
 use Rattle.ifs_lex.specs.Characters.{is_blank}
 use Rattle.ifs_lex.specs.Lexemes.{begins_with, gap_len, inside_len}
-use Rattle.ifs_lex.specs.Spelling.{after_backslash, Unended, IsGap, empty, blank, joined, comment, last_comment}
+use Rattle.ifs_lex.specs.inner.Gaps.{comment_bytes, IsGapPart}
+use Rattle.ifs_lex.specs.Spelling.{after_backslash, Closes, Unended, IsGap, empty, blank, joined, comment, last_comment}
 use Rattle.ifs_lex.proofs.Spelt.{true_false, shift, one_part, closes, closed}
 
 -- The bytes of a comment and what comes after it, by the place of the newline that ends it.
@@ -162,3 +164,44 @@ gap_below (suc most) (b ∷ rest) l = first_gap most b rest _ refl (omega arith)
 -- What is read is a gap.
 pub gap_found : (bytes : List ℕ) → IsGap bytes (gap_len Blanks bytes)
 gap_found bytes = gap_below (suc (length bytes)) bytes (omega arith)
+
+-- The parts of a gap: a blank, a joined line, a comment.
+pub blank_part : (b : ℕ) (rest : List ℕ) → is_blank b ≡ true → IsGapPart (b ∷ rest) 1
+blank_part b rest e =
+    let step = blank_step b rest e in
+    record { some = omega arith; within = omega arith; rest = omega arith }
+
+pub joined_part : (rest : List ℕ) → IsGapPart (92 ∷ 10 ∷ rest) 2
+joined_part rest =
+    let step = joined_step rest in
+    record { some = omega arith; within = omega arith; rest = omega arith }
+
+closed_part : (rest : List ℕ) (k : ℕ) → Closes 10 false rest k → IsGapPart (35 ∷ rest) (1 + (k + 1))
+closed_part rest k c =
+    let step = comment_step rest (suc k + gap_len Blanks (drop (suc k) rest)) (comment_len false rest ∙ ap (comment_end rest) (closed 10 false rest k c)) in
+    let two : suc (suc k) ≡ 1 + (k + 1) = omega arith in
+    let left : gap_len Blanks (drop (suc k) rest) ≡ gap_len Blanks (drop (1 + (k + 1)) (35 ∷ rest)) = ap (λ i. gap_len Blanks (drop i (35 ∷ rest))) two in
+    record { some = omega arith; within = omega (arith, c.within); rest = omega arith }
+
+open_part : (rest : List ℕ) → inside_len 10 false rest ≡ None → IsGapPart (35 ∷ rest) (1 + length rest)
+open_part rest e =
+    let step = comment_step rest (length rest) (comment_len false rest ∙ ap (comment_end rest) e) in
+    let one : suc (length rest) ≡ 1 + length rest = omega arith in
+    let left : gap_len Blanks (drop (length rest) rest) ≡ gap_len Blanks (drop (1 + length rest) (35 ∷ rest)) = ap (λ i. gap_len Blanks (drop i (35 ∷ rest))) one in
+    let nothing : gap_len Blanks (drop (length rest) rest) ≡ 0 = ap (gap_len Blanks) (drop_all (length rest) rest (omega arith)) in
+    record { some = omega arith; within = omega arith; rest = omega arith }
+
+pub comment_part : (rest : List ℕ) (o : Option ℕ) → inside_len 10 false rest ≡ o → IsGapPart (35 ∷ rest) (1 + comment_bytes rest o)
+comment_part rest None e = open_part rest e
+comment_part rest (Some k) e = closed_part rest k (closes 10 false rest k e)
+
+pub comment_here : (b len : ℕ) (rest : List ℕ) → eqb b 35 ≡ true → len ≡ comment_bytes rest (inside_len 10 false rest) → IsGapPart (b ∷ rest) (1 + len)
+comment_here b len rest e same =
+    subst (λ (x : ℕ). IsGapPart (x ∷ rest) (1 + len)) (sym (eqb-true b 35 e))
+    (subst (λ (n : ℕ). IsGapPart (35 ∷ rest) (1 + n)) (sym same) (comment_part rest _ refl))
+
+pub joined_here : (b : ℕ) (rest : List ℕ) → (eqb b 92 && begins_with 10 rest) ≡ true → IsGapPart (b ∷ rest) 2
+joined_here b [] h = absurd (never_both _ h)
+joined_here b (c ∷ more) h =
+    subst (λ (x : ℕ). IsGapPart (x ∷ c ∷ more) 2) (sym (first_is b 92 _ h))
+    (subst (λ (y : ℕ). IsGapPart (92 ∷ y ∷ more) 2) (sym (second_is _ c 10 h)) (joined_part more))

@@ -14,3 +14,4 @@ pub mod Stopped
 pub mod Telling
 pub mod Whole
 pub mod Certain
+pub mod Searches

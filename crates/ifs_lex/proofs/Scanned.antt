@@ -8,7 +8,7 @@ use Rattle.std.proofs.lemmas.Bool.Decides.{nat_tests}
 use Rattle.ifs_lex.specs.declared.token.What.{What}
 use Rattle.ifs_lex.specs.declared.token.What.TheVariants.{Word, Quoted, BraceOpen, BraceClose, ParenOpen}
 use Rattle.ifs_lex.specs.declared.token.What.TheVariants.{ParenClose, Dot, Equals, Bang, And, Or, End}
-use Rattle.ifs_lex.specs.declared.scans.Gap.TheVariants.{Blanks}
+use Rattle.ifs_lex.specs.Lexemes.{Blanks}
 use Rattle.ifs_lex.specs.Characters.{is_blank, is_quote, begins_word, continues_word, begins_name, continues_name}
 use Rattle.ifs_lex.specs.Lexemes.{Lexeme, One, Uses, Stray, Unclosed, Scan, scan, is_last, begins_with, gap_len}
 use Rattle.ifs_lex.specs.Lexemes.{inside_len}

@@ -4,7 +4,7 @@ use Rattle.std.proofs.Common.{drop, count_by, refl, sym, ◌∙◌, ap, subst, a
 use Rattle.std.proofs.lemmas.List.{drop_all}
 use Rattle.std.proofs.lemmas.List.Sums.{sum_by-append}
 use Rattle.ifs_lex.specs.declared.token.What.TheVariants.{End}
-use Rattle.ifs_lex.specs.declared.scans.Gap.TheVariants.{Blanks}
+use Rattle.ifs_lex.specs.Lexemes.{Blanks}
 use Rattle.ifs_lex.specs.Lexemes.{Lexeme, One, Scan, scan, is_last, gap_len, lexeme_here, TextCursor, Spanned}
 use Rattle.ifs_lex.specs.Lexemes.{past, lexeme_at, after_lexeme, lexemes_from, lexemes_at, lexemes_of}
 use Rattle.ifs_lex.specs.Spelling.{IsGap, IsLexeme, stands, Spelling, ends, goes_on, Ended}

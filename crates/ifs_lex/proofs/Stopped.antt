@@ -7,8 +7,8 @@ use Rattle.std.specs.Option.{option_map_or}
 use Rattle.ifs_lex.specs.declared.token.What.{What}
 use Rattle.ifs_lex.specs.declared.token.What.TheVariants.{Word, Quoted, BraceOpen, BraceClose, ParenOpen}
 use Rattle.ifs_lex.specs.declared.token.What.TheVariants.{ParenClose, Dot, Equals, Bang, And, Or, End}
-use Rattle.ifs_lex.specs.declared.scans.Gap.{Gap}
-use Rattle.ifs_lex.specs.declared.scans.Gap.TheVariants.{Blanks, Comment}
+use Rattle.ifs_lex.specs.Lexemes.{Gap}
+use Rattle.ifs_lex.specs.Lexemes.{Blanks, Comment}
 use Rattle.ifs_lex.specs.declared.fault.LexFault.{LexFault}
 use Rattle.ifs_lex.specs.declared.fault.LexFault.TheVariants as lexing
 use Rattle.ifs_lex.specs.Characters.{is_quote, begins_word, continues_word, continues_name}

@@ -5,7 +5,7 @@ use Rattle.std.specs.List.{prefix_len}
 use Rattle.std.specs.Option.{option_map_or}
 use Rattle.ifs_lex.specs.declared.token.What.{What}
 use Rattle.ifs_lex.specs.declared.token.What.TheVariants.{Quoted, And, Or, End}
-use Rattle.ifs_lex.specs.declared.scans.Gap.TheVariants.{Blanks}
+use Rattle.ifs_lex.specs.Lexemes.{Blanks}
 use Rattle.ifs_lex.specs.Characters.{begins_word, continues_word, is_quote}
 use Rattle.ifs_lex.specs.Lexemes.{Lexeme, One, Stray, Unclosed, Scan, scan, begins_with, begins_macro}
 use Rattle.ifs_lex.specs.Lexemes.{gap_len, quoted_value, twice, sign_here, lexeme_here, TextCursor, Spanned}

@@ -7,14 +7,17 @@ use Rattle.ifs_base.specs.declared.span.Span.{Span}
 use Rattle.ifs_lex.specs.declared.token.What.{What}
 use Rattle.ifs_lex.specs.declared.token.What.TheVariants.{Word, Quoted, BraceOpen, BraceClose, ParenOpen}
 use Rattle.ifs_lex.specs.declared.token.What.TheVariants.{ParenClose, Dot, Equals, Bang, And, Or, End}
-use Rattle.ifs_lex.specs.declared.scans.Gap.{Gap}
-use Rattle.ifs_lex.specs.declared.scans.Gap.TheVariants.{Blanks, Comment}
 use Rattle.ifs_lex.specs.Characters.{is_blank, is_quote, begins_name, continues_name, begins_word, continues_word}
 
 -- The first byte is this one.
 abbrev pub begins_with : ℕ → List ℕ → Bool
 begins_with byte [] = false
 begins_with byte (b ∷ rest) = b == byte
+
+-- What a byte between lexemes stands in: blanks, or a comment, with whether the byte before was a backslash.
+pub data Gap : Type 0 where
+  Blanks : Gap
+  Comment : Bool → Gap
 
 -- Where a byte of a gap leads: `#` begins a comment, a newline ends it but after a backslash; a
 -- backslash before a newline is a blank. There is none where the gap ends before the byte.

@@ -3,3 +3,4 @@ pub mod Ropes
 pub mod Kept
 pub mod Known
 pub mod Turns
+pub mod Gaps

@@ -16,11 +16,16 @@ pub struct Found<'a> {
     pub span: Span,
 }
 
-/// How many newlines there are.
-fn newlines(bytes: &[u8]) -> usize
+/// How many newlines there are. Each byte is looked at, so that many are at once.
+fn newlines(bytes: &[u8]) -> u32
+    requires { length bytes.now ≤ 1048576 }
     ensures { result ≡ count_by (λ b. b == 10) bytes.now }
 {
-    bytes.iter().filter(|byte| **byte == b'\n').count()
+    let mut count = 0;
+    for byte in bytes {
+        count += u32::from(*byte == b'\n');
+    }
+    count
 }
 
 /// A cursor in a text of at most 1,048,576 bytes: what is left of it, how many bytes stand before, and the line.
@@ -73,7 +78,7 @@ impl<'a> Cursor<'a> {
         ensures { self.new ≡ lexemes.past count self.old }
     {
         let (front, left) = self.left.split_at(count);
-        self.line += newlines(front.as_bytes()) as u32;
+        self.line += newlines(front.as_bytes());
         self.at += count as u32;
         self.left = left;
     }

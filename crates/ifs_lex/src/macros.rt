@@ -186,7 +186,7 @@ impl<'a> MacroTable<'a> {
     fn has_room(&self, name: &str) -> bool
         ensures { result ≡ (is_some ((macros_of self.now).known name.now) || nat_lt (macros_of self.now).count 256) }
     {
-        self.get(name).is_some() || self.table.len() < MAX_MACROS
+        self.table.len() < MAX_MACROS || self.get(name).is_some()
     }
 
     /// Whether the name was given beside the text.

@@ -10,6 +10,7 @@ use crate::characters::{
 use crate::scans::{begins_with, inside_len, is_dropped};
 use crate::token::What;
 use ifs_base::Text;
+use memchr::memchr2;
 use std::alloc::{AllocError, Global};
 
 /// A sign other than `=`.
@@ -156,14 +157,13 @@ impl<'a> Piece<'a> {
 fn kept_len(quote: u8, bytes: &[u8]) -> Option<usize>
     ensures { result ≡ kept_len quote bytes.now }
 {
-    let mut len = 0;
-    let mut left = bytes;
-    while let [byte, rest @ ..] = left {
-        if is_dropped(quote, *byte, rest) {
-            return Some(len);
+    let mut from = 0;
+    while let Some(ahead) = memchr2(b'\n', b'\\', bytes.split_at(from).1) {
+        let place = from + ahead;
+        if is_dropped(quote, bytes[place], bytes.split_at(place + 1).1) {
+            return Some(place);
         }
-        len += 1;
-        left = rest;
+        from = place + 1;
     }
     None
 }

@@ -1,19 +1,13 @@
 //! How far what stands first in a text goes on.
 
-ghost use Rattle.std.specs.Prelude.{◌≡◌, option_map, false};
-ghost use Rattle.ifs_lex.specs.declared.scans.Gap.TheVariants.{Blanks};
+ghost use Rattle.std.specs.Prelude.{◌≡◌, ◌≤◌, ◌<◌, ◌∷◌, false, length, IfSome, MatchOption};
 ghost use Rattle.ifs_lex.specs.Lexemes as lexemes;
+ghost use Rattle.ifs_lex.specs.Lexemes.{Blanks};
+ghost use Rattle.ifs_lex.specs.Spelling.{after_backslash};
+ghost use Rattle.ifs_lex.specs.inner.Gaps.{comment_bytes, IsGapPart};
 
 use crate::characters::is_blank;
-
-/// What a byte between lexemes stands in.
-#[derive(Clone, Copy, Debug, PartialEq, Eq)]
-pub enum Gap {
-    /// Blanks.
-    Blanks,
-    /// A comment; whether the byte before was a backslash.
-    Comment(bool),
-}
+use memchr::memchr;
 
 /// Whether the first byte is this one.
 pub fn begins_with(byte: u8, bytes: &[u8]) -> bool
@@ -25,25 +19,41 @@ pub fn begins_with(byte: u8, bytes: &[u8]) -> bool
     }
 }
 
-fn gap_after(gap: Gap, byte: u8, rest: &[u8]) -> Option<Gap>
-    ensures { result ≡ lexemes.gap_after gap byte rest.now }
+/// How many bytes a comment goes on for, by what comes after its `#`: up to its newline, and with that.
+fn comment_len(bytes: &[u8]) -> usize
+    ensures value { result ≡ comment_bytes bytes.now (lexemes.inside_len 10 false bytes.now) }
+    ensures within { result ≤ length bytes.now }
 {
-    match gap {
-        Gap::Blanks => {
-            if byte == b'#' {
-                return Some(Gap::Comment(false));
-            }
-            if is_blank(byte) || byte == b'\\' && begins_with(b'\n', rest) {
-                return Some(Gap::Blanks);
-            }
-            None
-        }
-        Gap::Comment(escaped) => {
-            if byte == b'\n' && !escaped {
-                return Some(Gap::Blanks);
-            }
-            Some(Gap::Comment(byte == b'\\'))
-        }
+    match inside_len(b'\n', bytes) {
+        Some(len) => len + 1,
+        None => bytes.len(),
+    }
+}
+
+/// How many bytes the blank, the joined line or the comment has that begins with a byte, where one does.
+#[tactic(auto, using(crate::proofs::Gaps::blank_part, crate::proofs::Gaps::joined_here, crate::proofs::Gaps::comment_here, crate::proofs::Gaps::no_gap))]
+fn part_of(byte: u8, rest: &[u8]) -> Option<usize>
+    ensures { MatchOption result (lexemes.gap_len Blanks (byte ∷ rest.now) ≡ 0) (IsGapPart (byte ∷ rest.now)) }
+{
+    if byte == b'#' {
+        return Some(1 + comment_len(rest));
+    }
+    if is_blank(byte) {
+        return Some(1);
+    }
+    if byte == b'\\' && begins_with(b'\n', rest) {
+        return Some(2);
+    }
+    None
+}
+
+/// How many bytes the part of a gap has that comes first, where one does.
+fn gap_part(bytes: &[u8]) -> Option<usize>
+    ensures { MatchOption result (lexemes.gap_len Blanks bytes.now ≡ 0) (IsGapPart bytes.now) }
+{
+    match bytes {
+        [] => None,
+        [byte, rest @ ..] => part_of(*byte, rest),
     }
 }
 
@@ -51,34 +61,33 @@ fn gap_after(gap: Gap, byte: u8, rest: &[u8]) -> Option<Gap>
 pub fn gap_len(bytes: &[u8]) -> usize
     ensures { result ≡ lexemes.gap_len Blanks bytes.now }
 {
-    let mut gap = Gap::Blanks;
     let mut len = 0;
-    let mut left = bytes;
-    while let [byte, rest @ ..] = left {
-        match gap_after(gap, *byte, rest) {
-            Some(next) => gap = next,
-            None => return len,
-        }
-        len += 1;
-        left = rest;
+    while let Some(part) = gap_part(bytes.split_at(len).1) {
+        len += part;
     }
     len
 }
 
+/// Whether the byte before a place is a backslash.
+fn is_after_backslash(bytes: &[u8], place: usize) -> bool
+    requires { place ≤ length bytes.now }
+    ensures { result ≡ after_backslash false bytes.now place }
+{
+    place > 0 && bytes[place - 1] == b'\\'
+}
+
 /// How many bytes stand before the quote that closes, where there is one.
 pub fn inside_len(quote: u8, bytes: &[u8]) -> Option<usize>
-    ensures { result ≡ lexemes.inside_len quote false bytes.now }
+    ensures value { result ≡ lexemes.inside_len quote false bytes.now }
+    ensures within { IfSome result (λ len. len < length bytes.now) }
 {
-    let mut escaped = false;
-    let mut len = 0;
-    let mut left = bytes;
-    while let [byte, rest @ ..] = left {
-        if *byte == quote && !escaped {
-            return Some(len);
+    let mut from = 0;
+    while let Some(ahead) = memchr(quote, bytes.split_at(from).1) {
+        let place = from + ahead;
+        if !is_after_backslash(bytes, place) {
+            return Some(place);
         }
-        escaped = *byte == b'\\';
-        len += 1;
-        left = rest;
+        from = place + 1;
     }
     None
 }

@@ -1,11 +1,9 @@
-use Rattle.std.proofs.Common.{◌≡◌, option_map, ◌+◌, length}
-use Rattle.ifs_lex.specs.inner.Pieces.{kept_len}
+use Rattle.std.proofs.Common.{◌≤◌, ◌-◌, length}
+use Rattle.ifs_lex.proofs.Searches.{KeptTo}
 use Rattle.ifs_lex.proofs.pieces.kept_len.Given as goal
 
-abbrev pub invariant-loop-left : goal.invariant-loop-left
-invariant-loop-left l =
-    (kept_len l.quote l.bytes ≡ option_map (λ n. l.len + n) (kept_len l.quote l.left))
-    × (l.len + length l.left ≡ length l.bytes)
+abbrev pub invariant-loop-ahead : goal.invariant-loop-ahead
+invariant-loop-ahead l = (l.from ≤ length l.bytes) × KeptTo l.quote l.bytes l.from
 
-abbrev pub decreases-loop-left : goal.decreases-loop-left
-decreases-loop-left l = length l.left
+abbrev pub decreases-loop-ahead : goal.decreases-loop-ahead
+decreases-loop-ahead l = length l.bytes - l.from
