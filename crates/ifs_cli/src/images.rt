@@ -6,11 +6,13 @@ ghost use Rattle.std.specs.Io.KnownBytes.{Appends};
 use std::alloc::Global;
 use std::fs::{self, File, OpenFile, OpenOptions, Permissions};
 use std::io::{self, ErrorKind, Write};
+use std::path::Path;
 use std::rt::Files;
 
 /// Writes an image to a path. A regular file is written whole or not at all: a new file takes its place,
-/// with its mode; whatever fails, the old one stands and no other file is left. Where a link leads to a file,
-/// that file is replaced and the link stays. What is no regular file is written as it stands.
+/// with its mode; whatever fails before that, the old one stands and no other file is left. Then the folder is synced, so that
+/// the new file stands after a loss of power as well; where that fails it stands, and the error is told. Where a link leads to
+/// a file, that file is replaced and the link stays. What is no regular file is written as it stands.
 ///
 /// An error is the first call of the system that failed: of a link that leads nowhere, of a folder in place
 /// of a file, of a folder that is missing or full. Want of memory is an error too.
@@ -38,7 +40,8 @@ pub fn write_image<R: Files + Alloc<A = Global>>(
     }
 }
 
-/// Puts a new file in the place of a path. Where that fails there is no new file.
+/// Puts a new file in the place of a path, and waits until the device has its name. Where that place cannot be taken there
+/// is no new file.
 fn replace<R: Files + Alloc<A = Global>>(
     rt: &R,
     path: &str,
@@ -53,8 +56,34 @@ fn replace<R: Files + Alloc<A = Global>>(
     if done.is_err() {
         // what failed first is told, whether the new file could be removed or not
         let _removed = fs::remove_file(rt, name.as_str());
+        return done;
     }
-    done
+    sync_folder(rt, folder_of(path))
+}
+
+/// The folder that a path's last name is in.
+fn folder_of(path: &str) -> &str {
+    match Path::new(path).parent() {
+        Some(folder) if !folder.as_str().is_empty() => folder.as_str(),
+        _ => ".",
+    }
+}
+
+/// Waits until the device has the names of a folder. One that may not be read, or whose system syncs no folders, is left to
+/// the system.
+fn sync_folder<R: Files>(rt: &R, folder: &str) -> io::Result<()> {
+    match fs::open(rt, folder).and_then(|names| names.sync_all()) {
+        Err(error) if is_left_to_system(error.kind()) => Ok(()),
+        synced => synced,
+    }
+}
+
+/// Whether a failure says that a folder cannot be synced by this user or on this system.
+fn is_left_to_system(kind: ErrorKind) -> bool {
+    matches!(
+        kind,
+        ErrorKind::PermissionDenied | ErrorKind::InvalidInput | ErrorKind::Unsupported
+    )
 }
 
 /// A new file in the folder of a path, with a name that was free.

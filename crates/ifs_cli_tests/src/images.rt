@@ -12,26 +12,35 @@ const OLD: usize = 3;
 
 const IMAGE: &[u8] = b"IFSV\x01";
 
-/// A folder with an image, and a new file beside it, of which the lengths are known. One call fails.
+/// A folder with an image, and a new file beside it, of which the lengths are known. One call fails, in one way.
 #[derive(Drop)]
 struct Folder {
+    name: &'static str,
     fails_at: u32,
+    failure: ErrorKind,
     calls: Cell<u32>,
     image: Cell<Option<usize>>,
     fresh: Cell<Option<usize>>,
     is_synced: Cell<bool>,
     is_interrupted: Cell<bool>,
+    is_renamed: Cell<bool>,
+    /// The device has its names as they are.
+    are_names_synced: Cell<bool>,
 }
 
 impl Folder {
-    fn new(image: Option<usize>, fails_at: u32) -> Folder {
+    fn new(name: &'static str, image: Option<usize>, fails_at: u32, failure: ErrorKind) -> Folder {
         Folder {
+            name,
             fails_at,
+            failure,
             calls: Cell::new(0),
             image: Cell::new(image),
             fresh: Cell::new(None),
             is_synced: Cell::new(false),
             is_interrupted: Cell::new(false),
+            is_renamed: Cell::new(false),
+            are_names_synced: Cell::new(true),
         }
     }
 
@@ -40,7 +49,7 @@ impl Folder {
         let number = self.calls.get();
         self.calls.set(number.saturating_add(1));
         if number == self.fails_at {
-            return Err(io::Error::from(ErrorKind::StorageFull));
+            return Err(io::Error::from(self.failure));
         }
         Ok(())
     }
@@ -50,9 +59,12 @@ impl Folder {
 #[derive(Drop)]
 struct View<'a>(&'a Folder);
 
-/// The new file, opened.
+/// The new file or the folder itself, opened.
 #[derive(Drop)]
-struct Opened<'a>(&'a Folder);
+struct Opened<'a> {
+    folder: &'a Folder,
+    is_folder: bool,
+}
 
 impl Read for Opened<'_> {
     fn read(&mut self, _buffer: &mut [u8]) -> io::Result<usize> {
@@ -69,18 +81,18 @@ impl Seek for Opened<'_> {
 impl Write for Opened<'_> {
     /// Takes two bytes at most, once it was interrupted.
     fn write(&mut self, bytes: &[u8]) -> io::Result<usize> {
-        self.0.called()?;
-        if !self.0.is_interrupted.replace(true) {
+        self.folder.called()?;
+        if !self.folder.is_interrupted.replace(true) {
             return Err(io::Error::from(ErrorKind::Interrupted));
         }
         let count = bytes.len().min(2);
-        let length = self.0.fresh.get().unwrap_or(0).saturating_add(count);
-        self.0.fresh.set(Some(length));
+        let length = self.folder.fresh.get().unwrap_or(0).saturating_add(count);
+        self.folder.fresh.set(Some(length));
         Ok(count)
     }
 
     fn flush(&mut self) -> io::Result<()> {
-        self.0.called()
+        self.folder.called()
     }
 }
 
@@ -94,8 +106,12 @@ impl OpenFile for Opened<'_> {
     }
 
     fn sync_all(&self) -> io::Result<()> {
-        self.0.called()?;
-        self.0.is_synced.set(true);
+        self.folder.called()?;
+        if self.is_folder {
+            self.folder.are_names_synced.set(true);
+        } else {
+            self.folder.is_synced.set(true);
+        }
         Ok(())
     }
 
@@ -104,7 +120,7 @@ impl OpenFile for Opened<'_> {
     }
 
     fn set_permissions(&self, _mode: Permissions) -> io::Result<()> {
-        self.0.called()
+        self.folder.called()
     }
 }
 
@@ -113,17 +129,23 @@ impl<'a> Files for View<'a> {
 
     type Dir = Opened<'a>;
 
-    fn open_file(&self, how: &OpenOptions, _path: &str) -> io::Result<Opened<'a>> {
+    fn open_file(&self, how: &OpenOptions, path: &str) -> io::Result<Opened<'a>> {
         self.0.called()?;
-        if !how.asks_create_new() {
-            return Err(io::Error::from(ErrorKind::Unsupported));
+        let is_folder = !how.asks_create_new();
+        if is_folder && path != self.0.name {
+            return Err(io::Error::from(ErrorKind::NotFound));
         }
-        self.0.fresh.set(Some(0));
-        Ok(Opened(self.0))
+        if !is_folder {
+            self.0.fresh.set(Some(0));
+        }
+        Ok(Opened {
+            folder: self.0,
+            is_folder,
+        })
     }
 
     fn open_dir(&self, _path: &str) -> io::Result<Opened<'a>> {
-        Ok(Opened(self.0))
+        Err(io::Error::from(ErrorKind::Unsupported))
     }
 
     fn metadata(&self, path: &str) -> io::Result<Metadata> {
@@ -150,6 +172,8 @@ impl<'a> Files for View<'a> {
             .image
             .set(if self.0.is_synced.get() { length } else { None });
         self.0.fresh.set(None);
+        self.0.is_renamed.set(true);
+        self.0.are_names_synced.set(false);
         Ok(())
     }
 
@@ -175,21 +199,64 @@ impl<'a> Files for View<'a> {
 /// Asserts what stands in a folder once an image was written, or a call failed.
 fn check_folder(rt: &impl Abort, folder: &Folder, old: Option<usize>, has_failed: bool) {
     let fails_at = folder.fails_at;
-    let is_reached = fails_at < folder.calls.get();
-    assert_eq!(rt; has_failed, is_reached, "{fails_at}");
-    let standing = if has_failed { old } else { Some(IMAGE.len()) };
+    let is_renamed = folder.is_renamed.get();
+    let standing = if is_renamed { Some(IMAGE.len()) } else { old };
     assert_eq!(rt; folder.image.get(), standing, "{fails_at}");
     assert_eq!(rt; folder.fresh.get(), None, "{fails_at}");
+    let is_reached = fails_at < folder.calls.get();
+    let are_names_synced = folder.are_names_synced.get();
+    assert_eq!(rt; are_names_synced, !is_renamed || !is_reached, "{fails_at}");
+    assert!(rt; has_failed || is_renamed, "{fails_at}");
 }
 
-/// Whichever call fails, the old image stands and the new file is gone; where none does the image is new.
+/// Whichever call fails, an image stands whole and the new file is gone: the old image where the new one could not take its
+/// place, else the new one. Where none fails the device has its name as well.
 #[test]
 fn whole_or_not_at_all(rt: HostRuntime) {
     for old in [None, Some(OLD)] {
-        for fails_at in 0..12 {
-            let folder = Folder::new(old, fails_at);
+        for fails_at in 0..14 {
+            let folder = Folder::new(".", old, fails_at, ErrorKind::StorageFull);
             let written = write_image(&(View(&folder), rt.alloc()), "image", IMAGE);
             check_folder(&rt, &folder, old, written.is_err());
+            assert_eq!(rt;
+                written.is_err(),
+                fails_at < folder.calls.get(),
+                "{fails_at}"
+            );
         }
+    }
+}
+
+/// A folder that cannot be synced by this user or on this system is no fault of an image that stands.
+#[test]
+fn folders_without_sync(rt: HostRuntime) {
+    for failure in [
+        ErrorKind::PermissionDenied,
+        ErrorKind::InvalidInput,
+        ErrorKind::Unsupported,
+    ] {
+        for fails_at in 0..14 {
+            let folder = Folder::new(".", Some(OLD), fails_at, failure);
+            let written = write_image(&(View(&folder), rt.alloc()), "image", IMAGE);
+            check_folder(&rt, &folder, Some(OLD), written.is_err());
+            assert_eq!(rt; written.is_ok(), folder.is_renamed.get(), "{fails_at}");
+        }
+    }
+}
+
+/// The folder that is synced is that of the image.
+#[test]
+fn folders_of_paths(rt: HostRuntime) {
+    for (path, name) in [
+        ("image", "."),
+        ("./image", "."),
+        ("/image", "/"),
+        ("etc/image", "etc"),
+        ("/etc/ifsvm/image", "/etc/ifsvm"),
+    ] {
+        let folder = Folder::new(name, None, u32::MAX, ErrorKind::StorageFull);
+        let written = write_image(&(View(&folder), rt.alloc()), path, IMAGE);
+        assert!(rt; written.is_ok(), "{path}");
+        check_folder(&rt, &folder, None, false);
     }
 }
