@@ -1,8 +1,10 @@
 //! What stands on the stack.
 
+ghost use Rattle.std.specs.Prelude.{◌≡◌};
+
 use ifs_base::{CommandId, StateId};
 
-/// A value on the stack.
+/// A value, with its kind.
 #[derive(Clone, Copy, Debug, PartialEq, Eq)]
 pub enum Value {
     /// True or false.
@@ -13,9 +15,17 @@ pub enum Value {
     StateName(StateId),
 }
 
-impl Default for Value {
-    /// What fills the places of a stack that hold nothing yet.
-    fn default() -> Self {
-        Value::Truth(false)
+impl Value {
+    ghost use Rattle.ifs_machine.specs.inner.Numbers.{number_of};
+
+    /// The number that stands for it on the stack, where nobody asks for its kind.
+    pub(crate) fn number(self) -> u16
+        ensures { result ≡ number_of self }
+    {
+        match self {
+            Value::Truth(truth) => u16::from(truth),
+            Value::Command(command) => command.0,
+            Value::StateName(state) => state.0,
+        }
     }
 }
