@@ -1,11 +1,11 @@
 -- What a search for a byte finds, and what stands before it.
-use Rattle.std.proofs.Common.{◌≡◌, ℕ, suc, ◌+◌, ◌-◌, ◌<◌, Bool, true, false, cond, List}
+use Rattle.std.proofs.Common.{◌≡◌, ℕ, zero, suc, ◌+◌, ◌-◌, ◌<◌, ◌≤◌, Bool, true, false, cond, List}
 use Rattle.std.proofs.Common.{[], ◌∷◌, ◌++◌, length, length-drop, take, drop, Option}
 use Rattle.std.proofs.Common.{Some, None, refl, sym, ap, subst, ◌∙◌, arith, append_assoc}
 use Rattle.std.specs.Prelude.{◌==◌, not, nat_lt}
 use Rattle.std.specs.Option.{option_map, unwrap_or}
 use Rattle.std.specs.List.{prefix_len, position, list_all}
-use Rattle.std.proofs.lemmas.Bool.{true≢false, and_parts, not_from_true, not_from_false, false_from_ne_true}
+use Rattle.std.proofs.lemmas.Bool.{and_parts, not_from_true, not_from_false, false_from_ne_true}
 use Rattle.std.proofs.lemmas.Bool.Decides.{nat_tests}
 use Rattle.std.proofs.lemmas.List.{take_rest}
 use Rattle.std.proofs.lemmas.List.Sums.{prefix_len_is, prefix_len-le-length}
@@ -49,9 +49,6 @@ found_before test bs (Some k) h = sym (found_len test bs k h).1
 goes_parts : (b : ℕ) → goes_on b ≡ true → ((b == 34) ≡ false) × ((b == 92) ≡ false)
 goes_parts b e = (grind (arith, nat_tests), grind (arith, nat_tests))
 
-plain_goes : (b : ℕ) → goes_on b ≡ false → is_plain b ≡ false
-plain_goes b e = grind (arith, nat_tests)
-
 skip_case : (b n : ℕ) (bs : List ℕ) (t : Bool) → goes_on b ≡ t → word_len Inside bs ≡ n + word_len Inside (drop n bs)
     → 1 + word_len (mode_after Inside b) bs ≡ cond t (1 + n) 0 + word_len Inside (drop (cond t (1 + n) 0) (b ∷ bs))
 skip_case b n bs true e ih =
@@ -66,23 +63,19 @@ pub skips : (bs : List ℕ) → word_len Inside bs ≡ prefix_len goes_on bs + w
 skips [] = omega arith
 skips (b ∷ bs) = skip_case b (prefix_len goes_on bs) bs (goes_on b) refl (skips bs)
 
-plain_case : (b n m : ℕ) (bs : List ℕ) (t u : Bool) → goes_on b ≡ t → is_plain b ≡ u → (list_all is_plain (take n bs) ≡ true → n ≡ m)
-    → list_all is_plain (take (cond t (1 + n) 0) (b ∷ bs)) ≡ true → cond t (1 + n) 0 ≡ cond u (1 + m) 0
-plain_case b n m bs true true e f ih all =
-    let k : 1 + n ≡ suc n = omega arith in
-    let more : list_all is_plain (take (suc n) (b ∷ bs)) ≡ true = subst (λ (j : ℕ). list_all is_plain (take j (b ∷ bs)) ≡ true) k all in
-    ap (λ (j : ℕ). 1 + j) (ih (and_parts (is_plain b) (list_all is_plain (take n bs)) more).1)
-plain_case b n m bs true false e f ih all =
-    let k : 1 + n ≡ suc n = omega arith in
-    let more : list_all is_plain (take (suc n) (b ∷ bs)) ≡ true = subst (λ (j : ℕ). list_all is_plain (take j (b ∷ bs)) ≡ true) k all in
-    absurd (true≢false (sym (and_parts (is_plain b) (list_all is_plain (take n bs)) more).0 ∙ f))
-plain_case b n m bs false true e f ih all = absurd (true≢false (sym f ∙ plain_goes b e))
-plain_case b n m bs false false e f ih all = refl
+-- Where so many bytes are plain, the run goes on behind them.
+pub plain_front : (n : ℕ) (bs : List ℕ) → list_all is_plain (take n bs) ≡ true → n ≤ length bs → prefix_len is_plain bs ≡ n + prefix_len is_plain (drop n bs)
+plain_front zero bs all le = omega arith
+plain_front (suc n) [] all le = absurd (omega (arith, le))
+plain_front (suc n) (b ∷ bs) all le =
+    let p = and_parts (is_plain b) (list_all is_plain (take n bs)) all in
+    rw p.0 (omega (arith, plain_front n bs p.1 (omega (arith, le))))
 
--- Where all of a run is plain, it is the run of plain bytes.
-pub plain_len : (bs : List ℕ) → list_all is_plain (take (prefix_len goes_on bs) bs) ≡ true → prefix_len goes_on bs ≡ prefix_len is_plain bs
-plain_len [] all = refl
-plain_len (b ∷ bs) all = plain_case b (prefix_len goes_on bs) (prefix_len is_plain bs) bs (goes_on b) (is_plain b) refl refl (plain_len bs) all
+pub plain_block : (n : ℕ) (bytes block rest : List ℕ) → block ≡ take n bytes → rest ≡ drop n bytes → length rest + n ≡ length bytes → list_all is_plain block ≡ true
+    → prefix_len is_plain bytes ≡ n + prefix_len is_plain rest
+plain_block n bytes block rest front back len all =
+    plain_front n bytes (subst (λ (xs : List ℕ). list_all is_plain xs ≡ true) front all) (omega (arith, len))
+    ∙ ap (λ (xs : List ℕ). n + prefix_len is_plain xs) (sym back)
 
 -- ---- texts
 

@@ -1,11 +1,14 @@
 //! Runs of bytes that stand in quotes as they are.
 
-ghost use Rattle.std.specs.Prelude.{◌≡◌, ◌≤◌, length, nat_lt};
+ghost use Rattle.std.specs.Prelude.{◌≡◌, ◌+◌, ◌≤◌, IfSome, length, nat_lt};
 ghost use Rattle.std.specs.List.{list_all, prefix_len};
 ghost use Rattle.ifs_asm.specs.Spellings.{is_plain};
 ghost use Rattle.ifs_asm.specs.inner.Words.{goes_on};
 
 use memchr::memchr2;
+
+/// So many bytes are looked at in one turn.
+const BLOCK: usize = 32;
 
 /// How many bytes at the front are neither a quote nor a backslash.
 pub(crate) fn run_in_quotes(bytes: &[u8]) -> usize
@@ -41,11 +44,44 @@ pub(crate) fn plain_run(bytes: &[u8]) -> usize
     ensures value { result ≡ prefix_len is_plain bytes.now }
     ensures within { result ≤ length bytes.now }
 {
-    let run = run_in_quotes(bytes);
-    if are_plain(&bytes[..run]) {
-        run
+    if !begins_plain(bytes) {
+        return 0;
+    }
+    let rest = behind_plain(bytes);
+    bytes.len() - rest.len() + plain_near(rest)
+}
+
+/// The same byte by byte, for where the run ends near.
+fn plain_near(bytes: &[u8]) -> usize
+    ensures value { result ≡ prefix_len is_plain bytes.now }
+    ensures within { result ≤ length bytes.now }
+{
+    bytes.iter().take_while(|byte| is_plain(**byte)).count()
+}
+
+/// What stands behind the whole blocks at the front whose bytes all stand in quotes as they are.
+fn behind_plain(bytes: &[u8]) -> &[u8]
+    ensures value { length bytes.now + prefix_len is_plain result.now ≡ length result.now + prefix_len is_plain bytes.now }
+    ensures within { length result.now ≤ length bytes.now }
+{
+    let mut left = bytes;
+    while let Some(rest) = behind_block(left) {
+        left = rest;
+    }
+    left
+}
+
+/// What stands behind a block at the front whose bytes all stand in quotes as they are; `None` where there is none.
+#[inline(always)]
+fn behind_block(bytes: &[u8]) -> Option<&[u8]>
+    ensures plain { IfSome result (λ rest. prefix_len is_plain bytes.now ≡ 32 + prefix_len is_plain rest.now) }
+    ensures shorter { IfSome result (λ rest. length rest.now + 32 ≡ length bytes.now) }
+{
+    let (block, rest) = bytes.split_first_chunk::<BLOCK>()?;
+    if are_plain(block.as_slice()) {
+        Some(rest)
     } else {
-        bytes.iter().take_while(|byte| is_plain(**byte)).count()
+        None
     }
 }
 
@@ -60,6 +96,7 @@ pub(crate) fn begins_plain(bytes: &[u8]) -> bool
 }
 
 /// Whether all bytes stand in quotes as they are. Each is looked at, so that many are at once.
+#[inline(always)]
 fn are_plain(bytes: &[u8]) -> bool
     ensures { result ≡ list_all is_plain bytes.now }
 {
