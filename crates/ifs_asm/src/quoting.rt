@@ -30,12 +30,22 @@ fn put_inside(out: &mut String, text: &str) -> Result<(), AllocError>
 {
     let mut left = text;
     while let Some(parts) = split_plain(left) {
-        out.push_str(parts.run)?;
+        put_run(out, parts.run)?;
         put_escape(out, parts.byte)?;
         left = parts.rest;
     }
-    out.push_str(left)?;
-    Ok(())
+    put_run(out, left)
+}
+
+/// Writes bytes that stand in quotes as they are, of which there are often none between two others.
+#[inline(always)]
+fn put_run(out: &mut String, run: &str) -> Result<(), AllocError>
+    ensures { OnOk result (string_bytes out.new ≡ string_bytes out.old ++ run.now) }
+{
+    if run.is_empty() {
+        return Ok(());
+    }
+    out.push_str(run)
 }
 
 /// Writes a byte as it stands in quotes.
