@@ -9,6 +9,7 @@ ghost use Rattle.ifs_base.specs.Words.{link_word, listed, quoted};
 ghost use Rattle.ifs_image.specs.Limits.{HandlersInRange, StateInRange, RoutineInRange, RoutineFits};
 ghost use Rattle.ifs_asm.specs.declared.line.Line.TheVariants as lines;
 ghost use Rattle.ifs_asm.specs.declared.line.Head.TheVariants.{Plain, Signature};
+ghost use Rattle.ifs_base.specs.declared.op.Op.TheVariants.{Link};
 ghost use Rattle.ifs_asm.specs.inner.Lists.{before_item, left_at, kinds_left};
 ghost use Rattle.ifs_asm.specs.Spellings.{TextSpells};
 ghost use Rattle.ifs_asm.specs.Texts.{canonical, line_text, tests_of, written, handlers_words};
@@ -17,7 +18,7 @@ ghost use Rattle.ifs_asm.specs.Texts.{version_word, kind_word, kinds_word};
 
 use crate::line::Version;
 use crate::quoting::put_quoted;
-use ifs_base::{Kind, LinkState, Op, StateId, Text};
+use ifs_base::{IfaceId, Kind, LinkState, Op, StateId, Text};
 use ifs_image::{Handlers, Image, ImageParts, Routine, StateSpec, TestSpec};
 use itoa::Buffer;
 use std::alloc::{AllocError, Global};
@@ -386,40 +387,51 @@ fn put_op(out: &mut String, op: Op) -> Result<(), AllocError>
     ensures in_range { HasSpelling op }
 {
     match op {
-        Op::Ret => out.push_str("ret")?,
-        Op::Yes => out.push_str("true")?,
-        Op::No => out.push_str("false")?,
-        Op::Link(iface, state) => {
-            put_number(out, "link ", u64::from(iface.0))?;
-            out.push_str(link_word(state))?;
-        }
-        Op::Test(test) => put_number(out, "test ", u64::from(test.0))?,
-        Op::Known(test) => put_number(out, "known ", u64::from(test.0))?,
-        Op::Negate => out.push_str("not")?,
-        Op::Both => out.push_str("and")?,
-        Op::Either => out.push_str("or")?,
-        Op::PushCommand(command) => put_number(out, "cmd ", u64::from(command.0))?,
-        Op::PushState(state) => put_number(out, "state ", u64::from(state.0))?,
-        Op::Queue => out.push_str("queue")?,
-        Op::Want => out.push_str("want")?,
-        Op::Jump(place) => put_number(out, "jump ", u64::from(place))?,
-        Op::JumpFalse(place) => put_number(out, "jf ", u64::from(place))?,
-        Op::JumpTrue(place) => put_number(out, "jt ", u64::from(place))?,
-        Op::Call(routine) => put_number(out, "call ", u64::from(routine.0))?,
-        Op::Pop => out.push_str("pop")?,
-        Op::Dup => out.push_str("dup")?,
+        Op::Ret => out.push_str("ret\n"),
+        Op::Yes => out.push_str("true\n"),
+        Op::No => out.push_str("false\n"),
+        Op::Link(iface, state) => put_link(out, iface, state),
+        Op::Test(test) => put_operand(out, "test ", test.0),
+        Op::Known(test) => put_operand(out, "known ", test.0),
+        Op::Negate => out.push_str("not\n"),
+        Op::Both => out.push_str("and\n"),
+        Op::Either => out.push_str("or\n"),
+        Op::PushCommand(command) => put_operand(out, "cmd ", command.0),
+        Op::PushState(state) => put_operand(out, "state ", state.0),
+        Op::Queue => out.push_str("queue\n"),
+        Op::Want => out.push_str("want\n"),
+        Op::Jump(place) => put_operand(out, "jump ", place),
+        Op::JumpFalse(place) => put_operand(out, "jf ", place),
+        Op::JumpTrue(place) => put_operand(out, "jt ", place),
+        Op::Call(routine) => put_operand(out, "call ", routine.0),
+        Op::Pop => out.push_str("pop\n"),
+        Op::Dup => out.push_str("dup\n"),
     }
-    out.push_str("\n")?;
-    Ok(())
 }
 
-/// The word of a link state, after a space.
-fn link_word(state: LinkState) -> &'static str
-    ensures { result.now ≡ codes " " ++ link_word state }
+/// Writes the line of an instruction with an operand, of which the words before it are given.
+fn put_operand(out: &mut String, words: &str, operand: u16) -> Result<(), AllocError>
+    ensures { OnOk result (string_bytes out.new ≡ string_bytes out.old ++ (words.now ++ decimal operand ++ codes "\n")) }
+{
+    put_number(out, words, u64::from(operand))?;
+    out.push('\n')
+}
+
+/// Writes the line of the instruction on a link.
+fn put_link(out: &mut String, iface: IfaceId, state: LinkState) -> Result<(), AllocError>
+    ensures { OnOk result (string_bytes out.new ≡ string_bytes out.old ++ line_text (lines.Instruction (Link iface state))) }
+{
+    put_number(out, "link ", u64::from(iface.0))?;
+    out.push_str(link_ending(state))
+}
+
+/// The word of a link state between a space and the end of the line.
+fn link_ending(state: LinkState) -> &'static str
+    ensures { result.now ≡ codes " " ++ link_word state ++ codes "\n" }
 {
     match state {
-        LinkState::Unknown => " unknown",
-        LinkState::Down => " down",
-        LinkState::Up => " up",
+        LinkState::Unknown => " unknown\n",
+        LinkState::Down => " down\n",
+        LinkState::Up => " up\n",
     }
 }
