@@ -44,11 +44,24 @@ pub fn disassemble(alloc: Global, image: &Image) -> Result<String, AllocError>
 }
 
 /// Writes words and a number.
+#[inline(always)]
 fn put_number(out: &mut String, words: &str, number: u64) -> Result<(), AllocError>
     ensures { OnOk result (string_bytes out.new ≡ string_bytes out.old ++ words.now ++ decimal number) }
 {
     out.push_str(words)?;
-    out.push_str(Buffer::new().format(number))?;
+    put_decimal(out, number)
+}
+
+/// Writes a number, which often is a single digit.
+#[inline(never)]
+fn put_decimal(out: &mut String, number: u64) -> Result<(), AllocError>
+    ensures { OnOk result (string_bytes out.new ≡ string_bytes out.old ++ decimal number) }
+{
+    if number < 10 {
+        out.push(char::from(b'0' + number as u8))?;
+    } else {
+        out.push_str(Buffer::new().format(number))?;
+    }
     Ok(())
 }
 
