@@ -1,62 +1,86 @@
-"""Times a daemon of the program over its socket."""
+"""Times daemons over their sockets."""
 import os
 import socket
 import subprocess
 import time
 
 import bench_inputs as inputs
+from bench_measures import most_memory, with_fixed_addresses, write
+from bench_tables import cell, heading
 
 # a connection has room for 448 steps
 A_CONNECTION = 440
-CONNECTIONS = 200
-ALONE = 5_000
-SENT = 200
+# so many rounds are made, of which the fastest counts: of full connections, connections of one line, and runs of send
+ROUNDS = 5
+CONNECTIONS = 40
+ALONE = 1_000
+SENT = 40
 
 
-def exchanged(path, given):
-    """What comes back on one connection for these bytes."""
-    parts = []
-    with socket.socket(socket.AF_UNIX) as client:
-        client.connect(path)
-        client.sendall(given)
-        client.shutdown(socket.SHUT_WR)
-        while part := client.recv(65_536):
-            parts.append(part)
-    return b"".join(parts)
+class Daemon:
+    """A daemon of a program, on a socket of its own."""
+
+    def __init__(self, program, number):
+        self.program, self.path = program, os.path.abspath(f"socket{number}")
+        words = [program, "serve", "plain", self.path]
+        streams = {"stdout": subprocess.PIPE, "stderr": subprocess.DEVNULL}
+        self.process = with_fixed_addresses(lambda: subprocess.Popen(words, **streams))
+        self.process.stdout.readline()
+
+    def exchanged(self, given):
+        """What comes back on one connection for these bytes."""
+        parts = []
+        with socket.socket(socket.AF_UNIX) as client:
+            client.connect(self.path)
+            client.sendall(given)
+            client.shutdown(socket.SHUT_WR)
+            while part := client.recv(65_536):
+                parts.append(part)
+        return b"".join(parts)
+
+    def sent(self, line):
+        words = [self.program, "send", self.path, line.decode().strip()]
+        return subprocess.run(words, capture_output=True).stdout
+
+    def stop(self):
+        self.exchanged(b"stop\n")
+        self.process.wait()
 
 
-def requests(count, turn=0):
+def requests(count):
     """Links that change a fact each."""
-    return [f"link carp0 {('up', 'down')[number % 2]}\n".encode() for number in range(turn, turn + count)]
+    return [f"link carp0 {('up', 'down')[number % 2]}\n".encode() for number in range(count)]
 
 
-def timed(what, count, exchange):
-    """A line of the table: how long each of so many requests took, which have to be answered."""
+def round_of(exchange, parts):
+    """The seconds in which these parts were exchanged one after the other, and how many requests were answered."""
     start = time.perf_counter()
-    done = exchange()
-    seconds = time.perf_counter() - start
+    done = sum(exchange(part).count(b"done") for part in parts)
+    return time.perf_counter() - start, done
+
+
+def timed(what, exchanges, parts):
+    """A line of the table: how long a request took in the fastest round of each daemon, and whether all were
+    answered."""
+    count = sum(part.count(b"\n") for part in parts)
+    rounds = [[round_of(exchange, parts) for exchange in exchanges] for _ in range(ROUNDS)]
+    least = [min(seconds for seconds, _ in each) for each in zip(*rounds)]
+    done = min(done for each in rounds for _, done in each)
     told = "" if done == count else f"  NOT ALL ANSWERED: {done:,} of {count:,}"
-    print(f"{what:<52} {count / seconds:9,.0f} {seconds * 1e6 / count:12.1f}{told}", flush=True)
+    rates, times = [count / seconds for seconds in least], [seconds * 1e6 / count for seconds in least]
+    print(f"{what:<56}{cell(rates, 9)}{cell(times, 13, 1)}{told}", flush=True)
 
 
-def times(program):
+def times(programs):
     """The table of requests over a socket."""
-    print(f"\n{'requests over a socket':<52} {'a second':>9} {'microseconds':>12}")
-    with open("plain", "wb") as file:
-        file.write(inputs.image([[inputs.op(inputs.RET)]], [inputs.state("a", 0, 0)]))
-    daemon = subprocess.Popen([program, "serve", "plain", "socket"], stdout=subprocess.PIPE, stderr=subprocess.DEVNULL)
-    daemon.stdout.readline()
-    path = os.path.abspath("socket")
-    many = b"".join(requests(A_CONNECTION))
-    timed(f"{A_CONNECTION} a connection", A_CONNECTION * CONNECTIONS,
-          lambda: sum(exchanged(path, many).count(b"done") for _ in range(CONNECTIONS)))
-    timed("one connection each", ALONE,
-          lambda: sum(exchanged(path, line).count(b"done") for line in requests(ALONE)))
-    timed("one run of send each", SENT, lambda: sum(sent(program, line) for line in requests(SENT)))
-    exchanged(path, b"stop\n")
-    daemon.wait()
-
-
-def sent(program, line):
-    words = [program, "send", "socket", line.decode().strip()]
-    return subprocess.run(words, capture_output=True).stdout.count(b"done")
+    print(f"\n{'requests over a socket':<56}{heading('a second', 9, programs)}{heading('microseconds', 13, programs)}")
+    write("plain", inputs.image([[inputs.op(inputs.RET)]], [inputs.state("a", 0, 0)]))
+    daemons = [Daemon(program, number) for number, program in enumerate(programs)]
+    exchanges, sends = [daemon.exchanged for daemon in daemons], [daemon.sent for daemon in daemons]
+    timed(f"{A_CONNECTION} a connection", exchanges, [b"".join(requests(A_CONNECTION))] * CONNECTIONS)
+    timed("one connection each", exchanges, requests(ALONE))
+    timed("one run of send each", sends, requests(SENT))
+    taken = [most_memory(daemon.process.pid) for daemon in daemons]
+    print(f"{'the most memory of the daemon, in kB':<56}{cell(taken, 9)}")
+    for daemon in daemons:
+        daemon.stop()
