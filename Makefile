@@ -1,7 +1,7 @@
 # make run     builds the proved program and makes the first run
 # make test    the gate: every proof from nothing, must-fail edits, tests, the program's runs, the examples
 # make plants  tries further wrong bodies; of one crate by CRATE=NAME
-# make bench   times the proved program, and tells its memory and its machine instructions
+# make bench   times the proved program, and tells its memory and its machine instructions; tools/bench --help says more
 # make failover  tries failovers by ucarp and keepalived in network namespaces (root), and, where `make deb` made the package, follows
 #               docs/OPERATING.md with it on two machines of namespaces
 # make check   proves what changed since the last check, crate by crate
