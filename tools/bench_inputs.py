@@ -7,6 +7,8 @@ DOWN, UP = 1, 2
 MOST_BYTES = 1_048_576
 MOST_BLOCKS = 256
 MOST_TESTS = 64
+MOST_STATES = 256
+MOST_TEXT = 1_024
 BLOCK = 4_096
 COMMENT = "# the gateway that holds the address answers, and the other one waits until its peer is gone\n"
 
@@ -23,14 +25,14 @@ def state(name, init, body, mask=0):
     return text(name) + struct.pack(">HHQ", init, body, mask)
 
 
-def image(routines, states, always=0, tests=(), commands=(), period=1):
-    """One interface, and an always body of that number; its init is routine 0. All tests have one period."""
+def image(routines, states, always=0, tests=(), commands=(), period=1, interfaces=("carp0",)):
+    """An always body of that number; its init is routine 0. All tests have one period."""
     return b"".join([
         b"IFSV\x01",
-        struct.pack(">HHIH", 32, 32, 300_000, len(commands)),
-        struct.pack(">HHHHH", 1, len(tests), len(commands), len(states), len(routines)),
+        struct.pack(">HHIH", 32, 32, 300_000, min(len(commands), 64)),
+        struct.pack(">HHHHH", len(interfaces), len(tests), len(commands), len(states), len(routines)),
         struct.pack(">HHHQ", 0, 0, always, 0),
-        text("carp0"),
+        *[text(interface) for interface in interfaces],
         *[struct.pack(">I", period) + text(test) for test in tests],
         *[text(command) for command in commands],
         *states,
@@ -69,9 +71,28 @@ def waiting(tests):
     return image([[op(RET)]], [state("a", 0, 0, (1 << tests) - 1)], 0, texts, (), 604_800)
 
 
+def idle(tests):
+    """A tick that starts all tests, and their results."""
+    return ["tick 0", *[f"result {test} {test + 1} ok" for test in range(tests)]]
+
+
 def waiting_requests(tests, ticks):
     """A tick that starts all tests, their results, and so many ticks at which none of them is due."""
-    return ["tick 0", *[f"result {test} {test + 1} ok" for test in range(tests)], *["tick 1"] * ticks]
+    return [*idle(tests), *["tick 1"] * ticks]
+
+
+def staying(states):
+    """So many states, of which none is left: each body queues a command where the link is up and it is down."""
+    body = [op(LINK, 0, UP), op(LINK, 0, DOWN), op(AND), op(JF, 6), op(CMD, 0), op(QUEUE), op(RET)]
+    named = [state(f"gateway_{number:04}", 0, 1) for number in range(states)]
+    return image([[op(RET)], body], named, 0, (), ["echo up"])
+
+
+def moving(states):
+    """So many states, of which each body leads to the next state, and the last one's to the first."""
+    bodies = [[op(STATE, (number + 1) % states), op(WANT), op(RET)] for number in range(states)]
+    named = [state(f"gateway_{number:04}", 0, number + 1) for number in range(states)]
+    return image([[op(RET)], *bodies], named)
 
 
 def straight(instructions):
@@ -166,18 +187,89 @@ def quoted(stem, number):
     return '"' + raw + "x" * (1_024 - len(raw) - 44) + "\\x1b" * 44 + '"'
 
 
+def listed(interfaces, tests, commands, states, routines, instructions):
+    """A text of an image of so many entries, whose texts have 1,024 bytes, and of so many routines of so many
+    instructions."""
+    lines = ["ifsv 1", "stack 32", "frames 32", "cost 300000", "commands 0", "start 0", "always init 0 body 0 tests -"]
+    lines += [f"iface {quoted('em', number)}" for number in range(interfaces)]
+    lines += [f"test 604800 {quoted('ping', number)}" for number in range(tests)]
+    lines += [f"command {quoted('logger', number)}" for number in range(commands)]
+    lines += [f"state {quoted('gateway', number)} init 0 body 0 tests -" for number in range(states)]
+    code = ["link 0 up", "link 0 down", "or", "not", "true", "and", "pop"] * ((instructions - 1) // 7)
+    for _ in range(routines):
+        lines += ["routine results 0", *code, *["ret"] * (instructions - len(code))]
+    return "".join(f"{line}\n" for line in lines)
+
+
 def assembly(commands=1_024):
     """A text of an image whose tables are full of texts of 1,024 bytes, if its commands are as many, and which has
     8,192 instructions."""
-    lines = ["ifsv 1", "stack 32", "frames 32", "cost 300000", "commands 0", "start 0", "always init 0 body 0 tests -"]
-    lines += [f"iface {quoted('em', number)}" for number in range(64)]
-    lines += [f"test 604800 {quoted('ping', number)}" for number in range(64)]
-    lines += [f"command {quoted('logger', number)}" for number in range(commands)]
-    lines += [f"state {quoted('gateway', number)} init 0 body 0 tests -" for number in range(256)]
-    code = ["link 0 up", "link 0 down", "or", "not", "true", "and", "pop"] * 146 + ["ret"]
-    for _ in range(8):
-        lines += ["routine results 0", *code, *["ret"] * (1_024 - len(code))]
-    return "".join(f"{line}\n" for line in lines)
+    return listed(64, 64, commands, 256, 8, 1_024)
+
+
+def assembly_in_proportion(states):
+    """A text of an image that has for each state four commands, a routine of 32 instructions, and a fourth of an
+    interface and of a test."""
+    return listed(states // 4, states // 4, 4 * states, states, states, 32)
+
+
+def facts_of(number, states):
+    """The interface and the test of a state: no two states have both in common."""
+    return number // 4, (number // 4 + number) % (states // 4)
+
+
+def state_in_proportion(number, states, fill):
+    """A macro and a state of 64 tokens and 31 instructions, whose four commands have so many bytes to fill."""
+    link, test = facts_of(number, states)
+    asked = f'"ping -q -c 1 -w 1 192.0.2.{test} > /dev/null" every 10'
+    first, second, third, fourth = [f'run "logger {number:04}{letter} {"x" * fill}"' for letter in "abcd"]
+    return (
+        f"up_{number:04} = 'em{link:02}.link.up'\n"
+        f"state gateway_{number:04} {{\n\tinit {{\n\t\t{first}\n\t\t{second}\n\t}}\n"
+        f"\tif $up_{number:04} && ! {asked} {{ set-state gateway_{(number + 1) % states:04} }}\n"
+        f"\tif ( em{link:02}.link.down || {asked} ) && $up_{number:04} {{\n\t\t{third}\n\t}}\n"
+        f"\tif ! $up_{number:04} && ! {asked} {{\n\t\t{fourth}\n\t}}\n}}\n"
+    )
+
+
+def policy_in_proportion(states):
+    """A policy that has for each state a macro, 4,096 bytes, 64 tokens, 31 instructions, four commands, and a fourth of
+    an interface and of a test; so with 256 states it is at most limits and near the others."""
+    blocks = []
+    for number in range(states):
+        fill = (BLOCK - 1 - len(state_in_proportion(number, states, 0))) // 4
+        blocks.append(state_in_proportion(number, states, fill).ljust(BLOCK - 1) + "\n")
+    return "".join(blocks)
+
+
+def body_in_proportion(number, states):
+    """The code of 26 instructions of such a state's body."""
+    link, test = facts_of(number, states)
+    up, down, asked = op(LINK, link, UP), op(LINK, link, DOWN), op(TEST, test)
+    return [
+        op(KNOWN, test), op(JF, 25),
+        up, asked, op(NOT), op(AND), op(JF, 9), op(STATE, (number + 1) % states), op(WANT),
+        down, asked, op(OR), up, op(AND), op(JF, 17), op(CMD, 4 * number + 2), op(QUEUE),
+        up, op(NOT), asked, op(NOT), op(AND), op(JF, 25), op(CMD, 4 * number + 3), op(QUEUE),
+        op(RET),
+    ]
+
+
+def longest(stem, count):
+    """So many texts of 1,024 bytes."""
+    return [f"{stem} {number:04} ".ljust(MOST_TEXT, "x") for number in range(count)]
+
+
+def image_in_proportion(states):
+    """An accepted image that has for each state four commands, 31 instructions in two routines, and a fourth of an
+    interface and of a test, whose texts have 1,024 bytes."""
+    routines, named = [[op(RET)]], []
+    for number, name in enumerate(longest("gateway", states)):
+        named.append(state(name, len(routines), len(routines) + 1, 1 << facts_of(number, states)[1]))
+        init = [op(CMD, 4 * number), op(QUEUE), op(CMD, 4 * number + 1), op(QUEUE), op(RET)]
+        routines += [init, body_in_proportion(number, states)]
+    tests, interfaces = longest("ping", states // 4), longest("em", states // 4)
+    return image(routines, named, 0, tests, longest("logger", 4 * states), 10, interfaces)
 
 
 def uses(size):
