@@ -86,7 +86,7 @@ fn behind_block(bytes: &[u8]) -> Option<&[u8]>
 }
 
 /// Whether the first byte stands in quotes as it is.
-pub(crate) fn begins_plain(bytes: &[u8]) -> bool
+fn begins_plain(bytes: &[u8]) -> bool
     ensures { result ≡ nat_lt 0 (prefix_len is_plain bytes.now) }
 {
     match bytes {
@@ -108,7 +108,7 @@ fn are_plain(bytes: &[u8]) -> bool
 }
 
 /// Whether a byte stands in quotes as it is.
-pub(crate) fn is_plain(byte: u8) -> bool
+fn is_plain(byte: u8) -> bool
     ensures { result ≡ is_plain byte }
 {
     byte >= 32 && byte != 127 && byte != b'"' && byte != b'\\'

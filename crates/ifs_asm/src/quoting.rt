@@ -1,7 +1,7 @@
 //! Texts in quotes.
 
 ghost use Rattle.std.specs.Prelude.{◌≡◌, ◌++◌, ◌<◌, ◌≤◌, ◌∷◌, List, ℕ, None, length};
-ghost use Rattle.std.specs.Prelude.{string_bytes, MatchOption, IfSome, IfOk, IsUtf8, OnOk};
+ghost use Rattle.std.specs.Prelude.{string_bytes, MatchOption, IfSome, IfOk, IsTrue, IsUtf8, OnOk};
 ghost use Rattle.std.specs.Option.{option_map};
 ghost use Rattle.std.specs.List.{flat_map, prefix_len};
 ghost use Rattle.ifs_asm.specs.Spellings.{is_plain};
@@ -9,7 +9,7 @@ ghost use Rattle.ifs_asm.specs.inner.Words.{Start, Within, Backslash, High, text
 ghost use Rattle.ifs_asm.specs.inner.Words.{in_utf8, quote_turn, after_turn, given, hex_value, onto, ending};
 ghost use Rattle.ifs_base.specs.Words.{quoted_byte, quoted};
 
-use crate::plain::{begins_plain, plain_run};
+use crate::plain::plain_run;
 use ifs_base::{QuotedByte, Text, digit_value, limits, quote_byte};
 use std::alloc::{AllocError, Global};
 
@@ -154,10 +154,20 @@ fn take_run<'a>(bytes: &mut Vec<u8>, left: &'a [u8]) -> Result<&'a [u8], AllocEr
     ensures shorter { IfOk result (λ rest. length rest.now ≤ length left.now) }
     ensures whole { IfOk result (λ rest. prefix_len is_plain rest.now ≡ 0) }
 {
-    if begins_plain(left) {
-        take_some(bytes, left)
-    } else {
+    if begins_escape(left) {
         Ok(left)
+    } else {
+        take_some(bytes, left)
+    }
+}
+
+/// Whether a backslash stands at the front.
+fn begins_escape(bytes: &[u8]) -> bool
+    ensures { IsTrue result → prefix_len is_plain bytes.now ≡ 0 }
+{
+    match bytes {
+        [b'\\', ..] => true,
+        _ => false,
     }
 }
 
@@ -207,10 +217,10 @@ fn escape_by(kind: u8, rest: &[u8]) -> Option<Escape<'_>>
         (λ escape. after_turn (text_from rest.now) (quote_turn Backslash kind) ≡ onto escape.byte (text_from escape.rest.now Within)) }
     ensures shorter { IfSome result (λ escape. length escape.rest.now ≤ length rest.now) }
 {
-    if kind == b'"' || kind == b'\\' {
-        Some(Escape { byte: kind, rest })
-    } else if kind == b'x' {
+    if kind == b'x' {
         hexadecimal(rest)
+    } else if kind == b'"' || kind == b'\\' {
+        Some(Escape { byte: kind, rest })
     } else {
         None
     }
