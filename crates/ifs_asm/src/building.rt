@@ -396,7 +396,7 @@ fn is_of_other(version: Version, head: &Head) -> bool
 fn is_among(names: &[Text], name: &[u8]) -> bool
     ensures { result ≡ stands_in name.now names.now }
 {
-    names.iter().any(|other| other.as_bytes() == name)
+    names.iter().any(|other| is_same(other.as_bytes(), name))
 }
 
 /// Whether a state of a table has a name.
@@ -409,5 +409,26 @@ fn is_name_among(states: &[StateSpec], name: &[u8]) -> bool
 fn have_name(states: &[StateSpec], name: &[u8]) -> bool
     ensures { result ≡ list_any (λ s. bytes_eq s.name name.now) states.now }
 {
-    states.iter().any(|other| other.name.as_bytes() == name)
+    states
+        .iter()
+        .any(|other| is_same(other.name.as_bytes(), name))
+}
+
+/// Whether two names are the same. Most that are as long differ near the front.
+#[inline(always)]
+fn is_same(one: &[u8], other: &[u8]) -> bool
+    ensures { result ≡ bytes_eq one.now other.now }
+{
+    one.len() == other.len() && begin_alike(one, other) && one == other
+}
+
+/// Whether the first bytes of two names are the same, where both have so many.
+#[inline(always)]
+fn begin_alike(one: &[u8], other: &[u8]) -> bool
+    ensures { result ≡ false → bytes_eq one.now other.now ≡ false }
+{
+    match (one.first_chunk::<16>(), other.first_chunk::<16>()) {
+        (Some(front), Some(begin)) => *front == *begin,
+        _ => true,
+    }
 }
