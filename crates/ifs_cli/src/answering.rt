@@ -85,7 +85,7 @@ pub fn on_file<R: Files + Print + Alloc<A = Global>>(
     if let (Some(image), Some(file)) = (image, file) {
         output_at(rt, task, image, file.as_slice())?;
     }
-    rt.print(&text)?;
+    rt.write_all(text.as_bytes())?;
     Ok(if status == 0 {
         Ending::Done
     } else {

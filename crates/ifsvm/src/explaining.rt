@@ -68,6 +68,6 @@ fn explain_reply<R: Net + Clock + Print + Alloc<A = Global>>(
     let Ok(text) = explain(rt.alloc(), verified.image(), reply, explained) else {
         return out_of_memory(rt, Task::Verify);
     };
-    rt.print(&text)?;
+    rt.write_all(text.as_bytes())?;
     Ok(Ending::Done)
 }
