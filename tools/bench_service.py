@@ -1,5 +1,6 @@
 """Times daemons over their sockets."""
 import os
+import random
 import socket
 import subprocess
 import time
@@ -11,7 +12,7 @@ from bench_tables import cell, heading
 # a connection has room for 448 steps
 A_CONNECTION = 440
 # so many rounds are made, of which the fastest counts: of full connections, connections of one line, and runs of send
-ROUNDS = 5
+ROUNDS = 25
 CONNECTIONS = 40
 ALONE = 1_000
 SENT = 40
@@ -59,11 +60,18 @@ def round_of(exchange, parts):
     return time.perf_counter() - start, done
 
 
+def turn(exchanges, parts):
+    """A round of each daemon, in an order made by chance, since the first one is often slower."""
+    order = random.sample(range(len(exchanges)), len(exchanges))
+    made = {number: round_of(exchanges[number], parts) for number in order}
+    return [made[number] for number in range(len(exchanges))]
+
+
 def timed(what, exchanges, parts):
     """A line of the table: how long a request took in the fastest round of each daemon, and whether all were
     answered."""
     count = sum(part.count(b"\n") for part in parts)
-    rounds = [[round_of(exchange, parts) for exchange in exchanges] for _ in range(ROUNDS)]
+    rounds = [turn(exchanges, parts) for _ in range(ROUNDS)]
     least = [min(seconds for seconds, _ in each) for each in zip(*rounds)]
     done = min(done for each in rounds for _, done in each)
     told = "" if done == count else f"  NOT ALL ANSWERED: {done:,} of {count:,}"
