@@ -4,7 +4,7 @@ import shutil
 import subprocess
 import sys
 
-TOP = os.path.realpath(os.path.join(os.path.dirname(os.path.abspath(__file__)), ".."))
+TOP = os.path.realpath(os.path.join(os.path.dirname(os.path.abspath(__file__)), "..", ".."))
 MADE = os.path.join("crates", "ifsvm", "out", "ifsvm")
 PROGRAM = os.path.join(TOP, MADE)
 KEPT = os.path.join(TOP, "out", "against")
