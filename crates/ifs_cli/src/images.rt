@@ -11,11 +11,12 @@ use std::rt::Files;
 
 /// Writes an image to a path. A regular file is written whole or not at all: a new file takes its place,
 /// with its mode; whatever fails before that, the old one stands and no other file is left. Then the folder is synced, so that
-/// the new file stands after a loss of power as well; where that fails it stands, and the error is told. Where a link leads to
-/// a file, that file is replaced and the link stays. What is no regular file is written as it stands.
+/// the new file stands after a loss of power as well. Where a link leads to a file, that file is replaced and the link stays. What
+/// is no regular file is written as it stands.
 ///
 /// An error is the first call of the system that failed: of a link that leads nowhere, of a folder in place
-/// of a file, of a folder that is missing or full. Want of memory is an error too.
+/// of a file, of a folder that is missing or full. Want of memory is an error too. Where the folder cannot be synced the new file
+/// stands; that is an error as well, but where its user may not read the folder or its system syncs none.
 pub fn write_image<R: Files + Alloc<A = Global>>(
     rt: &R,
     path: &str,
