@@ -11,7 +11,7 @@ use crate::labels::put_label;
 use crate::refusing::Told;
 use crate::task::Answer;
 use ifs_lex::tokens;
-use ifs_policy::{Policy, PolicyFault, policy_of};
+use ifs_policy::{Policy, PolicyFault, PolicyText, policy_of};
 use std::alloc::{AllocError, Global};
 
 /// The answer of `graph`: a node for each state of a policy, the initial one with two borders, and an edge for each
@@ -30,10 +30,22 @@ pub fn graph(alloc: Global, bytes: &[u8], defs: &[(&str, &str)]) -> Result<Answe
         Err(fault) => return Answer::refused(alloc, fault),
     };
     match policy_of(alloc, text, defs) {
-        Ok(found) => drawn(alloc, text, defs, &found.policy),
+        Ok(found) => answered(alloc, text, defs, found),
         Err(PolicyFault::Memory) => Err(AllocError),
         Err(fault) => Answer::refused(alloc, Told(fault)),
     }
+}
+
+/// The answer to a policy.
+fn answered(
+    alloc: Global,
+    text: &str,
+    defs: &[(&str, &str)],
+    found: PolicyText,
+) -> Result<Answer, AllocError>
+    ensures good { IfOk result (λ answer. (answer.status ≡ 0) × (answer.file ≡ None)) }
+{
+    drawn(alloc, text, defs, &found.policy)
 }
 
 /// The answer that is a policy's picture.

@@ -9,7 +9,7 @@ use crate::children::PLACES;
 use crate::quoting::Quoted;
 use crate::runner::{RunFault, Runner, Waited};
 use crate::runner_host::RunnerHost;
-use log::{Log, error, info, warn};
+use log::{Level, Log, error, log, warn};
 use std::alloc::{AllocError, Global};
 use std::marker::Model;
 use std::os::unix::process::ExitStatusExt;
@@ -96,8 +96,7 @@ impl<'a, R: Processes + Clock + Alloc<A = Global>, L: Log> RunnerHost<ShellRunne
 
 /// Starts the shell and waits for its end. An error is why commands and tests would not run here.
 pub fn try_shell<R: Processes + Alloc<A = Global>>(rt: &R) -> io::Result<()> {
-    let status = command_of(rt.alloc(), ":")?.status(rt)?;
-    if status.success() {
+    if status_of(rt, ":")?.success() {
         Ok(())
     } else {
         Err(io::Error::other("it did not end with success"))
@@ -111,18 +110,17 @@ impl<'a, R: Processes + Clock + Alloc<A = Global>, L: Log> ShellRunner<'a, R, L>
         Ok(ShellTest {
             text: String::from_str(alloc, text)?,
             began: Instant::now(self.runtime).ok(),
-            child: command_of(alloc, text)?.spawn(self.runtime)?,
+            child: spawned(self.runtime, text)?,
             late: false,
         })
     }
 
     /// Runs a command to its end.
     fn ended(&self, text: &str) -> io::Result<Ended> {
-        let mut command = command_of(self.runtime.alloc(), text)?;
         match self.limits.command {
-            Some(limit) => ended_within(self.runtime, command.spawn(self.runtime)?, limit),
+            Some(limit) => ended_within(self.runtime, spawned(self.runtime, text)?, limit),
             None => Ok(Ended {
-                status: command.status(self.runtime)?,
+                status: status_of(self.runtime, text)?,
                 killed: false,
             }),
         }
@@ -149,30 +147,44 @@ impl<'a, R: Processes + Clock + Alloc<A = Global>, L: Log> ShellRunner<'a, R, L>
             return;
         }
         test.late = true;
-        match test.child.kill() {
-            Ok(()) => warn!(self.notes; "test {}: killed at its limit", Quoted(test.text.as_str())),
-            Err(error) => {
-                warn!(self.notes; "test {}: not killed at its limit: {error}", Quoted(test.text.as_str()))
-            }
-        }
+        let killed = test.child.kill();
+        note_kill(self.notes, test.text.as_str(), killed);
     }
 
     /// Notes how a command ended, which was started at this moment.
     fn note_end(&self, text: &str, ended: Ended, began: Option<Instant>) {
-        let text = Quoted(text);
-        let code = code_of(ended.status);
-        let millis = began
+        let lasted = began
             .and_then(|began| began.elapsed(self.runtime).ok())
-            .unwrap_or_default()
-            .as_millis();
-        if ended.killed {
-            warn!(self.notes; "command {text}: killed at its limit, exit {code} after {millis} ms");
-        } else if code == 0 {
-            info!(self.notes; "command {text}: exit 0 after {millis} ms");
-        } else {
-            warn!(self.notes; "command {text}: exit {code} after {millis} ms");
-        }
+            .unwrap_or_default();
+        note_ended(self.notes, text, ended, lasted);
     }
+}
+
+/// Notes whether a test could be killed.
+fn note_kill(notes: &impl Log, text: &str, killed: io::Result<()>) {
+    let text = Quoted(text);
+    match killed {
+        Ok(()) => warn!(notes; "test {text}: killed at its limit"),
+        Err(error) => warn!(notes; "test {text}: not killed at its limit: {error}"),
+    }
+}
+
+/// Notes how a command ended, which ran so long.
+fn note_ended(notes: &impl Log, text: &str, ended: Ended, lasted: Duration) {
+    let text = Quoted(text);
+    let code = code_of(ended.status);
+    let millis = lasted.as_millis();
+    let killed = if ended.killed {
+        "killed at its limit, "
+    } else {
+        ""
+    };
+    let level = if ended.killed || code != 0 {
+        Level::Warn
+    } else {
+        Level::Info
+    };
+    log!(notes; level, "command {text}: {killed}exit {code} after {millis} ms");
 }
 
 /// Whether what was started at this moment has run as long as it may.
@@ -223,6 +235,16 @@ fn command_of(alloc: Global, text: &str) -> Result<Command, AllocError>
         .stdout(Stdio::null())
         .stderr(Stdio::null());
     Ok(command)
+}
+
+/// Starts the shell on a text.
+fn spawned<R: Processes + Alloc<A = Global>>(rt: &R, text: &str) -> io::Result<Child<R::Started>> {
+    command_of(rt.alloc(), text)?.spawn(rt)
+}
+
+/// Runs the shell on a text to its end.
+fn status_of<R: Processes + Alloc<A = Global>>(rt: &R, text: &str) -> io::Result<ExitStatus> {
+    command_of(rt.alloc(), text)?.status(rt)
 }
 
 /// What is answered of a program whose status is this; it still runs where it has none.
