@@ -126,18 +126,38 @@ fn serve_at<'m, R: Files + Net + Processes + Clock + Print + Alloc<A = Global>, 
     core: Core<'m>,
     socket: &str,
 ) -> io::Result<Result<Ending, Ending>> {
+    let (listener, made) = bound(rt, socket)?;
+    let ending = serve_by(rt, notes, service, &listener, core, socket);
+    remove_made(rt, socket, made).and(ending)
+}
+
+/// Makes a socket, and tells which file it is.
+fn bound(rt: &(impl Files + Net), socket: &str) -> io::Result<(UnixListener, FileNumber)> {
     let listener = UnixListener::bind(rt, socket)?;
     let made = FileNumber::at(rt, socket)?;
-    let ending = match keep_from_others(rt, socket) {
-        Ok(()) => Ok(service.begin(rt, notes, &listener, core)),
-        Err(error) => Err(error),
-    };
-    match FileNumber::at(rt, socket) {
-        Ok(now) if now == made => fs::remove_file(rt, socket)?,
-        Err(error) if error.kind() != ErrorKind::NotFound => return Err(error),
-        _ => {}
+    Ok((listener, made))
+}
+
+/// Serves the clients of a socket that is there.
+fn serve_by<'m, R: Files + Net + Processes + Clock + Print + Alloc<A = Global>, L: Log>(
+    rt: &R,
+    notes: &L,
+    service: &mut Service<'m, '_, '_, '_, R, L>,
+    listener: &UnixListener,
+    core: Core<'m>,
+    socket: &str,
+) -> io::Result<Result<Ending, Ending>> {
+    keep_from_others(rt, socket)?;
+    Ok(service.begin(rt, notes, listener, core))
+}
+
+/// Removes a socket's file where it is still this one.
+fn remove_made(files: &impl Files, socket: &str, made: FileNumber) -> io::Result<()> {
+    match FileNumber::at(files, socket) {
+        Ok(now) if now == made => fs::remove_file(files, socket),
+        Err(error) if error.kind() != ErrorKind::NotFound => Err(error),
+        _ => Ok(()),
     }
-    ending
 }
 
 /// Which file a path leads to.
