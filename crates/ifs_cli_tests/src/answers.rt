@@ -59,11 +59,22 @@ fn check_upgrade(
     let bytes = bytes_of(alloc, image)?;
     let wanted = bytes_of(alloc, upgraded)?;
     let answer = answer(alloc, Task::Upgrade, bytes.as_slice(), &[])?;
+    check_image(rt, alloc, name, &answer, wanted.as_slice())
+}
+
+/// An answer is the length of an image, which is the file.
+fn check_image(
+    rt: &impl Abort,
+    alloc: Global,
+    name: &str,
+    answer: &Answer,
+    wanted: &[u8],
+) -> Result<(), Fail> {
     let line = format!(in alloc; "ok {} bytes\n", wanted.len())?;
     assert_eq!(rt; answer.text.as_str(), line.as_str(), "{name}");
     assert_eq!(rt; answer.status, 0, "{name}");
     match &answer.file {
-        Some(file) => assert_eq!(rt; file.as_slice(), wanted.as_slice(), "{name}"),
+        Some(file) => assert_eq!(rt; file.as_slice(), wanted, "{name}"),
         None => panic!(rt; "no image: {name}"),
     }
     Ok(())

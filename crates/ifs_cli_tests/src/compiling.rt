@@ -181,9 +181,13 @@ fn first_policy_is_generated(rt: HostRuntime) -> Result<(), Fail> {
 fn first_policy_is_opened(rt: HostRuntime) -> Result<(), Fail> {
     let mut image = Vec::new(rt.alloc());
     let core = compiled_core(rt.alloc(), first_text(), &[], &mut image)?;
+    check_first_core(&rt, &core);
+    Ok(())
+}
+
+fn check_first_core(rt: &impl Abort, core: &Core<'_>) {
     assert_eq!(rt; core.image().budgets().cost, 7);
     assert_eq!(rt; core.state_name(core.state()), Some("a"));
-    Ok(())
 }
 
 /// The first time that its link is told as up its one command is queued, the second time nothing is new.

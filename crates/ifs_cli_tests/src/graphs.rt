@@ -1,7 +1,9 @@
 //! The pictures of policies.
 
 use ifs_cli::answering::answer;
-use ifs_cli::task::Task;
+use ifs_cli::task::{Answer, Task};
+use std::alloc::Global;
+use std::process::Abort;
 use std::test::Fail;
 
 /// A policy with its definitions, and the lines of its picture between the first two and the last.
@@ -90,22 +92,28 @@ const DRAWN: &[Drawn] = &[
     },
 ];
 
+fn check_picture(
+    rt: &impl Abort,
+    alloc: Global,
+    drawn: &Drawn,
+    picture: &Answer,
+) -> Result<(), Fail> {
+    let wanted = format!(in alloc;
+        "digraph policy {{\n\tnode [shape=box]\n{}}}\n",
+        drawn.lines
+    )?;
+    assert_eq!(rt; picture.text.as_str(), wanted.as_str(), "{}", drawn.name);
+    assert_eq!(rt; picture.status, 0, "{}", drawn.name);
+    assert!(rt; picture.file.is_none(), "{}", drawn.name);
+    Ok(())
+}
+
 #[test]
 fn pictures(rt: HostRuntime) -> Result<(), Fail> {
     for drawn in DRAWN {
-        let picture = answer(
-            rt.alloc(),
-            Task::Graph,
-            drawn.text.as_bytes(),
-            drawn.definitions,
-        )?;
-        let wanted = format!(in rt.alloc();
-            "digraph policy {{\n\tnode [shape=box]\n{}}}\n",
-            drawn.lines
-        )?;
-        assert_eq!(rt; picture.text.as_str(), wanted.as_str(), "{}", drawn.name);
-        assert_eq!(rt; picture.status, 0, "{}", drawn.name);
-        assert!(rt; picture.file.is_none(), "{}", drawn.name);
+        let policy = drawn.text.as_bytes();
+        let picture = answer(rt.alloc(), Task::Graph, policy, drawn.definitions)?;
+        check_picture(&rt, rt.alloc(), drawn, &picture)?;
     }
     Ok(())
 }

@@ -136,16 +136,17 @@ fn start_all(host: &mut Staged<'_>, starts: &[Started]) {
     }
 }
 
+fn check_poll(rt: &impl Abort, host: &mut Staged<'_>, wanted: Option<(TestId, u64, bool)>) {
+    let found = host.poll();
+    assert_eq!(rt; found, wanted);
+}
+
 /// Asserts that these ends are told, in order, and then none.
 fn check_polls(rt: &impl Abort, host: &mut Staged<'_>, ends: &[(u16, u64, bool)]) {
     for (test, run, value) in ends {
-        assert_eq!(rt;
-            host.poll(),
-            Some((TestId(*test), *run, *value)),
-            "run {run}"
-        );
+        check_poll(rt, host, Some((TestId(*test), *run, *value)));
     }
-    assert_eq!(rt; host.poll(), None);
+    check_poll(rt, host, None);
 }
 
 /// The first started that has ended is told first, each once; one that sleeps goes on.
@@ -220,6 +221,16 @@ fn places(rt: HostRuntime) -> Result<(), Fail> {
     Ok(())
 }
 
+fn check_command(
+    rt: &impl Abort,
+    host: &mut Staged<'_>,
+    text: &str,
+    wanted: Result<i32, HostFault>,
+) {
+    let found = host.run(text);
+    assert_eq!(rt; found, wanted, "{text}");
+}
+
 fn check_commands(rt: &impl Abort, host: &mut Staged<'_>) {
     for (text, wanted) in [
         ("exit 0", Ok(0)),
@@ -228,7 +239,7 @@ fn check_commands(rt: &impl Abort, host: &mut Staged<'_>) {
         ("no program", Err(HostFault)),
         ("lost", Err(HostFault)),
     ] {
-        assert_eq!(rt; host.run(text), wanted, "{text}");
+        check_command(rt, host, text, wanted);
     }
 }
 
@@ -328,11 +339,11 @@ fn limits(rt: HostRuntime) -> Result<(), Fail> {
         test: Some(Duration::from_secs(3)),
     };
     let mut host = Shell::new(&stage, &notes, limits)?;
-    assert_eq!(rt; host.run("sleep 60"), Ok(137));
-    assert_eq!(rt; host.run("exit 0"), Ok(0));
+    check_command(&rt, &mut host, "sleep 60", Ok(137));
+    check_command(&rt, &mut host, "exit 0", Ok(0));
     start_all(&mut host, &[(0, 1, "sleep 60")]);
     for _early in 0..3 {
-        assert_eq!(rt; host.poll(), None);
+        check_poll(&rt, &mut host, None);
     }
     check_polls(&rt, &mut host, &[(0, 1, false)]);
     drop(host);

@@ -3,17 +3,21 @@
 use ifs_asm::assemble;
 use ifs_base::{IfaceId, LinkState, StateId};
 use ifs_core::{Core, Reply, Step};
-use ifs_image::write;
+use ifs_image::{Image, write};
 use ifs_rows::{LARGEST_BYTES, largest_listing};
 use ifs_verify::{Verified, verify};
 use std::alloc::Global;
 use std::process::Abort;
 use std::test::Fail;
 
+fn written(alloc: Global, image: &Image) -> Result<Vec<u8>, Fail> {
+    Ok(write(alloc, image)?)
+}
+
 /// The bytes of the image that a text spells.
-fn bytes_in(alloc: Global, text: &str) -> Result<Vec<u8>, Fail> {
+pub(crate) fn bytes_in(alloc: Global, text: &str) -> Result<Vec<u8>, Fail> {
     let image = assemble(alloc, text)?;
-    Ok(write(alloc, &image)?)
+    written(alloc, &image)
 }
 
 fn opened<'a>(alloc: Global, verified: Verified<'a>) -> Result<Core<'a>, Fail> {

@@ -7,10 +7,10 @@ ghost use Rattle.ifs_machine.specs.Views.{facts_of};
 
 mod plain;
 
+use crate::largest::bytes_in;
 use arrayvec::ArrayVec;
-use ifs_asm::assemble;
 use ifs_base::LinkState;
-use ifs_image::{ImageParts, ImageView, read, write};
+use ifs_image::{ImageParts, ImageView, read};
 use ifs_machine::{Effects, Facts, laws, run_handler};
 use ifs_rows::{bytes_of, images};
 use ifs_verify::{Verified, verify};
@@ -66,34 +66,38 @@ fn front_of(alloc: Global, routine: usize) -> Result<String, AllocError> {
 fn spelled_in_two(alloc: Global, routines: &[(&str, &str)]) -> Result<Vec<u8>, Fail> {
     let front = front_of(alloc, routines.len().saturating_sub(1))?;
     let rest = front.as_str().strip_prefix("ifsv 1\n").ok_or("a front")?;
-    let mut text = format!(in alloc; "ifsv 2\n{rest}")?;
+    let text = text_in_two(alloc, rest, routines)?;
+    bytes_in(alloc, text.as_str())
+}
+
+fn text_in_two(alloc: Global, rest: &str, routines: &[(&str, &str)]) -> Result<String, AllocError> {
+    let mut text = String::from_str(alloc, "ifsv 2\n")?;
+    text.push_str(rest)?;
     for (kinds, code) in routines {
-        text.push_str(format!(in alloc; "routine {kinds}\n")?.as_str())?;
+        writeln!(text, "routine {kinds}")?;
         put_code(&mut text, code)?;
     }
-    let image = assemble(alloc, text.as_str())?;
-    Ok(write(alloc, &image)?)
+    Ok(text)
 }
 
 /// The bytes of an image whose handlers are all the last of these routines. All but it have one result.
 fn spelled(alloc: Global, routines: &[&str]) -> Result<Vec<u8>, Fail> {
+    let text = text_of(alloc, routines)?;
+    bytes_in(alloc, text.as_str())
+}
+
+fn text_of(alloc: Global, routines: &[&str]) -> Result<String, AllocError> {
     let last = routines.len().saturating_sub(1);
     let mut text = front_of(alloc, last)?;
     for (index, code) in routines.iter().enumerate() {
-        put_routine(alloc, &mut text, if index < last { 1 } else { 0 }, code)?;
+        put_routine(&mut text, if index < last { 1 } else { 0 }, code)?;
     }
-    let image = assemble(alloc, text.as_str())?;
-    Ok(write(alloc, &image)?)
+    Ok(text)
 }
 
 /// Puts the lines of a routine, whose instructions have commas between them.
-fn put_routine(
-    alloc: Global,
-    text: &mut String,
-    results: u8,
-    code: &str,
-) -> Result<(), AllocError> {
-    text.push_str(format!(in alloc; "routine results {results}\n")?.as_str())?;
+fn put_routine(text: &mut String, results: u8, code: &str) -> Result<(), AllocError> {
+    writeln!(text, "routine results {results}")?;
     put_code(text, code)
 }
 
@@ -170,8 +174,18 @@ fn ran(
     facts: ([LinkState; 2], [Option<bool>; 2]),
 ) -> Result<plain::Ending, Fail> {
     let verified = verify(alloc, image)?;
+    ran_beside(rt, alloc, image, &verified, facts)
+}
+
+fn ran_beside(
+    rt: &impl Abort,
+    alloc: Global,
+    image: &[u8],
+    verified: &Verified<'_>,
+    facts: ([LinkState; 2], [Option<bool>; 2]),
+) -> Result<plain::Ending, Fail> {
     let copied = read(alloc, image)?;
-    compared(rt, alloc, &verified, copied.parts(), facts)
+    compared(rt, alloc, verified, copied.parts(), facts)
 }
 
 /// The run of the last of these routines, which is every handler.
@@ -463,12 +477,26 @@ fn compared_twice(
 /// Whether a routine is accepted; then it runs as the slow program says.
 fn small(rt: &impl Abort, alloc: Global, code: &str) -> Result<bool, Fail> {
     let image = spelled(alloc, &[code])?;
-    let Ok(verified) = verify(alloc, image.as_slice()) else {
+    agrees(rt, alloc, image.as_slice())
+}
+
+/// Whether an image is accepted; then its always body runs as the slow program says.
+fn agrees(rt: &impl Abort, alloc: Global, image: &[u8]) -> Result<bool, Fail> {
+    let Ok(verified) = verify(alloc, image) else {
         return Ok(false);
     };
-    let copied = read(alloc, image.as_slice())?;
-    compared_twice(rt, alloc, &verified, copied.parts())?;
+    compared_with_copy(rt, alloc, image, &verified)?;
     Ok(true)
+}
+
+fn compared_with_copy(
+    rt: &impl Abort,
+    alloc: Global,
+    image: &[u8],
+    verified: &Verified<'_>,
+) -> Result<(), Fail> {
+    let copied = read(alloc, image)?;
+    compared_twice(rt, alloc, verified, copied.parts())
 }
 
 /// How many of the routines of this length are accepted, of which there are so many.

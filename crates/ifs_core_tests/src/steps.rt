@@ -249,11 +249,16 @@ fn readers_of_tests(rt: HostRuntime) {
     check_test(&rt, &opened(&rt, rt.alloc(), image.as_slice()));
 }
 
+/// A step names what is not in its table.
+fn check_no_such(rt: &impl Abort, core: &mut Core<'_>, step: Step) {
+    let reply = core.step(step);
+    assert!(rt; matches!(reply, Reply::NoSuch));
+}
+
 /// An interface that is not in the table.
 #[test]
 fn no_such_interface(rt: HostRuntime) {
     let image = bytes_in(&rt, rt.alloc(), images::HELD_BACK);
     let mut core = opened(&rt, rt.alloc(), image.as_slice());
-    let reply = core.step(Step::Link(IfaceId(1), LinkState::Up));
-    assert!(rt; matches!(reply, Reply::NoSuch));
+    check_no_such(&rt, &mut core, Step::Link(IfaceId(1), LinkState::Up));
 }

@@ -2,8 +2,8 @@
 
 use ifs_base::{CommandId, IfaceId, Items, Kind, LinkState, Op, RoutineId, StateId, Text};
 use ifs_image::{
-    Budgets, Handlers, Image, ImageFault, ImageParts, Kinds, Routine, StateSpec, read, upgrade,
-    view, write,
+    Budgets, Handlers, Image, ImageFault, ImageParts, Kinds, Routine, StateSpec, TestSpec, read,
+    upgrade, view, write,
 };
 use ifs_rows::{bytes_of, images, rows, version_two};
 use std::alloc::{AllocError, Global};
@@ -145,18 +145,37 @@ fn fault_text(alloc: Global, bytes: &[u8]) -> Result<String, Fail> {
     Ok(format!(in alloc; "{fault}")?)
 }
 
-fn check_fault(rt: &impl Abort, alloc: Global, image: &str, row: &str) -> Result<(), Fail> {
-    let (change, expected) = row.split_once(": ").ok_or("a change and a fault")?;
+/// The bytes of an image with the change that a row begins with.
+fn changed_by(alloc: Global, image: &str, change: &str) -> Result<Vec<u8>, Fail> {
     let mut words = change.split(' ');
     let at = words.next().ok_or("an offset")?.parse::<usize>()?;
     let removed = words.next().ok_or("a number of bytes")?.parse::<usize>()?;
     let put = words.next().ok_or("bytes")?;
-    let bytes = image_changed(alloc, image, at, removed, put)?;
-    let told = fault_text(alloc, bytes.as_slice())?;
+    image_changed(alloc, image, at, removed, put)
+}
+
+fn check_told(
+    rt: &impl Abort,
+    alloc: Global,
+    bytes: &[u8],
+    expected: &str,
+    row: &str,
+) -> Result<(), Fail> {
+    let told = fault_text(alloc, bytes)?;
     assert_eq!(rt; told.as_str(), expected, "{row}");
-    let seen = view(alloc, bytes.as_slice()).err();
-    assert_eq!(rt; seen, read(alloc, bytes.as_slice()).err(), "{row}");
     Ok(())
+}
+
+/// Whether the image is read or seen, it has the same fault.
+fn check_seen(rt: &impl Abort, alloc: Global, bytes: &[u8], row: &str) {
+    assert_eq!(rt; view(alloc, bytes).err(), read(alloc, bytes).err(), "{row}");
+}
+
+fn check_fault(rt: &impl Abort, alloc: Global, image: &str, row: &str) -> Result<(), Fail> {
+    let (change, expected) = row.split_once(": ").ok_or("a change and a fault")?;
+    let bytes = changed_by(alloc, image, change)?;
+    check_seen(rt, alloc, bytes.as_slice(), row);
+    check_told(rt, alloc, bytes.as_slice(), expected, row)
 }
 
 /// Each row of an image.
@@ -299,17 +318,26 @@ fn tests_and_commands_may_repeat(rt: HostRuntime) -> Result<(), Fail> {
     Ok(())
 }
 
+/// So many texts, which are all this one.
+fn check_texts(rt: &impl Abort, texts: &[Text], count: usize, wanted: &str) {
+    assert_eq!(rt; texts.len(), count);
+    for text in texts {
+        assert_eq!(rt; text.as_str(), wanted);
+    }
+}
+
+fn check_test(rt: &impl Abort, test: &TestSpec, period: u32, text: &str) {
+    assert_eq!(rt; test.period, period);
+    assert_eq!(rt; test.text.as_str(), text);
+}
+
 /// Two tests of the longest period and two commands, of one text each.
 fn check_repeated(rt: &impl Abort, image: &Image) {
     for test in image.parts().tests.as_slice() {
-        assert_eq!(rt; test.period, 604_800);
-        assert_eq!(rt; test.text.as_str(), "x");
-    }
-    for text in image.parts().commands.as_slice() {
-        assert_eq!(rt; text.as_str(), "y");
+        check_test(rt, test, 604_800, "x");
     }
     assert_eq!(rt; image.parts().tests.len(), 2);
-    assert_eq!(rt; image.parts().commands.len(), 2);
+    check_texts(rt, image.parts().commands.as_slice(), 2, "y");
 }
 
 /// The body of the first run.
@@ -388,15 +416,9 @@ fn check_front(rt: &impl Abort, parts: &ImageParts) {
         commands: 1,
     };
     assert_eq!(rt; parts.budgets, budgets);
-    assert_eq!(rt; parts.interfaces.len(), 1);
-    for name in parts.interfaces.as_slice() {
-        assert_eq!(rt; name.as_str(), "carp0");
-    }
+    check_texts(rt, parts.interfaces.as_slice(), 1, "carp0");
     assert!(rt; parts.tests.is_empty());
-    assert_eq!(rt; parts.commands.len(), 1);
-    for text in parts.commands.as_slice() {
-        assert_eq!(rt; text.as_str(), "echo m");
-    }
+    check_texts(rt, parts.commands.as_slice(), 1, "echo m");
 }
 
 fn check_state(rt: &impl Abort, parts: &ImageParts, init: u16, body: u16) {
@@ -495,13 +517,18 @@ const FITTING: [(u8, (Kind, usize), (Kind, usize), bool); 13] = [
     (255, (Kind::Truth, 0), (Kind::Truth, 0), false),
 ];
 
+/// Whether parts fit whose only routine takes and leaves these kinds.
+fn version_fits(alloc: Global, version: u8, taken: Kinds, left: Kinds) -> Result<bool, Fail> {
+    Ok(parts_with(alloc, 0, version, taken, left)?.fits())
+}
+
 #[test]
 fn what_fits_a_version(rt: HostRuntime) -> Result<(), Fail> {
     for (version, (param, params), (result, results), fits) in FITTING {
         let taken = kinds_of(param, params);
         let left = kinds_of(result, results);
-        let parts = parts_with(rt.alloc(), 0, version, taken, left)?;
-        assert_eq!(rt; parts.fits(), fits, "{version} {params} {results}");
+        let found = version_fits(rt.alloc(), version, taken, left)?;
+        assert_eq!(rt; found, fits, "{version} {params} {results}");
     }
     Ok(())
 }

@@ -165,14 +165,28 @@ fn check_code(
     Ok(())
 }
 
+/// A view tells what a copy of its bytes does.
+fn check_seen(rt: &impl Abort, alloc: Global, bytes: &[u8]) -> Result<(), Fail> {
+    let seen = view(alloc, bytes)?;
+    check_copied(rt, alloc, bytes, &seen)
+}
+
+fn check_copied(
+    rt: &impl Abort,
+    alloc: Global,
+    bytes: &[u8],
+    seen: &ImageView<'_>,
+) -> Result<(), Fail> {
+    let copied = read(alloc, bytes)?;
+    check_same(rt, seen, &copied)
+}
+
 /// A view of each row tells what a copy of it does.
 #[test]
 fn every_row_seen(rt: HostRuntime) -> Result<(), Fail> {
     for row in rows() {
         let bytes = bytes_of(rt.alloc(), row.image)?;
-        let seen = view(rt.alloc(), bytes.as_slice())?;
-        let copied = read(rt.alloc(), bytes.as_slice())?;
-        check_same(&rt, &seen, &copied)?;
+        check_seen(&rt, rt.alloc(), bytes.as_slice())?;
     }
     Ok(())
 }

@@ -1,9 +1,10 @@
 //! The largest text, with as many tokens, definitions and entries of each table as there may be: nothing but memory is
 //! in its way.
 
+use crate::policies::counted;
 use ifs_lex::tokens;
 use ifs_parse::parse;
-use ifs_policy::{Counts, policy_of, resolve};
+use ifs_policy::{Counts, policy_of};
 use ifs_rows::{definitions_in, largest_definitions, largest_policy};
 use std::alloc::Global;
 use std::process::Abort;
@@ -23,9 +24,7 @@ fn items_in(alloc: Global, text: &str, defs: &[(&str, &str)]) -> Result<usize, F
 
 /// How many entries the tables of a text's tree have.
 fn resolved_in(alloc: Global, text: &str, defs: &[(&str, &str)]) -> Result<Counts, Fail> {
-    let tokens = tokens(alloc, text, defs)?;
-    let tree = parse(alloc, tokens.as_slice())?;
-    Ok(resolve(alloc, &tree)?.counts())
+    Ok(counted(alloc, text, defs)??)
 }
 
 /// How many entries the tables of a text have.

@@ -20,16 +20,29 @@ fn resolved(
     Ok(resolve(alloc, &tree))
 }
 
+/// What is said of the policy of a text that has a tree, or of its refusal. Only here does one go, so that this is proved once.
+fn said_of<T, F: FnOnce(&Result<Policy, ResolveFault>) -> T>(
+    alloc: Global,
+    text: &str,
+    defs: &[(&str, &str)],
+    say: F,
+) -> Result<T, Fail>
+    requires { F.IsAlwaysCallable say }
+{
+    let found = resolved(alloc, text, defs)?;
+    Ok(say(&found))
+}
+
 /// The counts of a text that has a policy, or its refusal.
-fn counted(
+pub(crate) fn counted(
     alloc: Global,
     text: &str,
     defs: &[(&str, &str)],
 ) -> Result<Result<Counts, ResolveFault>, Fail> {
-    match resolved(alloc, text, defs)? {
-        Ok(policy) => Ok(Ok(policy.counts())),
-        Err(fault) => Ok(Err(fault)),
-    }
+    said_of(alloc, text, defs, |found| match found {
+        Ok(policy) => Ok(policy.counts()),
+        Err(fault) => Err(*fault),
+    })
 }
 
 /// The line that is printed last of a text: its counts, or its refusal.
@@ -76,6 +89,10 @@ fn shown(text: Option<&Text>) -> &str {
     }
 }
 
+fn check_text(rt: &impl Abort, table: &str, index: u16, found: Option<&Text>, wanted: &str) {
+    assert_eq!(rt; shown(found), wanted, "{table} {index}");
+}
+
 fn check_test(rt: &impl Abort, policy: &Policy, index: u16, command: &str, period: u32) {
     match policy.test(TestId(index)) {
         Some(test) => {
@@ -88,21 +105,19 @@ fn check_test(rt: &impl Abort, policy: &Policy, index: u16, command: &str, perio
 
 fn check_numbers(rt: &impl Abort, policy: &Policy) {
     for (index, name) in [(0, "em1"), (1, "em0"), (2, "em2"), (3, "none")] {
-        assert_eq!(rt;
-            shown(policy.interface(IfaceId(index))),
+        check_text(
+            rt,
+            "interface",
+            index,
+            policy.interface(IfaceId(index)),
             name,
-            "interface {index}"
         );
     }
     for (index, text) in [(0, "y"), (1, "x"), (2, "z"), (3, "none")] {
-        assert_eq!(rt;
-            shown(policy.command(CommandId(index))),
-            text,
-            "command {index}"
-        );
+        check_text(rt, "command", index, policy.command(CommandId(index)), text);
     }
     for (index, name) in [(0, "b"), (1, "a"), (2, "c"), (3, "none")] {
-        assert_eq!(rt; shown(policy.state(StateId(index))), name, "state {index}");
+        check_text(rt, "state", index, policy.state(StateId(index)), name);
     }
     check_test(rt, policy, 0, "t", 7);
     check_test(rt, policy, 1, "u", 7);
@@ -118,9 +133,9 @@ fn numbers_by_first_use(rt: HostRuntime) -> Result<(), Fail> {
          if \"t\" every 007 && \"u\" every 7 && \"t\" every 8 || \"t\" every 7 run \"x\"\n\
          state a { run \"y\" if em2.link.up run \"z\" set-state b }\n\
          state c { }";
-    let found = resolved(rt.alloc(), text, &[])?;
-    check_numbers(&rt, policy_in(&rt, &found));
-    Ok(())
+    said_of(rt.alloc(), text, &[], |found| {
+        check_numbers(&rt, policy_in(&rt, found));
+    })
 }
 
 fn check_interface(rt: &impl Abort, policy: &Policy) {
@@ -131,9 +146,12 @@ fn check_interface(rt: &impl Abort, policy: &Policy) {
 /// Row *outside definitions*: a definition beside the text comes before the text's own.
 fn check_outside(rt: &impl Abort, alloc: Global, defs: &[(&str, &str)]) -> Result<(), Fail> {
     let text = "x = \"em0\" state a { if $x.link.up run \"r\" }";
-    let found = resolved(alloc, text, defs)?;
-    check_interface(rt, policy_in(rt, &found));
-    Ok(())
+    said_of(
+        alloc,
+        text,
+        defs,
+        |found| check_interface(rt, policy_in(rt, found)),
+    )
 }
 
 #[test]
@@ -150,9 +168,9 @@ fn check_command(rt: &impl Abort, policy: &Policy) {
 #[test]
 fn a_command_over_two_lines(rt: HostRuntime) -> Result<(), Fail> {
     let text = "state a { # note \\\nif em0.link.up run \"x\"\ninit run \"echo a\nb\" }";
-    let found = resolved(rt.alloc(), text, &[])?;
-    check_command(&rt, policy_in(&rt, &found));
-    Ok(())
+    said_of(rt.alloc(), text, &[], |found| {
+        check_command(&rt, policy_in(&rt, found));
+    })
 }
 
 fn runs(rt: &impl Abort, block: &PolicyBlock, wanted: &[u16], place: &str) {
@@ -190,9 +208,9 @@ fn check_parts(rt: &impl Abort, policy: &Policy) {
 fn parts_in_text_order(rt: HostRuntime) -> Result<(), Fail> {
     let text = "run \"0\" state a { run \"1\" init { run \"2\" run \"3\" } run \"4\" }\n\
          init run \"5\" state b { } run \"6\" init-state b";
-    let found = resolved(rt.alloc(), text, &[])?;
-    check_parts(&rt, policy_in(&rt, &found));
-    Ok(())
+    said_of(rt.alloc(), text, &[], |found| {
+        check_parts(&rt, policy_in(&rt, found));
+    })
 }
 
 /// What a condition asks, as a test's row writes it.
@@ -269,9 +287,9 @@ fn conditions_by_places(rt: HostRuntime) -> Result<(), Fail> {
     let text =
         "if b.link.up && ! a.link.down && ( \"t\" every 5 || b.link.unknown ) { set-state y run \"r\" }\n\
          state x { } state y { }";
-    let found = resolved(rt.alloc(), text, &[])?;
-    check_conditions(&rt, rt.alloc(), policy_in(&rt, &found));
-    Ok(())
+    said_of(rt.alloc(), text, &[], |found| {
+        check_conditions(&rt, rt.alloc(), policy_in(&rt, found));
+    })
 }
 
 /// A text with so many parts, each a number between two pieces, and then another piece.

@@ -321,27 +321,33 @@ const COMINGS: [(&str, &[usize], u32); 3] = [
     ("cut within lines", &[16, 16, 8], 5),
 ];
 
+/// Asserts how the replies to a row's requests go out, which come so after the line of its image.
+fn check_coming(rt: &impl Abort, alloc: Global, image: &[u8], coming: (&str, &[usize], u32)) {
+    let row = sessions::first_run();
+    let (name, lengths, flushes) = coming;
+    let shown = Cell::new(0);
+    let mut input = Waiting {
+        ready: image,
+        later: row.requests.as_bytes(),
+        lengths,
+        shown: &shown,
+        late: 0,
+    };
+    let mut output = Holding::new(alloc, &shown);
+    let answer = run_hex(alloc, &mut input, &mut output);
+    assert!(rt; answer.is_ok(), "{name}");
+    assert_eq!(rt; input.late, 0, "{name}");
+    assert_eq!(rt; output.flushes, flushes, "{name}");
+    check_gone(rt, &output, row.replies, name);
+}
+
 /// No reply is held back where a byte is waited for, nor at the end; and lines that stand ready are
 /// served without a flush between them.
 #[test]
 fn replies_go_out_before_a_wait(rt: HostRuntime) -> Result<(), Fail> {
-    let row = sessions::first_run();
-    let image = input_of(rt.alloc(), row.image, "")?;
-    for (name, lengths, flushes) in COMINGS {
-        let shown = Cell::new(0);
-        let mut input = Waiting {
-            ready: image.as_slice(),
-            later: row.requests.as_bytes(),
-            lengths,
-            shown: &shown,
-            late: 0,
-        };
-        let mut output = Holding::new(rt.alloc(), &shown);
-        let answer = run_hex(rt.alloc(), &mut input, &mut output);
-        assert!(rt; answer.is_ok(), "{name}");
-        assert_eq!(rt; input.late, 0, "{name}");
-        assert_eq!(rt; output.flushes, flushes, "{name}");
-        check_gone(&rt, &output, row.replies, name);
+    let image = input_of(rt.alloc(), sessions::first_run().image, "")?;
+    for coming in COMINGS {
+        check_coming(&rt, rt.alloc(), image.as_slice(), coming);
     }
     Ok(())
 }

@@ -143,8 +143,9 @@ fn each_write_before_a_reload_fails_in_turn(rt: HostRuntime) {
 }
 
 /// Asserts what is written once the image was read anew.
-fn check_line(rt: &impl Abort, core: &Core<'_>, output: &mut MemoryOut, line: &str) {
-    assert_eq!(rt; write_reloaded(core, output), Ok(()));
+fn check_line(rt: &impl Abort, alloc: Global, core: &Core<'_>, line: &str) {
+    let mut output = MemoryOut::new(alloc);
+    assert_eq!(rt; write_reloaded(core, &mut output), Ok(()));
     assert_eq!(rt; output.written(), line.as_bytes());
 }
 
@@ -153,11 +154,9 @@ fn check_line(rt: &impl Abort, core: &Core<'_>, output: &mut MemoryOut, line: &s
 fn lines_of_reloads(rt: HostRuntime) {
     let image = bytes_in(&rt, rt.alloc(), images::FIRST_RUN);
     let mut core = opened(&rt, rt.alloc(), image.as_slice());
-    let mut output = MemoryOut::new(rt.alloc());
-    check_line(&rt, &core, &mut output, "reloaded \"a\" queue 0\n");
+    check_line(&rt, rt.alloc(), &core, "reloaded \"a\" queue 0\n");
     queue_three(&mut core);
-    let mut output = MemoryOut::new(rt.alloc());
-    check_line(&rt, &core, &mut output, "reloaded \"a\" queue 3\n");
+    check_line(&rt, rt.alloc(), &core, "reloaded \"a\" queue 3\n");
 }
 
 /// In a name with a quote the quote is escaped; the init has queued a command.
@@ -165,8 +164,7 @@ fn lines_of_reloads(rt: HostRuntime) {
 fn a_quote_in_the_line_of_a_reload(rt: HostRuntime) {
     let image = bytes_in(&rt, rt.alloc(), QUOTES);
     let core = opened(&rt, rt.alloc(), image.as_slice());
-    let mut output = MemoryOut::new(rt.alloc());
-    check_line(&rt, &core, &mut output, "reloaded \"a \\\"\" queue 1\n");
+    check_line(&rt, rt.alloc(), &core, "reloaded \"a \\\"\" queue 1\n");
 }
 
 /// Asserts what a writer was given whose write after so many calls fails. Whether there was such a write.
@@ -182,18 +180,23 @@ fn is_line_cut(rt: &impl Abort, alloc: Global, core: &Core<'_>, calls: u64) -> b
     true
 }
 
-/// Each write of the line fails in turn.
-#[test]
-fn each_write_of_the_line_fails_in_turn(rt: HostRuntime) {
-    let image = bytes_in(&rt, rt.alloc(), images::FIRST_RUN);
-    let core = opened(&rt, rt.alloc(), image.as_slice());
+/// Asserts what writers were given whose writes fail after more and more calls, up to one that does not fail.
+fn check_cut_lines(rt: &impl Abort, alloc: Global, core: &Core<'_>) {
     for calls in 0..100 {
-        if !is_line_cut(&rt, rt.alloc(), &core, calls) {
+        if !is_line_cut(rt, alloc, core, calls) {
             assert!(rt; calls > 3, "{calls}");
             return;
         }
     }
     assert!(rt; false, "some call is past the last");
+}
+
+/// Each write of the line fails in turn.
+#[test]
+fn each_write_of_the_line_fails_in_turn(rt: HostRuntime) {
+    let image = bytes_in(&rt, rt.alloc(), images::FIRST_RUN);
+    let core = opened(&rt, rt.alloc(), image.as_slice());
+    check_cut_lines(&rt, rt.alloc(), &core);
 }
 
 /// A writer of which nothing goes out.
@@ -210,13 +213,15 @@ impl ByteOut for Stuck {
     }
 }
 
+fn check_stuck(rt: &impl Abort, core: &Core<'_>) {
+    let answer = write_reloaded(core, &mut Stuck);
+    assert_eq!(rt; answer, Err(SessionFault::WriteFailed));
+}
+
 /// A line that does not go out is a write that failed.
 #[test]
 fn a_line_that_does_not_go_out(rt: HostRuntime) {
     let image = bytes_in(&rt, rt.alloc(), images::FIRST_RUN);
     let core = opened(&rt, rt.alloc(), image.as_slice());
-    assert_eq!(rt;
-        write_reloaded(&core, &mut Stuck),
-        Err(SessionFault::WriteFailed)
-    );
+    check_stuck(&rt, &core);
 }

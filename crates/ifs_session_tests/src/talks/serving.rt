@@ -5,8 +5,8 @@ use ifs_base::{IfaceId, LinkState, TestId};
 use ifs_core::{Core, Step};
 use ifs_rows::{bytes_of, images, sessions};
 use ifs_session::{
-    ByteIn, End, HostEvent, HostFault, MemoryIn, MemoryOut, ScriptHost, Served, SessionFault,
-    run_queue, serve_one,
+    ByteIn, End, HostEvent, HostFault, HostText, MemoryIn, MemoryOut, ScriptHost, Served,
+    SessionFault, run_queue, serve_one,
 };
 use ifs_verify::verify;
 use linked_list_allocator::LocalHeap;
@@ -121,24 +121,45 @@ fn check_macros(rt: &impl Abort, talk: &Talk<Global>) {
     check_macros_host(rt, &talk.host);
 }
 
+/// The host was polled and answered this.
+fn check_polled(rt: &impl Abort, event: &HostEvent<HostText>, wanted: Option<(TestId, u64, bool)>) {
+    match event {
+        HostEvent::Polled(ending) => assert_eq!(rt; *ending, wanted),
+        _ => assert!(rt; false, "something else than a poll"),
+    }
+}
+
+/// The host was told to start the only test.
+fn check_started(rt: &impl Abort, event: &HostEvent<HostText>) {
+    match event {
+        HostEvent::Started(start) => {
+            assert_eq!(rt; start.test, TestId(0));
+            assert_eq!(rt; start.run, 1);
+            assert_eq!(rt; start.text.as_bytes(), b"ping -q -c 1 host".as_slice());
+        }
+        _ => assert!(rt; false, "something else than a start"),
+    }
+}
+
+/// The host ran this text.
+fn check_ran(rt: &impl Abort, event: &HostEvent<HostText>, text: &str) {
+    match event {
+        HostEvent::Ran(command) => assert_eq!(rt; command.as_bytes(), text.as_bytes()),
+        _ => assert!(rt; false, "something else than a run"),
+    }
+}
+
 fn check_macros_host(rt: &impl Abort, host: &ScriptHost<Global>) {
     assert!(rt; host.whole());
-    let [
-        HostEvent::Polled(None),
-        HostEvent::Started(start),
-        HostEvent::Polled(Some(ending)),
-        HostEvent::Ran(command),
-        HostEvent::Polled(None),
-        HostEvent::Polled(None),
-    ] = host.events()
-    else {
-        panic!(rt; "what happens at the host is something else")
+    let [opening, started, ended, ran, last, over] = host.events() else {
+        panic!(rt; "there are six events")
     };
-    assert_eq!(rt; start.test, TestId(0));
-    assert_eq!(rt; start.run, 1);
-    assert_eq!(rt; start.text.as_bytes(), b"ping -q -c 1 host".as_slice());
-    assert_eq!(rt; *ending, MACROS_ENDING);
-    assert_eq!(rt; command.as_bytes(), b"echo d".as_slice());
+    check_polled(rt, opening, None);
+    check_started(rt, started);
+    check_polled(rt, ended, Some(MACROS_ENDING));
+    check_ran(rt, ran, "echo d");
+    check_polled(rt, last, None);
+    check_polled(rt, over, None);
 }
 
 /// The row of macros: a test is started, fails, and its command is run before the reply to `status`.
