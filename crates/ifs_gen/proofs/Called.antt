@@ -23,7 +23,7 @@ use Rattle.ifs_gen.specs.Sharing.{same_code, place_in, in_place, size_in_place, 
 use Rattle.ifs_gen.specs.Runs.{image_sizes, HasAt, point, at_point, RowsLead, HasStack, HasFrames, HasShared, SharedTruthRuns}
 use Rattle.ifs_gen.proofs.Rows.{unless_fits, has_all, has_left, has_right, after_add}
 use Rattle.ifs_gen.proofs.Simulation.{condition_sized, condition_high, condition_leads}
-use Rattle.ifs_gen.proofs.SameCode.{code_decides}
+use Rattle.ifs_gen.proofs.CodeKeys.{code_decides}
 
 -- a code stands at its number
 placed_if : IsReadBack → (b : Bool) (entry : List Op) (table : List (List Op)) (code : List Op) (o : Option ℕ) (k : ℕ) → same_code code entry ≡ b

@@ -25,7 +25,7 @@ use Rattle.ifs_gen.specs.Sharing.{conditions_of, conditions_in, place_in, in_pla
 use Rattle.ifs_policy.specs.Fits.{PolicyFits}
 use Rattle.ifs_gen.specs.Runs.{HasAt}
 use Rattle.ifs_gen.specs.Acceptance.{BudgetsAreLeast}
-use Rattle.ifs_gen.proofs.SameCode.{code_decides}
+use Rattle.ifs_gen.proofs.CodeKeys.{code_decides}
 use Rattle.ifs_gen.proofs.Among.{each_shared}
 use Rattle.ifs_gen.proofs.Standing.{each_append}
 use Rattle.ifs_gen.proofs.Called.{coder_sized}

@@ -19,7 +19,6 @@ pub mod Chains
 pub mod Firsts
 pub mod Walking
 pub mod Placing
-pub mod Feeding
 pub mod EventCosts
 pub mod Assembled
 pub mod Measuring
@@ -33,9 +32,8 @@ pub mod Totals
 pub mod Copying
 pub mod Sized
 pub mod CoreOfText
-pub mod SameCode
+pub mod CodeKeys
 pub mod Called
 pub mod Among
 pub mod Shrinks
-pub mod Heights
 pub mod CalledTypes

@@ -16,7 +16,7 @@ use Rattle.ifs_gen.specs.PlainSizes.{init_length, body_length}
 use Rattle.ifs_gen.specs.Sharing.{same_code, conditions_of, conditions_in, is_shared, shared_among, place_in}
 use Rattle.ifs_gen.specs.Sharing.{size_in_place, shared_coder}
 use Rattle.ifs_gen.proofs.Simulation.{condition_sized}
-use Rattle.ifs_gen.proofs.SameCode.{code_decides}
+use Rattle.ifs_gen.proofs.CodeKeys.{code_decides}
 use Rattle.ifs_gen.specs.inner.Meetings.{AreApart}
 use Rattle.ifs_gen.proofs.Among.{each_weaker, shared_qualify, shared_distinct}
 

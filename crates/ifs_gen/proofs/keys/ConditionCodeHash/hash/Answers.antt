@@ -1,5 +1,5 @@
 -- All instructions are fed, behind their number.
-use Rattle.ifs_gen.proofs.Feeding.{all_fed}
+use Rattle.ifs_gen.proofs.CodeKeys.{all_fed}
 use Rattle.ifs_gen.proofs.keys.ConditionCodeHash.hash.Goals as goal
 
 pub returns : goal.returns
