@@ -13,7 +13,7 @@ const MOST_STEPS: usize = 256;
 pub enum Explained {
     /// What each did, but for ticks that evaluated nothing.
     Steps,
-    /// The request lines that make the same steps.
+    /// The request lines of these steps.
     Requests,
 }
 

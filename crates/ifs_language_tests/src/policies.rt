@@ -20,7 +20,8 @@ fn resolved(
     Ok(resolve(alloc, &tree))
 }
 
-/// What is said of the policy of a text that has a tree, or of its refusal. Only here does one go, so that this is proved once.
+/// What is said of the policy of a text that has a tree, or of its refusal. Only here does one go, so that this is proved
+/// once.
 fn said_of<T, F: FnOnce(&Result<Policy, ResolveFault>) -> T>(
     alloc: Global,
     text: &str,

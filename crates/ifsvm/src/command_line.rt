@@ -587,7 +587,7 @@ fn check_reply<'a>(alloc: Global) -> Arg<'a> {
 fn requests<'a>(alloc: Global) -> Arg<'a> {
     Arg::new(alloc, REQUESTS)
         .long(REQUESTS)
-        .help("print the request lines that make the same steps")
+        .help("print the request lines of these steps")
         .action(ArgAction::SetTrue)
 }
 

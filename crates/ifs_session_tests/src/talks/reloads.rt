@@ -81,7 +81,8 @@ fn what_resembles_a_reload(rt: HostRuntime) {
     check_resembling(&rt, &talk);
 }
 
-fn check_polled(rt: &impl Abort, talk: &Talk<Global>) {
+/// The test had ended before the reload: its end is a step behind the reload, and its command is run last.
+fn check_polled_before(rt: &impl Abort, talk: &Talk<Global>) {
     check_reload(rt, talk, "tick \"a\" cost 4 queue - starts 0:1\n", "polled");
     let steps = [
         Step::Tick(0),
@@ -107,7 +108,7 @@ fn ends_of_tests_before_a_reload(rt: HostRuntime) -> Result<(), Fail> {
         &mut MemoryIn::new(b"tick 0\nreload\nstatus\n"),
         MemoryOut::new(rt.alloc()),
     );
-    check_polled(&rt, &talk);
+    check_polled_before(&rt, &talk);
     Ok(())
 }
 
