@@ -3,6 +3,7 @@ pub mod Effects
 pub mod Sizes
 pub mod Spelling
 pub mod Kinds
+pub mod FaultTexts
 pub mod Words
 pub mod Numbers
 pub mod Results

@@ -11,21 +11,25 @@
 //! Contract: each instruction and each kind has one spelling, and bytes that spell none are told apart.
 #![tactic(auto)]
 
+mod fault_text;
 mod ids;
 mod items;
 pub mod laws;
 pub mod limits;
 mod numbers;
 mod op;
+mod quoting;
 mod span;
 mod spelling;
 mod text;
 mod words;
 
+pub use fault_text::{FaultPlace, FaultText};
 pub use ids::{CommandId, IfaceId, RoutineId, StateId, TestId};
 pub use items::Items;
 pub use numbers::{Number, parse_number};
 pub use op::{Kind, LinkState, Op};
+pub use quoting::Quoted;
 pub use span::Span;
 pub use spelling::{decode_kind, decode_op, encode_kind, encode_op};
 pub use text::Text;

@@ -12,9 +12,15 @@ use std::hash::{Hash, Hasher};
 use std::marker::Model;
 
 /// A text on the heap, in UTF-8. Clauses see its bytes. Two are equal where their bytes are.
-#[derive(Debug, Drop)]
+#[derive(Debug)]
 pub struct Text {
     text: String,
+}
+
+impl Drop for Text {
+    fn drop(self) {
+        let Text { text: _text } = self;
+    }
 }
 
 impl Model for Text {

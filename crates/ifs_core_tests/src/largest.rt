@@ -1,5 +1,6 @@
 //! A core on the largest image: nothing but memory is in its way.
 
+use crate::checks::{holds, same};
 use ifs_asm::assemble;
 use ifs_base::{IfaceId, LinkState, StateId};
 use ifs_core::{Core, Reply, Step};
@@ -29,18 +30,19 @@ fn opened<'a>(alloc: Global, verified: Verified<'a>) -> Result<Core<'a>, Fail> {
 
 /// Its last state is the initial one, and its last interface is told.
 fn check_core(rt: &impl Abort, core: &mut Core<'_>) {
-    assert_eq!(rt; core.state(), StateId(255));
+    same(rt, core.state(), StateId(255));
     let reply = core.step(Step::Link(IfaceId(63), LinkState::Up));
-    assert!(rt;
+    holds(
+        rt,
         matches!(
             reply,
             Reply::Done {
                 state: StateId(255),
                 ..
             }
-        )
+        ),
     );
-    assert_eq!(rt; core.link(IfaceId(63)), Some(LinkState::Up));
+    same(rt, core.link(IfaceId(63)), Some(LinkState::Up));
 }
 
 fn check_opened(rt: &impl Abort, alloc: Global, bytes: &[u8]) -> Result<(), Fail> {
@@ -54,6 +56,6 @@ fn check_opened(rt: &impl Abort, alloc: Global, bytes: &[u8]) -> Result<(), Fail
 fn opens_the_largest_image(rt: HostRuntime) -> Result<(), Fail> {
     let text = largest_listing(rt.alloc())?;
     let bytes = bytes_in(rt.alloc(), text.as_str())?;
-    assert_eq!(rt; bytes.len(), LARGEST_BYTES);
+    same(&rt, bytes.len(), LARGEST_BYTES);
     check_opened(&rt, rt.alloc(), bytes.as_slice())
 }

@@ -7,6 +7,7 @@ ghost use Rattle.ifs_machine.specs.Views.{facts_of};
 
 mod plain;
 
+use crate::checks::{same, same_in};
 use crate::largest::bytes_in;
 use arrayvec::ArrayVec;
 use ifs_base::LinkState;
@@ -160,9 +161,9 @@ fn compared(
     for command in effects.queued.as_slice() {
         commands.push(command.0)?;
     }
-    assert_eq!(rt; cost, slow.cost);
-    assert_eq!(rt; commands.as_slice(), slow.commands.as_slice());
-    assert_eq!(rt; effects.want.map(|state| state.0), slow.wish);
+    same(rt, cost, slow.cost);
+    same(rt, commands.as_slice(), slow.commands.as_slice());
+    same(rt, effects.want.map(|state| state.0), slow.wish);
     Ok(slow)
 }
 
@@ -201,9 +202,9 @@ fn ran_code(
 
 /// Asserts the cost of a run, its commands and its wish.
 fn check_run(rt: &impl Abort, run: &plain::Ending, want: (u32, &[u16], Option<u16>), name: &str) {
-    assert_eq!(rt; run.cost, want.0, "{name}");
-    assert_eq!(rt; run.commands.as_slice(), want.1, "{name}");
-    assert_eq!(rt; run.wish, want.2, "{name}");
+    same_in(rt, name, run.cost, want.0);
+    same_in(rt, name, run.commands.as_slice(), want.1);
+    same_in(rt, name, run.wish, want.2);
 }
 
 /// The cost of a handler, its commands and its wish.
@@ -270,7 +271,7 @@ fn check_truth(
     let all = queueing(alloc, code)?;
     let run = ran_code(rt, alloc, &[all.as_str()], facts)?;
     let queued: &[u16] = if truth { &[1] } else { &[0, 1] };
-    assert_eq!(rt; run.commands.as_slice(), queued, "{code}");
+    same_in(rt, code, run.commands.as_slice(), queued);
     Ok(())
 }
 
@@ -330,7 +331,7 @@ fn cost_through_calls(rt: HostRuntime) -> Result<(), Fail> {
     let codes = calls(rt.alloc())?;
     let routines = with_handler(rt.alloc(), codes.as_slice())?;
     let run = ran_code(&rt, rt.alloc(), routines.as_slice(), (DOWN, NEVER))?;
-    assert_eq!(rt; run.cost, 98_303);
+    same(&rt, run.cost, 98_303);
     Ok(())
 }
 
@@ -527,7 +528,7 @@ fn small_routines(rt: HostRuntime) -> Result<(), Fail> {
             accepted = accepted.saturating_add(smalls(&rt, rt.alloc(), &ops, length, count)?);
             count = count.saturating_mul(5);
         }
-        assert_eq!(rt; accepted, wanted);
+        same(&rt, accepted, wanted);
     }
     Ok(())
 }

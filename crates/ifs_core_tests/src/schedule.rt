@@ -1,5 +1,6 @@
 //! Schedules as lists of calls with the answers that they must get.
 
+use crate::checks::{holds, holds_in, same, same_in};
 use arrayvec::ArrayVec;
 use ifs_base::TestId;
 use ifs_sched::{Backwards, Schedule, Stale, Start};
@@ -34,7 +35,7 @@ use Call::{Enter, Finish, Idle, NextRun, Reads, Tick};
 /// Makes the calls, one after the other, on a schedule of these periods.
 fn play(rt: &impl Abort, periods: &[u32], first_run: u64, calls: &[Call]) {
     let mut table = ArrayVec::new();
-    assert!(rt; table.try_extend_from_slice(periods).is_ok());
+    holds(rt, table.try_extend_from_slice(periods).is_ok());
     let mut schedule = Schedule::new(table, first_run);
     for call in calls {
         play_one(rt, &mut schedule, *call);
@@ -46,26 +47,30 @@ fn play_one(rt: &impl Abort, schedule: &mut Schedule, call: Call) {
         Enter(always, tests, now) => schedule.enter(always, tests, now),
         Tick(now, starts, exhausted) => tick(rt, schedule, now, starts, exhausted),
         Call::Backwards(now) => {
-            assert!(rt; matches!(schedule.tick(now), Err(Backwards)), "tick {now}");
+            holds_in(rt, now, matches!(schedule.tick(now), Err(Backwards)));
         }
         Finish(test, run) => finish(rt, schedule, TestId(test), run, Ok(())),
         Call::Stale(test, run) => finish(rt, schedule, TestId(test), run, Err(Stale)),
         Reads(now, running) => {
-            assert_eq!(rt; schedule.now(), now);
-            assert_eq!(rt; schedule.running(), running, "at {now}");
+            same(rt, schedule.now(), now);
+            same_in(rt, now, schedule.running(), running);
         }
-        NextRun(run) => assert_eq!(rt; schedule.next_run(), run),
+        NextRun(run) => same(rt, schedule.next_run(), run),
         Idle(entries) => assert_idle(rt, schedule, entries),
     }
 }
 
 /// The idle tests are these, and the next moment is the first one's.
 fn assert_idle(rt: &impl Abort, schedule: &Schedule, entries: &[(u64, u16)]) {
-    assert_eq!(rt; schedule.next_due(), entries.first().map(|entry| entry.0));
-    assert_eq!(rt; schedule.idle().len(), entries.len());
+    same(
+        rt,
+        schedule.next_due(),
+        entries.first().map(|entry| entry.0),
+    );
+    same(rt, schedule.idle().len(), entries.len());
     for ((due, test), (wanted_due, wanted_test)) in schedule.idle().iter().zip(entries) {
-        assert_eq!(rt; *due, *wanted_due, "test {wanted_test}");
-        assert_eq!(rt; *test, TestId(*wanted_test), "at {wanted_due}");
+        same_in(rt, wanted_test, *due, *wanted_due);
+        same_in(rt, wanted_due, *test, TestId(*wanted_test));
     }
 }
 
@@ -79,13 +84,13 @@ fn tick(
 ) {
     match schedule.tick(now) {
         Ok(started) => {
-            assert_eq!(rt; started.exhausted, exhausted, "tick {now}");
+            same_in(rt, now, started.exhausted, exhausted);
             assert_starts(rt, started.starts.as_slice(), starts);
         }
         Err(fault) => panic!(rt; "tick {now}: {fault}"),
     }
     for (test, run) in starts {
-        assert!(rt; schedule.is_running(TestId(*test), *run), "run {run}");
+        holds_in(rt, run, schedule.is_running(TestId(*test), *run));
     }
 }
 
@@ -97,15 +102,15 @@ fn finish(
     run: u64,
     wanted: Result<(), Stale>,
 ) {
-    assert_eq!(rt; schedule.finish(test, run), wanted, "run {run}");
-    assert!(rt; !schedule.is_running(test, run), "run {run}");
+    same_in(rt, run, schedule.finish(test, run), wanted);
+    holds_in(rt, run, !schedule.is_running(test, run));
 }
 
 fn assert_starts(rt: &impl Abort, starts: &[Start], wanted: &[(u16, u64)]) {
-    assert_eq!(rt; starts.len(), wanted.len());
+    same(rt, starts.len(), wanted.len());
     for (start, (test, run)) in starts.iter().zip(wanted) {
-        assert_eq!(rt; start.test, TestId(*test));
-        assert_eq!(rt; start.run, *run);
+        same(rt, start.test, TestId(*test));
+        same(rt, start.run, *run);
     }
 }
 
@@ -165,11 +170,11 @@ fn starts_in_a_lent_list(rt: HostRuntime) {
     let mut schedule = Schedule::new(periods, 1);
     schedule.enter(0, 1, 0);
     let mut starts = ArrayVec::new();
-    assert_eq!(rt; schedule.tick_into(5, &mut starts), Ok(false));
+    same(&rt, schedule.tick_into(5, &mut starts), Ok(false));
     assert_starts(&rt, starts.as_slice(), &[(0, 1)]);
-    assert_eq!(rt; schedule.tick_into(4, &mut starts), Err(Backwards));
+    same(&rt, schedule.tick_into(4, &mut starts), Err(Backwards));
     assert_starts(&rt, starts.as_slice(), &[(0, 1)]);
-    assert_eq!(rt; schedule.tick_into(6, &mut starts), Ok(false));
+    same(&rt, schedule.tick_into(6, &mut starts), Ok(false));
     assert_starts(&rt, starts.as_slice(), &[]);
 }
 
@@ -409,14 +414,18 @@ fn entry_among_idle_tests(rt: HostRuntime) {
 fn all_due_at_once(rt: HostRuntime) {
     let mut periods = ArrayVec::new();
     for period in 1..65 {
-        assert!(rt; periods.try_push(65 - period).is_ok());
+        holds(&rt, periods.try_push(65 - period).is_ok());
     }
     let mut schedule = Schedule::new(periods, 1);
     schedule.enter(0, u64::MAX, 0);
-    assert_eq!(rt; schedule.next_due(), Some(0));
+    same(&rt, schedule.next_due(), Some(0));
     assert_all_start(&rt, &mut schedule, 0, 1);
     for test in 0..64 {
-        assert_eq!(rt; schedule.finish(TestId(test), u64::from(test) + 1), Ok(()));
+        same(
+            &rt,
+            schedule.finish(TestId(test), u64::from(test) + 1),
+            Ok(()),
+        );
     }
     assert_idle_backwards(&rt, &schedule);
     assert_all_start(&rt, &mut schedule, 64, 65);
@@ -425,21 +434,21 @@ fn all_due_at_once(rt: HostRuntime) {
 /// A tick that starts all 64 tests, with numbers from one on.
 fn assert_all_start(rt: &impl Abort, schedule: &mut Schedule, now: u64, first: u64) {
     let mut starts = ArrayVec::new();
-    assert_eq!(rt; schedule.tick_into(now, &mut starts), Ok(false));
-    assert_eq!(rt; starts.len(), 64);
+    same(rt, schedule.tick_into(now, &mut starts), Ok(false));
+    same(rt, starts.len(), 64);
     for (index, start) in starts.iter().enumerate() {
-        assert_eq!(rt; usize::from(start.test.0), index);
-        assert_eq!(rt; start.run, first.saturating_add(index as u64));
+        same(rt, usize::from(start.test.0), index);
+        same(rt, start.run, first.saturating_add(index as u64));
     }
-    assert_eq!(rt; schedule.next_due(), None);
+    same(rt, schedule.next_due(), None);
 }
 
 /// All 64 tests are idle, the last one due at moment 1 and each one before it a moment later.
 fn assert_idle_backwards(rt: &impl Abort, schedule: &Schedule) {
-    assert_eq!(rt; schedule.idle().len(), 64);
+    same(rt, schedule.idle().len(), 64);
     for (place, (due, test)) in schedule.idle().iter().enumerate() {
-        assert_eq!(rt; *due, (place as u64).saturating_add(1));
-        assert_eq!(rt; usize::from(test.0), 63_usize.saturating_sub(place));
+        same(rt, *due, (place as u64).saturating_add(1));
+        same(rt, usize::from(test.0), 63_usize.saturating_sub(place));
     }
 }
 

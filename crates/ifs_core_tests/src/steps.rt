@@ -1,5 +1,6 @@
 //! The worked rows: each request that is a step is made on a core, and its reply told as the row has it.
 
+use crate::checks::{holds, holds_in, same, same_in};
 use ifs_base::{CommandId, IfaceId, LinkState, StateId, TestId};
 use ifs_core::{Answer, Core, Record, Reply, Step};
 use ifs_rows::{Row, bytes_of, images, rows};
@@ -177,8 +178,8 @@ fn check_row(
 ) -> Result<(), AllocError> {
     for (request, wanted) in row.requests.lines().zip(row.replies.lines()) {
         match answer(alloc, core, request)? {
-            Some(told) => assert_eq!(rt; told.as_str(), wanted, "{}: {request}", row.name),
-            None => assert!(rt; is_sessions_own(wanted), "{}: {request}", row.name),
+            Some(told) => same_in(rt, row.name, told.as_str(), wanted),
+            None => holds_in(rt, row.name, is_sessions_own(wanted)),
         }
     }
     Ok(())
@@ -208,16 +209,16 @@ fn record(step: Step, answer: Answer, queued: u16, cost: u32) -> Record {
 
 /// What the readers of links say after a step of the row *First run*.
 fn check_links(rt: &impl Abort, core: &Core<'_>) {
-    assert_eq!(rt; core.iface_of(b"carp0"), Some(IfaceId(0)));
-    assert_eq!(rt; core.iface_of(b"carp1"), None);
-    assert_eq!(rt; core.link(IfaceId(0)), Some(LinkState::Up));
+    same(rt, core.iface_of(b"carp0"), Some(IfaceId(0)));
+    same(rt, core.iface_of(b"carp1"), None);
+    same(rt, core.link(IfaceId(0)), Some(LinkState::Up));
 }
 
 /// Asserts that the trace is these records.
 fn check_trace(rt: &impl Abort, core: &Core<'_>, records: &[Record]) {
-    assert_eq!(rt; core.trace_len(), records.len());
+    same(rt, core.trace_len(), records.len());
     for (index, wanted) in records.iter().enumerate() {
-        assert_eq!(rt; core.trace_at(index), Some(*wanted));
+        same(rt, core.trace_at(index), Some(*wanted));
     }
 }
 
@@ -239,8 +240,8 @@ fn readers_after_steps(rt: HostRuntime) {
 
 /// The second test of the row *Held back* before its first run.
 fn check_test(rt: &impl Abort, core: &Core<'_>) {
-    assert_eq!(rt; core.test_text(TestId(1)), Some("t2"));
-    assert_eq!(rt; core.test_value(TestId(1)), Some(None));
+    same(rt, core.test_text(TestId(1)), Some("t2"));
+    same(rt, core.test_value(TestId(1)), Some(None));
 }
 
 #[test]
@@ -252,7 +253,7 @@ fn readers_of_tests(rt: HostRuntime) {
 /// A step names what is not in its table.
 fn check_no_such(rt: &impl Abort, core: &mut Core<'_>, step: Step) {
     let reply = core.step(step);
-    assert!(rt; matches!(reply, Reply::NoSuch));
+    holds(rt, matches!(reply, Reply::NoSuch));
 }
 
 /// An interface that is not in the table.

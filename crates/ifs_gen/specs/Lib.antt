@@ -11,6 +11,7 @@ pub mod Events
 pub mod Compiled
 pub mod CompiledCore
 pub mod inner
+pub mod FaultWords
 pub use Rattle.ifs_base.specs.Facts
 pub use Rattle.ifs_policy.specs.Meaning
 pub use Rattle.ifs_policy.specs.Fits

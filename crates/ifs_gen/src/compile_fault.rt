@@ -1,10 +1,14 @@
 //! Why a text is not compiled.
 
-ghost use Rattle.std.specs.Prelude.{◌≡◌};
+ghost use Rattle.std.specs.Prelude.{◌≡◌, Some};
+ghost use Rattle.ifs_base.specs.FaultTexts.{fault_words};
+ghost use Rattle.ifs_gen.specs.FaultWords.{compile_fault_words};
 ghost use Rattle.ifs_gen.specs.Compiled.{of_code, of_policy};
 
 use crate::fault::GenFault;
+use ifs_base::{FaultPlace, FaultText};
 use ifs_policy::PolicyFault;
+use std::fmt::{self, Display, Formatter, Write};
 use thiserror::Error;
 
 /// The fault of the first step that refuses the text: that it has no policy, or that the code of its
@@ -12,14 +16,35 @@ use thiserror::Error;
 #[derive(Clone, Copy, Debug, PartialEq, Eq, Error)]
 pub enum CompileFault {
     /// P1 to P16: the text has no policy.
-    #[error("{0}")]
     Text(PolicyFault),
     /// G1 to G4: the code of the policy passes a limit.
-    #[error("{0}")]
     Code(GenFault),
     /// P0: no memory was found.
-    #[error("P0")]
     Memory,
+}
+
+impl CompileFault {
+    /// What is printed of the fault.
+    pub fn text(self) -> FaultText
+        ensures { fault_words result ≡ compile_fault_words self }
+    {
+        match self {
+            CompileFault::Text(fault) => fault.text(),
+            CompileFault::Code(fault) => fault.text(),
+            CompileFault::Memory => FaultText {
+                code: "P0",
+                place: FaultPlace::Nowhere,
+            },
+        }
+    }
+}
+
+impl Display for CompileFault {
+    ghost output = { λ fault. Some (compile_fault_words fault) };
+
+    fn fmt<W: Write>(&self, f: &mut Formatter<W>) -> fmt::Result {
+        write!(f, "{}", self.text())
+    }
 }
 
 impl From<PolicyFault> for CompileFault {

@@ -1,10 +1,13 @@
 //! Why a policy has no image.
 
-ghost use Rattle.std.specs.Prelude.{◌≡◌};
+ghost use Rattle.std.specs.Prelude.{◌≡◌, Some};
+ghost use Rattle.ifs_base.specs.FaultTexts.{fault_words};
+ghost use Rattle.ifs_gen.specs.FaultWords.{gen_fault_words};
 ghost use Rattle.ifs_gen.specs.declared.fault.GenFault.TheVariants.{Memory};
 
-use ifs_base::RoutineId;
+use ifs_base::{FaultPlace, FaultText, RoutineId};
 use std::alloc::{AllocError, AllocFailed};
+use std::fmt::{self, Display, Formatter, Write};
 use thiserror::Error;
 
 /// The first limit that the plain code of a policy passes: each is looked for over all routines before
@@ -12,20 +15,39 @@ use thiserror::Error;
 #[derive(Clone, Copy, Debug, PartialEq, Eq, Error)]
 pub enum GenFault {
     /// G1: a routine has over 1,024 instructions; the least such one.
-    #[error("G1 routine {}", .0.0)]
     RoutineTooLong(RoutineId),
     /// G2: all routines together have over 8,192 instructions.
-    #[error("G2")]
     CodeTooLong,
     /// G3: a routine has over 32 values on the stack at some place; the least such one.
-    #[error("G3 routine {}", .0.0)]
     StackTooHigh(RoutineId),
     /// G4: one event, or the opening, may run over 64 commands.
-    #[error("G4")]
     TooManyCommands,
     /// P0: no memory was found.
-    #[error("P0")]
     Memory,
+}
+
+impl GenFault {
+    /// What is printed of the fault.
+    pub fn text(self) -> FaultText
+        ensures { fault_words result ≡ gen_fault_words self }
+    {
+        let (code, place) = match self {
+            GenFault::RoutineTooLong(routine) => ("G1", FaultPlace::Routine(routine)),
+            GenFault::CodeTooLong => ("G2", FaultPlace::Nowhere),
+            GenFault::StackTooHigh(routine) => ("G3", FaultPlace::Routine(routine)),
+            GenFault::TooManyCommands => ("G4", FaultPlace::Nowhere),
+            GenFault::Memory => ("P0", FaultPlace::Nowhere),
+        };
+        FaultText { code, place }
+    }
+}
+
+impl Display for GenFault {
+    ghost output = { λ fault. Some (gen_fault_words fault) };
+
+    fn fmt<W: Write>(&self, f: &mut Formatter<W>) -> fmt::Result {
+        write!(f, "{}", self.text())
+    }
 }
 
 impl From<AllocError> for GenFault {

@@ -4,22 +4,19 @@ use crate::calls::{Given, Listed};
 use crate::growths::{Code, Turn, code_of, no_memory};
 use crate::images::Images;
 use crate::policies::{definitions, text};
-use ifs_cli::answering::answer;
-use ifs_cli::definitions::Definition;
-use ifs_cli::files::{FileFault, whole};
-use ifs_cli::task::{Answer, Task};
+use ifs_answer::{Answer, Task, answer};
+use ifs_host::files::{FileFault, whole};
 use std::alloc::Global;
 
 /// Which call it is.
 #[derive(Clone, Copy)]
 pub enum Call {
     Answer(Task),
-    Definition,
     Whole,
 }
 
 /// Each of them.
-pub fn calls() -> [Listed<Call>; 9] {
+pub fn calls() -> [Listed<Call>; 8] {
     [
         Listed::new(Call::Answer(Task::Check), "answer on check", "AllocError"),
         Listed::new(
@@ -36,7 +33,6 @@ pub fn calls() -> [Listed<Call>; 9] {
             "AllocError",
         ),
         Listed::new(Call::Answer(Task::Graph), "answer on graph", "AllocError"),
-        Listed::new(Call::Definition, "Definition::new", "AllocError"),
         Listed::new(Call::Whole, "files::whole", "Memory"),
     ]
 }
@@ -59,7 +55,6 @@ impl Given for Files<'_> {
             Call::Answer(Task::Compile) => answered(turn, Task::Compile, text().as_bytes()),
             Call::Answer(Task::Asm) => answered(turn, Task::Asm, self.images.listing()),
             Call::Answer(task) => answered(turn, task, image),
-            Call::Definition => defined(turn),
             Call::Whole => read_whole(turn, image),
         }
     }
@@ -84,14 +79,6 @@ pub fn followed(mut bytes: Vec<u8>, more: &[u8]) -> Result<Vec<u8>, Code> {
         Ok(()) => Ok(bytes),
         Err(_) => Err(code_of("no memory for the bytes")),
     }
-}
-
-fn defined(turn: Turn) -> Result<Vec<u8>, Code> {
-    let made = turn.ended(Definition::new(turn.begun(), "outside", "carp0"));
-    let definition = made.map_err(no_memory)?;
-    let (name, value) = definition.pair();
-    let text = format!(in turn.alloc(); "{name}={value}").map_err(no_memory)?;
-    Ok(text.into_bytes())
 }
 
 fn read_whole(turn: Turn, bytes: &[u8]) -> Result<Vec<u8>, Code> {

@@ -4,8 +4,8 @@ use crate::growths::{Code, Turn, code_of, no_memory};
 use crate::standing::{opened, standing};
 use bumpalo::Bump;
 use ifs_base::{IfaceId, LinkState};
-use ifs_cli::reloading::{ReloadRefused, take_over};
 use ifs_core::{Carried, CarryFault, Core, Step};
+use ifs_host::reloading::{ReloadRefused, take_over};
 use ifs_verify::verify;
 use std::alloc::Global;
 

@@ -6,3 +6,4 @@ pub mod Upgrade
 pub mod Answers
 pub mod Lent
 pub use Rattle.ifs_base.specs.Facts
+pub mod FaultWords

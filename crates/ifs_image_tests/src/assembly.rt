@@ -1,5 +1,6 @@
 //! Texts that were written by hand from the table of the format.
 
+use crate::checks::{holds, holds_in, same, same_in};
 use ifs_asm::{assemble, disassemble};
 use ifs_image::{Image, read, write};
 use ifs_rows::{LARGEST_BYTES, bytes_of, images, largest_listing, rows, version_two};
@@ -11,7 +12,7 @@ use std::test::Fail;
 fn writes_the_smallest_image(rt: HostRuntime) -> Result<(), Fail> {
     let bytes = bytes_of(rt.alloc(), images::SMALLEST_IMAGE)?;
     let text = text_in(rt.alloc(), bytes.as_slice())?;
-    assert_eq!(rt; text.as_str(), images::SMALLEST_TEXT);
+    same(&rt, text.as_str(), images::SMALLEST_TEXT);
     Ok(())
 }
 
@@ -38,7 +39,7 @@ fn check_told(
     name: &str,
 ) -> Result<(), Fail> {
     let answer = told(alloc, text)?;
-    assert_eq!(rt; answer.as_str(), wanted, "{name}");
+    same_in(rt, name, answer.as_str(), wanted);
     Ok(())
 }
 
@@ -246,9 +247,9 @@ fn answers_changed_lines_of_version_two(rt: HostRuntime) -> Result<(), Fail> {
 fn check_text(rt: &impl Abort, alloc: Global, hex: &str, wanted: &str) -> Result<(), Fail> {
     let bytes = bytes_of(alloc, hex)?;
     let text = text_in(alloc, bytes.as_slice())?;
-    assert_eq!(rt; text.as_str(), wanted);
+    same(rt, text.as_str(), wanted);
     let back = bytes_in(alloc, wanted)?;
-    assert_eq!(rt; back.as_slice(), bytes.as_slice());
+    same(rt, back.as_slice(), bytes.as_slice());
     Ok(())
 }
 
@@ -281,7 +282,7 @@ fn check_front(rt: &impl Abort, alloc: Global, front: &str, lines: usize) -> Res
         return check_told(rt, alloc, front, missing.as_str(), front);
     }
     let answer = told(alloc, front)?;
-    assert!(rt; answer.as_str().starts_with("ok"), "{front}");
+    holds_in(rt, front, answer.as_str().starts_with("ok"));
     Ok(())
 }
 
@@ -349,7 +350,7 @@ const EACH_INSTRUCTION_BYTES: &str = "
 fn spells_each_instruction(rt: HostRuntime) -> Result<(), Fail> {
     let bytes = bytes_of(rt.alloc(), EACH_INSTRUCTION_BYTES)?;
     let spelled = bytes_in(rt.alloc(), EACH_INSTRUCTION)?;
-    assert_eq!(rt; spelled.as_slice(), bytes.as_slice());
+    same(&rt, spelled.as_slice(), bytes.as_slice());
     Ok(())
 }
 
@@ -362,7 +363,7 @@ fn writes_each_instruction(rt: HostRuntime) -> Result<(), Fail> {
 /// Asserts the text of an image.
 fn check_text_of(rt: &impl Abort, alloc: Global, image: &Image, wanted: &str) -> Result<(), Fail> {
     let text = listing(alloc, image)?;
-    assert_eq!(rt; text.as_str(), wanted);
+    same(rt, text.as_str(), wanted);
     Ok(())
 }
 
@@ -370,7 +371,7 @@ fn check_there_and_back(rt: &impl Abort, alloc: Global, hex: &str) -> Result<(),
     let bytes = bytes_of(alloc, hex)?;
     let text = text_in(alloc, bytes.as_slice())?;
     let back = bytes_in(alloc, text.as_str())?;
-    assert_eq!(rt; back.as_slice(), bytes.as_slice(), "{text}");
+    same_in(rt, text, back.as_slice(), bytes.as_slice());
     Ok(())
 }
 
@@ -458,7 +459,7 @@ fn check_table(
     count: usize,
 ) -> Result<(), Fail> {
     let full = told_with(alloc, number, line, count)?;
-    assert!(rt; full.as_str().starts_with("ok"), "{line}");
+    holds_in(rt, line, full.as_str().starts_with("ok"));
     let over = told_with(alloc, number, line, count.saturating_add(1))?;
     check_line(rt, alloc, over.as_str(), number.saturating_add(count))
 }
@@ -466,7 +467,7 @@ fn check_table(
 /// Asserts that what was told is A2 at this line.
 fn check_line(rt: &impl Abort, alloc: Global, told: &str, line: usize) -> Result<(), Fail> {
     let wanted = format!(in alloc; "A2 line {line}")?;
-    assert_eq!(rt; told, wanted.as_str());
+    same(rt, told, wanted.as_str());
     Ok(())
 }
 
@@ -608,14 +609,14 @@ fn takes_texts_of_1024_bytes(rt: HostRuntime) -> Result<(), Fail> {
 /// Asserts that a text spells an image of so many bytes, and that these are listed and assembled again as they are.
 fn check_length(rt: &impl Abort, alloc: Global, text: &str, length: usize) -> Result<(), Fail> {
     let bytes = bytes_in(alloc, text)?;
-    assert_eq!(rt; bytes.len(), length);
+    same(rt, bytes.len(), length);
     check_listing(rt, alloc, bytes.as_slice(), text)
 }
 
 fn check_listing(rt: &impl Abort, alloc: Global, bytes: &[u8], wanted: &str) -> Result<(), Fail> {
     let text = text_in(alloc, bytes)?;
     let is_wanted = text.as_str() == wanted;
-    assert!(rt; is_wanted);
+    holds(rt, is_wanted);
     Ok(())
 }
 

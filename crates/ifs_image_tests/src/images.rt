@@ -1,5 +1,6 @@
 //! Images whose bytes were written by hand from the table of the format, and one fault for each rule.
 
+use crate::checks::{holds, same, same_in};
 use ifs_base::{CommandId, IfaceId, Items, Kind, LinkState, Op, RoutineId, StateId, Text};
 use ifs_image::{
     Budgets, Handlers, Image, ImageFault, ImageParts, Kinds, Routine, StateSpec, TestSpec, read,
@@ -84,8 +85,8 @@ fn changed(
 
 /// Asserts that bytes are refused with this fault, seen as well as read.
 fn check_refused(rt: &impl Abort, alloc: Global, bytes: &[u8], fault: ImageFault) {
-    assert_eq!(rt; view(alloc, bytes).err(), Some(fault));
-    assert_eq!(rt; read(alloc, bytes).err(), Some(fault));
+    same(rt, view(alloc, bytes).err(), Some(fault));
+    same(rt, read(alloc, bytes).err(), Some(fault));
 }
 
 /// Each front of an image is I1 at the field that is not there whole, and one byte more is I7.
@@ -100,7 +101,7 @@ fn cut_off(rt: &impl Abort, alloc: Global, hex: &str) -> Result<(), Fail> {
         }
         start = end;
     }
-    assert_eq!(rt; start, image.len());
+    same(rt, start, image.len());
     one_more(rt, alloc, image.as_slice())
 }
 
@@ -162,13 +163,13 @@ fn check_told(
     row: &str,
 ) -> Result<(), Fail> {
     let told = fault_text(alloc, bytes)?;
-    assert_eq!(rt; told.as_str(), expected, "{row}");
+    same_in(rt, row, told.as_str(), expected);
     Ok(())
 }
 
 /// Whether the image is read or seen, it has the same fault.
 fn check_seen(rt: &impl Abort, alloc: Global, bytes: &[u8], row: &str) {
-    assert_eq!(rt; view(alloc, bytes).err(), read(alloc, bytes).err(), "{row}");
+    same_in(rt, row, view(alloc, bytes).err(), read(alloc, bytes).err());
 }
 
 fn check_fault(rt: &impl Abort, alloc: Global, image: &str, row: &str) -> Result<(), Fail> {
@@ -217,7 +218,7 @@ fn put_full_routines(bytes: &mut Vec<u8>) -> Result<(), AllocError> {
 fn instructions_in_all(rt: HostRuntime) -> Result<(), Fail> {
     let mut bytes = nine_routines(rt.alloc())?;
     bytes.extend_from_slice(b"\x00\x00\x00")?;
-    assert_eq!(rt; read(rt.alloc(), &bytes).err(), None);
+    same(&rt, read(rt.alloc(), &bytes).err(), None);
     bytes.truncate(32_847);
     bytes.extend_from_slice(b"\x00\x01\x00\x00\x00\x00")?;
     let fault = ImageFault::OutOfLimit { at: 32_847 };
@@ -251,7 +252,7 @@ fn put_long_routine(bytes: &mut Vec<u8>, count: u16) -> Result<(), AllocError> {
 fn instructions_in_all_of_version_two(rt: HostRuntime) -> Result<(), Fail> {
     let mut bytes = sixty_five_routines(rt.alloc())?;
     bytes.extend_from_slice(&[0; 4])?;
-    assert_eq!(rt; read(rt.alloc(), &bytes).err(), None);
+    same(&rt, read(rt.alloc(), &bytes).err(), None);
     bytes.truncate(262_450);
     bytes.extend_from_slice(b"\x00\x00\x00\x01\x00\x00\x00\x00")?;
     let fault = ImageFault::OutOfLimit { at: 262_452 };
@@ -276,9 +277,9 @@ fn check_upgrade(
     let bytes = bytes_of(alloc, image)?;
     let wanted = bytes_of(alloc, upgraded)?;
     let made = upgraded_bytes(alloc, bytes.as_slice())?;
-    assert_eq!(rt; made.as_slice(), wanted.as_slice(), "{name}");
+    same_in(rt, name, made.as_slice(), wanted.as_slice());
     let again = upgraded_bytes(alloc, made.as_slice())?;
-    assert_eq!(rt; again.as_slice(), wanted.as_slice(), "{name}");
+    same_in(rt, name, again.as_slice(), wanted.as_slice());
     Ok(())
 }
 
@@ -286,7 +287,7 @@ fn check_upgrade(
 fn worked_upgrades(rt: HostRuntime) -> Result<(), Fail> {
     for row in version_two::upgrades() {
         check_upgrade(&rt, rt.alloc(), row.name, row.image, row.upgraded)?;
-        assert_eq!(rt; bytes_of(rt.alloc(), row.upgraded)?.len(), row.bytes);
+        same(&rt, bytes_of(rt.alloc(), row.upgraded)?.len(), row.bytes);
     }
     Ok(())
 }
@@ -320,15 +321,15 @@ fn tests_and_commands_may_repeat(rt: HostRuntime) -> Result<(), Fail> {
 
 /// So many texts, which are all this one.
 fn check_texts(rt: &impl Abort, texts: &[Text], count: usize, wanted: &str) {
-    assert_eq!(rt; texts.len(), count);
+    same(rt, texts.len(), count);
     for text in texts {
-        assert_eq!(rt; text.as_str(), wanted);
+        same(rt, text.as_str(), wanted);
     }
 }
 
 fn check_test(rt: &impl Abort, test: &TestSpec, period: u32, text: &str) {
-    assert_eq!(rt; test.period, period);
-    assert_eq!(rt; test.text.as_str(), text);
+    same(rt, test.period, period);
+    same(rt, test.text.as_str(), text);
 }
 
 /// Two tests of the longest period and two commands, of one text each.
@@ -336,7 +337,7 @@ fn check_repeated(rt: &impl Abort, image: &Image) {
     for test in image.parts().tests.as_slice() {
         check_test(rt, test, 604_800, "x");
     }
-    assert_eq!(rt; image.parts().tests.len(), 2);
+    same(rt, image.parts().tests.len(), 2);
     check_texts(rt, image.parts().commands.as_slice(), 2, "y");
 }
 
@@ -362,7 +363,7 @@ const POLICY: [Op; 5] = [
 fn written_again(rt: &impl Abort, alloc: Global, bytes: &[u8]) -> Result<Image, Fail> {
     let image = read(alloc, bytes)?;
     let written = write(alloc, &image)?;
-    assert_eq!(rt; written.as_slice(), bytes);
+    same(rt, written.as_slice(), bytes);
     Ok(image)
 }
 
@@ -415,30 +416,30 @@ fn check_front(rt: &impl Abort, parts: &ImageParts) {
         cost: 7,
         commands: 1,
     };
-    assert_eq!(rt; parts.budgets, budgets);
+    same(rt, parts.budgets, budgets);
     check_texts(rt, parts.interfaces.as_slice(), 1, "carp0");
-    assert!(rt; parts.tests.is_empty());
+    holds(rt, parts.tests.is_empty());
     check_texts(rt, parts.commands.as_slice(), 1, "echo m");
 }
 
 fn check_state(rt: &impl Abort, parts: &ImageParts, init: u16, body: u16) {
-    assert_eq!(rt; parts.states.len(), 1);
+    same(rt, parts.states.len(), 1);
     for state in parts.states.as_slice() {
-        assert_eq!(rt; state.name.as_str(), "a");
-        assert_eq!(rt; state.handlers.init, RoutineId(init));
-        assert_eq!(rt; state.handlers.body, RoutineId(body));
+        same(rt, state.name.as_str(), "a");
+        same(rt, state.handlers.init, RoutineId(init));
+        same(rt, state.handlers.body, RoutineId(body));
     }
 }
 
 /// So many routines, each of them `ret` but for one.
 fn check_code(rt: &impl Abort, parts: &ImageParts, routines: usize, body: usize, last: &[Op]) {
-    assert_eq!(rt; parts.routines.len(), routines);
+    same(rt, parts.routines.len(), routines);
     for (i, routine) in parts.routines.as_slice().iter().enumerate() {
         let code = routine.code.as_slice();
         if i == body {
-            assert_eq!(rt; code, last);
+            same(rt, code, last);
         } else {
-            assert_eq!(rt; code, [Op::Ret].as_slice());
+            same(rt, code, [Op::Ret].as_slice());
         }
     }
 }
@@ -536,7 +537,7 @@ fn what_fits_a_version(rt: HostRuntime) -> Result<(), Fail> {
 /// The bytes of the parts of the smallest image.
 fn made(rt: &impl Abort, alloc: Global) -> Result<Vec<u8>, Fail> {
     let parts = smallest_parts(alloc, 0)?;
-    assert!(rt; parts.fits());
+    holds(rt, parts.fits());
     Ok(write(alloc, &Image::new(parts))?)
 }
 
@@ -544,13 +545,13 @@ fn made(rt: &impl Abort, alloc: Global) -> Result<Vec<u8>, Fail> {
 fn smallest_image(rt: HostRuntime) -> Result<(), Fail> {
     let made = made(&rt, rt.alloc())?;
     let bytes = bytes_of(rt.alloc(), images::SMALLEST_IMAGE)?;
-    assert_eq!(rt; made.as_slice(), bytes.as_slice());
+    same(&rt, made.as_slice(), bytes.as_slice());
     Ok(())
 }
 
 #[test]
 fn a_stack_over_the_limit(rt: HostRuntime) -> Result<(), Fail> {
     let parts = smallest_parts(rt.alloc(), 33)?;
-    assert!(rt; !parts.fits());
+    holds(&rt, !parts.fits());
     Ok(())
 }

@@ -1,5 +1,6 @@
 //! The table of instructions, its bytes written by hand, and bytes that spell none.
 
+use crate::checks::{holds, same, same_in};
 use ifs_base::{
     CommandId, IfaceId, Items, LinkState, Number, Op, QuotedByte, RoutineId, StateId, TestId, Text,
     decode_op, digit_value, encode_op, hex_digit, limits, parse_number, quote_byte,
@@ -59,34 +60,34 @@ fn every_instruction(rt: HostRuntime) {
 #[test]
 fn unknown_codes(rt: HostRuntime) {
     for code in 0x13..=0xff {
-        assert_eq!(rt; decode_op([code, 0, 0, 0]), None, "code {code}");
+        same_in(&rt, code, decode_op([code, 0, 0, 0]), None);
     }
 }
 
 #[test]
 fn byte_one_where_there_is_none(rt: HostRuntime) {
     for code in PLAIN_CODES {
-        assert_eq!(rt; decode_op([code, 1, 0, 0]), None, "code {code}");
-        assert_eq!(rt; decode_op([code, 255, 0, 0]), None, "code {code}");
+        same_in(&rt, code, decode_op([code, 1, 0, 0]), None);
+        same_in(&rt, code, decode_op([code, 255, 0, 0]), None);
     }
     for code in INDEXED_CODES {
-        assert_eq!(rt; decode_op([code, 1, 0, 0]), None, "code {code}");
-        assert_eq!(rt; decode_op([code, 2, 1, 1]), None, "code {code}");
+        same_in(&rt, code, decode_op([code, 1, 0, 0]), None);
+        same_in(&rt, code, decode_op([code, 2, 1, 1]), None);
     }
 }
 
 #[test]
 fn operand_where_there_is_none(rt: HostRuntime) {
     for code in PLAIN_CODES {
-        assert_eq!(rt; decode_op([code, 0, 0, 1]), None, "code {code}");
-        assert_eq!(rt; decode_op([code, 0, 1, 0]), None, "code {code}");
+        same_in(&rt, code, decode_op([code, 0, 0, 1]), None);
+        same_in(&rt, code, decode_op([code, 0, 1, 0]), None);
     }
 }
 
 #[test]
 fn link_states_over_two(rt: HostRuntime) {
     for state in 3..=255 {
-        assert_eq!(rt; decode_op([0x03, state, 0, 0]), None, "state {state}");
+        same_in(&rt, state, decode_op([0x03, state, 0, 0]), None);
     }
 }
 
@@ -94,14 +95,14 @@ fn link_states_over_two(rt: HostRuntime) {
 fn items_give_back_what_they_hold(rt: HostRuntime) -> Result<(), Fail> {
     let items = Items::new([3u8, 5].to_vec(rt.alloc())?);
     check_items(&rt, &items);
-    assert_eq!(rt; items.into_vec().as_slice(), [3u8, 5].as_slice());
+    same(&rt, items.into_vec().as_slice(), [3u8, 5].as_slice());
     Ok(())
 }
 
 fn check_items(rt: &impl Abort, items: &Items<u8>) {
-    assert_eq!(rt; items.len(), 2);
-    assert!(rt; !items.is_empty());
-    assert_eq!(rt; items.as_slice(), [3u8, 5].as_slice());
+    same(rt, items.len(), 2);
+    holds(rt, !items.is_empty());
+    same(rt, items.as_slice(), [3u8, 5].as_slice());
 }
 
 fn text_of(alloc: Global, text: &str) -> Result<Text, AllocError> {
@@ -109,8 +110,8 @@ fn text_of(alloc: Global, text: &str) -> Result<Text, AllocError> {
 }
 
 fn check_text(rt: &impl Abort, text: &Text) {
-    assert_eq!(rt; text.as_str(), "carp0");
-    assert_eq!(rt; text.as_bytes(), b"carp0".as_slice());
+    same(rt, text.as_str(), "carp0");
+    same(rt, text.as_bytes(), b"carp0".as_slice());
 }
 
 #[test]
@@ -121,13 +122,13 @@ fn texts_give_back_what_they_hold(rt: HostRuntime) -> Result<(), Fail> {
 
 fn check_other(rt: &impl Abort, alloc: Global, text: &Text, other: &str) -> Result<(), AllocError> {
     let other = text_of(alloc, other)?;
-    assert!(rt; other != *text);
+    holds(rt, other != *text);
     Ok(())
 }
 
 fn check_copy(rt: &impl Abort, text: &Text) -> Result<(), AllocError> {
     let copy = text.clone()?;
-    assert_eq!(rt; copy, *text);
+    holds(rt, copy == *text);
     Ok(())
 }
 
@@ -163,14 +164,14 @@ fn sizes_of_texts(rt: HostRuntime) -> Result<(), Fail> {
         let fits = limits::text_fits(bytes.as_slice());
         assert_eq!(rt; fits, wanted, "{length} of {byte}");
     }
-    assert!(rt; !limits::text_fits(b"a\x00".as_slice()));
+    holds(&rt, !limits::text_fits(b"a\x00".as_slice()));
     Ok(())
 }
 
 #[test]
 fn periods(rt: HostRuntime) {
     for (seconds, wanted) in [(0, false), (1, true), (604_800, true), (604_801, false)] {
-        assert_eq!(rt; limits::period_fits(seconds), wanted, "{seconds}");
+        same_in(&rt, seconds, limits::period_fits(seconds), wanted);
     }
 }
 
@@ -188,18 +189,18 @@ fn bytes_of_quoted_texts(rt: HostRuntime) {
         (0x80, QuotedByte::Plain(0x80)),
         (0xff, QuotedByte::Plain(0xff)),
     ] {
-        assert_eq!(rt; quote_byte(byte), wanted, "{byte}");
+        same_in(&rt, byte, quote_byte(byte), wanted);
     }
 }
 
 #[test]
 fn hexadecimal_digits(rt: HostRuntime) {
     for (value, digit) in [(0, b'0'), (9, b'9'), (10, b'a'), (15, b'f')] {
-        assert_eq!(rt; hex_digit(value), digit, "{value}");
-        assert_eq!(rt; digit_value(digit), Some(value), "{digit}");
+        same_in(&rt, value, hex_digit(value), digit);
+        same_in(&rt, digit, digit_value(digit), Some(value));
     }
     for byte in [b'/', b':', b'`', b'g', b'A', b'F', 0x00, 0xff] {
-        assert_eq!(rt; digit_value(byte), None, "{byte}");
+        same_in(&rt, byte, digit_value(byte), None);
     }
 }
 
@@ -222,6 +223,6 @@ fn decimal_numbers(rt: HostRuntime) {
         ("-1", None),
         ("0x1", None),
     ] {
-        assert_eq!(rt; parse_number(text.as_bytes()), wanted, "{text}");
+        same_in(&rt, text, parse_number(text.as_bytes()), wanted);
     }
 }

@@ -6,6 +6,8 @@
 #[cfg(test)]
 mod assembly;
 #[cfg(test)]
+mod checks;
+#[cfg(test)]
 mod images;
 #[cfg(test)]
 mod instructions;

@@ -1,5 +1,6 @@
 //! Images written by hand, what the verifier says of them, and where.
 
+use crate::checks::{same, same_in};
 use ifs_asm::assemble;
 use ifs_image::write;
 use ifs_rows::largest_listing;
@@ -32,7 +33,7 @@ fn agree(rt: &impl Abort, alloc: Global, rows: &[Row]) -> Result<(), Fail> {
     for (name, image, wanted) in rows {
         let bytes = draft::image(alloc, image)?;
         let said = told(alloc, bytes.as_slice())?;
-        assert_eq!(rt; said.as_str(), *wanted, "{name}");
+        same_in(rt, name, said.as_str(), *wanted);
     }
     Ok(())
 }
@@ -46,7 +47,7 @@ fn bytes_in(alloc: Global, text: &str) -> Result<Vec<u8>, Fail> {
 fn check_accepted(rt: &impl Abort, alloc: Global, text: &str) -> Result<(), Fail> {
     let bytes = bytes_in(alloc, text)?;
     let said = told(alloc, bytes.as_slice())?;
-    assert_eq!(rt; said.as_str(), "ok");
+    same(rt, said.as_str(), "ok");
     Ok(())
 }
 

@@ -1,5 +1,6 @@
 //! Images that are seen where they lie: what each reader tells, and texts that outlive their view.
 
+use crate::checks::same;
 use ifs_base::{CommandId, IfaceId, Kind, LinkState, Op, RoutineId, StateId};
 use ifs_image::{Budgets, Handlers, Image, ImageView, read, view};
 use ifs_rows::{bytes_of, rows, version_two};
@@ -45,7 +46,7 @@ fn check_two_of_each(rt: &impl Abort, image: &ImageView<'_>) -> Result<(), Fail>
     check_names(rt, image, ["em0", "carp1"], ["up", "down"]);
     check_tests(rt, image);
     check_states(rt, image);
-    assert_eq!(rt; image.routines(), 2);
+    same(rt, image.routines(), 2);
     check_code(rt, image, 0, &[Op::Yes, Op::Ret])?;
     check_kinds(rt, image, 0, &[], &[Kind::Truth])?;
     check_kinds(rt, image, 1, &[], &[])?;
@@ -66,44 +67,44 @@ fn check_head(rt: &impl Abort, image: &ImageView<'_>) {
         cost: 9,
         commands: 3,
     };
-    assert_eq!(rt; image.version(), 1);
-    assert_eq!(rt; image.budgets(), budgets);
-    assert_eq!(rt; image.initial(), StateId(1));
-    assert_eq!(rt; image.always(), handlers(1, 0, 2));
+    same(rt, image.version(), 1);
+    same(rt, image.budgets(), budgets);
+    same(rt, image.initial(), StateId(1));
+    same(rt, image.always(), handlers(1, 0, 2));
 }
 
 fn check_names(rt: &impl Abort, image: &ImageView<'_>, interfaces: [&str; 2], commands: [&str; 2]) {
-    assert_eq!(rt; image.interfaces(), 2);
-    assert_eq!(rt; image.commands(), 2);
+    same(rt, image.interfaces(), 2);
+    same(rt, image.commands(), 2);
     for (index, name) in interfaces.iter().enumerate() {
         if index < image.interfaces() {
-            assert_eq!(rt; image.interface(index), *name);
+            same(rt, image.interface(index), *name);
         }
     }
     for (index, text) in commands.iter().enumerate() {
         if index < image.commands() {
-            assert_eq!(rt; image.command(index), *text);
+            same(rt, image.command(index), *text);
         }
     }
 }
 
 fn check_tests(rt: &impl Abort, image: &ImageView<'_>) {
-    assert_eq!(rt; image.tests(), 2);
+    same(rt, image.tests(), 2);
     for (index, (period, text)) in [(5, "true"), (60, "false")].iter().enumerate() {
         if index < image.tests() {
-            assert_eq!(rt; image.test_period(index), *period);
-            assert_eq!(rt; image.test_text(index), *text);
+            same(rt, image.test_period(index), *period);
+            same(rt, image.test_text(index), *text);
         }
     }
 }
 
 fn check_states(rt: &impl Abort, image: &ImageView<'_>) {
-    assert_eq!(rt; image.states(), 2);
+    same(rt, image.states(), 2);
     let states = [("one", handlers(0, 1, 1)), ("two", handlers(1, 0, 3))];
     for (index, (name, given)) in states.iter().enumerate() {
         if index < image.states() {
-            assert_eq!(rt; image.state_name(index), *name);
-            assert_eq!(rt; image.state_handlers(index), *given);
+            same(rt, image.state_name(index), *name);
+            same(rt, image.state_handlers(index), *given);
         }
     }
 }
@@ -119,8 +120,8 @@ fn check_kinds(
     if image.routines() <= routine {
         return Err(Fail::from("a routine"));
     }
-    assert_eq!(rt; image.params(routine), params);
-    assert_eq!(rt; image.results(routine), results);
+    same(rt, image.params(routine), params);
+    same(rt, image.results(routine), results);
     Ok(())
 }
 
@@ -133,7 +134,7 @@ fn each_kind(rt: HostRuntime) -> Result<(), Fail> {
 
 /// What each routine of an image of version 2 takes and leaves.
 fn check_each_kind(rt: &impl Abort, image: &ImageView<'_>) -> Result<(), Fail> {
-    assert_eq!(rt; image.version(), 2);
+    same(rt, image.version(), 2);
     let both = [Kind::Command, Kind::Truth];
     check_kinds(rt, image, 0, &both, &both)?;
     check_kinds(rt, image, 1, &[], &[Kind::Truth, Kind::Command])?;
@@ -152,14 +153,14 @@ fn check_code(
     if image.routines() <= routine {
         return Err(Fail::from("a routine"));
     }
-    assert_eq!(rt; image.code_len(routine), expected.len());
+    same(rt, image.code_len(routine), expected.len());
     let code = image.code(routine);
-    assert_eq!(rt; code.len(), expected.len());
-    assert_eq!(rt; code.is_empty(), expected.is_empty());
+    same(rt, code.len(), expected.len());
+    same(rt, code.is_empty(), expected.is_empty());
     for (place, op) in expected.iter().enumerate() {
         if place < image.code_len(routine) {
-            assert_eq!(rt; image.op(routine, place), *op);
-            assert_eq!(rt; code.again().op(place), *op);
+            same(rt, image.op(routine, place), *op);
+            same(rt, code.again().op(place), *op);
         }
     }
     Ok(())
@@ -193,15 +194,15 @@ fn every_row_seen(rt: HostRuntime) -> Result<(), Fail> {
 
 fn check_same(rt: &impl Abort, seen: &ImageView<'_>, copied: &Image) -> Result<(), Fail> {
     let parts = copied.parts();
-    assert_eq!(rt; seen.version(), parts.version);
-    assert_eq!(rt; seen.budgets(), parts.budgets);
-    assert_eq!(rt; seen.states(), parts.states.len());
+    same(rt, seen.version(), parts.version);
+    same(rt, seen.budgets(), parts.budgets);
+    same(rt, seen.states(), parts.states.len());
     for (index, state) in parts.states.as_slice().iter().enumerate() {
         if index < seen.states() {
-            assert_eq!(rt; seen.state_name(index), state.name.as_str());
+            same(rt, seen.state_name(index), state.name.as_str());
         }
     }
-    assert_eq!(rt; seen.routines(), parts.routines.len());
+    same(rt, seen.routines(), parts.routines.len());
     for (index, routine) in parts.routines.as_slice().iter().enumerate() {
         check_kinds(
             rt,
@@ -227,6 +228,6 @@ fn last_command<'a>(alloc: Global, bytes: &'a [u8]) -> Result<&'a str, Fail> {
 #[test]
 fn texts_outlive_their_view(rt: HostRuntime) -> Result<(), Fail> {
     let bytes = bytes_of(rt.alloc(), TWO_OF_EACH)?;
-    assert_eq!(rt; last_command(rt.alloc(), bytes.as_slice())?, "down");
+    same(&rt, last_command(rt.alloc(), bytes.as_slice())?, "down");
     Ok(())
 }

@@ -1,6 +1,7 @@
 //! The largest text, with as many tokens, definitions and entries of each table as there may be: nothing but memory is
 //! in its way.
 
+use crate::checks::same;
 use crate::policies::counted;
 use ifs_lex::tokens;
 use ifs_parse::parse;
@@ -34,10 +35,10 @@ fn counts_in(alloc: Global, text: &str, defs: &[(&str, &str)]) -> Result<Counts,
 
 /// Asserts that each table is full.
 fn check_counts(rt: &impl Abort, counts: Counts) {
-    assert_eq!(rt; counts.interfaces, 64);
-    assert_eq!(rt; counts.tests, 64);
-    assert_eq!(rt; counts.commands, 1_024);
-    assert_eq!(rt; counts.states, 256);
+    same(rt, counts.interfaces, 64);
+    same(rt, counts.tests, 64);
+    same(rt, counts.commands, 1_024);
+    same(rt, counts.states, 256);
 }
 
 /// As many tokens as there may be, and the one at the end.
@@ -46,10 +47,10 @@ fn tokens_of_the_largest_text(rt: HostRuntime) -> Result<(), Fail> {
     let text = largest_policy(rt.alloc())?;
     let lines = largest_definitions(rt.alloc())?;
     let defs = definitions_in(rt.alloc(), lines.as_str())?;
-    assert_eq!(rt; text.len(), 1_048_576);
-    assert_eq!(rt; defs.len(), 256);
+    same(&rt, text.len(), 1_048_576);
+    same(&rt, defs.len(), 256);
     let count = tokens_in(rt.alloc(), text.as_str(), defs.as_slice())?;
-    assert_eq!(rt; count, 16_385);
+    same(&rt, count, 16_385);
     Ok(())
 }
 
@@ -59,7 +60,7 @@ fn tree_of_the_largest_text(rt: HostRuntime) -> Result<(), Fail> {
     let lines = largest_definitions(rt.alloc())?;
     let defs = definitions_in(rt.alloc(), lines.as_str())?;
     let count = items_in(rt.alloc(), text.as_str(), defs.as_slice())?;
-    assert_eq!(rt; count, 416);
+    same(&rt, count, 416);
     Ok(())
 }
 

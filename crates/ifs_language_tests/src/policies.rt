@@ -1,5 +1,6 @@
 //! Policies of texts and their refusals, by the rules of names.
 
+use crate::checks::{holds, holds_in, same, same_in};
 use ifs_base::{CommandId, IfaceId, LinkState, StateId, TestId, Text};
 use ifs_lex::tokens;
 use ifs_parse::{Condition, Node, Statement, parse};
@@ -61,7 +62,7 @@ fn last_line(alloc: Global, text: &str, defs: &[(&str, &str)]) -> Result<String,
 fn counts_of_policies(rt: HostRuntime) -> Result<(), Fail> {
     for row in accepted() {
         let line = last_line(rt.alloc(), row.policy, row.definitions)?;
-        assert!(rt; row.answer.ends_with(line.as_str()), "{}", row.name);
+        holds_in(&rt, row.name, row.answer.ends_with(line.as_str()));
     }
     Ok(())
 }
@@ -70,7 +71,7 @@ fn counts_of_policies(rt: HostRuntime) -> Result<(), Fail> {
 fn refusals(rt: HostRuntime) -> Result<(), Fail> {
     for row in refused_names() {
         let line = last_line(rt.alloc(), row.policy, row.definitions)?;
-        assert_eq!(rt; line.as_str(), row.answer, "{}", row.name);
+        same_in(&rt, row.name, line.as_str(), row.answer);
     }
     Ok(())
 }
@@ -97,10 +98,10 @@ fn check_text(rt: &impl Abort, table: &str, index: u16, found: Option<&Text>, wa
 fn check_test(rt: &impl Abort, policy: &Policy, index: u16, command: &str, period: u32) {
     match policy.test(TestId(index)) {
         Some(test) => {
-            assert_eq!(rt; test.command.as_str(), command);
-            assert_eq!(rt; test.period.seconds(), period);
+            same(rt, test.command.as_str(), command);
+            same(rt, test.period.seconds(), period);
         }
-        None => assert!(rt; false, "test {index}"),
+        None => holds_in(rt, index, false),
     }
 }
 
@@ -123,8 +124,8 @@ fn check_numbers(rt: &impl Abort, policy: &Policy) {
     check_test(rt, policy, 0, "t", 7);
     check_test(rt, policy, 1, "u", 7);
     check_test(rt, policy, 2, "t", 8);
-    assert!(rt; policy.test(TestId(3)).is_none());
-    assert_eq!(rt; policy.initial(), StateId(0));
+    holds(rt, policy.test(TestId(3)).is_none());
+    same(rt, policy.initial(), StateId(0));
 }
 
 #[test]
@@ -140,8 +141,8 @@ fn numbers_by_first_use(rt: HostRuntime) -> Result<(), Fail> {
 }
 
 fn check_interface(rt: &impl Abort, policy: &Policy) {
-    assert_eq!(rt; shown(policy.interface(IfaceId(0))), "em1");
-    assert_eq!(rt; policy.counts().interfaces, 1);
+    same(rt, shown(policy.interface(IfaceId(0))), "em1");
+    same(rt, policy.counts().interfaces, 1);
 }
 
 /// Row *outside definitions*: a definition beside the text comes before the text's own.
@@ -163,7 +164,7 @@ fn outside_definitions(rt: HostRuntime) -> Result<(), Fail> {
 }
 
 fn check_command(rt: &impl Abort, policy: &Policy) {
-    assert_eq!(rt; shown(policy.command(CommandId(0))), "echo ab");
+    same(rt, shown(policy.command(CommandId(0))), "echo ab");
 }
 
 #[test]
@@ -176,10 +177,10 @@ fn a_command_over_two_lines(rt: HostRuntime) -> Result<(), Fail> {
 
 fn runs(rt: &impl Abort, block: &PolicyBlock, wanted: &[u16], place: &str) {
     let statements = block.statements();
-    assert_eq!(rt; statements.len(), wanted.len(), "{place}");
+    same_in(rt, place, statements.len(), wanted.len());
     for (statement, command) in statements.iter().zip(wanted) {
         match statement {
-            Statement::Run(found) => assert_eq!(rt; found.0, *command, "{place}"),
+            Statement::Run(found) => same_in(rt, place, found.0, *command),
             Statement::SetState(_) => assert!(rt; false, "a wish in {place}"),
             Statement::If(..) => assert!(rt; false, "a condition in {place}"),
         }
@@ -189,7 +190,7 @@ fn runs(rt: &impl Abort, block: &PolicyBlock, wanted: &[u16], place: &str) {
 fn check_parts(rt: &impl Abort, policy: &Policy) {
     runs(rt, &policy.always().init, &[5], "always init");
     runs(rt, &policy.always().body, &[0, 6], "always body");
-    assert_eq!(rt; policy.initial(), StateId(1));
+    same(rt, policy.initial(), StateId(1));
     for (state, init, body) in [
         (0, [2, 3].as_slice(), [1, 4].as_slice()),
         (1, [].as_slice(), [].as_slice()),
@@ -199,10 +200,10 @@ fn check_parts(rt: &impl Abort, policy: &Policy) {
                 runs(rt, &handlers.init, init, "init of a state");
                 runs(rt, &handlers.body, body, "body of a state");
             }
-            None => assert!(rt; false, "state {state}"),
+            None => holds_in(rt, state, false),
         }
     }
-    assert!(rt; policy.handlers(StateId(2)).is_none());
+    holds(rt, policy.handlers(StateId(2)).is_none());
 }
 
 #[test]
@@ -261,14 +262,14 @@ fn write_condition(line: &mut String, condition: &Condition<Single>) -> Result<(
 fn check_condition(rt: &impl Abort, alloc: Global, condition: &Condition<Single>, wanted: &str) {
     let mut line = String::new(alloc);
     write_condition(&mut line, condition).expect(rt, "no line");
-    assert_eq!(rt; line.as_str(), wanted);
+    same(rt, line.as_str(), wanted);
 }
 
 fn check_block(rt: &impl Abort, block: &PolicyBlock) {
     match block.statements() {
         [Statement::SetState(state), Statement::Run(command)] => {
-            assert_eq!(rt; *state, StateId(1));
-            assert_eq!(rt; *command, CommandId(0));
+            same(rt, *state, StateId(1));
+            same(rt, *command, CommandId(0));
         }
         _ => panic!(rt; "another block"),
     }
@@ -318,7 +319,7 @@ fn check_last(
     wanted: &str,
 ) -> Result<(), Fail> {
     let line = last_line(alloc, text, &[])?;
-    assert_eq!(rt; line.as_str(), wanted, "{name}");
+    same_in(rt, name, line.as_str(), wanted);
     Ok(())
 }
 

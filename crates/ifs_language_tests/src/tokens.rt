@@ -1,5 +1,6 @@
 //! Texts with their tokens and faults, by the rules of the language.
 
+use crate::checks::{holds_in, same, same_in};
 use ifs_lex::{LexFault, Token, What, tokens};
 use ifs_rows::policies::{accepted, refused_names, refused_texts, refused_tokens};
 use std::alloc::{AllocError, Global};
@@ -61,7 +62,7 @@ fn placed(alloc: Global, text: &str, defs: &[(&str, &str)]) -> Result<String, Fa
 fn check_rows(rt: &impl Abort, alloc: Global, rows: &[(&str, &str, &str)]) -> Result<(), Fail> {
     for (name, text, expected) in rows {
         let line = told(alloc, text, &[])?;
-        assert_eq!(rt; line.as_str(), *expected, "{name}");
+        same_in(rt, name, line.as_str(), *expected);
     }
     Ok(())
 }
@@ -243,7 +244,7 @@ fn spans(rt: HostRuntime) -> Result<(), Fail> {
     ];
     for (name, text, expected) in rows {
         let line = placed(rt.alloc(), text, &[])?;
-        assert_eq!(rt; line.as_str(), expected, "{name}");
+        same_in(&rt, name, line.as_str(), expected);
     }
     Ok(())
 }
@@ -257,7 +258,7 @@ fn check_given(
     expected: &str,
 ) -> Result<(), Fail> {
     let line = told(alloc, text, defs)?;
-    assert_eq!(rt; line.as_str(), expected, "{name}");
+    same_in(rt, name, line.as_str(), expected);
     Ok(())
 }
 
@@ -348,7 +349,7 @@ fn check_count(
     expected: Result<usize, LexFault>,
 ) {
     let count = tokens(alloc, text, &[]).map(|all| all.len());
-    assert_eq!(rt; count, expected, "{name}");
+    same_in(rt, name, count, expected);
 }
 
 /// How many tokens a text has with something before it and after it.
@@ -525,7 +526,7 @@ fn values_that_grow(rt: HostRuntime) -> Result<(), Fail> {
 #[test]
 fn want_of_memory_has_no_line(rt: HostRuntime) -> Result<(), Fail> {
     let text = format!(in rt.alloc(); "{}", LexFault::Memory)?;
-    assert_eq!(rt; text.as_str(), "P0");
+    same(&rt, text.as_str(), "P0");
     Ok(())
 }
 
@@ -535,12 +536,12 @@ fn policies(rt: HostRuntime) -> Result<(), Fail> {
     for row in refused_texts() {
         let line = told(rt.alloc(), row.policy, row.definitions)?;
         let answer = format!(in rt.alloc(); "refused {}\n", line.as_str())?;
-        assert_eq!(rt; answer.as_str(), row.answer, "{}", row.name);
+        same_in(&rt, row.name, answer.as_str(), row.answer);
     }
     for rows in [accepted(), refused_tokens(), refused_names()] {
         for row in rows {
             let spelled = tokens(rt.alloc(), row.policy, row.definitions);
-            assert!(rt; spelled.is_ok(), "{}", row.name);
+            holds_in(&rt, row.name, spelled.is_ok());
         }
     }
     Ok(())

@@ -1,5 +1,6 @@
 //! Texts with their trees, notes and faults, by the rules of the grammar.
 
+use crate::checks::{holds, holds_in, same, same_in};
 use ifs_base::LinkState;
 use ifs_lex::tokens;
 use ifs_parse::{
@@ -159,7 +160,7 @@ fn told(alloc: Global, text: &str) -> Result<String, Fail> {
 fn check_rows(rt: &impl Abort, alloc: Global, rows: &[(&str, &str, &str)]) -> Result<(), Fail> {
     for (name, text, expected) in rows {
         let line = told(alloc, text)?;
-        assert_eq!(rt; line.as_str(), *expected, "{name}");
+        same_in(rt, name, line.as_str(), *expected);
     }
     Ok(())
 }
@@ -334,7 +335,7 @@ fn answer(alloc: Global, row: &Checked) -> Result<String, Fail> {
 fn check_answers(rt: &impl Abort, alloc: Global, rows: &[Checked]) -> Result<(), Fail> {
     for row in rows {
         let line = answer(alloc, row)?;
-        assert!(rt; row.answer.starts_with(line.as_str()), "{}", row.name);
+        holds_in(rt, row.name, row.answer.starts_with(line.as_str()));
     }
     Ok(())
 }
@@ -354,7 +355,7 @@ fn rows_have_trees_with_their_notes(rt: HostRuntime) -> Result<(), Fail> {
 fn rows_of_names_have_trees(rt: HostRuntime) -> Result<(), Fail> {
     for row in refused_names() {
         let has_tree = parsed(rt.alloc(), row.policy, row.definitions)?.is_ok();
-        assert!(rt; has_tree, "{}", row.name);
+        holds_in(&rt, row.name, has_tree);
     }
     Ok(())
 }
@@ -539,7 +540,7 @@ fn what_is_closed_is_open_no_more(rt: HostRuntime) -> Result<(), Fail> {
     for part in CLOSED {
         let text = repeated(rt.alloc(), part)?;
         let has_tree = parsed(rt.alloc(), text.as_str(), &[])?.is_ok();
-        assert!(rt; has_tree, "{part}");
+        holds_in(&rt, part, has_tree);
     }
     Ok(())
 }
@@ -550,13 +551,13 @@ fn a_tree_of_16384_tokens(rt: HostRuntime) -> Result<(), Fail> {
     let mut text = String::new(rt.alloc());
     repeat(&mut text, "run x ", 8_192)?;
     let has_tree = parsed(rt.alloc(), text.as_str(), &[])?.is_ok();
-    assert!(rt; has_tree);
+    holds(&rt, has_tree);
     Ok(())
 }
 
 #[test]
 fn want_of_memory_has_no_line(rt: HostRuntime) -> Result<(), Fail> {
     let text = format!(in rt.alloc(); "{}", ParseFault::Memory)?;
-    assert_eq!(&rt; text.as_str(), "P0");
+    same(&rt, text.as_str(), "P0");
     Ok(())
 }

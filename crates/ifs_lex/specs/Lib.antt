@@ -5,3 +5,4 @@ pub mod Spelling
 pub mod Stuck
 pub mod AtOnce
 pub mod inner
+pub mod FaultWords

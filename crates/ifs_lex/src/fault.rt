@@ -1,9 +1,13 @@
 //! Why a text has no tokens.
 
-ghost use Rattle.std.specs.Prelude.{◌≡◌};
+ghost use Rattle.std.specs.Prelude.{◌≡◌, Some};
+ghost use Rattle.ifs_base.specs.FaultTexts.{fault_words};
+ghost use Rattle.ifs_lex.specs.FaultWords.{lex_fault_words};
 ghost use Rattle.ifs_lex.specs.declared.fault.LexFault.TheVariants.{Memory};
 
+use ifs_base::{FaultPlace, FaultText};
 use std::alloc::{AllocError, AllocFailed};
+use std::fmt::{self, Display, Formatter, Write};
 use thiserror::Error;
 
 /// The first fault from the left, with its line, from 1. Faults of the definitions that are given
@@ -11,23 +15,50 @@ use thiserror::Error;
 #[derive(Clone, Copy, Debug, PartialEq, Eq, Error)]
 pub enum LexFault {
     /// P1: a character that begins nothing.
-    #[error("P1 line {line}")]
     Stray { line: u32 },
     /// P2: a quoted text that is not closed, at its quote.
-    #[error("P2 line {line}")]
     Unclosed { line: u32 },
     /// P3: a use of a macro that is not known.
-    #[error("P3 line {line}")]
     UnknownMacro { line: u32 },
     /// P4: a macro whose value is no list of tokens, or a given name that is no macro name, at the name.
-    #[error("P4 line {line}")]
     BadMacro { line: u32 },
     /// P5: too long a text, a token too many, or a macro name too many.
-    #[error("P5 line {line}")]
     OverLimit { line: u32 },
     /// P0: no memory was found.
-    #[error("P0")]
     Memory,
+}
+
+impl LexFault {
+    /// What is printed of the fault.
+    pub fn text(self) -> FaultText
+        ensures { fault_words result ≡ lex_fault_words self }
+    {
+        let (code, line) = match self {
+            LexFault::Stray { line } => ("P1", line),
+            LexFault::Unclosed { line } => ("P2", line),
+            LexFault::UnknownMacro { line } => ("P3", line),
+            LexFault::BadMacro { line } => ("P4", line),
+            LexFault::OverLimit { line } => ("P5", line),
+            LexFault::Memory => {
+                return FaultText {
+                    code: "P0",
+                    place: FaultPlace::Nowhere,
+                };
+            }
+        };
+        FaultText {
+            code,
+            place: FaultPlace::Line(u64::from(line)),
+        }
+    }
+}
+
+impl Display for LexFault {
+    ghost output = { λ fault. Some (lex_fault_words fault) };
+
+    fn fmt<W: Write>(&self, f: &mut Formatter<W>) -> fmt::Result {
+        write!(f, "{}", self.text())
+    }
 }
 
 impl From<AllocError> for LexFault {

@@ -7,3 +7,4 @@ pub mod Rules
 pub mod Grammar
 pub mod AtOnce
 pub mod inner
+pub mod FaultWords

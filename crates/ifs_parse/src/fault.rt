@@ -1,26 +1,57 @@
 //! Why tokens have no tree.
 
-ghost use Rattle.std.specs.Prelude.{◌≡◌};
+ghost use Rattle.std.specs.Prelude.{◌≡◌, Some};
+ghost use Rattle.ifs_base.specs.FaultTexts.{fault_words};
+ghost use Rattle.ifs_parse.specs.FaultWords.{parse_fault_words};
 ghost use Rattle.ifs_parse.specs.declared.fault.ParseFault.TheVariants.{Memory};
 
+use ifs_base::{FaultPlace, FaultText};
 use std::alloc::{AllocError, AllocFailed};
+use std::fmt::{self, Display, Formatter, Write};
 use thiserror::Error;
 
 /// What is wrong with the first token that cannot go on, with its line.
 #[derive(Clone, Copy, Debug, PartialEq, Eq, Error)]
 pub enum ParseFault {
     /// P6: nothing in the grammar goes on with this token.
-    #[error("P6 line {line}")]
     Unexpected { line: u32 },
     /// P7: a period outside 1 to 604,800.
-    #[error("P7 line {line}")]
     Period { line: u32 },
     /// P8: the 33rd `if`, `!` or `(` that is open at once.
-    #[error("P8 line {line}")]
     Nesting { line: u32 },
     /// P0: no memory was found.
-    #[error("P0")]
     Memory,
+}
+
+impl ParseFault {
+    /// What is printed of the fault.
+    pub fn text(self) -> FaultText
+        ensures { fault_words result ≡ parse_fault_words self }
+    {
+        let (code, line) = match self {
+            ParseFault::Unexpected { line } => ("P6", line),
+            ParseFault::Period { line } => ("P7", line),
+            ParseFault::Nesting { line } => ("P8", line),
+            ParseFault::Memory => {
+                return FaultText {
+                    code: "P0",
+                    place: FaultPlace::Nowhere,
+                };
+            }
+        };
+        FaultText {
+            code,
+            place: FaultPlace::Line(u64::from(line)),
+        }
+    }
+}
+
+impl Display for ParseFault {
+    ghost output = { λ fault. Some (parse_fault_words fault) };
+
+    fn fmt<W: Write>(&self, f: &mut Formatter<W>) -> fmt::Result {
+        write!(f, "{}", self.text())
+    }
 }
 
 impl From<AllocError> for ParseFault {

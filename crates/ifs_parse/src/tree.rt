@@ -59,10 +59,18 @@ pub enum Item {
 }
 
 /// A policy as its text says it, and its notes.
-#[derive(Drop)]
 pub struct Tree {
     items: Vec<Item>,
     notes: Vec<u32>,
+}
+
+impl Drop for Tree {
+    fn drop(self) {
+        let Tree {
+            items: _items,
+            notes: _notes,
+        } = self;
+    }
 }
 
 impl Model for Tree {

@@ -8,3 +8,4 @@ pub mod Meaning
 pub mod Whole
 pub mod Order
 pub mod inner
+pub mod FaultWords

@@ -1,9 +1,13 @@
 //! Why a tree has no policy.
 
-ghost use Rattle.std.specs.Prelude.{◌≡◌};
+ghost use Rattle.std.specs.Prelude.{◌≡◌, Some};
+ghost use Rattle.ifs_base.specs.FaultTexts.{fault_words};
+ghost use Rattle.ifs_policy.specs.FaultWords.{resolve_fault_words};
 ghost use Rattle.ifs_policy.specs.declared.fault.ResolveFault.TheVariants.{Memory};
 
+use ifs_base::{FaultPlace, FaultText};
 use std::alloc::{AllocError, AllocFailed};
+use std::fmt::{self, Display, Formatter, Write};
 use thiserror::Error;
 
 /// The fault that is answered, with its line, from 1: a text without a state, else the first of the
@@ -11,32 +15,59 @@ use thiserror::Error;
 #[derive(Clone, Copy, Debug, PartialEq, Eq, Error)]
 pub enum ResolveFault {
     /// P9: no state is defined. Its line is 1.
-    #[error("P9 line {line}")]
     NoState { line: u32 },
     /// P10: a state that is defined already, at its name.
-    #[error("P10 line {line}")]
     StateTwice { line: u32 },
     /// P12: a second `init` of one part or a second `init-state`, at that word.
-    #[error("P12 line {line}")]
     SecondInit { line: u32 },
     /// P13: a `set-state` in an `init`, at that word.
-    #[error("P13 line {line}")]
     SetStateInInit { line: u32 },
     /// P14: an external test in an `init`, at its command.
-    #[error("P14 line {line}")]
     TestInInit { line: u32 },
     /// P15: a new name, test or command for which its table has no place, at its text.
-    #[error("P15 line {line}")]
     TableFull { line: u32 },
     /// P16: a name or a command of no byte or of over 1,024, or with a NUL, at its text.
-    #[error("P16 line {line}")]
     BadText { line: u32 },
     /// P11: a state that is not defined, at its name.
-    #[error("P11 line {line}")]
     UnknownState { line: u32 },
     /// P0: no memory was found.
-    #[error("P0")]
     Memory,
+}
+
+impl ResolveFault {
+    /// What is printed of the fault.
+    pub fn text(self) -> FaultText
+        ensures { fault_words result ≡ resolve_fault_words self }
+    {
+        let (code, line) = match self {
+            ResolveFault::NoState { line } => ("P9", line),
+            ResolveFault::StateTwice { line } => ("P10", line),
+            ResolveFault::UnknownState { line } => ("P11", line),
+            ResolveFault::SecondInit { line } => ("P12", line),
+            ResolveFault::SetStateInInit { line } => ("P13", line),
+            ResolveFault::TestInInit { line } => ("P14", line),
+            ResolveFault::TableFull { line } => ("P15", line),
+            ResolveFault::BadText { line } => ("P16", line),
+            ResolveFault::Memory => {
+                return FaultText {
+                    code: "P0",
+                    place: FaultPlace::Nowhere,
+                };
+            }
+        };
+        FaultText {
+            code,
+            place: FaultPlace::Line(u64::from(line)),
+        }
+    }
+}
+
+impl Display for ResolveFault {
+    ghost output = { λ fault. Some (resolve_fault_words fault) };
+
+    fn fmt<W: Write>(&self, f: &mut Formatter<W>) -> fmt::Result {
+        write!(f, "{}", self.text())
+    }
 }
 
 impl From<AllocError> for ResolveFault {

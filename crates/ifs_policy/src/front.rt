@@ -3,34 +3,59 @@
 ghost use Rattle.std.specs.Prelude.{◌≡◌, ◌≢◌, Some, Err, IfOk, IfErr, map};
 ghost use Rattle.ifs_lex.specs.declared.fault.LexFault.{LexFault};
 ghost use Rattle.ifs_lex.specs.AtOnce.{certain_at_once};
+ghost use Rattle.ifs_base.specs.FaultTexts.{fault_words};
+ghost use Rattle.ifs_policy.specs.FaultWords.{policy_fault_words};
 ghost use Rattle.ifs_policy.specs.Texts.{of_names, of_text, of_tokens, HasPolicy, IsTextRefused, SaysFile};
 ghost use Rattle.ifs_policy.specs.declared.front.PolicyFault.TheVariants.{Memory};
 
 use crate::fault::ResolveFault;
 use crate::policy::Policy;
 use crate::resolving::resolve;
+use ifs_base::{FaultPlace, FaultText};
 use ifs_lex::laws::one_list;
 use ifs_lex::{LexFault, tokens};
 use ifs_parse::laws::one_tree;
 use ifs_parse::{ParseFault, Tree, parse};
 use std::alloc::Global;
+use std::fmt::{self, Display, Formatter, Write};
 use thiserror::Error;
 
 /// Why a text has no policy: the fault of the first step that refuses it.
 #[derive(Clone, Copy, Debug, PartialEq, Eq, Error)]
 pub enum PolicyFault {
     /// P1 to P5: the text has no tokens.
-    #[error("{0}")]
     Text(LexFault),
     /// P6 to P8: the tokens are no policy by the grammar.
-    #[error("{0}")]
     Tokens(ParseFault),
     /// P9 to P16: the names are at fault.
-    #[error("{0}")]
     Names(ResolveFault),
     /// P0: no memory was found.
-    #[error("P0")]
     Memory,
+}
+
+impl PolicyFault {
+    /// What is printed of the fault.
+    pub fn text(self) -> FaultText
+        ensures { fault_words result ≡ policy_fault_words self }
+    {
+        match self {
+            PolicyFault::Text(fault) => fault.text(),
+            PolicyFault::Tokens(fault) => fault.text(),
+            PolicyFault::Names(fault) => fault.text(),
+            PolicyFault::Memory => FaultText {
+                code: "P0",
+                place: FaultPlace::Nowhere,
+            },
+        }
+    }
+}
+
+impl Display for PolicyFault {
+    ghost output = { λ fault. Some (policy_fault_words fault) };
+
+    fn fmt<W: Write>(&self, f: &mut Formatter<W>) -> fmt::Result {
+        write!(f, "{}", self.text())
+    }
 }
 
 impl From<LexFault> for PolicyFault {

@@ -51,9 +51,14 @@ pub struct Counts {
 
 /// A policy, seen as all that it says. It keeps to the limits, and its numbers are of entries of its
 /// tables.
-#[derive(Drop)]
 pub struct Policy {
     parts: PolicyParts,
+}
+
+impl Drop for Policy {
+    fn drop(self) {
+        let Policy { parts: _parts } = self;
+    }
 }
 
 impl Model for Policy {

@@ -1,13 +1,10 @@
 -- Runs of an image that comes as the first line of the input, in hexadecimal digits.
 use Rattle.std.specs.Prelude.{◌≡◌, ◌≢◌, ◌⊎◌, ℕ, List, ◌++◌, codes, decimal, Result, Ok, Err}
 use Rattle.std.specs.Io.KnownBytes.{append_known}
-use Rattle.ifs_image.specs.declared.fault.ImageFault.{ImageFault}
-use Rattle.ifs_image.specs.declared.fault.ImageFault.TheVariants as image_faults
 use Rattle.ifs_image.specs.Spelling.{Spells}
-use Rattle.ifs_verify.specs.declared.fault.At.{At}
-use Rattle.ifs_verify.specs.declared.fault.At.TheVariants as places
 use Rattle.ifs_verify.specs.declared.fault.VerifyFault.{VerifyFault}
 use Rattle.ifs_verify.specs.declared.fault.VerifyFault.TheVariants as faults
+use Rattle.ifs_verify.specs.FaultWords.{verify_fault_words}
 use Rattle.ifs_verify.specs.Accepted.{IsAccepted}
 use Rattle.ifs_verify.specs.Refused.{IsRefusal, AreNotAccepted}
 use Rattle.ifs_core.specs.Event.{Behaviour}
@@ -25,51 +22,15 @@ use Rattle.ifs_session.specs.Device.{counted, Feed, Sink, HoldsNothing}
 use Rattle.ifs_session.specs.Hexadecimal.{HexGives}
 use Rattle.ifs_session.specs.Sessions.{Moment, SessionGives}
 
--- A place in an image.
-abbrev pub place_words : At → List ℕ
-place_words places.Head = codes "head"
-place_words (places.State state) = codes "state " ++ decimal state.0
-place_words (places.Code routine place) = codes "routine " ++ decimal routine.0 ++ codes " place " ++ decimal place
-
--- A fault of reading an image, by its code and the offset of its byte.
-abbrev pub image_fault_words : ImageFault → List ℕ
-image_fault_words (image_faults.Truncated at) = codes "I1 byte " ++ decimal at
-image_fault_words (image_faults.WrongMagic at) = codes "I2 byte " ++ decimal at
-image_fault_words (image_faults.WrongVersion at) = codes "I3 byte " ++ decimal at
-image_fault_words (image_faults.OutOfLimit at) = codes "I4 byte " ++ decimal at
-image_fault_words (image_faults.BadText at) = codes "I5 byte " ++ decimal at
-image_fault_words (image_faults.RepeatedName at) = codes "I6 byte " ++ decimal at
-image_fault_words (image_faults.Trailing at) = codes "I7 byte " ++ decimal at
-image_fault_words (image_faults.NoInstruction at) = codes "I8 byte " ++ decimal at
-image_fault_words image_faults.Memory = codes "I0"
-
--- A fault of verifying, by its code and its place.
-abbrev pub verify_fault_words : VerifyFault → List ℕ
-verify_fault_words (faults.NoImage fault) = image_fault_words fault
-verify_fault_words (faults.NoEntry at) = codes "V2 " ++ place_words at
-verify_fault_words (faults.JumpTarget at) = codes "V3 " ++ place_words at
-verify_fault_words (faults.LeftAtEnd at) = codes "V4 " ++ place_words at
-verify_fault_words (faults.Unreached at) = codes "V5 " ++ place_words at
-verify_fault_words (faults.WrongOperand at) = codes "V6 " ++ place_words at
-verify_fault_words (faults.WaysDisagree at) = codes "V7 " ++ place_words at
-verify_fault_words (faults.CallNotLower at) = codes "V8 " ++ place_words at
-verify_fault_words (faults.WrongResults at) = codes "V9 " ++ place_words at
-verify_fault_words (faults.StackOver at) = codes "V10 " ++ place_words at
-verify_fault_words (faults.FramesOver at) = codes "V11 " ++ place_words at
-verify_fault_words (faults.CostOver at) = codes "V12 " ++ place_words at
-verify_fault_words (faults.CommandsOver at) = codes "V13 " ++ place_words at
-verify_fault_words (faults.HandlerLeaves at) = codes "V14 " ++ place_words at
-verify_fault_words faults.OutOfMemory = codes "V0"
-
 -- What is refused, by its code and its place.
 abbrev pub refusal_words : Refusal → List ℕ
 refusal_words refusals.Broken = codes "X1"
 refusal_words (refusals.NotAccepted fault) = verify_fault_words fault
 refusal_words refusals.Memory = codes "V0"
 
--- The line of a refusal.
-abbrev pub refused_line : Refusal → List ℕ
-refused_line refusal = codes "refused " ++ refusal_words refusal ++ codes "\n"
+-- The line of a refusal, by the words of its fault.
+abbrev pub refused_line : List ℕ → List ℕ
+refused_line words = codes "refused " ++ words ++ codes "\n"
 
 -- What a run answers where it refuses.
 abbrev pub run_fault : Refusal → RunFault
@@ -113,7 +74,7 @@ pub record Runs (result : Result Summary SessionFault) (before after : Streams) 
 -- The first line was refused with this, and its line was written and has gone out.
 pub record Refuses (refusal : Refusal) (before after : Streams) : Type 0 where
   pub why : LineRefused refusal before.feed after.feed
-  pub written : after.sink.written ≡ append_known before.sink.written (refused_line refusal)
+  pub written : after.sink.written ≡ append_known before.sink.written (refused_line (refusal_words refusal))
   pub same_faults : after.sink.faults ≡ before.sink.faults
   pub out : HoldsNothing after.sink.held
 

@@ -30,6 +30,7 @@ pub use fault::{RunFault, SessionFault};
 pub use host::{Host, HostEvent, HostFault, Launch};
 pub use memory::{MemoryIn, MemoryOut};
 pub use queue::run_queue;
+pub use refusal::write_refused;
 pub use replies::write_reloaded;
 pub use request::RequestFault;
 pub use running::run_hex;

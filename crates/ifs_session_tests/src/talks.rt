@@ -5,6 +5,7 @@ mod order;
 mod reloads;
 mod serving;
 
+use crate::checks::{holds, holds_in, same, same_in};
 use ifs_rows::{Refusal, Row, digits_of, images, refusals, sessions, version_two};
 use ifs_session::{
     ByteIn, DeviceFault, FromRead, MemoryIn, MemoryOut, RequestFault, RunFault, SessionFault,
@@ -80,7 +81,7 @@ fn check_bytewise(
     replies: &str,
 ) -> Result<bool, Fail> {
     let (summary, written) = run_bytewise(alloc, input)?;
-    assert_eq!(rt; written.as_slice(), replies.as_bytes(), "{name}");
+    same_in(rt, name, written.as_slice(), replies.as_bytes());
     Ok(summary.stopped)
 }
 
@@ -93,7 +94,7 @@ fn check_buffered(
     replies: &str,
 ) -> Result<bool, Fail> {
     let (summary, written) = run_buffered(alloc, input)?;
-    assert_eq!(rt; written.as_slice(), replies.as_bytes(), "{name}");
+    same_in(rt, name, written.as_slice(), replies.as_bytes());
     Ok(summary.stopped)
 }
 
@@ -108,9 +109,9 @@ fn check_talk(
     let bytes = input_of(alloc, image, requests)?;
     let stops = requests.ends_with("stop\n");
     let stopped = check_bytewise(rt, alloc, name, bytes.as_slice(), replies)?;
-    assert_eq!(rt; stopped, stops, "{name}");
+    same_in(rt, name, stopped, stops);
     let stopped = check_buffered(rt, alloc, name, bytes.as_slice(), replies)?;
-    assert_eq!(rt; stopped, stops, "{name}");
+    same_in(rt, name, stopped, stops);
     Ok(())
 }
 
@@ -146,8 +147,8 @@ fn check_stopped(rt: &impl Abort, summary: Summary, left: &[u8]) {
         steps: 1,
         stopped: true,
     };
-    assert_eq!(rt; summary, expected);
-    assert_eq!(rt; left, b"take\n".as_slice());
+    same(rt, summary, expected);
+    same(rt, left, b"take\n".as_slice());
 }
 
 /// Of lines that are read byte by byte.
@@ -207,7 +208,7 @@ fn each_read_fails_in_turn(rt: HostRuntime) -> Result<(), Fail> {
     for (calls, byte) in bytes.iter().enumerate() {
         let replies = first_replies(rt.alloc(), sessions::first_run(), lines.saturating_sub(1))?;
         let is_so = breaks_reading(rt.alloc(), bytes.as_slice(), calls as u64, replies.as_str());
-        assert!(rt; is_so, "{calls}");
+        holds_in(&rt, calls, is_so);
         if *byte == b'\n' {
             lines = lines.saturating_add(1);
         }
@@ -223,12 +224,12 @@ fn check_cut(
     calls: u64,
 ) -> bool {
     let replies = sessions::first_run().replies;
-    assert!(rt; replies.as_bytes().starts_with(written), "{calls}");
+    holds_in(rt, calls, replies.as_bytes().starts_with(written));
     if answer.is_ok() {
         return false;
     }
     let fault = RunFault::Session(SessionFault::WriteFailed);
-    assert_eq!(rt; answer, Err(fault), "{calls}");
+    same_in(rt, calls, answer, Err(fault));
     true
 }
 
@@ -241,11 +242,11 @@ fn each_write_fails_in_turn(rt: HostRuntime) -> Result<(), Fail> {
         let mut output = MemoryOut::failing_after(rt.alloc(), calls);
         let answer = run_hex(rt.alloc(), &mut input, &mut output);
         if !check_cut(&rt, answer, output.written(), calls) {
-            assert!(rt; calls > 5, "{calls}");
+            holds_in(&rt, calls, calls > 5);
             return Ok(());
         }
     }
-    assert!(rt; false, "some call is past the last");
+    holds_in(&rt, "some call is past the last", false);
     Ok(())
 }
 
@@ -253,9 +254,9 @@ fn each_write_fails_in_turn(rt: HostRuntime) -> Result<(), Fail> {
 fn check_first_written(rt: &impl Abort, alloc: Global, written: &[u8]) -> Result<(), AllocError> {
     let first = first_replies(alloc, sessions::first_run(), 1)?;
     let all = sessions::first_run().replies;
-    assert!(rt; written.starts_with(first.as_bytes()));
-    assert!(rt; all.as_bytes().starts_with(written));
-    assert!(rt; written.len() < all.len());
+    holds(rt, written.starts_with(first.as_bytes()));
+    holds(rt, all.as_bytes().starts_with(written));
+    holds(rt, written.len() < all.len());
     Ok(())
 }
 
@@ -268,7 +269,11 @@ fn growth_refused(rt: HostRuntime) -> Result<(), Fail> {
     let mut input = MemoryIn::new(bytes.as_slice());
     let mut output = MemoryOut::new(&heap);
     let answer = run_hex(rt.alloc(), &mut input, &mut output);
-    assert_eq!(rt; answer, Err(RunFault::Session(SessionFault::WriteFailed)));
+    same(
+        &rt,
+        answer,
+        Err(RunFault::Session(SessionFault::WriteFailed)),
+    );
     check_first_written(&rt, rt.alloc(), output.written())?;
     Ok(())
 }
@@ -304,7 +309,7 @@ fn check_refused(rt: &impl Abort, alloc: Global, rows: &[Refusal]) -> Result<(),
     for refusal in rows {
         let line = input_of(alloc, refusal.image, "")?;
         let is_so = is_refused(alloc, line.as_slice(), refusal.answer);
-        assert!(rt; is_so, "{}", refusal.name);
+        holds_in(rt, refusal.name, is_so);
     }
     Ok(())
 }
@@ -314,7 +319,7 @@ fn refused(rt: HostRuntime) -> Result<(), Fail> {
     check_refused(&rt, rt.alloc(), refusals())?;
     check_refused(&rt, rt.alloc(), version_two::refusals())?;
     for (line, answer) in BROKEN {
-        assert!(rt; is_refused(rt.alloc(), line.as_bytes(), answer), "{line}");
+        holds_in(&rt, line, is_refused(rt.alloc(), line.as_bytes(), answer));
     }
     Ok(())
 }
@@ -324,9 +329,9 @@ fn a_digit_too_many(rt: HostRuntime) -> Result<(), Fail> {
     let line = vec![in rt.alloc(); b'0'; 131_074]?;
     let mut input = MemoryIn::new(line.as_slice());
     let mut output = MemoryOut::new(rt.alloc());
-    assert!(rt; run_hex(rt.alloc(), &mut input, &mut output).is_err());
-    assert_eq!(rt; output.written(), b"refused X1\n".as_slice());
-    assert_eq!(rt; input.left().len(), 1);
+    holds(&rt, run_hex(rt.alloc(), &mut input, &mut output).is_err());
+    same(&rt, output.written(), b"refused X1\n".as_slice());
+    same(&rt, input.left().len(), 1);
     Ok(())
 }
 
@@ -359,9 +364,13 @@ fn too_much_input(rt: HostRuntime) -> Result<(), Fail> {
     };
     let mut output = MemoryOut::new(rt.alloc());
     let answer = run_hex(rt.alloc(), &mut input, &mut output);
-    assert_eq!(rt; answer, Err(RunFault::Session(SessionFault::TooMuchInput)));
-    assert_eq!(rt; input.read, line.len() + 16_777_217);
-    assert!(rt; output.written().is_empty());
+    same(
+        &rt,
+        answer,
+        Err(RunFault::Session(SessionFault::TooMuchInput)),
+    );
+    same(&rt, input.read, line.len() + 16_777_217);
+    holds(&rt, output.written().is_empty());
     Ok(())
 }
 
@@ -388,8 +397,12 @@ fn too_many_long_lines(rt: HostRuntime) -> Result<(), Fail> {
     let mut input = FromRead::new(line.as_slice().chain(LongLines { at: 0 }));
     let mut output = MemoryOut::new(rt.alloc());
     let answer = run_hex(rt.alloc(), &mut input, &mut output);
-    assert_eq!(rt; answer, Err(RunFault::Session(SessionFault::TooMuchInput)));
-    assert_eq!(rt; output.written().len(), 512 * "fault C2\n".len());
+    same(
+        &rt,
+        answer,
+        Err(RunFault::Session(SessionFault::TooMuchInput)),
+    );
+    same(&rt, output.written().len(), 512 * "fault C2\n".len());
     Ok(())
 }
 
@@ -417,10 +430,10 @@ impl Read for Interrupted {
 #[test]
 fn interrupted_reads(rt: HostRuntime) {
     let mut patient = FromRead::new(Interrupted { times: 999 });
-    assert_eq!(rt; patient.next(), Ok(Some(b'x')));
+    same(&rt, patient.next(), Ok(Some(b'x')));
     let mut tired = FromRead::new(Interrupted { times: 1000 });
-    assert_eq!(rt; tired.next(), Err(DeviceFault));
-    assert_eq!(rt; tired.next(), Ok(Some(b'x')));
+    same(&rt, tired.next(), Err(DeviceFault));
+    same(&rt, tired.next(), Ok(Some(b'x')));
 }
 
 /// A fault's text is this code.
@@ -431,7 +444,7 @@ fn check_code<T: Display>(
     code: &str,
 ) -> Result<(), Fail> {
     let text = fault.to_string(alloc)?;
-    assert_eq!(rt; text.as_str(), code);
+    same(rt, text.as_str(), code);
     Ok(())
 }
 

@@ -1,12 +1,14 @@
 //! Why an image is not accepted.
 
-ghost use Rattle.std.specs.Prelude.{◌≡◌};
+ghost use Rattle.std.specs.Prelude.{◌≡◌, ◌++◌, codes, Some};
+ghost use Rattle.ifs_base.specs.FaultTexts.{fault_words, place_words};
+ghost use Rattle.ifs_verify.specs.FaultWords.{at_words, verify_fault_words};
 ghost use Rattle.ifs_verify.specs.declared.fault.VerifyFault.TheVariants.{OutOfMemory};
 
-use ifs_base::{RoutineId, StateId};
+use ifs_base::{FaultPlace, FaultText, RoutineId, StateId};
 use ifs_image::ImageFault;
 use std::alloc::{AllocError, AllocFailed};
-use std::fmt;
+use std::fmt::{self, Display, Formatter, Write};
 use thiserror::Error;
 
 /// A place in an image.
@@ -20,12 +22,15 @@ pub enum At {
     Code(RoutineId, u16),
 }
 
-impl fmt::Display for At {
-    fn fmt<W: fmt::Write>(&self, f: &mut fmt::Formatter<W>) -> fmt::Result {
+impl At {
+    /// The place as it is printed behind the number of a check.
+    fn place(self) -> FaultPlace
+        ensures { place_words result ≡ codes " " ++ at_words self }
+    {
         match self {
-            At::Head => write!(f, "head"),
-            At::State(StateId(state)) => write!(f, "state {state}"),
-            At::Code(RoutineId(routine), place) => write!(f, "routine {routine} place {place}"),
+            At::Head => FaultPlace::Head,
+            At::State(state) => FaultPlace::State(state),
+            At::Code(routine, place) => FaultPlace::Instruction(routine, place),
         }
     }
 }
@@ -34,50 +39,77 @@ impl fmt::Display for At {
 #[derive(Clone, Copy, Debug, PartialEq, Eq, Error)]
 pub enum VerifyFault {
     /// V1: the bytes spell no image.
-    #[error("{0}")]
     NoImage(ImageFault),
     /// V2: an index that is not in its table.
-    #[error("V2 {0}")]
     NoEntry(At),
     /// V3: a jump whose target is not later, or outside its routine.
-    #[error("V3 {0}")]
     JumpTarget(At),
     /// V4: a routine that can be left at its end.
-    #[error("V4 {0}")]
     LeftAtEnd(At),
     /// V5: an instruction that nothing reaches.
-    #[error("V5 {0}")]
     Unreached(At),
     /// V6: an operand on the stack, or a parameter of what is called, that is missing or of the wrong kind.
-    #[error("V6 {0}")]
     WrongOperand(At),
     /// V7: two ways to one place that disagree on the stack.
-    #[error("V7 {0}")]
     WaysDisagree(At),
     /// V8: a call of a routine that is not lower in number.
-    #[error("V8 {0}")]
     CallNotLower(At),
     /// V9: the stack at `ret` is not the routine's results.
-    #[error("V9 {0}")]
     WrongResults(At),
     /// V10: the stack passes its limit or the stated stack.
-    #[error("V10 {0}")]
     StackOver(At),
     /// V11: the frames pass their limit or the stated frames.
-    #[error("V11 {0}")]
     FramesOver(At),
     /// V12: the cost passes its limit or the stated cost.
-    #[error("V12 {0}")]
     CostOver(At),
     /// V13: the commands pass their limit or the stated commands.
-    #[error("V13 {0}")]
     CommandsOver(At),
     /// V14: a handler that takes or leaves a value.
-    #[error("V14 {0}")]
     HandlerLeaves(At),
     /// V0: no memory was found, in reading or in verifying.
-    #[error("V0")]
     OutOfMemory,
+}
+
+impl VerifyFault {
+    /// What is printed of the fault.
+    pub fn text(self) -> FaultText
+        ensures { fault_words result ≡ verify_fault_words self }
+    {
+        let (code, at) = match self {
+            VerifyFault::NoImage(fault) => return fault.text(),
+            VerifyFault::NoEntry(at) => ("V2", at),
+            VerifyFault::JumpTarget(at) => ("V3", at),
+            VerifyFault::LeftAtEnd(at) => ("V4", at),
+            VerifyFault::Unreached(at) => ("V5", at),
+            VerifyFault::WrongOperand(at) => ("V6", at),
+            VerifyFault::WaysDisagree(at) => ("V7", at),
+            VerifyFault::CallNotLower(at) => ("V8", at),
+            VerifyFault::WrongResults(at) => ("V9", at),
+            VerifyFault::StackOver(at) => ("V10", at),
+            VerifyFault::FramesOver(at) => ("V11", at),
+            VerifyFault::CostOver(at) => ("V12", at),
+            VerifyFault::CommandsOver(at) => ("V13", at),
+            VerifyFault::HandlerLeaves(at) => ("V14", at),
+            VerifyFault::OutOfMemory => {
+                return FaultText {
+                    code: "V0",
+                    place: FaultPlace::Nowhere,
+                };
+            }
+        };
+        FaultText {
+            code,
+            place: at.place(),
+        }
+    }
+}
+
+impl Display for VerifyFault {
+    ghost output = { λ fault. Some (verify_fault_words fault) };
+
+    fn fmt<W: Write>(&self, f: &mut Formatter<W>) -> fmt::Result {
+        write!(f, "{}", self.text())
+    }
 }
 
 impl From<AllocError> for VerifyFault {

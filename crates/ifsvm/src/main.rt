@@ -6,70 +6,61 @@
 //! that does not run.
 #![tactic(auto)]
 
-mod command_line;
-mod explaining;
-mod noting;
-mod patience;
-mod sending;
-mod serving;
-mod sessions;
+mod answers;
+mod daemons;
 
-use command_line::Asked;
-use ifs_cli::answering::on_file;
-use ifs_cli::definitions::Definition;
-use ifs_cli::ending::{Ending, out_of_memory};
-use ifs_cli::task::Task;
-use std::alloc::{AllocError, Global};
+use answers::Job;
+use ifs_answer::Task;
+use ifs_command_line::{Asked, Request, Unasked, asked, read};
+use ifs_host::failure::Failure;
+use ifs_host::sessions;
 use std::process::ExitCode;
-use std::rt::Files;
 
 fn main(rt: HostRuntime) -> ExitCode {
-    let (Ok(ending) | Err(ending)) = ending_of(&rt);
-    ending.told(&rt)
-}
-
-/// How the program ends once it has done what the command line asks for. An error is what keeps it from that.
-fn ending_of(rt: &HostRuntime) -> Result<Ending, Ending> {
-    match command_line::read(rt)? {
-        Asked::Session => sessions::by_hexadecimal(rt),
-        Asked::Check { file, definitions } => {
-            on_policy(rt, Task::Check, file, None, definitions.as_slice())
-        }
-        Asked::Compile {
-            file,
-            image,
-            definitions,
-        } => on_policy(rt, Task::Compile, file, Some(image), definitions.as_slice()),
-        Asked::Verify { image } => on_file(rt, Task::Verify, image, None, &[]),
-        Asked::Disasm { image } => on_file(rt, Task::Disasm, image, None, &[]),
-        Asked::Asm { file, image } => on_file(rt, Task::Asm, file, Some(image), &[]),
-        Asked::Upgrade { image, upgraded } => {
-            on_file(rt, Task::Upgrade, image, Some(upgraded), &[])
-        }
-        Asked::Graph { file, definitions } => {
-            on_policy(rt, Task::Graph, file, None, definitions.as_slice())
-        }
-        Asked::Sim { image } => sessions::on_file(rt, image),
-        Asked::Serve(serving) => serving::serve(rt, serving),
-        Asked::Send(sending) => sending::send(rt, sending),
-        Asked::Explain(explaining) => explaining::explain_socket(rt, explaining),
+    match read(&rt) {
+        Ok(words) => ended(&rt, words.as_slice()),
+        Err(unasked) => reported(&rt, unasked),
     }
 }
 
-/// Does a task on the policy of a file, with the definitions of the command line.
-fn on_policy<R: Files + Print + Alloc<A = Global>>(
-    rt: &R,
-    task: Task,
-    file: String,
-    image: Option<String>,
-    definitions: &[Definition],
-) -> Result<Ending, Ending> {
-    let pairs: Result<Vec<(&str, &str)>, _> = definitions
-        .iter()
-        .map(Definition::pair)
-        .collect(rt.alloc());
-    match pairs {
-        Ok(pairs) => on_file(rt, task, file, image, pairs.as_slice()),
-        Err(AllocError) => out_of_memory(rt, task),
+/// Does what these words ask for, and gives the exit status.
+fn ended(rt: &HostRuntime, words: &[String]) -> ExitCode {
+    match asked(rt, words) {
+        Ok(Request { asked, definitions }) => match done(rt, asked, definitions.as_slice()) {
+            Ok(()) => ExitCode::SUCCESS,
+            Err(failure) => failure.reported(rt),
+        },
+        Err(unasked) => reported(rt, unasked),
+    }
+}
+
+/// The exit status where nothing is left to be done.
+fn reported(rt: &HostRuntime, unasked: Unasked) -> ExitCode {
+    match unasked {
+        Unasked::Printed => ExitCode::SUCCESS,
+        Unasked::Wrong => Failure::CommandLine.reported(rt),
+        Unasked::Output(error) => Failure::Output(error).reported(rt),
+    }
+}
+
+/// Does what is asked.
+fn done<'a>(
+    rt: &HostRuntime,
+    asked: Asked<'a>,
+    definitions: &[(&'a str, &'a str)],
+) -> Result<(), Failure<'a>> {
+    match asked {
+        Asked::Session => sessions::by_hexadecimal(rt),
+        Asked::Check { file } => Job::reading(Task::Check, file).done(rt, definitions),
+        Asked::Compile { file, image } => Job::writing(Task::Compile, file, image).done(rt, definitions),
+        Asked::Verify { image } => Job::reading(Task::Verify, image).done(rt, definitions),
+        Asked::Disasm { image } => Job::reading(Task::Disasm, image).done(rt, definitions),
+        Asked::Asm { file, image } => Job::writing(Task::Asm, file, image).done(rt, definitions),
+        Asked::Upgrade { image, upgraded } => Job::writing(Task::Upgrade, image, upgraded).done(rt, definitions),
+        Asked::Graph { file } => Job::reading(Task::Graph, file).done(rt, definitions),
+        Asked::Sim { image } => sessions::on_file(rt, image),
+        Asked::Serve(asked) => daemons::serve(rt, asked),
+        Asked::Send(asked) => daemons::send(rt, asked),
+        Asked::Explain(asked) => daemons::explain(rt, asked),
     }
 }

@@ -1,6 +1,7 @@
 //! When the next tick is wanted, after each request of the rows that have tests.
 
 use super::{answer, bytes_in, opened};
+use crate::checks::same_in;
 use ifs_core::Core;
 use ifs_rows::{Row, sessions};
 use std::alloc::{AllocError, Global};
@@ -18,10 +19,10 @@ fn check_due(
     row: &Row,
     due: &[Option<u64>],
 ) -> Result<(), AllocError> {
-    assert_eq!(rt; row.requests.lines().count(), due.len(), "{}", row.name);
+    same_in(rt, row.name, row.requests.lines().count(), due.len());
     for (request, wanted) in row.requests.lines().zip(due) {
         answer(alloc, core, request)?;
-        assert_eq!(rt; core.next_due(), *wanted, "{}: {request}", row.name);
+        same_in(rt, row.name, core.next_due(), *wanted);
     }
     Ok(())
 }
@@ -36,7 +37,7 @@ fn play(
 ) -> Result<(), AllocError> {
     let image = bytes_in(rt, alloc, row.image);
     let mut core = opened(rt, alloc, image.as_slice());
-    assert_eq!(rt; core.next_due(), opening, "{}", row.name);
+    same_in(rt, row.name, core.next_due(), opening);
     check_due(rt, alloc, &mut core, row, due)
 }
 

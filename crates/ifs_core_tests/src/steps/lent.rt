@@ -8,6 +8,7 @@ ghost use Rattle.ifs_core.specs.Steps.{cost_told, commands_told};
 ghost use Rattle.ifs_core.specs.Headline.{IsVerified, IsKept};
 
 use super::*;
+use crate::checks::{holds, same};
 use ifs_core::laws::headline;
 use ifs_core::{Lists, OpenFault, Outcome};
 use ifs_verify::{Verified, VerifyFault};
@@ -88,14 +89,14 @@ fn traced_names(alloc: Global, core: &Core<'_>) -> Result<String, AllocError> {
 }
 
 fn check_names(rt: &impl Abort, core: &mut Core<'_>) {
-    assert_eq!(rt; current_name(core), "a");
-    assert_eq!(rt; named(core, LINK_UP), Some("a"));
-    assert_eq!(rt; named(core, LINK_UP), None);
-    assert_eq!(rt; named(core, Step::Take), Some("echo m"));
+    same(rt, current_name(core), "a");
+    same(rt, named(core, LINK_UP), Some("a"));
+    same(rt, named(core, LINK_UP), None);
+    same(rt, named(core, Step::Take), Some("echo m"));
 }
 
 fn check_traced(rt: &impl Abort, alloc: Global, core: &Core<'_>) -> Result<(), AllocError> {
-    assert_eq!(rt; traced_names(alloc, core)?.as_str(), "aaa");
+    same(rt, traced_names(alloc, core)?.as_str(), "aaa");
     Ok(())
 }
 
@@ -114,12 +115,16 @@ fn check_lists(rt: &impl Abort, core: &mut Core<'_>, lists: &mut Lists) {
         state: StateId(0),
         cost: 6,
     };
-    assert_eq!(rt; core.step_into(LINK_UP, lists), done);
-    assert_eq!(rt; lists.effects.queued.as_slice(), [CommandId(0)].as_slice());
-    assert_eq!(rt; core.step_into(LINK_UP, lists), Outcome::Same);
-    assert_eq!(rt; core.take(), Some(CommandId(0)));
-    assert_eq!(rt; core.step_into(Step::Take, lists), Outcome::Empty);
-    assert_eq!(rt; core.trace_len(), 3);
+    same(rt, core.step_into(LINK_UP, lists), done);
+    same(
+        rt,
+        lists.effects.queued.as_slice(),
+        [CommandId(0)].as_slice(),
+    );
+    same(rt, core.step_into(LINK_UP, lists), Outcome::Same);
+    same(rt, core.take(), Some(CommandId(0)));
+    same(rt, core.step_into(Step::Take, lists), Outcome::Empty);
+    same(rt, core.trace_len(), 3);
 }
 
 #[test]
@@ -133,7 +138,8 @@ fn lent_lists(rt: HostRuntime) {
 fn check_replies(rt: &impl Abort, alloc: Global, core: &mut Core<'_>) -> Result<(), AllocError> {
     let steps = [LINK_UP, LINK_UP, Step::Take, Step::Take];
     let replies = replies(alloc, core, steps.as_slice())?;
-    assert!(rt;
+    holds(
+        rt,
         matches!(
             replies.as_slice(),
             [
@@ -142,15 +148,15 @@ fn check_replies(rt: &impl Abort, alloc: Global, core: &mut Core<'_>) -> Result<
                 Reply::Taken(CommandId(0)),
                 Reply::Empty
             ]
-        )
+        ),
     );
     Ok(())
 }
 
 fn check_budgets(rt: &impl Abort, core: &Core<'_>) {
     let budgets = core.image().budgets();
-    assert_eq!(rt; budgets.cost, 7);
-    assert_eq!(rt; budgets.commands, 1);
+    same(rt, budgets.cost, 7);
+    same(rt, budgets.commands, 1);
 }
 
 /// The texts of the commands that a core hands out after a link is told, which live as long as the image's bytes.
@@ -163,7 +169,7 @@ fn texts_of_a_core<'a>(rt: &impl Abort, alloc: Global, image: &'a [u8]) -> [Opti
 fn texts_outlive_their_core(rt: HostRuntime) {
     let image = bytes_in(&rt, rt.alloc(), images::FIRST_RUN);
     let texts = texts_of_a_core(&rt, rt.alloc(), image.as_slice());
-    assert_eq!(rt; texts, [Some("a"), Some("echo m")]);
+    same(&rt, texts, [Some("a"), Some("echo m")]);
 }
 
 #[test]
@@ -183,7 +189,7 @@ fn fault_of_the_opening(rt: HostRuntime) -> Result<(), Fail> {
         Ok(verified) => {
             let fault = OpenFault { verified };
             let told = format!(in rt.alloc(); "{fault}")?;
-            assert_eq!(rt; told.as_str(), "V0");
+            same(&rt, told.as_str(), "V0");
         }
     }
     Ok(())

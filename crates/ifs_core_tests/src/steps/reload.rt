@@ -1,6 +1,7 @@
 //! Images that take over from the core of another.
 
 use super::{bytes_in, check_row, opened};
+use crate::checks::same;
 use ifs_core::{Carried, CarryCause, CarryFault, Core};
 use ifs_rows::reloads::{Reload, reloads, with_a_command};
 use ifs_verify::verify;
@@ -55,9 +56,9 @@ fn check_kept(rt: &impl Abort, alloc: Global, core: Core<'_>) {
     match core.carry(alloc) {
         Ok(_) => panic!(rt; "a command was dropped"),
         Err(CarryFault { core, cause }) => {
-            assert_eq!(rt; cause, CarryCause::Queued);
-            assert_eq!(rt; core.queue_len(), 1);
-            assert_eq!(rt; core.trace_len(), 1);
+            same(rt, cause, CarryCause::Queued);
+            same(rt, core.queue_len(), 1);
+            same(rt, core.trace_len(), 1);
         }
     }
 }
@@ -77,7 +78,7 @@ fn a_waiting_command_is_kept(rt: HostRuntime) -> Result<(), Fail> {
 fn codes_of_causes(rt: HostRuntime) -> Result<(), Fail> {
     for (cause, code) in [(CarryCause::Memory, "L0"), (CarryCause::Queued, "L1")] {
         let told = format!(in rt.alloc(); "{cause}")?;
-        assert_eq!(rt; told.as_str(), code);
+        same(&rt, told.as_str(), code);
     }
     Ok(())
 }

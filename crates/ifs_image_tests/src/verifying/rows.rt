@@ -1,6 +1,7 @@
 //! What the verifier says of the worked rows.
 
 use super::told;
+use crate::checks::{same, same_in};
 use ifs_image::{read, upgrade, write};
 use ifs_rows::{Refusal, Row, bytes_of, cost_through_calls, images, refusals, rows, version_two};
 use ifs_verify::{Verified, verify};
@@ -20,7 +21,7 @@ fn budgets_of(alloc: Global, bytes: &[u8]) -> Result<String, Fail> {
 fn check_row(rt: &impl Abort, alloc: Global, row: Row) -> Result<(), Fail> {
     let bytes = bytes_of(alloc, row.image)?;
     let said = budgets_of(alloc, bytes.as_slice())?;
-    assert_eq!(rt; said.as_str(), row.answer, "{}", row.name);
+    same_in(rt, row.name, said.as_str(), row.answer);
     Ok(())
 }
 
@@ -43,7 +44,7 @@ fn check_told(
     let bytes = bytes_of(alloc, image)?;
     let said = told(alloc, bytes.as_slice())?;
     let refusal = format!(in alloc; "refused {said}\n")?;
-    assert_eq!(rt; refusal.as_str(), line, "{name}");
+    same_in(rt, name, refusal.as_str(), line);
     Ok(())
 }
 
@@ -117,8 +118,8 @@ fn refused(rt: HostRuntime) -> Result<(), Fail> {
 
 fn check_lent(rt: &impl Abort, verified: &Verified<'_>) {
     let image = verified.image();
-    assert_eq!(rt; image.budgets(), verified.budgets());
-    assert_eq!(rt; image.routines(), 2);
+    same(rt, image.budgets(), verified.budgets());
+    same(rt, image.routines(), 2);
 }
 
 /// The image is lent whole.
@@ -137,6 +138,6 @@ fn another_interface(rt: HostRuntime) -> Result<(), Fail> {
     let operand = bytes.get_mut(82).ok_or("an operand")?;
     *operand = 1;
     let said = told(rt.alloc(), bytes.as_slice())?;
-    assert_eq!(rt; said.as_str(), "V2 routine 1 place 0");
+    same(&rt, said.as_str(), "V2 routine 1 place 0");
     Ok(())
 }

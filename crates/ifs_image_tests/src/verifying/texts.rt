@@ -1,5 +1,6 @@
 //! The texts of faults.
 
+use crate::checks::same;
 use ifs_base::{RoutineId, StateId};
 use ifs_image::ImageFault;
 use ifs_verify::{At, VerifyFault};
@@ -27,7 +28,7 @@ fn texts_of_faults(rt: HostRuntime) -> Result<(), Fail> {
         (VerifyFault::HandlerLeaves(state), "V14 state 255"),
         (VerifyFault::OutOfMemory, "V0"),
     ] {
-        assert_eq!(rt; fault.to_string(rt.alloc())?.as_str(), text);
+        same(&rt, fault.to_string(rt.alloc())?.as_str(), text);
     }
     Ok(())
 }
@@ -46,7 +47,7 @@ fn texts_of_faults_of_reading(rt: HostRuntime) -> Result<(), Fail> {
         (ImageFault::NoInstruction { at: 57 }, "I8 byte 57"),
     ] {
         let refused = VerifyFault::NoImage(fault);
-        assert_eq!(rt; refused.to_string(rt.alloc())?.as_str(), text);
+        same(&rt, refused.to_string(rt.alloc())?.as_str(), text);
     }
     Ok(())
 }

@@ -13,12 +13,12 @@ use Rattle.ifs_session.specs.declared.running.Unopened.TheVariants.{Refused, Not
 use Rattle.ifs_session.specs.declared.hexadecimal.HexFault.TheVariants as hex_faults
 use Rattle.ifs_session.specs.Device.{counted, Feed, Sink, HoldsNothing}
 use Rattle.ifs_session.specs.Hexadecimal.{HexGives}
-use Rattle.ifs_session.specs.Runs.{refused_line, run_fault, LineRefused, OpensImage}
+use Rattle.ifs_session.specs.Runs.{refusal_words, refused_line, run_fault, LineRefused, OpensImage}
 
 -- What a refusal gives: its fault, after its line was written and has gone out; or that the write failed.
 abbrev pub RefuseGives : Refusal → RunFault → Sink → Sink → Type 0
 RefuseGives refusal result before after =
-    ((result ≡ run_fault refusal) × (after.written ≡ append_known before.written (refused_line refusal)) × (after.faults ≡ before.faults) × HoldsNothing after.held)
+    ((result ≡ run_fault refusal) × (after.written ≡ append_known before.written (refused_line (refusal_words refusal))) × (after.faults ≡ before.faults) × HoldsNothing after.held)
     ⊎ ((result ≡ Session WriteFailed) × (after.faults ≡ counted before.faults))
 
 -- What the opening of the image that bytes spell gives: a core, or why there is none.

@@ -3,6 +3,7 @@
 ghost use Rattle.std.specs.Prelude.{Some};
 
 use super::{first_replies, input_of, row_input};
+use crate::checks::{holds, holds_in, same, same_in};
 use ifs_rows::{refusals, sessions};
 use ifs_session::{
     ByteIn, ByteOut, DeviceFault, FromRead, RunFault, SessionFault, ToWrite, run_hex,
@@ -80,10 +81,10 @@ fn failures_of(rt: &impl Abort, name: &str, input: &mut FromRead<Pieces<'_>>, by
             failed = failed.saturating_add(1);
             next = input.next();
         }
-        assert_eq!(rt; next, Ok(Some(*byte)), "{name}");
+        same_in(rt, name, next, Ok(Some(*byte)));
     }
-    assert_eq!(rt; input.next(), Ok(None), "{name}");
-    assert_eq!(rt; input.next(), Ok(None), "{name}");
+    same_in(rt, name, input.next(), Ok(None));
+    same_in(rt, name, input.next(), Ok(None));
     failed
 }
 
@@ -101,7 +102,7 @@ fn bytes_over_several_buffers(rt: HostRuntime) -> Result<(), Fail> {
             kind,
         });
         let failed = failures_of(&rt, name, &mut input, bytes.as_slice());
-        assert_eq!(rt; failed, failures, "{name}");
+        same_in(&rt, name, failed, failures);
     }
     Ok(())
 }
@@ -110,14 +111,14 @@ fn bytes_over_several_buffers(rt: HostRuntime) -> Result<(), Fail> {
 #[test]
 fn bytes_at_hand(rt: HostRuntime) -> Result<(), Fail> {
     let mut input = FromRead::new(b"abcdef".as_slice());
-    assert!(rt; input.peek().is_empty());
-    assert_eq!(rt; input.next(), Ok(Some(b'a')));
-    assert_eq!(rt; input.peek(), b"bcdef".as_slice());
+    holds(&rt, input.peek().is_empty());
+    same(&rt, input.next(), Ok(Some(b'a')));
+    same(&rt, input.peek(), b"bcdef".as_slice());
     if input.peek().len() >= 2 {
         input.skip(2);
     }
-    assert_eq!(rt; input.next(), Ok(Some(b'd')));
-    assert_eq!(rt; input.peek(), b"ef".as_slice());
+    same(&rt, input.next(), Ok(Some(b'd')));
+    same(&rt, input.peek(), b"ef".as_slice());
     Ok(())
 }
 
@@ -135,7 +136,7 @@ fn bytes_taken_one_by_one(rt: HostRuntime) -> Result<(), Fail> {
     if input.peek().len() >= 2 {
         input.skip(2);
     }
-    assert_eq!(rt; input.next(), Ok(Some(b'c')));
+    same(&rt, input.next(), Ok(Some(b'c')));
     Ok(())
 }
 
@@ -175,9 +176,9 @@ fn writes_and_flushes(rt: HostRuntime) -> Result<(), Fail> {
         fails: false,
     };
     let mut output = ToWrite::new(&mut log);
-    assert_eq!(rt; output.put(bytes.as_slice()), Ok(()));
-    assert_eq!(rt; output.flush(), Ok(()));
-    assert_eq!(rt; log.bytes.strip_suffix(&[0]), Some(bytes.as_slice()));
+    same(&rt, output.put(bytes.as_slice()), Ok(()));
+    same(&rt, output.flush(), Ok(()));
+    same(&rt, log.bytes.strip_suffix(&[0]), Some(bytes.as_slice()));
     Ok(())
 }
 
@@ -189,8 +190,8 @@ fn failing_writes(rt: HostRuntime) {
         fails: true,
     };
     let mut output = ToWrite::new(&mut log);
-    assert_eq!(rt; output.put(b"x"), Err(DeviceFault));
-    assert_eq!(rt; output.flush(), Err(DeviceFault));
+    same(&rt, output.put(b"x"), Err(DeviceFault));
+    same(&rt, output.flush(), Err(DeviceFault));
 }
 
 /// A session over the devices of std: a read that fails is S1, after the replies to the lines before.
@@ -210,10 +211,15 @@ fn a_failed_read_ends_the_session(rt: HostRuntime) -> Result<(), Fail> {
         }),
         &mut ToWrite::new(&mut log),
     );
-    assert_eq!(rt; answer, Err(RunFault::Session(SessionFault::ReadFailed)));
-    assert_eq!(rt;
+    same(
+        &rt,
+        answer,
+        Err(RunFault::Session(SessionFault::ReadFailed)),
+    );
+    same(
+        &rt,
         log.as_slice(),
-        first_replies(rt.alloc(), row, 1)?.as_bytes()
+        first_replies(rt.alloc(), row, 1)?.as_bytes(),
     );
     Ok(())
 }
@@ -257,8 +263,8 @@ impl ByteOut for Holding<'_> {
 
 /// Asserts that these lines have gone out, and that nothing is held back.
 fn check_gone(rt: &impl Abort, output: &Holding<'_>, lines: &str, name: &str) {
-    assert_eq!(rt; output.gone.as_slice(), lines.as_bytes(), "{name}");
-    assert!(rt; output.held.is_empty(), "{name}");
+    same_in(rt, name, output.gone.as_slice(), lines.as_bytes());
+    holds_in(rt, name, output.held.is_empty());
 }
 
 /// A reader whose bytes come in pieces of these lengths, and then the rest, each of which is waited
@@ -335,9 +341,9 @@ fn check_coming(rt: &impl Abort, alloc: Global, image: &[u8], coming: (&str, &[u
     };
     let mut output = Holding::new(alloc, &shown);
     let answer = run_hex(alloc, &mut input, &mut output);
-    assert!(rt; answer.is_ok(), "{name}");
-    assert_eq!(rt; input.late, 0, "{name}");
-    assert_eq!(rt; output.flushes, flushes, "{name}");
+    holds_in(rt, name, answer.is_ok());
+    same_in(rt, name, input.late, 0);
+    same_in(rt, name, output.flushes, flushes);
     check_gone(rt, &output, row.replies, name);
 }
 
@@ -361,7 +367,7 @@ fn refusals_go_out(rt: HostRuntime) -> Result<(), Fail> {
         let mut input = FromRead::new(line.as_slice());
         let mut output = Holding::new(rt.alloc(), &shown);
         let answer = run_hex(rt.alloc(), &mut input, &mut output);
-        assert!(rt; answer.is_err(), "{}", refusal.name);
+        holds_in(&rt, refusal.name, answer.is_err());
         check_gone(&rt, &output, refusal.answer, refusal.name);
     }
     Ok(())

@@ -2,6 +2,7 @@
 //! writer with one log.
 
 use super::serving::{bytes_in, opened};
+use crate::checks::same;
 use ifs_base::TestId;
 use ifs_rows::images;
 use ifs_session::{ByteOut, DeviceFault, Host, HostFault, MemoryIn, serve_one};
@@ -102,9 +103,9 @@ fn order_of(rt: &impl Abort, alloc: Global, image: &str, requests: &[u8]) -> u64
 #[test]
 fn replies_come_after_what_they_tell_of(rt: HostRuntime) {
     let starts = order_of(&rt, rt.alloc(), images::MACROS, b"tick 0\nstatus\nstop\n");
-    assert_eq!(rt; starts, 413_423_434);
+    same(&rt, starts, 413_423_434);
     let runs = order_of(&rt, rt.alloc(), images::FIRST_RUN, b"link carp0 up\nstop\n");
-    assert_eq!(rt; runs, 423_434);
+    same(&rt, runs, 423_434);
 }
 
 /// After a line that asks for a reload nothing is written and nothing sent on; the test that had ended
@@ -112,5 +113,5 @@ fn replies_come_after_what_they_tell_of(rt: HostRuntime) {
 #[test]
 fn nothing_is_written_after_a_reload(rt: HostRuntime) {
     let reload = order_of(&rt, rt.alloc(), images::MACROS, b"tick 0\nreload\nstatus\n");
-    assert_eq!(rt; reload, 41_342);
+    same(&rt, reload, 41_342);
 }

@@ -2,6 +2,7 @@
 
 use super::QUOTES;
 use super::serving::{MACROS_ENDING, Talk, bytes_in, opened, queue_three, quiet, quiet_talk};
+use crate::checks::{holds, holds_in, same, same_in};
 use ifs_base::TestId;
 use ifs_core::{Core, Step};
 use ifs_rows::images;
@@ -43,10 +44,10 @@ const STATUS: &str = "status \"a\" owed yes queue 0 running 0 now 0\n";
 
 /// Asserts that a connection ended with a reload, and this was written.
 fn check_reload(rt: &impl Abort, talk: &Talk<Global>, replies: &str, name: &str) {
-    assert_eq!(rt; talk.served.end, End::Reload, "{name}");
-    assert!(rt; !talk.served.stopped, "{name}");
-    assert_eq!(rt; talk.written(), replies.as_bytes(), "{name}");
-    assert_eq!(rt; talk.waiting, 0, "{name}");
+    same_in(rt, name, talk.served.end, End::Reload);
+    holds_in(rt, name, !talk.served.stopped);
+    same_in(rt, name, talk.written(), replies.as_bytes());
+    same_in(rt, name, talk.waiting, 0);
 }
 
 /// The replies to the lines before a reload stand, nothing is said to it, and no line after it is read.
@@ -56,7 +57,7 @@ fn reloads(rt: HostRuntime) {
         let mut input = MemoryIn::new(requests);
         let talk = quiet_talk(&rt, rt.alloc(), images::FIRST_RUN, &mut input);
         check_reload(&rt, &talk, replies, name);
-        assert_eq!(rt; input.left(), left, "{name}");
+        same_in(&rt, name, input.left(), left);
     }
 }
 
@@ -68,9 +69,9 @@ const RESEMBLING_REPLIES: &str = "fault C1\nfault C1\nfault C1\nfault C1\nfault 
                                   fault C2\ndone \"a\" cost 6 queue 0\n";
 
 fn check_resembling(rt: &impl Abort, talk: &Talk<Global>) {
-    assert_eq!(rt; talk.written(), RESEMBLING_REPLIES.as_bytes());
-    assert_eq!(rt; talk.served.end, End::Closed);
-    assert!(rt; !talk.served.stopped);
+    same(rt, talk.written(), RESEMBLING_REPLIES.as_bytes());
+    same(rt, talk.served.end, End::Closed);
+    holds(rt, !talk.served.stopped);
 }
 
 /// What resembles `reload` is no request and ends nothing; a line too long is told so first.
@@ -89,11 +90,11 @@ fn check_polled_before(rt: &impl Abort, talk: &Talk<Global>) {
         Step::Finished(TestId(0), 1, false),
         Step::Take,
     ];
-    assert_eq!(rt; talk.served.steps.as_slice(), steps.as_slice());
+    same(rt, talk.served.steps.as_slice(), steps.as_slice());
     let [.., HostEvent::Ran(command), HostEvent::Polled(None)] = talk.host.events() else {
         panic!(rt; "what happens at the host last is something else")
     };
-    assert_eq!(rt; command.as_bytes(), b"echo d".as_slice());
+    same(rt, command.as_bytes(), b"echo d".as_slice());
 }
 
 /// A test that had ended before a reload is made a step, and its command is run.
@@ -122,12 +123,12 @@ fn is_cut(rt: &impl Abort, alloc: Global, calls: u64) -> bool {
         &mut MemoryIn::new(b"link carp0 up\nreload\n"),
         MemoryOut::failing_after(alloc, calls),
     );
-    assert!(rt; !talk.served.stopped, "{calls}");
+    holds_in(rt, calls, !talk.served.stopped);
     if talk.served.end == End::Reload {
         return false;
     }
     let end = End::Fault(SessionFault::WriteFailed);
-    assert_eq!(rt; talk.served.end, end, "{calls}");
+    same_in(rt, calls, talk.served.end, end);
     true
 }
 
@@ -136,18 +137,18 @@ fn is_cut(rt: &impl Abort, alloc: Global, calls: u64) -> bool {
 fn each_write_before_a_reload_fails_in_turn(rt: HostRuntime) {
     for calls in 0..100 {
         if !is_cut(&rt, rt.alloc(), calls) {
-            assert!(rt; calls > 3, "{calls}");
+            holds_in(&rt, calls, calls > 3);
             return;
         }
     }
-    assert!(rt; false, "some call is past the last");
+    holds_in(&rt, "some call is past the last", false);
 }
 
 /// Asserts what is written once the image was read anew.
 fn check_line(rt: &impl Abort, alloc: Global, core: &Core<'_>, line: &str) {
     let mut output = MemoryOut::new(alloc);
-    assert_eq!(rt; write_reloaded(core, &mut output), Ok(()));
-    assert_eq!(rt; output.written(), line.as_bytes());
+    same(rt, write_reloaded(core, &mut output), Ok(()));
+    same(rt, output.written(), line.as_bytes());
 }
 
 /// The name of the state and the length of the queue are written.
@@ -173,11 +174,11 @@ fn is_line_cut(rt: &impl Abort, alloc: Global, core: &Core<'_>, calls: u64) -> b
     let mut output = MemoryOut::failing_after(alloc, calls);
     let answer = write_reloaded(core, &mut output);
     let line = b"reloaded \"a\" queue 0\n".as_slice();
-    assert!(rt; line.starts_with(output.written()), "{calls}");
+    holds_in(rt, calls, line.starts_with(output.written()));
     if answer.is_ok() {
         return false;
     }
-    assert_eq!(rt; answer, Err(SessionFault::WriteFailed), "{calls}");
+    same_in(rt, calls, answer, Err(SessionFault::WriteFailed));
     true
 }
 
@@ -185,11 +186,11 @@ fn is_line_cut(rt: &impl Abort, alloc: Global, core: &Core<'_>, calls: u64) -> b
 fn check_cut_lines(rt: &impl Abort, alloc: Global, core: &Core<'_>) {
     for calls in 0..100 {
         if !is_line_cut(rt, alloc, core, calls) {
-            assert!(rt; calls > 3, "{calls}");
+            holds_in(rt, calls, calls > 3);
             return;
         }
     }
-    assert!(rt; false, "some call is past the last");
+    holds_in(rt, "some call is past the last", false);
 }
 
 /// Each write of the line fails in turn.
@@ -216,7 +217,7 @@ impl ByteOut for Stuck {
 
 fn check_stuck(rt: &impl Abort, core: &Core<'_>) {
     let answer = write_reloaded(core, &mut Stuck);
-    assert_eq!(rt; answer, Err(SessionFault::WriteFailed));
+    same(rt, answer, Err(SessionFault::WriteFailed));
 }
 
 /// A line that does not go out is a write that failed.

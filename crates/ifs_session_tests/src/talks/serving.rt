@@ -1,6 +1,7 @@
 //! Served connections, on the worked rows.
 
 use super::Endless;
+use crate::checks::{holds, holds_in, same, same_in};
 use ifs_base::{IfaceId, LinkState, TestId};
 use ifs_core::{Core, Step};
 use ifs_rows::{bytes_of, images, sessions};
@@ -97,8 +98,8 @@ fn check_last_text(rt: &impl Abort, host: &ScriptHost<Global>, count: u32, text:
             last = command.as_bytes();
         }
     }
-    assert_eq!(rt; runs, count);
-    assert_eq!(rt; last, text.as_bytes());
+    same(rt, runs, count);
+    same(rt, last, text.as_bytes());
 }
 
 /// The end of the only run of the row of macros.
@@ -109,23 +110,23 @@ const MACROS_REPLIES: &str = "tick \"a\" cost 4 queue - starts 0:1\n\
                               bye\n";
 
 fn check_macros(rt: &impl Abort, talk: &Talk<Global>) {
-    assert_eq!(rt; talk.written(), MACROS_REPLIES.as_bytes());
+    same(rt, talk.written(), MACROS_REPLIES.as_bytes());
     let steps = [
         Step::Tick(0),
         Step::Finished(TestId(0), 1, false),
         Step::Take,
     ];
-    assert_eq!(rt; talk.served.steps.as_slice(), steps.as_slice());
-    assert_eq!(rt; talk.served.end, End::Stop);
-    assert!(rt; talk.served.stopped);
+    same(rt, talk.served.steps.as_slice(), steps.as_slice());
+    same(rt, talk.served.end, End::Stop);
+    holds(rt, talk.served.stopped);
     check_macros_host(rt, &talk.host);
 }
 
 /// The host was polled and answered this.
 fn check_polled(rt: &impl Abort, event: &HostEvent<HostText>, wanted: Option<(TestId, u64, bool)>) {
     match event {
-        HostEvent::Polled(ending) => assert_eq!(rt; *ending, wanted),
-        _ => assert!(rt; false, "something else than a poll"),
+        HostEvent::Polled(ending) => same(rt, *ending, wanted),
+        _ => holds_in(rt, "something else than a poll", false),
     }
 }
 
@@ -133,24 +134,24 @@ fn check_polled(rt: &impl Abort, event: &HostEvent<HostText>, wanted: Option<(Te
 fn check_started(rt: &impl Abort, event: &HostEvent<HostText>) {
     match event {
         HostEvent::Started(start) => {
-            assert_eq!(rt; start.test, TestId(0));
-            assert_eq!(rt; start.run, 1);
-            assert_eq!(rt; start.text.as_bytes(), b"ping -q -c 1 host".as_slice());
+            same(rt, start.test, TestId(0));
+            same(rt, start.run, 1);
+            same(rt, start.text.as_bytes(), b"ping -q -c 1 host".as_slice());
         }
-        _ => assert!(rt; false, "something else than a start"),
+        _ => holds_in(rt, "something else than a start", false),
     }
 }
 
 /// The host ran this text.
 fn check_ran(rt: &impl Abort, event: &HostEvent<HostText>, text: &str) {
     match event {
-        HostEvent::Ran(command) => assert_eq!(rt; command.as_bytes(), text.as_bytes()),
-        _ => assert!(rt; false, "something else than a run"),
+        HostEvent::Ran(command) => same(rt, command.as_bytes(), text.as_bytes()),
+        _ => holds_in(rt, "something else than a run", false),
     }
 }
 
 fn check_macros_host(rt: &impl Abort, host: &ScriptHost<Global>) {
-    assert!(rt; host.whole());
+    holds(rt, host.whole());
     let [opening, started, ended, ran, last, over] = host.events() else {
         panic!(rt; "there are six events")
     };
@@ -188,11 +189,11 @@ fn ticks(alloc: Global, count: u32) -> Result<Vec<u8>, AllocError> {
 }
 
 fn check_full(rt: &impl Abort, talk: &Talk<Global>, left: &[u8]) {
-    assert_eq!(rt; talk.served.end, End::Full);
-    assert!(rt; !talk.served.stopped);
-    assert_eq!(rt; talk.served.steps.len(), 448);
-    assert_eq!(rt; left, b"tick 0\n".as_slice());
-    assert_eq!(rt; talk.lines(), 448);
+    same(rt, talk.served.end, End::Full);
+    holds(rt, !talk.served.stopped);
+    same(rt, talk.served.steps.len(), 448);
+    same(rt, left, b"tick 0\n".as_slice());
+    same(rt, talk.lines(), 448);
 }
 
 /// 449 ticks: 448 are answered, and the last line is unread.
@@ -213,10 +214,10 @@ const REFUSED_REPLIES: &str = "fault C1\nfault C1\nfault C1\nfault C1\nfault C4\
      fault C1\n";
 
 fn check_refused(rt: &impl Abort, talk: &Talk<Global>) {
-    assert_eq!(rt; talk.written(), REFUSED_REPLIES.as_bytes());
-    assert_eq!(rt; talk.served.end, End::Closed);
+    same(rt, talk.written(), REFUSED_REPLIES.as_bytes());
+    same(rt, talk.served.end, End::Closed);
     let steps = [Step::Link(IfaceId(0), LinkState::Up), Step::Take];
-    assert_eq!(rt; talk.served.steps.as_slice(), steps.as_slice());
+    same(rt, talk.served.steps.as_slice(), steps.as_slice());
     check_last_text(rt, &talk.host, 1, "echo m");
 }
 
@@ -238,13 +239,14 @@ pub(super) fn queue_three(core: &mut Core<'_>) {
 }
 
 fn check_queue_is_run(rt: &impl Abort, core: &mut Core<'_>, host: &mut ScriptHost<Global>) {
-    assert_eq!(rt; core.queue_len(), 3);
+    same(rt, core.queue_len(), 3);
     let steps = run_queue(core, host);
-    assert_eq!(rt;
+    same(
+        rt,
         steps.as_slice(),
-        [Step::Take, Step::Take, Step::Take].as_slice()
+        [Step::Take, Step::Take, Step::Take].as_slice(),
     );
-    assert_eq!(rt; core.queue_len(), 0);
+    same(rt, core.queue_len(), 0);
     check_last_text(rt, host, 3, "echo m");
 }
 
@@ -274,9 +276,9 @@ fn failing_run(alloc: Global, calls: u32) -> Result<Vec<Result<i32, HostFault>>,
 }
 
 fn check_stopped(rt: &impl Abort, talk: &Talk<Global>, calls: u32) {
-    assert_eq!(rt; talk.written(), REPLIES.as_bytes(), "{calls}");
-    assert_eq!(rt; talk.served.end, End::Stop, "{calls}");
-    assert_eq!(rt; talk.served.steps.len(), 7, "{calls}");
+    same_in(rt, calls, talk.written(), REPLIES.as_bytes());
+    same_in(rt, calls, talk.served.end, End::Stop);
+    same_in(rt, calls, talk.served.steps.len(), 7);
     check_last_text(rt, &talk.host, 3, "echo m");
 }
 
@@ -300,10 +302,10 @@ fn each_run_fails_in_turn(rt: HostRuntime) -> Result<(), Fail> {
 
 fn check_broken(rt: &impl Abort, talk: &Talk<Global>, lines: usize, calls: usize) {
     let end = End::Fault(SessionFault::ReadFailed);
-    assert_eq!(rt; talk.served.end, end, "{calls}");
-    assert_eq!(rt; talk.lines(), lines, "{calls}");
-    assert!(rt; REPLIES.as_bytes().starts_with(talk.written()), "{calls}");
-    assert_eq!(rt; talk.waiting, 0, "{calls}");
+    same_in(rt, calls, talk.served.end, end);
+    same_in(rt, calls, talk.lines(), lines);
+    holds_in(rt, calls, REPLIES.as_bytes().starts_with(talk.written()));
+    same_in(rt, calls, talk.waiting, 0);
 }
 
 /// Each read fails in turn: the lines that were whole by then are served, and their replies written.
@@ -323,14 +325,14 @@ fn each_read_fails_in_turn(rt: HostRuntime) {
 /// Asserts what a connection came to whose write after so many calls fails; where it is that of `bye`, the
 /// connection was stopped all the same. Whether there was such a write.
 fn check_cut(rt: &impl Abort, talk: &Talk<Global>, calls: u64) -> bool {
-    assert!(rt; REPLIES.as_bytes().starts_with(talk.written()), "{calls}");
-    assert_eq!(rt; talk.waiting, 0, "{calls}");
+    holds_in(rt, calls, REPLIES.as_bytes().starts_with(talk.written()));
+    same_in(rt, calls, talk.waiting, 0);
     if talk.served.end == End::Stop {
         return false;
     }
     let end = End::Fault(SessionFault::WriteFailed);
-    assert_eq!(rt; talk.served.end, end, "{calls}");
-    assert_eq!(rt; talk.served.stopped, talk.lines() == 4, "{calls}");
+    same_in(rt, calls, talk.served.end, end);
+    same_in(rt, calls, talk.served.stopped, talk.lines() == 4);
     true
 }
 
@@ -347,17 +349,17 @@ fn each_write_fails_in_turn(rt: HostRuntime) {
             MemoryOut::failing_after(rt.alloc(), calls),
         );
         if !check_cut(&rt, &talk, calls) {
-            assert!(rt; calls > 5, "{calls}");
+            holds_in(&rt, calls, calls > 5);
             return;
         }
     }
-    assert!(rt; false, "some call is past the last");
+    holds_in(&rt, "some call is past the last", false);
 }
 
 fn check_noted<A: Allocator + Copy>(rt: &impl Abort, talk: &Talk<A>, whole: bool) {
-    assert_eq!(rt; talk.written(), REPLIES.as_bytes(), "{whole}");
-    assert_eq!(rt; talk.served.end, End::Stop, "{whole}");
-    assert_eq!(rt; talk.host.whole(), whole);
+    same_in(rt, whole, talk.written(), REPLIES.as_bytes());
+    same_in(rt, whole, talk.served.end, End::Stop);
+    same(rt, talk.host.whole(), whole);
 }
 
 /// A note that finds no memory is dropped, and what is served stays the same.
@@ -380,9 +382,13 @@ fn growth_refused(rt: HostRuntime) -> Result<(), Fail> {
 
 fn check_too_much(rt: &impl Abort, talk: &Talk<Global>) {
     let end = End::Fault(SessionFault::TooMuchInput);
-    assert_eq!(rt; talk.served.end, end);
-    assert_eq!(rt; talk.written(), b"done \"a\" cost 6 queue 0\n".as_slice());
-    assert_eq!(rt; talk.served.steps.len(), 2);
+    same(rt, talk.served.end, end);
+    same(
+        rt,
+        talk.written(),
+        b"done \"a\" cost 6 queue 0\n".as_slice(),
+    );
+    same(rt, talk.served.steps.len(), 2);
 }
 
 /// Byte 16,777,217 of a connection ends it.
@@ -401,5 +407,5 @@ fn too_much_input(rt: HostRuntime) {
         MemoryOut::new(rt.alloc()),
     );
     check_too_much(&rt, &talk);
-    assert_eq!(rt; input.read, 16_777_217);
+    same(&rt, input.read, 16_777_217);
 }

@@ -1,0 +1,18 @@
+-- Refusals that no fault of another crate has: of bytes that are no text, and for want of memory.
+use Rattle.std.specs.Prelude.{ℕ, List, ◌++◌, codes, decimal}
+use Rattle.ifs_answer.specs.declared.task.Task.{Task}
+use Rattle.ifs_answer.specs.declared.task.Task.TheVariants.{Check, Compile, Verify, Disasm, Asm, Upgrade, Graph}
+
+-- Why a text that is none is no policy: of a byte of this line.
+abbrev pub no_text_words : ℕ → List ℕ
+no_text_words line = codes "P1 line " ++ decimal line
+
+-- Want of memory, of each task.
+abbrev pub memory_words : Task → List ℕ
+memory_words Check = codes "P0"
+memory_words Compile = codes "P0"
+memory_words Verify = codes "V0"
+memory_words Disasm = codes "I0"
+memory_words Asm = codes "A0"
+memory_words Upgrade = codes "I0"
+memory_words Graph = codes "P0"

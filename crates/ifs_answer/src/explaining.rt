@@ -1,0 +1,272 @@
+//! What a daemon tells of its steps, with the names of its image.
+
+use ifs_base::{Number, Quoted, parse_number};
+use ifs_image::ImageView;
+use std::alloc::{AllocError, Global};
+
+/// How many steps a daemon tells at most.
+const MOST_STEPS: usize = 256;
+
+/// What is told of the steps.
+#[derive(Clone, Copy, Debug, PartialEq, Eq)]
+pub enum Explained {
+    /// What each did, but for ticks that evaluated nothing.
+    Steps,
+    /// The request lines of these steps.
+    Requests,
+}
+
+/// What a daemon replied to `status` and `trace`, with the names of its image in place of numbers. An error is want of
+/// memory.
+///
+/// A line of a step tells its moment, or `-` where that is not known, and begins with `*` where the state changed. A
+/// number that the image has no name for stays as it is, as does a line that tells no step; of request lines such a line
+/// is left out.
+pub fn explain(
+    alloc: Global,
+    image: &ImageView<'_>,
+    reply: &str,
+    explained: Explained,
+) -> Result<String, AllocError> {
+    match explained {
+        Explained::Steps => steps_of(alloc, image, reply),
+        Explained::Requests => requests_of(alloc, image, reply),
+    }
+}
+
+fn steps_of(alloc: Global, image: &ImageView<'_>, reply: &str) -> Result<String, AllocError> {
+    let mut story = Story {
+        text: String::new(alloc),
+        moment: "-",
+        state: initial_of(alloc, image, reply)?,
+    };
+    for line in reply.lines() {
+        story.put_line(image, line)?;
+    }
+    Ok(story.text)
+}
+
+/// The state before the first step, in quotes: the initial one, where all steps are told.
+fn initial_of(
+    alloc: Global,
+    image: &ImageView<'_>,
+    reply: &str,
+) -> Result<Option<String>, AllocError> {
+    let initial = usize::from(image.initial().0);
+    let steps = reply
+        .lines()
+        .filter(|line| entry_of(line).is_some())
+        .count();
+    if initial < image.states() && steps < MOST_STEPS {
+        let name = Quoted(image.state_name(initial));
+        Ok(Some(format!(in alloc; "{name}")?))
+    } else {
+        Ok(None)
+    }
+}
+
+/// What has been told so far of some lines, the moment of the last tick, and the state after the last step, in quotes.
+#[derive(Drop)]
+struct Story<'r> {
+    text: String,
+    moment: &'r str,
+    state: Option<String>,
+}
+
+impl<'r> Story<'r> {
+    fn put_line(&mut self, image: &ImageView<'_>, line: &'r str) -> Result<(), AllocError> {
+        match entry_of(line) {
+            Some(entry) => self.put_entry(image, entry),
+            None => {
+                writeln!(self.text, "{line}")?;
+                Ok(())
+            }
+        }
+    }
+
+    fn put_entry(&mut self, image: &ImageView<'_>, entry: Entry<'r>) -> Result<(), AllocError> {
+        if let Happened::Tick { moment } = entry.happened {
+            self.moment = moment;
+            if entry.cost == "0" {
+                return Ok(());
+            }
+        }
+        let changed = self.changes_to(entry.state);
+        self.text.push_str(if changed { "* at " } else { "  at " })?;
+        self.text.push_str(self.moment)?;
+        self.text.push(' ')?;
+        put_happened(&mut self.text, image, entry.happened)?;
+        self.put_outcome(&entry, changed)?;
+        self.know(entry.state)
+    }
+
+    /// Whether this is another state than the one before, where that is known.
+    fn changes_to(&self, state: &str) -> bool {
+        match &self.state {
+            Some(before) => before.as_str() != state,
+            None => false,
+        }
+    }
+
+    fn put_outcome(&mut self, entry: &Entry<'_>, changed: bool) -> Result<(), AllocError> {
+        let Entry {
+            outcome,
+            state,
+            cost,
+            queue,
+            happened: _,
+        } = *entry;
+        write!(self.text, " -> {outcome} ")?;
+        match &self.state {
+            Some(before) if changed => write!(self.text, "{before} => ")?,
+            _ => {}
+        }
+        writeln!(self.text, "{state} cost {cost} queue {queue}")?;
+        Ok(())
+    }
+
+    fn know(&mut self, state: &str) -> Result<(), AllocError> {
+        let alloc = *self.text.allocator();
+        self.state = Some(String::from_str(alloc, state)?);
+        Ok(())
+    }
+}
+
+fn requests_of(alloc: Global, image: &ImageView<'_>, reply: &str) -> Result<String, AllocError> {
+    let mut requests = String::new(alloc);
+    for line in reply.lines() {
+        if let Some(entry) = entry_of(line) {
+            put_request(&mut requests, image, entry.happened)?;
+        }
+    }
+    Ok(requests)
+}
+
+/// A line of a trace. The state is in quotes.
+#[derive(Clone, Copy)]
+struct Entry<'r> {
+    happened: Happened<'r>,
+    outcome: &'r str,
+    state: &'r str,
+    cost: &'r str,
+    queue: &'r str,
+}
+
+/// A step of a trace.
+#[derive(Clone, Copy)]
+enum Happened<'r> {
+    Link { interface: &'r str, state: &'r str },
+    /// The number of its run and how it ended stand together, parted by a blank.
+    Result { test: &'r str, run: &'r str },
+    Tick { moment: &'r str },
+    Take,
+}
+
+/// The entry that a line tells: `STEP -> NAME "STATE" cost N queue N`.
+fn entry_of(line: &str) -> Option<Entry<'_>> {
+    let (step, told) = line.split_once(" -> ")?;
+    let happened = happened_of(step)?;
+    let (told, queue) = told.rsplit_once(" queue ")?;
+    let (told, cost) = told.rsplit_once(" cost ")?;
+    let (outcome, state) = told.split_once(' ')?;
+    Some(Entry {
+        happened,
+        outcome,
+        state,
+        cost,
+        queue,
+    })
+}
+
+/// The step that these words tell.
+fn happened_of(step: &str) -> Option<Happened<'_>> {
+    if step == "take" {
+        return Some(Happened::Take);
+    }
+    let (word, told) = step.split_once(' ')?;
+    if word == "tick" {
+        return Some(Happened::Tick { moment: told });
+    }
+    let (first, second) = told.split_once(' ')?;
+    match word {
+        "link" => Some(Happened::Link {
+            interface: first,
+            state: second,
+        }),
+        "result" => Some(Happened::Result {
+            test: first,
+            run: second,
+        }),
+        _ => None,
+    }
+}
+
+/// Adds a step, with the names of what it tells of.
+fn put_happened(
+    text: &mut String,
+    image: &ImageView<'_>,
+    happened: Happened<'_>,
+) -> Result<(), AllocError> {
+    match happened {
+        Happened::Link { interface, state } => match interface_of(image, interface) {
+            Some(name) => write!(text, "link {} {state}", Quoted(name))?,
+            None => write!(text, "link {interface} {state}")?,
+        },
+        Happened::Result { test, run } => match test_of(image, test) {
+            Some((command, period)) => write!(
+                text,
+                "result {} every {period} run {run}",
+                Quoted(command)
+            )?,
+            None => write!(text, "result {test} run {run}")?,
+        },
+        Happened::Tick { moment } => write!(text, "tick {moment}")?,
+        Happened::Take => text.push_str("take")?,
+    }
+    Ok(())
+}
+
+/// Adds the request line that makes a step.
+fn put_request(
+    requests: &mut String,
+    image: &ImageView<'_>,
+    happened: Happened<'_>,
+) -> Result<(), AllocError> {
+    match happened {
+        Happened::Link { interface, state } => {
+            let name = interface_of(image, interface).unwrap_or(interface);
+            writeln!(requests, "link {name} {state}")?;
+        }
+        Happened::Result { test, run } => writeln!(requests, "result {test} {run}")?,
+        Happened::Tick { moment } => writeln!(requests, "tick {moment}")?,
+        Happened::Take => requests.push_str("take\n")?,
+    }
+    Ok(())
+}
+
+/// The name of the interface of this number.
+fn interface_of<'a>(image: &ImageView<'a>, number: &str) -> Option<&'a str> {
+    let index = index_of(number)?;
+    if index < image.interfaces() {
+        Some(image.interface(index))
+    } else {
+        None
+    }
+}
+
+/// The command and the period, in seconds, of the test of this number.
+fn test_of<'a>(image: &ImageView<'a>, number: &str) -> Option<(&'a str, u32)> {
+    let index = index_of(number)?;
+    if index < image.tests() {
+        Some((image.test_text(index), image.test_period(index)))
+    } else {
+        None
+    }
+}
+
+fn index_of(number: &str) -> Option<usize> {
+    match parse_number(number.as_bytes())? {
+        Number::Within(index) => usize::try_from(index).ok(),
+        Number::TooGreat => None,
+    }
+}

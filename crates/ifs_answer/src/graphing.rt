@@ -1,0 +1,71 @@
+//! The states of a policy as a picture, in graphviz's language.
+
+ghost use Rattle.std.specs.Prelude.{◌≡◌, None, IfOk};
+
+use crate::edges::{Edges, Source};
+use crate::labels::put_label;
+use crate::task::Answer;
+use ifs_lex::tokens;
+use ifs_policy::Policy;
+use std::alloc::{AllocError, Global};
+
+/// The answer that is a policy's picture: a node for each state, the initial one with two borders, and an edge for each
+/// `set-state`, with its conditions. Those outside any state part from one node.
+pub(crate) fn drawn(
+    alloc: Global,
+    text: &str,
+    defs: &[(&str, &str)],
+    policy: &Policy,
+) -> Result<Answer, AllocError>
+    ensures good { IfOk result (λ answer. (answer.status ≡ 0) × (answer.file ≡ None)) }
+{
+    Ok(Answer::good(picture_of(alloc, text, defs, policy)?, None))
+}
+
+fn picture_of(
+    alloc: Global,
+    text: &str,
+    defs: &[(&str, &str)],
+    policy: &Policy,
+) -> Result<String, AllocError> {
+    // a text that has a policy has tokens
+    let Ok(tokens) = tokens(alloc, text, defs) else {
+        return Err(AllocError);
+    };
+    let edges = Edges::of(alloc, Source { text, policy }, tokens.as_slice())?;
+    let mut picture = String::from_str(alloc, "digraph policy {\n\tnode [shape=box]\n")?;
+    put_states(&mut picture, policy)?;
+    if edges.from_any {
+        picture.push_str("\tany [label=\"any state\", style=dashed]\n")?;
+    }
+    picture.push_str(edges.lines.as_str())?;
+    picture.push_str("}\n")?;
+    Ok(picture)
+}
+
+/// Adds a line for each state.
+fn put_states(picture: &mut String, policy: &Policy) -> Result<(), AllocError> {
+    let states = &policy.tables().states;
+    for index in 0..states.len() {
+        if let Some(name) = states.get(index) {
+            let initial = index == usize::from(policy.initial().0);
+            put_state(picture, index, name.as_str(), initial)?;
+        }
+    }
+    Ok(())
+}
+
+fn put_state(
+    picture: &mut String,
+    index: usize,
+    name: &str,
+    initial: bool,
+) -> Result<(), AllocError> {
+    write!(picture, "\ts{index} [label=\"")?;
+    put_label(picture, name)?;
+    picture.push_str(if initial {
+        "\", peripheries=2]\n"
+    } else {
+        "\"]\n"
+    })
+}

@@ -1,0 +1,91 @@
+//! Tasks on the bytes of a file, and their answers.
+
+ghost use Rattle.std.specs.Prelude.{◌≡◌, None, length, option_map, string_bytes, IfOk, IfSome, IsSomeAnd};
+ghost use Rattle.ifs_image.specs.Spelling.{Spells};
+ghost use Rattle.ifs_answer.specs.Faults.{memory_words};
+ghost use Rattle.ifs_answer.specs.Lines.{refusal_line, size_line};
+
+use crate::lines::of_size;
+use ifs_image::{Image, write};
+use std::alloc::{AllocError, Global};
+use std::fmt::Display;
+
+/// What is asked of the bytes of a file.
+#[derive(Clone, Copy, Debug, PartialEq, Eq)]
+pub enum Task {
+    /// Tell whether a text is a policy.
+    Check,
+    /// Compile a policy to an image.
+    Compile,
+    /// Verify an image.
+    Verify,
+    /// Tell the assembly text of an image.
+    Disasm,
+    /// Make the image that an assembly text spells.
+    Asm,
+    /// Make the image of version 2 that says what an image says.
+    Upgrade,
+    /// Show the states of a policy as a picture.
+    Graph,
+}
+
+impl Task {
+    /// The code that refuses for want of memory.
+    pub fn memory_code(self) -> &'static str
+        ensures { result.now ≡ memory_words self }
+    {
+        match self {
+            Task::Check | Task::Compile | Task::Graph => "P0",
+            Task::Verify => "V0",
+            Task::Disasm | Task::Upgrade => "I0",
+            Task::Asm => "A0",
+        }
+    }
+}
+
+/// What is printed, the exit status, and the file that is to be written.
+#[derive(Debug, Drop)]
+pub struct Answer {
+    pub status: u8,
+    pub text: String,
+    pub file: Option<Vec<u8>>,
+}
+
+impl Answer {
+    /// The answer to bytes that are good: its lines and its file.
+    pub(crate) fn good(text: String, file: Option<Vec<u8>>) -> Answer
+        ensures status { result.status ≡ 0 }
+        ensures text { result.text ≡ text }
+        ensures file { result.file ≡ file }
+    {
+        Answer {
+            status: 0,
+            text,
+            file,
+        }
+    }
+
+    /// The answer that gives the bytes of an image, and tells their number.
+    pub(crate) fn written(alloc: Global, image: &Image) -> Result<Answer, AllocError>
+        ensures status { IfOk result (λ answer. answer.status ≡ 0) }
+        ensures file { IfOk result (λ answer. IsSomeAnd (option_map (λ file. file.items) answer.file) (λ file. Spells file image.now)) }
+        ensures text { IfOk result (λ answer. IsSomeAnd (option_map (λ file. file.items) answer.file) (λ file. string_bytes answer.text ≡ size_line (length file))) }
+    {
+        let file = write(alloc, image)?;
+        let line = of_size(alloc, file.len())?;
+        Ok(Answer::good(line, Some(file)))
+    }
+
+    /// The answer to bytes that are refused: one line, with the fault.
+    pub(crate) fn refused<F: Display + Drop>(alloc: Global, fault: F) -> Result<Answer, AllocError>
+        ensures status { IfOk result (λ answer. answer.status ≡ 1) }
+        ensures text { IfSome (F.output fault) (λ words. IfOk result (λ answer. string_bytes answer.text ≡ refusal_line words)) }
+        ensures file { IfOk result (λ answer. answer.file ≡ None) }
+    {
+        Ok(Answer {
+            status: 1,
+            text: format!(in alloc; "refused {fault}\n")?,
+            file: None,
+        })
+    }
+}

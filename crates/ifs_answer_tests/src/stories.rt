@@ -1,0 +1,114 @@
+//! What is told of a daemon's steps.
+
+use crate::checks::same;
+use ifs_answer::{Explained, Task, answer, explain};
+use ifs_image::view;
+use std::alloc::Global;
+use std::process::Abort;
+use std::test::Fail;
+
+/// A policy with an interface and a test, each with a quote in its name.
+const POLICY: &[u8] =
+    b"state backup { if 'a \"b'.link.up && 'ping \"x\"' every 10 set-state master }\n\
+    state master { if em1.link.down set-state backup }\n";
+
+/// What a daemon replied: a change, steps that changed no state, ticks with and without an evaluation, numbers that are in
+/// no table, and lines that tell no step.
+const REPLY: &str = "status \"backup\" owed no queue 0 running 1 now 20\n\
+    trace 9\n\
+    link 0 up -> done \"backup\" cost 3 queue 0\n\
+    tick 7 -> ticked \"backup\" cost 0 queue 0\n\
+    tick 10 -> ticked \"backup\" cost 4 queue 0\n\
+    result 0 1 ok -> done \"master\" cost 9 queue 2\n\
+    take -> taken \"master\" cost 0 queue 0\n\
+    link 2 up -> same \"master\" cost 0 queue 0\n\
+    result 1 18446744073709551615 fail -> same \"master\" cost 0 queue 0\n\
+    tick 20 -> ticked \"master\" cost 0 queue 0\n\
+    link 1 down -> done \"backup\" cost 7 queue 0\n\
+    fault C1\n\
+    link -> there\n";
+
+const STEPS: &str = "status \"backup\" owed no queue 0 running 1 now 20\n\
+    trace 9\n  \
+      at - link \"a \\\"b\" up -> done \"backup\" cost 3 queue 0\n  \
+      at 10 tick 10 -> ticked \"backup\" cost 4 queue 0\n\
+    * at 10 result \"ping \\\"x\\\"\" every 10 run 1 ok -> done \"backup\" => \"master\" cost 9 queue 2\n  \
+      at 10 take -> taken \"master\" cost 0 queue 0\n  \
+      at 10 link 2 up -> same \"master\" cost 0 queue 0\n  \
+      at 10 result 1 run 18446744073709551615 fail -> same \"master\" cost 0 queue 0\n\
+    * at 20 link \"em1\" down -> done \"master\" => \"backup\" cost 7 queue 0\n\
+    fault C1\n\
+    link -> there\n";
+
+const REQUESTS: &str = "link a \"b up\n\
+    tick 7\n\
+    tick 10\n\
+    result 0 1 ok\n\
+    take\n\
+    link 2 up\n\
+    result 1 18446744073709551615 fail\n\
+    tick 20\n\
+    link em1 down\n";
+
+/// What is told of a reply, with the names of the policy, is this.
+fn check(
+    rt: &impl Abort,
+    alloc: Global,
+    reply: &str,
+    explained: Explained,
+    wanted: &str,
+) -> Result<(), Fail> {
+    let compiled = answer(alloc, Task::Compile, POLICY, &[])?;
+    let Some(bytes) = &compiled.file else {
+        panic!(rt; "no image");
+    };
+    let image = view(alloc, bytes.as_slice())?;
+    let told = explain(alloc, &image, reply, explained)?;
+    same(rt, told.as_str(), wanted);
+    Ok(())
+}
+
+#[test]
+fn steps(rt: HostRuntime) -> Result<(), Fail> {
+    check(&rt, rt.alloc(), REPLY, Explained::Steps, STEPS)
+}
+
+#[test]
+fn requests(rt: HostRuntime) -> Result<(), Fail> {
+    check(&rt, rt.alloc(), REPLY, Explained::Requests, REQUESTS)
+}
+
+/// Of the first step it is told that it changed the state where all steps are told, and not where some were forgotten.
+#[test]
+fn first_step(rt: HostRuntime) -> Result<(), Fail> {
+    let mut reply = String::from_str(rt.alloc(), "link 0 up -> done \"master\" cost 3 queue 0\n")?;
+    let mut wanted = String::from_str(
+        rt.alloc(),
+        "* at - link \"a \\\"b\" up -> done \"backup\" => \"master\" cost 3 queue 0\n",
+    )?;
+    for _ in 1..255 {
+        reply.push_str("take -> taken \"master\" cost 0 queue 0\n")?;
+        wanted.push_str("  at - take -> taken \"master\" cost 0 queue 0\n")?;
+    }
+    check(
+        &rt,
+        rt.alloc(),
+        reply.as_str(),
+        Explained::Steps,
+        wanted.as_str(),
+    )?;
+    reply.push_str("take -> taken \"backup\" cost 0 queue 0\n")?;
+    wanted.push_str("* at - take -> taken \"master\" => \"backup\" cost 0 queue 0\n")?;
+    let forgotten = wanted
+        .as_str()
+        .strip_prefix("* at - link \"a \\\"b\" up -> done \"backup\" => ")
+        .unwrap_or_default();
+    let wanted = format!(in rt.alloc(); "  at - link \"a \\\"b\" up -> done {forgotten}")?;
+    check(
+        &rt,
+        rt.alloc(),
+        reply.as_str(),
+        Explained::Steps,
+        wanted.as_str(),
+    )
+}

@@ -1,4 +1,0 @@
-mod Names
-mod Texts
-mod Waiting
-mod Whole

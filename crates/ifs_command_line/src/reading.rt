@@ -1,0 +1,233 @@
+//! What the words of a command line ask for.
+
+use crate::definitions::definition_of;
+use crate::parts::DEFINITION;
+use crate::requests::{Asked, Explain, Explained, Manner, Notes, Request, Send, Serve};
+use crate::words::{
+    CHECK, COMMAND_LIMIT, FILE, IMAGE, NO_WAIT, NOTES, REQUEST, REQUESTS, SOCKET, TEST_LIMIT, WAIT,
+    command,
+};
+use clap::error::ErrorKind;
+use clap::{ArgMatches, Command, Error};
+use std::alloc::{AllocError, Global};
+use std::rt::Env;
+use std::time::Duration;
+use std::{env, io};
+
+/// Why the words ask for nothing that is left to be done.
+#[derive(Drop)]
+pub enum Unasked {
+    /// They ask for help or the version, which were printed on standard output.
+    Printed,
+    /// Standard output failed.
+    Output(io::Error),
+    /// They are wrong, or memory ran out while they were read. The message was written to standard error.
+    Wrong,
+}
+
+/// The words that the program was called with, its name the first. Words that cannot be read are wrong ones, of which a
+/// message goes to standard error.
+pub fn read<R: Env + Print + Eprint + Alloc<A = Global>>(rt: &R) -> Result<Vec<String>, Unasked> {
+    match words_of(rt) {
+        Ok(words) => Ok(words),
+        Err(error) => Err(shown(rt, &error)),
+    }
+}
+
+/// What these words ask for. If they ask for help or the version, that is printed on standard output; if they ask for
+/// nothing, a message goes to standard error.
+pub fn asked<'a, R: Print + Eprint + Alloc<A = Global>>(
+    rt: &R,
+    words: &'a [String],
+) -> Result<Request<'a>, Unasked> {
+    match request_of(rt.alloc(), words) {
+        Ok(request) => Ok(request),
+        Err(error) => Err(shown(rt, &error)),
+    }
+}
+
+/// Prints the text of what is no task.
+fn shown<R: Print + Eprint>(rt: &R, error: &Error) -> Unasked {
+    let printed = error.print(rt);
+    if error.use_stderr() {
+        // the status says it even if standard error fails too
+        return Unasked::Wrong;
+    }
+    match printed {
+        Ok(()) => Unasked::Printed,
+        Err(cause) => Unasked::Output(cause),
+    }
+}
+
+fn words_of<R: Env + Alloc<A = Global>>(rt: &R) -> Result<Vec<String>, Error> {
+    match env::args(rt) {
+        Ok(words) => Ok(words.collect(rt.alloc())?),
+        Err(error) => Err(unread(rt.alloc(), &error)?),
+    }
+}
+
+/// Why the words could not be read.
+fn unread(alloc: Global, error: &io::Error) -> Result<Error, AllocError> {
+    let (kind, message) = if error.kind() == io::ErrorKind::InvalidData {
+        (
+            ErrorKind::InvalidValue,
+            "invalid UTF-8 was detected in one or more arguments",
+        )
+    } else {
+        (ErrorKind::Io, "the arguments could not be read")
+    };
+    command(alloc)?.error(kind, message)
+}
+
+fn request_of<'a>(alloc: Global, words: &'a [String]) -> Result<Request<'a>, Error> {
+    let mut command = command(alloc)?;
+    let matches = command.try_get_matches_from_mut(words)?;
+    requested(alloc, &mut command, &matches)
+}
+
+/// What the words ask for, once they were parsed.
+fn requested<'a>(
+    alloc: Global,
+    command: &mut Command<'a>,
+    matches: &ArgMatches<'a>,
+) -> Result<Request<'a>, Error> {
+    let Some((word, operands)) = matches.subcommand() else {
+        return Ok(Request {
+            asked: Asked::Session,
+            definitions: Vec::new(alloc),
+        });
+    };
+    let Some(asked) = asked_with(word, operands) else {
+        return Err(command.error(ErrorKind::InvalidSubcommand, "unrecognized subcommand")?);
+    };
+    look_at(command, asked)?;
+    Ok(Request {
+        asked,
+        definitions: definitions_of(alloc, command, operands)?,
+    })
+}
+
+/// What a word asks for with these operands; none if it is no word.
+fn asked_with<'a>(word: &str, operands: &ArgMatches<'a>) -> Option<Asked<'a>> {
+    let file = operand_of(operands, FILE);
+    let image = operand_of(operands, IMAGE);
+    Some(match word {
+        "check" => Asked::Check { file },
+        "compile" => Asked::Compile { file, image },
+        "verify" => Asked::Verify { image: file },
+        "disasm" => Asked::Disasm { image: file },
+        "asm" => Asked::Asm { file, image },
+        "upgrade" => Asked::Upgrade {
+            image: file,
+            upgraded: image,
+        },
+        "graph" => Asked::Graph { file },
+        "sim" => Asked::Sim { image: file },
+        "serve" => Asked::Serve(serve_of(file, operands)),
+        "send" => Asked::Send(send_of(operands)),
+        "explain" => Asked::Explain(explain_of(file, operands)),
+        _ => return None,
+    })
+}
+
+fn serve_of<'a>(image: &'a str, operands: &ArgMatches<'a>) -> Serve<'a> {
+    Serve {
+        image,
+        socket: operand_of(operands, SOCKET),
+        notes: notes_of(operand_of(operands, NOTES)),
+        command_limit: seconds_of(operands, COMMAND_LIMIT),
+        test_limit: seconds_of(operands, TEST_LIMIT),
+    }
+}
+
+fn send_of<'a>(operands: &ArgMatches<'a>) -> Send<'a> {
+    Send {
+        socket: operand_of(operands, SOCKET),
+        request: operand_of(operands, REQUEST),
+        manner: manner_of(operands),
+    }
+}
+
+fn explain_of<'a>(image: &'a str, operands: &ArgMatches<'a>) -> Explain<'a> {
+    Explain {
+        image,
+        socket: operand_of(operands, SOCKET),
+        explained: if operands.get_flag(REQUESTS) {
+            Explained::Requests
+        } else {
+            Explained::Steps
+        },
+        limit: seconds_of(operands, WAIT),
+    }
+}
+
+/// What a client does once its request is written.
+fn manner_of(operands: &ArgMatches<'_>) -> Manner {
+    if operands.get_flag(NO_WAIT) {
+        Manner::NoWait
+    } else {
+        Manner::Wait {
+            limit: seconds_of(operands, WAIT),
+            check: operands.get_flag(CHECK),
+        }
+    }
+}
+
+/// Which notes a word asks for; all where there is none.
+fn notes_of(word: &str) -> Notes {
+    match word {
+        "changes" => Notes::Changes,
+        "faults" => Notes::Faults,
+        "off" => Notes::Off,
+        _ => Notes::All,
+    }
+}
+
+/// The time that an option says, in seconds.
+fn seconds_of(operands: &ArgMatches<'_>, id: &str) -> Option<Duration> {
+    operands.get_one::<u64>(id).map(Duration::from_secs)
+}
+
+/// What is given for an operand of a word.
+fn operand_of<'a>(operands: &ArgMatches<'a>, id: &str) -> &'a str {
+    operands.get_str(id).unwrap_or_default()
+}
+
+/// An error if a request to a daemon is more than one line.
+fn look_at(command: &mut Command<'_>, asked: Asked<'_>) -> Result<(), Error> {
+    match asked {
+        Asked::Send(Send { request, .. }) if request.contains('\n') => Err(command.error(
+            ErrorKind::ValueValidation,
+            "invalid value for '<REQUEST>': a request is one line",
+        )?),
+        _ => Ok(()),
+    }
+}
+
+/// The definitions of the command line; an error if a word gives none.
+fn definitions_of<'a>(
+    alloc: Global,
+    command: &mut Command<'_>,
+    operands: &ArgMatches<'a>,
+) -> Result<Vec<(&'a str, &'a str)>, Error> {
+    let mut definitions = Vec::new(alloc);
+    for word in operands.get_strs(DEFINITION).unwrap_or_default() {
+        match definition_of(word) {
+            Some(definition) => definitions.push(definition)?,
+            None => return Err(no_definition(alloc, command, word)?),
+        }
+    }
+    Ok(definitions)
+}
+
+/// The message on a word that defines nothing.
+fn no_definition(
+    alloc: Global,
+    command: &mut Command<'_>,
+    word: &str,
+) -> Result<Error, AllocError> {
+    let message = format!(in alloc;
+        "invalid value '{word}' for '-D <{DEFINITION}>': it is no macro name, '=' and a value"
+    )?;
+    command.error(ErrorKind::ValueValidation, message.as_str())
+}

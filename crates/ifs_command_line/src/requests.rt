@@ -1,0 +1,105 @@
+//! What the words of a command line ask for. All of it is borrowed from them.
+
+use std::time::Duration;
+
+/// What is asked, and the definitions beside it: names of macros, with their values, in the order of the words.
+#[derive(Drop)]
+pub struct Request<'a> {
+    pub asked: Asked<'a>,
+    pub definitions: Vec<(&'a str, &'a str)>,
+}
+
+/// What the command line asks for.
+#[derive(Clone, Copy)]
+pub enum Asked<'a> {
+    /// No words: a session whose first line is the image.
+    Session,
+    /// Check whether a file is a policy.
+    Check { file: &'a str },
+    /// Compile the policy of a file, and write its image.
+    Compile { file: &'a str, image: &'a str },
+    /// Verify the image of a file.
+    Verify { image: &'a str },
+    /// Print the assembly text of the image of a file.
+    Disasm { image: &'a str },
+    /// Assemble the text of a file, and write its image.
+    Asm { file: &'a str, image: &'a str },
+    /// Write the image of version 2 that says what the image of a file says.
+    Upgrade { image: &'a str, upgraded: &'a str },
+    /// Print the states of the policy of a file as a picture.
+    Graph { file: &'a str },
+    /// A session on the image of a file.
+    Sim { image: &'a str },
+    /// Run the daemon.
+    Serve(Serve<'a>),
+    /// Send a request to a daemon.
+    Send(Send<'a>),
+    /// Print what a daemon did.
+    Explain(Explain<'a>),
+}
+
+/// A daemon on the image of a file, for the clients of a socket.
+#[derive(Clone, Copy)]
+pub struct Serve<'a> {
+    pub image: &'a str,
+    pub socket: &'a str,
+    pub notes: Notes,
+    /// How long a command may run.
+    pub command_limit: Option<Duration>,
+    /// How long a test may run.
+    pub test_limit: Option<Duration>,
+}
+
+/// Which notes a daemon writes.
+#[derive(Clone, Copy, Debug, PartialEq, Eq)]
+pub enum Notes {
+    /// All, with the end of each connection.
+    All,
+    /// Changes of state, commands and faults.
+    Changes,
+    /// Only warnings and errors.
+    Faults,
+    /// None.
+    Off,
+}
+
+/// A request line for the daemon of a socket.
+#[derive(Clone, Copy)]
+pub struct Send<'a> {
+    pub socket: &'a str,
+    pub request: &'a str,
+    pub manner: Manner,
+}
+
+/// What a client does once its request is written.
+#[derive(Clone, Copy)]
+pub enum Manner {
+    /// It ends.
+    NoWait,
+    /// It waits for the reply and prints it.
+    Wait {
+        /// How long it waits at most.
+        limit: Option<Duration>,
+        /// Whether a reply that says that the request was not done is a refusal.
+        check: bool,
+    },
+}
+
+/// The daemon of a socket and its image's file.
+#[derive(Clone, Copy)]
+pub struct Explain<'a> {
+    pub image: &'a str,
+    pub socket: &'a str,
+    pub explained: Explained,
+    /// How long the reply is waited for at most.
+    pub limit: Option<Duration>,
+}
+
+/// What is printed of a daemon's steps.
+#[derive(Clone, Copy, Debug, PartialEq, Eq)]
+pub enum Explained {
+    /// What each did.
+    Steps,
+    /// The request lines of these steps.
+    Requests,
+}

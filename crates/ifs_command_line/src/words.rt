@@ -1,0 +1,223 @@
+//! The words of the command line, with what may follow each.
+
+use crate::parts::{Part, add_part};
+use clap::Command;
+use std::alloc::{AllocError, Global};
+
+/// The operand that names the file that is read.
+pub(crate) const FILE: &str = "file";
+
+/// The operand that names the image that is written.
+pub(crate) const IMAGE: &str = "image";
+
+/// The operand that names a socket.
+pub(crate) const SOCKET: &str = "socket";
+
+/// The operand that is a request line.
+pub(crate) const REQUEST: &str = "request";
+
+/// The option that says which notes a daemon writes.
+pub(crate) const NOTES: &str = "notes";
+
+/// The option that says how long a command may run.
+pub(crate) const COMMAND_LIMIT: &str = "command-limit";
+
+/// The option that says how long a test may run.
+pub(crate) const TEST_LIMIT: &str = "test-limit";
+
+/// The option that says how long a client waits for the reply.
+pub(crate) const WAIT: &str = "wait";
+
+/// The flag of a client that does not wait for the reply.
+pub(crate) const NO_WAIT: &str = "no-wait";
+
+/// The flag of a client that looks at the reply.
+pub(crate) const CHECK: &str = "check";
+
+/// The flag that asks for request lines.
+pub(crate) const REQUESTS: &str = "requests";
+
+/// What the program is, as its help says.
+const ABOUT: &str =
+    "Checks and compiles failover policies, and verifies and runs their images. Without words it reads an image as a line of hexadecimal digits and then request lines from standard input.";
+
+/// What help says of a file that is read.
+const READ: &str = "a file of at most 16,777,216 bytes";
+
+/// What help says of a file that is written.
+const WRITTEN: &str =
+    "the file that is written, whole or not at all; what is no regular file is written as it stands";
+
+/// What help says of how long a client waits.
+const WAITED: &str = "end with status 3 where the reply does not come whole in this time";
+
+/// A word of the command line.
+#[derive(Clone, Copy)]
+struct Word {
+    name: &'static str,
+    /// What its help says.
+    about: &'static str,
+    /// What may follow it.
+    parts: &'static [Part],
+}
+
+/// The policy that is read.
+const POLICY: Part = Part::Operand {
+    id: FILE,
+    name: "FILE",
+    help: READ,
+};
+
+/// The image that is read.
+const IMAGE_FILE: Part = Part::Operand {
+    id: FILE,
+    name: "IMAGE",
+    help: READ,
+};
+
+/// The image that is written.
+const NEW_IMAGE: Part = Part::Operand {
+    id: IMAGE,
+    name: "IMAGE",
+    help: WRITTEN,
+};
+
+/// The words, in the order of the help.
+const WORDS: &[Word] = &[
+    Word {
+        name: "check",
+        about: "Tell whether a file is a policy, with notes on what is easily misread",
+        parts: &[POLICY, Part::Definitions],
+    },
+    Word {
+        name: "compile",
+        about: "Compile a policy and write its image, with the notes of check",
+        parts: &[POLICY, NEW_IMAGE, Part::Definitions],
+    },
+    Word {
+        name: "verify",
+        about: "Verify an image and print its stated budgets",
+        parts: &[IMAGE_FILE],
+    },
+    Word {
+        name: "disasm",
+        about: "Print the assembly text of an image",
+        parts: &[IMAGE_FILE],
+    },
+    Word {
+        name: "asm",
+        about: "Write the image that assembly text spells, which is not verified",
+        parts: &[POLICY, NEW_IMAGE],
+    },
+    Word {
+        name: "upgrade",
+        about: "Write the image of version 2 that says what an image says, which is not verified",
+        parts: &[
+            IMAGE_FILE,
+            Part::Operand {
+                id: IMAGE,
+                name: "OUT",
+                help: WRITTEN,
+            },
+        ],
+    },
+    Word {
+        name: "graph",
+        about: "Print the states of a policy as a picture, in the language of graphviz",
+        parts: &[POLICY, Part::Definitions],
+    },
+    Word {
+        name: "sim",
+        about: "Answer the request lines of standard input on an image",
+        parts: &[IMAGE_FILE],
+    },
+    Word {
+        name: "serve",
+        about: "Serve the clients of a Unix socket on an image, and run its tests and commands",
+        parts: &[
+            IMAGE_FILE,
+            Part::Socket {
+                help: "the socket's file, which is made here and removed at the end",
+            },
+            Part::Notes,
+            Part::Seconds {
+                id: COMMAND_LIMIT,
+                help: "kill a command that runs longer",
+            },
+            Part::Seconds {
+                id: TEST_LIMIT,
+                help: "kill a test that is found to run longer at a request, which then has found false",
+            },
+        ],
+    },
+    Word {
+        name: "send",
+        about: "Send a request line to the daemon of a Unix socket, and print what comes back",
+        parts: &[
+            Part::Socket {
+                help: "the socket's file",
+            },
+            Part::Operand {
+                id: REQUEST,
+                name: "REQUEST",
+                help: "a request line, as one word",
+            },
+            Part::Seconds {
+                id: WAIT,
+                help: WAITED,
+            },
+            Part::Flag {
+                id: NO_WAIT,
+                help: "end once the request is written",
+                conflicts: &[WAIT, CHECK],
+            },
+            Part::Flag {
+                id: CHECK,
+                help: "end with status 1 where the reply says that the request was not done",
+                conflicts: &[],
+            },
+        ],
+    },
+    Word {
+        name: "explain",
+        about: "Print where the daemon of a Unix socket stands and what it did, with the names of its image",
+        parts: &[
+            IMAGE_FILE,
+            Part::Socket {
+                help: "the socket's file",
+            },
+            Part::Flag {
+                id: REQUESTS,
+                help: "print the request lines of these steps",
+                conflicts: &[],
+            },
+            Part::Seconds {
+                id: WAIT,
+                help: WAITED,
+            },
+        ],
+    },
+];
+
+/// The words, in the order of the help.
+fn words() -> &'static [Word] {
+    WORDS
+}
+
+/// The command line that is understood.
+pub(crate) fn command<'a>(alloc: Global) -> Result<Command<'a>, AllocError> {
+    let mut command = Command::new(alloc, "ifsvm").version("0.1.0").about(ABOUT);
+    for word in words() {
+        command = command.subcommand(command_of(alloc, *word)?)?;
+    }
+    Ok(command)
+}
+
+/// A word as it is understood, with its parts.
+fn command_of<'a>(alloc: Global, word: Word) -> Result<Command<'a>, AllocError> {
+    let mut command = Command::new(alloc, word.name).about(word.about);
+    for part in word.parts {
+        command = add_part(alloc, command, *part)?;
+    }
+    Ok(command)
+}

@@ -1,0 +1,6 @@
+pub mod Runners
+pub mod Children
+pub mod RunnerHosts
+pub mod Files
+pub mod Shells
+pub mod Reloads

@@ -1,0 +1,79 @@
+//! Files.
+
+ghost use Rattle.std.specs.Prelude.{◌≡◌, ◌≢◌, IfOk, IfErr, IfSome};
+ghost use Rattle.ifs_host.specs.Files.{IsWithinLimit};
+ghost use Rattle.ifs_host.specs.declared.files.FileFault.TheVariants.{TooLarge};
+
+use std::alloc::Global;
+use std::fs;
+use std::io::{self, ErrorKind, Read};
+use std::rt::Files;
+use thiserror::Error;
+
+/// How many bytes a file has at most.
+const LIMIT: u64 = 16_777_216;
+
+/// Why the bytes of a file cannot be had.
+#[derive(Debug, Drop, Error)]
+pub enum FileFault {
+    /// It could not be opened, or a read failed.
+    #[error("{0}")]
+    System(io::Error),
+    /// It has over 16,777,216 bytes.
+    #[error("too large")]
+    TooLarge,
+    /// No memory was found for its bytes.
+    #[error("no memory")]
+    Memory,
+}
+
+impl From<io::Error> for FileFault {
+    ghost from_gives = { λ _ fault. fault ≢ TooLarge };
+
+    fn from(error: io::Error) -> FileFault {
+        if error.kind() == ErrorKind::OutOfMemory {
+            FileFault::Memory
+        } else {
+            FileFault::System(error)
+        }
+    }
+}
+
+/// The bytes of a file.
+pub fn contents<R: Files + Alloc<A = Global>>(rt: &R, path: &str) -> Result<Vec<u8>, FileFault>
+    ensures { IfOk result (λ bytes. IsWithinLimit bytes.items) }
+{
+    let file = fs::open(rt, path)?;
+    whole(rt.alloc(), file)
+}
+
+/// The bytes of a regular file. A folder, a pipe or a device in its place is an error of the system, and is not opened:
+/// its bytes may never come or never end. That holds of what the path leads to when it is looked at; between that
+/// and the opening it may be replaced.
+pub fn regular<R: Files + Alloc<A = Global>>(rt: &R, path: &str) -> Result<Vec<u8>, FileFault>
+    ensures { IfOk result (λ bytes. IsWithinLimit bytes.items) }
+{
+    if fs::metadata(rt, path)?.is_file() {
+        contents(rt, path)
+    } else {
+        Err(FileFault::System(ErrorKind::InvalidInput.into()))
+    }
+}
+
+/// Every byte that a reader has left, where they are at most 16,777,216.
+pub fn whole<R: Read + Drop>(alloc: Global, reader: R) -> Result<Vec<u8>, FileFault>
+    ensures limit { IfOk result (λ bytes. IsWithinLimit bytes.items) }
+    // Nothing is cut off.
+    ensures every_byte { IfSome (R.remaining reader)
+        (λ left. IfOk result (λ bytes. bytes.items ≡ left)) }
+    ensures too_large { IfSome (R.remaining reader)
+        (λ left. IfErr result (λ fault. fault ≡ TooLarge → ¬ IsWithinLimit left)) }
+{
+    let mut bytes = Vec::new(alloc);
+    reader.take(LIMIT + 1).read_to_end(&mut bytes)?;
+    if LIMIT < bytes.len() as u64 {
+        Err(FileFault::TooLarge)
+    } else {
+        Ok(bytes)
+    }
+}

@@ -1,0 +1,245 @@
+//! What the daemon's notes say beside those of its commands and tests.
+
+use crate::reloading::ReloadFault;
+use ifs_base::{IfaceId, LinkState, Quoted, StateId};
+use ifs_core::{Core, Record, Step};
+use ifs_session::End;
+use log::kv::Source;
+use log::sink::Console;
+use log::span::Spans;
+use log::{LevelFilter, Log, Logged, Metadata, info, warn};
+use std::fmt::{self, Display, Formatter, Write};
+
+/// Where a daemon's notes go.
+pub type Notebook = Logged<HostRuntime, StandardError>;
+
+/// Which notes are written.
+#[derive(Clone, Copy, Debug)]
+pub struct Notes {
+    /// The level up to which notes are written.
+    pub level: LevelFilter,
+    /// Whether the ends of connections are noted that are no faults.
+    pub ends: bool,
+}
+
+impl Notes {
+    /// Notes how a connection ended.
+    pub(crate) fn note_end(self, notes: &Notebook, end: End) {
+        match end {
+            End::Fault(fault) => info!(notes; "fault {fault}"),
+            _ if self.ends => info!(notes; "{}", word_of_end(end)),
+            _ => {}
+        }
+    }
+}
+
+/// The word that is noted of a connection's end.
+fn word_of_end(end: End) -> &'static str {
+    match end {
+        End::Closed => "closed",
+        End::Stop => "stop",
+        End::Full => "full",
+        End::Reload => "reload",
+        End::Fault(_) => "fault",
+    }
+}
+
+/// Notes that an image took over, and in which state it begins.
+pub fn note_taken_over(notes: &Notebook, core: &Core<'_>) {
+    let state = Quoted(core.state_name(core.state()).unwrap_or_default());
+    info!(notes; "image taken over in state {state}");
+}
+
+/// Notes that no image took over, and why.
+pub fn note_not_taken_over(notes: &Notebook, fault: ReloadFault) {
+    warn!(notes; "image refused: {fault}");
+}
+
+/// Standard error, where the program's name stands before each note.
+#[derive(Drop)]
+pub struct StandardError(Console<HostRuntime>);
+
+impl StandardError {
+    /// That of this runtime.
+    pub fn new(rt: HostRuntime) -> Self {
+        StandardError(Console(rt))
+    }
+}
+
+impl Log for StandardError {
+    fn enabled(&self, metadata: &Metadata<'_>) -> bool {
+        self.0.enabled(metadata)
+    }
+
+    fn log<D: Display, K: Source, S: Spans>(&self, record: &log::Record<'_, D, K, S>) {
+        self.0.log(record);
+    }
+
+    fn flush(&self) {
+        self.0.flush();
+    }
+
+    fn target(&self) -> &str {
+        "ifsvm"
+    }
+}
+
+/// Where a core stood before a connection.
+#[derive(Clone, Copy)]
+pub struct Standing {
+    state: StateId,
+    moment: u64,
+}
+
+impl Standing {
+    /// Where a core stands.
+    pub fn of(core: &Core<'_>) -> Self {
+        Standing {
+            state: core.state(),
+            moment: core.now(),
+        }
+    }
+}
+
+/// Notes that a tick goes backwards, once for each moment before which one came.
+#[derive(Drop)]
+pub struct Backwards {
+    /// The moment for which it was noted last.
+    noted: Option<u64>,
+}
+
+impl Backwards {
+    /// Nothing was noted yet.
+    pub fn new() -> Self {
+        Backwards { noted: None }
+    }
+
+    /// Notes the ticks among these steps that go backwards, the first of which was made at this moment.
+    pub fn note(&mut self, notes: &Notebook, before: Standing, steps: &[Step]) {
+        let mut now = before.moment;
+        for step in steps {
+            let Step::Tick(moment) = *step else {
+                continue;
+            };
+            if moment >= now {
+                now = moment;
+            } else if self.noted != Some(now) {
+                warn!(notes; "tick {moment} goes backwards: the moment is {now}");
+                self.noted = Some(now);
+            }
+        }
+    }
+}
+
+/// Notes the changes of state that these steps made, each with its cause. Of over 256 steps the trace has only
+/// the last: what those before changed is not noted, or as one change by a later cause.
+pub fn note_changes(notes: &Notebook, core: &Core<'_>, before: Standing, steps: &[Step]) {
+    let Made { first, changed } = made_by(core, before, steps);
+    if !changed {
+        return;
+    }
+    let mut state = before.state;
+    for index in first..core.trace_len() {
+        let Some(record) = core.trace_at(index) else {
+            return;
+        };
+        if record.state != state {
+            note_change(notes, core, state, record);
+            state = record.state;
+        }
+    }
+}
+
+/// What steps left in the trace.
+struct Made {
+    /// The index of the first of their records, which are its last ones.
+    first: usize,
+    /// Whether the state was another one between them, or after them, than before.
+    changed: bool,
+}
+
+/// What these steps left in the trace: a step that was refused left nothing.
+fn made_by(core: &Core<'_>, before: Standing, steps: &[Step]) -> Made {
+    let mut first = core.trace_len();
+    let mut state = core.state();
+    let mut changed = false;
+    for step in steps.iter().rev() {
+        let Some(earlier) = first.checked_sub(1) else {
+            break;
+        };
+        let Some(record) = core.trace_at(earlier) else {
+            break;
+        };
+        if record.step == *step {
+            changed = changed || record.state != state;
+            state = record.state;
+            first = earlier;
+        }
+    }
+    Made {
+        first,
+        changed: changed || state != before.state,
+    }
+}
+
+/// Notes a change of state.
+fn note_change(notes: &Notebook, core: &Core<'_>, from: StateId, record: Record) {
+    let from = Quoted(core.state_name(from).unwrap_or_default());
+    let to = Quoted(core.state_name(record.state).unwrap_or_default());
+    let cause = Cause::of(core, record.step);
+    info!(notes; "state {from} -> {to} by {cause}");
+}
+
+/// What a step tells, by names.
+#[derive(Clone, Copy)]
+enum Cause<'a> {
+    Link(&'a str, LinkState),
+    Test(&'a str, bool),
+    Tick(u64),
+    Take,
+}
+
+impl<'a> Cause<'a> {
+    /// What this step tells a core.
+    fn of(core: &Core<'a>, step: Step) -> Self {
+        match step {
+            Step::Link(interface, link) => Cause::Link(interface_name(core, interface), link),
+            Step::Finished(test, _, value) => {
+                Cause::Test(core.test_text(test).unwrap_or_default(), value)
+            }
+            Step::Tick(moment) => Cause::Tick(moment),
+            Step::Take => Cause::Take,
+        }
+    }
+}
+
+impl Display for Cause<'_> {
+    fn fmt<W: Write>(&self, f: &mut Formatter<W>) -> fmt::Result {
+        match *self {
+            Cause::Link(name, link) => write!(f, "link {} {}", Quoted(name), word_of(link)),
+            Cause::Test(text, value) => write!(f, "test {} {value}", Quoted(text)),
+            Cause::Tick(moment) => write!(f, "tick {moment}"),
+            Cause::Take => f.write_str("take"),
+        }
+    }
+}
+
+/// The name of an interface; none where it is not in the table.
+fn interface_name<'a>(core: &Core<'a>, interface: IfaceId) -> &'a str {
+    let image = core.image();
+    let index = usize::from(interface.0);
+    if index < image.interfaces() {
+        image.interface(index)
+    } else {
+        ""
+    }
+}
+
+/// The word of requests for a link's state.
+fn word_of(link: LinkState) -> &'static str {
+    match link {
+        LinkState::Up => "up",
+        LinkState::Down => "down",
+        LinkState::Unknown => "unknown",
+    }
+}

@@ -1,0 +1,88 @@
+//! A host over a runner: tests are programs that the runner starts, and commands are texts that it runs.
+
+ghost use Rattle.std.specs.Prelude.{◌≡◌, ◌<◌, [], ◌∷◌, length, None, IfOk};
+ghost use Rattle.ifs_session.specs.Hosts.{Adds, ran, launched, polled, RunCounts};
+ghost use Rattle.ifs_host.specs.Children.{none_waits};
+ghost use Rattle.ifs_host.specs.RunnerHosts.{FindsPlace, StartsTest, Polls, RunsOnce};
+
+use crate::children::Children;
+use crate::runner::{RunFault, Runner};
+use ifs_base::TestId;
+use ifs_sched::Start;
+use ifs_session::{Host, HostFault};
+use std::alloc::{AllocError, Global};
+use std::marker::Model;
+
+/// Runs at most 256 tests at once. A test for which there is no place, or whose program cannot be started, ends
+/// as one that found false.
+#[derive(Drop)]
+pub struct RunnerHost<Q: Runner> {
+    runner: Q,
+    children: Children<Q>,
+}
+
+impl<Q: Runner> Model for RunnerHost<Q> {
+    ghost use Rattle.ifs_host.specs.RunnerHosts.{HostState};
+
+    ghost Value = { HostState };
+
+    ghost view = { λ h. record { waiting = h.children; told = Q.told h.runner } };
+}
+
+impl<Q: Runner> RunnerHost<Q> {
+    /// A host over this runner, for which nothing runs.
+    pub fn over(alloc: Global, runner: Q) -> Result<Self, AllocError>
+    where
+        Q: Drop,
+        ensures { IfOk result (λ host. host ≡ record { waiting = none_waits; told = Q.told runner }) }
+    {
+        Ok(RunnerHost {
+            runner,
+            children: Children::new(alloc)?,
+        })
+    }
+
+    /// Starts the program of a test, for which there is a place.
+    fn spawn(&mut self, start: Start, text: &str)
+        requires { length self.old.waiting.running < 256 }
+        ensures { FindsPlace start text.now self.old self.new }
+    {
+        match self.runner.spawn(text) {
+            Ok(child) => self.children.run(start, child),
+            Err(RunFault) => self.children.fail(start),
+        }
+    }
+}
+
+impl<Q: Runner> Host for RunnerHost<Q> {
+    fn start(&mut self, test: TestId, run: u64, text: &str)
+        ensures log { Adds (launched (record { test = test; run = run; text = text.now } ∷ [])) None None }
+        ensures begins { StartsTest (record { test = test; run = run }) text.now self.old self.new }
+    {
+        let start = Start { test, run };
+        if self.children.has_place() {
+            self.spawn(start, text);
+        } else {
+            self.children.fail(start);
+        }
+    }
+
+    fn poll(&mut self) -> Option<(TestId, u64, bool)>
+        ensures log { Adds (polled result) None None }
+        ensures ends { Polls result self.old self.new }
+    {
+        let (start, value) = self.children.ended(&mut self.runner)?;
+        Some((start.test, start.run, value))
+    }
+
+    fn run(&mut self, text: &str) -> Result<i32, HostFault>
+        ensures log { Adds (ran (text.now ∷ [])) None None }
+        ensures counts { RunCounts result None None }
+        ensures runs { RunsOnce text.now result self.old self.new }
+    {
+        match self.runner.run(text) {
+            Ok(status) => Ok(status),
+            Err(RunFault) => Err(HostFault),
+        }
+    }
+}

@@ -1,0 +1,78 @@
+//! Sessions on standard input and output.
+
+use crate::failure::Failure;
+use crate::files::contents;
+use ifs_core::Core;
+use ifs_session::{FromRead, RunFault, ToWrite, run_hex, simulate};
+use ifs_verify::{VerifyFault, verify};
+use std::alloc::Global;
+use std::io::{self, BufWriter, Stdout};
+
+/// How many bytes of replies are held back at most, until input is waited for.
+const HELD: usize = 65_536;
+
+/// The code of the line that says that memory ran out.
+const MEMORY: &str = "V0";
+
+/// A session whose first line is the image.
+pub fn by_hexadecimal<'a>(rt: &HostRuntime) -> Result<(), Failure<'a>> {
+    let Ok(writer) = BufWriter::with_capacity(rt.alloc(), HELD, io::writer(rt)) else {
+        return Err(Failure::out_of_memory(rt, MEMORY));
+    };
+    let mut input = FromRead::new(rt.reader());
+    let mut output = ToWrite::new(writer);
+    match run_hex(rt.alloc(), &mut input, &mut output) {
+        Ok(_summary) => Ok(()),
+        Err(RunFault::Session(fault)) => Err(Failure::Session(fault)),
+        Err(_refused) => Err(Failure::Refused),
+    }
+}
+
+/// A session on the image of a file.
+pub fn on_file<'a>(rt: &HostRuntime, path: &'a str) -> Result<(), Failure<'a>> {
+    let image = image_at(rt, path)?;
+    on_image(rt, image.as_slice())
+}
+
+/// A session on the image of these bytes.
+fn on_image<'a>(rt: &HostRuntime, image: &[u8]) -> Result<(), Failure<'a>> {
+    let mut core = core_on(rt, image)?;
+    simulated(rt, &mut core)
+}
+
+/// The bytes of an image's file. If memory ran out for them, the line that says so is printed.
+pub fn image_at<'a>(rt: &HostRuntime, path: &'a str) -> Result<Vec<u8>, Failure<'a>> {
+    match contents(rt, path) {
+        Ok(image) => Ok(image),
+        Err(fault) => Err(Failure::of_file(rt, MEMORY, path, fault)),
+    }
+}
+
+/// A core on the image of these bytes, in place. If they are refused, the line that says so is printed.
+pub(crate) fn core_on<'a, 'p>(rt: &HostRuntime, image: &'a [u8]) -> Result<Core<'a>, Failure<'p>> {
+    match opened(rt.alloc(), image) {
+        Ok(core) => Ok(core),
+        Err(fault) => Err(Failure::of_refusal(rt, fault.text())),
+    }
+}
+
+/// A core on the image of these bytes.
+fn opened<'a>(alloc: Global, image: &'a [u8]) -> Result<Core<'a>, VerifyFault> {
+    match Core::open(alloc, verify(alloc, image)?) {
+        Ok(core) => Ok(core),
+        Err(_fault) => Err(VerifyFault::OutOfMemory),
+    }
+}
+
+/// A session on a core.
+fn simulated<'a>(rt: &HostRuntime, core: &mut Core<'_>) -> Result<(), Failure<'a>> {
+    let Ok(writer) = BufWriter::with_capacity(rt.alloc(), HELD, io::writer(rt)) else {
+        return Err(Failure::out_of_memory(rt, MEMORY));
+    };
+    let mut input = FromRead::new(rt.reader());
+    let mut output = ToWrite::new(writer);
+    match simulate(core, &mut input, &mut output) {
+        Ok(_summary) => Ok(()),
+        Err(fault) => Err(Failure::Session(fault)),
+    }
+}

@@ -1,0 +1,125 @@
+//! Files over readers that give little at once, are interrupted, and fail.
+
+use crate::checks::{holds, holds_in, same};
+use ifs_host::files::{FileFault, whole};
+use ifs_rows::bytes_of;
+use ifs_rows::images::SMALLEST_IMAGE;
+use std::alloc::Global;
+use std::io::{self, ErrorKind, Read};
+use std::test::Fail;
+
+/// No read fails.
+const NEVER: u32 = u32::MAX;
+
+/// A reader that gives three bytes at most, is interrupted before each read that gives some, and fails at this read.
+#[derive(Drop)]
+struct Pieces<'a> {
+    left: &'a [u8],
+    reads: u32,
+    fails_at: u32,
+}
+
+impl Read for Pieces<'_> {
+    fn read(&mut self, buffer: &mut [u8]) -> io::Result<usize> {
+        let read = self.reads;
+        self.reads = self.reads.saturating_add(1);
+        if read == self.fails_at {
+            return Err(io::Error::from(ErrorKind::ConnectionReset));
+        }
+        if read % 2 == 0 {
+            return Err(io::Error::from(ErrorKind::Interrupted));
+        }
+        let count = self.left.len().min(3).min(buffer.len());
+        buffer[..count].copy_from_slice(&self.left[..count]);
+        self.left = &self.left[count..];
+        Ok(count)
+    }
+}
+
+/// Every byte is there of a file that comes in pieces.
+#[test]
+fn files_in_pieces(rt: HostRuntime) -> Result<(), Fail> {
+    let bytes = bytes_of(rt.alloc(), SMALLEST_IMAGE)?;
+    let reader = Pieces {
+        left: bytes.as_slice(),
+        reads: 0,
+        fails_at: NEVER,
+    };
+    let Ok(taken) = whole(rt.alloc(), reader) else {
+        return Err(Fail::from("a file in pieces"));
+    };
+    same(&rt, taken.as_slice(), bytes.as_slice());
+    Ok(())
+}
+
+/// A read that fails ends the file by its fault, whatever was read before it, and is not tried again.
+#[test]
+fn files_cut_off(rt: HostRuntime) {
+    for fails_at in 0..12 {
+        let reader = Pieces {
+            left: b"sixteen bytes ..",
+            reads: 0,
+            fails_at,
+        };
+        let fault = whole(rt.alloc(), reader).err();
+        holds_in(
+            &rt,
+            fails_at,
+            fault.is_some_and(|fault| matches!(fault, FileFault::System(_))),
+        );
+    }
+}
+
+/// A reader whose reads all fail so.
+#[derive(Drop)]
+struct Failing {
+    kind: ErrorKind,
+}
+
+impl Read for Failing {
+    fn read(&mut self, _buffer: &mut [u8]) -> io::Result<usize> {
+        Err(io::Error::from(self.kind))
+    }
+}
+
+/// Of a reader every byte is there.
+#[test]
+fn whole_files(rt: HostRuntime) -> Result<(), Fail> {
+    let Ok(short) = whole(rt.alloc(), b"IFSV".as_slice()) else {
+        return Err(Fail::from("a short file"));
+    };
+    same(&rt, short.as_slice(), b"IFSV".as_slice());
+    Ok(())
+}
+
+/// So many bytes are taken up to the limit, and one more is refused.
+#[test]
+fn longest_files(rt: HostRuntime) {
+    let longest = whole(rt.alloc(), io::repeat(b'x').take(16_777_216));
+    holds(&rt, longest.is_ok_and(|bytes| bytes.len() == 16_777_216));
+    let longer = whole(rt.alloc(), io::repeat(b'x').take(16_777_217));
+    holds(
+        &rt,
+        longer.is_err_and(|fault| matches!(fault, FileFault::TooLarge)),
+    );
+}
+
+/// The fault of a reader whose reads all fail so.
+fn fault_of(alloc: Global, kind: ErrorKind) -> Option<FileFault> {
+    whole(alloc, Failing { kind }).err()
+}
+
+/// A read that fails is told by the system's words, and want of memory as such.
+#[test]
+fn failing_files(rt: HostRuntime) {
+    let closed = fault_of(rt.alloc(), ErrorKind::BrokenPipe);
+    holds(
+        &rt,
+        closed.is_some_and(|fault| matches!(fault, FileFault::System(_))),
+    );
+    let starved = fault_of(rt.alloc(), ErrorKind::OutOfMemory);
+    holds(
+        &rt,
+        starved.is_some_and(|fault| matches!(fault, FileFault::Memory)),
+    );
+}

@@ -1,0 +1,11 @@
+-- The faults of tokens as lines print them.
+use Rattle.std.specs.Prelude.{ℕ, List, ◌++◌, codes, decimal}
+use Rattle.ifs_parse.specs.declared.fault.ParseFault.{ParseFault}
+use Rattle.ifs_parse.specs.declared.fault.ParseFault.TheVariants.{Unexpected, Period, Nesting, Memory}
+
+-- A fault's code, and its line.
+abbrev pub parse_fault_words : ParseFault → List ℕ
+parse_fault_words (Unexpected line) = codes "P6 line " ++ decimal line
+parse_fault_words (Period line) = codes "P7 line " ++ decimal line
+parse_fault_words (Nesting line) = codes "P8 line " ++ decimal line
+parse_fault_words Memory = codes "P0"

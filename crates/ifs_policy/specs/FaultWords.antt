@@ -1,0 +1,27 @@
+-- The faults of names, and of whole texts, as lines print them.
+use Rattle.std.specs.Prelude.{ℕ, List, ◌++◌, codes, decimal}
+use Rattle.ifs_lex.specs.FaultWords.{lex_fault_words}
+use Rattle.ifs_parse.specs.FaultWords.{parse_fault_words}
+use Rattle.ifs_policy.specs.declared.front.PolicyFault.{PolicyFault}
+use Rattle.ifs_policy.specs.declared.front.PolicyFault.TheVariants as policies
+use Rattle.ifs_policy.specs.declared.fault.ResolveFault.{ResolveFault}
+use Rattle.ifs_policy.specs.declared.fault.ResolveFault.TheVariants.{NoState, StateTwice, UnknownState, SecondInit, SetStateInInit, TestInInit, TableFull, BadText, Memory}
+
+-- A fault's code, and its line.
+abbrev pub resolve_fault_words : ResolveFault → List ℕ
+resolve_fault_words (NoState line) = codes "P9 line " ++ decimal line
+resolve_fault_words (StateTwice line) = codes "P10 line " ++ decimal line
+resolve_fault_words (UnknownState line) = codes "P11 line " ++ decimal line
+resolve_fault_words (SecondInit line) = codes "P12 line " ++ decimal line
+resolve_fault_words (SetStateInInit line) = codes "P13 line " ++ decimal line
+resolve_fault_words (TestInInit line) = codes "P14 line " ++ decimal line
+resolve_fault_words (TableFull line) = codes "P15 line " ++ decimal line
+resolve_fault_words (BadText line) = codes "P16 line " ++ decimal line
+resolve_fault_words Memory = codes "P0"
+
+-- The fault of the first step that refuses a text.
+abbrev pub policy_fault_words : PolicyFault → List ℕ
+policy_fault_words (policies.Text fault) = lex_fault_words fault
+policy_fault_words (policies.Tokens fault) = parse_fault_words fault
+policy_fault_words (policies.Names fault) = resolve_fault_words fault
+policy_fault_words policies.Memory = codes "P0"

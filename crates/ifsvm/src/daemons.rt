@@ -1,0 +1,103 @@
+//! The daemon, and its clients.
+
+use ifs_answer::{Explained, explain as explained};
+use ifs_command_line as words;
+use ifs_host::failure::Failure;
+use ifs_host::files::FileFault;
+use ifs_host::sending::{replied, send as sent, send_and_wait};
+use ifs_host::serving::{self, Notes, Serving};
+use ifs_host::sessions::image_at;
+use ifs_host::shell::Limits;
+use ifs_verify::{Verified, verify};
+use log::LevelFilter;
+use std::io::ErrorKind;
+use std::str::from_utf8;
+
+/// The requests that ask for what `explain` prints.
+const REQUESTS: &str = "status\ntrace";
+
+/// Runs the daemon.
+pub fn serve<'a>(rt: &HostRuntime, asked: words::Serve<'a>) -> Result<(), Failure<'a>> {
+    let serving = Serving {
+        image: asked.image,
+        socket: asked.socket,
+        notes: notes_of(asked.notes),
+        limits: Limits {
+            command: asked.command_limit,
+            test: asked.test_limit,
+        },
+    };
+    serving::serve(rt, serving)
+}
+
+/// Which notes a word asks for.
+fn notes_of(notes: words::Notes) -> Notes {
+    let level = match notes {
+        words::Notes::All | words::Notes::Changes => LevelFilter::Info,
+        words::Notes::Faults => LevelFilter::Warn,
+        words::Notes::Off => LevelFilter::Off,
+    };
+    Notes {
+        level,
+        ends: notes == words::Notes::All,
+    }
+}
+
+/// Sends a request to a daemon, and prints its reply if that is waited for.
+pub fn send<'a>(rt: &HostRuntime, asked: words::Send<'a>) -> Result<(), Failure<'a>> {
+    match asked.manner {
+        words::Manner::NoWait => sent(rt, asked.socket, asked.request),
+        words::Manner::Wait { limit, check } => {
+            send_and_wait(rt, asked.socket, asked.request, limit, check)
+        }
+    }
+}
+
+/// Asks the daemon of a socket what it did, and prints that with the names of an image.
+pub fn explain<'a>(rt: &HostRuntime, asked: words::Explain<'a>) -> Result<(), Failure<'a>> {
+    let image = image_at(rt, asked.image)?;
+    explain_image(rt, asked, image.as_slice())
+}
+
+fn explain_image<'a>(
+    rt: &HostRuntime,
+    asked: words::Explain<'a>,
+    image: &[u8],
+) -> Result<(), Failure<'a>> {
+    match verify(rt.alloc(), image) {
+        Ok(verified) => explain_verified(rt, asked, &verified),
+        Err(fault) => Err(Failure::of_refusal(rt, fault.text())),
+    }
+}
+
+fn explain_verified<'a>(
+    rt: &HostRuntime,
+    asked: words::Explain<'a>,
+    verified: &Verified<'_>,
+) -> Result<(), Failure<'a>> {
+    let reply = replied(rt, asked.socket, REQUESTS, asked.limit)?;
+    let Ok(reply) = from_utf8(reply.as_slice()) else {
+        return Err(Failure::File {
+            path: asked.socket,
+            fault: FileFault::System(ErrorKind::InvalidData.into()),
+        });
+    };
+    explain_reply(rt, asked, verified, reply)
+}
+
+fn explain_reply<'a>(
+    rt: &HostRuntime,
+    asked: words::Explain<'a>,
+    verified: &Verified<'_>,
+    reply: &str,
+) -> Result<(), Failure<'a>> {
+    let what = match asked.explained {
+        words::Explained::Steps => Explained::Steps,
+        words::Explained::Requests => Explained::Requests,
+    };
+    let Ok(text) = explained(rt.alloc(), verified.image(), reply, what) else {
+        return Err(Failure::out_of_memory(rt, "V0"));
+    };
+    rt.write_all(text.as_bytes())?;
+    Ok(())
+}
