@@ -1,4 +1,5 @@
 # make run     builds the proved program and makes the first run
+# make try     runs the program unproved, on the first run and one example: a minute and a half
 # make test    the gate: every proof from nothing, must-fail edits, tests, the program's runs, the examples
 # make plants  tries further wrong bodies; of one crate by CRATE=NAME
 # make bench   times the proved program, and tells its memory and its machine instructions; tools/bench --help says more
@@ -12,12 +13,15 @@
 # make man     makes the manual pages from the documents
 # make lint    looks at scripts, units and manual pages (Debian's shellcheck, systemd and mandoc)
 
-.PHONY: run test plants bench failover check clean install uninstall deb man lint
+.PHONY: run try test plants bench failover check clean install uninstall deb man lint
 
 PREFIX ?= /usr/local
 
 run:
 	@tools/run
+
+try:
+	@tools/try
 
 test:
 	@tools/gate

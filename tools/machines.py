@@ -7,16 +7,19 @@ import subprocess
 import tempfile
 import time
 
-# what a machine does before systemd runs there: ROOM NAME
+# what a machine does before systemd runs there: ROOM NAME FOLDER.., the folders being empty there
 BOOT = r"""
 set -e
 room=$1
+name=$2
+shift 2
 mount --make-rprivate /
 mount -t tmpfs tmpfs "$room"
 mkdir "$room/upper" "$room/work" "$room/root"
 mount -t overlay overlay -o "lowerdir=/,upperdir=$room/upper,workdir=$room/work" "$room/root"
 cd "$room/root"
-for folder in run tmp opt work dev root; do
+for folder in run tmp dev root "$@"; do
+	folder=${folder#/}
 	mkdir -p "$folder"
 	mount -t tmpfs tmpfs "$folder"
 done
@@ -36,8 +39,8 @@ cat > etc/systemd/system/trial.target << END
 Description=a machine for a trial
 Wants=systemd-journald.service
 END
-hostname "$2"
-echo "$2" > etc/hostname
+hostname "$name"
+echo "$name" > etc/hostname
 mkdir run/before
 pivot_root . run/before
 cd /
@@ -45,6 +48,15 @@ umount -l /run/before
 exec env -i container=other HOME=/root PATH=/usr/local/sbin:/usr/local/bin:/usr/sbin:/usr/bin:/sbin:/bin \
 	/lib/systemd/systemd --system --unit=trial.target --show-status=no
 """
+
+TOP = os.path.realpath(os.path.join(os.path.dirname(os.path.abspath(__file__)), ".."))
+
+
+def hidden_folders():
+    """The folders of this repository and of the kit, which machines for trials do not have."""
+    command = shutil.which("rt")
+    kit = [os.path.dirname(os.path.dirname(os.path.realpath(command)))] if command else []
+    return [TOP, *kit]
 
 
 class Refused(Exception):
@@ -65,7 +77,7 @@ class Machine:
         self.network, self.name = network, name
         self.room = tempfile.mkdtemp(prefix=f"ifsvm-{name}.")
         namespaces = ("--mount", "--pid", "--fork", "--uts", "--ipc", "--cgroup", "--net", "--kill-child")
-        words = ["unshare", *namespaces, "sh", "-c", BOOT, "boot", self.room, name]
+        words = ["unshare", *namespaces, "sh", "-c", BOOT, "boot", self.room, name, *hidden_folders()]
         self.log = open(os.path.join(network.room, f"{name}.log"), "w")
         self.outside = subprocess.Popen(words, stdout=self.log, stderr=self.log, stdin=subprocess.DEVNULL)
         self.process = self.first_process()
