@@ -29,14 +29,13 @@ use std::marker::Model;
 const FRONT: u8 = 7;
 
 /// What a routine takes and leaves, the topmost last.
-#[derive(Debug, Drop)]
+#[derive(Drop)]
 pub(crate) struct Begun {
     params: Kinds,
     results: Kinds,
 }
 
 /// What lines have said so far.
-#[derive(Debug, Drop)]
 pub(crate) struct Building {
     alloc: Global,
     /// How many of the lines before the tables were read.
@@ -57,6 +56,27 @@ pub(crate) struct Building {
     code: Vec<Op>,
     /// How many instructions all routines have, up to 65,535.
     count: u16,
+}
+
+impl Drop for Building {
+    fn drop(self) {
+        let Building {
+            alloc: _alloc,
+            front: _front,
+            version: _version,
+            budgets: _budgets,
+            initial: _initial,
+            always: _always,
+            interfaces: _interfaces,
+            tests: _tests,
+            commands: _commands,
+            states: _states,
+            routines: _routines,
+            current: _current,
+            code: _code,
+            count: _count,
+        } = self;
+    }
 }
 
 impl Model for Building {
@@ -326,6 +346,8 @@ impl Building {
         ensures { IfOk result (λ parts. parts ≡ parts_said self) }
     {
         let Building {
+            alloc: _alloc,
+            front: _front,
             version,
             budgets,
             initial,
@@ -337,7 +359,7 @@ impl Building {
             mut routines,
             current,
             code,
-            ..
+            count: _count,
         } = self;
         if let Some(Begun { params, results }) = current {
             let code = Items::new(code);

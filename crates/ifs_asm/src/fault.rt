@@ -9,12 +9,12 @@ ghost use Rattle.ifs_asm.specs.inner.Reading.{fault_at};
 
 use ifs_base::{FaultPlace, FaultText};
 use std::alloc::{AllocError, AllocFailed};
-use std::fmt::{self, Display, Formatter, Write};
+use std::fmt::{self, Debug, Display, Formatter, Write};
 use thiserror::Error;
 
 /// The first line with a fault, by its number from 1. On one line A1 is to come before A2, and A2 before
 /// A3; `assemble` says which of this is proved.
-#[derive(Clone, Copy, Debug, PartialEq, Eq, Error)]
+#[derive(Clone, Copy, PartialEq, Eq, Error)]
 pub enum AsmFault {
     /// A1: the line has no form that is known, has a name that stood before in its table, or begins a routine in the form
     /// of the other version than the first line says.
@@ -59,6 +59,13 @@ impl Display for AsmFault {
     }
 }
 
+/// As the fault is printed.
+impl Debug for AsmFault {
+    fn fmt<W: Write>(&self, f: &mut Formatter<W>) -> fmt::Result {
+        Display::fmt(self, f)
+    }
+}
+
 impl From<AllocError> for AsmFault {
     ghost from_gives = { λ _ e. e ≡ Memory };
 
@@ -68,7 +75,7 @@ impl From<AllocError> for AsmFault {
 }
 
 /// What is wrong with a line.
-#[derive(Clone, Copy, Debug, PartialEq, Eq)]
+#[derive(Clone, Copy, PartialEq, Eq)]
 pub(crate) enum LineFault {
     Unknown,
     OutOfRange,

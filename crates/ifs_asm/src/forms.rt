@@ -22,7 +22,7 @@ use std::alloc::{AllocError, Global};
 const INDEX: u32 = 65_535;
 
 /// A line that fits a form.
-#[derive(Debug, Drop)]
+#[derive(Drop)]
 pub(crate) struct Formed {
     /// The line; in place of a number out of its range it has another.
     pub line: Line,

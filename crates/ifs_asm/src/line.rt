@@ -7,7 +7,7 @@ use ifs_base::{Op, StateId, Text};
 use ifs_image::{Handlers, Kinds, StateSpec, TestSpec};
 
 /// A version of the format.
-#[derive(Clone, Copy, Debug, PartialEq, Eq)]
+#[derive(Clone, Copy, PartialEq, Eq)]
 pub enum Version {
     One,
     Two,
@@ -37,7 +37,7 @@ impl Version {
 }
 
 /// How a routine begins, by the form of its version.
-#[derive(Debug, Drop)]
+#[derive(Drop)]
 pub enum Head {
     /// In version 1, where it takes nothing: whether it leaves a truth.
     Plain(bool),
@@ -46,7 +46,7 @@ pub enum Head {
 }
 
 /// What a line says.
-#[derive(Debug, Drop)]
+#[derive(Drop)]
 pub enum Line {
     /// The version of the format.
     Version(Version),

@@ -8,7 +8,7 @@ ghost use Rattle.ifs_asm.specs.inner.Forms.{mask_by, listed_by, parts_left};
 use ifs_base::{Number, parse_number};
 
 /// A list of tests.
-#[derive(Clone, Copy, Debug)]
+#[derive(Clone, Copy)]
 pub(crate) enum ListForm {
     /// Tests that ascend, all below 64: the bit of weight 2^t stands for test t.
     Mask(u64),

@@ -22,11 +22,21 @@ pub struct NamedLink {
 
 /// What a core hands on: the link states that it knows, the number of its next run, and the room of its trace, in
 /// which no record is left.
-#[derive(Debug, Drop)]
+#[derive(Debug)]
 pub struct Carried {
     links: Items<NamedLink>,
     next_run: u64,
     trace: HeapCircularBuffer<Record>,
+}
+
+impl Drop for Carried {
+    fn drop(self) {
+        let Carried {
+            links: _links,
+            next_run: _next_run,
+            trace: _trace,
+        } = self;
+    }
 }
 
 impl Model for Carried {
@@ -99,7 +109,11 @@ impl Carried {
     pub(crate) fn into_trace(self) -> HeapCircularBuffer<Record>
         ensures { result ≡ buffer [] 256 }
     {
-        let Carried { trace, .. } = self;
+        let Carried {
+            links: _links,
+            next_run: _next_run,
+            trace,
+        } = self;
         trace
     }
 }

@@ -16,12 +16,23 @@ use thiserror::Error;
 pub const TRACE: usize = 256;
 
 /// A gateway at work: an accepted image, and where its run stands.
-#[derive(Debug, Drop)]
+#[derive(Debug)]
 pub struct Core<'a> {
     pub(crate) verified: Verified<'a>,
     pub(crate) position: Position,
     pub(crate) queue: ArrayVec<CommandId, 64>,
     pub(crate) trace: HeapCircularBuffer<Record>,
+}
+
+impl<'a> Drop for Core<'a> {
+    fn drop(self) {
+        let Core {
+            verified: _verified,
+            position: _position,
+            queue: _queue,
+            trace: _trace,
+        } = self;
+    }
 }
 
 impl<'a> Model for Core<'a> {
@@ -121,7 +132,12 @@ impl<'a> Core<'a> {
             }),
             Ok(links) => {
                 let next_run = self.position.schedule.next_run();
-                let Core { trace, .. } = self;
+                let Core {
+                    verified: _verified,
+                    position: _position,
+                    queue: _queue,
+                    trace,
+                } = self;
                 Ok(Carried::new(links, next_run, trace))
             }
         }

@@ -17,7 +17,7 @@ use ifs_policy::Handlers;
 use std::alloc::{AllocError, Global};
 
 /// What a limit is of.
-#[derive(Clone, Copy, Debug, PartialEq, Eq)]
+#[derive(Clone, Copy, PartialEq, Eq)]
 pub(crate) enum Amount {
     /// Instructions.
     Size,

@@ -8,12 +8,12 @@ ghost use Rattle.ifs_gen.specs.Compiled.{of_code, of_policy};
 use crate::fault::GenFault;
 use ifs_base::{FaultPlace, FaultText};
 use ifs_policy::PolicyFault;
-use std::fmt::{self, Display, Formatter, Write};
+use std::fmt::{self, Debug, Display, Formatter, Write};
 use thiserror::Error;
 
 /// The fault of the first step that refuses the text: that it has no policy, or that the code of its
 /// policy passes a limit.
-#[derive(Clone, Copy, Debug, PartialEq, Eq, Error)]
+#[derive(Clone, Copy, PartialEq, Eq, Error)]
 pub enum CompileFault {
     /// P1 to P16: the text has no policy.
     Text(PolicyFault),
@@ -44,6 +44,13 @@ impl Display for CompileFault {
 
     fn fmt<W: Write>(&self, f: &mut Formatter<W>) -> fmt::Result {
         write!(f, "{}", self.text())
+    }
+}
+
+/// As the fault is printed.
+impl Debug for CompileFault {
+    fn fmt<W: Write>(&self, f: &mut Formatter<W>) -> fmt::Result {
+        Display::fmt(self, f)
     }
 }
 

@@ -7,12 +7,12 @@ ghost use Rattle.ifs_gen.specs.declared.fault.GenFault.TheVariants.{Memory};
 
 use ifs_base::{FaultPlace, FaultText, RoutineId};
 use std::alloc::{AllocError, AllocFailed};
-use std::fmt::{self, Display, Formatter, Write};
+use std::fmt::{self, Debug, Display, Formatter, Write};
 use thiserror::Error;
 
 /// The first limit that the plain code of a policy passes: each is looked for over all routines before
 /// the next.
-#[derive(Clone, Copy, Debug, PartialEq, Eq, Error)]
+#[derive(Clone, Copy, PartialEq, Eq, Error)]
 pub enum GenFault {
     /// G1: a routine has over 1,024 instructions; the least such one.
     RoutineTooLong(RoutineId),
@@ -47,6 +47,13 @@ impl Display for GenFault {
 
     fn fmt<W: Write>(&self, f: &mut Formatter<W>) -> fmt::Result {
         write!(f, "{}", self.text())
+    }
+}
+
+/// As the fault is printed.
+impl Debug for GenFault {
+    fn fmt<W: Write>(&self, f: &mut Formatter<W>) -> fmt::Result {
+        Display::fmt(self, f)
     }
 }
 

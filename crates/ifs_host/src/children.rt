@@ -25,10 +25,18 @@ struct Running<Q: Runner> {
 }
 
 /// What waits to be answered: programs that were started for tests, and starts that failed, each in order.
-#[derive(Drop)]
 pub struct Children<Q: Runner> {
     running: Vec<Running<Q>>,
     failed: ArrayVec<Start, 64>,
+}
+
+impl<Q: Runner> Drop for Children<Q> {
+    fn drop(self) {
+        let Children {
+            running: _running,
+            failed: _failed,
+        } = self;
+    }
 }
 
 impl<Q: Runner> Model for Children<Q> {

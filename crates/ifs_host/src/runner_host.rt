@@ -15,10 +15,18 @@ use std::marker::Model;
 
 /// Runs at most 256 tests at once. A test for which there is no place, or whose program cannot be started, ends
 /// as one that found false.
-#[derive(Drop)]
 pub struct RunnerHost<Q: Runner> {
     runner: Q,
     children: Children<Q>,
+}
+
+impl<Q: Runner + Drop> Drop for RunnerHost<Q> {
+    fn drop(self) {
+        let RunnerHost {
+            runner: _runner,
+            children: _children,
+        } = self;
+    }
 }
 
 impl<Q: Runner> Model for RunnerHost<Q> {

@@ -7,12 +7,12 @@ ghost use Rattle.ifs_image.specs.declared.fault.ImageFault.TheVariants.{Memory};
 
 use ifs_base::{FaultPlace, FaultText};
 use std::alloc::{AllocError, AllocFailed};
-use std::fmt::{self, Display, Formatter, Write};
+use std::fmt::{self, Debug, Display, Formatter, Write};
 use thiserror::Error;
 
 /// The first thing from the left that is wrong with an image's bytes. `at` is the offset, in bytes
 /// from 0, of the first byte of the field in question.
-#[derive(Clone, Copy, Debug, PartialEq, Eq, Error)]
+#[derive(Clone, Copy, PartialEq, Eq, Error)]
 pub enum ImageFault {
     /// I1: a field is not there whole.
     Truncated { at: usize },
@@ -67,6 +67,13 @@ impl Display for ImageFault {
 
     fn fmt<W: Write>(&self, f: &mut Formatter<W>) -> fmt::Result {
         write!(f, "{}", self.text())
+    }
+}
+
+/// As the fault is printed.
+impl Debug for ImageFault {
+    fn fmt<W: Write>(&self, f: &mut Formatter<W>) -> fmt::Result {
+        Display::fmt(self, f)
     }
 }
 

@@ -7,9 +7,15 @@ use crate::parts::ImageParts;
 use std::marker::Model;
 
 /// An image, seen as its parts. They keep to the limits of the format, and no name stands twice.
-#[derive(Debug, Drop)]
+#[derive(Debug)]
 pub struct Image {
     parts: ImageParts,
+}
+
+impl Drop for Image {
+    fn drop(self) {
+        let Image { parts: _parts } = self;
+    }
 }
 
 impl Model for Image {
@@ -41,6 +47,15 @@ impl Image {
     {
         &self.parts
     }
+
+    /// The parts themselves.
+    fn into_parts(self) -> ImageParts
+        ensures value { result ≡ self }
+        ensures fits { Fits self }
+    {
+        let Image { parts } = self;
+        parts
+    }
 }
 
 /// The image of version 2 that says what an image says: an image of version 2 is itself. Takes no memory.
@@ -48,9 +63,8 @@ pub fn upgrade(image: Image) -> Image
     ensures value { result ≡ upgraded image }
     ensures same { image.version ≡ 2 → result ≡ image }
 {
-    let Image { parts } = image;
     Image::new(ImageParts {
         version: 2,
-        ..parts
+        ..image.into_parts()
     })
 }

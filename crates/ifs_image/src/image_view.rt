@@ -11,9 +11,15 @@ use std::marker::Model;
 
 /// An image, seen as its parts, whose texts and instructions lie in its bytes. They keep to the limits of the format,
 /// and no name stands twice. Nothing here takes memory.
-#[derive(Debug, Drop)]
+#[derive(Debug)]
 pub struct ImageView<'a> {
     parts: LentParts<'a>,
+}
+
+impl<'a> Drop for ImageView<'a> {
+    fn drop(self) {
+        let ImageView { parts: _parts } = self;
+    }
 }
 
 impl<'a> Model for ImageView<'a> {

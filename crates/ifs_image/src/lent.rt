@@ -173,7 +173,7 @@ impl<'a> Model for LentRoutine<'a> {
 }
 
 /// All that an image says, with texts and code that lie in its bytes. Clauses see the image.
-#[derive(Debug, Drop)]
+#[derive(Debug)]
 pub struct LentParts<'a> {
     pub version: u8,
     pub budgets: Budgets,
@@ -184,6 +184,22 @@ pub struct LentParts<'a> {
     pub commands: Items<LentText<'a>>,
     pub states: Items<LentState<'a>>,
     pub routines: Items<LentRoutine<'a>>,
+}
+
+impl<'a> Drop for LentParts<'a> {
+    fn drop(self) {
+        let LentParts {
+            version: _version,
+            budgets: _budgets,
+            initial: _initial,
+            always: _always,
+            interfaces: _interfaces,
+            tests: _tests,
+            commands: _commands,
+            states: _states,
+            routines: _routines,
+        } = self;
+    }
 }
 
 impl<'a> Model for LentParts<'a> {

@@ -10,7 +10,7 @@ use ifs_base::Span;
 use std::marker::Model;
 
 /// What was found in a text, and where.
-#[derive(Clone, Copy, Debug)]
+#[derive(Clone, Copy)]
 pub struct Found<'a> {
     pub piece: Piece<'a>,
     pub span: Span,

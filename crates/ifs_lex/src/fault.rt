@@ -7,12 +7,12 @@ ghost use Rattle.ifs_lex.specs.declared.fault.LexFault.TheVariants.{Memory};
 
 use ifs_base::{FaultPlace, FaultText};
 use std::alloc::{AllocError, AllocFailed};
-use std::fmt::{self, Display, Formatter, Write};
+use std::fmt::{self, Debug, Display, Formatter, Write};
 use thiserror::Error;
 
 /// The first fault from the left, with its line, from 1. Faults of the definitions that are given
 /// beside the text come before it and have line 0.
-#[derive(Clone, Copy, Debug, PartialEq, Eq, Error)]
+#[derive(Clone, Copy, PartialEq, Eq, Error)]
 pub enum LexFault {
     /// P1: a character that begins nothing.
     Stray { line: u32 },
@@ -58,6 +58,13 @@ impl Display for LexFault {
 
     fn fmt<W: Write>(&self, f: &mut Formatter<W>) -> fmt::Result {
         write!(f, "{}", self.text())
+    }
+}
+
+/// As the fault is printed.
+impl Debug for LexFault {
+    fn fmt<W: Write>(&self, f: &mut Formatter<W>) -> fmt::Result {
+        Display::fmt(self, f)
     }
 }
 

@@ -14,7 +14,7 @@ use memchr::memchr2;
 use std::alloc::{AllocError, Global};
 
 /// A sign other than `=`.
-#[derive(Clone, Copy, Debug)]
+#[derive(Clone, Copy)]
 pub enum Sign {
     OpenBrace,
     CloseBrace,
@@ -27,7 +27,7 @@ pub enum Sign {
 }
 
 /// A piece of a text, lent by it.
-#[derive(Clone, Copy, Debug)]
+#[derive(Clone, Copy)]
 pub enum Piece<'a> {
     /// A word.
     Bare(&'a str),

@@ -12,7 +12,7 @@ use std::alloc::{AllocError, Global};
 use std::marker::Model;
 
 /// Nothing, one token, or two earlier cells one after the other.
-#[derive(Debug, Drop)]
+#[derive(Drop)]
 pub enum Cell {
     Empty,
     Leaf(What),
@@ -20,7 +20,7 @@ pub enum Cell {
 }
 
 /// The tokens that a cell stands for, and how many they are.
-#[derive(Clone, Copy, Debug)]
+#[derive(Clone, Copy)]
 pub struct Rope {
     pub root: usize,
     pub count: usize,
@@ -47,9 +47,14 @@ fn copied(alloc: Global, what: &What) -> Result<What, AllocError>
 }
 
 /// The cells of all values. Clauses see what each stands for.
-#[derive(Drop)]
 pub struct Ropes {
     cells: Vec<Cell>,
+}
+
+impl Drop for Ropes {
+    fn drop(self) {
+        let Ropes { cells: _cells } = self;
+    }
 }
 
 impl Model for Ropes {

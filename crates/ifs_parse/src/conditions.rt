@@ -4,6 +4,8 @@ ghost use Rattle.std.specs.Prelude.{◌≡◌, ◌≤◌, ◌||◌, [], suc, zer
 ghost use Rattle.ifs_parse.specs.inner.Combined.{IsAsRead, many};
 ghost use Rattle.ifs_parse.specs.inner.Parsers.{progress_of, others_of};
 ghost use Rattle.ifs_parse.specs.inner.Reading as reading;
+ghost use Rattle.ifs_parse.specs.Trees.{Or};
+ghost use Rattle.ifs_parse.specs.Views.{any_of};
 ghost use Rattle.ifs_parse.specs.Words as words;
 ghost use Rattle.ifs_parse.specs.Rules as rules;
 ghost use Rattle.ifs_parse.specs.declared.mark.Mark.TheVariants as mark;
@@ -18,10 +20,18 @@ use ifs_base::Span;
 use std::alloc::Global;
 
 /// The operands after the first two, and whether one of all the operands is a chain.
-#[derive(Drop)]
 struct Others {
     rest: Vec<Condition<Test>>,
     is_mixed: bool,
+}
+
+impl Drop for Others {
+    fn drop(self) {
+        let Others {
+            rest: _rest,
+            is_mixed: _is_mixed,
+        } = self;
+    }
 }
 
 impl Others {
@@ -42,13 +52,20 @@ impl Others {
             (λ done. others_of self.new ≡ reading.with_operand (others_of self.old) next)
             (λ fault. fault ≡ Memory) }
     {
-        let Operand {
-            condition,
-            is_chain,
-        } = next;
-        self.is_mixed = self.is_mixed || is_chain;
-        self.rest.push(condition)?;
+        self.is_mixed = self.is_mixed || next.is_chain;
+        self.rest.push(next.into_condition())?;
         Ok(())
+    }
+
+    /// The operands after the first two.
+    fn into_rest(self) -> Vec<Condition<Test>>
+        ensures { result.items ≡ self.rest.items }
+    {
+        let Others {
+            rest,
+            is_mixed: _is_mixed,
+        } = self;
+        rest
     }
 }
 
@@ -63,6 +80,19 @@ fn boxed(
     let first = Box::new(alloc, first)?;
     let second = Box::new(alloc, second)?;
     Ok((first, second))
+}
+
+/// Operands joined by `||`.
+fn any(
+    alloc: Global,
+    first: Operand,
+    second: Operand,
+    others: Others,
+) -> Result<Condition<Test>, ParseFault>
+    ensures { MatchResult result (λ c. c ≡ any_of (Or first.condition second.condition) others.rest.items) (λ fault. fault ≡ Memory) }
+{
+    let (first, second) = boxed(alloc, first.into_condition(), second.into_condition())?;
+    Ok(Condition::new(Node::Any(first, second, others.into_rest())))
 }
 
 /// How many more may be open within what opens at a span, where so many may be.
@@ -204,8 +234,8 @@ impl<'a> Parser<'a> {
         let second = self.all(room)?;
         let others = self.alls(room, Others::after(self.alloc, &first, &second))?;
         self.note(place, span.line, others.is_mixed)?;
-        let (first, second) = boxed(self.alloc, first.condition, second.condition)?;
-        Ok(Condition::new(Node::Any(first, second, others.rest)))
+        let condition = any(self.alloc, first, second, others)?;
+        Ok(condition)
     }
 
     /// any : all { "||" all }
@@ -216,7 +246,7 @@ impl<'a> Parser<'a> {
         let first = self.all(room)?;
         match self.accept(Mark::Or) {
             Some(span) => self.alternatives(room, first, span),
-            None => Ok(first.condition),
+            None => Ok(first.into_condition()),
         }
     }
 }

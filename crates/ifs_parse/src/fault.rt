@@ -7,11 +7,11 @@ ghost use Rattle.ifs_parse.specs.declared.fault.ParseFault.TheVariants.{Memory};
 
 use ifs_base::{FaultPlace, FaultText};
 use std::alloc::{AllocError, AllocFailed};
-use std::fmt::{self, Display, Formatter, Write};
+use std::fmt::{self, Debug, Display, Formatter, Write};
 use thiserror::Error;
 
 /// What is wrong with the first token that cannot go on, with its line.
-#[derive(Clone, Copy, Debug, PartialEq, Eq, Error)]
+#[derive(Clone, Copy, PartialEq, Eq, Error)]
 pub enum ParseFault {
     /// P6: nothing in the grammar goes on with this token.
     Unexpected { line: u32 },
@@ -51,6 +51,13 @@ impl Display for ParseFault {
 
     fn fmt<W: Write>(&self, f: &mut Formatter<W>) -> fmt::Result {
         write!(f, "{}", self.text())
+    }
+}
+
+/// As the fault is printed.
+impl Debug for ParseFault {
+    fn fmt<W: Write>(&self, f: &mut Formatter<W>) -> fmt::Result {
+        Display::fmt(self, f)
     }
 }
 

@@ -7,7 +7,7 @@ ghost use Rattle.ifs_parse.specs.Marks as marks;
 use ifs_lex::What;
 
 /// A sign, or a word that the grammar names. A quoted text is none.
-#[derive(Clone, Copy, Debug, PartialEq, Eq)]
+#[derive(Clone, Copy, PartialEq, Eq)]
 pub enum Mark {
     BraceOpen,
     BraceClose,

@@ -29,10 +29,31 @@ pub struct Parser<'a> {
 }
 
 /// An operand of `||`, and whether it is two or more joined by `&&`.
-#[derive(Drop)]
 pub struct Operand {
     pub condition: Condition<Test>,
     pub is_chain: bool,
+}
+
+impl Drop for Operand {
+    fn drop(self) {
+        let Operand {
+            condition: _condition,
+            is_chain: _is_chain,
+        } = self;
+    }
+}
+
+impl Operand {
+    /// The condition alone.
+    pub fn into_condition(self) -> Condition<Test>
+        ensures { result ≡ self.condition }
+    {
+        let Operand {
+            condition,
+            is_chain: _is_chain,
+        } = self;
+        condition
+    }
 }
 
 /// The text of a string: a word that is not reserved, or a quoted text.

@@ -7,12 +7,12 @@ ghost use Rattle.ifs_policy.specs.declared.fault.ResolveFault.TheVariants.{Memor
 
 use ifs_base::{FaultPlace, FaultText};
 use std::alloc::{AllocError, AllocFailed};
-use std::fmt::{self, Display, Formatter, Write};
+use std::fmt::{self, Debug, Display, Formatter, Write};
 use thiserror::Error;
 
 /// The fault that is answered, with its line, from 1: a text without a state, else the first of the
 /// others but the last, else the first state that is not known.
-#[derive(Clone, Copy, Debug, PartialEq, Eq, Error)]
+#[derive(Clone, Copy, PartialEq, Eq, Error)]
 pub enum ResolveFault {
     /// P9: no state is defined. Its line is 1.
     NoState { line: u32 },
@@ -67,6 +67,13 @@ impl Display for ResolveFault {
 
     fn fmt<W: Write>(&self, f: &mut Formatter<W>) -> fmt::Result {
         write!(f, "{}", self.text())
+    }
+}
+
+/// As the fault is printed.
+impl Debug for ResolveFault {
+    fn fmt<W: Write>(&self, f: &mut Formatter<W>) -> fmt::Result {
+        Display::fmt(self, f)
     }
 }
 

@@ -17,11 +17,11 @@ use ifs_lex::{LexFault, tokens};
 use ifs_parse::laws::one_tree;
 use ifs_parse::{ParseFault, Tree, parse};
 use std::alloc::Global;
-use std::fmt::{self, Display, Formatter, Write};
+use std::fmt::{self, Debug, Display, Formatter, Write};
 use thiserror::Error;
 
 /// Why a text has no policy: the fault of the first step that refuses it.
-#[derive(Clone, Copy, Debug, PartialEq, Eq, Error)]
+#[derive(Clone, Copy, PartialEq, Eq, Error)]
 pub enum PolicyFault {
     /// P1 to P5: the text has no tokens.
     Text(LexFault),
@@ -55,6 +55,13 @@ impl Display for PolicyFault {
 
     fn fmt<W: Write>(&self, f: &mut Formatter<W>) -> fmt::Result {
         write!(f, "{}", self.text())
+    }
+}
+
+/// As the fault is printed.
+impl Debug for PolicyFault {
+    fn fmt<W: Write>(&self, f: &mut Formatter<W>) -> fmt::Result {
+        Display::fmt(self, f)
     }
 }
 

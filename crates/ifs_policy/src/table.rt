@@ -11,9 +11,14 @@ use std::hash::Hash;
 use std::marker::Model;
 
 /// Distinct entries in the order in which they came. Clauses see their list.
-#[derive(Drop)]
 pub struct Table<T: Eq + Hash> {
     entries: IndexSet<T>,
+}
+
+impl<T: Eq + Hash + Drop> Drop for Table<T> {
+    fn drop(self) {
+        let Table { entries: _entries } = self;
+    }
 }
 
 impl<T: Eq + Hash> Model for Table<T> {

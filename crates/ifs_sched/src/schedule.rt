@@ -24,11 +24,21 @@ pub struct Backwards;
 pub struct Stale;
 
 /// The moments and runs of up to 64 tests.
-#[derive(Debug, Drop)]
+#[derive(Debug)]
 pub struct Schedule {
     present: u64,
     next_run: Option<u64>,
     timers: Timers,
+}
+
+impl Drop for Schedule {
+    fn drop(self) {
+        let Schedule {
+            present: _present,
+            next_run: _next_run,
+            timers: _timers,
+        } = self;
+    }
 }
 
 impl Model for Schedule {

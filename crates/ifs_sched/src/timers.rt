@@ -17,10 +17,19 @@ use ifs_base::TestId;
 use std::marker::Model;
 
 /// The timers of up to 64 tests, by index, and the entries of the idle ones.
-#[derive(Debug, Drop)]
+#[derive(Debug)]
 pub struct Timers {
     tests: ArrayVec<Timer, MAX_TESTS>,
     idle: ArrayVec<(u64, TestId), MAX_TESTS>,
+}
+
+impl Drop for Timers {
+    fn drop(self) {
+        let Timers {
+            tests: _tests,
+            idle: _idle,
+        } = self;
+    }
 }
 
 impl Model for Timers {

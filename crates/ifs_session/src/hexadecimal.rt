@@ -12,7 +12,7 @@ use std::alloc::{AllocError, Global};
 const BYTES: usize = 65_536;
 
 /// Why a line gives no bytes.
-#[derive(Clone, Copy, Debug, PartialEq, Eq)]
+#[derive(Clone, Copy, PartialEq, Eq)]
 pub(crate) enum HexFault {
     /// The line breaks its rule.
     Broken,

@@ -11,7 +11,7 @@ use crate::request::{LINE, Request, RequestFault, parse_request};
 use arrayvec::ArrayVec;
 
 /// A line of input, without its newline.
-#[derive(Debug, Drop)]
+#[derive(Drop)]
 pub(crate) struct Line {
     /// Its first 256 bytes.
     pub kept: ArrayVec<u8, LINE>,

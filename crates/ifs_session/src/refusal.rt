@@ -13,7 +13,7 @@ use ifs_base::{FaultPlace, FaultText};
 use ifs_verify::VerifyFault;
 
 /// Why the image of the first line is refused.
-#[derive(Clone, Copy, Debug, PartialEq, Eq)]
+#[derive(Clone, Copy, PartialEq, Eq)]
 pub(crate) enum Refusal {
     /// The line breaks its rule.
     Broken,

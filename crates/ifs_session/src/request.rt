@@ -11,7 +11,7 @@ use ifs_base::{LinkState, Number, TestId, parse_number};
 use thiserror::Error;
 
 /// What a line asks for.
-#[derive(Clone, Copy, Debug, PartialEq, Eq)]
+#[derive(Clone, Copy, PartialEq, Eq)]
 pub(crate) enum Request<'a> {
     /// The interface of this name has a link state.
     Link(&'a [u8], LinkState),

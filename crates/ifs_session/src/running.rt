@@ -17,7 +17,7 @@ use ifs_verify::verify;
 use std::alloc::Global;
 
 /// Why the first line gives no bytes.
-#[derive(Clone, Copy, Debug, PartialEq, Eq)]
+#[derive(Clone, Copy, PartialEq, Eq)]
 pub(crate) enum Unopened {
     /// It is refused.
     Refused(Refusal),

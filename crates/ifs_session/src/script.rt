@@ -50,7 +50,6 @@ impl HostText {
 
 /// A host that starts and runs nothing: it answers polls and runs by a script, and notes what happened
 /// at it, as long as it finds memory for that and no text has over 1,024 bytes.
-#[derive(Drop)]
 pub struct ScriptHost<A: Allocator = Global> {
     endings: Vec<Option<(TestId, u64, bool)>>,
     next_ending: usize,
@@ -59,6 +58,20 @@ pub struct ScriptHost<A: Allocator = Global> {
     events: Vec<HostEvent<HostText>, A>,
     whole: bool,
     faults: u64,
+}
+
+impl<A: Allocator> Drop for ScriptHost<A> {
+    fn drop(self) {
+        let ScriptHost {
+            endings: _endings,
+            next_ending: _next_ending,
+            statuses: _statuses,
+            next_status: _next_status,
+            events: _events,
+            whole: _whole,
+            faults: _faults,
+        } = self;
+    }
 }
 
 impl<A: Allocator> Model for ScriptHost<A> {

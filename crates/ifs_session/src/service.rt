@@ -102,7 +102,7 @@ pub fn serve_one<H: Host, R: ByteIn, W: ByteOut>(
 }
 
 /// How the lines of a connection came to their end.
-#[derive(Clone, Copy, Debug, PartialEq, Eq)]
+#[derive(Clone, Copy, PartialEq, Eq)]
 pub(crate) struct Close {
     /// Why they did.
     pub end: End,
@@ -111,7 +111,7 @@ pub(crate) struct Close {
 }
 
 /// Why the next line was not served to its end.
-#[derive(Clone, Copy, Debug, PartialEq, Eq)]
+#[derive(Clone, Copy, PartialEq, Eq)]
 pub(crate) struct Break {
     /// What failed.
     pub fault: SessionFault,
@@ -120,7 +120,7 @@ pub(crate) struct Break {
 }
 
 /// What a line asks of its connection.
-#[derive(Clone, Copy, Debug, PartialEq, Eq)]
+#[derive(Clone, Copy, PartialEq, Eq)]
 pub(crate) enum Leave {
     /// To go on, as all lines do but `stop` and `reload`.
     Stays,
@@ -140,7 +140,7 @@ impl Leave {
 }
 
 /// A line that was served.
-#[derive(Clone, Copy, Debug, PartialEq, Eq)]
+#[derive(Clone, Copy, PartialEq, Eq)]
 pub(crate) struct ServedLine {
     /// What it asked of the connection.
     pub leave: Leave,

@@ -32,7 +32,7 @@ pub struct Summary {
 }
 
 /// What a line was.
-#[derive(Clone, Copy, Debug, PartialEq, Eq)]
+#[derive(Clone, Copy, PartialEq, Eq)]
 pub(crate) enum LineKind {
     /// A step of the core.
     Step,
@@ -43,7 +43,7 @@ pub(crate) enum LineKind {
 }
 
 /// A line that was served.
-#[derive(Clone, Copy, Debug, PartialEq, Eq)]
+#[derive(Clone, Copy, PartialEq, Eq)]
 pub(crate) struct Served {
     /// What it was.
     pub kind: LineKind,

@@ -36,12 +36,20 @@ pub struct Amounts {
 }
 
 /// Room for the amounts from each place of a routine on.
-#[derive(Drop)]
 pub struct Rows {
     /// Executed instructions.
     pub costs: Vec<u32>,
     /// Queued commands.
     pub commands: Vec<u32>,
+}
+
+impl Drop for Rows {
+    fn drop(self) {
+        let Rows {
+            costs: _costs,
+            commands: _commands,
+        } = self;
+    }
 }
 
 impl Rows {

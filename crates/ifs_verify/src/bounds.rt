@@ -20,7 +20,6 @@ use std::alloc::Global;
 pub const ROUTINE_COST: u32 = 100_000;
 
 /// What each routine uses at most.
-#[derive(Drop)]
 pub struct Bounds {
     /// Frames at one time.
     pub depths: Vec<u32>,
@@ -28,6 +27,16 @@ pub struct Bounds {
     pub costs: Vec<u32>,
     /// Queued commands.
     pub commands: Vec<u32>,
+}
+
+impl Drop for Bounds {
+    fn drop(self) {
+        let Bounds {
+            depths: _depths,
+            costs: _costs,
+            commands: _commands,
+        } = self;
+    }
 }
 
 /// V10 to V13 at a routine, one routine after the other.

@@ -8,7 +8,7 @@ ghost use Rattle.ifs_verify.specs.declared.fault.VerifyFault.TheVariants.{OutOfM
 use ifs_base::{FaultPlace, FaultText, RoutineId, StateId};
 use ifs_image::ImageFault;
 use std::alloc::{AllocError, AllocFailed};
-use std::fmt::{self, Display, Formatter, Write};
+use std::fmt::{self, Debug, Display, Formatter, Write};
 use thiserror::Error;
 
 /// A place in an image.
@@ -36,7 +36,7 @@ impl At {
 }
 
 /// The first check that an image does not pass, and where.
-#[derive(Clone, Copy, Debug, PartialEq, Eq, Error)]
+#[derive(Clone, Copy, PartialEq, Eq, Error)]
 pub enum VerifyFault {
     /// V1: the bytes spell no image.
     NoImage(ImageFault),
@@ -109,6 +109,13 @@ impl Display for VerifyFault {
 
     fn fmt<W: Write>(&self, f: &mut Formatter<W>) -> fmt::Result {
         write!(f, "{}", self.text())
+    }
+}
+
+/// As the fault is printed.
+impl Debug for VerifyFault {
+    fn fmt<W: Write>(&self, f: &mut Formatter<W>) -> fmt::Result {
+        Display::fmt(self, f)
     }
 }
 

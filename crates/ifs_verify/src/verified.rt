@@ -5,9 +5,15 @@ use std::marker::Model;
 
 /// An image that the verifier accepted, and only that: `verify` alone makes one. It lies in the bytes that were
 /// verified, and is seen as the image's parts.
-#[derive(Debug, Drop)]
+#[derive(Debug)]
 pub struct Verified<'a> {
     image: ImageView<'a>,
+}
+
+impl<'a> Drop for Verified<'a> {
+    fn drop(self) {
+        let Verified { image: _image } = self;
+    }
 }
 
 impl<'a> Model for Verified<'a> {

@@ -33,11 +33,7 @@ impl<'a> Job<'a> {
     }
 
     /// Does the task: reads the file, writes the image that it answers, if any, and then prints the answer.
-    pub fn done(
-        self,
-        rt: &HostRuntime,
-        definitions: &[(&str, &str)],
-    ) -> Result<(), Failure<'a>> {
+    pub fn done(self, rt: &HostRuntime, definitions: &[(&str, &str)]) -> Result<(), Failure<'a>> {
         let input = self.input(rt)?;
         self.answered(rt, input.as_slice(), definitions)
     }

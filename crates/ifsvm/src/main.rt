@@ -52,11 +52,17 @@ fn done<'a>(
     match asked {
         Asked::Session => sessions::by_hexadecimal(rt),
         Asked::Check { file } => Job::reading(Task::Check, file).done(rt, definitions),
-        Asked::Compile { file, image } => Job::writing(Task::Compile, file, image).done(rt, definitions),
+        Asked::Compile { file, image } => Job::writing(Task::Compile, file, image).done(
+            rt,
+            definitions,
+        ),
         Asked::Verify { image } => Job::reading(Task::Verify, image).done(rt, definitions),
         Asked::Disasm { image } => Job::reading(Task::Disasm, image).done(rt, definitions),
         Asked::Asm { file, image } => Job::writing(Task::Asm, file, image).done(rt, definitions),
-        Asked::Upgrade { image, upgraded } => Job::writing(Task::Upgrade, image, upgraded).done(rt, definitions),
+        Asked::Upgrade { image, upgraded } => Job::writing(Task::Upgrade, image, upgraded).done(
+            rt,
+            definitions,
+        ),
         Asked::Graph { file } => Job::reading(Task::Graph, file).done(rt, definitions),
         Asked::Sim { image } => sessions::on_file(rt, image),
         Asked::Serve(asked) => daemons::serve(rt, asked),

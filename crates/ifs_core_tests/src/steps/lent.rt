@@ -116,11 +116,7 @@ fn check_lists(rt: &impl Abort, core: &mut Core<'_>, lists: &mut Lists) {
         cost: 6,
     };
     same(rt, core.step_into(LINK_UP, lists), done);
-    same(
-        rt,
-        lists.effects.queued.as_slice(),
-        [CommandId(0)].as_slice(),
-    );
+    assert_eq!(rt; lists.effects.queued.as_slice(), [CommandId(0)].as_slice());
     same(rt, core.step_into(LINK_UP, lists), Outcome::Same);
     same(rt, core.take(), Some(CommandId(0)));
     same(rt, core.step_into(Step::Take, lists), Outcome::Empty);
@@ -169,7 +165,7 @@ fn texts_of_a_core<'a>(rt: &impl Abort, alloc: Global, image: &'a [u8]) -> [Opti
 fn texts_outlive_their_core(rt: HostRuntime) {
     let image = bytes_in(&rt, rt.alloc(), images::FIRST_RUN);
     let texts = texts_of_a_core(&rt, rt.alloc(), image.as_slice());
-    same(&rt, texts, [Some("a"), Some("echo m")]);
+    assert_eq!(rt; texts, [Some("a"), Some("echo m")]);
 }
 
 #[test]

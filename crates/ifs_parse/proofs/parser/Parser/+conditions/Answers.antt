@@ -39,6 +39,6 @@ pub alternatives-returns : goal.alternatives-returns
 alternatives-returns t c =
     alternatives_are (reading.all (reading.one words.fits_period c.args.room)) c.args.first c.in_ok-second.second c.args.span c.len-place.result
     (progress_of c.args.self.now) (progress_of c.all.new.self) (progress_of c.alls.new.self) (progress_of c.note.new.self)
-    (others_of c.after.result) (others_of c.in_ok-others.others) c.new.result
+    (others_of c.after.result) (others_of c.in_ok-others.others) c.in_ok-condition.condition
     c.in_ok-second.ensures c.after.ensures c.in_ok-others.ensures (c.len-place.ensures ∙ c.args.self.now.notes.ok.0) c.in_ok-note.ensures
-    (c.new.ensures ∙ rw (c.in_ok-first.ensures.0, c.in_ok-first.ensures.1))
+    c.in_ok-condition.ensures
