@@ -1,4 +1,5 @@
 """What tools/bench runs the program on: images, request lines and policy texts."""
+import itertools
 import struct
 
 RET, TRUE, LINK, TEST, KNOWN, NOT, AND, OR = 0x00, 0x01, 0x03, 0x04, 0x05, 0x06, 0x07, 0x08
@@ -9,6 +10,12 @@ MOST_BLOCKS = 256
 MOST_TESTS = 64
 MOST_STATES = 256
 MOST_TEXT = 1_024
+# the routines of a full image and the instructions of each, of which the last alone is a `ret`
+FULL_ROUTINES, FULL_CODE = 8, 1_023
+# how bytes that are escaped in quotes are spelled there, and the distances between such bytes
+ESCAPES = {'"': '\\"', "\\": "\\\\", "\x1b": "\\x1b"}
+DENSE = [8 + 5 * turn % 13 for turn in range(13)]
+SPARSE = [100, 200, 150]
 BLOCK = 4_096
 COMMENT = "# the gateway that holds the address answers, and the other one waits until its peer is gone\n"
 
@@ -25,11 +32,12 @@ def state(name, init, body, mask=0):
     return text(name) + struct.pack(">HHQ", init, body, mask)
 
 
-def image(routines, states, always=0, tests=(), commands=(), period=1, interfaces=("carp0",)):
-    """An always body of that number; its init is routine 0. All tests have one period."""
+def image(routines, states, always=0, tests=(), commands=(), period=1, interfaces=("carp0",), queued=64):
+    """An always body of that number; its init is routine 0. All tests have one period. At most so many commands may be
+    queued."""
     return b"".join([
         b"IFSV\x01",
-        struct.pack(">HHIH", 32, 32, 300_000, min(len(commands), 64)),
+        struct.pack(">HHIH", 32, 32, 300_000, min(len(commands), queued)),
         struct.pack(">HHHHH", len(interfaces), len(tests), len(commands), len(states), len(routines)),
         struct.pack(">HHHQ", 0, 0, always, 0),
         *[text(interface) for interface in interfaces],
@@ -190,15 +198,69 @@ def quoted(stem, number):
 def listed(interfaces, tests, commands, states, routines, instructions):
     """A text of an image of so many entries, whose texts have 1,024 bytes, and of so many routines of so many
     instructions."""
+    counts = {"em": interfaces, "ping": tests, "logger": commands, "gateway": states}
+    tables = [[quoted(stem, number) for number in range(count)] for stem, count in counts.items()]
+    return listing(tables, routines, instructions)
+
+
+def listing(tables, routines, instructions):
+    """A text of an image of these interfaces, tests, commands and states, each in quotes, and of so many routines of so
+    many instructions."""
+    interfaces, tests, commands, states = tables
     lines = ["ifsv 1", "stack 32", "frames 32", "cost 300000", "commands 0", "start 0", "always init 0 body 0 tests -"]
-    lines += [f"iface {quoted('em', number)}" for number in range(interfaces)]
-    lines += [f"test 604800 {quoted('ping', number)}" for number in range(tests)]
-    lines += [f"command {quoted('logger', number)}" for number in range(commands)]
-    lines += [f"state {quoted('gateway', number)} init 0 body 0 tests -" for number in range(states)]
+    lines += [f"iface {name}" for name in interfaces]
+    lines += [f"test 604800 {words}" for words in tests]
+    lines += [f"command {words}" for words in commands]
+    lines += [f"state {name} init 0 body 0 tests -" for name in states]
     code = ["link 0 up", "link 0 down", "or", "not", "true", "and", "pop"] * ((instructions - 1) // 7)
     for _ in range(routines):
         lines += ["routine results 0", *code, *["ret"] * (instructions - len(code))]
     return "".join(f"{line}\n" for line in lines)
+
+
+def full(words_of):
+    """The texts of full tables, by what gives the text of an entry with that stem and number."""
+    counts = {"em": 64, "ping": MOST_TESTS, "logger": 1_024, "gateway": MOST_STATES}
+    return [[words_of(stem, number) for number in range(count)] for stem, count in counts.items()]
+
+
+def escaped(distances):
+    """What gives a text of 1,024 bytes for an entry, in which each byte that is escaped in quotes is by these distances,
+    in turn, from the one before it."""
+    def words_of(stem, number):
+        words, escape = f"{stem} {number:04} ", itertools.cycle(ESCAPES)
+        for distance in itertools.cycle(distances):
+            if len(words) + distance > MOST_TEXT:
+                return words.ljust(MOST_TEXT, "x")
+            words += "x" * (distance - 1) + next(escape)
+
+    return words_of
+
+
+def plain(stem, number):
+    """A text of 1,024 bytes, none of which is escaped in quotes."""
+    return f"{stem} {number:04} ".ljust(MOST_TEXT, "x")
+
+
+def brief(stem, number):
+    """A text of at most 12 bytes."""
+    return f"{stem} {number:04}"
+
+
+def full_listing(words_of):
+    """A text of an accepted image of such full tables and of 8,184 instructions."""
+    tables = [[f'"{"".join(ESCAPES.get(letter, letter) for letter in words)}"' for words in table]
+              for table in full(words_of)]
+    return listing(tables, FULL_ROUTINES, FULL_CODE)
+
+
+def full_image(words_of):
+    """The image of that text."""
+    interfaces, tests, commands, states = full(words_of)
+    turn = [op(LINK, 0, UP), op(LINK, 0, DOWN), op(OR), op(NOT), op(TRUE), op(AND), op(POP)]
+    code = turn * ((FULL_CODE - 1) // 7) + [op(RET)]
+    named = [state(name, 0, 0) for name in states]
+    return image([code] * FULL_ROUTINES, named, 0, tests, commands, 604_800, interfaces, 0)
 
 
 def assembly(commands=1_024):
@@ -257,7 +319,7 @@ def body_in_proportion(number, states):
 
 def longest(stem, count):
     """So many texts of 1,024 bytes."""
-    return [f"{stem} {number:04} ".ljust(MOST_TEXT, "x") for number in range(count)]
+    return [plain(stem, number) for number in range(count)]
 
 
 def image_in_proportion(states):

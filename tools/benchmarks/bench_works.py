@@ -108,6 +108,22 @@ def images():
     yield of_image(what.format(size), "disasm", name, "an instruction", amount)
 
 
+def listings():
+    """The works on texts of full images and on these images, by how far apart the escapes in their texts are."""
+    kinds = {
+        f"escapes {min(inputs.DENSE)} to {max(inputs.DENSE)} apart": inputs.escaped(inputs.DENSE),
+        f"escapes {min(inputs.SPARSE)} to {max(inputs.SPARSE)} apart": inputs.escaped(inputs.SPARSE),
+        "no escapes": inputs.plain,
+        "short lines": inputs.brief,
+    }
+    for number, (kind, words_of) in enumerate(kinds.items()):
+        text = inputs.full_listing(words_of)
+        lines = text.count("\n")
+        yield of_text(f"{{:,}} bytes, {kind}", "asm", f"listing{number}", text, "a line", lines)
+        name = write(f"full{number}", inputs.full_image(words_of))
+        yield of_image(f"{os.path.getsize(name):,} bytes, {kind}", "disasm", name, "a line", lines)
+
+
 def ticks(tests):
     """The work of ticks at which none of so many active tests is due."""
     image = write(f"waiting{tests}", inputs.waiting(tests))
@@ -125,4 +141,4 @@ def uses():
 
 def all_works(program):
     """All works of the tables, the ticks and the text of macros last."""
-    return [*sessions(program), *policies(), *images(), *[ticks(tests) for tests in (1, inputs.MOST_TESTS)], uses()]
+    return [*sessions(program), *policies(), *images(), *listings(), *[ticks(tests) for tests in (1, inputs.MOST_TESTS)], uses()]

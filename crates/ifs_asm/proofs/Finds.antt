@@ -1,11 +1,11 @@
 -- What a search for a byte finds, and what stands before it.
-use Rattle.std.proofs.Common.{◌≡◌, ℕ, zero, suc, ◌+◌, ◌-◌, ◌<◌, ◌≤◌, Bool, true, false, cond, List}
+use Rattle.std.proofs.Common.{◌≡◌, ℕ, suc, ◌+◌, ◌-◌, ◌<◌, Bool, true, false, cond, List}
 use Rattle.std.proofs.Common.{[], ◌∷◌, ◌++◌, length, length-drop, take, drop, Option}
 use Rattle.std.proofs.Common.{Some, None, refl, sym, ap, subst, ◌∙◌, arith, append_assoc}
 use Rattle.std.specs.Prelude.{◌==◌, not, nat_lt}
 use Rattle.std.specs.Option.{option_map, unwrap_or}
-use Rattle.std.specs.List.{prefix_len, position, list_all}
-use Rattle.std.proofs.lemmas.Bool.{and_parts, not_from_true, not_from_false, false_from_ne_true}
+use Rattle.std.specs.List.{prefix_len, position}
+use Rattle.std.proofs.lemmas.Bool.{not_from_true, not_from_false, false_from_ne_true}
 use Rattle.std.proofs.lemmas.Bool.Decides.{nat_tests}
 use Rattle.std.proofs.lemmas.List.{take_rest}
 use Rattle.std.proofs.lemmas.List.Sums.{prefix_len_is, prefix_len-le-length}
@@ -62,20 +62,6 @@ skip_case b n bs false e ih = omega arith
 pub skips : (bs : List ℕ) → word_len Inside bs ≡ prefix_len goes_on bs + word_len Inside (drop (prefix_len goes_on bs) bs)
 skips [] = omega arith
 skips (b ∷ bs) = skip_case b (prefix_len goes_on bs) bs (goes_on b) refl (skips bs)
-
--- Where so many bytes are plain, the run goes on behind them.
-pub plain_front : (n : ℕ) (bs : List ℕ) → list_all is_plain (take n bs) ≡ true → n ≤ length bs → prefix_len is_plain bs ≡ n + prefix_len is_plain (drop n bs)
-plain_front zero bs all le = omega arith
-plain_front (suc n) [] all le = absurd (omega (arith, le))
-plain_front (suc n) (b ∷ bs) all le =
-    let p = and_parts (is_plain b) (list_all is_plain (take n bs)) all in
-    rw p.0 (omega (arith, plain_front n bs p.1 (omega (arith, le))))
-
-pub plain_block : (n : ℕ) (bytes block rest : List ℕ) → block ≡ take n bytes → rest ≡ drop n bytes → length rest + n ≡ length bytes → list_all is_plain block ≡ true
-    → prefix_len is_plain bytes ≡ n + prefix_len is_plain rest
-plain_block n bytes block rest front back len all =
-    plain_front n bytes (subst (λ (xs : List ℕ). list_all is_plain xs ≡ true) front all) (omega (arith, len))
-    ∙ ap (λ (xs : List ℕ). n + prefix_len is_plain xs) (sym back)
 
 -- ---- texts
 

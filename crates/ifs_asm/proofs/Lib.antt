@@ -5,6 +5,7 @@ mod Bytes
 mod Cutting
 mod Quotes
 mod Finds
+mod Blocks
 mod Escapes
 mod MaskLists
 mod KindLists

@@ -1,45 +1,71 @@
-//! Runs of bytes that stand in quotes as they are.
+//! Runs of bytes that are written in quotes as they are.
 
-ghost use Rattle.std.specs.Prelude.{◌≡◌, ◌+◌, ◌≤◌, IfSome, length, nat_lt};
-ghost use Rattle.std.specs.List.{list_all, prefix_len};
+ghost use Rattle.std.specs.Prelude.{◌≡◌, ◌≤◌, not, IfSome, length, map, nat_lt};
+ghost use lib.Lanes.{mask_l};
+ghost use Rattle.std.specs.List.{prefix_len};
 ghost use Rattle.ifs_asm.specs.Spellings.{is_plain};
 ghost use Rattle.ifs_asm.specs.inner.Words.{goes_on};
 
 use memchr::memchr2;
+use std::simd::prelude::*;
 
-/// So many bytes are looked at in one turn.
-const BLOCK: usize = 32;
+/// So many bytes are compared at once at the front, where most runs end, and so many behind it.
+const BLOCK: usize = 16;
+
+const LARGE: usize = 32;
 
 /// How many bytes at the front are neither a quote nor a backslash.
+#[inline(always)]
 pub(crate) fn run_in_quotes(bytes: &[u8]) -> usize
     ensures value { result ≡ prefix_len goes_on bytes.now }
     ensures within { result ≤ length bytes.now }
 {
-    match bytes {
-        [first, ..] if !goes_on(*first) => 0,
-        [_, second, ..] if !goes_on(*second) => 1,
-        [_, _, third, ..] if !goes_on(*third) => 2,
-        _ => searched_run(bytes),
+    if let Some((block, _)) = bytes.split_first_chunk::<BLOCK>() {
+        let ends = quotes_in_block(block);
+        if ends != 0 {
+            return ends.trailing_zeros() as usize;
+        }
     }
+    far_run(bytes)
 }
 
-/// The same by a search, which is worth it where the run is long.
+/// The same where the run may be long: by a large block, and else by a search.
 #[inline(never)]
-fn searched_run(bytes: &[u8]) -> usize
+fn far_run(bytes: &[u8]) -> usize
     ensures value { result ≡ prefix_len goes_on bytes.now }
     ensures within { result ≤ length bytes.now }
 {
+    if let Some((block, _)) = bytes.split_first_chunk::<LARGE>() {
+        let ends = quotes_in_large(block);
+        if ends != 0 {
+            return ends.trailing_zeros() as usize;
+        }
+    }
     memchr2(b'"', b'\\', bytes).unwrap_or(bytes.len())
 }
 
-/// Whether a byte neither ends a text in quotes nor begins an escape.
-fn goes_on(byte: u8) -> bool
-    ensures { result ≡ goes_on byte }
+/// The quotes and backslashes of a block, one bit a byte.
+#[inline(always)]
+fn quotes_in_block(block: &[u8; BLOCK]) -> u64
+    ensures { result ≡ mask_l (map (λ byte. not (goes_on byte)) block.now) }
 {
-    byte != b'"' && byte != b'\\'
+    let bytes = u8x16::from_array(*block);
+    let ends = bytes.simd_eq(u8x16::splat(b'"')) | bytes.simd_eq(u8x16::splat(b'\\'));
+    ends.to_bitmask()
 }
 
-/// How many bytes at the front of a text stand in quotes as they are.
+/// The quotes and backslashes of a large block, one bit a byte.
+#[inline(always)]
+fn quotes_in_large(block: &[u8; LARGE]) -> u64
+    ensures { result ≡ mask_l (map (λ byte. not (goes_on byte)) block.now) }
+{
+    let bytes = u8x32::from_array(*block);
+    let ends = bytes.simd_eq(u8x32::splat(b'"')) | bytes.simd_eq(u8x32::splat(b'\\'));
+    ends.to_bitmask()
+}
+
+/// How many bytes at the front of a text are written in quotes as they are.
+#[inline(always)]
 pub(crate) fn plain_run(bytes: &[u8]) -> usize
     ensures value { result ≡ prefix_len is_plain bytes.now }
     ensures within { result ≤ length bytes.now }
@@ -47,45 +73,82 @@ pub(crate) fn plain_run(bytes: &[u8]) -> usize
     if !begins_plain(bytes) {
         return 0;
     }
-    let rest = behind_plain(bytes);
-    bytes.len() - rest.len() + plain_near(rest)
+    match near_end(bytes) {
+        Some(run) => run,
+        None => far_plain(bytes),
+    }
 }
 
-/// The same byte by byte, for where the run ends near.
-fn plain_near(bytes: &[u8]) -> usize
+/// The same if the run ends in the first block.
+#[inline(always)]
+pub(crate) fn near_end(bytes: &[u8]) -> Option<usize>
+    ensures value { IfSome result (λ run. run ≡ prefix_len is_plain bytes.now) }
+    ensures within { IfSome result (λ run. run ≤ length bytes.now) }
+{
+    let (block, _) = bytes.split_first_chunk::<BLOCK>()?;
+    let ends = others_in_block(block);
+    if ends == 0 {
+        None
+    } else {
+        Some(ends.trailing_zeros() as usize)
+    }
+}
+
+/// The same where the run may be long.
+#[inline(always)]
+pub(crate) fn far_plain(bytes: &[u8]) -> usize
     ensures value { result ≡ prefix_len is_plain bytes.now }
     ensures within { result ≤ length bytes.now }
 {
-    bytes.iter().take_while(|byte| is_plain(**byte)).count()
-}
-
-/// What stands behind the whole blocks at the front whose bytes all stand in quotes as they are.
-fn behind_plain(bytes: &[u8]) -> &[u8]
-    ensures value { length bytes.now + prefix_len is_plain result.now ≡ length result.now + prefix_len is_plain bytes.now }
-    ensures within { length result.now ≤ length bytes.now }
-{
     let mut left = bytes;
-    while let Some(rest) = behind_block(left) {
+    while let Some((block, rest)) = left.split_first_chunk::<LARGE>() {
+        let ends = others_in_large(block);
+        if ends != 0 {
+            return bytes.len() - left.len() + ends.trailing_zeros() as usize;
+        }
         left = rest;
     }
-    left
+    bytes.len() - left.len() + last_plain(left)
 }
 
-/// What stands behind a block at the front whose bytes all stand in quotes as they are; `None` where there is none.
-#[inline(always)]
-fn behind_block(bytes: &[u8]) -> Option<&[u8]>
-    ensures plain { IfSome result (λ rest. prefix_len is_plain bytes.now ≡ 32 + prefix_len is_plain rest.now) }
-    ensures shorter { IfSome result (λ rest. length rest.now + 32 ≡ length bytes.now) }
+/// The same for the few bytes at the end.
+fn last_plain(bytes: &[u8]) -> usize
+    ensures value { result ≡ prefix_len is_plain bytes.now }
+    ensures within { result ≤ length bytes.now }
 {
-    let (block, rest) = bytes.split_first_chunk::<BLOCK>()?;
-    if are_plain(block.as_slice()) {
-        Some(rest)
-    } else {
-        None
+    match near_end(bytes) {
+        Some(run) => run,
+        None => bytes.iter().take_while(|byte| is_plain(**byte)).count(),
     }
 }
 
-/// Whether the first byte stands in quotes as it is.
+/// The bytes of a block that are not written in quotes as they are, one bit a byte.
+#[inline(always)]
+fn others_in_block(block: &[u8; BLOCK]) -> u64
+    ensures { result ≡ mask_l (map (λ byte. not (is_plain byte)) block.now) }
+{
+    let bytes = u8x16::from_array(*block);
+    let ends = bytes.simd_lt(u8x16::splat(32))
+        | bytes.simd_eq(u8x16::splat(127))
+        | bytes.simd_eq(u8x16::splat(b'"'))
+        | bytes.simd_eq(u8x16::splat(b'\\'));
+    ends.to_bitmask()
+}
+
+/// The bytes of a large block that are not written in quotes as they are, one bit a byte.
+#[inline(always)]
+fn others_in_large(block: &[u8; LARGE]) -> u64
+    ensures { result ≡ mask_l (map (λ byte. not (is_plain byte)) block.now) }
+{
+    let bytes = u8x32::from_array(*block);
+    let ends = bytes.simd_lt(u8x32::splat(32))
+        | bytes.simd_eq(u8x32::splat(127))
+        | bytes.simd_eq(u8x32::splat(b'"'))
+        | bytes.simd_eq(u8x32::splat(b'\\'));
+    ends.to_bitmask()
+}
+
+/// Whether the first byte is written in quotes as it is. After an escape often comes another one.
 fn begins_plain(bytes: &[u8]) -> bool
     ensures { result ≡ nat_lt 0 (prefix_len is_plain bytes.now) }
 {
@@ -95,19 +158,7 @@ fn begins_plain(bytes: &[u8]) -> bool
     }
 }
 
-/// Whether all bytes stand in quotes as they are. Each is looked at, so that many are at once.
-#[inline(always)]
-fn are_plain(bytes: &[u8]) -> bool
-    ensures { result ≡ list_all is_plain bytes.now }
-{
-    let mut plain = true;
-    for byte in bytes {
-        plain &= is_plain(*byte);
-    }
-    plain
-}
-
-/// Whether a byte stands in quotes as it is.
+/// Whether a byte is written in quotes as it is.
 fn is_plain(byte: u8) -> bool
     ensures { result ≡ is_plain byte }
 {

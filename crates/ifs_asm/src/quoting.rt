@@ -1,6 +1,6 @@
 //! Texts in quotes.
 
-ghost use Rattle.std.specs.Prelude.{◌≡◌, ◌++◌, ◌<◌, ◌≤◌, ◌∷◌, List, ℕ, None, length};
+ghost use Rattle.std.specs.Prelude.{◌≡◌, ◌++◌, ◌<◌, ◌≤◌, ◌∷◌, List, ℕ, None, length, take};
 ghost use Rattle.std.specs.Prelude.{string_bytes, MatchOption, IfSome, IfOk, IsTrue, IsUtf8, OnOk};
 ghost use Rattle.std.specs.Option.{option_map};
 ghost use Rattle.std.specs.List.{flat_map, prefix_len};
@@ -9,7 +9,7 @@ ghost use Rattle.ifs_asm.specs.inner.Words.{Start, Within, Backslash, High, text
 ghost use Rattle.ifs_asm.specs.inner.Words.{in_utf8, quote_turn, after_turn, given, hex_value, onto, ending};
 ghost use Rattle.ifs_base.specs.Words.{quoted_byte, quoted};
 
-use crate::plain::plain_run;
+use crate::plain::{far_plain, near_end, plain_run};
 use ifs_base::{QuotedByte, Text, digit_value, limits, quote_byte};
 use std::alloc::{AllocError, Global};
 
@@ -148,6 +148,7 @@ fn unquoted_inside(alloc: Global, inside: &[u8]) -> Result<Option<Vec<u8>>, Allo
 }
 
 /// Takes the bytes between quotes that stand there as they are, and gives what follows.
+#[inline(always)]
 fn take_run<'a>(bytes: &mut Vec<u8>, left: &'a [u8]) -> Result<&'a [u8], AllocError>
     ensures text { IfOk result (λ rest. option_map (λ text. bytes.new.items ++ text) (text_from rest.now Within)
         ≡ option_map (λ text. bytes.old.items ++ text) (text_from left.now Within)) }
@@ -155,9 +156,11 @@ fn take_run<'a>(bytes: &mut Vec<u8>, left: &'a [u8]) -> Result<&'a [u8], AllocEr
     ensures whole { IfOk result (λ rest. prefix_len is_plain rest.now ≡ 0) }
 {
     if begins_escape(left) {
-        Ok(left)
-    } else {
-        take_some(bytes, left)
+        return Ok(left);
+    }
+    match near_end(left) {
+        Some(run) => take_front::<16>(bytes, left, run),
+        None => take_some(bytes, left),
     }
 }
 
@@ -171,7 +174,7 @@ fn begins_escape(bytes: &[u8]) -> bool
     }
 }
 
-/// The same, kept apart: behind an escape another one often stands.
+/// The same where no escape is near, or few bytes are left.
 #[inline(never)]
 fn take_some<'a>(bytes: &mut Vec<u8>, left: &'a [u8]) -> Result<&'a [u8], AllocError>
     ensures text { IfOk result (λ rest. option_map (λ text. bytes.new.items ++ text) (text_from rest.now Within)
@@ -179,9 +182,44 @@ fn take_some<'a>(bytes: &mut Vec<u8>, left: &'a [u8]) -> Result<&'a [u8], AllocE
     ensures shorter { IfOk result (λ rest. length rest.now ≤ length left.now) }
     ensures whole { IfOk result (λ rest. prefix_len is_plain rest.now ≡ 0) }
 {
-    let (run, rest) = left.split_at(plain_run(left));
-    bytes.extend_from_slice(run)?;
-    Ok(rest)
+    take_front::<32>(bytes, left, far_plain(left))
+}
+
+/// Takes so many bytes at the front, which are written there as they are.
+#[inline(always)]
+fn take_front<'a, const N: usize>(
+    bytes: &mut Vec<u8>,
+    left: &'a [u8],
+    run: usize,
+) -> Result<&'a [u8], AllocError>
+    requires few { N ≤ 32 }
+    requires within { run ≤ length left.now }
+    requires plain { run ≡ prefix_len is_plain left.now }
+    ensures text { IfOk result (λ rest. option_map (λ text. bytes.new.items ++ text) (text_from rest.now Within)
+        ≡ option_map (λ text. bytes.old.items ++ text) (text_from left.now Within)) }
+    ensures shorter { IfOk result (λ rest. length rest.now ≤ length left.now) }
+    ensures whole { IfOk result (λ rest. prefix_len is_plain rest.now ≡ 0) }
+{
+    put_front::<N>(bytes, left, run)?;
+    Ok(left.split_at(run).1)
+}
+
+/// Adds so many bytes of the front. A whole block is added and cut if there is room, which costs less than a copy of a few bytes.
+#[inline(always)]
+fn put_front<const N: usize>(bytes: &mut Vec<u8>, left: &[u8], run: usize) -> Result<(), AllocError>
+    requires few { N ≤ 32 }
+    requires within { run ≤ length left.now }
+    ensures { OnOk result (bytes.new.items ≡ bytes.old.items ++ take run left.now) }
+{
+    let len = bytes.len();
+    match left.split_first_chunk::<N>() {
+        Some((block, _)) if run <= N && N <= bytes.capacity() - len => {
+            bytes.extend_from_slice(block.as_slice())?;
+            bytes.truncate(len + run);
+            Ok(())
+        }
+        _ => bytes.extend_from_slice(left.split_at(run).0),
+    }
 }
 
 /// The byte that an escape stands for, and what follows the escape.
