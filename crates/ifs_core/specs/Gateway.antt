@@ -7,7 +7,7 @@ use Rattle.ifs_base.specs.declared.op.LinkState.{LinkState}
 use Rattle.ifs_image.specs.declared.parts.ImageParts.{ImageParts}
 use Rattle.ifs_machine.specs.Run.{AreFactsOf, IsCommand}
 use Rattle.ifs_machine.specs.Views.{facts_of}
-use Rattle.ifs_core.specs.declared.position.Position.{Position as Standing}
+use Rattle.ifs_core.specs.declared.position.Position.{Position as PositionOfCode}
 use Rattle.ifs_core.specs.declared.step.Reply.{Reply}
 use Rattle.ifs_core.specs.Event.{Behaviour, Position, Event, opening}
 use Rattle.ifs_core.specs.Machine.{all_unknown, periods_in}
@@ -41,7 +41,7 @@ pub record IsStateOf (image : ImageParts) (s : CoreState) : Type 0 where
   pub trace : All (λ r. IsListed image r.state) s.trace
 
 -- What contracts see of a position.
-abbrev pub position_of : Standing → Position
+abbrev pub position_of : PositionOfCode → Position
 position_of p = record { facts = facts_of p.facts; current = p.current; owed = p.owed; schedule = p.schedule }
 
 -- What is known where an image is opened: the link states of its interfaces, and the number of its first run, which is 0 where none is left.

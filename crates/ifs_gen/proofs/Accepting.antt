@@ -37,7 +37,7 @@ use Rattle.ifs_gen.proofs.Called.{frames_some, frames_few, frames_two}
 use Rattle.ifs_gen.proofs.Fine.{Callees}
 use Rattle.ifs_gen.proofs.Among.{each_both, each_weaker, each_shared}
 use Rattle.ifs_gen.proofs.Shrinks.{size_some}
-use Rattle.ifs_gen.proofs.Standing.{tall, IsConditionCode, all_conditions, IsShort, all_short, IsLow, all_tall}
+use Rattle.ifs_gen.proofs.StackHeights.{tall, IsConditionCode, all_conditions, IsShort, all_short, IsLow, all_tall}
 use Rattle.ifs_gen.proofs.CalledTypes.{MayBeCalled}
 use Rattle.ifs_gen.proofs.GoodRoutines.{EachGood, AreCallees, kinds_in, heights_in, amount, with_callee, operands, jumps}
 use Rattle.ifs_gen.proofs.GoodRoutines.{ends, calls, reached, typings, are_heights, depth, depth_low, are_depths, are_amounts}

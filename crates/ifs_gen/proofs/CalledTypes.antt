@@ -20,7 +20,7 @@ use Rattle.ifs_gen.specs.Sharing.{place_in, in_place, size_in_place, shared_code
 use Rattle.ifs_gen.specs.Runs.{image_sizes, HasShared}
 use Rattle.ifs_gen.proofs.Simulation.{condition_high}
 use Rattle.ifs_gen.proofs.Called.{placed, coder_sized}
-use Rattle.ifs_gen.proofs.Standing.{tall, tall_is}
+use Rattle.ifs_gen.proofs.StackHeights.{tall, tall_is}
 use Rattle.ifs_gen.proofs.Fine.{Callees, AreFine, CallsWithin}
 use Rattle.ifs_gen.proofs.TypedTrees.{condition_kinds, kinds_sized, HasKinds, condition_starts, falls_on, condition_fine, condition_low}
 use Rattle.ifs_gen.proofs.TypedBlocks.{IsTypedCoder}

@@ -19,7 +19,7 @@ use Rattle.ifs_gen.specs.Sharing.{shared_coder}
 use Rattle.ifs_policy.specs.Fits.{BlockFits, HandlersFit}
 use Rattle.ifs_gen.specs.Runs.{image_sizes, HasShared}
 use Rattle.ifs_gen.proofs.Fine.{Callees, IsGood}
-use Rattle.ifs_gen.proofs.Standing.{tall, tall_is, IsConditionCode, each_append, IsLow}
+use Rattle.ifs_gen.proofs.StackHeights.{tall, tall_is, IsConditionCode, each_append, IsLow}
 use Rattle.ifs_gen.proofs.GoodRoutines.{EachGood, heights_in}
 use Rattle.ifs_gen.proofs.TypedBlocks.{IsTypedCoder}
 use Rattle.ifs_gen.proofs.CalledTypes.{MayBeCalled, shared_typed}

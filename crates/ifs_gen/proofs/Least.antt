@@ -27,7 +27,7 @@ use Rattle.ifs_gen.specs.Runs.{HasAt}
 use Rattle.ifs_gen.specs.Acceptance.{BudgetsAreLeast}
 use Rattle.ifs_gen.proofs.CodeKeys.{code_decides}
 use Rattle.ifs_gen.proofs.Among.{each_shared}
-use Rattle.ifs_gen.proofs.Standing.{each_append}
+use Rattle.ifs_gen.proofs.StackHeights.{each_append}
 use Rattle.ifs_gen.proofs.Called.{coder_sized}
 use Rattle.ifs_gen.proofs.Simulation.{block_sized}
 use Rattle.ifs_gen.proofs.Handlers.{held_sized}

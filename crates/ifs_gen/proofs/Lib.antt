@@ -9,7 +9,7 @@ pub mod TypedBlocks
 pub mod GoodCode
 pub mod Weights
 pub mod Images
-pub mod Standing
+pub mod StackHeights
 pub mod Goods
 pub mod Reach
 pub mod Limits

@@ -28,7 +28,7 @@ use Rattle.ifs_gen.specs.Acceptance.{ImageIsAccepted}
 use Rattle.ifs_gen.proofs.Called.{coder_sized, frames_few}
 use Rattle.ifs_gen.proofs.Among.{each_shared}
 use Rattle.ifs_gen.proofs.Shrinks.{block_shrinks, shared_lengths, sum_append, sharing_shrinks}
-use Rattle.ifs_gen.proofs.Standing.{IsShort, all_short}
+use Rattle.ifs_gen.proofs.StackHeights.{IsShort, all_short}
 use Rattle.ifs_gen.proofs.Weights.{init_long, body_long}
 use Rattle.ifs_gen.proofs.Images.{states_long, at_most_greatest, greatest_below}
 use Rattle.ifs_gen.proofs.Accepting.{routines_are, limit_low, accepted}

@@ -2,7 +2,7 @@
 
 use crate::failure::Failure;
 use crate::growths::{Code, code_of, no_memory};
-use crate::standing::{opened, standing, standing_after};
+use crate::readings::{opened, readings, readings_after};
 use crate::talks::{
     REPLIES, REQUESTS, SERVED, SERVED_ENDS, SERVED_REPLIES, SERVED_STEPS, STEPS, first, head,
     is_cut_session, lines_of, served_as_told,
@@ -114,13 +114,13 @@ impl Session {
         let answer = simulate(&mut core, reader, writer);
         Ok(Session {
             answer,
-            stands: standing(alloc, &core)?,
+            stands: readings(alloc, &core)?,
         })
     }
 
     /// Whether the core stands as after the first so many steps.
     fn stands_after(&self, alloc: Global, image: &[u8], count: usize) -> Result<bool, Code> {
-        let after = standing_after(alloc, image, first(&STEPS, count))?;
+        let after = readings_after(alloc, image, first(&STEPS, count))?;
         Ok(after.as_slice() == self.stands.as_slice())
     }
 }
@@ -182,7 +182,7 @@ impl Talk {
         served: &Served,
         written: &[u8],
     ) -> Result<Self, Code> {
-        let stands = standing(alloc, core)?;
+        let stands = readings(alloc, core)?;
         Ok(Talk {
             end: served.end,
             steps: served.steps.len(),

@@ -4,7 +4,7 @@ use crate::calls::{Given, Listed};
 use crate::growths::{Code, Turn, code_of, no_memory};
 use crate::policies::{definitions, text, told, written};
 use crate::reloads::{handed_on, taken_over};
-use crate::standing::{opened, standing};
+use crate::readings::{opened, readings};
 use ifs_asm::laws::reads_back;
 use ifs_asm::{assemble, disassemble};
 use ifs_core::{Core, OpenFault};
@@ -117,7 +117,7 @@ fn made_verified(turn: Turn, bytes: &[u8]) -> Result<Vec<u8>, Code> {
 fn made_core(turn: Turn, bytes: &[u8]) -> Result<Vec<u8>, Code> {
     let verified = verify(turn.alloc(), bytes).map_err(code_of)?;
     match turn.ended(Core::open(turn.begun(), verified)) {
-        Ok(core) => standing(turn.alloc(), &core),
+        Ok(core) => readings(turn.alloc(), &core),
         Err(fault) => Err(code_of_fault(turn.alloc(), fault, bytes)),
     }
 }
@@ -140,14 +140,14 @@ fn code_of_opened(as_usual: bool) -> Code {
 }
 
 fn stands_as_opened(alloc: Global, core: &Core<'_>, bytes: &[u8]) -> bool {
-    match (standing(alloc, core), standing_of(alloc, bytes)) {
+    match (readings(alloc, core), readings_of(alloc, bytes)) {
         (Ok(one), Ok(other)) => one.as_slice() == other.as_slice(),
         _ => false,
     }
 }
 
-fn standing_of(alloc: Global, bytes: &[u8]) -> Result<Vec<u8>, Code> {
-    standing(alloc, &opened(alloc, bytes)?)
+fn readings_of(alloc: Global, bytes: &[u8]) -> Result<Vec<u8>, Code> {
+    readings(alloc, &opened(alloc, bytes)?)
 }
 
 fn made_text(turn: Turn, image: &Image) -> Result<Vec<u8>, Code> {

@@ -16,7 +16,7 @@ mod images;
 mod policies;
 mod reloads;
 mod sessions;
-mod standing;
+mod readings;
 mod talks;
 
 use answers::Files;

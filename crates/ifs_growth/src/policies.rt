@@ -2,7 +2,7 @@
 
 use crate::calls::{Given, Listed};
 use crate::growths::{Code, Turn, code_of, no_memory};
-use crate::standing::standing;
+use crate::readings::readings;
 use ifs_core::Step;
 use ifs_gen::laws::replies_of_text;
 use ifs_gen::{CompiledText, compile, compile_with_notes, compiled_core, generate};
@@ -184,7 +184,7 @@ fn made_with_notes(turn: Turn) -> Result<Vec<u8>, Code> {
 fn made_core(turn: Turn) -> Result<Vec<u8>, Code> {
     let mut image = Vec::new(turn.alloc());
     let core = turn.ended(compiled_core(turn.begun(), text(), definitions(), &mut image));
-    standing(turn.alloc(), &core.map_err(code_of)?)
+    readings(turn.alloc(), &core.map_err(code_of)?)
 }
 
 fn made_replies(turn: Turn) -> Result<Vec<u8>, Code> {

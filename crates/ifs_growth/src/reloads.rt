@@ -1,7 +1,7 @@
 //! Calls by which a core hands on what it knows.
 
 use crate::growths::{Code, Turn, code_of, no_memory};
-use crate::standing::{opened, standing};
+use crate::readings::{opened, readings};
 use bumpalo::Bump;
 use ifs_base::{IfaceId, LinkState};
 use ifs_core::{Carried, CarryFault, Core, Step};
@@ -45,7 +45,7 @@ pub fn handed_on(turn: Turn, bytes: &[u8]) -> Result<Vec<u8>, Code> {
 /// Where a core stands that is opened with what was handed on.
 fn gone_on(alloc: Global, bytes: &[u8], carried: Carried) -> Result<Vec<u8>, Code> {
     let next = verify(alloc, bytes).map_err(code_of)?;
-    standing(alloc, &Core::open_with(next, carried))
+    readings(alloc, &Core::open_with(next, carried))
 }
 
 /// The code of a refusal, where the core stands as one that knows its links does.
@@ -59,14 +59,14 @@ fn code_of_kept(alloc: Global, core: &Core<'_>, bytes: &[u8], code: Code) -> Cod
 
 /// Whether a core stands as one that knows its links does.
 fn stands_as_usual(alloc: Global, core: &Core<'_>, bytes: &[u8]) -> bool {
-    match (standing(alloc, core), standing_of(alloc, bytes)) {
+    match (readings(alloc, core), readings_of(alloc, bytes)) {
         (Ok(one), Ok(other)) => one.as_slice() == other.as_slice(),
         _ => false,
     }
 }
 
-fn standing_of(alloc: Global, bytes: &[u8]) -> Result<Vec<u8>, Code> {
-    standing(alloc, &knowing(alloc, bytes)?)
+fn readings_of(alloc: Global, bytes: &[u8]) -> Result<Vec<u8>, Code> {
+    readings(alloc, &knowing(alloc, bytes)?)
 }
 
 /// Where the core stands that takes over with the image of the same bytes. Of a refusal the core that comes back has to
@@ -78,7 +78,7 @@ pub fn taken_over(turn: Turn, bytes: &[u8]) -> Result<Vec<u8>, Code> {
     let kept = images.try_alloc_slice_copy(bytes).map_err(no_memory)?;
     let core = knowing(turn.alloc(), kept)?;
     match turn.ended(take_over(turn.begun(), &images, bytes, core)) {
-        Ok(next) => standing(turn.alloc(), &next),
+        Ok(next) => readings(turn.alloc(), &next),
         Err(ReloadRefused { core, fault }) => Err(code_of_kept(
             turn.alloc(),
             &core,

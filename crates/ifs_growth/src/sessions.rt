@@ -4,7 +4,7 @@ use crate::answers::followed;
 use crate::calls::{Given, Listed};
 use crate::growths::{Code, Turn, code_of, no_memory};
 use crate::policies::told;
-use crate::standing::{opened, standing};
+use crate::readings::{opened, readings};
 use crate::talks::{REQUESTS, SERVED, is_cut_session, served_as_told};
 use arrayvec::ArrayVec;
 use ifs_core::Core;
@@ -194,7 +194,7 @@ fn session_came_to(
     answer: Result<Summary, SessionFault>,
     written: &[u8],
 ) -> Result<Vec<u8>, Code> {
-    let stands = standing(alloc, core)?;
+    let stands = readings(alloc, core)?;
     match answer {
         Ok(_summary) => followed(stands, written),
         Err(fault) if is_cut_session(alloc, image, stands.as_slice(), written)? => {
@@ -223,7 +223,7 @@ fn service_came_to(
     served: &Served,
     written: &[u8],
 ) -> Result<Vec<u8>, Code> {
-    let stands = standing(alloc, core)?;
+    let stands = readings(alloc, core)?;
     if !served_as_told(alloc, image, served, stands.as_slice(), written)? {
         return Err(code_of("steps or replies of no lines"));
     }

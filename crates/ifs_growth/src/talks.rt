@@ -1,7 +1,7 @@
 //! Sessions on the image of the first run: their requests, steps and replies.
 
 use crate::growths::Code;
-use crate::standing::standing_after;
+use crate::readings::readings_after;
 use ifs_base::{IfaceId, LinkState};
 use ifs_core::Step;
 use ifs_session::Served;
@@ -67,7 +67,7 @@ pub fn is_cut_session(
 ) -> Result<bool, Code> {
     let answered = lines_of(written).min(STEPS.len());
     for count in answered..=STEPS.len() {
-        let after = standing_after(alloc, image, first(&STEPS, count))?;
+        let after = readings_after(alloc, image, first(&STEPS, count))?;
         if after.as_slice() == stands {
             return Ok(REPLIES.starts_with(written));
         }
@@ -85,7 +85,7 @@ pub fn served_as_told(
     written: &[u8],
 ) -> Result<bool, Code> {
     let steps = served.steps.as_slice();
-    let after = standing_after(alloc, image, steps)?;
+    let after = readings_after(alloc, image, steps)?;
     Ok(
         SERVED_STEPS.starts_with(steps)
             && after.as_slice() == stands

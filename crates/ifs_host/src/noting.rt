@@ -86,15 +86,15 @@ impl Log for StandardError {
 
 /// Where a core stood before a connection.
 #[derive(Clone, Copy)]
-pub struct Standing {
+pub struct Snapshot {
     state: StateId,
     moment: u64,
 }
 
-impl Standing {
+impl Snapshot {
     /// Where a core stands.
     pub fn of(core: &Core<'_>) -> Self {
-        Standing {
+        Snapshot {
             state: core.state(),
             moment: core.now(),
         }
@@ -115,7 +115,7 @@ impl Backwards {
     }
 
     /// Notes the ticks among these steps that go backwards, the first of which was made at this moment.
-    pub fn note(&mut self, notes: &Notebook, before: Standing, steps: &[Step]) {
+    pub fn note(&mut self, notes: &Notebook, before: Snapshot, steps: &[Step]) {
         let mut now = before.moment;
         for step in steps {
             let Step::Tick(moment) = *step else {
@@ -133,7 +133,7 @@ impl Backwards {
 
 /// Notes the changes of state that these steps made, each with its cause. Of over 256 steps the trace has only
 /// the last: what those before changed is not noted, or as one change by a later cause.
-pub fn note_changes(notes: &Notebook, core: &Core<'_>, before: Standing, steps: &[Step]) {
+pub fn note_changes(notes: &Notebook, core: &Core<'_>, before: Snapshot, steps: &[Step]) {
     let Made { first, changed } = made_by(core, before, steps);
     if !changed {
         return;
@@ -159,7 +159,7 @@ struct Made {
 }
 
 /// What these steps left in the trace: a step that was refused left nothing.
-fn made_by(core: &Core<'_>, before: Standing, steps: &[Step]) -> Made {
+fn made_by(core: &Core<'_>, before: Snapshot, steps: &[Step]) -> Made {
     let mut first = core.trace_len();
     let mut state = core.state();
     let mut changed = false;

@@ -3,7 +3,7 @@
 use crate::failure::Failure;
 pub use crate::noting::Notes;
 use crate::noting::{
-    Backwards, Notebook, StandardError, Standing, note_changes, note_not_taken_over,
+    Backwards, Notebook, StandardError, Snapshot, note_changes, note_not_taken_over,
     note_taken_over,
 };
 use crate::patience::{Patience, PatientReader, PatientWriter, Waits};
@@ -177,7 +177,7 @@ impl<'m, 'p, 'h, 'a> Service<'m, 'p, 'h, 'a> {
         };
         let mut input = FromRead::new(PatientReader::new(&waits));
         let mut output = ToWrite::new(writer);
-        let before = Standing::of(core);
+        let before = Snapshot::of(core);
         let Served {
             steps,
             end,
@@ -192,7 +192,7 @@ impl<'m, 'p, 'h, 'a> Service<'m, 'p, 'h, 'a> {
     }
 
     /// Notes what the steps of a connection changed.
-    fn note(&mut self, core: &Core<'_>, before: Standing, steps: &[Step]) {
+    fn note(&mut self, core: &Core<'_>, before: Snapshot, steps: &[Step]) {
         self.backwards.note(self.notes, before, steps);
         note_changes(self.notes, core, before, steps);
     }

@@ -2,7 +2,7 @@ pub mod After
 pub mod Moves
 pub mod Taking
 pub mod Ending
-pub mod Standing
+pub mod SafeRows
 pub mod Shift
 pub mod Loop
 pub mod Within

@@ -11,11 +11,11 @@ use Rattle.ifs_core.specs.Steps.{CoreState, turn, after_steps}
 use Rattle.ifs_session.specs.Hosts.{Ending, HostLog, Adds, ran, launched, polled}
 use Rattle.ifs_session.specs.Accounts.{Account, Exchange, attended, listened, takes_of, texts_of, launches_told, made}
 use Rattle.ifs_session.specs.Accounts.{emptied, acted, heard, heard_out, run_ended, runs_ended, served, all_served}
-use Rattle.ifs_session.specs.inner.Connections.{Standing, HasComeTo, Carries, HasFollowed}
+use Rattle.ifs_session.specs.inner.Connections.{Progress, HasComeTo, Carries, HasFollowed}
 use Rattle.ifs_session.proofs.Logs.{adds_both}
 
 -- A step was made, and its starts were told.
-pub makes : (b : Behaviour) (image : ImageParts) (step : Step) (origin : Option HostLog) (a : Account) (before : Standing) (state : CoreState) (reply : Reply) (told : Option HostLog)
+pub makes : (b : Behaviour) (image : ImageParts) (step : Step) (origin : Option HostLog) (a : Account) (before : Progress) (state : CoreState) (reply : Reply) (told : Option HostLog)
     → HasComeTo origin a before → state ≡ (turn b image.budgets.commands step before.state).next → reply ≡ (turn b image.budgets.commands step before.state).reply
     → Adds (launched (launches_told image reply)) before.told told
     → HasComeTo origin (made b image step a) (record { state = state; steps = before.steps ++ step ∷ []; told = told })
@@ -37,7 +37,7 @@ followed image image' reply texts earlier between told same starts runs = record
 }
 
 -- The queue was emptied.
-pub empties : (b : Behaviour) (image : ImageParts) (origin : Option HostLog) (a : Account) (before after : Standing) → HasComeTo origin a before
+pub empties : (b : Behaviour) (image : ImageParts) (origin : Option HostLog) (a : Account) (before after : Progress) → HasComeTo origin a before
     → after.state ≡ after_steps b image.budgets.commands (takes_of before.state.queue) before.state → after.steps ≡ before.steps ++ takes_of before.state.queue
     → Adds (ran (texts_of image before.state.queue)) before.told after.told → HasComeTo origin (emptied b image a) after
 empties b image origin a before after h state steps texts = record {
@@ -47,7 +47,7 @@ empties b image origin a before after h state steps texts = record {
 }
 
 -- The host was polled.
-pub hears : (origin : Option HostLog) (a : Account) (before : Standing) (answer : Option Ending) (told : Option HostLog) → HasComeTo origin a before
+pub hears : (origin : Option HostLog) (a : Account) (before : Progress) (answer : Option Ending) (told : Option HostLog) → HasComeTo origin a before
     → Adds (polled answer) before.told told → HasComeTo origin (heard answer a) (record { state = before.state; steps = before.steps; told = told })
 hears origin a before answer told h heard = record {
   state_is = h.state_is;
@@ -73,21 +73,21 @@ is_few steps h = grind (arith, nat_tests)
 is_many : (steps : ℕ) → nat_lt (512 - steps) 130 ≡ false → 130 ≤ 512 - steps
 is_many steps h = grind (arith, nat_tests)
 
-heard_by : (few : Bool) (origin : Option HostLog) (a : Account) (before : Standing) (told : Option HostLog) → nat_lt (512 - length before.steps) 130 ≡ few → HasComeTo origin a before
+heard_by : (few : Bool) (origin : Option HostLog) (a : Account) (before : Progress) (told : Option HostLog) → nat_lt (512 - length before.steps) 130 ≡ few → HasComeTo origin a before
     → (512 - length before.steps < 130 → told ≡ before.told) → (130 ≤ 512 - length before.steps → Adds (polled None) before.told told)
     → HasComeTo origin (cond few a (heard None a)) (record { state = before.state; steps = before.steps; told = told })
 heard_by true origin a before told is h unasked asked = record { state_is = h.state_is; steps_are = h.steps_are; told_is = subst (Adds a.log origin) (sym (unasked (is_few _ is))) h.told_is }
 heard_by false origin a before told is h unasked asked = hears origin a before None told h (asked (is_many _ is))
 
 -- The host was polled to the end, or too few places are free.
-pub heard_no_more : (origin : Option HostLog) (a : Account) (before : Standing) (told : Option HostLog) → HasComeTo origin a before
+pub heard_no_more : (origin : Option HostLog) (a : Account) (before : Progress) (told : Option HostLog) → HasComeTo origin a before
     → (512 - length before.steps < 130 → told ≡ before.told) → (130 ≤ 512 - length before.steps → Adds (polled None) before.told told)
     → HasComeTo origin (heard_out a) (record { state = before.state; steps = before.steps; told = told })
 heard_no_more origin a before told h unasked asked =
     heard_by (nat_lt (512 - length a.steps) 130) origin a before told (ap (λ steps. nat_lt (512 - length steps) 130) h.steps_are) h unasked asked
 
 -- The host answered one more end of a test, and its step was made.
-pub hear_more : (b : Behaviour) (image image' : ImageParts) (endings : List Ending) (e : Ending) (start before after : Standing) (told : Option HostLog) → image' ≡ image
+pub hear_more : (b : Behaviour) (image image' : ImageParts) (endings : List Ending) (e : Ending) (start before after : Progress) (told : Option HostLog) → image' ≡ image
     → Carries (runs_ended b image endings) start before → Adds (polled (Some e)) before.told told
     → Carries (acted b image' (Some (Finished e.0 e.1 e.2))) (record { state = before.state; steps = before.steps; told = told }) after
     → Carries (runs_ended b image (endings ++ e ∷ [])) start after

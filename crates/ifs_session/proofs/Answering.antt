@@ -17,7 +17,7 @@ use Rattle.ifs_session.specs.Accounts.{client_asked, step_asked, acted, runs_end
 use Rattle.ifs_session.specs.Service.{leave_of, left_by}
 use Rattle.ifs_session.specs.inner.Reading.{ReadsText, LineGives}
 use Rattle.ifs_session.specs.inner.Serving.{OnlyReads}
-use Rattle.ifs_session.specs.inner.Connections.{Standing, HasComeTo, Carries, ConnectionPoint, standing, taken_in}
+use Rattle.ifs_session.specs.inner.Connections.{Progress, HasComeTo, Carries, ConnectionPoint, progress_of, taken_in}
 use Rattle.ifs_session.specs.inner.Connections.{Idles}
 use Rattle.ifs_session.specs.inner.Connections.{ServesExchange, AnswersExchange, ExchangeFails}
 use Rattle.ifs_session.proofs.Known.{append_known-nil}
@@ -59,25 +59,25 @@ left_unanswered AReload h = absurd (h refl)
 left_unanswered (AFault fault) h = refl
 
 -- It was attended to.
-pub exchange_attended : (b : Behaviour) (text : List ℕ) (ended : Bool) (leave : Leave) (endings : List Ending) (before after : ConnectionPoint) (middle : Standing) (image : ImageParts) (a : Asked)
+pub exchange_attended : (b : Behaviour) (text : List ℕ) (ended : Bool) (leave : Leave) (endings : List Ending) (before after : ConnectionPoint) (middle : Progress) (image : ImageParts) (a : Asked)
     → ReadsText text ended (taken_in before) (taken_in after) → image ≡ before.moment.core.image → after.moment.core.image ≡ image → a ≡ client_asked text
-    → Carries (λ account. heard_out (runs_ended b before.moment.core.image endings account)) (standing before) middle
-    → Carries (acted b image (step_asked image a)) middle (standing after) → leave ≡ leave_of a
+    → Carries (λ account. heard_out (runs_ended b before.moment.core.image endings account)) (progress_of before) middle
+    → Carries (acted b image (step_asked image a)) middle (progress_of after) → leave ≡ leave_of a
     → ServesExchange b (record { line = text; endings = endings }) ended leave before after
 exchange_attended b text ended leave endings before after middle image a r same kept asks heard acts left = record {
   read = r;
   image = kept ∙ same;
   attends = λ origin account h.
-      subst (λ x. HasComeTo origin (acted b before.moment.core.image (step_asked before.moment.core.image x) (listened b before.moment.core.image (record { line = text; endings = endings }) account)) (standing after)) asks
-      (subst (λ i. HasComeTo origin (acted b i (step_asked i a) (listened b before.moment.core.image (record { line = text; endings = endings }) account)) (standing after)) same
+      subst (λ x. HasComeTo origin (acted b before.moment.core.image (step_asked before.moment.core.image x) (listened b before.moment.core.image (record { line = text; endings = endings }) account)) (progress_of after)) asks
+      (subst (λ i. HasComeTo origin (acted b i (step_asked i a) (listened b before.moment.core.image (record { line = text; endings = endings }) account)) (progress_of after)) same
       (acts origin _ (heard origin account h)));
   asks = left ∙ ap leave_of asks;
 }
 
 -- And it was replied to.
-pub exchange_answered : (b : Behaviour) (text : List ℕ) (endings : List Ending) (before after : ConnectionPoint) (middle : Standing) (image : ImageParts) (a : Asked) (written : Option (List ℕ)) (faults : Option ℕ)
+pub exchange_answered : (b : Behaviour) (text : List ℕ) (endings : List Ending) (before after : ConnectionPoint) (middle : Progress) (image : ImageParts) (a : Asked) (written : Option (List ℕ)) (faults : Option ℕ)
     → written ≡ append_known before.moment.written [] → faults ≡ before.moment.write_faults → image ≡ before.moment.core.image → a ≡ client_asked text
-    → Carries (λ account. heard_out (runs_ended b before.moment.core.image endings account)) (standing before) middle
+    → Carries (λ account. heard_out (runs_ended b before.moment.core.image endings account)) (progress_of before) middle
     → (after.moment.written ≡ append_known written (answered b image a middle.state)) × (after.moment.write_faults ≡ faults)
     → AnswersExchange b (record { line = text; endings = endings }) before after
 exchange_answered b text endings before after middle image a written faults out same_faults same asks heard put = record {

@@ -35,7 +35,7 @@ use Rattle.ifs_session.specs.Service.{ConnectionBreaksReading, ConnectionBreaksW
 use Rattle.ifs_session.specs.Service.{ConnectionGives}
 use Rattle.ifs_session.specs.inner.Reading.{ReadFails, ReadsTooMuch}
 use Rattle.ifs_session.specs.inner.Serving.{OnlyReads, OnlyWrites}
-use Rattle.ifs_session.specs.inner.Connections.{HasComeTo, ConnectionPoint, standing, taken_in, Idles, ServesExchange}
+use Rattle.ifs_session.specs.inner.Connections.{HasComeTo, ConnectionPoint, progress_of, taken_in, Idles, ServesExchange}
 use Rattle.ifs_session.specs.inner.Connections.{AnswersExchange, ExchangeFails, ExchangeGives, FlushGives, stops_by, end_by}
 use Rattle.ifs_session.specs.inner.Connections.{end_of}
 use Rattle.ifs_session.proofs.Known.{consumes_nothing, consumes_more, consumes_kept, append_known-append}
@@ -59,7 +59,7 @@ pub record Ongoing (b : Behaviour) (exchanges : List Exchange) (origin : Option 
   pub read_faults : now.moment.read_faults ≡ before.read_faults
   pub write_faults : now.moment.write_faults ≡ before.write_faults
   pub image : now.moment.core.image ≡ before.core.image
-  pub stands : HasComeTo origin (so_far b exchanges before) (standing now)
+  pub stands : HasComeTo origin (so_far b exchanges before) (progress_of now)
   pub written : now.moment.written ≡ append_known before.written (so_far b exchanges before).said
 
 -- The queue was emptied, and no line was read yet.
@@ -77,7 +77,7 @@ ongoing_start b origin before now steps left written reads writes image budget s
   read_faults = reads;
   write_faults = writes;
   image = image;
-  stands = empties b before.core.image origin (begun before.core.state) (record { state = before.core.state; steps = []; told = origin }) (standing now)
+  stands = empties b before.core.image origin (begun before.core.state) (record { state = before.core.state; steps = []; told = origin }) (progress_of now)
       (record { state_is = refl; steps_are = refl; told_is = adds_nothing origin }) state (made ∙ ap (λ l. l ++ takes_of before.core.state.queue) none) told;
   written = written ∙ sym (append_known-nil before.written);
 }
@@ -93,7 +93,7 @@ pub sound : (b : Behaviour) (before : Moment) → IsKept before.core.image → I
 sound b before kept behaves at = record { kept = record { kept = kept; behaves = behaves }; at = at }
 
 attends_so_far : (b : Behaviour) (exchanges : List Exchange) (origin : Option HostLog) (before : Moment) (now : ConnectionPoint) → Sound b before
-    → now.moment.core.image ≡ before.core.image → HasComeTo origin (so_far b exchanges before) (standing now) → HasAttended b exchanges now.steps origin now.told before now.moment
+    → now.moment.core.image ≡ before.core.image → HasComeTo origin (so_far b exchanges before) (progress_of now) → HasAttended b exchanges now.steps origin now.told before now.moment
 attends_so_far b exchanges origin before now sound image stands = record {
   image = image;
   state = stands.state_is;
@@ -105,7 +105,7 @@ attends_so_far b exchanges origin before now sound image stands = record {
   each_empties = λ front rest are. (account_keeps b before.core.image front before.core.state sound.kept sound.at).empty;
 }
 
-idle_stands : (origin : Option HostLog) (a : Account) (now after : ConnectionPoint) → after.moment.core ≡ now.moment.core → Idles now after → HasComeTo origin a (standing now) → HasComeTo origin a (standing after)
+idle_stands : (origin : Option HostLog) (a : Account) (now after : ConnectionPoint) → after.moment.core ≡ now.moment.core → Idles now after → HasComeTo origin a (progress_of now) → HasComeTo origin a (progress_of after)
 idle_stands origin a now after core idle stands = record {
   state_is = ap (λ c. c.state) core ∙ stands.state_is;
   steps_are = idle.steps ∙ stands.steps_are;
@@ -198,7 +198,7 @@ record Advances (b : Behaviour) (exchanges : List Exchange) (origin : Option Hos
   pub read_faults : after.moment.read_faults ≡ before.read_faults
   pub lines_are : input_lines input ≡ lines_in exchanges
   pub image : after.moment.core.image ≡ before.core.image
-  pub stands : HasComeTo origin (so_far b exchanges before) (standing after)
+  pub stands : HasComeTo origin (so_far b exchanges before) (progress_of after)
 
 lines_in-push : (exchanges : List Exchange) (exchange : Exchange) → lines_in (exchanges ++ exchange ∷ []) ≡ lines_in exchanges ++ exchange.line ∷ []
 lines_in-push exchanges exchange = map-append (λ (p : Exchange). p.line) exchanges (exchange ∷ [])
@@ -207,7 +207,7 @@ so_far-push : (b : Behaviour) (exchanges : List Exchange) (exchange : Exchange) 
 so_far-push b exchanges exchange before = all_served-push b before.core.image exchanges exchange (emptied b before.core.image (begun before.core.state))
 
 served_stands : (b : Behaviour) (image : ImageParts) (exchange : Exchange) (origin : Option HostLog) (a : Account) (now : ConnectionPoint)
-    → HasComeTo origin (attended b image exchange a) (standing now) → HasComeTo origin (served b image exchange a) (standing now)
+    → HasComeTo origin (attended b image exchange a) (progress_of now) → HasComeTo origin (served b image exchange a) (progress_of now)
 served_stands b image exchange origin a now h = record { state_is = h.state_is; steps_are = h.steps_are; told_is = h.told_is }
 
 advances : {b : Behaviour} {exchanges : List Exchange} {origin : Option HostLog} {before : Moment} {now after : ConnectionPoint} {exchange : Exchange} {ended : Bool} {leave : Leave} → Ongoing b exchanges origin before now → ServesExchange b exchange ended leave now after
@@ -219,9 +219,9 @@ advances {b} {exchanges} {origin} {before} {now} {after} {exchange} {ended} u m 
   lines_are = input_lines-unlines (lines_in exchanges) (exchange.line ++ line_end ended) u.plain ∙ ap (λ ls. lines_in exchanges ++ ls) (last_line exchange.line ended (IsAtEnd after.moment.left) m.read.plain m.read.last)
       ∙ sym (lines_in-push exchanges exchange);
   image = m.image ∙ u.image;
-  stands = subst (λ a. HasComeTo origin a (standing after)) (sym (so_far-push b exchanges exchange before))
+  stands = subst (λ a. HasComeTo origin a (progress_of after)) (sym (so_far-push b exchanges exchange before))
       (served_stands b before.core.image exchange origin (so_far b exchanges before) after
-      (subst (λ image. HasComeTo origin (attended b image exchange (so_far b exchanges before)) (standing after)) u.image (m.attends origin (so_far b exchanges before) u.stands)));
+      (subst (λ image. HasComeTo origin (attended b image exchange (so_far b exchanges before)) (progress_of after)) u.image (m.attends origin (so_far b exchanges before) u.stands)));
 }
 
 AsksNeither-push : (exchanges : List Exchange) (exchange : Exchange) → All AsksNeither (lines_in exchanges) → leave_of (client_asked exchange.line) ≡ leaves.Stays → All AsksNeither (lines_in (exchanges ++ exchange ∷ []))

@@ -35,19 +35,19 @@ kept_client_asked line =
     short_asked line.kept.items
 
 -- Where a connection stands: the core's state, the steps made, and what the host tells.
-pub record Standing : Type 0 where
+pub record Progress : Type 0 where
   pub state : CoreState
   pub steps : List Step
   pub told : Option HostLog
 
 -- An account has come to this, on a host that told this when the account began.
-pub record HasComeTo (origin : Option HostLog) (a : Account) (s : Standing) : Type 0 where
+pub record HasComeTo (origin : Option HostLog) (a : Account) (s : Progress) : Type 0 where
   pub state_is : s.state ≡ a.state
   pub steps_are : s.steps ≡ a.steps
   pub told_is : Adds a.log origin s.told
 
 -- What was done makes this of each account.
-abbrev pub Carries : (Account → Account) → Standing → Standing → Type 0
+abbrev pub Carries : (Account → Account) → Progress → Progress → Type 0
 Carries f before after = (origin : Option HostLog) (a : Account) → HasComeTo origin a before → HasComeTo origin (f a) after
 
 -- A host was told to start the tests that a reply tells of, and after that ran texts; nothing has happened at it since.
@@ -63,8 +63,8 @@ pub record ConnectionPoint : Type 0 where
   pub steps : List Step
   pub told : Option HostLog
 
-abbrev pub standing : ConnectionPoint → Standing
-standing p = record { state = p.moment.core.state; steps = p.steps; told = p.told }
+abbrev pub progress_of : ConnectionPoint → Progress
+progress_of p = record { state = p.moment.core.state; steps = p.steps; told = p.told }
 
 abbrev pub taken_in : ConnectionPoint → Intake
 taken_in p = intake p.moment p.budget
@@ -78,12 +78,12 @@ pub record Idles (before after : ConnectionPoint) : Type 0 where
 pub record ServesExchange (b : Behaviour) (exchange : Exchange) (ended : Bool) (leave : Leave) (before after : ConnectionPoint) : Type 0 where
   pub read : ReadsText exchange.line ended (taken_in before) (taken_in after)
   pub image : after.moment.core.image ≡ before.moment.core.image
-  pub attends : Carries (attended b before.moment.core.image exchange) (standing before) (standing after)
+  pub attends : Carries (attended b before.moment.core.image exchange) (progress_of before) (progress_of after)
   pub asks : leave ≡ leave_of (client_asked exchange.line)
 
 -- And it was replied to.
 pub record AnswersExchange (b : Behaviour) (exchange : Exchange) (before after : ConnectionPoint) : Type 0 where
-  pub written : (origin : Option HostLog) (a : Account) → HasComeTo origin a (standing before)
+  pub written : (origin : Option HostLog) (a : Account) → HasComeTo origin a (progress_of before)
       → after.moment.written ≡ append_known before.moment.written (exchange_reply b before.moment.core.image exchange a)
   pub same_faults : after.moment.write_faults ≡ before.moment.write_faults
 

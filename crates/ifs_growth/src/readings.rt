@@ -15,20 +15,20 @@ pub fn opened<'a>(alloc: Global, image: &'a [u8]) -> Result<Core<'a>, Code> {
 }
 
 /// Where a core stands that is opened on the image of these bytes, after these steps.
-pub fn standing_after(alloc: Global, image: &[u8], steps: &[Step]) -> Result<Vec<u8>, Code> {
+pub fn readings_after(alloc: Global, image: &[u8], steps: &[Step]) -> Result<Vec<u8>, Code> {
     let mut core = opened(alloc, image)?;
     for step in steps {
         core.step(*step);
     }
-    standing(alloc, &core)
+    readings(alloc, &core)
 }
 
 /// Where a core stands: all that its readers answer.
-pub fn standing(alloc: Global, core: &Core<'_>) -> Result<Vec<u8>, Code> {
-    readings(alloc, core).map_err(no_memory)
+pub fn readings(alloc: Global, core: &Core<'_>) -> Result<Vec<u8>, Code> {
+    text_of(alloc, core).map_err(no_memory)
 }
 
-fn readings(alloc: Global, core: &Core<'_>) -> Result<Vec<u8>, AllocError> {
+fn text_of(alloc: Global, core: &Core<'_>) -> Result<Vec<u8>, AllocError> {
     let mut text = String::new(alloc);
     let (state, owed, queued) = (core.state(), core.owed(), core.queue_len());
     let (running, now) = (core.running(), core.now());
