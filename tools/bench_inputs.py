@@ -2,8 +2,10 @@
 import itertools
 import struct
 
-RET, TRUE, LINK, TEST, KNOWN, NOT, AND, OR = 0x00, 0x01, 0x03, 0x04, 0x05, 0x06, 0x07, 0x08
-CMD, STATE, QUEUE, WANT, JF, JT, CALL, POP = 0x09, 0x0A, 0x0B, 0x0C, 0x0E, 0x0F, 0x10, 0x11
+from instructions import CODES
+
+RET, TRUE, LINK, TEST, KNOWN, NOT, AND, OR, CMD, STATE, QUEUE, WANT, JUMP, JF, JT, CALL, POP = (
+    CODES[name] for name in "ret true link test known not and or cmd state queue want jump jf jt call pop".split())
 DOWN, UP = 1, 2
 MOST_BYTES = 1_048_576
 MOST_BLOCKS = 256

@@ -1,5 +1,6 @@
 """Reads an image and verifies it, as docs/IMAGE.md says: the line that `ifsvm verify` prints of any bytes. Slow, plain,
 and by itself: nothing of the crates is used, and nothing but that page was."""
+from instructions import GIVES, NAMES, OPERANDS, TABLES, TAKES
 
 MAGIC, VERSIONS = b"IFSV", 2
 STACK, FRAMES, COST, COMMANDS = 32, 32, 300_000, 64
@@ -7,14 +8,6 @@ ROUTINE_COST, ROUTINE_OPS, TEXT, PERIOD = 100_000, 1_024, 1_024, 604_800
 IMAGE_OPS = {1: 8_192, 2: 65_535}
 KINDS = ("truth", "command", "state")
 COUNTS = {"interfaces": (0, 64), "tests": (0, 64), "commands": (0, 1_024), "states": (1, 256), "routines": (0, 1_024)}
-NAMES = ("ret", "true", "false", "link", "test", "known", "not", "and", "or", "cmd", "state", "queue", "want", "jump", "jf",
-         "jt", "call", "pop", "dup")
-OPERANDS = {"link", "test", "known", "cmd", "state", "jump", "jf", "jt", "call"}
-TABLES = {"link": "interfaces", "test": "tests", "known": "tests", "cmd": "commands", "state": "states", "call": "routines"}
-TAKES = {"not": ["truth"], "and": ["truth"] * 2, "or": ["truth"] * 2, "queue": ["command"], "want": ["state"],
-         "jf": ["truth"], "jt": ["truth"], "pop": ["any"], "dup": ["any"]}
-GIVES = {"true": "truth", "false": "truth", "link": "truth", "test": "truth", "known": "truth", "not": "truth",
-         "and": "truth", "or": "truth", "cmd": "command", "state": "state"}
 
 
 class Refused(Exception):

@@ -8,9 +8,8 @@ import subprocess
 import threading
 
 import bench_inputs as inputs
-from bench_inputs import CMD, JF, KNOWN, LINK, NOT, POP, QUEUE, RET, STATE, TEST, UP, WANT, op
+from bench_inputs import CMD, JF, JUMP, KNOWN, LINK, NOT, POP, QUEUE, RET, STATE, TEST, UP, WANT, op
 
-JUMP = 0x0D
 NUMBERS = range(10_000, 11_024)
 # texts of 1,024 bytes
 NAMES = [f"{number}{'x' * 1_019}" for number in NUMBERS]

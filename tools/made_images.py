@@ -1,7 +1,7 @@
 """Makes images, as docs/IMAGE.md says: some by hand, a case or more for each check, and some by chance from a seed."""
-from image_reader import COMMANDS, COST, FRAMES, KINDS, NAMES, STACK, Image, Refused, check_stacks, find_bounds, greatest_event
+from image_reader import COMMANDS, COST, FRAMES, KINDS, STACK, Image, Refused, check_stacks, find_bounds, greatest_event
+from instructions import CODES, NAMES
 
-CODES = {name: code for code, name in enumerate(NAMES)}
 RET = ("ret",)
 QUEUES = ([("queue",)], [("queue",)], [("dup",), ("queue",), ("queue",)])
 
