@@ -33,8 +33,8 @@ bench: run
 	@tools/bench
 
 failover:
-	@tools/failover
-	@if ls out/ifsvm_*.deb > /dev/null 2>&1; then tools/first_hour; fi
+	@tests/failover/failover
+	@if ls out/ifsvm_*.deb > /dev/null 2>&1; then tests/failover/first_hour; fi
 
 check:
 	rt all check

@@ -3,7 +3,7 @@
 //!
 //! A call answers its own code of want of memory for each growth that is refused, and the same call with ample memory
 //! then its usual answer. What refuses the growths is a library that is preloaded to this program
-//! (tools/refuse_growth.c); without it no growth is refused. A line is printed for each call; on something else than
+//! (tests/programs/refuse_growth.c); without it no growth is refused. A line is printed for each call; on something else than
 //! what is promised the program ends with status 1 and says what came on standard error.
 #![tactic(auto)]
 

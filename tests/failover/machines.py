@@ -49,7 +49,7 @@ exec env -i container=other HOME=/root PATH=/usr/local/sbin:/usr/local/bin:/usr/
 	/lib/systemd/systemd --system --unit=trial.target --show-status=no
 """
 
-TOP = os.path.realpath(os.path.join(os.path.dirname(os.path.abspath(__file__)), ".."))
+TOP = os.path.realpath(os.path.join(os.path.dirname(os.path.abspath(__file__)), "..", ".."))
 
 
 def hidden_folders():
