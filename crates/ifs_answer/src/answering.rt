@@ -1,11 +1,12 @@
 //! What the words on files answer, apart from the files themselves.
 
-ghost use Rattle.std.specs.Prelude.{◌≡◌, ◌≢◌, ◌≤◌, None, map, option_map, string_bytes, IfOk};
+ghost use Rattle.std.specs.Prelude.{◌≡◌, ◌≢◌, ◌≤◌, None, option_map, string_bytes, IfOk};
 ghost use Rattle.ifs_answer.specs.Answers.{AreAccepted, AreGood, IsGiven, IsPrinted, IsRefusedBy, Tells, TellsBudgets};
 ghost use Rattle.ifs_answer.specs.Lines.{budgets_line};
 ghost use Rattle.ifs_verify.specs.FaultWords.{verify_fault_words};
 ghost use Rattle.ifs_verify.specs.Refused.{IsRefusal};
 ghost use Rattle.ifs_verify.specs.declared.fault.VerifyFault.TheVariants.{OutOfMemory};
+ghost use Rattle.ifs_lex.specs.Expansion.{defined_by};
 
 use crate::assembling::asm;
 use crate::checking::{Shown, show};
@@ -29,14 +30,14 @@ pub fn answer(
     // The status is 0 or 1.
     ensures status { IfOk result (λ answer. answer.status ≤ 1) }
     // Bytes are told to be good exactly where they are what the task asks for.
-    ensures good { IfOk result (λ answer. answer.status ≡ 0 → AreGood task input.now (map (λ d. (d.0.now, d.1.now)) defs.now)) }
-    ensures refused { IfOk result (λ answer. answer.status ≢ 0 → ¬ AreGood task input.now (map (λ d. (d.0.now, d.1.now)) defs.now)) }
+    ensures good { IfOk result (λ answer. answer.status ≡ 0 → AreGood task input.now (defined_by defs.now)) }
+    ensures refused { IfOk result (λ answer. answer.status ≢ 0 → ¬ AreGood task input.now (defined_by defs.now)) }
     // What is printed of good bytes is what they are: budgets, counts, notes, lengths, an image's text. Of a picture nothing is said.
-    ensures text { IfOk result (λ answer. answer.status ≡ 0 → IsPrinted task input.now (map (λ d. (d.0.now, d.1.now)) defs.now) (option_map (λ file. file.items) answer.file) (string_bytes answer.text)) }
+    ensures text { IfOk result (λ answer. answer.status ≡ 0 → IsPrinted task input.now (defined_by defs.now) (option_map (λ file. file.items) answer.file) (string_bytes answer.text)) }
     // What is printed of refused bytes is a fault that they have.
-    ensures told { IfOk result (λ answer. answer.status ≢ 0 → IsRefusedBy task input.now (map (λ d. (d.0.now, d.1.now)) defs.now) (string_bytes answer.text)) }
+    ensures told { IfOk result (λ answer. answer.status ≢ 0 → IsRefusedBy task input.now (defined_by defs.now) (string_bytes answer.text)) }
     // The file is the one that the task asks for, and there is none with a refusal.
-    ensures file { IfOk result (λ answer. answer.status ≡ 0 → IsGiven task input.now (map (λ d. (d.0.now, d.1.now)) defs.now) (option_map (λ file. file.items) answer.file)) }
+    ensures file { IfOk result (λ answer. answer.status ≡ 0 → IsGiven task input.now (defined_by defs.now) (option_map (λ file. file.items) answer.file)) }
     ensures no_file { IfOk result (λ answer. answer.status ≢ 0 → answer.file ≡ None) }
 {
     match task {

@@ -1,6 +1,6 @@
 //! What `check` and `graph` answer to the bytes of a policy.
 
-ghost use Rattle.std.specs.Prelude.{◌≡◌, ◌≢◌, ◌≤◌, ◌++◌, ◌⊎◌, None, Some, map, string_bytes, IfOk, IfErr};
+ghost use Rattle.std.specs.Prelude.{◌≡◌, ◌≢◌, ◌≤◌, ◌++◌, ◌⊎◌, None, Some, string_bytes, IfOk, IfErr};
 ghost use Rattle.std.specs.Str.{IsUtf8};
 ghost use Rattle.ifs_answer.specs.Answers.{ArePolicy, IsNoText, Tells, TellsNoText, TellsPolicy};
 ghost use Rattle.ifs_answer.specs.Faults.{no_text_words};
@@ -8,6 +8,7 @@ ghost use Rattle.ifs_policy.specs.FaultWords.{policy_fault_words};
 ghost use Rattle.ifs_policy.specs.Texts.{IsTextRefused};
 ghost use Rattle.ifs_answer.specs.declared.checking.Shown.TheVariants.{Counts};
 ghost use Rattle.ifs_answer.specs.Lines.{note_lines, counts_line};
+ghost use Rattle.ifs_lex.specs.Expansion.{defined_by};
 
 use crate::graphing::drawn;
 use crate::lines::{of_notes, put_counts};
@@ -67,11 +68,11 @@ pub fn show(
     defs: &[(&str, &str)],
 ) -> Result<Answer, AllocError>
     ensures status { IfOk result (λ answer. answer.status ≤ 1) }
-    ensures good { IfOk result (λ answer. answer.status ≡ 0 → ArePolicy bytes.now (map (λ d. (d.0.now, d.1.now)) defs.now)) }
-    ensures refused { IfOk result (λ answer. answer.status ≢ 0 → ¬ ArePolicy bytes.now (map (λ d. (d.0.now, d.1.now)) defs.now)) }
-    ensures counts { shown ≡ Counts → IfOk result (λ answer. answer.status ≡ 0 → TellsPolicy bytes.now (map (λ d. (d.0.now, d.1.now)) defs.now) (string_bytes answer.text)) }
+    ensures good { IfOk result (λ answer. answer.status ≡ 0 → ArePolicy bytes.now (defined_by defs.now)) }
+    ensures refused { IfOk result (λ answer. answer.status ≢ 0 → ¬ ArePolicy bytes.now (defined_by defs.now)) }
+    ensures counts { shown ≡ Counts → IfOk result (λ answer. answer.status ≡ 0 → TellsPolicy bytes.now (defined_by defs.now) (string_bytes answer.text)) }
     ensures told { IfOk result (λ answer. answer.status ≢ 0 → TellsNoText bytes.now (string_bytes answer.text)
-        ⊎ Tells policy_fault_words (IsTextRefused bytes.now (map (λ d. (d.0.now, d.1.now)) defs.now)) (string_bytes answer.text)) }
+        ⊎ Tells policy_fault_words (IsTextRefused bytes.now (defined_by defs.now)) (string_bytes answer.text)) }
     ensures file { IfOk result (λ answer. answer.file ≡ None) }
 {
     let text = match text_of(bytes) {

@@ -1,12 +1,13 @@
 //! What `compile` answers to the bytes of a policy.
 
-ghost use Rattle.std.specs.Prelude.{◌≡◌, ◌≢◌, ◌≤◌, ◌++◌, ◌⊎◌, length, None, Some, Ok, map, option_map, string_bytes};
+ghost use Rattle.std.specs.Prelude.{◌≡◌, ◌≢◌, ◌≤◌, ◌++◌, ◌⊎◌, length, None, Some, Ok, option_map, string_bytes};
 ghost use Rattle.std.specs.Prelude.{IsSomeAnd, IfOk};
 ghost use Rattle.ifs_gen.specs.Compiled.{IsCompiled, IsCompileRefusal};
 ghost use Rattle.ifs_gen.specs.declared.compile_fault.CompileFault.TheVariants.{Memory};
 ghost use Rattle.ifs_answer.specs.Answers.{AreCompiled, Tells, TellsCompiled, TellsNoText};
 ghost use Rattle.ifs_gen.specs.FaultWords.{compile_fault_words};
 ghost use Rattle.ifs_answer.specs.Lines.{note_lines, size_line};
+ghost use Rattle.ifs_lex.specs.Expansion.{defined_by};
 
 use crate::checking::text_of;
 use crate::lines::{of_notes, put_size};
@@ -18,14 +19,14 @@ use std::alloc::{AllocError, Global};
 /// The answer of `compile`: the notes on a policy and the length of its image, which is the file.
 pub fn compile(alloc: Global, bytes: &[u8], defs: &[(&str, &str)]) -> Result<Answer, AllocError>
     ensures status { IfOk result (λ answer. answer.status ≤ 1) }
-    ensures good { IfOk result (λ answer. answer.status ≡ 0 → AreCompiled bytes.now (map (λ d. (d.0.now, d.1.now)) defs.now)) }
-    ensures refused { IfOk result (λ answer. answer.status ≢ 0 → ¬ AreCompiled bytes.now (map (λ d. (d.0.now, d.1.now)) defs.now)) }
+    ensures good { IfOk result (λ answer. answer.status ≡ 0 → AreCompiled bytes.now (defined_by defs.now)) }
+    ensures refused { IfOk result (λ answer. answer.status ≢ 0 → ¬ AreCompiled bytes.now (defined_by defs.now)) }
     ensures file { IfOk result (λ answer. answer.status ≡ 0
-        → IsSomeAnd (option_map (λ file. file.items) answer.file) (IsCompiled bytes.now (map (λ d. (d.0.now, d.1.now)) defs.now))) }
+        → IsSomeAnd (option_map (λ file. file.items) answer.file) (IsCompiled bytes.now (defined_by defs.now))) }
     ensures text { IfOk result (λ answer. answer.status ≡ 0
-        → IsSomeAnd (option_map (λ file. file.items) answer.file) (λ file. TellsCompiled bytes.now (map (λ d. (d.0.now, d.1.now)) defs.now) (string_bytes answer.text) (length file))) }
+        → IsSomeAnd (option_map (λ file. file.items) answer.file) (λ file. TellsCompiled bytes.now (defined_by defs.now) (string_bytes answer.text) (length file))) }
     ensures told { IfOk result (λ answer. answer.status ≢ 0 → TellsNoText bytes.now (string_bytes answer.text)
-        ⊎ Tells compile_fault_words (λ fault. (fault ≢ Memory) × IsCompileRefusal bytes.now (map (λ d. (d.0.now, d.1.now)) defs.now) fault) (string_bytes answer.text)) }
+        ⊎ Tells compile_fault_words (λ fault. (fault ≢ Memory) × IsCompileRefusal bytes.now (defined_by defs.now) fault) (string_bytes answer.text)) }
     ensures no_file { IfOk result (λ answer. answer.status ≢ 0 → answer.file ≡ None) }
 {
     let text = match text_of(bytes) {

@@ -1,11 +1,12 @@
 //! From a text to the bytes of its image.
 
-ghost use Rattle.std.specs.Prelude.{◌≡◌, ◌≢◌, Some, Err, IfOk, IfErr, map};
+ghost use Rattle.std.specs.Prelude.{◌≡◌, ◌≢◌, Some, Err, IfOk, IfErr};
 ghost use Rattle.ifs_lex.specs.declared.fault.LexFault.{LexFault};
 ghost use Rattle.ifs_lex.specs.AtOnce.{certain_at_once};
 ghost use Rattle.ifs_gen.specs.declared.compile_fault.CompileFault.TheVariants.{Memory};
 ghost use Rattle.ifs_gen.specs.Compiled.{Compiles, IsCodeRefusal, IsCompiled, IsCompileRefusal, IsWritten, of_policy};
 ghost use Rattle.ifs_policy.specs.Texts.{of_text, SaysFile};
+ghost use Rattle.ifs_lex.specs.Expansion.{defined_by};
 
 use crate::compile_fault::CompileFault;
 use crate::generating::generate;
@@ -49,14 +50,14 @@ pub fn compile<'a>(
     defs: &'a [(&'a str, &'a str)],
 ) -> Result<Vec<u8>, CompileFault>
     // What is answered is the image of the text's one policy, and means it; the verifier accepts it.
-    ensures compiled { IfOk result (λ bytes. IsCompiled text.now (map (λ d. (d.0.now, d.1.now)) defs.now) bytes.items) }
+    ensures compiled { IfOk result (λ bytes. IsCompiled text.now (defined_by defs.now) bytes.items) }
     // A refusal but for memory comes only where the text has no policy, or where the code of the policy
     // passes the limit that it names,
-    ensures refused { IfErr result (λ fault. IsCompileRefusal text.now (map (λ d. (d.0.now, d.1.now)) defs.now) fault) }
+    ensures refused { IfErr result (λ fault. IsCompileRefusal text.now (defined_by defs.now) fault) }
     // so that nothing is refused that compiles.
-    ensures none { IfErr result (λ fault. fault ≢ Memory → ¬ Compiles text.now (map (λ d. (d.0.now, d.1.now)) defs.now)) }
+    ensures none { IfErr result (λ fault. fault ≢ Memory → ¬ Compiles text.now (defined_by defs.now)) }
     // What is certain of the text before anything is kept is told, and no want of memory in its place.
-    ensures at_once { (fault : LexFault) → certain_at_once text.now (map (λ d. (d.0.now, d.1.now)) defs.now) ≡ Some fault → result ≡ Err (of_policy (of_text fault)) }
+    ensures at_once { (fault : LexFault) → certain_at_once text.now (defined_by defs.now) ≡ Some fault → result ≡ Err (of_policy (of_text fault)) }
 {
     match compile_with_notes(alloc, text, defs) {
         Ok(CompiledText { tree: _, bytes }) => Ok(bytes),
@@ -70,11 +71,11 @@ pub fn compile_with_notes<'a>(
     text: &'a str,
     defs: &'a [(&'a str, &'a str)],
 ) -> Result<CompiledText, CompileFault>
-    ensures compiled { IfOk result (λ it. IsCompiled text.now (map (λ d. (d.0.now, d.1.now)) defs.now) it.bytes.items) }
-    ensures tree { IfOk result (λ it. SaysFile text.now (map (λ d. (d.0.now, d.1.now)) defs.now) it.tree) }
-    ensures refused { IfErr result (λ fault. IsCompileRefusal text.now (map (λ d. (d.0.now, d.1.now)) defs.now) fault) }
-    ensures none { IfErr result (λ fault. fault ≢ Memory → ¬ Compiles text.now (map (λ d. (d.0.now, d.1.now)) defs.now)) }
-    ensures at_once { (fault : LexFault) → certain_at_once text.now (map (λ d. (d.0.now, d.1.now)) defs.now) ≡ Some fault → result ≡ Err (of_policy (of_text fault)) }
+    ensures compiled { IfOk result (λ it. IsCompiled text.now (defined_by defs.now) it.bytes.items) }
+    ensures tree { IfOk result (λ it. SaysFile text.now (defined_by defs.now) it.tree) }
+    ensures refused { IfErr result (λ fault. IsCompileRefusal text.now (defined_by defs.now) fault) }
+    ensures none { IfErr result (λ fault. fault ≢ Memory → ¬ Compiles text.now (defined_by defs.now)) }
+    ensures at_once { (fault : LexFault) → certain_at_once text.now (defined_by defs.now) ≡ Some fault → result ≡ Err (of_policy (of_text fault)) }
 {
     means_the_policy();
     let PolicyText { tree, policy } = match policy_of(alloc, text, defs) {

@@ -1,6 +1,6 @@
 //! What holds of every policy, its plain code and its image.
 
-ghost use Rattle.std.specs.Prelude.{IfOk, map};
+ghost use Rattle.std.specs.Prelude.{IfOk};
 ghost use Rattle.ifs_gen.specs.Acceptance.{BudgetsAreLeast, ImageIsAccepted};
 ghost use Rattle.ifs_gen.specs.Compiled.{TextsMeanTheirPolicy};
 ghost use Rattle.ifs_gen.specs.CompiledCore.{LeadsTo, RepliesAsText};
@@ -8,6 +8,7 @@ ghost use Rattle.ifs_gen.specs.Events.{ActiveAreMentioned, ImageMeansPolicy};
 ghost use Rattle.ifs_gen.specs.Refused.{FitsOrIsRefused, OneLimitIsFirst, RefusedDoNotFit};
 ghost use Rattle.ifs_gen.specs.Runs.{TruthRuns, SharedTruthRuns, BlockRuns, HandlersDo};
 ghost use Rattle.ifs_gen.specs.Sizes.{RunsAreQueued, SizesAreLengths};
+ghost use Rattle.ifs_lex.specs.Expansion.{defined_by};
 
 use crate::compile_fault::CompileFault;
 use crate::opening::compiled_core;
@@ -132,7 +133,7 @@ pub fn replies_of_text<'a>(
     defs: &'a [(&'a str, &'a str)],
     steps: &[Step],
 ) -> Result<Vec<Reply>, CompileFault>
-    ensures { IfOk result (λ replies. RepliesAsText text.now (map (λ d. (d.0.now, d.1.now)) defs.now) steps.now replies.items) }
+    ensures { IfOk result (λ replies. RepliesAsText text.now (defined_by defs.now) steps.now replies.items) }
 {
     let mut image = Vec::new(alloc);
     let mut core = match compiled_core(alloc, text, defs, &mut image) {

@@ -1,6 +1,6 @@
 //! From a text to a core at work.
 
-ghost use Rattle.std.specs.Prelude.{◌≡◌, ◌≢◌, ℕ, List, Some, Err, IfOk, IfErr, map};
+ghost use Rattle.std.specs.Prelude.{◌≡◌, ◌≢◌, ℕ, List, Some, Err, IfOk, IfErr};
 ghost use Rattle.ifs_lex.specs.declared.fault.LexFault.{LexFault};
 ghost use Rattle.ifs_lex.specs.AtOnce.{certain_at_once};
 ghost use Rattle.ifs_policy.specs.Texts.{of_text};
@@ -10,6 +10,7 @@ ghost use Rattle.ifs_image.specs.Spelling.{Spells};
 ghost use Rattle.ifs_gen.specs.declared.compile_fault.CompileFault.TheVariants.{Memory};
 ghost use Rattle.ifs_gen.specs.Compiled.{Compiles, IsCompileRefusal, IsCompiled, of_policy};
 ghost use Rattle.ifs_gen.specs.CompiledCore.{RunsText};
+ghost use Rattle.ifs_lex.specs.Expansion.{defined_by};
 
 use crate::compile_fault::CompileFault;
 use crate::compiling::compile;
@@ -31,13 +32,13 @@ pub fn compiled_core<'a, 'b>(
     image: &'b mut Vec<u8>,
 ) -> Result<Core<'b>, CompileFault>
     // The core runs the one policy of the text: names, texts, and for every list of steps the replies.
-    ensures runs { IfOk result (λ core. RunsText text.now (map (λ d. (d.0.now, d.1.now)) defs.now) (nothing_known core.image) core) }
+    ensures runs { IfOk result (λ core. RunsText text.now (defined_by defs.now) (nothing_known core.image) core) }
     // A refusal but for memory says that the text has no policy, or that the code of the policy passes a limit,
-    ensures refused { IfErr result (λ fault. IsCompileRefusal text.now (map (λ d. (d.0.now, d.1.now)) defs.now) fault) }
+    ensures refused { IfErr result (λ fault. IsCompileRefusal text.now (defined_by defs.now) fault) }
     // so that nothing is refused that compiles.
-    ensures none { IfErr result (λ fault. fault ≢ Memory → ¬ Compiles text.now (map (λ d. (d.0.now, d.1.now)) defs.now)) }
+    ensures none { IfErr result (λ fault. fault ≢ Memory → ¬ Compiles text.now (defined_by defs.now)) }
     // What is certain of the text before anything is kept is told, and no want of memory in its place.
-    ensures at_once { (fault : LexFault) → certain_at_once text.now (map (λ d. (d.0.now, d.1.now)) defs.now) ≡ Some fault → result ≡ Err (of_policy (of_text fault)) }
+    ensures at_once { (fault : LexFault) → certain_at_once text.now (defined_by defs.now) ≡ Some fault → result ≡ Err (of_policy (of_text fault)) }
 {
     match compile(alloc, text, defs) {
         Ok(bytes) => *image = bytes,

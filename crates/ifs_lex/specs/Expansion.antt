@@ -1,6 +1,7 @@
 -- From the lexemes of a text to its tokens: definitions are taken out, uses replaced.
 use Rattle.std.specs.Prelude.{◌≡◌, ℕ, zero, suc, ◌+◌, Bool, true, false, ◌&&◌, ◌||◌, not, nat_lt, if◌then◌else◌, List}
 use Rattle.std.specs.Prelude.{[], ◌∷◌, ◌++◌, length, map, Option, Some, None, option_map, is_some, Result, Ok, Err}
+use Rattle.std.specs.Borrow.{Bor}
 use Rattle.std.specs.Option.{option_map_or}
 use Rattle.std.specs.Str.{bytes_eq}
 use Rattle.ifs_base.specs.declared.span.Span.{Span}
@@ -13,6 +14,10 @@ use Rattle.ifs_lex.specs.declared.fault.LexFault.TheVariants as lexing
 use Rattle.ifs_lex.specs.declared.fault.LexFault.TheVariants.{UnknownMacro, BadMacro, OverLimit}
 use Rattle.ifs_lex.specs.Characters.{is_macro_name, is_reserved}
 use Rattle.ifs_lex.specs.Lexemes.{Lexeme, One, Uses, Stray, Unclosed, Spanned, lexemes_of}
+
+-- The definitions that are given beside a text: names with values.
+abbrev pub defined_by : List (Bor (List ℕ) × Bor (List ℕ)) → List (List ℕ × List ℕ)
+defined_by defs = map (λ d. (d.0.now, d.1.now)) defs
 
 -- What is known of a macro: its tokens, and whether it was given beside the text.
 pub record Macro : Type 0 where

@@ -1,13 +1,13 @@
 //! A text to its tokens.
 
 ghost use Rattle.std.specs.Prelude.{◌≡◌, ◌≤◌, [], ◌∷◌, length, option_map, is_some};
-ghost use Rattle.std.specs.Prelude.{map, Some, Err, IfOk, IfErr, IsOkAnd, ◌≢◌, List};
+ghost use Rattle.std.specs.Prelude.{Some, Err, IfOk, IfErr, IsOkAnd, ◌≢◌, List};
 ghost use Rattle.ifs_lex.specs.declared.fault.LexFault.{LexFault};
 ghost use Rattle.ifs_lex.specs.AtOnce as at_once;
 ghost use Rattle.ifs_lex.specs.declared.token.Token.{Token};
 ghost use Rattle.ifs_lex.specs.declared.fault.LexFault.TheVariants.{Memory};
 ghost use Rattle.ifs_lex.specs.Lexemes.{lexemes_of};
-ghost use Rattle.ifs_lex.specs.Expansion.{expanded, tokens_after, segments_from, given_one};
+ghost use Rattle.ifs_lex.specs.Expansion.{expanded, tokens_after, segments_from, given_one, defined_by};
 ghost use Rattle.ifs_lex.specs.Expansion.{given_from, tokens_of, HasTokens, EndsOnce};
 ghost use Rattle.ifs_lex.specs.inner.Kept.{IsAsWanted};
 ghost use Rattle.ifs_lex.specs.inner.Known.{macros_of};
@@ -194,7 +194,7 @@ fn read_given<'a>(
     macros: &mut MacroTable<'a>,
     defs: &[(&'a str, &'a str)],
 ) -> Result<(), LexFault>
-    ensures { IsAsWanted (λ done. macros_of macros.new) result (given_from (macros_of macros.old) (map (λ d. (d.0.now, d.1.now)) defs.now)) }
+    ensures { IsAsWanted (λ done. macros_of macros.new) result (given_from (macros_of macros.old) (defined_by defs.now)) }
 {
     let mut left = defs;
     while let [(name, value), rest @ ..] = left {
@@ -225,7 +225,7 @@ fn fault_without_macros(found: Found<'_>) -> Option<LexFault>
 
 /// The fault that is certain before anything is kept, where there is one.
 fn certain_at_once<'a>(text: &'a str, defs: &[(&'a str, &'a str)]) -> Option<LexFault>
-    ensures { result ≡ at_once.certain_at_once text.now (map (λ d. (d.0.now, d.1.now)) defs.now) }
+    ensures { result ≡ at_once.certain_at_once text.now (defined_by defs.now) }
 {
     match defs {
         [] if text.len() > MAX_TEXT => Some(LexFault::OverLimit { line: 1 }),
@@ -248,7 +248,7 @@ fn read_all<'a>(
     text: &'a str,
     defs: &'a [(&'a str, &'a str)],
 ) -> Result<Vec<Token>, LexFault>
-    ensures { IsAsWanted (λ tokens. tokens.items) result (tokens_of text.now (map (λ d. (d.0.now, d.1.now)) defs.now)) }
+    ensures { IsAsWanted (λ tokens. tokens.items) result (tokens_of text.now (defined_by defs.now)) }
 {
     let mut macros = MacroTable::new(alloc)?;
     match read_given(alloc, &mut macros, defs) {
@@ -270,8 +270,8 @@ fn answer<'a>(
     text: &'a str,
     defs: &'a [(&'a str, &'a str)],
 ) -> Result<Vec<Token>, LexFault>
-    ensures wanted { IsAsWanted (λ tokens. tokens.items) result (tokens_of text.now (map (λ d. (d.0.now, d.1.now)) defs.now)) }
-    ensures at_once { (fault : LexFault) → at_once.certain_at_once text.now (map (λ d. (d.0.now, d.1.now)) defs.now) ≡ Some fault → result ≡ Err fault }
+    ensures wanted { IsAsWanted (λ tokens. tokens.items) result (tokens_of text.now (defined_by defs.now)) }
+    ensures at_once { (fault : LexFault) → at_once.certain_at_once text.now (defined_by defs.now) ≡ Some fault → result ≡ Err fault }
 {
     match certain_at_once(text, defs) {
         Some(fault) => Err(fault),
@@ -291,18 +291,18 @@ pub fn tokens<'a>(
     defs: &'a [(&'a str, &'a str)],
 ) -> Result<Vec<Token>, LexFault>
     // What is answered are the tokens that the text spells.
-    ensures found { IfOk result (λ tokens. HasTokens text.now (map (λ d. (d.0.now, d.1.now)) defs.now) tokens.items) }
+    ensures found { IfOk result (λ tokens. HasTokens text.now (defined_by defs.now) tokens.items) }
     // The one end stands last.
     ensures ended { IfOk result (λ tokens. EndsOnce tokens.items) }
     // Tokens that the text spells are answered, unless want of memory is told.
-    ensures only { (spelled : List Token) → HasTokens text.now (map (λ d. (d.0.now, d.1.now)) defs.now) spelled
+    ensures only { (spelled : List Token) → HasTokens text.now (defined_by defs.now) spelled
         → result ≢ Err Memory → IsOkAnd result (λ tokens. tokens.items ≡ spelled) }
     // Any other refusal is the first fault.
-    ensures first_fault { IfErr result (λ fault. fault ≢ Memory → tokens_of text.now (map (λ d. (d.0.now, d.1.now)) defs.now) ≡ Err fault) }
+    ensures first_fault { IfErr result (λ fault. fault ≢ Memory → tokens_of text.now (defined_by defs.now) ≡ Err fault) }
     // P1 and P2 are told only of a text that is stuck, and with that fault: never of a macro's value.
     ensures stuck { IfErr result (λ fault. SaysStuck text.now fault) }
     // What is certain before anything is kept is told, and no want of memory in its place.
-    ensures at_once { (fault : LexFault) → at_once.certain_at_once text.now (map (λ d. (d.0.now, d.1.now)) defs.now) ≡ Some fault → result ≡ Err fault }
+    ensures at_once { (fault : LexFault) → at_once.certain_at_once text.now (defined_by defs.now) ≡ Some fault → result ≡ Err fault }
 {
     match answer(alloc, text, defs) {
         Ok(tokens) => Ok(tokens),

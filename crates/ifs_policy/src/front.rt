@@ -1,12 +1,13 @@
 //! From a text to its policy: its tokens, their tree and its names.
 
-ghost use Rattle.std.specs.Prelude.{◌≡◌, ◌≢◌, Some, Err, IfOk, IfErr, map};
+ghost use Rattle.std.specs.Prelude.{◌≡◌, ◌≢◌, Some, Err, IfOk, IfErr};
 ghost use Rattle.ifs_lex.specs.declared.fault.LexFault.{LexFault};
 ghost use Rattle.ifs_lex.specs.AtOnce.{certain_at_once};
 ghost use Rattle.ifs_base.specs.FaultTexts.{fault_words};
 ghost use Rattle.ifs_policy.specs.FaultWords.{policy_fault_words};
 ghost use Rattle.ifs_policy.specs.Texts.{of_names, of_text, of_tokens, HasPolicy, IsTextRefused, SaysFile};
 ghost use Rattle.ifs_policy.specs.declared.front.PolicyFault.TheVariants.{Memory};
+ghost use Rattle.ifs_lex.specs.Expansion.{defined_by};
 
 use crate::fault::ResolveFault;
 use crate::policy::Policy;
@@ -117,13 +118,13 @@ pub fn policy_of<'a>(
     defs: &'a [(&'a str, &'a str)],
 ) -> Result<PolicyText, PolicyFault>
     // What is answered is a policy of the text,
-    ensures policy { IfOk result (λ it. HasPolicy text.now (map (λ d. (d.0.now, d.1.now)) defs.now) it.policy) }
+    ensures policy { IfOk result (λ it. HasPolicy text.now (defined_by defs.now) it.policy) }
     // and the tree of its tokens.
-    ensures tree { IfOk result (λ it. SaysFile text.now (map (λ d. (d.0.now, d.1.now)) defs.now) it.tree) }
+    ensures tree { IfOk result (λ it. SaysFile text.now (defined_by defs.now) it.tree) }
     // A refusal but for memory comes only where the text has no policy, with the fault that stands first.
-    ensures refused { IfErr result (λ fault. fault ≢ Memory → IsTextRefused text.now (map (λ d. (d.0.now, d.1.now)) defs.now) fault) }
+    ensures refused { IfErr result (λ fault. fault ≢ Memory → IsTextRefused text.now (defined_by defs.now) fault) }
     // What is certain of the text before anything is kept is told, and no want of memory in its place.
-    ensures at_once { (fault : LexFault) → certain_at_once text.now (map (λ d. (d.0.now, d.1.now)) defs.now) ≡ Some fault → result ≡ Err (of_text fault) }
+    ensures at_once { (fault : LexFault) → certain_at_once text.now (defined_by defs.now) ≡ Some fault → result ≡ Err (of_text fault) }
 {
     one_list();
     one_tree();

@@ -1,34 +1,35 @@
 -- What the steps found, said of the text.
-use Rattle.std.proofs.Common.{map, sym, subst, ap, ◌∙◌, Err}
+use Rattle.std.proofs.Common.{sym, subst, ap, ◌∙◌, Err}
 use Rattle.ifs_policy.specs.Texts.{of_text}
 use Rattle.ifs_gen.specs.Compiled.{IsCompileRefusal}
 use Rattle.ifs_gen.proofs.Texts as texts
 use Rattle.ifs_gen.proofs.compiling.compile_with_notes.Goals as goal
+use Rattle.ifs_lex.specs.Expansion.{defined_by}
 
 pub returns-in-Err-clause-refused : goal.returns-in-Err-clause-refused
 returns-in-Err-clause-refused c =
-    let defs = map (λ d. (d.0.now, d.1.now)) c.args.defs.now in
+    let defs = defined_by c.args.defs.now in
     subst (IsCompileRefusal c.args.text.now defs) (sym c.from.ensures) (texts.refused_policy c.args.text.now defs c.in-Err.fault c.in-Err.ensures.refused)
 
 pub returns-in-Err-clause-none : goal.returns-in-Err-clause-none
 returns-in-Err-clause-none c =
-    let defs = map (λ d. (d.0.now, d.1.now)) c.args.defs.now in
+    let defs = defined_by c.args.defs.now in
     texts.none_compiled c.means_the_policy.ensures c.args.text.now defs c.from.result
     (subst (IsCompileRefusal c.args.text.now defs) (sym c.from.ensures) (texts.refused_policy c.args.text.now defs c.in-Err.fault c.in-Err.ensures.refused))
 
 pub returns-in-Ok-bytes_of-clause-compiled : goal.returns-in-Ok-bytes_of-clause-compiled
 returns-in-Ok-bytes_of-clause-compiled c =
-    let defs = map (λ d. (d.0.now, d.1.now)) c.args.defs.now in
+    let defs = defined_by c.args.defs.now in
     texts.is_compiled c.args.text.now defs c.means_the_policy.ensures c.in-Ok.it.policy c.in-Ok.ensures.policy c.in-Ok-bytes_of.bytes.items c.in-Ok-bytes_of.ensures.written
 
 pub returns-in-Err-bytes_of-clause-refused : goal.returns-in-Err-bytes_of-clause-refused
 returns-in-Err-bytes_of-clause-refused c =
-    let defs = map (λ d. (d.0.now, d.1.now)) c.args.defs.now in
+    let defs = defined_by c.args.defs.now in
     texts.code_refusal c.in-Ok.it.policy c.args.text.now defs c.in-Ok.ensures.policy c.in-Err-bytes_of.fault c.in-Err-bytes_of.ensures.refused
 
 pub returns-in-Err-bytes_of-clause-none : goal.returns-in-Err-bytes_of-clause-none
 returns-in-Err-bytes_of-clause-none c =
-    let defs = map (λ d. (d.0.now, d.1.now)) c.args.defs.now in
+    let defs = defined_by c.args.defs.now in
     texts.none_compiled c.means_the_policy.ensures c.args.text.now defs c.in-Err-bytes_of.fault
     (texts.code_refusal c.in-Ok.it.policy c.args.text.now defs c.in-Ok.ensures.policy c.in-Err-bytes_of.fault c.in-Err-bytes_of.ensures.refused)
 
