@@ -1,7 +1,8 @@
 # make run     builds the proved program and makes the first run
 # make try     runs the program unproved, on the first run and one example: a minute and a half
 # make test    the gate: every proof from nothing, must-fail edits, tests, the program's runs, the examples
-# make plants  tries further wrong bodies; of one crate by CRATE=NAME
+# make plants  tries further mutants; of one crate by CRATE=NAME
+# make mutants  lists all mutants, each with what it breaks; of one crate by CRATE=NAME
 # make bench   times the proved program, and tells its memory and its machine instructions; tools/bench --help says more
 # make failover  tries failovers by ucarp and keepalived in network namespaces (root), and, where `make deb` made the package, follows
 #               docs/OPERATING.md with it on two machines of namespaces
@@ -11,9 +12,9 @@
 #               PREFIX (/usr/local), make uninstall takes them away
 # make deb     makes a Debian package of the same: make deb MAINTAINER='NAME <ADDRESS>'
 # make man     makes the manual pages from the documents
-# make lint    looks at scripts, units and manual pages (Debian's shellcheck, systemd and mandoc)
+# make lint    looks at scripts, units, manual pages and the first lines of mutants (Debian's shellcheck, systemd and mandoc)
 
-.PHONY: run try test plants bench failover check clean install uninstall deb man lint
+.PHONY: run try test plants mutants bench failover check clean install uninstall deb man lint
 
 PREFIX ?= /usr/local
 
@@ -28,6 +29,9 @@ test:
 
 plants:
 	@tools/plants $(CRATE)
+
+mutants:
+	@tools/mutants $(CRATE)
 
 bench: run
 	@tools/bench
