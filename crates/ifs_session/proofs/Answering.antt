@@ -9,7 +9,7 @@ use Rattle.ifs_session.specs.declared.service.End.TheVariants.{Fault}
 use Rattle.ifs_session.specs.declared.service.Leave.{Leave}
 use Rattle.ifs_session.specs.declared.service.Leave.TheVariants as leaves
 use Rattle.ifs_session.specs.declared.fault.SessionFault.TheVariants.{ReadFailed, WriteFailed, TooMuchInput}
-use Rattle.ifs_session.specs.Requests.{Asked, ALink, AResult, ATick, ATake, AStatus, ATrace, AStop, AReload}
+use Rattle.ifs_session.specs.Requests.{Asked, ALink, AResult, ATick, ATake, AQuestion, AStop, AReload}
 use Rattle.ifs_session.specs.Requests.{AFault}
 use Rattle.ifs_session.specs.Sessions.{is_stop}
 use Rattle.ifs_session.specs.Hosts.{Ending}
@@ -40,8 +40,7 @@ no_step image (ALink name link) h = cc
 no_step image (AResult test run value) h = cc
 no_step image (ATick moment) h = cc
 no_step image ATake h = cc
-no_step image AStatus h = cc
-no_step image ATrace h = cc
+no_step image (AQuestion question) h = cc
 no_step image AStop h = cc
 no_step image AReload h = refl
 no_step image (AFault fault) h = cc
@@ -52,8 +51,7 @@ left_unanswered (ALink name link) h = refl
 left_unanswered (AResult test run value) h = refl
 left_unanswered (ATick moment) h = refl
 left_unanswered ATake h = refl
-left_unanswered AStatus h = refl
-left_unanswered ATrace h = refl
+left_unanswered (AQuestion question) h = refl
 left_unanswered AStop h = refl
 left_unanswered AReload h = absurd (h refl)
 left_unanswered (AFault fault) h = refl

@@ -13,7 +13,7 @@ use Rattle.ifs_core.specs.Machine.{IsBehaviour}
 use Rattle.ifs_core.specs.Gateway.{IsStateOf, interface_of}
 use Rattle.ifs_core.specs.Headline.{IsKept}
 use Rattle.ifs_core.specs.Steps.{CoreState, turn}
-use Rattle.ifs_session.specs.Requests.{Asked, ALink, AResult, ATick, ATake, AStatus, ATrace, AStop, AReload}
+use Rattle.ifs_session.specs.Requests.{Asked, ALink, AResult, ATick, ATake, AQuestion, AStop, AReload}
 use Rattle.ifs_session.specs.Requests.{AFault}
 use Rattle.ifs_session.specs.Hosts.{Ending, HostLog, ran, launched, polled}
 use Rattle.ifs_session.specs.Accounts.{Account, Exchange, client_asked, step_asked, takes_of, texts_of, launches_told}
@@ -125,8 +125,7 @@ requested image (ATick moment) step e =
     subst (Requested image) same (record { request = refl; no_ending = refl; no_take = λ b s. tick_takes b image image.budgets.commands moment s })
 requested image (AResult test run value) step e = cc
 requested image ATake step e = cc
-requested image AStatus step e = cc
-requested image ATrace step e = cc
+requested image (AQuestion question) step e = cc
 requested image AStop step e = cc
 requested image AReload step e = cc
 requested image (AFault fault) step e = cc

@@ -15,7 +15,7 @@ use Rattle.ifs_core.specs.Event.{Behaviour}
 use Rattle.ifs_core.specs.Steps.{CoreState}
 use Rattle.ifs_session.specs.inner.Reading.{HasNoNewline, ReadFails, ReadsTooMuch}
 use Rattle.ifs_session.specs.Lines.{input_lines, whole_lines, onto_line, line_end}
-use Rattle.ifs_session.specs.Requests.{Asked, ALink, AResult, ATick, ATake, AStatus, ATrace, AStop, AReload}
+use Rattle.ifs_session.specs.Requests.{Asked, ALink, AResult, ATick, ATake, AQuestion, AStop, AReload}
 use Rattle.ifs_session.specs.Requests.{AFault, asked}
 use Rattle.ifs_session.specs.declared.session.LineKind.{LineKind}
 use Rattle.ifs_session.specs.declared.session.LineKind.TheVariants as kinds
@@ -266,8 +266,7 @@ counted_line image (ALink name link) s running = counted_other image (ALink name
 counted_line image (AResult test run value) s running = counted_other image (AResult test run value) true s refl refl running
 counted_line image (ATick moment) s running = counted_other image (ATick moment) true s refl refl running
 counted_line image ATake s running = counted_other image ATake true s refl refl running
-counted_line image AStatus s running = counted_other image AStatus false s refl refl running
-counted_line image ATrace s running = counted_other image ATrace false s refl refl running
+counted_line image (AQuestion question) s running = counted_other image (AQuestion question) false s refl refl running
 counted_line image AStop s running = record { requests = refl; steps = omega arith; stopped = refl }
 counted_line image AReload s running = counted_other image AReload false s refl refl running
 counted_line image (AFault fault) s running = counted_other image (AFault fault) false s refl refl running

@@ -13,9 +13,10 @@ use Rattle.ifs_core.specs.Event.{Behaviour}
 use Rattle.ifs_core.specs.Steps.{CoreState, turn, after_steps}
 use Rattle.ifs_core.specs.Gateway.{interface_of}
 use Rattle.ifs_session.specs.declared.request.RequestFault.TheVariants.{NoRequest, TooLong, NoInterface}
-use Rattle.ifs_session.specs.Requests.{Asked, ALink, ATick, AStatus, ATrace, AStop, AReload, AFault, starts_with}
+use Rattle.ifs_session.specs.Requests.{Asked, ALink, ATick, AQuestion, AStop, AReload, AFault, starts_with}
 use Rattle.ifs_session.specs.Requests.{short_asked}
-use Rattle.ifs_session.specs.Replies.{command_text, reply_line, status_line, trace_lines, fault_line, bye_line}
+use Rattle.ifs_session.specs.Questions.{reply_to}
+use Rattle.ifs_session.specs.Replies.{command_text, reply_line, fault_line, bye_line}
 use Rattle.ifs_session.specs.Hosts.{Ending, Launch, HostLog, ran, launched, polled}
 
 -- Whether a line asks for what the service does by itself: a result, or the taking of a command.
@@ -37,8 +38,7 @@ step_asked image _ = None
 
 -- The reply to what asks for no step, told of a core; nothing is said to `reload`.
 abbrev pub told_line : ImageParts → Asked → CoreState → List ℕ
-told_line image AStatus s = status_line image s
-told_line image ATrace s = trace_lines image s.trace
+told_line image (AQuestion question) s = reply_to question image s
 told_line image AStop s = bye_line
 told_line image AReload s = []
 told_line image (AFault fault) s = fault_line fault

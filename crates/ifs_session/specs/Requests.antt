@@ -6,8 +6,10 @@ use Rattle.std.specs.Str.{bytes_eq}
 use Rattle.ifs_base.specs.declared.op.LinkState.{LinkState}
 use Rattle.ifs_base.specs.declared.op.LinkState.TheVariants.{Unknown, Down, Up}
 use Rattle.ifs_base.specs.Numbers.{number_of}
+use Rattle.ifs_session.specs.declared.question.Question.{Question}
 use Rattle.ifs_session.specs.declared.request.RequestFault.{RequestFault}
 use Rattle.ifs_session.specs.declared.request.RequestFault.TheVariants.{NoRequest, TooLong, OutOfRange}
+use Rattle.ifs_session.specs.Questions.{question_in}
 
 -- What a line asks for, or its fault.
 pub data Asked : Type 0 where
@@ -15,8 +17,7 @@ pub data Asked : Type 0 where
   AResult : (test run : ℕ) (value : Bool) → Asked
   ATick : (moment : ℕ) → Asked
   ATake : Asked
-  AStatus : Asked
-  ATrace : Asked
+  AQuestion : (question : Question) → Asked
   AStop : Asked
   AReload : Asked
   AFault : (fault : RequestFault) → Asked
@@ -71,15 +72,18 @@ abbrev pub tick_asked : Option ℕ → Asked
 tick_asked None = AFault NoRequest
 tick_asked (Some moment) = if nat_lt moment (2 ^ 64) then ATick moment else AFault OutOfRange
 
+-- What is asked by a question, if it is one.
+abbrev pub question_asked : Option Question → Asked
+question_asked None = AFault NoRequest
+question_asked (Some question) = AQuestion question
+
 -- What is asked by a word alone.
 abbrev pub word_asked : List ℕ → Asked
 word_asked word =
     if bytes_eq word (codes "take") then ATake else
-    if bytes_eq word (codes "status") then AStatus else
-    if bytes_eq word (codes "trace") then ATrace else
     if bytes_eq word (codes "stop") then AStop else
     if bytes_eq word (codes "reload") then AReload else
-    AFault NoRequest
+    question_asked (question_in word)
 
 -- What is asked by a line that is not too long.
 abbrev pub short_asked : List ℕ → Asked

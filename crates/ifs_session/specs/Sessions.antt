@@ -15,9 +15,10 @@ use Rattle.ifs_session.specs.declared.fault.SessionFault.TheVariants.{ReadFailed
 use Rattle.ifs_session.specs.declared.request.RequestFault.TheVariants.{NoRequest, NoInterface}
 use Rattle.ifs_session.specs.declared.session.Summary.{Summary}
 use Rattle.ifs_session.specs.Device.{counted}
-use Rattle.ifs_session.specs.Requests.{Asked, ALink, AResult, ATick, ATake, AStatus, ATrace, AStop, AReload}
+use Rattle.ifs_session.specs.Requests.{Asked, ALink, AResult, ATick, ATake, AQuestion, AStop, AReload}
 use Rattle.ifs_session.specs.Requests.{AFault, asked}
-use Rattle.ifs_session.specs.Replies.{reply_line, status_line, trace_lines, fault_line, bye_line}
+use Rattle.ifs_session.specs.Questions.{reply_to}
+use Rattle.ifs_session.specs.Replies.{reply_line, fault_line, bye_line}
 use Rattle.ifs_session.specs.Lines.{input_lines, whole_lines}
 
 -- What a line makes: the bytes of its reply, and the state after it.
@@ -46,8 +47,7 @@ deed b image (ALink name link) s = link_deed b image link (interface_of image.in
 deed b image (AResult test run value) s = step_deed b image (Finished (record { 0 = test }) run value) s
 deed b image (ATick moment) s = step_deed b image (Tick moment) s
 deed b image ATake s = step_deed b image Take s
-deed b image AStatus s = told (status_line image s) s
-deed b image ATrace s = told (trace_lines image s.trace) s
+deed b image (AQuestion question) s = told (reply_to question image s) s
 deed b image AStop s = told bye_line s
 deed b image AReload s = told (fault_line NoRequest) s
 deed b image (AFault fault) s = told (fault_line fault) s

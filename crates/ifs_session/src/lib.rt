@@ -14,6 +14,7 @@ mod host;
 pub mod laws;
 mod lines;
 mod memory;
+mod question;
 mod queue;
 mod refusal;
 mod replies;

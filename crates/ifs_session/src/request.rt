@@ -5,8 +5,9 @@ ghost use Rattle.std.specs.List.{before_first, after_first, position};
 ghost use Rattle.ifs_base.specs.Numbers.{number_of};
 ghost use Rattle.ifs_session.specs.inner.Parsing.{told_by, result_kept};
 ghost use Rattle.ifs_session.specs.Requests.{asked, short_asked, link_asked, result_asked, result_valued, word_asked};
-ghost use Rattle.ifs_session.specs.Requests.{link_named, tick_asked};
+ghost use Rattle.ifs_session.specs.Requests.{link_named, question_asked, tick_asked};
 
+use crate::question::{Question, question_in};
 use ifs_base::{LinkState, Number, TestId, parse_number};
 use thiserror::Error;
 
@@ -22,9 +23,7 @@ pub(crate) enum Request<'a> {
     /// The first command of the queue is taken.
     Take,
     /// What the core says of itself.
-    Status,
-    /// The records of the last steps.
-    Trace,
+    Question(Question),
     /// The session ends.
     Stop,
     /// The image is read anew, which a session does not do.
@@ -83,16 +82,22 @@ fn word_request(word: &[u8]) -> Result<Request<'_>, RequestFault>
 {
     if word == b"take".as_slice() {
         Ok(Request::Take)
-    } else if word == b"status".as_slice() {
-        Ok(Request::Status)
-    } else if word == b"trace".as_slice() {
-        Ok(Request::Trace)
     } else if word == b"stop".as_slice() {
         Ok(Request::Stop)
     } else if word == b"reload".as_slice() {
         Ok(Request::Reload)
     } else {
-        Err(RequestFault::NoRequest)
+        question_request(question_in(word))
+    }
+}
+
+/// The request of a question, if it is one.
+fn question_request<'a>(question: Option<Question>) -> Result<Request<'a>, RequestFault>
+    ensures { told_by result ≡ question_asked question }
+{
+    match question {
+        Some(question) => Ok(Request::Question(question)),
+        None => Err(RequestFault::NoRequest),
     }
 }
 

@@ -21,7 +21,8 @@ use crate::fault::SessionFault;
 use crate::host::Host;
 use crate::lines::next_line;
 use crate::queue::empty_queue;
-use crate::replies::{put_fault, put_reply, put_status, put_trace};
+use crate::question::put_reply_to;
+use crate::replies::{put_fault, put_reply};
 use crate::request::{Request, RequestFault};
 use crate::session::INPUT;
 use arrayvec::ArrayVec;
@@ -446,8 +447,7 @@ fn tell<W: ByteOut>(
     ensures quiet { leave_of (told_by asked.entry) ≡ Leave.Reloads → IsOk result × (W.held writer.new ≡ W.held writer.old) }
 {
     match asked {
-        Ok(Request::Status) => put_status(writer, core),
-        Ok(Request::Trace) => put_trace(writer, core),
+        Ok(Request::Question(question)) => put_reply_to(writer, core, question),
         Ok(Request::Stop) => writer.put(b"bye\n"),
         Ok(Request::Reload) => Ok(()),
         Ok(Request::Link(..)) => put_fault(writer, RequestFault::NoInterface),

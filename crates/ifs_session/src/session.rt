@@ -12,7 +12,8 @@ ghost use Rattle.ifs_session.specs.inner.Serving.{kind_of, with_request, ServeGi
 use crate::device::{ByteIn, ByteOut, DeviceFault};
 use crate::fault::SessionFault;
 use crate::lines::{line_at_hand, next_line};
-use crate::replies::{put_fault, put_reply, put_status, put_trace};
+use crate::question::put_reply_to;
+use crate::replies::{put_fault, put_reply};
 use crate::request::{Request, RequestFault, request_of};
 use ifs_base::LinkState;
 use ifs_core::{Core, Lists, Step};
@@ -209,12 +210,8 @@ fn serve_request<W: ByteOut>(
         ),
         Request::Tick(now) => make_step(core, lists, writer, Step::Tick(now)),
         Request::Take => make_step(core, lists, writer, Step::Take),
-        Request::Status => {
-            put_status(writer, core)?;
-            Ok(LineKind::Other)
-        }
-        Request::Trace => {
-            put_trace(writer, core)?;
+        Request::Question(question) => {
+            put_reply_to(writer, core, question)?;
             Ok(LineKind::Other)
         }
         Request::Stop => {

@@ -6,7 +6,7 @@ use Rattle.ifs_base.specs.declared.numbers.Number.{Number}
 use Rattle.ifs_base.specs.declared.numbers.Number.TheVariants.{Within}
 use Rattle.ifs_session.specs.declared.request.Request.{Request}
 use Rattle.ifs_session.specs.declared.request.Request.TheVariants as requests
-use Rattle.ifs_session.specs.Requests.{Asked, ALink, AResult, ATick, ATake, AStatus, ATrace, AStop, AReload}
+use Rattle.ifs_session.specs.Requests.{Asked, ALink, AResult, ATick, ATake, AQuestion, AStop, AReload}
 use Rattle.ifs_session.specs.Requests.{AFault}
 
 -- What an answer of the parser says.
@@ -15,8 +15,7 @@ told_by (Ok (requests.Link name link)) = ALink name.now link
 told_by (Ok (requests.Result test run value)) = AResult test.0 run value
 told_by (Ok (requests.Tick moment)) = ATick moment
 told_by (Ok requests.Take) = ATake
-told_by (Ok requests.Status) = AStatus
-told_by (Ok requests.Trace) = ATrace
+told_by (Ok (requests.Question question)) = AQuestion question
 told_by (Ok requests.Stop) = AStop
 told_by (Ok requests.Reload) = AReload
 told_by (Err fault) = AFault fault
