@@ -1,4 +1,5 @@
-//! Tests of images: instructions, bytes, assembly texts, and what the verifier says of them.
+//! Tests of images and of what runs them: instructions, bytes, assembly texts, what the verifier says, handlers on the machine,
+//! schedules, and the steps of a core.
 //!
 //! They stand over the crates that they test, so that these are proved once and not again with their tests.
 #![tactic(auto)]
@@ -11,6 +12,14 @@ mod checks;
 mod images;
 #[cfg(test)]
 mod instructions;
+#[cfg(test)]
+mod largest;
+#[cfg(test)]
+mod machine;
+#[cfg(test)]
+mod schedule;
+#[cfg(test)]
+mod steps;
 #[cfg(test)]
 mod verifying;
 #[cfg(test)]

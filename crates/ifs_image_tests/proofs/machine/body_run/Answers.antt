@@ -1,6 +1,6 @@
 -- An empty queue leaves room for the always body, which is a handler.
 use Rattle.std.proofs.Common.{ap, ◌∙◌, inl, inr}
-use Rattle.ifs_core_tests.proofs.machine.body_run.Goals as goal
+use Rattle.ifs_image_tests.proofs.machine.body_run.Goals as goal
 
 pub run_handler-cost-requires-clause-room : goal.run_handler-cost-requires-clause-room
 run_handler-cost-requires-clause-room c =

@@ -1,5 +1,5 @@
 use Rattle.std.proofs.Common.{◌≡◌, length}
-use Rattle.ifs_core_tests.proofs.machine.facts_for.Given as goal
+use Rattle.ifs_image_tests.proofs.machine.facts_for.Given as goal
 
 abbrev pub invariant-loop-i : goal.invariant-loop-i
 invariant-loop-i l = length l.known_links.items ≡ l.i

@@ -1,7 +1,7 @@
 use Rattle.std.proofs.Common.{◌≡◌, All}
 use Rattle.ifs_core.specs.Machine.{KeepsBudgets}
 use Rattle.ifs_core.specs.Steps.{cost_told, commands_told}
-use Rattle.ifs_core_tests.proofs.steps.lent.replies.Given as goal
+use Rattle.ifs_image_tests.proofs.steps.lent.replies.Given as goal
 
 abbrev pub invariant-loop-step : goal.invariant-loop-step
 invariant-loop-step l = record {
