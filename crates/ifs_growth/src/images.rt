@@ -3,8 +3,8 @@
 use crate::calls::{Given, Listed};
 use crate::growths::{Code, Turn, code_of, no_memory};
 use crate::policies::{definitions, text, told, written};
-use crate::reloads::{handed_on, taken_over};
 use crate::readings::{opened, readings};
+use crate::reloads::{handed_on, taken_over};
 use ifs_asm::laws::reads_back;
 use ifs_asm::{assemble, disassemble};
 use ifs_core::{Core, OpenFault};

@@ -14,9 +14,9 @@ mod faults;
 mod growths;
 mod images;
 mod policies;
+mod readings;
 mod reloads;
 mod sessions;
-mod readings;
 mod talks;
 
 use answers::Files;

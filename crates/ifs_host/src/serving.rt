@@ -3,7 +3,7 @@
 use crate::failure::Failure;
 pub use crate::noting::Notes;
 use crate::noting::{
-    Backwards, Notebook, StandardError, Snapshot, note_changes, note_not_taken_over,
+    Backwards, Notebook, Snapshot, StandardError, note_changes, note_not_taken_over,
     note_taken_over,
 };
 use crate::patience::{Patience, PatientReader, PatientWriter, Waits};
