@@ -1,0 +1,62 @@
+//! Runs the worked cases of `data/` over the libraries. `data/README.md` describes the files, and says what holds of each case.
+//!
+//! A line is printed for each file, with the number of its cases, and before it one for each case that fails: then the exit
+//! status is 1.
+#![tactic(auto)]
+
+mod cases;
+mod changes;
+mod comparing;
+mod escapes;
+mod given;
+mod images;
+mod policies;
+mod repeating;
+mod rules;
+mod running;
+mod sessions;
+
+use anyhow::{Result, ensure};
+use running::Tally;
+use std::fs;
+use std::rt::Files;
+
+/// The files, in the order in which they are run.
+const FILES: [&str; 12] = [
+    "policies.txt",
+    "refused_policies.txt",
+    "compiled_policies.txt",
+    "shared_conditions.txt",
+    "limits_of_policies.txt",
+    "pictures.txt",
+    "sessions.txt",
+    "version_two.txt",
+    "refused_images.txt",
+    "assembly.txt",
+    "limits_of_images.txt",
+    "order_of_checks.txt",
+];
+
+fn main(rt: HostRuntime) -> Result<()> {
+    let total = run(&rt)?;
+    ensure!(total.failed == 0, "{} cases failed", total.failed);
+    Ok(())
+}
+
+/// Runs all files.
+fn run<R: Files + Print + AllocGlobal>(rt: &R) -> Result<Tally> {
+    let mut total = Tally::default();
+    for file in FILES {
+        total = total.and(run_file(rt, file)?);
+    }
+    println!(rt; "all: {} cases", total.cases)?;
+    Ok(total)
+}
+
+/// Runs the cases of a file.
+fn run_file<R: Files + Print + AllocGlobal>(rt: &R, file: &str) -> Result<Tally> {
+    let text = fs::read_to_string(rt, file)?;
+    let tally = running::run_cases(rt, file, text.as_str())?;
+    println!(rt; "{file}: {} cases", tally.cases)?;
+    Ok(tally)
+}
