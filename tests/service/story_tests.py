@@ -1,4 +1,4 @@
-"""What explain tells of a daemon. Parts of tools/run_service_tests."""
+"""What explain tells of a daemon. Parts of tests/service/run_service_tests."""
 import os
 import subprocess
 
