@@ -1,13 +1,13 @@
--- Refusals that no fault of another crate has: of bytes that are no text, and for want of memory.
+-- Refusals that no fault of another crate has: of bytes that are no text, and of a failed allocation.
 use Rattle.std.specs.Prelude.{ℕ, List, ◌++◌, codes, decimal}
 use Rattle.ifs_answer.specs.declared.task.Task.{Task}
 use Rattle.ifs_answer.specs.declared.task.Task.TheVariants.{Check, Compile, Verify, Disasm, Asm, Upgrade, Graph}
 
--- Why a text that is none is no policy: of a byte of this line.
+-- The refusal of bytes that are no UTF-8 by `check`, `compile` and `graph`: the first such byte is in this line.
 abbrev pub no_text_words : ℕ → List ℕ
 no_text_words line = codes "P1 line " ++ decimal line
 
--- Want of memory, of each task.
+-- The refusal of each task if an allocation fails.
 abbrev pub memory_words : Task → List ℕ
 memory_words Check = codes "P0"
 memory_words Compile = codes "P0"

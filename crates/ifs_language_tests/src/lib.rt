@@ -1,5 +1,5 @@
-//! Tests of the language and of the answers: tokens, trees and policies of texts, the first fault of those that have none, and what
-//! the program prints for words on files.
+//! Tests of the language and of the answers: tokens, trees and policies of texts, the first fault of texts that have none, and
+//! what the program prints for words on files.
 //!
 //! They stand over the crates that they test, so that these are proved once and not again with their tests.
 #![tactic(auto)]
