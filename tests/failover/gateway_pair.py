@@ -11,6 +11,8 @@ import tempfile
 import threading
 import time
 
+from waiting import wait_for
+
 SHARED = "10.77.0.10"
 PROVIDER = "10.78.0.254"
 PORT = 7007
@@ -121,12 +123,7 @@ def pause(seconds):
 
 
 def until(what, limit, found):
-    end = time.monotonic() + limit
-    while time.monotonic() < end:
-        if found():
-            return
-        pause(0.02)
-    raise Failed(f"{what}: not within {limit} seconds")
+    wait_for(what, found, limit, Failed, pause)
 
 
 class Gateway:

@@ -32,3 +32,8 @@ OPERANDS = {row.name for row in INSTRUCTIONS if row.table}
 TABLES = {row.name: row.table for row in INSTRUCTIONS if row.table not in (None, "places")}
 TAKES = {row.name: row.takes for row in INSTRUCTIONS if row.takes}
 GIVES = {row.name: row.gives for row in INSTRUCTIONS if row.gives}
+
+
+def op(name, operand=0, link=0):
+    """The four bytes of an instruction."""
+    return bytes((CODES[name], link)) + operand.to_bytes(2, "big")

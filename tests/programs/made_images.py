@@ -1,14 +1,9 @@
 """Makes images, as docs/IMAGE.md says: some by hand, a case or more for each check, and some by chance from a seed."""
 from image_reader import COMMANDS, COST, FRAMES, KINDS, STACK, Image, Refused, check_stacks, find_bounds, greatest_event
-from instructions import CODES, NAMES
+from instructions import CODES, NAMES, op
 
 RET = ("ret",)
 QUEUES = ([("queue",)], [("queue",)], [("dup",), ("queue",), ("queue",)])
-
-
-def op(name, operand=0, link=0):
-    """The four bytes of an instruction."""
-    return bytes((CODES[name], link)) + operand.to_bytes(2, "big")
 
 
 def text(value):

@@ -7,7 +7,8 @@ import socket
 import subprocess
 import tempfile
 import threading
-import time
+
+from waiting import wait_for
 
 # how long anything may take that is to come soon
 SOON = 10
@@ -31,13 +32,7 @@ def holds(what, found):
 
 def until(what, found):
     """Waits until something is found, and gives it."""
-    end = time.monotonic() + SOON
-    while time.monotonic() < end:
-        it = found()
-        if it:
-            return it
-        time.sleep(0.02)
-    raise Differs(f"{what}: not within {SOON} seconds")
+    return wait_for(what, found, SOON, Differs)
 
 
 def quoted(commands, before, after):

@@ -2,10 +2,10 @@
 import itertools
 import struct
 
-from instructions import CODES
+from instructions import op
 
 RET, TRUE, LINK, TEST, KNOWN, NOT, AND, OR, CMD, STATE, QUEUE, WANT, JUMP, JF, JT, CALL, POP = (
-    CODES[name] for name in "ret true link test known not and or cmd state queue want jump jf jt call pop".split())
+    "ret true link test known not and or cmd state queue want jump jf jt call pop".split())
 DOWN, UP = 1, 2
 MOST_BYTES = 1_048_576
 MOST_BLOCKS = 256
@@ -20,10 +20,6 @@ DENSE = [8 + 5 * turn % 13 for turn in range(13)]
 SPARSE = [100, 200, 150]
 BLOCK = 4_096
 COMMENT = "# the gateway that holds the address answers, and the other one waits until its peer is gone\n"
-
-
-def op(code, operand=0, link=0):
-    return struct.pack(">BBH", code, link, operand)
 
 
 def text(words):
