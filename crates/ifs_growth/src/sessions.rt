@@ -8,7 +8,7 @@ use crate::readings::{opened, readings};
 use crate::talks::{REQUESTS, SERVED, is_cut_session, served_as_told};
 use arrayvec::ArrayVec;
 use ifs_core::Core;
-use ifs_rows::sessions;
+use ifs_rows::images::FIRST_RUN;
 use ifs_session::{
     ByteOut, DeviceFault, End, MemoryIn, MemoryOut, RunFault, ScriptHost, Served, SessionFault,
     Summary, run_hex, serve_one, simulate,
@@ -64,7 +64,7 @@ pub struct Sessions {
 impl Sessions {
     /// The input of a session on the image of these bytes, and the image of the first run.
     pub fn new(alloc: Global, bytes: &[u8]) -> Result<Self, Code> {
-        let image = ifs_rows::bytes_of(alloc, sessions::first_run().image).map_err(code_of)?;
+        let image = ifs_rows::bytes_of(alloc, FIRST_RUN).map_err(code_of)?;
         let input = input_of(alloc, bytes).map_err(no_memory)?;
         Ok(Sessions { input, image })
     }

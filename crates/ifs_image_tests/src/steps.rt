@@ -1,9 +1,9 @@
-//! The worked rows: each request that is a step is made on a core, and its reply told as the row has it.
+//! Steps on a core, as values, and what its readers return.
 
 use crate::checks::{holds, holds_in, same, same_in};
 use ifs_base::{CommandId, IfaceId, LinkState, StateId, TestId};
 use ifs_core::{Answer, Core, Record, Reply, Step};
-use ifs_rows::{Row, bytes_of, images, rows};
+use ifs_rows::{Row, bytes_of, images};
 use ifs_sched::Start;
 use ifs_verify::verify;
 use std::alloc::{AllocError, Global};
@@ -181,16 +181,6 @@ fn check_row(
             Some(told) => same_in(rt, row.name, told.as_str(), wanted),
             None => holds_in(rt, row.name, is_sessions_own(wanted)),
         }
-    }
-    Ok(())
-}
-
-#[test]
-fn worked_rows(rt: HostRuntime) -> Result<(), Fail> {
-    for row in rows() {
-        let image = bytes_in(&rt, rt.alloc(), row.image);
-        let mut core = opened(&rt, rt.alloc(), image.as_slice());
-        check_row(&rt, rt.alloc(), &mut core, &row)?;
     }
     Ok(())
 }

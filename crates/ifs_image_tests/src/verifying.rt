@@ -1,59 +1,34 @@
-//! Images written by hand, what the verifier says of them, and where.
+//! What the verifier says of images, and the texts of its faults.
 
-use crate::checks::{same, same_in};
-use ifs_asm::assemble;
-use ifs_image::write;
-use ifs_rows::largest_listing;
-use ifs_verify::verify;
-use std::alloc::Global;
+use crate::checks::{holds, same};
+use crate::largest::bytes_in;
+use ifs_rows::{bytes_of, images, largest_listing};
+use ifs_verify::{Verified, verify};
 use std::process::Abort;
 use std::test::Fail;
 
-mod accepted;
-mod draft;
-mod order;
-mod rows;
 mod texts;
 
-/// A name, an image as [`draft::image`] reads it, and what the verifier says of it: `ok`, or the text
-/// of the fault.
-type Row = (&'static str, &'static str, &'static str);
-
-/// What the verifier says of the bytes of an image.
-fn told(alloc: Global, bytes: &[u8]) -> Result<String, Fail> {
-    let said = match verify(alloc, bytes) {
-        Ok(_) => String::from_str(alloc, "ok")?,
-        Err(fault) => fault.to_string(alloc)?,
-    };
-    Ok(said)
-}
-
-/// Each row's image is told what the row says.
-fn agree(rt: &impl Abort, alloc: Global, rows: &[Row]) -> Result<(), Fail> {
-    for (name, image, wanted) in rows {
-        let bytes = draft::image(alloc, image)?;
-        let said = told(alloc, bytes.as_slice())?;
-        same_in(rt, name, said.as_str(), *wanted);
-    }
-    Ok(())
-}
-
-/// The bytes of the image that a text spells.
-fn bytes_in(alloc: Global, text: &str) -> Result<Vec<u8>, Fail> {
-    let image = assemble(alloc, text)?;
-    Ok(write(alloc, &image)?)
-}
-
-fn check_accepted(rt: &impl Abort, alloc: Global, text: &str) -> Result<(), Fail> {
-    let bytes = bytes_in(alloc, text)?;
-    let said = told(alloc, bytes.as_slice())?;
-    same(rt, said.as_str(), "ok");
-    Ok(())
-}
-
-/// Nothing but memory is in the way of the largest image.
+/// Only an allocation can fail for the largest image.
 #[test]
 fn accepts_the_largest_image(rt: HostRuntime) -> Result<(), Fail> {
     let text = largest_listing(rt.alloc())?;
-    check_accepted(&rt, rt.alloc(), text.as_str())
+    let bytes = bytes_in(rt.alloc(), text.as_str())?;
+    holds(&rt, verify(rt.alloc(), bytes.as_slice()).is_ok());
+    Ok(())
+}
+
+fn check_borrowed(rt: &impl Abort, verified: &Verified<'_>) {
+    let image = verified.image();
+    same(rt, image.budgets(), verified.budgets());
+    same(rt, image.routines(), 2);
+}
+
+/// The image is borrowed whole.
+#[test]
+fn borrows_the_image(rt: HostRuntime) -> Result<(), Fail> {
+    let bytes = bytes_of(rt.alloc(), images::FIRST_RUN)?;
+    let verified = verify(rt.alloc(), bytes.as_slice())?;
+    check_borrowed(&rt, &verified);
+    Ok(())
 }

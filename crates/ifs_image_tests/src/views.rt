@@ -2,8 +2,8 @@
 
 use crate::checks::same;
 use ifs_base::{CommandId, IfaceId, Kind, LinkState, Op, RoutineId, StateId};
-use ifs_image::{Budgets, Handlers, Image, ImageView, read, view};
-use ifs_rows::{bytes_of, rows, version_two};
+use ifs_image::{Budgets, Handlers, ImageView, view};
+use ifs_rows::{bytes_of, images};
 use std::alloc::Global;
 use std::process::Abort;
 use std::test::Fail;
@@ -127,7 +127,7 @@ fn check_kinds(
 
 #[test]
 fn each_kind(rt: HostRuntime) -> Result<(), Fail> {
-    let bytes = bytes_of(rt.alloc(), version_two::call_in_a_call().image)?;
+    let bytes = bytes_of(rt.alloc(), images::CALL_IN_A_CALL)?;
     let image = view(rt.alloc(), bytes.as_slice())?;
     check_each_kind(&rt, &image)
 }
@@ -162,56 +162,6 @@ fn check_code(
             same(rt, image.op(routine, place), *op);
             same(rt, code.again().op(place), *op);
         }
-    }
-    Ok(())
-}
-
-/// A view tells what a copy of its bytes does.
-fn check_seen(rt: &impl Abort, alloc: Global, bytes: &[u8]) -> Result<(), Fail> {
-    let seen = view(alloc, bytes)?;
-    check_copied(rt, alloc, bytes, &seen)
-}
-
-fn check_copied(
-    rt: &impl Abort,
-    alloc: Global,
-    bytes: &[u8],
-    seen: &ImageView<'_>,
-) -> Result<(), Fail> {
-    let copied = read(alloc, bytes)?;
-    check_same(rt, seen, &copied)
-}
-
-/// A view of each row tells what a copy of it does.
-#[test]
-fn every_row_seen(rt: HostRuntime) -> Result<(), Fail> {
-    for row in rows() {
-        let bytes = bytes_of(rt.alloc(), row.image)?;
-        check_seen(&rt, rt.alloc(), bytes.as_slice())?;
-    }
-    Ok(())
-}
-
-fn check_same(rt: &impl Abort, seen: &ImageView<'_>, copied: &Image) -> Result<(), Fail> {
-    let parts = copied.parts();
-    same(rt, seen.version(), parts.version);
-    same(rt, seen.budgets(), parts.budgets);
-    same(rt, seen.states(), parts.states.len());
-    for (index, state) in parts.states.as_slice().iter().enumerate() {
-        if index < seen.states() {
-            same(rt, seen.state_name(index), state.name.as_str());
-        }
-    }
-    same(rt, seen.routines(), parts.routines.len());
-    for (index, routine) in parts.routines.as_slice().iter().enumerate() {
-        check_kinds(
-            rt,
-            seen,
-            index,
-            routine.params.as_slice(),
-            routine.results.as_slice(),
-        )?;
-        check_code(rt, seen, index, routine.code.as_slice())?;
     }
     Ok(())
 }

@@ -1,27 +1,19 @@
-//! Tests of the language and of the answers: tokens, trees and policies of texts, the first fault of texts that have none, and
-//! what the program prints for words on files.
+//! Tests of the language: tokens, trees and policies of texts, the largest text, and the stories of `ifs_answer`.
 //!
-//! They stand over the crates that they test, so that these are proved once and not again with their tests.
+//! The worked cases of `vectors/` show what the program prints. These tests show what a text cannot say. They are in a crate above the
+//! libraries, so that these are proved once and not again with their tests.
 #![tactic(auto)]
 
-#[cfg(test)]
-mod answers;
-#[cfg(test)]
-mod assembly;
 #[cfg(test)]
 mod checks;
 #[cfg(test)]
 mod compiling;
 #[cfg(test)]
-mod graphs;
+mod definitions;
 #[cfg(test)]
 mod largest;
 #[cfg(test)]
-mod largest_answers;
-#[cfg(test)]
 mod policies;
-#[cfg(test)]
-mod sharing;
 #[cfg(test)]
 mod stories;
 #[cfg(test)]

@@ -5,7 +5,6 @@ use ifs_base::{CommandId, IfaceId, LinkState, StateId, TestId, Text};
 use ifs_lex::tokens;
 use ifs_parse::{Condition, Node, Statement, parse};
 use ifs_policy::{Counts, Policy, PolicyBlock, ResolveFault, Single, resolve};
-use ifs_rows::policies::{accepted, refused_names};
 use std::alloc::{AllocError, Global};
 use std::process::Abort;
 use std::test::Fail;
@@ -45,35 +44,6 @@ pub(crate) fn counted(
         Ok(policy) => Ok(policy.counts()),
         Err(fault) => Err(*fault),
     })
-}
-
-/// The line that is printed last of a text: its counts, or its refusal.
-fn last_line(alloc: Global, text: &str, defs: &[(&str, &str)]) -> Result<String, Fail> {
-    Ok(match counted(alloc, text, defs)? {
-        Ok(counts) => format!(in alloc;
-            "ok {} interfaces {} tests {} commands {} states\n",
-            counts.interfaces, counts.tests, counts.commands, counts.states
-        )?,
-        Err(fault) => format!(in alloc; "refused {fault}\n")?,
-    })
-}
-
-#[test]
-fn counts_of_policies(rt: HostRuntime) -> Result<(), Fail> {
-    for row in accepted() {
-        let line = last_line(rt.alloc(), row.policy, row.definitions)?;
-        holds_in(&rt, row.name, row.answer.ends_with(line.as_str()));
-    }
-    Ok(())
-}
-
-#[test]
-fn refusals(rt: HostRuntime) -> Result<(), Fail> {
-    for row in refused_names() {
-        let line = last_line(rt.alloc(), row.policy, row.definitions)?;
-        same_in(&rt, row.name, line.as_str(), row.answer);
-    }
-    Ok(())
 }
 
 /// The policy that a text is expected to have.
@@ -233,19 +203,12 @@ fn write_condition(line: &mut String, condition: &Condition<Single>) -> Result<(
             line.push_str("not ")?;
             write_condition(line, operand)?;
         }
-        Node::All(first, second, rest) => {
-            line.push_str("all(")?;
-            write_condition(line, first)?;
-            line.push_str(", ")?;
-            write_condition(line, second)?;
-            for operand in rest {
-                line.push_str(", ")?;
-                write_condition(line, operand)?;
-            }
-            line.push_str(")")?;
-        }
-        Node::Any(first, second, rest) => {
-            line.push_str("any(")?;
+        Node::All(first, second, rest) | Node::Any(first, second, rest) => {
+            line.push_str(if matches!(condition.node(), Node::All(..)) {
+                "all("
+            } else {
+                "any("
+            })?;
             write_condition(line, first)?;
             line.push_str(", ")?;
             write_condition(line, second)?;
@@ -292,145 +255,4 @@ fn conditions_by_places(rt: HostRuntime) -> Result<(), Fail> {
     said_of(rt.alloc(), text, &[], |found| {
         check_conditions(&rt, rt.alloc(), policy_in(&rt, found));
     })
-}
-
-/// A text with so many parts, each a number between two pieces, and then another piece.
-fn repeated(
-    alloc: Global,
-    count: u32,
-    before: &str,
-    after: &str,
-    last: &str,
-) -> Result<String, AllocError> {
-    let mut text = String::new(alloc);
-    for number in 0..count {
-        write!(text, "{before}{number}{after}")?;
-    }
-    text.push_str(last)?;
-    Ok(text)
-}
-
-/// Asserts which line is printed last of a text.
-fn check_last(
-    rt: &impl Abort,
-    alloc: Global,
-    name: &str,
-    text: &str,
-    wanted: &str,
-) -> Result<(), Fail> {
-    let line = last_line(alloc, text, &[])?;
-    same_in(rt, name, line.as_str(), wanted);
-    Ok(())
-}
-
-/// A table's limit, a text that fills it, in pieces, and the line of its counts.
-const FULL: [(&str, &str, u16, &str, &str); 4] = [
-    (
-        "if x",
-        ".link.up { }\n",
-        64,
-        "state a { }",
-        "ok 64 interfaces 0 tests 0 commands 1 states\n",
-    ),
-    (
-        "if \"t\" every 1",
-        " { }\n",
-        64,
-        "state a { }",
-        "ok 0 interfaces 64 tests 0 commands 1 states\n",
-    ),
-    (
-        "run c",
-        "\n",
-        1_024,
-        "state a { }",
-        "ok 0 interfaces 0 tests 1024 commands 1 states\n",
-    ),
-    (
-        "state s",
-        " { }\n",
-        256,
-        "",
-        "ok 0 interfaces 0 tests 0 commands 256 states\n",
-    ),
-];
-
-#[test]
-fn tables_are_filled(rt: HostRuntime) -> Result<(), Fail> {
-    for (before, after, limit, last, counts) in FULL {
-        let full = repeated(rt.alloc(), u32::from(limit), before, after, last)?;
-        check_last(&rt, rt.alloc(), before, full.as_str(), counts)?;
-    }
-    Ok(())
-}
-
-/// A text that fills each table.
-fn all_filled(alloc: Global) -> Result<String, AllocError> {
-    let mut text = String::new(alloc);
-    for (before, after, limit, _, _) in FULL {
-        let part = repeated(alloc, u32::from(limit), before, after, "")?;
-        text.push_str(part.as_str())?;
-    }
-    Ok(text)
-}
-
-#[test]
-fn all_tables_are_filled_at_once(rt: HostRuntime) -> Result<(), Fail> {
-    let text = all_filled(rt.alloc())?;
-    let counts = "ok 64 interfaces 64 tests 1024 commands 256 states\n";
-    check_last(&rt, rt.alloc(), "each table", text.as_str(), counts)
-}
-
-#[test]
-fn one_more_is_told_at_its_line(rt: HostRuntime) -> Result<(), Fail> {
-    for (before, after, limit, last, _) in FULL {
-        let count = u32::from(limit) + 1;
-        let over = repeated(rt.alloc(), count, before, after, last)?;
-        let wanted = format!(in rt.alloc(); "refused P15 line {count}\n")?;
-        check_last(&rt, rt.alloc(), before, over.as_str(), wanted.as_str())?;
-    }
-    Ok(())
-}
-
-/// What stands after a full table of 256 states, and the fault: of two at one string the lower number.
-const PAST_FULL: [(&str, &str); 4] = [
-    ("state s0 { }", "refused P10 line 257\n"),
-    ("state \"\" { }", "refused P15 line 257\n"),
-    ("state s { }", "refused P15 line 257\n"),
-    ("run s", "ok 0 interfaces 0 tests 1 commands 256 states\n"),
-];
-
-#[test]
-fn faults_past_a_full_table(rt: HostRuntime) -> Result<(), Fail> {
-    for (last, wanted) in PAST_FULL {
-        let text = repeated(rt.alloc(), 256, "state s", " { }\n", last)?;
-        check_last(&rt, rt.alloc(), last, text.as_str(), wanted)?;
-    }
-    Ok(())
-}
-
-/// A policy that runs a command of so many bytes.
-fn long_command(alloc: Global, length: u32) -> Result<String, AllocError> {
-    let mut text = String::from_str(alloc, "state a { } run ")?;
-    for _byte in 0..length {
-        text.push_str("x")?;
-    }
-    Ok(text)
-}
-
-#[test]
-fn lengths_of_texts(rt: HostRuntime) -> Result<(), Fail> {
-    for (name, length, wanted) in [
-        ("one", 1, "ok 0 interfaces 0 tests 1 commands 1 states\n"),
-        (
-            "1,024",
-            1_024,
-            "ok 0 interfaces 0 tests 1 commands 1 states\n",
-        ),
-        ("1,025", 1_025, "refused P16 line 1\n"),
-    ] {
-        let text = long_command(rt.alloc(), length)?;
-        check_last(&rt, rt.alloc(), name, text.as_str(), wanted)?;
-    }
-    Ok(())
 }

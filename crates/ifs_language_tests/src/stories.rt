@@ -68,9 +68,13 @@ fn check(
     Ok(())
 }
 
+fn check_steps(rt: &impl Abort, alloc: Global, reply: &str, wanted: &str) -> Result<(), Fail> {
+    check(rt, alloc, reply, Explained::Steps, wanted)
+}
+
 #[test]
 fn steps(rt: HostRuntime) -> Result<(), Fail> {
-    check(&rt, rt.alloc(), REPLY, Explained::Steps, STEPS)
+    check_steps(&rt, rt.alloc(), REPLY, STEPS)
 }
 
 #[test]
@@ -90,13 +94,7 @@ fn first_step(rt: HostRuntime) -> Result<(), Fail> {
         reply.push_str("take -> taken \"master\" cost 0 queue 0\n")?;
         wanted.push_str("  at - take -> taken \"master\" cost 0 queue 0\n")?;
     }
-    check(
-        &rt,
-        rt.alloc(),
-        reply.as_str(),
-        Explained::Steps,
-        wanted.as_str(),
-    )?;
+    check_steps(&rt, rt.alloc(), reply.as_str(), wanted.as_str())?;
     reply.push_str("take -> taken \"backup\" cost 0 queue 0\n")?;
     wanted.push_str("* at - take -> taken \"master\" => \"backup\" cost 0 queue 0\n")?;
     let forgotten = wanted
@@ -104,11 +102,5 @@ fn first_step(rt: HostRuntime) -> Result<(), Fail> {
         .strip_prefix("* at - link \"a \\\"b\" up -> done \"backup\" => ")
         .unwrap_or_default();
     let wanted = format!(in rt.alloc(); "  at - link \"a \\\"b\" up -> done {forgotten}")?;
-    check(
-        &rt,
-        rt.alloc(),
-        reply.as_str(),
-        Explained::Steps,
-        wanted.as_str(),
-    )
+    check_steps(&rt, rt.alloc(), reply.as_str(), wanted.as_str())
 }

@@ -7,8 +7,6 @@ use ifs_parse::{
     Action, Actions, Condition, Item, Name, Node, ParseFault, Part, Statement, Test, Tree, Wish,
     parse,
 };
-use ifs_rows::Checked;
-use ifs_rows::policies::{accepted, refused_names, refused_tokens};
 use std::alloc::{AllocError, Global};
 use std::process::Abort;
 use std::test::Fail;
@@ -33,28 +31,26 @@ fn show_condition(out: &mut String, c: &Condition<Test>) -> Result<(), AllocErro
             out.push_str("!")?;
             show_condition(out, inner)
         }
-        Node::All(first, second, rest) => {
+        Node::All(first, second, rest) | Node::Any(first, second, rest) => {
+            let sign = sign_of(c);
             out.push_str("(")?;
             show_condition(out, first)?;
-            out.push_str(" & ")?;
+            out.push_str(sign)?;
             show_condition(out, second)?;
             for next in rest {
-                out.push_str(" & ")?;
+                out.push_str(sign)?;
                 show_condition(out, next)?;
             }
             out.push_str(")")
         }
-        Node::Any(first, second, rest) => {
-            out.push_str("(")?;
-            show_condition(out, first)?;
-            out.push_str(" | ")?;
-            show_condition(out, second)?;
-            for next in rest {
-                out.push_str(" | ")?;
-                show_condition(out, next)?;
-            }
-            out.push_str(")")
-        }
+    }
+}
+
+/// The sign between the operands of a chain.
+fn sign_of(chain: &Condition<Test>) -> &'static str {
+    match chain.node() {
+        Node::All(..) => " & ",
+        _ => " | ",
     }
 }
 
@@ -278,26 +274,6 @@ const PLACES: [(&str, &str, &str); 11] = [
     ),
 ];
 
-/// Those that no row of a whole policy has.
-const REFUSED: [(&str, &str, &str); 8] = [
-    ("nothing to run", "run\nif", "P6 line 2"),
-    ("dangling and", "if a.link.up &&\nrun x", "P6 line 2"),
-    (
-        "dangling or",
-        "if a.link.up || b.link.up ||\nrun x",
-        "P6 line 2",
-    ),
-    ("dangling bang", "if !\nrun x", "P6 line 2"),
-    ("parenthesis too many", "if a.link.up\n) run x", "P6 line 2"),
-    (
-        "init-state in a state",
-        "state a {\ninit-state a }",
-        "P6 line 2",
-    ),
-    ("equals", "run x\n= y", "P6 line 2"),
-    ("a word alone", "run x\ny", "P6 line 2"),
-];
-
 #[test]
 fn conditions_bind_by_rule(rt: HostRuntime) -> Result<(), Fail> {
     check_rows(&rt, rt.alloc(), &BINDING)
@@ -306,58 +282,6 @@ fn conditions_bind_by_rule(rt: HostRuntime) -> Result<(), Fail> {
 #[test]
 fn parts_stand_in_their_places(rt: HostRuntime) -> Result<(), Fail> {
     check_rows(&rt, rt.alloc(), &PLACES)
-}
-
-#[test]
-fn refused_texts_name_the_first_fault(rt: HostRuntime) -> Result<(), Fail> {
-    check_rows(&rt, rt.alloc(), &REFUSED)
-}
-
-/// How what is printed of a tree begins: the lines of its notes.
-fn note_lines(alloc: Global, tree: &Tree) -> Result<String, Fail> {
-    let mut lines = String::new(alloc);
-    for note in tree.notes() {
-        let shown = format!(in alloc; "note line {note}: || and && without parentheses\n")?;
-        lines.push_str(shown.as_str())?;
-    }
-    lines.push_str("ok ")?;
-    Ok(lines)
-}
-
-/// How what is printed of a row's text begins.
-fn answer(alloc: Global, row: &Checked) -> Result<String, Fail> {
-    match parsed(alloc, row.policy, row.definitions)? {
-        Ok(tree) => note_lines(alloc, &tree),
-        Err(fault) => Ok(format!(in alloc; "refused {fault}\n")?),
-    }
-}
-
-fn check_answers(rt: &impl Abort, alloc: Global, rows: &[Checked]) -> Result<(), Fail> {
-    for row in rows {
-        let line = answer(alloc, row)?;
-        holds_in(rt, row.name, row.answer.starts_with(line.as_str()));
-    }
-    Ok(())
-}
-
-#[test]
-fn rows_are_refused_with_their_lines(rt: HostRuntime) -> Result<(), Fail> {
-    check_answers(&rt, rt.alloc(), refused_tokens())
-}
-
-#[test]
-fn rows_have_trees_with_their_notes(rt: HostRuntime) -> Result<(), Fail> {
-    check_answers(&rt, rt.alloc(), accepted())
-}
-
-/// What names have at fault is not told of a tree.
-#[test]
-fn rows_of_names_have_trees(rt: HostRuntime) -> Result<(), Fail> {
-    for row in refused_names() {
-        let has_tree = parsed(rt.alloc(), row.policy, row.definitions)?.is_ok();
-        holds_in(&rt, row.name, has_tree);
-    }
-    Ok(())
 }
 
 fn repeat(out: &mut String, part: &str, times: u32) -> Result<(), AllocError> {

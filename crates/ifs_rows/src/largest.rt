@@ -68,30 +68,28 @@ fn put_routine(listing: &mut String) -> Result<(), AllocError> {
     listing.push_str("ret\n")
 }
 
-/// The lines of the smallest image before its state, and from it on.
-const SMALLEST: (&str, &str) = (
-    "ifsv 1
-stack 0
+/// The lines of the smallest image after its version and before its state, and then its state and, in version 1, its routine.
+pub const SMALLEST: (&str, &str, &str) = (
+    "stack 0
 frames 1
 cost 3
 commands 0
 start 0
 always init 0 body 0 tests -
 ",
-    "state \"a\" init 0 body 0 tests -
-routine results 0
-ret
-",
+    "state \"a\" init 0 body 0 tests -\n",
+    "routine results 0\nret\n",
 );
 
 /// The text of an image that is accepted and has 65,536 bytes, the most that a line of digits may spell.
 pub fn longest_line_listing(alloc: Global) -> Result<String, AllocError> {
-    let mut listing = String::from_str(alloc, SMALLEST.0)?;
+    let mut listing = format!(in alloc; "ifsv 1\n{}", SMALLEST.0)?;
     let fill = repeated(alloc, "x", 1_019)?;
     put_table(&mut listing, ("command", ""), fill.as_str(), 63)?;
     let fill = repeated(alloc, "x", 830)?;
     put_table(&mut listing, ("command", ""), fill.as_str(), 1)?;
     listing.push_str(SMALLEST.1)?;
+    listing.push_str(SMALLEST.2)?;
     Ok(listing)
 }
 

@@ -1,16 +1,22 @@
-//! Images that take over from the core of another.
+//! Reloads: an image with a session, and the image that follows it with another session.
 
-use crate::Row;
-use crate::sessions::{first_policy, macros};
+use crate::{Row, images};
 
-/// An image with a session, and one that takes over after it, with the session that follows.
+/// A session on an image, and then a session on the image that a reload reads.
 #[derive(Clone, Copy, Debug)]
 pub struct Reload {
-    /// The image before, and what is asked of its core.
+    /// The image before the reload.
     pub before: Row,
-    /// The image that takes over, and what is asked then.
+    /// The image after it.
     pub after: Row,
 }
+
+/// The policy that compiles to [`images::FIRST_POLICY`].
+pub const FIRST_POLICY: &str = "state a { if carp0.link.up run \"echo m\" }";
+
+/// A test by a macro by another one.
+const MACROS: &str =
+    "net = '( \"ping -q -c 1 host\" every 10 )'\nbad = '! $net'\nstate a { if $bad run \"echo d\" }";
 
 /// A policy whose init looks at a link.
 const LOOKS_AT_OPENING: &str = "state x { init if carp0.link.up run \"echo n\" }";
@@ -37,11 +43,12 @@ pub fn with_a_command() -> Row {
                    status\n",
         replies: "done \"a\" cost 6 queue 0\n\
                   status \"a\" owed no queue 1 running 0 now 0\n",
-        ..first_policy()
+        policy: Some(FIRST_POLICY),
+        image: images::FIRST_POLICY,
     }
 }
 
-/// The same link, to whose image another one comes that looks at it.
+/// The same link, and then an image whose `init` asks for it.
 pub fn first_policy_reloaded() -> Reload {
     Reload {
         before: Row {
@@ -50,13 +57,13 @@ pub fn first_policy_reloaded() -> Reload {
                        take\n",
             replies: "done \"a\" cost 6 queue 0\n\
                       taken 0 \"echo m\"\n",
-            ..first_policy()
+            policy: Some(FIRST_POLICY),
+        image: images::FIRST_POLICY,
         },
         after: Row {
             name: "first policy reloaded",
             policy: Some(LOOKS_AT_OPENING),
             image: LOOKING_AT_OPENING,
-            answer: "ok stack 1 frames 1 cost 7 commands 1\n",
             requests: "status\n\
                        trace\n\
                        link carp0 up\n\
@@ -71,14 +78,15 @@ pub fn first_policy_reloaded() -> Reload {
     }
 }
 
-/// A test that runs while the same image comes again.
+/// A test that runs while the same image is read again.
 pub fn macros_reloaded() -> Reload {
     Reload {
         before: Row {
             name: "before the reload of macros",
             requests: "tick 0\n",
             replies: "tick \"a\" cost 4 queue - starts 0:1\n",
-            ..macros()
+            policy: Some(MACROS),
+            image: images::MACROS,
         },
         after: Row {
             name: "macros reloaded",
@@ -92,7 +100,8 @@ pub fn macros_reloaded() -> Reload {
                       tick \"a\" cost 4 queue - starts 0:2\n\
                       stale\n\
                       done \"a\" cost 9 queue 0\n",
-            ..macros()
+            policy: Some(MACROS),
+            image: images::MACROS,
         },
     }
 }
@@ -102,22 +111,22 @@ pub fn reloads() -> [Reload; 2] {
     [first_policy_reloaded(), macros_reloaded()]
 }
 
-/// A policy, an image of which another policy's takes over from, and what follows.
+/// A policy, requests on its image, and another policy whose image a reload reads.
 #[derive(Clone, Copy, Debug)]
 pub struct Others {
-    /// The policy before.
+    /// The policy before the reload.
     pub before: &'static str,
-    /// What is asked of its core, by which no command is queued.
+    /// Requests that queue no command.
     pub requests: &'static str,
-    /// The policy that takes over.
+    /// The policy after it.
     pub after: &'static str,
-    /// What is asked then.
+    /// Requests after the reload.
     pub requests_after: &'static str,
-    /// What is replied.
+    /// Their replies.
     pub replies_after: &'static str,
 }
 
-/// A policy that looks at its opening at links that the one before has under other numbers, has not, or does not know.
+/// The second policy asks at its opening for links that the first one has under other numbers, does not have, or does not know.
 pub fn other_interfaces() -> Others {
     Others {
         before: "state a {

@@ -130,6 +130,22 @@ type Started = (u16, u64, &'static str);
 /// A host over programs that only seem to run, whose notes are kept.
 type Staged<'a> = Shell<'a, Stage, Memory>;
 
+/// Plays something on a host over programs that only seem to run, and returns its notes.
+fn notes_of<F: FnOnce(&mut Staged<'_>, &Stage)>(
+    alloc: Global,
+    limits: Limits,
+    play: F,
+) -> Result<Lines, Fail>
+    requires { F.IsAlwaysCallable play }
+{
+    let stage = Stage::new(alloc);
+    let notes = Memory::new(alloc);
+    let mut host = Shell::new(&stage, &notes, limits)?;
+    play(&mut host, &stage);
+    drop(host);
+    Ok(notes.into_lines())
+}
+
 /// Starts these tests, in order.
 fn start_all(host: &mut Staged<'_>, starts: &[Started]) {
     for (test, run, text) in starts {
@@ -142,7 +158,7 @@ fn check_poll(rt: &impl Abort, host: &mut Staged<'_>, wanted: Option<(TestId, u6
     same(rt, found, wanted);
 }
 
-/// Asserts that these ends are told, in order, and then none.
+/// Asserts that these ends are reported, in order, and then none.
 fn check_polls(rt: &impl Abort, host: &mut Staged<'_>, ends: &[(u16, u64, bool)]) {
     for (test, run, value) in ends {
         check_poll(rt, host, Some((TestId(*test), *run, *value)));
@@ -150,14 +166,10 @@ fn check_polls(rt: &impl Abort, host: &mut Staged<'_>, ends: &[(u16, u64, bool)]
     check_poll(rt, host, None);
 }
 
-/// The first started that has ended is told first, each once; one that sleeps goes on.
-#[test]
-fn ended_tests_in_order(rt: HostRuntime) -> Result<(), Fail> {
-    let stage = Stage::new(rt.alloc());
-    let notes = Memory::new(rt.alloc());
-    let mut host = Shell::new(&stage, &notes, Limits::default())?;
-    start_all(
-        &mut host,
+/// Tests that are started, and the ends that are reported. The first started that has ended is reported first, each once; one that
+/// sleeps goes on. A test that cannot be started is false, before all that ran; an earlier such run of the same test is forgotten.
+const ENDS: [(&[Started], &[(u16, u64, bool)]); 2] = [
+    (
         &[
             (0, 10, "sleep 60"),
             (1, 11, "exit 3"),
@@ -165,39 +177,43 @@ fn ended_tests_in_order(rt: HostRuntime) -> Result<(), Fail> {
             (3, 13, "kill -9 $$"),
             (4, 14, "lost"),
         ],
-    );
-    let ends = [
-        (1, 11, false),
-        (2, 12, true),
-        (3, 13, false),
-        (4, 14, false),
-    ];
-    check_polls(&rt, &mut host, ends.as_slice());
-    Ok(())
-}
-
-/// A test that cannot be started is told as false, before all that ran; an earlier such run of the same test is
-/// forgotten.
-#[test]
-fn failed_starts(rt: HostRuntime) -> Result<(), Fail> {
-    let stage = Stage::new(rt.alloc());
-    let notes = Memory::new(rt.alloc());
-    let mut host = Shell::new(&stage, &notes, Limits::default())?;
-    start_all(
-        &mut host,
+        &[
+            (1, 11, false),
+            (2, 12, true),
+            (3, 13, false),
+            (4, 14, false),
+        ],
+    ),
+    (
         &[
             (0, 1, "exit 0"),
             (1, 2, "no program"),
             (2, 3, "no program"),
             (1, 4, "no program"),
         ],
-    );
-    let ends = [(2, 3, false), (1, 4, false), (0, 1, true)];
-    check_polls(&rt, &mut host, ends.as_slice());
+        &[(2, 3, false), (1, 4, false), (0, 1, true)],
+    ),
+];
+
+#[test]
+fn ended_tests_in_order(rt: HostRuntime) -> Result<(), Fail> {
+    for (starts, ends) in ENDS {
+        notes_of(rt.alloc(), Limits::default(), |host, _stage| {
+            start_all(host, starts);
+            check_polls(&rt, host, ends);
+        })?;
+    }
     Ok(())
 }
 
-/// Asserts that the ends of these runs are told, in order.
+/// Starts so many runs, of each test in turn.
+fn start_runs(host: &mut Staged<'_>, count: u64) {
+    for run in 0..count {
+        host.start(TestId((run % 64) as u16), run, "exit 0");
+    }
+}
+
+/// Asserts that the ends of these runs are reported, in order.
 fn check_runs(rt: &impl Abort, host: &mut Staged<'_>, runs: Range<u64>, value: bool) {
     for run in runs {
         let end = (TestId((run % 64) as u16), run, value);
@@ -208,17 +224,14 @@ fn check_runs(rt: &impl Abort, host: &mut Staged<'_>, runs: Range<u64>, value: b
 /// 256 programs run at once; a test beyond them is told as false.
 #[test]
 fn places(rt: HostRuntime) -> Result<(), Fail> {
-    let stage = Stage::new(rt.alloc());
-    let notes = Memory::new(rt.alloc());
-    let mut host = Shell::new(&stage, &notes, Limits::default())?;
-    for run in 0..320 {
-        host.start(TestId((run % 64) as u16), run, "exit 0");
-    }
-    check_runs(&rt, &mut host, 256..320, false);
-    check_runs(&rt, &mut host, 0..256, true);
-    check_polls(&rt, &mut host, &[]);
-    start_all(&mut host, &[(0, 320, "exit 0")]);
-    check_polls(&rt, &mut host, &[(0, 320, true)]);
+    notes_of(rt.alloc(), Limits::default(), |host, _stage| {
+        start_runs(host, 320);
+        check_runs(&rt, host, 256..320, false);
+        check_runs(&rt, host, 0..256, true);
+        check_polls(&rt, host, &[]);
+        start_all(host, &[(0, 320, "exit 0")]);
+        check_polls(&rt, host, &[(0, 320, true)]);
+    })?;
     Ok(())
 }
 
@@ -247,25 +260,23 @@ fn check_commands(rt: &impl Abort, host: &mut Staged<'_>) {
 /// A command is waited for, and tells the number of its end.
 #[test]
 fn commands(rt: HostRuntime) -> Result<(), Fail> {
-    let stage = Stage::new(rt.alloc());
-    let notes = Memory::new(rt.alloc());
-    let mut host = Shell::new(&stage, &notes, Limits::default())?;
-    check_commands(&rt, &mut host);
+    notes_of(rt.alloc(), Limits::default(), |host, _stage| {
+        check_commands(&rt, host);
+    })?;
     Ok(())
 }
 
 /// Each text is given to the shell once, also one that fails; a poll gives it none.
 #[test]
 fn each_text_once(rt: HostRuntime) -> Result<(), Fail> {
-    let stage = Stage::new(rt.alloc());
-    let notes = Memory::new(rt.alloc());
-    let mut host = Shell::new(&stage, &notes, Limits::default())?;
-    check_commands(&rt, &mut host);
-    same(&rt, stage.asked.get(), 5);
-    start_all(&mut host, &[(0, 1, "exit 3"), (1, 2, "no program")]);
-    same(&rt, stage.asked.get(), 7);
-    check_polls(&rt, &mut host, &[(1, 2, false), (0, 1, false)]);
-    same(&rt, stage.asked.get(), 7);
+    notes_of(rt.alloc(), Limits::default(), |host, stage| {
+        check_commands(&rt, host);
+        same(&rt, stage.asked.get(), 5);
+        start_all(host, &[(0, 1, "exit 3"), (1, 2, "no program")]);
+        same(&rt, stage.asked.get(), 7);
+        check_polls(&rt, host, &[(1, 2, false), (0, 1, false)]);
+        same(&rt, stage.asked.get(), 7);
+    })?;
     Ok(())
 }
 
@@ -282,23 +293,15 @@ fn check_notes(rt: &impl Abort, lines: &Lines, wanted: &[&str]) {
 /// waited for.
 #[test]
 fn notes_of_ends(rt: HostRuntime) -> Result<(), Fail> {
-    let stage = Stage::new(rt.alloc());
-    let notes = Memory::new(rt.alloc());
-    let mut host = Shell::new(&stage, &notes, Limits::default())?;
-    check_commands(&rt, &mut host);
-    start_all(
-        &mut host,
-        &[(0, 1, "exit 3"), (1, 2, "no program"), (2, 3, "lost")],
-    );
-    check_polls(
-        &rt,
-        &mut host,
-        &[(1, 2, false), (0, 1, false), (2, 3, false)],
-    );
-    drop(host);
+    let notes = notes_of(rt.alloc(), Limits::default(), |host, _stage| {
+        check_commands(&rt, host);
+        let starts = [(0, 1, "exit 3"), (1, 2, "no program"), (2, 3, "lost")];
+        start_all(host, &starts);
+        check_polls(&rt, host, &[(1, 2, false), (0, 1, false), (2, 3, false)]);
+    })?;
     check_notes(
         &rt,
-        &notes.into_lines(),
+        &notes,
         &[
             "[INFO  ifs_host::shell] command \"exit 0\": exit 0 after 1000 ms",
             "[WARN  ifs_host::shell] command \"exit 3\": exit 3 after 1000 ms",
@@ -315,42 +318,36 @@ fn notes_of_ends(rt: HostRuntime) -> Result<(), Fail> {
 /// That all places are taken is noted when the last one is, and again only after one was free.
 #[test]
 fn notes_of_places(rt: HostRuntime) -> Result<(), Fail> {
-    let stage = Stage::new(rt.alloc());
-    let notes = Memory::new(rt.alloc());
-    let mut host = Shell::new(&stage, &notes, Limits::default())?;
-    for run in 0..300 {
-        host.start(TestId((run % 64) as u16), run, "exit 0");
-    }
-    check_runs(&rt, &mut host, 256..300, false);
-    check_runs(&rt, &mut host, 0..1, true);
-    host.start(TestId(0), 300, "exit 0");
-    drop(host);
+    let notes = notes_of(rt.alloc(), Limits::default(), |host, _stage| {
+        start_runs(host, 300);
+        check_runs(&rt, host, 256..300, false);
+        check_runs(&rt, host, 0..1, true);
+        host.start(TestId(0), 300, "exit 0");
+    })?;
     let full = "[WARN  ifs_host::shell] 256 tests run: no place is left for another one";
-    check_notes(&rt, &notes.into_lines(), &[full, full]);
+    check_notes(&rt, &notes, &[full, full]);
     Ok(())
 }
 
 /// A command or a test that runs longer than its limit is killed, the test at the first poll after it, and is noted.
 #[test]
 fn limits(rt: HostRuntime) -> Result<(), Fail> {
-    let stage = Stage::new(rt.alloc());
-    let notes = Memory::new(rt.alloc());
     let limits = Limits {
         command: Some(Duration::from_secs(5)),
         test: Some(Duration::from_secs(3)),
     };
-    let mut host = Shell::new(&stage, &notes, limits)?;
-    check_command(&rt, &mut host, "sleep 60", Ok(137));
-    check_command(&rt, &mut host, "exit 0", Ok(0));
-    start_all(&mut host, &[(0, 1, "sleep 60")]);
-    for _early in 0..3 {
-        check_poll(&rt, &mut host, None);
-    }
-    check_polls(&rt, &mut host, &[(0, 1, false)]);
-    drop(host);
+    let notes = notes_of(rt.alloc(), limits, |host, _stage| {
+        check_command(&rt, host, "sleep 60", Ok(137));
+        check_command(&rt, host, "exit 0", Ok(0));
+        start_all(host, &[(0, 1, "sleep 60")]);
+        for _early in 0..3 {
+            check_poll(&rt, host, None);
+        }
+        check_polls(&rt, host, &[(0, 1, false)]);
+    })?;
     check_notes(
         &rt,
-        &notes.into_lines(),
+        &notes,
         &[
             "[WARN  ifs_host::shell] command \"sleep 60\": killed at its limit, exit 137 after 7000 ms",
             "[INFO  ifs_host::shell] command \"exit 0\": exit 0 after 2000 ms",

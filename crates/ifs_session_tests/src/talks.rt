@@ -6,7 +6,7 @@ mod reloads;
 mod serving;
 
 use crate::checks::{holds, holds_in, same, same_in};
-use ifs_rows::{Refusal, Row, digits_of, images, refusals, sessions, version_two};
+use ifs_rows::{Row, digits_of, images, sessions};
 use ifs_session::{
     ByteIn, DeviceFault, FromRead, MemoryIn, MemoryOut, RequestFault, RunFault, SessionFault,
     Summary, ToWrite, run_hex,
@@ -18,32 +18,6 @@ use std::io::{self, ErrorKind, Read};
 use std::process::Abort;
 use std::test::Fail;
 
-/// One state, whose name and whose init's command have bytes that stand escaped in quotes.
-const QUOTES: &str =
-    "4946535601000100010000000500010000000000010001000400000000000100000000000000000005225c1f7f7e00036120220002000300000000000000000000010000000000000100000000000003090000000b0000000000000000000100000000";
-
-/// Requests on an image, and their replies.
-const TALKS: [(&str, &str, &str, &str); 3] = [
-    (
-        "quotes",
-        QUOTES,
-        "take\nstatus\n",
-        "taken 0 \"\\\"\\\\\\x1f\\x7f~\"\nstatus \"a \\\"\" owed yes queue 0 running 0 now 0\n",
-    ),
-    (
-        "a session does not reload",
-        images::FIRST_RUN,
-        "reload\nlink carp0 up\nreload\nlink carp0 up\nstop\n",
-        "fault C1\ndone \"a\" cost 6 queue 0\nfault C1\nsame\nbye\n",
-    ),
-    (
-        "requests with faults",
-        images::FIRST_RUN,
-        "\nreload\ntake \n take\nlink carp0\nlink  up\nlink a b up\nlink carp0  up\nlink carp0 UP\ntick\ntick -1\ntick 18446744073709551616\nresult 0 1 maybe\nresult x 18446744073709551616 ok\nresult 65536 1 ok\nresult 65535 1 ok\nresult 0 1  ok\nlink xxxxxxxxxxxxxxxxxxxxxxxxxxxxxxxxxxxxxxxxxxxxxxxxxxxxxxxxxxxxxxxxxxxxxxxxxxxxxxxxxxxxxxxxxxxxxxxxxxxxxxxxxxxxxxxxxxxxxxxxxxxxxxxxxxxxxxxxxxxxxxxxxxxxxxxxxxxxxxxxxxxxxxxxxxxxxxxxxxxxxxxxxxxxxxxxxxxxxxxxxxxxxxxxxxxxxxxxxxxxxxxxxxxxxxxxxxxxxxxxxxxxxxxx up\nlink xxxxxxxxxxxxxxxxxxxxxxxxxxxxxxxxxxxxxxxxxxxxxxxxxxxxxxxxxxxxxxxxxxxxxxxxxxxxxxxxxxxxxxxxxxxxxxxxxxxxxxxxxxxxxxxxxxxxxxxxxxxxxxxxxxxxxxxxxxxxxxxxxxxxxxxxxxxxxxxxxxxxxxxxxxxxxxxxxxxxxxxxxxxxxxxxxxxxxxxxxxxxxxxxxxxxxxxxxxxxxxxxxxxxxxxxxxxxxxxxxxxxxxxxx up\ntake",
-        "fault C1\nfault C1\nfault C1\nfault C1\nfault C1\nfault C1\nfault C4\nfault C4\nfault C1\nfault C1\nfault C1\nfault C3\nfault C1\nfault C1\nfault C3\nnosuch\nfault C1\nfault C4\nfault C2\nempty\n",
-    ),
-];
-
 /// The bytes of an image's line and of the requests after it.
 fn input_of(alloc: Global, image: &str, requests: &str) -> Result<Vec<u8>, AllocError> {
     let mut input = digits_of(alloc, image)?;
@@ -52,7 +26,7 @@ fn input_of(alloc: Global, image: &str, requests: &str) -> Result<Vec<u8>, Alloc
     Ok(input)
 }
 
-/// What a run on these bytes answers and writes, whose lines are read byte by byte.
+/// The summary and the output of a run on these bytes, whose lines are read byte by byte.
 fn run_bytewise(alloc: Global, input: &[u8]) -> Result<(Summary, Vec<u8>), Fail> {
     let mut output = MemoryOut::new(alloc);
     let summary = run_hex(alloc, &mut MemoryIn::new(input), &mut output)?;
@@ -61,7 +35,7 @@ fn run_bytewise(alloc: Global, input: &[u8]) -> Result<(Summary, Vec<u8>), Fail>
     Ok((summary, written))
 }
 
-/// The same over devices of std, of whose buffer whole lines are lent.
+/// The same over devices of std, whose buffer lends whole lines.
 fn run_buffered(alloc: Global, input: &[u8]) -> Result<(Summary, Vec<u8>), Fail> {
     let mut written = Vec::new(alloc);
     let summary = run_hex(
@@ -72,63 +46,18 @@ fn run_buffered(alloc: Global, input: &[u8]) -> Result<(Summary, Vec<u8>), Fail>
     Ok((summary, written))
 }
 
-/// Asserts what a run writes whose lines are read byte by byte. Whether it was stopped.
-fn check_bytewise(
-    rt: &impl Abort,
-    alloc: Global,
-    name: &str,
-    input: &[u8],
-    replies: &str,
-) -> Result<bool, Fail> {
-    let (summary, written) = run_bytewise(alloc, input)?;
-    same_in(rt, name, written.as_slice(), replies.as_bytes());
-    Ok(summary.stopped)
+fn check_stopped_talk(rt: &impl Abort, (summary, written): (Summary, Vec<u8>)) {
+    let row = sessions::first_run();
+    same(rt, written.as_slice(), row.replies.as_bytes());
+    same(rt, summary.stopped, row.requests.ends_with("stop\n"));
 }
 
-/// The same of one whose lines are lent.
-fn check_buffered(
-    rt: &impl Abort,
-    alloc: Global,
-    name: &str,
-    input: &[u8],
-    replies: &str,
-) -> Result<bool, Fail> {
-    let (summary, written) = run_buffered(alloc, input)?;
-    same_in(rt, name, written.as_slice(), replies.as_bytes());
-    Ok(summary.stopped)
-}
-
-/// Replies to the requests on an image are written, and the last request says whether the session was stopped.
-fn check_talk(
-    rt: &impl Abort,
-    alloc: Global,
-    name: &str,
-    (image, requests): (&str, &str),
-    replies: &str,
-) -> Result<(), Fail> {
-    let bytes = input_of(alloc, image, requests)?;
-    let stops = requests.ends_with("stop\n");
-    let stopped = check_bytewise(rt, alloc, name, bytes.as_slice(), replies)?;
-    same_in(rt, name, stopped, stops);
-    let stopped = check_buffered(rt, alloc, name, bytes.as_slice(), replies)?;
-    same_in(rt, name, stopped, stops);
-    Ok(())
-}
-
+/// The first run has its replies, whether its lines are read byte by byte or borrowed.
 #[test]
-fn rows(rt: HostRuntime) -> Result<(), Fail> {
-    for row in sessions::rows() {
-        let talk = (row.image, row.requests);
-        check_talk(&rt, rt.alloc(), row.name, talk, row.replies)?;
-    }
-    Ok(())
-}
-
-#[test]
-fn talks(rt: HostRuntime) -> Result<(), Fail> {
-    for (name, image, requests, replies) in TALKS {
-        check_talk(&rt, rt.alloc(), name, (image, requests), replies)?;
-    }
+fn first_run(rt: HostRuntime) -> Result<(), Fail> {
+    let input = row_input(rt.alloc(), sessions::first_run())?;
+    check_stopped_talk(&rt, run_bytewise(rt.alloc(), input.as_slice())?);
+    check_stopped_talk(&rt, run_buffered(rt.alloc(), input.as_slice())?);
     Ok(())
 }
 
@@ -151,25 +80,21 @@ fn check_stopped(rt: &impl Abort, summary: Summary, left: &[u8]) {
     same(rt, left, b"take\n".as_slice());
 }
 
-/// Of lines that are read byte by byte.
+fn summary_of(alloc: Global, input: &mut impl ByteIn) -> Result<Summary, Fail> {
+    let mut output = MemoryOut::new(alloc);
+    Ok(run_hex(alloc, input, &mut output)?)
+}
+
+/// Of lines that are read byte by byte, and of borrowed ones.
 #[test]
 fn what_follows_stop_is_left(rt: HostRuntime) -> Result<(), Fail> {
     let bytes = stopping(rt.alloc())?;
-    let mut output = MemoryOut::new(rt.alloc());
     let mut input = MemoryIn::new(bytes.as_slice());
-    let summary = run_hex(rt.alloc(), &mut input, &mut output)?;
+    let summary = summary_of(rt.alloc(), &mut input)?;
     check_stopped(&rt, summary, input.left());
-    Ok(())
-}
-
-/// Of lines that are lent.
-#[test]
-fn what_follows_a_lent_stop_is_left(rt: HostRuntime) -> Result<(), Fail> {
-    let bytes = stopping(rt.alloc())?;
-    let mut output = MemoryOut::new(rt.alloc());
-    let mut input = FromRead::new(bytes.as_slice());
-    let summary = run_hex(rt.alloc(), &mut input, &mut output)?;
-    check_stopped(&rt, summary, input.peek());
+    let mut buffered = FromRead::new(bytes.as_slice());
+    let summary = summary_of(rt.alloc(), &mut buffered)?;
+    check_stopped(&rt, summary, buffered.peek());
     Ok(())
 }
 
@@ -304,24 +229,11 @@ fn is_refused(alloc: Global, line: &[u8], answer: &str) -> bool {
         && input.left() == buffered.peek()
 }
 
-/// Asserts that each image is refused as it says.
-fn check_refused(rt: &impl Abort, alloc: Global, rows: &[Refusal]) -> Result<(), Fail> {
-    for refusal in rows {
-        let line = input_of(alloc, refusal.image, "")?;
-        let is_so = is_refused(alloc, line.as_slice(), refusal.answer);
-        holds_in(rt, refusal.name, is_so);
-    }
-    Ok(())
-}
-
 #[test]
-fn refused(rt: HostRuntime) -> Result<(), Fail> {
-    check_refused(&rt, rt.alloc(), refusals())?;
-    check_refused(&rt, rt.alloc(), version_two::refusals())?;
+fn refused(rt: HostRuntime) {
     for (line, answer) in BROKEN {
         holds_in(&rt, line, is_refused(rt.alloc(), line.as_bytes(), answer));
     }
-    Ok(())
 }
 
 #[test]
@@ -355,6 +267,11 @@ impl ByteIn for Endless<'_> {
     }
 }
 
+fn check_too_much(rt: &impl Abort, answer: Result<Summary, RunFault>) {
+    let fault = RunFault::Session(SessionFault::TooMuchInput);
+    same(rt, answer, Err(fault));
+}
+
 #[test]
 fn too_much_input(rt: HostRuntime) -> Result<(), Fail> {
     let line = input_of(rt.alloc(), images::FIRST_RUN, "")?;
@@ -364,11 +281,7 @@ fn too_much_input(rt: HostRuntime) -> Result<(), Fail> {
     };
     let mut output = MemoryOut::new(rt.alloc());
     let answer = run_hex(rt.alloc(), &mut input, &mut output);
-    same(
-        &rt,
-        answer,
-        Err(RunFault::Session(SessionFault::TooMuchInput)),
-    );
+    check_too_much(&rt, answer);
     same(&rt, input.read, line.len() + 16_777_217);
     holds(&rt, output.written().is_empty());
     Ok(())
@@ -397,11 +310,7 @@ fn too_many_long_lines(rt: HostRuntime) -> Result<(), Fail> {
     let mut input = FromRead::new(line.as_slice().chain(LongLines { at: 0 }));
     let mut output = MemoryOut::new(rt.alloc());
     let answer = run_hex(rt.alloc(), &mut input, &mut output);
-    same(
-        &rt,
-        answer,
-        Err(RunFault::Session(SessionFault::TooMuchInput)),
-    );
+    check_too_much(&rt, answer);
     same(&rt, output.written().len(), 512 * "fault C2\n".len());
     Ok(())
 }

@@ -4,9 +4,13 @@ use crate::comparing::{Place, expected, expected_bytes, holds, is_text, same, te
 use crate::given::Kind;
 use crate::rules::expects_image;
 use crate::sessions::is_session;
+use crate::verdict::{compare, judged};
 use anyhow::Result;
 use ifs_answer::{Answer, Task, answer};
 use std::io;
+
+/// The most bytes of an image that the slow checker judges.
+const JUDGED_BYTES: usize = 4_096;
 
 /// What the words on images answer to one.
 struct Answers {
@@ -49,11 +53,27 @@ pub fn is_image<R: Print + AllocGlobal>(rt: &R, place: Place<'_>, image: &[u8]) 
     let answers = answers_to(rt, image)?;
     let is_told = are_expected(rt, place, &answers)?;
     let is_again = is_again(rt, place, image, &answers)?;
+    let is_judged = is_judged(rt, place, image)?;
     let is_session = match place.case.section("session") {
         Some(section) => is_session(rt, place, section, image)?,
         None => true,
     };
-    Ok(is_told && is_again && is_session)
+    Ok(is_told && is_again && is_judged && is_session)
+}
+
+/// Whether the slow checker gives the verifier's answer on an image that is not too long for it, and what is owed of an image that
+/// is accepted holds.
+fn is_judged<R: Print + AllocGlobal>(rt: &R, place: Place<'_>, image: &[u8]) -> io::Result<bool> {
+    if image.len() > JUDGED_BYTES {
+        return Ok(true);
+    }
+    match compare(rt.alloc(), image, judged(rt.alloc(), image)) {
+        Ok(_) => Ok(true),
+        Err(mismatch) => {
+            println!(rt; "{}: {}: verify: {mismatch}", place.file, place.case.name)?;
+            Ok(false)
+        }
+    }
 }
 
 fn answers_to<R: AllocGlobal>(rt: &R, image: &[u8]) -> Result<Answers> {

@@ -1,20 +1,27 @@
-//! Runs the worked cases of `data/` over the libraries. `data/README.md` describes the files, and says what holds of each case.
+//! Runs the worked cases of `data/` over the libraries, and tries the verifier on changed bytes. `data/README.md` describes the
+//! files, and says what holds of each case.
 //!
-//! A line is printed for each file, with the number of its cases, and before it one for each case that fails: then the exit
-//! status is 1.
+//! A line is printed for each file, with the number of its cases, and then one for each image whose bytes are changed. A line before
+//! it names each case that fails and each wrong answer: then the exit status is 1.
 #![tactic(auto)]
 
 mod cases;
 mod changes;
 mod comparing;
 mod escapes;
+mod fault;
 mod given;
+mod hostile;
 mod images;
+mod mismatch;
 mod policies;
 mod repeating;
 mod rules;
 mod running;
 mod sessions;
+mod slow;
+mod steps;
+mod verdict;
 
 use anyhow::{Result, ensure};
 use running::Tally;
@@ -22,7 +29,7 @@ use std::fs;
 use std::rt::Files;
 
 /// The files, in the order in which they are run.
-const FILES: [&str; 12] = [
+const FILES: [&str; 13] = [
     "policies.txt",
     "refused_policies.txt",
     "compiled_policies.txt",
@@ -35,11 +42,14 @@ const FILES: [&str; 12] = [
     "assembly.txt",
     "limits_of_images.txt",
     "order_of_checks.txt",
+    "limits_of_checks.txt",
 ];
 
 fn main(rt: HostRuntime) -> Result<()> {
     let total = run(&rt)?;
     ensure!(total.failed == 0, "{} cases failed", total.failed);
+    let wrong = hostile::try_images(&rt)?;
+    ensure!(wrong == 0, "{wrong} wrong answers");
     Ok(())
 }
 

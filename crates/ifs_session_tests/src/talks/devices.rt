@@ -2,9 +2,9 @@
 
 ghost use Rattle.std.specs.Prelude.{Some};
 
-use super::{first_replies, input_of, row_input};
+use super::{BROKEN, first_replies, input_of, row_input};
 use crate::checks::{holds, holds_in, same, same_in};
-use ifs_rows::{refusals, sessions};
+use ifs_rows::sessions;
 use ifs_session::{
     ByteIn, ByteOut, DeviceFault, FromRead, RunFault, SessionFault, ToWrite, run_hex,
 };
@@ -360,15 +360,13 @@ fn replies_go_out_before_a_wait(rt: HostRuntime) -> Result<(), Fail> {
 
 /// The line of a refusal has gone out.
 #[test]
-fn refusals_go_out(rt: HostRuntime) -> Result<(), Fail> {
-    for refusal in refusals() {
-        let line = input_of(rt.alloc(), refusal.image, "")?;
+fn refusals_go_out(rt: HostRuntime) {
+    for (line, refusal) in BROKEN {
         let shown = Cell::new(0);
-        let mut input = FromRead::new(line.as_slice());
+        let mut input = FromRead::new(line.as_bytes());
         let mut output = Holding::new(rt.alloc(), &shown);
         let answer = run_hex(rt.alloc(), &mut input, &mut output);
-        holds_in(&rt, refusal.name, answer.is_err());
-        check_gone(&rt, &output, refusal.answer, refusal.name);
+        holds_in(&rt, line, answer.is_err());
+        check_gone(&rt, &output, refusal, line);
     }
-    Ok(())
 }

@@ -1,13 +1,12 @@
-//! Connections that ask for the image to be read anew, and the line that is written once it was.
+//! Connections that ask for a reload, and the line that is written after it.
 
-use super::QUOTES;
-use super::serving::{MACROS_ENDING, Talk, bytes_in, opened, queue_three, quiet, quiet_talk};
+use super::serving::{Talk, bytes_in, macros_talk, opened, queue_three, quiet, quiet_talk};
 use crate::checks::{holds, holds_in, same, same_in};
 use ifs_base::TestId;
 use ifs_core::{Core, Step};
 use ifs_rows::images;
 use ifs_session::{
-    ByteOut, DeviceFault, End, HostEvent, MemoryIn, MemoryOut, ScriptHost, SessionFault,
+    ByteOut, DeviceFault, End, HostEvent, MemoryIn, MemoryOut, SessionFault,
     write_reloaded,
 };
 use std::alloc::Global;
@@ -100,15 +99,7 @@ fn check_polled_before(rt: &impl Abort, talk: &Talk<Global>) {
 /// A test that had ended before a reload is made a step, and its command is run.
 #[test]
 fn ends_of_tests_before_a_reload(rt: HostRuntime) -> Result<(), Fail> {
-    let endings = vec![in rt.alloc(); None, Some(MACROS_ENDING), None]?;
-    let talk = Talk::new(
-        &rt,
-        rt.alloc(),
-        images::MACROS,
-        ScriptHost::new(rt.alloc(), endings, Vec::new(rt.alloc())),
-        &mut MemoryIn::new(b"tick 0\nreload\nstatus\n"),
-        MemoryOut::new(rt.alloc()),
-    );
+    let talk = macros_talk(&rt, rt.alloc(), b"tick 0\nreload\nstatus\n")?;
     check_polled_before(&rt, &talk);
     Ok(())
 }
@@ -162,6 +153,10 @@ fn lines_of_reloads(rt: HostRuntime) {
 }
 
 /// In a name with a quote the quote is escaped; the init has queued a command.
+/// One state, whose name and whose init's command have bytes that are escaped in quotes.
+const QUOTES: &str =
+    "4946535601000100010000000500010000000000010001000400000000000100000000000000000005225c1f7f7e00036120220002000300000000000000000000010000000000000100000000000003090000000b0000000000000000000100000000";
+
 #[test]
 fn a_quote_in_the_line_of_a_reload(rt: HostRuntime) {
     let image = bytes_in(&rt, rt.alloc(), QUOTES);

@@ -1,10 +1,10 @@
-//! Served connections, on the worked rows.
+//! Served connections.
 
 use super::Endless;
 use crate::checks::{holds, holds_in, same, same_in};
 use ifs_base::{IfaceId, LinkState, TestId};
 use ifs_core::{Core, Step};
-use ifs_rows::{bytes_of, images, sessions};
+use ifs_rows::{bytes_of, images};
 use ifs_session::{
     ByteIn, End, HostEvent, HostFault, HostText, MemoryIn, MemoryOut, ScriptHost, Served,
     SessionFault, run_queue, serve_one,
@@ -33,8 +33,7 @@ pub(super) fn quiet<A: Allocator + Copy>(alloc: A, script: Global) -> ScriptHost
     ScriptHost::new(alloc, Vec::new(script), Vec::new(script))
 }
 
-/// What a connection came to. One that is looked at is lent to a function that asserts, so that no
-/// assertion stands where all of it is dropped.
+/// The results of a connection. A function that asserts borrows them, so that no assertion is where all of them are dropped.
 #[derive(Drop)]
 pub(super) struct Talk<A: Allocator + Copy> {
     /// How many commands wait after it.
@@ -103,7 +102,7 @@ fn check_last_text(rt: &impl Abort, host: &ScriptHost<Global>, count: u32, text:
 }
 
 /// The end of the only run of the row of macros.
-pub(super) const MACROS_ENDING: (TestId, u64, bool) = (TestId(0), 1, false);
+const MACROS_ENDING: (TestId, u64, bool) = (TestId(0), 1, false);
 
 const MACROS_REPLIES: &str = "tick \"a\" cost 4 queue - starts 0:1\n\
                               status \"a\" owed no queue 0 running 0 now 0\n\
@@ -163,18 +162,30 @@ fn check_macros_host(rt: &impl Abort, host: &ScriptHost<Global>) {
     check_polled(rt, over, None);
 }
 
-/// The row of macros: a test is started, fails, and its command is run before the reply to `status`.
+/// A connection of these requests on the image of macros, over a host whose second poll reports the end of the only run.
+pub(super) fn macros_talk(
+    rt: &impl Abort,
+    alloc: Global,
+    requests: &[u8],
+) -> Result<Talk<Global>, Fail> {
+    let endings = vec![in alloc; None, Some(MACROS_ENDING), None]?;
+    let host = ScriptHost::new(alloc, endings, Vec::new(alloc));
+    let mut input = MemoryIn::new(requests);
+    let output = MemoryOut::new(alloc);
+    Ok(Talk::new(
+        rt,
+        alloc,
+        images::MACROS,
+        host,
+        &mut input,
+        output,
+    ))
+}
+
+/// A test is started, fails, and its command is run before the reply to `status`.
 #[test]
 fn macros(rt: HostRuntime) -> Result<(), Fail> {
-    let endings = vec![in rt.alloc(); None, Some(MACROS_ENDING), None]?;
-    let talk = Talk::new(
-        &rt,
-        rt.alloc(),
-        images::MACROS,
-        ScriptHost::new(rt.alloc(), endings, Vec::new(rt.alloc())),
-        &mut MemoryIn::new(b"tick 0\nstatus\nstop\n"),
-        MemoryOut::new(rt.alloc()),
-    );
+    let talk = macros_talk(&rt, rt.alloc(), b"tick 0\nstatus\nstop\n")?;
     check_macros(&rt, &talk);
     Ok(())
 }

@@ -5,6 +5,3 @@ use Rattle.ifs_language_tests.proofs.trees.+show_condition.Given as goal
 
 abbrev pub invariant-loop-next : goal.invariant-loop-next
 invariant-loop-next l = AllByRecursion (λ c. condition_size c < condition_size l.fn.c) (drop l.next-index l.next-items)
-
-abbrev pub invariant-loop-next-2 : goal.invariant-loop-next-2
-invariant-loop-next-2 l = AllByRecursion (λ c. condition_size c < condition_size l.fn.c) (drop l.next-index l.next-items)

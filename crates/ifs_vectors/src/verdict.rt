@@ -1,21 +1,20 @@
 //! The answers of both checkers on bytes, and what is owed of bytes that are accepted.
 
-use crate::fault::Fault;
 use crate::mismatch::Mismatch;
 use crate::slow::judge;
 use crate::steps::check_steps;
 use ifs_image::{Image, read, write};
-use ifs_verify::verify;
+use ifs_verify::{VerifyFault, verify};
 use std::alloc::Global;
 use std::fmt;
 
 /// A checker's answer on bytes.
-#[derive(Clone, Copy, Debug, PartialEq, Eq)]
+#[derive(Clone, Copy, PartialEq, Eq)]
 pub enum Verdict {
     /// They are accepted.
     Accepted,
     /// They are not.
-    Refused(Fault),
+    Refused(VerifyFault),
 }
 
 impl fmt::Display for Verdict {
@@ -31,7 +30,7 @@ impl fmt::Display for Verdict {
 pub fn verified(alloc: Global, bytes: &[u8]) -> Verdict {
     match verify(alloc, bytes) {
         Ok(_) => Verdict::Accepted,
-        Err(fault) => Verdict::Refused(Fault::from(fault)),
+        Err(fault) => Verdict::Refused(fault),
     }
 }
 
@@ -55,7 +54,7 @@ pub fn compare(alloc: Global, bytes: &[u8], slow: Verdict) -> Result<bool, Misma
 }
 
 /// Both checkers refuse bytes by a fault.
-pub fn refuse(alloc: Global, bytes: &[u8], fault: Fault) -> Result<bool, Mismatch> {
+pub fn refuse(alloc: Global, bytes: &[u8], fault: VerifyFault) -> Result<bool, Mismatch> {
     let wanted = Verdict::Refused(fault);
     agree(wanted, judged(alloc, bytes), verified(alloc, bytes))?;
     Ok(false)
@@ -63,7 +62,7 @@ pub fn refuse(alloc: Global, bytes: &[u8], fault: Fault) -> Result<bool, Mismatc
 
 /// Both answers are the wanted one, and it is an answer.
 fn agree(wanted: Verdict, slow: Verdict, verifier: Verdict) -> Result<(), Mismatch> {
-    if slow == wanted && verifier == wanted && wanted != Verdict::Refused(Fault::OutOfMemory) {
+    if slow == wanted && verifier == wanted && wanted != Verdict::Refused(VerifyFault::OutOfMemory) {
         return Ok(());
     }
     Err(Mismatch::Answers {

@@ -1,23 +1,25 @@
 //! The kinds on the stack at each place, and the checks of them.
 
-use crate::fault::{Check, Fault, Place};
+use crate::fault::{Check, code_at};
 use crate::slow::listing::{Line, Listing};
+use crate::slow::settled;
 use ifs_base::{Kind, Op};
 use ifs_image::Routine;
+use ifs_verify::VerifyFault;
 use std::alloc::{AllocError, Global};
 
 /// How many kinds may lie on the stack.
 const MOST: usize = 32;
 
 /// A list of kinds, the topmost last. Behind it there is nothing.
-#[derive(Clone, Copy, Debug, Default, PartialEq, Eq)]
+#[derive(Clone, Copy, Default, PartialEq, Eq)]
 pub struct Kinds {
     kinds: [Option<Kind>; MOST],
     count: usize,
 }
 
 /// What a routine takes off its caller's list, and what it leaves there.
-#[derive(Clone, Copy, Debug, Default, PartialEq, Eq)]
+#[derive(Clone, Copy, Default, PartialEq, Eq)]
 pub struct Signature {
     pub params: Kinds,
     pub results: Kinds,
@@ -142,23 +144,10 @@ fn called(signature: Option<Signature>, kinds: Kinds) -> Result<Kinds, Check> {
 }
 
 /// The kinds at each line, where all ways to a line agree and each instruction fits what it finds.
-pub fn check_kinds(alloc: Global, listing: &Listing) -> Result<Vec<Option<Kinds>>, Fault> {
-    let kinds = settled(alloc, listing)?;
+pub fn check_kinds(alloc: Global, listing: &Listing) -> Result<Vec<Option<Kinds>>, VerifyFault> {
+    // ways lead forward, so there are fewer rounds than lines
+    let kinds = settled(listing.lines().len(), |last| round(alloc, listing, last))?;
     judge_kinds(listing, kinds.as_slice())?;
-    Ok(kinds)
-}
-
-/// The kinds that the first way to each line leaves there, found in rounds until one changes nothing. Ways lead
-/// forward, so there are fewer such rounds than lines.
-fn settled(alloc: Global, listing: &Listing) -> Result<Vec<Option<Kinds>>, AllocError> {
-    let mut kinds = round(alloc, listing, &[])?;
-    for _round in 0..listing.lines().len() {
-        let next = round(alloc, listing, kinds.as_slice())?;
-        if next.as_slice() == kinds.as_slice() {
-            break;
-        }
-        kinds = next;
-    }
     Ok(kinds)
 }
 
@@ -195,13 +184,13 @@ fn found(
 
 /// The first place at which an instruction does not fit what it finds, or leaves to another place what does not stand there. A
 /// line without kinds comes behind the one that is at fault, since the first line that leads to it stands before it.
-fn judge_kinds(listing: &Listing, kinds: &[Option<Kinds>]) -> Result<(), Fault> {
+fn judge_kinds(listing: &Listing, kinds: &[Option<Kinds>]) -> Result<(), VerifyFault> {
     for (line, here) in listing.lines().iter().zip(kinds) {
-        let place = Place::Code(line.routine, line.place);
-        let here = here.ok_or(Fault::Fails(Check::Reached, place))?;
-        let left = left_by(listing, line, here).map_err(|check| Fault::Fails(check, place))?;
+        let place = code_at(line.routine, line.place);
+        let here = here.ok_or(Check::Reached.at(place))?;
+        let left = left_by(listing, line, here).map_err(|check| check.at(place))?;
         if !agrees(listing, line, left, kinds) {
-            return Err(Fault::Fails(Check::Ways, place));
+            return Err(Check::Ways.at(place));
         }
     }
     Ok(())

@@ -1,20 +1,20 @@
 //! The stated budgets against what handlers use.
 
-use crate::fault::{Fault, Place};
 use crate::slow::bounds::{Bounds, at};
 use crate::slow::listing::Listing;
 use ifs_base::RoutineId;
 use ifs_image::{Budgets, ImageParts};
+use ifs_verify::{At, VerifyFault};
 
 /// No event uses more than the image states.
 pub fn check_budgets(
     parts: &ImageParts,
     listing: &Listing,
     bounds: &[Bounds],
-) -> Result<(), Fault> {
+) -> Result<(), VerifyFault> {
     let used = evaluation(parts, listing, bounds).or(opening(parts, listing, bounds));
     match used.over(stated(parts.budgets)) {
-        Some(check) => Err(Fault::Fails(check, Place::Head)),
+        Some(check) => Err(check.at(At::Head)),
         None => Ok(()),
     }
 }

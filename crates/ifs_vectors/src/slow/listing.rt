@@ -5,8 +5,8 @@ use ifs_base::{Op, RoutineId};
 use ifs_image::Routine;
 use std::alloc::{AllocError, Global};
 
-/// An instruction, and where it stands.
-#[derive(Clone, Copy, Debug, PartialEq, Eq)]
+/// An instruction, and where it is.
+#[derive(Clone, Copy)]
 pub struct Line {
     /// The routine's index.
     pub routine: usize,
@@ -29,7 +29,7 @@ impl Line {
         }
     }
 
-    /// Whether it stands before another of its routine and may lead there.
+    /// Whether it is before another of its routine and may lead there.
     fn leads_to(&self, other: &Line) -> bool {
         let [first, second] = self.successors();
         let there = Some(other.place);
@@ -40,7 +40,7 @@ impl Line {
 }
 
 /// All instructions, routines and places ascending.
-#[derive(Debug, Drop)]
+#[derive(Drop)]
 pub struct Listing {
     lines: Vec<Line>,
     /// Of each routine, the index of its first line.

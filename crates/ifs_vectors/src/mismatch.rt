@@ -4,7 +4,7 @@ use crate::verdict::Verdict;
 use std::fmt;
 
 /// Two answers that differ, or an answer that breaks a promise.
-#[derive(Clone, Copy, Debug, PartialEq, Eq)]
+#[derive(Clone, Copy)]
 pub enum Mismatch {
     /// The slow checker's answer or the verifier's is not the wanted one.
     Answers {

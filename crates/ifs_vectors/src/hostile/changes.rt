@@ -1,29 +1,12 @@
 //! Each change of a byte of an image, each cut, and each byte more.
 
-use crate::fault::Fault;
-use crate::fields::{field_lengths, field_of};
-use crate::tally::{Change, Tally, told};
+use super::fields::{field_lengths, field_of};
+use super::tally::{Change, Tally, counted};
 use crate::verdict::{compare, judged, refuse};
 use anyhow::Result;
 use ifs_image::{ImageFault, read};
-use ifs_rows::{images, version_two};
+use ifs_verify::VerifyFault;
 use std::io;
-
-/// The images, by the names of their rows.
-pub fn changed_images() -> [(&'static str, &'static str); 10] {
-    [
-        ("smallest image", images::SMALLEST_IMAGE),
-        ("first run", images::FIRST_RUN),
-        ("first policy", images::FIRST_POLICY),
-        ("last wish", images::LAST_WISH),
-        ("macros", images::MACROS),
-        ("held back", images::HELD_BACK),
-        ("stale", images::STALE),
-        ("shared condition", images::SHARED_CONDITION),
-        ("call in a call", version_two::call_in_a_call().image),
-        ("four kinds", version_two::four_kinds().image),
-    ]
-}
 
 /// Cuts an image before each byte: the field that the byte is of is then not there whole.
 pub fn try_cuts<R: Print + AllocGlobal>(rt: &R, name: &str, bytes: &[u8]) -> Result<Tally> {
@@ -41,9 +24,9 @@ fn try_each_cut<R: Print + AllocGlobal>(
     let mut tally = Tally::default();
     for length in 0..bytes.len() {
         let at = field_of(lengths, length);
-        let fault = Fault::NoImage(ImageFault::Truncated { at });
+        let fault = VerifyFault::NoImage(ImageFault::Truncated { at });
         let answer = refuse(rt.alloc(), &bytes[..length], fault);
-        tally = tally.and(told(rt, name, Change::Cut { length }, answer)?);
+        tally = tally.and(counted(rt, name, Change::Cut { length }, answer)?);
     }
     Ok(tally)
 }
@@ -61,12 +44,12 @@ fn try_each_longer<R: Print + AllocGlobal>(
     longer: &mut [u8],
     at: usize,
 ) -> io::Result<Tally> {
-    let fault = Fault::NoImage(ImageFault::Trailing { at });
+    let fault = VerifyFault::NoImage(ImageFault::Trailing { at });
     let mut tally = Tally::default();
     for value in 0..=u8::MAX {
         set(longer, at, value);
         let answer = refuse(rt.alloc(), longer, fault);
-        tally = tally.and(told(rt, name, Change::Byte { at, value }, answer)?);
+        tally = tally.and(counted(rt, name, Change::Byte { at, value }, answer)?);
     }
     Ok(tally)
 }
@@ -98,7 +81,7 @@ fn try_values<R: Print + AllocGlobal>(
     for value in (0..=u8::MAX).filter(|value| *value != was) {
         set(bytes, at, value);
         let answer = compare(rt.alloc(), bytes, judged(rt.alloc(), bytes));
-        tally = tally.and(told(rt, name, Change::Byte { at, value }, answer)?);
+        tally = tally.and(counted(rt, name, Change::Byte { at, value }, answer)?);
     }
     Ok(tally)
 }

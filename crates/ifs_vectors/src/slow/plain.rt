@@ -1,13 +1,14 @@
 //! The checks that look at each entry and instruction by itself.
 
-use crate::fault::{Check, Fault, Place};
+use crate::fault::{Check, code_at, state_at};
 use crate::slow::kinds::Signature;
 use crate::slow::listing::{Line, Listing};
 use ifs_base::Op;
 use ifs_image::{Handlers, ImageParts, Routine};
+use ifs_verify::{At, VerifyFault};
 
 /// Each plain check over the whole image, one after the other.
-pub fn check_plain(parts: &ImageParts, listing: &Listing) -> Result<(), Fault> {
+pub fn check_plain(parts: &ImageParts, listing: &Listing) -> Result<(), VerifyFault> {
     let lines = listing.lines();
     check_head(parts)?;
     check_states(parts)?;
@@ -20,26 +21,26 @@ pub fn check_plain(parts: &ImageParts, listing: &Listing) -> Result<(), Fault> {
 }
 
 /// A fault, where what a check wants does not hold.
-fn wanted(holds: bool, check: Check, place: Place) -> Result<(), Fault> {
+fn wanted(holds: bool, check: Check, place: At) -> Result<(), VerifyFault> {
     if holds {
         Ok(())
     } else {
-        Err(Fault::Fails(check, place))
+        Err(check.at(place))
     }
 }
 
 /// The initial state and the always part are within their tables.
-fn check_head(parts: &ImageParts) -> Result<(), Fault> {
+fn check_head(parts: &ImageParts) -> Result<(), VerifyFault> {
     let initial = usize::from(parts.initial.0) < parts.states.len();
     let within = initial && are_within(parts, parts.always);
-    wanted(within, Check::Entry, Place::Head)
+    wanted(within, Check::Entry, At::Head)
 }
 
 /// The handlers of each state are within their tables.
-fn check_states(parts: &ImageParts) -> Result<(), Fault> {
+fn check_states(parts: &ImageParts) -> Result<(), VerifyFault> {
     for (index, state) in parts.states.as_slice().iter().enumerate() {
         let within = are_within(parts, state.handlers);
-        wanted(within, Check::Entry, Place::State(index))?;
+        wanted(within, Check::Entry, state_at(index))?;
     }
     Ok(())
 }
@@ -62,13 +63,13 @@ fn are_below(mask: u64, tests: usize) -> bool {
 }
 
 /// Each index of an instruction is within its table.
-fn check_operands(parts: &ImageParts, lines: &[Line]) -> Result<(), Fault> {
+fn check_operands(parts: &ImageParts, lines: &[Line]) -> Result<(), VerifyFault> {
     for line in lines {
         let (index, length) = entry_of(parts, line.op);
         wanted(
             index < length,
             Check::Entry,
-            Place::Code(line.routine, line.place),
+            code_at(line.routine, line.place),
         )?;
     }
     Ok(())
@@ -87,15 +88,15 @@ fn entry_of(parts: &ImageParts, op: Op) -> (usize, usize) {
 }
 
 /// No handler takes or leaves a value.
-fn check_handlers(parts: &ImageParts, listing: &Listing) -> Result<(), Fault> {
+fn check_handlers(parts: &ImageParts, listing: &Listing) -> Result<(), VerifyFault> {
     wanted(
         stand_alone(listing, parts.always),
         Check::Leaves,
-        Place::Head,
+        At::Head,
     )?;
     for (index, state) in parts.states.as_slice().iter().enumerate() {
         let alone = stand_alone(listing, state.handlers);
-        wanted(alone, Check::Leaves, Place::State(index))?;
+        wanted(alone, Check::Leaves, state_at(index))?;
     }
     Ok(())
 }
@@ -107,51 +108,51 @@ fn stand_alone(listing: &Listing, handlers: Handlers) -> bool {
 }
 
 /// Each jump leads forward and stays in its routine.
-fn check_jumps(lines: &[Line]) -> Result<(), Fault> {
+fn check_jumps(lines: &[Line]) -> Result<(), VerifyFault> {
     for line in lines {
         let target = match line.op {
             Op::Jump(target) | Op::JumpFalse(target) | Op::JumpTrue(target) => usize::from(target),
             _ => continue,
         };
         let forward = line.place < target && target < line.length;
-        wanted(forward, Check::Jump, Place::Code(line.routine, line.place))?;
+        wanted(forward, Check::Jump, code_at(line.routine, line.place))?;
     }
     Ok(())
 }
 
 /// Each routine ends with `ret`.
-fn check_ends(routines: &[Routine]) -> Result<(), Fault> {
+fn check_ends(routines: &[Routine]) -> Result<(), VerifyFault> {
     for (index, routine) in routines.iter().enumerate() {
         let code = routine.code.as_slice();
         let ends = matches!(code.last(), Some(Op::Ret));
         wanted(
             ends,
             Check::End,
-            Place::Code(index, code.len().saturating_sub(1)),
+            code_at(index, code.len().saturating_sub(1)),
         )?;
     }
     Ok(())
 }
 
 /// Each called routine is lower in number than its caller.
-fn check_calls(lines: &[Line]) -> Result<(), Fault> {
+fn check_calls(lines: &[Line]) -> Result<(), VerifyFault> {
     for line in lines {
         if let Op::Call(callee) = line.op {
             let lower = usize::from(callee.0) < line.routine;
-            wanted(lower, Check::Lower, Place::Code(line.routine, line.place))?;
+            wanted(lower, Check::Lower, code_at(line.routine, line.place))?;
         }
     }
     Ok(())
 }
 
 /// An earlier place leads to each place but the first of a routine.
-fn check_reached(lines: &[Line], origins: &[Option<usize>]) -> Result<(), Fault> {
+fn check_reached(lines: &[Line], origins: &[Option<usize>]) -> Result<(), VerifyFault> {
     for (line, origin) in lines.iter().zip(origins) {
         let reached = line.place == 0 || origin.is_some();
         wanted(
             reached,
             Check::Reached,
-            Place::Code(line.routine, line.place),
+            code_at(line.routine, line.place),
         )?;
     }
     Ok(())

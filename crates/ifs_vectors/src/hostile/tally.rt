@@ -4,10 +4,8 @@ use crate::mismatch::Mismatch;
 use std::{fmt, io};
 
 /// What was done to an image's bytes.
-#[derive(Clone, Copy, Debug, PartialEq, Eq)]
+#[derive(Clone, Copy)]
 pub enum Change {
-    /// Nothing.
-    Nothing,
     /// All from a place on were cut off.
     Cut { length: usize },
     /// The byte at a place was set to a value.
@@ -17,7 +15,6 @@ pub enum Change {
 impl fmt::Display for Change {
     fn fmt<W: fmt::Write>(&self, f: &mut fmt::Formatter<W>) -> fmt::Result {
         match self {
-            Change::Nothing => write!(f, "unchanged"),
             Change::Cut { length } => write!(f, "cut before byte {length}"),
             Change::Byte { at, value } => write!(f, "byte {at} value {value}"),
         }
@@ -25,7 +22,7 @@ impl fmt::Display for Change {
 }
 
 /// How many byte strings were tried.
-#[derive(Clone, Copy, Debug, Default, PartialEq, Eq)]
+#[derive(Clone, Copy, Default)]
 pub struct Tally {
     /// All of them.
     pub tried: u64,
@@ -47,7 +44,7 @@ impl Tally {
 }
 
 /// Counts one byte string, by whether it is accepted. What is wrong with an answer is printed.
-pub fn told(
+pub fn counted(
     rt: &impl Print,
     name: &str,
     change: Change,

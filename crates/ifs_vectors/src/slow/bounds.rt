@@ -1,13 +1,15 @@
 //! What is used from each place on, and the limits of it for a routine.
 
-use crate::fault::{Check, Fault, Place};
+use crate::fault::{Check, code_at};
 use crate::slow::kinds::{Kinds, left_by};
 use crate::slow::listing::{Line, Listing};
+use crate::slow::settled;
 use ifs_base::{Op, RoutineId};
+use ifs_verify::VerifyFault;
 use std::alloc::{AllocError, Global};
 
 /// What may be used at most from a place on. What is past all numbers is the greatest one.
-#[derive(Clone, Copy, Debug, Default, PartialEq, Eq)]
+#[derive(Clone, Copy, Default, PartialEq, Eq)]
 pub struct Bounds {
     /// Values on the stack at one time.
     pub height: u32,
@@ -77,27 +79,10 @@ pub fn check_bounds(
     alloc: Global,
     listing: &Listing,
     kinds: &[Option<Kinds>],
-) -> Result<Vec<Bounds>, Fault> {
-    let bounds = settled(alloc, listing, kinds)?;
+) -> Result<Vec<Bounds>, VerifyFault> {
+    // ways lead forward and calls to lower routines, so there are no more rounds than lines
+    let bounds = settled(listing.lines().len(), |last| round(alloc, listing, kinds, last))?;
     judge_bounds(listing, bounds.as_slice())?;
-    Ok(bounds)
-}
-
-/// What is used from each line on, found in rounds until one changes nothing. Ways lead forward and calls to lower
-/// routines, so there are no more such rounds than lines.
-fn settled(
-    alloc: Global,
-    listing: &Listing,
-    kinds: &[Option<Kinds>],
-) -> Result<Vec<Bounds>, AllocError> {
-    let mut bounds = round(alloc, listing, kinds, &[])?;
-    for _round in 0..listing.lines().len() {
-        let next = round(alloc, listing, kinds, bounds.as_slice())?;
-        if next.as_slice() == bounds.as_slice() {
-            break;
-        }
-        bounds = next;
-    }
     Ok(bounds)
 }
 
@@ -164,12 +149,12 @@ pub fn at(bounds: &[Bounds], index: Option<usize>) -> Bounds {
 }
 
 /// The first routine that uses more than it may.
-fn judge_bounds(listing: &Listing, bounds: &[Bounds]) -> Result<(), Fault> {
+fn judge_bounds(listing: &Listing, bounds: &[Bounds]) -> Result<(), VerifyFault> {
     for (line, used) in listing.lines().iter().zip(bounds) {
         if line.place == 0
             && let Some(check) = used.over(Bounds::LIMITS)
         {
-            return Err(Fault::Fails(check, Place::Code(line.routine, 0)));
+            return Err(check.at(code_at(line.routine, 0)));
         }
     }
     Ok(())
