@@ -170,8 +170,7 @@ def has_name(text, name):
 
 def part_wrong(page, part):
     """What is wrong with a part of a cell, `[F](PATH), [G](PATH): a, b`: each F of Rattle has the clauses a and b, or its file the tests."""
-    heads, _, names = part.partition("`): ") if "`): " in part else part.partition("): ")
-    named = CODE.findall(names)
+    named = CODE.findall(part.rpartition("): ")[2]) if "): " in part else []
     for text, target in LINK.findall(part):
         path = (page.path.parent / target.split("#")[0]).resolve()
         if not path.is_file():
@@ -203,9 +202,11 @@ def definitions_wrong(cell, crate):
 def names_wrong(page):
     """What is wrong with the names of the tables of docs/PROMISES.md and docs/TESTED.md."""
     crate = "ifs_core"
-    for number, row in page.rows():
-        crate_named = re.match(r"\| \*\*`(ifs_\w+)`\*\*", row)
-        crate = crate_named[1] if crate_named else crate
+    for number, row in page.text_lines():
+        crate_named = re.match(r"\| \*\*`(ifs_\w+)`\*\*|#.*\(`(ifs_\w+)`\)", row)
+        crate = crate_named[1] or crate_named[2] if crate_named else crate
+        if not row.startswith("|"):
+            continue
         for cell in cells(row):
             of_crate = re.findall(r"of `(ifs_\w+)`", cell)
             if page.name == "docs/PROMISES.md":

@@ -1,0 +1,90 @@
+#!/usr/bin/env python3
+"""Compares the numbers that pages quote with the files in which the tools that count keep them: tools/numbers.py
+
+Each row of QUOTED is a page, a pattern of what it says, a file, and a pattern of what the file says; a pattern has one group, the
+number. A pattern of a file without a group is counted. The table of minutes in docs/PROVING.md is made of tools/measured_minutes,
+which tools/minutes --keep writes: tools/numbers.py --write puts it in. Prints what differs, and ends with status 1 then."""
+import re
+import sys
+from pathlib import Path
+
+TOP = Path(__file__).resolve().parent.parent
+CASES, CALLS = "crates/ifs_vectors/stdout", "crates/ifs_growth/stdout"
+QUOTED = [
+    ("docs/TESTED.md", r"([\d,]+) changes of ten images", CASES, r"^changes: (\d+),"),
+    ("docs/TESTED.md", r"each allocation of ([\d,]+) calls fails", CALLS, r"^.*: \d+ \w+ refused, then"),
+    ("docs/TESTED.md", r"([\d,]+) reads and \d+ writes of `simulate`", CALLS, r"^simulate, reads that failed: (\d+)$"),
+    ("docs/TESTED.md", r"reads and ([\d,]+) writes of `simulate`", CALLS, r"^simulate, writes that failed: (\d+)$"),
+    ("docs/TESTED.md", r"([\d,]+) reads, \d+ writes and \d+ runs of `serve_one`", CALLS, r"^serve_one, reads that failed: (\d+)$"),
+    ("docs/TESTED.md", r"reads, ([\d,]+) writes and \d+ runs of `serve_one`", CALLS, r"^serve_one, writes that failed: (\d+)$"),
+    ("docs/TESTED.md", r"writes and ([\d,]+) runs of `serve_one`", CALLS, r"^serve_one, runs that failed: (\d+)$"),
+]
+MINUTES, PROVING, ORDER = TOP / "tools" / "measured_minutes", TOP / "docs" / "PROVING.md", TOP / "crates.txt"
+BEGIN, END = "<!-- minutes, by tools/numbers.py --write -->\n", "<!-- end of minutes -->\n"
+KINDS = ("proof", "tests", "edits", "all")
+
+
+def counted(path, pattern):
+    """What a file says: the number of a pattern's group, or how often a pattern without a group is found."""
+    text = (TOP / path).read_text(encoding="utf-8")
+    if re.compile(pattern).groups == 0:
+        return len(re.findall(pattern, text, re.M))
+    found = re.search(pattern, text, re.M)
+    return int(found[1].replace(",", "")) if found else None
+
+
+def wrong_quotes():
+    """The lines about numbers that differ, or are no longer there."""
+    for page, says, path, has in QUOTED:
+        quoted, number = counted(page, says), counted(path, has) if (TOP / path).exists() else None
+        if quoted != number or number is None:
+            yield f"{page}: {says}: the page has {quoted}, {path} has {number}"
+
+
+def measured():
+    """The minutes of each crate, from the bottom up, and then of what is no crate of the repository."""
+    order = re.findall(r"^(\w+):", ORDER.read_text(), re.M)
+    found = {}
+    for line in MINUTES.read_text().split("\n")[:-1]:
+        crate, *words = line.split()
+        minutes = [float(it) for it in words[1::2]]
+        name = crate if crate in order else ""
+        found[name] = [a + b for a, b in zip(found.get(name, [0.0] * len(KINDS)), minutes)]
+    return sorted(found.items(), key=lambda it: order.index(it[0]) if it[0] else len(order))
+
+
+def table():
+    """The table of minutes of docs/PROVING.md."""
+    rows = ["| Crate | Proof | Tests | Mutants | All |", "| --- | --- | --- | --- | --- |"]
+    totals = [0.0] * len(KINDS)
+    for crate, minutes in measured():
+        name = f"`{crate}`" if crate else "programs that must not compile"
+        rows.append(f"| {name} | " + " | ".join(f"{it:.1f}" if it >= 0.05 else "" for it in minutes) + " |")
+        totals = [a + b for a, b in zip(totals, minutes)]
+    rows.append("| all | " + " | ".join(f"{it:.1f}" for it in totals) + " |")
+    return "\n".join(rows) + "\n"
+
+
+def cut_page():
+    """The page of proofs before its table, the table, and the page after it."""
+    before, _, rest = PROVING.read_text(encoding="utf-8").partition(BEGIN)
+    now, found, after = rest.partition(END)
+    if not found:
+        sys.exit(f"{PROVING.name}: no place for the table of minutes")
+    return before + BEGIN, now, END + after
+
+
+def main(arguments):
+    before, now, after = cut_page()
+    if arguments == ["--write"]:
+        PROVING.write_text(before + table() + after, encoding="utf-8")
+        return 0
+    lines = list(wrong_quotes())
+    if now != table():
+        lines.append("docs/PROVING.md: its table of minutes is out of date: tools/numbers.py --write")
+    print("\n".join(lines), end="\n" if lines else "")
+    return 1 if lines else 0
+
+
+if __name__ == "__main__":
+    sys.exit(main(sys.argv[1:]))
