@@ -14,10 +14,11 @@ KEPT = Path(__file__).resolve().parent / "words_kept"
 BE = r"(?:is|are|was|were|be|been|being)"
 # what to write, and the pattern of what not to
 PHRASES = [
-    ("report, return, print", rf"\b{BE} (?:\w+ )?(?:told|answered)\b|\btells?\b|\btold\b"),
-    ("run out of memory; an allocation fails", r"\bwants? of memory\b|\bfor want of\b|\b(?:finds?|found) (?:no )?memory\b|\bmemory (?:is|was) found\b"),
+    ("report, return, print", rf"\b{BE} (?:\w+ )?answered\b|\btold\b|\btells?\b(?! \w+ from\b)"),
+    ("run out of memory; an allocation fails",
+     r"\bwants? of memory\b|\bfor want of\b|\b(?:finds?|found) (?:no )?memory\b|\bmemory (?:is|was) found\b"),
     ("mutant", r"\bwrong bod(?:y|ies)\b"),
-    ("is, is defined in, appears", r"\b(?:stands?|stood|standing)\b"),
+    ("is, is defined in, appears", r"\b(?:stands?|stood|standing)\b(?! (?:for|back|by)\b)"),
     ("borrowed; in place", r"\b(?:lent|lends?|lending)\b"),
     ("if it has none", r"\bwhere (?:it|there|they|one) (?:has|have|is|are|was|were) (?:none|no)\b"),
     ("any caller", r"\bwhoever\b"),
@@ -27,14 +28,15 @@ PHRASES = [
     ("terminates if the system calls do", r"\breturns? where the\b"),
     ("standard error says `device NAME: CAUSE`", r"\bbefore the cause\b"),
     ("unless it runs out of memory", r"\bother than (?:for |want of )?memory\b|\bbut for memory\b|\bcause than memory\b"),
-    ("say the thing", r"\b(?:of|for|over|from|to|in) which (?:that|nothing|all|none|each|it|only)\b|\bof which\b|\bfor which\b|\bbut for\b"),
+    ("say the thing", r"\b(?:of|for) which\b|\bbut for\b"),
     ("again, from scratch", r"\banew\b"),
     ("that nothing else uses", r"\bover which nothing\b"),
     ("if .. report their bytes", r"\bas far as\b|\bin so far\b"),
     ("tested, not proved; neither", r"\bonly tested\b|\bwhat is neither\b"),
     ("exactly if", r"\b(?:exactly|just) where\b"),
 ]
-PHRASES = [(better, re.compile(pattern, re.I)) for better, pattern in PHRASES]
+PATTERNS = [(better, re.compile(pattern, re.I)) for better, pattern in PHRASES]
+# comments of code: on a line of their own, or after code
 COMMENTS = {".rt": re.compile(r"^\s*//[/!]? ?(.*)|^[^\"]*[^:\"]// (.*)"), ".antt": re.compile(r"^\s*--+ ?(.*)|^.* -- (.*)")}
 STRINGS = re.compile(r'"((?:[^"\\]|\\.)*)"')
 
@@ -99,10 +101,12 @@ def hits(path, kept):
             continue
         after = lines[number].lstrip("|> ") if number < len(lines) else ""
         both = f"{line.rstrip()} {after}"
-        for better, pattern in PHRASES:
+        stays = [found.span() for phrase in mine for found in phrase.finditer(both)]
+        for better, pattern in PATTERNS:
             for found in pattern.finditer(both):
                 # what begins in the next line is found there
-                if found.start() < len(line.rstrip()) and not any(it.start() <= found.start() < it.end() for phrase in mine for it in phrase.finditer(both)):
+                is_here = found.start() < len(line.rstrip())
+                if is_here and not any(start <= found.start() < end for start, end in stays):
                     yield number, found[0], better
 
 

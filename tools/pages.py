@@ -169,7 +169,7 @@ def has_name(text, name):
 
 
 def part_wrong(page, part):
-    """What is wrong with a part of a cell, `[F](PATH), [G](PATH): a, b`: each F of Rattle has the clauses a and b, or its file the tests."""
+    """What is wrong with a part of a cell, `[F](PATH), [G](PATH): a, b`: F and G have the clauses a and b, or their files the tests."""
     named = CODE.findall(part.rpartition("): ")[2]) if "): " in part else []
     for text, target in LINK.findall(part):
         path = (page.path.parent / target.split("#")[0]).resolve()
