@@ -1,9 +1,10 @@
 #!/usr/bin/env python3
 """Checks the pages of the repository: tools/pages.py, or of some pages tools/pages.py PAGE... Prints FILE:LINE: what is wrong.
 
-It checks the number of lines of each page that has a budget, the length of lines, the words of table cells, that each link
-leads somewhere, and that the functions, clauses, tests and definitions that docs/PROMISES.md and docs/TESTED.md name exist.
-With --sizes it prints the lines, the words, the longest line and the largest table cell of each page with a budget instead."""
+It checks the number of lines of each page that has a budget, the length of lines, the words of table cells, that each link and each
+path in a code span leads somewhere, and that the functions, clauses, tests and definitions that docs/PROMISES.md and
+docs/TESTED.md name exist. With --sizes it prints the lines, the words, the longest line and the largest table cell of each page
+with a budget instead."""
 import fnmatch
 import re
 import sys
@@ -146,6 +147,20 @@ def links_wrong(page, of_path):
                 yield number, f"no heading #{name} in {path or page.name}"
 
 
+# a path in a code span, but for what is made and what stands for several
+PATH = re.compile(r"(?:crates|docs|tests|tools|system|man|examples|vectors)/[\w./-]*\w")
+
+
+def paths_wrong(page):
+    """The paths in code spans that lead nowhere, from the top of the repository. Old versions had others."""
+    for number, line in page.text_lines() if page.name != "CHANGELOG.md" else ():
+        for span in CODE.findall(line):
+            path = span.split(" ")[0]
+            made = "/out/" in path or re.search(r"/(?:NAME|CRATE)\b", path)
+            if PATH.fullmatch(path) and not made and not (TOP / path).exists():
+                yield number, f"no {path}"
+
+
 # ---- names of clauses, tests and definitions
 
 
@@ -229,7 +244,7 @@ def main(arguments):
     for page in all_pages:
         if arguments and not any(fnmatch.fnmatch(page.name, it) for it in arguments):
             continue
-        wrong = list(links_wrong(page, of_path))
+        wrong = [*links_wrong(page, of_path), *paths_wrong(page)]
         if page.name in BUDGETS:
             wrong += sizes_wrong(page)
         if page.name in ("docs/PROMISES.md", "docs/TESTED.md"):
