@@ -12,7 +12,7 @@
 #               PREFIX (/usr/local), make uninstall takes them away
 # make deb     makes a Debian package of the same: make deb MAINTAINER='NAME <ADDRESS>'
 # make man     makes the manual pages from the documents
-# make lint    looks at scripts, units, manual pages and the first lines of mutants (Debian's shellcheck, systemd and mandoc)
+# make lint    checks scripts, units, pages, their English and numbers, and mutants (Debian's shellcheck, systemd and mandoc)
 
 .PHONY: run try test plants mutants bench failover check clean install uninstall deb man lint
 
