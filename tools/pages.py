@@ -133,7 +133,7 @@ def anchors(page):
 def links_wrong(page, of_path):
     for number, line in page.text_lines():
         # a link in a code span is none
-        bare = re.sub(r"(?<!\[)`[^`]*`(?!\])", "", line)
+        bare = CODE.sub("code", line)
         targets = [match[2] for match in LINK.finditer(bare)]
         targets += re.findall(r'(?:src|srcset|href)="([^"]+)"', bare)
         for target in targets:
