@@ -1,21 +1,21 @@
-//! Calls of what the program answers on files.
+//! Calls of `answer` for each word on files, and of `whole`, which reads a file.
 
+use crate::allocations::{Code, Turn, code_of, no_memory};
 use crate::calls::{Given, Listed};
-use crate::growths::{Code, Turn, code_of, no_memory};
 use crate::images::Images;
 use crate::policies::{definitions, text};
 use ifs_answer::{Answer, Task, answer};
 use ifs_host::files::{FileFault, whole};
 use std::alloc::Global;
 
-/// Which call it is.
+/// A call.
 #[derive(Clone, Copy)]
 pub enum Call {
     Answer(Task),
     Whole,
 }
 
-/// Each of them.
+/// All calls.
 pub fn calls() -> [Listed<Call>; 8] {
     [
         Listed::new(Call::Answer(Task::Check), "answer on check", "AllocError"),
@@ -37,7 +37,7 @@ pub fn calls() -> [Listed<Call>; 8] {
     ]
 }
 
-/// What they are given.
+/// Their inputs.
 #[derive(Drop)]
 pub struct Files<'a> {
     /// The policy's image.

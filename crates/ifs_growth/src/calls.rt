@@ -1,27 +1,27 @@
-//! Calls whose growths are refused in turn.
+//! Refuses the allocations of calls in turn.
 
+use crate::allocations::{Code, Turn};
 use crate::failure::{Came, Failure};
-use crate::growths::{Code, Turn};
 use std::alloc::Global;
 
-/// The most growths of a call that are refused.
+/// A call has to have fewer allocations than this.
 const MOST: u32 = 65_536;
 
-/// A public call that takes memory.
+/// A public call that allocates.
 #[derive(Drop)]
 pub struct Listed<C> {
-    /// Which call it is.
+    /// The call.
     pub call: C,
-    /// What it is called in what is printed.
+    /// Its name in the output.
     pub name: &'static str,
-    /// What its own fault for want of memory says.
+    /// The text of its out-of-memory fault.
     pub code: &'static str,
-    /// What the other one says, where it has two.
+    /// The text of its other out-of-memory fault. If it has only one, the same text.
     pub other: &'static str,
 }
 
 impl<C> Listed<C> {
-    /// A call with one fault for want of memory.
+    /// A call with one out-of-memory fault.
     pub fn new(call: C, name: &'static str, code: &'static str) -> Self {
         Listed {
             call,
@@ -31,31 +31,31 @@ impl<C> Listed<C> {
         }
     }
 
-    /// Whether a code is that of want of memory.
+    /// Whether a code is that of an out-of-memory fault of this call.
     fn is_own(&self, code: &Code) -> bool {
         self.code == code.as_str() || self.other == code.as_str()
     }
 }
 
-/// What calls are given, and how each is made.
+/// The inputs of calls, and how to make each call.
 pub trait Given {
-    /// Which call it is.
+    /// The call.
     type Call;
 
-    /// Makes a call in a turn. Of its answer come bytes that tell it from another one, of a refusal its code.
+    /// Makes a call in a turn. Returns bytes that distinguish its answer from others, or the code of its fault.
     fn make(&self, call: &Self::Call, turn: Turn) -> Result<Vec<u8>, Code>;
 }
 
 /// How the turns of a call went.
 #[derive(Clone, Copy)]
 pub struct Turns {
-    /// How many growths were refused.
+    /// How many allocations were refused.
     pub growths: u32,
-    /// How many bytes tell its answer.
+    /// How many bytes represent its answer.
     pub bytes: usize,
 }
 
-/// Refuses growth 1, 2, 3 and so on of a call, until a turn meets no refusal.
+/// Refuses allocation 1, 2, 3 and so on of a call, until a turn refuses none.
 pub fn refuse_in_turn<G: Given>(
     alloc: Global,
     given: &G,
@@ -74,8 +74,8 @@ pub fn refuse_in_turn<G: Given>(
     Err(failure(MOST, Came::Unending))
 }
 
-/// Makes a call in the turn of a growth, and where that was refused once more with ample memory. Whether the growth
-/// was refused.
+/// Makes a call in the turn of an allocation. If the allocation was refused, makes the call again with ample memory. Returns
+/// whether it was refused.
 fn is_refused<G: Given>(
     given: &G,
     listed: &Listed<G::Call>,
@@ -92,7 +92,7 @@ fn is_refused<G: Given>(
             Ok(false)
         }
         Err(code) => {
-            tells_want(listed, growth, met, code)?;
+            check_fault(listed, growth, met, code)?;
             let again = given.make(&listed.call, Turn::ample(turn.alloc()))?;
             same(growth, again.as_slice(), usual)?;
             Ok(true)
@@ -100,8 +100,8 @@ fn is_refused<G: Given>(
     }
 }
 
-/// Whether a refusal is the call's own for want of memory, where a growth was refused.
-fn tells_want<C>(listed: &Listed<C>, growth: u32, met: bool, code: Code) -> Result<(), Failure> {
+/// Checks that a fault is an out-of-memory fault of the call, and that an allocation was refused.
+fn check_fault<C>(listed: &Listed<C>, growth: u32, met: bool, code: Code) -> Result<(), Failure> {
     if !listed.is_own(&code) {
         Err(Failure::Fault { growth, code })
     } else if met {
@@ -111,7 +111,7 @@ fn tells_want<C>(listed: &Listed<C>, growth: u32, met: bool, code: Code) -> Resu
     }
 }
 
-/// Whether an answer is the usual one.
+/// Checks that an answer is the usual one.
 fn same(growth: u32, bytes: &[u8], usual: &[u8]) -> Result<(), Failure> {
     if bytes == usual {
         Ok(())

@@ -1,39 +1,39 @@
-//! What ends the program early.
+//! Failures of the program.
 
-use crate::growths::Code;
+use crate::allocations::Code;
 use std::io;
 use thiserror::Error;
 
-/// What came in place of what is promised.
+/// What a call did instead of what it promises.
 #[derive(Clone, Copy, Debug, PartialEq, Eq, Error)]
 pub enum Came {
-    /// An answer, although the growth was refused.
+    /// It answered, although the allocation was refused.
     #[error("answered, although the growth was refused")]
     Answer,
-    /// Another answer than with ample memory before.
+    /// It returned another answer than before with ample memory.
     #[error("another answer than the usual one")]
     Another,
-    /// A refusal for want of memory, although no growth was refused.
+    /// It reported that memory ran out, although no allocation was refused.
     #[error("want of memory, although no growth was refused")]
     Want,
-    /// The call has more growths than are tried.
+    /// It has more allocations than the program tries.
     #[error("there is no end of growths")]
     Unending,
 }
 
-/// Why the program does not come to its end.
+/// Why the program ends early.
 #[derive(Debug, Drop, Error)]
 pub enum Failure {
-    /// A call answered something else in the turn of a growth.
+    /// A call broke its promise in the turn of an allocation.
     #[error("growth {growth}: {came}")]
     Turn { growth: u32, came: Came },
-    /// A call told another fault in the turn of a growth.
+    /// A call reported another fault in the turn of an allocation.
     #[error("growth {growth}: told {code}")]
     Fault { growth: u32, code: Code },
-    /// A session over devices came to something else, where the one of this number failed or the input was cut.
+    /// A session broke its promise. The number counts the calls before the one that failed, or the bytes before the cut.
     #[error("session {0}: something else than what is promised")]
     Session(usize),
-    /// What the calls are given could not be made.
+    /// The inputs of the calls could not be made.
     #[error("nothing to begin with: {0}")]
     Given(Code),
     /// Standard output failed.

@@ -1,11 +1,11 @@
-//! Sessions in which each read, write and run fails in turn, the input is cut, or does not end.
+//! Sessions in which each read, write or run fails in turn, or the input is cut or endless.
 
+use crate::allocations::{Code, code_of, no_memory};
 use crate::failure::Failure;
-use crate::growths::{Code, code_of, no_memory};
 use crate::readings::{opened, readings, readings_after};
 use crate::talks::{
     REPLIES, REQUESTS, SERVED, SERVED_ENDS, SERVED_REPLIES, SERVED_STEPS, STEPS, first, head,
-    is_cut_session, lines_of, served_as_told,
+    is_cut_session, is_served_session, lines_of,
 };
 use ifs_core::Core;
 use ifs_session::{
@@ -14,7 +14,7 @@ use ifs_session::{
 };
 use std::alloc::{AllocError, Global};
 
-/// More writes and runs than there are in a session.
+/// More reads, writes and runs than a session has.
 const MANY: usize = 100;
 
 /// Which sessions are tried.
@@ -24,7 +24,7 @@ pub enum Trial {
     Reads,
     /// The write after so many writes of `simulate` fails.
     Writes,
-    /// The same of `serve_one`.
+    /// The same with `serve_one`.
     ServedReads,
     ServedWrites,
     /// The run after so many runs of the host fails.
@@ -35,7 +35,7 @@ pub enum Trial {
     Endless,
 }
 
-/// Each of them, with what it is called in what is printed.
+/// All trials, with their names in the output.
 pub const TRIALS: [(Trial, &str); 7] = [
     (Trial::Reads, "simulate, reads that failed"),
     (Trial::Writes, "simulate, writes that failed"),
@@ -49,16 +49,15 @@ pub const TRIALS: [(Trial, &str); 7] = [
 /// How one session of a trial went.
 #[derive(Clone, Copy, PartialEq, Eq)]
 enum Went {
-    /// Something failed, and all was as promised.
+    /// Something failed, and the session kept its promises.
     Failed,
-    /// Nothing failed, and all was as promised.
+    /// Nothing failed, and the session kept its promises.
     Whole,
-    /// It was not as promised.
+    /// It broke a promise.
     Wrong,
 }
 
-/// Makes the sessions of a trial on the image of the first run, one after the other, until nothing fails. How many
-/// failed.
+/// Makes the sessions of a trial on the image of the first run, until nothing fails. Returns how many sessions had a failure.
 pub fn tried(alloc: Global, image: &[u8], trial: Trial) -> Result<usize, Failure> {
     for number in 0..MANY {
         match nth_session(alloc, image, trial, number)? {
@@ -70,7 +69,6 @@ pub fn tried(alloc: Global, image: &[u8], trial: Trial) -> Result<usize, Failure
     Err(Failure::Session(MANY))
 }
 
-/// Makes the session of this number.
 fn nth_session(alloc: Global, image: &[u8], trial: Trial, number: usize) -> Result<Went, Code> {
     match trial {
         Trial::Reads => read_fails(alloc, image, number),
@@ -84,7 +82,7 @@ fn nth_session(alloc: Global, image: &[u8], trial: Trial, number: usize) -> Resu
     }
 }
 
-/// How a session went in which something failed, or nothing did.
+/// How a session went, by whether something failed and whether it kept its promises.
 fn failed_or_whole(failed: bool, as_promised: bool) -> Went {
     match (as_promised, failed) {
         (false, _) => Went::Wrong,
@@ -93,16 +91,16 @@ fn failed_or_whole(failed: bool, as_promised: bool) -> Went {
     }
 }
 
-/// What a session came to.
+/// A finished session.
 #[derive(Drop)]
 struct Session {
     answer: Result<Summary, SessionFault>,
-    /// Where the core stands after it.
-    stands: Vec<u8>,
+    /// What the core's readers return afterwards.
+    readings: Vec<u8>,
 }
 
 impl Session {
-    /// A session on a core of its own.
+    /// Makes a session on a core of its own.
     fn new<R: ByteIn>(
         alloc: Global,
         image: &[u8],
@@ -113,18 +111,18 @@ impl Session {
         let answer = simulate(&mut core, reader, writer);
         Ok(Session {
             answer,
-            stands: readings(alloc, &core)?,
+            readings: readings(alloc, &core)?,
         })
     }
 
-    /// Whether the core stands as after the first so many steps.
-    fn stands_after(&self, alloc: Global, image: &[u8], count: usize) -> Result<bool, Code> {
+    /// Whether the core is as after the first `count` steps.
+    fn has_readings_after(&self, alloc: Global, image: &[u8], count: usize) -> Result<bool, Code> {
         let after = readings_after(alloc, image, first(&STEPS, count))?;
-        Ok(after.as_slice() == self.stands.as_slice())
+        Ok(after.as_slice() == self.readings.as_slice())
     }
 }
 
-/// The lines that were whole before the read that fails have been answered, and no other.
+/// Exactly the lines that were complete before the failed read have a reply.
 fn read_fails(alloc: Global, image: &[u8], calls: usize) -> Result<Went, Code> {
     let mut reader = MemoryIn::failing_after(REQUESTS, calls as u64);
     let mut writer = MemoryOut::new(alloc);
@@ -132,30 +130,30 @@ fn read_fails(alloc: Global, image: &[u8], calls: usize) -> Result<Went, Code> {
     let lines = lines_of(REQUESTS.get(..calls).unwrap_or(REQUESTS));
     let failed = session.answer == Err(SessionFault::ReadFailed);
     let answered = writer.written() == head(REPLIES, lines);
-    let stands = session.stands_after(alloc, image, lines)?;
+    let is_after = session.has_readings_after(alloc, image, lines)?;
     let right = failed == (calls < REQUESTS.len()) && (failed || session.answer.is_ok());
-    Ok(failed_or_whole(failed, answered && stands && right))
+    Ok(failed_or_whole(failed, answered && is_after && right))
 }
 
-/// What was written begins the replies, and the core stands as after the steps of some of the lines.
+/// The output is a prefix of the replies, and the core is as after the steps of some of the lines.
 fn write_fails(alloc: Global, image: &[u8], calls: usize) -> Result<Went, Code> {
     let mut reader = MemoryIn::new(REQUESTS);
     let mut writer = MemoryOut::failing_after(alloc, calls as u64);
     let session = Session::new(alloc, image, &mut reader, &mut writer)?;
     let failed = session.answer == Err(SessionFault::WriteFailed);
-    let is_cut = is_cut_session(alloc, image, session.stands.as_slice(), writer.written())?;
+    let is_cut = is_cut_session(alloc, image, session.readings.as_slice(), writer.written())?;
     let whole = session.answer.is_ok() && writer.written() == REPLIES;
     Ok(failed_or_whole(failed, is_cut && (failed || whole)))
 }
 
-/// What a served client came to.
+/// A finished connection.
 #[derive(Clone, Copy)]
 struct Talk {
     end: End,
     /// How many steps were made.
     steps: usize,
-    /// Whether they are the first ones of the lines, the core stands after them, and the replies begin so.
-    as_told: bool,
+    /// Whether the steps begin those of the lines, the core is as after them, and the output is a prefix of the replies.
+    is_right: bool,
 }
 
 impl Talk {
@@ -173,7 +171,7 @@ impl Talk {
         Talk::of(alloc, image, &core, &served, writer.written())
     }
 
-    /// What it came to where this was served, written and left.
+    /// The connection that left this core and wrote these bytes.
     fn of(
         alloc: Global,
         image: &[u8],
@@ -181,21 +179,21 @@ impl Talk {
         served: &Served,
         written: &[u8],
     ) -> Result<Self, Code> {
-        let stands = readings(alloc, core)?;
+        let reading = readings(alloc, core)?;
         Ok(Talk {
             end: served.end,
             steps: served.steps.len(),
-            as_told: served_as_told(alloc, image, served, stands.as_slice(), written)?,
+            is_right: is_served_session(alloc, image, served, reading.as_slice(), written)?,
         })
     }
 
-    /// Whether all was served.
+    /// Whether every line was served.
     fn is_whole(self) -> bool {
         self.end == End::Stop && self.steps == SERVED_STEPS.len()
     }
 }
 
-/// The lines that were whole before the read that fails have been served, and no other.
+/// Exactly the lines that were complete before the failed read are served.
 fn served_read_fails(alloc: Global, image: &[u8], calls: usize) -> Result<Went, Code> {
     let mut reader = MemoryIn::failing_after(SERVED, calls as u64);
     let mut writer = MemoryOut::new(alloc);
@@ -205,20 +203,20 @@ fn served_read_fails(alloc: Global, image: &[u8], calls: usize) -> Result<Went, 
     let answered = writer.written() == head(SERVED_REPLIES, lines);
     let made = SERVED_ENDS.get(lines) == Some(&talk.steps);
     let right = failed == (calls < SERVED.len()) && (failed || talk.is_whole());
-    Ok(failed_or_whole(failed, talk.as_told && answered && made && right))
+    Ok(failed_or_whole(failed, talk.is_right && answered && made && right))
 }
 
-/// What was written begins the replies, and the core stands after the steps that are told.
+/// The output is a prefix of the replies, and the core is as after the reported steps.
 fn served_write_fails(alloc: Global, image: &[u8], calls: usize) -> Result<Went, Code> {
     let mut reader = MemoryIn::new(SERVED);
     let mut writer = MemoryOut::failing_after(alloc, calls as u64);
     let talk = Talk::new(alloc, image, Vec::new(alloc), &mut reader, &mut writer)?;
     let failed = talk.end == End::Fault(SessionFault::WriteFailed);
     let whole = talk.is_whole() && writer.written() == SERVED_REPLIES;
-    Ok(failed_or_whole(failed, talk.as_told && (failed || whole)))
+    Ok(failed_or_whole(failed, talk.is_right && (failed || whole)))
 }
 
-/// The steps and the replies are the same as without.
+/// A failed run changes neither the steps nor the replies.
 fn run_fails(alloc: Global, image: &[u8], calls: usize) -> Result<Went, Code> {
     let statuses = failing_after(alloc, calls).map_err(no_memory)?;
     let mut reader = MemoryIn::new(SERVED);
@@ -228,10 +226,10 @@ fn run_fails(alloc: Global, image: &[u8], calls: usize) -> Result<Went, Code> {
     let runs = SERVED_STEPS
         .iter()
         .filter(|step| **step == ifs_core::Step::Take);
-    Ok(failed_or_whole(calls < runs.count(), talk.as_told && whole))
+    Ok(failed_or_whole(calls < runs.count(), talk.is_right && whole))
 }
 
-/// Statuses of runs, of which the one after so many fails.
+/// The statuses of runs: `calls` that end with 1, and then one that fails.
 fn failing_after(alloc: Global, calls: usize) -> Result<Vec<Result<i32, HostFault>>, AllocError> {
     let mut statuses = Vec::new(alloc);
     for _ in 0..calls {
@@ -241,8 +239,7 @@ fn failing_after(alloc: Global, calls: usize) -> Result<Vec<Result<i32, HostFaul
     Ok(statuses)
 }
 
-/// What is left without a newline is a line: a request where that alone is missing, and no request where it was cut
-/// before its end.
+/// The rest after the last newline is a line too. If only its newline is missing, it is a request. If more is missing, it is none.
 fn cut(alloc: Global, image: &[u8], bytes: usize) -> Result<Went, Code> {
     let given = REQUESTS.get(..bytes).unwrap_or(REQUESTS);
     let mut writer = MemoryOut::new(alloc);
@@ -256,17 +253,17 @@ fn cut(alloc: Global, image: &[u8], bytes: usize) -> Result<Went, Code> {
         b"fault C1\n"
     };
     let answered = is_joined(writer.written(), head(REPLIES, whole), rest);
-    let stands = session.stands_after(alloc, image, whole)?;
-    let right = answered && stands && session.answer.is_ok();
+    let is_after = session.has_readings_after(alloc, image, whole)?;
+    let right = answered && is_after && session.answer.is_ok();
     Ok(failed_or_whole(bytes < REQUESTS.len(), right))
 }
 
-/// Whether bytes are these two, one after the other.
+/// Whether bytes are these two parts, one after the other.
 fn is_joined(bytes: &[u8], front: &[u8], back: &[u8]) -> bool {
     bytes.strip_prefix(front) == Some(back)
 }
 
-/// A reader that gives a line, and then another one again and again. It counts what it gives.
+/// A reader that gives one line, and then another one again and again. It counts its reads.
 #[derive(Drop)]
 struct Again<'a> {
     line: &'a [u8],
@@ -290,13 +287,13 @@ impl ByteIn for Again<'_> {
     }
 }
 
-/// A line about an interface that is unknown, 257 bytes with its end.
+/// A line about an unknown interface: 257 bytes with its newline.
 const LONG_LINE: &[u8] = b"link xxxxxxxxxxxxxxxxxxxxxxxxxxxxxxxxxxxxxxxxxxxxxxxxxxxxxxxxxxxxxxxxxxxxxxxxxxxxxxxxxxxxxxxxxxxxxxxxxxxxxxxxxxxxxxxxxxxxxxxxxxxxxxxxxxxxxxxxxxxxxxxxxxxxxxxxxxxxxxxxxxxxxxxxxxxxxxxxxxxxxxxxxxxxxxxxxxxxxxxxxxxxxxxxxxxxxxxxxxxxxxxxxxxxxxxxxxxxxxxxxxxxxxxx up\n";
 
-/// How many of these lines are whole within 16,777,216 bytes, after a line of 14.
+/// How many of these lines are complete within 16,777,216 bytes, after a line of 14 bytes.
 const WHOLE: usize = 65_280;
 
-/// Byte 16,777,217 ends the session, in the midst of a line that is not answered.
+/// Byte 16,777,217 ends the session within a line, which gets no reply.
 fn endless(alloc: Global, image: &[u8]) -> Result<Went, Code> {
     let mut reader = Again {
         line: head(REQUESTS, 1),
@@ -307,11 +304,11 @@ fn endless(alloc: Global, image: &[u8]) -> Result<Went, Code> {
     let session = Session::new(alloc, image, &mut reader, &mut writer)?;
     let failed = session.answer == Err(SessionFault::TooMuchInput) && reader.given == 16_777_217;
     let answered = is_first_and_faults(writer.written());
-    let stands = session.stands_after(alloc, image, 1)?;
-    Ok(failed_or_whole(true, failed && answered && stands))
+    let is_after = session.has_readings_after(alloc, image, 1)?;
+    Ok(failed_or_whole(true, failed && answered && is_after))
 }
 
-/// Whether the first reply was written, and then that the interface is not known, for each whole line.
+/// Whether the output is the first reply, and then `fault C4` for each complete line.
 fn is_first_and_faults(written: &[u8]) -> bool {
     let Some(faults) = written.strip_prefix(head(REPLIES, 1)) else {
         return false;

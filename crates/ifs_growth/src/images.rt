@@ -1,10 +1,10 @@
-//! Calls on an image: its bytes, what is read of them, its assembly text.
+//! Calls on an image: on its bytes, its parts and its assembly text.
 
+use crate::allocations::{Code, Turn, code_of, no_memory};
 use crate::calls::{Given, Listed};
-use crate::growths::{Code, Turn, code_of, no_memory};
-use crate::policies::{definitions, text, told, written};
+use crate::policies::{definitions, text, text_of, written};
 use crate::readings::{opened, readings};
-use crate::reloads::{handed_on, taken_over};
+use crate::reloads::{carried, reloaded};
 use ifs_asm::laws::reads_back;
 use ifs_asm::{assemble, disassemble};
 use ifs_core::{Core, OpenFault};
@@ -13,7 +13,7 @@ use ifs_image::{Image, read, view, write};
 use ifs_verify::verify;
 use std::alloc::Global;
 
-/// Which call it is.
+/// A call.
 #[derive(Clone, Copy)]
 pub enum Call {
     View,
@@ -28,7 +28,7 @@ pub enum Call {
     ReadsBack,
 }
 
-/// Each of them.
+/// All calls.
 pub fn calls() -> [Listed<Call>; 10] {
     [
         Listed::new(Call::View, "ifs_image::view", "I0"),
@@ -49,7 +49,7 @@ pub fn calls() -> [Listed<Call>; 10] {
     ]
 }
 
-/// What they are given.
+/// Their inputs.
 #[derive(Drop)]
 pub struct Images {
     /// The bytes of the image that the text compiles to.
@@ -59,7 +59,7 @@ pub struct Images {
 }
 
 impl Images {
-    /// What the text compiles to, as bytes, read, and as assembly text.
+    /// The image of the policy's text: its bytes, its parts and its assembly text.
     pub fn new(alloc: Global) -> Result<Self, Code> {
         let bytes = compile(alloc, text(), definitions()).map_err(code_of)?;
         let image = read(alloc, bytes.as_slice()).map_err(code_of)?;
@@ -89,8 +89,8 @@ impl Given for Images {
                 .map_err(no_memory),
             Call::Verify => made_verified(turn, self.bytes.as_slice()),
             Call::Open => made_core(turn, self.bytes.as_slice()),
-            Call::Carry => handed_on(turn, self.bytes.as_slice()),
-            Call::TakeOver => taken_over(turn, self.bytes.as_slice()),
+            Call::Carry => carried(turn, self.bytes.as_slice()),
+            Call::TakeOver => reloaded(turn, self.bytes.as_slice()),
             Call::Disassemble => made_text(turn, &self.image),
             Call::Assemble => assembled(turn, self.listing.as_str()),
             Call::ReadsBack => read_back(turn, &self.image),
@@ -100,7 +100,7 @@ impl Given for Images {
 
 fn made_view(turn: Turn, bytes: &[u8]) -> Result<Vec<u8>, Code> {
     let image = turn.ended(view(turn.begun(), bytes));
-    told(turn.alloc(), &image.map_err(code_of)?)
+    text_of(turn.alloc(), &image.map_err(code_of)?)
 }
 
 fn made_image(turn: Turn, bytes: &[u8]) -> Result<Vec<u8>, Code> {
@@ -110,10 +110,10 @@ fn made_image(turn: Turn, bytes: &[u8]) -> Result<Vec<u8>, Code> {
 
 fn made_verified(turn: Turn, bytes: &[u8]) -> Result<Vec<u8>, Code> {
     let verified = turn.ended(verify(turn.begun(), bytes));
-    told(turn.alloc(), &verified.map_err(code_of)?)
+    text_of(turn.alloc(), &verified.map_err(code_of)?)
 }
 
-/// Of a refusal the image that comes back has to open as usual.
+/// If the opening fails, the returned image has to open as usual.
 fn made_core(turn: Turn, bytes: &[u8]) -> Result<Vec<u8>, Code> {
     let verified = verify(turn.alloc(), bytes).map_err(code_of)?;
     match turn.ended(Core::open(turn.begun(), verified)) {
@@ -122,11 +122,11 @@ fn made_core(turn: Turn, bytes: &[u8]) -> Result<Vec<u8>, Code> {
     }
 }
 
-/// What is told of a refusal to open, where the image that came back opens as that of the bytes.
+/// The code of a failed opening. It says so if the returned image does not open as usual.
 fn code_of_fault<'a>(alloc: Global, fault: OpenFault<'a>, bytes: &'a [u8]) -> Code {
     let OpenFault { verified } = fault;
     match Core::open(alloc, verified) {
-        Ok(core) => code_of_opened(stands_as_opened(alloc, &core, bytes)),
+        Ok(core) => code_of_opened(is_as_opened(alloc, &core, bytes)),
         Err(OpenFault { verified: _ }) => code_of_opened(false),
     }
 }
@@ -139,7 +139,7 @@ fn code_of_opened(as_usual: bool) -> Code {
     })
 }
 
-fn stands_as_opened(alloc: Global, core: &Core<'_>, bytes: &[u8]) -> bool {
+fn is_as_opened(alloc: Global, core: &Core<'_>, bytes: &[u8]) -> bool {
     match (readings(alloc, core), readings_of(alloc, bytes)) {
         (Ok(one), Ok(other)) => one.as_slice() == other.as_slice(),
         _ => false,

@@ -1,17 +1,17 @@
-//! `ifs_growth`: refuses each growth of each public call that takes memory, in turn, and lets each read, write and run
-//! of sessions fail.
+//! Refuses each allocation of each public call that allocates, in turn. It also lets each read, write and run of sessions fail in
+//! turn.
 //!
-//! A call answers its own code of want of memory for each growth that is refused, and the same call with ample memory
-//! then its usual answer. What refuses the growths is a library that is preloaded to this program
-//! (tests/programs/refuse_growth.c); without it no growth is refused. A line is printed for each call; on something else than
-//! what is promised the program ends with status 1 and says what came on standard error.
+//! If an allocation is refused, the call has to return its own out-of-memory fault. The same call with ample memory then has to
+//! return its usual answer. A preloaded library refuses the allocations (tests/programs/refuse_growth.c). Without it none is
+//! refused. The program prints a line for each call. If a call breaks its promise, the program reports it on standard error and
+//! ends with status 1.
 #![tactic(auto)]
 
+mod allocations;
 mod answers;
 mod calls;
 mod failure;
 mod faults;
-mod growths;
 mod images;
 mod policies;
 mod readings;
@@ -32,14 +32,13 @@ fn main(rt: HostRuntime) -> ExitCode {
     match all(&rt) {
         Ok(()) => ExitCode::SUCCESS,
         Err(failure) => {
-            // nothing is left to be done where standard error fails too
-            let _told = eprintln!(rt; "{failure}");
+            // if standard error fails too, nothing is left to do
+            let _written = eprintln!(rt; "{failure}");
             ExitCode::FAILURE
         }
     }
 }
 
-/// All that is tried, in turn.
 fn all(rt: &HostRuntime) -> Result<(), Failure> {
     try_policies(rt)?;
     let images = Images::new(rt.alloc())?;
@@ -64,7 +63,7 @@ fn try_sessions(rt: &HostRuntime, sessions: &Sessions) -> Result<(), Failure> {
     talked(rt, sessions.image())
 }
 
-/// Lets sessions on an image fail, and prints a line for each trial.
+/// Makes the sessions of each trial on an image, and prints a line for each trial.
 fn talked(rt: &HostRuntime, image: &[u8]) -> Result<(), Failure> {
     for (trial, name) in faults::TRIALS {
         print!(rt; "{name}: ")?;
@@ -74,7 +73,7 @@ fn talked(rt: &HostRuntime, image: &[u8]) -> Result<(), Failure> {
     Ok(())
 }
 
-/// Refuses the growths of these calls, and prints a line for each.
+/// Refuses the allocations of these calls in turn, and prints a line for each call.
 fn tried<R: Print + Alloc<A = Global>, G: Given>(
     rt: &R,
     given: &G,

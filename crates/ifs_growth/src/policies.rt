@@ -1,7 +1,7 @@
 //! Calls on a policy's text, its tokens, its tree and the policy itself.
 
+use crate::allocations::{Code, Turn, code_of, no_memory};
 use crate::calls::{Given, Listed};
-use crate::growths::{Code, Turn, code_of, no_memory};
 use crate::readings::readings;
 use ifs_core::Step;
 use ifs_gen::laws::replies_of_text;
@@ -14,7 +14,7 @@ use std::alloc::Global;
 use std::fmt::Debug;
 use std::io::Write;
 
-/// A policy with macros, notes, conditions that stand twice, and more entries in each table than a first growth holds.
+/// A policy with macros, notes and repeated conditions. Each table has more entries than a first allocation holds.
 const TEXT: &str = "
 # both addresses
 up = '$outside.link.up && $inside.link.up'
@@ -49,10 +49,10 @@ state unused { if \"true\" every 604800 || \"false\" every 1 set-state waits }
 state \"last one\" { }
 ";
 
-/// What stands beside it.
+/// Its definitions.
 const DEFINITIONS: &[(&str, &str)] = &[("outside", "carp0"), ("inside", "carp1")];
 
-/// The policy's text. That it is the one above is of no matter to a proof, which would else unfold all of it.
+/// The policy's text. A proof does not have to know the text, so the function hides it.
 pub fn text() -> &'static str {
     TEXT
 }
@@ -62,7 +62,7 @@ pub fn definitions() -> &'static [(&'static str, &'static str)] {
     DEFINITIONS
 }
 
-/// Steps of its core.
+/// Steps on its core.
 const STEPS: [Step; 5] = [
     Step::Tick(7),
     Step::Take,
@@ -71,7 +71,7 @@ const STEPS: [Step; 5] = [
     Step::Take,
 ];
 
-/// Which call it is.
+/// A call.
 #[derive(Clone, Copy)]
 pub enum Call {
     Tokens,
@@ -85,7 +85,7 @@ pub enum Call {
     RepliesOfText,
 }
 
-/// Each of them.
+/// All calls.
 pub fn calls() -> [Listed<Call>; 9] {
     [
         Listed::new(Call::Tokens, "ifs_lex::tokens", "P0"),
@@ -100,7 +100,7 @@ pub fn calls() -> [Listed<Call>; 9] {
     ]
 }
 
-/// What they are given beside the text.
+/// Their inputs beside the text.
 #[derive(Drop)]
 pub struct Policies {
     tree: Tree,
@@ -108,7 +108,7 @@ pub struct Policies {
 }
 
 impl Policies {
-    /// All that comes of the text.
+    /// The tree and the policy of the text.
     pub fn new(alloc: Global) -> Result<Self, Code> {
         let tokens = tokens(alloc, text(), definitions()).map_err(code_of)?;
         let tree = parse(alloc, tokens.as_slice()).map_err(code_of)?;
@@ -139,23 +139,23 @@ impl Given for Policies {
 
 fn made_tokens(turn: Turn) -> Result<Vec<u8>, Code> {
     let tokens = turn.ended(tokens(turn.begun(), text(), definitions()));
-    told(turn.alloc(), &tokens.map_err(code_of)?)
+    text_of(turn.alloc(), &tokens.map_err(code_of)?)
 }
 
-/// A tree is told by the image of its policy, and its notes.
+/// The image of its policy and its notes represent a tree.
 fn made_tree(turn: Turn) -> Result<Vec<u8>, Code> {
     let tokens = tokens(turn.alloc(), text(), definitions()).map_err(code_of)?;
     let tree = turn.ended(parse(turn.begun(), tokens.as_slice()));
-    told_tree(turn.alloc(), &tree.map_err(code_of)?)
+    bytes_of_tree(turn.alloc(), &tree.map_err(code_of)?)
 }
 
-fn told_tree(alloc: Global, tree: &Tree) -> Result<Vec<u8>, Code> {
+fn bytes_of_tree(alloc: Global, tree: &Tree) -> Result<Vec<u8>, Code> {
     let policy = resolve(alloc, tree).map_err(code_of)?;
-    told_policy(alloc, &policy, tree)
+    bytes_and_notes(alloc, &policy, tree)
 }
 
-/// The bytes of a policy, with the notes of its tree.
-fn told_policy(alloc: Global, policy: &Policy, tree: &Tree) -> Result<Vec<u8>, Code> {
+/// The bytes of a policy's image, and then the notes of its tree.
+fn bytes_and_notes(alloc: Global, policy: &Policy, tree: &Tree) -> Result<Vec<u8>, Code> {
     with_notes(bytes_of_policy(alloc, policy)?, tree)
 }
 
@@ -167,7 +167,7 @@ fn made_policy(turn: Turn, tree: &Tree) -> Result<Vec<u8>, Code> {
 fn made_policy_of_text(turn: Turn) -> Result<Vec<u8>, Code> {
     let made = turn.ended(policy_of(turn.begun(), text(), definitions()));
     let found = made.map_err(code_of)?;
-    told_policy(turn.alloc(), &found.policy, &found.tree)
+    bytes_and_notes(turn.alloc(), &found.policy, &found.tree)
 }
 
 fn made_image(turn: Turn, policy: &Policy) -> Result<Vec<u8>, Code> {
@@ -189,11 +189,11 @@ fn made_core(turn: Turn) -> Result<Vec<u8>, Code> {
 
 fn made_replies(turn: Turn) -> Result<Vec<u8>, Code> {
     let replies = turn.ended(replies_of_text(turn.begun(), text(), definitions(), &STEPS));
-    told(turn.alloc(), &replies.map_err(code_of)?)
+    text_of(turn.alloc(), &replies.map_err(code_of)?)
 }
 
-/// What a value shows of itself.
-pub fn told<T: Debug>(alloc: Global, value: &T) -> Result<Vec<u8>, Code> {
+/// The bytes of a value's `Debug` text.
+pub fn text_of<T: Debug>(alloc: Global, value: &T) -> Result<Vec<u8>, Code> {
     let text = format!(in alloc; "{value:?}").map_err(no_memory)?;
     Ok(text.into_bytes())
 }
@@ -203,12 +203,12 @@ pub fn written(alloc: Global, image: &Image) -> Result<Vec<u8>, Code> {
     write(alloc, image).map_err(no_memory)
 }
 
-/// A policy is told by its image.
+/// The bytes of a policy's image.
 fn bytes_of_policy(alloc: Global, policy: &Policy) -> Result<Vec<u8>, Code> {
     written(alloc, &generate(alloc, policy).map_err(code_of)?)
 }
 
-/// Bytes with a tree's notes after them.
+/// Bytes, and then the notes of a tree.
 fn with_notes(mut bytes: Vec<u8>, tree: &Tree) -> Result<Vec<u8>, Code> {
     for line in tree.notes() {
         write!(bytes, "{line}\n").map_err(|_error| code_of("AllocError"))?;

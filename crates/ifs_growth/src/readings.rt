@@ -1,6 +1,6 @@
-//! What a core says of itself.
+//! What a core's readers return.
 
-use crate::growths::{Code, code_of, no_memory};
+use crate::allocations::{Code, code_of, no_memory};
 use ifs_base::{IfaceId, TestId};
 use ifs_core::{Core, OpenFault, Step};
 use ifs_verify::verify;
@@ -14,7 +14,7 @@ pub fn opened<'a>(alloc: Global, image: &'a [u8]) -> Result<Core<'a>, Code> {
     }
 }
 
-/// Where a core stands that is opened on the image of these bytes, after these steps.
+/// The readings of a core on the image of these bytes, after these steps.
 pub fn readings_after(alloc: Global, image: &[u8], steps: &[Step]) -> Result<Vec<u8>, Code> {
     let mut core = opened(alloc, image)?;
     for step in steps {
@@ -23,7 +23,7 @@ pub fn readings_after(alloc: Global, image: &[u8], steps: &[Step]) -> Result<Vec
     readings(alloc, &core)
 }
 
-/// Where a core stands: all that its readers answer.
+/// The readings of a core: all that its readers return.
 pub fn readings(alloc: Global, core: &Core<'_>) -> Result<Vec<u8>, Code> {
     text_of(alloc, core).map_err(no_memory)
 }

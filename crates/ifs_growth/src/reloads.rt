@@ -1,6 +1,6 @@
-//! Calls by which a core hands on what it knows.
+//! Calls of a reload: `Core::carry` and `take_over`.
 
-use crate::growths::{Code, Turn, code_of, no_memory};
+use crate::allocations::{Code, Turn, code_of, no_memory};
 use crate::readings::{opened, readings};
 use bumpalo::Bump;
 use ifs_base::{IfaceId, LinkState};
@@ -9,7 +9,7 @@ use ifs_host::reloading::{ReloadRefused, take_over};
 use ifs_verify::verify;
 use std::alloc::Global;
 
-/// A core on the image of these bytes that knows each of its links, and in whose queue no command waits.
+/// A core on the image of these bytes. It knows each of its links, and its queue is empty.
 fn knowing(alloc: Global, bytes: &[u8]) -> Result<Core<'_>, Code> {
     let mut core = opened(alloc, bytes)?;
     for index in 0..64 {
@@ -20,19 +20,19 @@ fn knowing(alloc: Global, bytes: &[u8]) -> Result<Core<'_>, Code> {
     Ok(core)
 }
 
-/// Takes the commands that wait.
+/// Takes the waiting commands.
 fn take_all(core: &mut Core<'_>) {
     for _ in 0..core.queue_len() {
         core.step(Step::Take);
     }
 }
 
-/// Where a core stands that goes on with what another handed on. Of a refusal the core that comes back has to stand as it
-/// did.
-pub fn handed_on(turn: Turn, bytes: &[u8]) -> Result<Vec<u8>, Code> {
+/// The readings of a core that is opened with what another one carried. If the carrying fails, the returned core has to be
+/// unchanged.
+pub fn carried(turn: Turn, bytes: &[u8]) -> Result<Vec<u8>, Code> {
     let core = knowing(turn.alloc(), bytes)?;
     match turn.ended(core.carry(turn.begun())) {
-        Ok(carried) => gone_on(turn.alloc(), bytes, carried),
+        Ok(carried) => opened_with(turn.alloc(), bytes, carried),
         Err(CarryFault { core, cause }) => Err(code_of_kept(
             turn.alloc(),
             &core,
@@ -42,23 +42,23 @@ pub fn handed_on(turn: Turn, bytes: &[u8]) -> Result<Vec<u8>, Code> {
     }
 }
 
-/// Where a core stands that is opened with what was handed on.
-fn gone_on(alloc: Global, bytes: &[u8], carried: Carried) -> Result<Vec<u8>, Code> {
+/// The readings of a core that is opened with what another one carried.
+fn opened_with(alloc: Global, bytes: &[u8], carried: Carried) -> Result<Vec<u8>, Code> {
     let next = verify(alloc, bytes).map_err(code_of)?;
     readings(alloc, &Core::open_with(next, carried))
 }
 
-/// The code of a refusal, where the core stands as one that knows its links does.
+/// The code of a failure. If the core has changed, a code that says so.
 fn code_of_kept(alloc: Global, core: &Core<'_>, bytes: &[u8], code: Code) -> Code {
-    if stands_as_usual(alloc, core, bytes) {
+    if is_unchanged(alloc, core, bytes) {
         code
     } else {
         code_of("a core that does not stand as it did")
     }
 }
 
-/// Whether a core stands as one that knows its links does.
-fn stands_as_usual(alloc: Global, core: &Core<'_>, bytes: &[u8]) -> bool {
+/// Whether a core is as `knowing` returns it.
+fn is_unchanged(alloc: Global, core: &Core<'_>, bytes: &[u8]) -> bool {
     match (readings(alloc, core), readings_of(alloc, bytes)) {
         (Ok(one), Ok(other)) => one.as_slice() == other.as_slice(),
         _ => false,
@@ -69,10 +69,10 @@ fn readings_of(alloc: Global, bytes: &[u8]) -> Result<Vec<u8>, Code> {
     readings(alloc, &knowing(alloc, bytes)?)
 }
 
-/// Where the core stands that takes over with the image of the same bytes. Of a refusal the core that comes back has to
-/// stand as it did.
-pub fn taken_over(turn: Turn, bytes: &[u8]) -> Result<Vec<u8>, Code> {
-    // an arena does without a large piece where a smaller one is found, so it has room before growths are refused
+/// The readings of the core after a reload with the image of the same bytes. If the reload fails, the returned core has to be
+/// unchanged.
+pub fn reloaded(turn: Turn, bytes: &[u8]) -> Result<Vec<u8>, Code> {
+    // the arena gets its room first: if a large allocation fails, it makes a smaller one and reports nothing
     let room = bytes.len().saturating_mul(4).saturating_add(4_096);
     let images = Bump::try_with_capacity(turn.alloc(), room).map_err(no_memory)?;
     let kept = images.try_alloc_slice_copy(bytes).map_err(no_memory)?;

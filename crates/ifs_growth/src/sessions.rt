@@ -1,11 +1,11 @@
-//! Calls on sessions: what they take of memory, and what their writer takes.
+//! Calls on sessions: their own allocations, and those of their writers.
 
+use crate::allocations::{Code, Turn, code_of, no_memory};
 use crate::answers::followed;
 use crate::calls::{Given, Listed};
-use crate::growths::{Code, Turn, code_of, no_memory};
-use crate::policies::told;
+use crate::policies::text_of;
 use crate::readings::{opened, readings};
-use crate::talks::{REQUESTS, SERVED, is_cut_session, served_as_told};
+use crate::talks::{REQUESTS, SERVED, is_cut_session, is_served_session};
 use arrayvec::ArrayVec;
 use ifs_core::Core;
 use ifs_rows::images::FIRST_RUN;
@@ -15,16 +15,16 @@ use ifs_session::{
 };
 use std::alloc::{AllocError, Global};
 
-/// What follows the line of the policy's image.
+/// The requests after the line of the policy's image.
 const LINES: &str = "tick 7\ntake\nlink carp0 up\nstatus\ntake\ntrace\nwhat\nstop\n";
 
-/// The line of want of memory.
+/// The line of a session that runs out of memory.
 const REFUSED: &[u8] = b"refused V0\n";
 
-/// How many notes a host finds room for.
+/// How many notes a host has room for.
 const NOTES: usize = 64;
 
-/// Which call it is.
+/// A call.
 #[derive(Clone, Copy)]
 pub enum Call {
     RunHex,
@@ -35,7 +35,7 @@ pub enum Call {
     Reserve,
 }
 
-/// Each of them.
+/// All calls.
 pub fn calls() -> [Listed<Call>; 6] {
     [
         Listed::new(Call::RunHex, "run_hex", "V0"),
@@ -52,7 +52,7 @@ pub fn calls() -> [Listed<Call>; 6] {
     ]
 }
 
-/// What they are given.
+/// Their inputs.
 #[derive(Drop)]
 pub struct Sessions {
     /// The policy's image as a line of digits, and requests after it.
@@ -100,7 +100,7 @@ impl Given for Sessions {
     }
 }
 
-/// A writer into a place of its own, which takes no memory.
+/// A writer into an array of its own. It allocates nothing.
 #[derive(Drop)]
 struct Place {
     bytes: ArrayVec<u8, 4096>,
@@ -125,32 +125,31 @@ fn run_to_place(turn: Turn, input: &[u8]) -> Result<Vec<u8>, Code> {
     };
     let mut reader = MemoryIn::new(input);
     let answer = turn.ended(run_hex(turn.begun(), &mut reader, &mut writer));
-    told_run(turn.alloc(), answer, writer.bytes.as_slice())
+    bytes_of_run(turn.alloc(), answer, writer.bytes.as_slice())
 }
 
 fn run_to_memory(turn: Turn, input: &[u8]) -> Result<Vec<u8>, Code> {
     let mut writer = MemoryOut::new(turn.alloc());
     let mut reader = MemoryIn::new(input);
     let answer = turn.ended(run_hex(turn.begun(), &mut reader, &mut writer));
-    told_run(turn.alloc(), answer, writer.written())
+    bytes_of_run(turn.alloc(), answer, writer.written())
 }
 
-/// A run is told by what it answers and what was written. Where it was refused, that is one line; after a write that
-/// failed it is no such line.
-fn told_run(
+/// The bytes of a run: its answer and its output. A refused run writes one line. After a failed write there is no such line.
+fn bytes_of_run(
     alloc: Global,
     answer: Result<Summary, RunFault>,
     written: &[u8],
 ) -> Result<Vec<u8>, Code> {
     match answer {
-        Ok(summary) => followed(told(alloc, &summary)?, written),
+        Ok(summary) => followed(text_of(alloc, &summary)?, written),
         Err(RunFault::Session(fault)) if !written.starts_with(b"refused") => Err(code_of(fault)),
         Err(fault) if written == REFUSED => Err(code_of(fault)),
         Err(_) => Err(code_of("a refusal with other lines")),
     }
 }
 
-/// The second of two writes is refused its growth: it writes nothing then, and all of it when it is made again.
+/// The second of two writes runs out of memory. It writes nothing then. When it is made again, it writes everything.
 fn put(turn: Turn, bytes: &[u8]) -> Result<Vec<u8>, Code> {
     let mut writer = MemoryOut::new(turn.begun());
     turn.ended(());
@@ -165,7 +164,7 @@ fn put(turn: Turn, bytes: &[u8]) -> Result<Vec<u8>, Code> {
     }
 }
 
-/// What is told of a write that failed, where the same write then writes all.
+/// The code of a failed write. It says so if the same write then fails again.
 fn code_of_put(writer: &mut MemoryOut<Global>, bytes: &[u8]) -> Code {
     match writer.put(bytes) {
         Ok(()) if writer.written().ends_with(bytes) => code_of("DeviceFault"),
@@ -177,7 +176,7 @@ fn copied(alloc: Global, bytes: &[u8]) -> Result<Vec<u8>, Code> {
     followed(Vec::new(alloc), bytes)
 }
 
-/// After a write that failed the core stands as after some of the lines, and what was written begins the replies.
+/// After a failed write the core is as after some of the lines, and the output is a prefix of the replies.
 fn simulated(turn: Turn, image: &[u8]) -> Result<Vec<u8>, Code> {
     let mut core = opened(turn.alloc(), image)?;
     let mut reader = MemoryIn::new(REQUESTS);
@@ -186,7 +185,7 @@ fn simulated(turn: Turn, image: &[u8]) -> Result<Vec<u8>, Code> {
     session_came_to(turn.alloc(), image, &core, answer, writer.written())
 }
 
-/// What a session came to that left this core and wrote these bytes.
+/// The result of a session that left this core and wrote these bytes.
 fn session_came_to(
     alloc: Global,
     image: &[u8],
@@ -194,17 +193,17 @@ fn session_came_to(
     answer: Result<Summary, SessionFault>,
     written: &[u8],
 ) -> Result<Vec<u8>, Code> {
-    let stands = readings(alloc, core)?;
+    let reading = readings(alloc, core)?;
     match answer {
-        Ok(_summary) => followed(stands, written),
-        Err(fault) if is_cut_session(alloc, image, stands.as_slice(), written)? => {
+        Ok(_summary) => followed(reading, written),
+        Err(fault) if is_cut_session(alloc, image, reading.as_slice(), written)? => {
             Err(code_of(fault))
         }
         Err(_) => Err(code_of("steps or replies of no lines")),
     }
 }
 
-/// After a write that failed the steps are those of some of the lines, and the core stands after them.
+/// After a failed write the steps are those of some of the lines, and the core is as after them.
 fn served(turn: Turn, image: &[u8]) -> Result<Vec<u8>, Code> {
     let mut host = ScriptHost::new(turn.alloc(), Vec::new(turn.alloc()), Vec::new(turn.alloc()));
     host.reserve(NOTES).map_err(no_memory)?;
@@ -215,7 +214,7 @@ fn served(turn: Turn, image: &[u8]) -> Result<Vec<u8>, Code> {
     service_came_to(turn.alloc(), image, &core, &served, writer.written())
 }
 
-/// What a served connection came to that left this core and wrote these bytes.
+/// The result of a connection that left this core and wrote these bytes.
 fn service_came_to(
     alloc: Global,
     image: &[u8],
@@ -223,13 +222,13 @@ fn service_came_to(
     served: &Served,
     written: &[u8],
 ) -> Result<Vec<u8>, Code> {
-    let stands = readings(alloc, core)?;
-    if !served_as_told(alloc, image, served, stands.as_slice(), written)? {
+    let reading = readings(alloc, core)?;
+    if !is_served_session(alloc, image, served, reading.as_slice(), written)? {
         return Err(code_of("steps or replies of no lines"));
     }
     match served.end {
         End::Fault(fault) => Err(code_of(fault)),
-        _ => followed(stands, written),
+        _ => followed(reading, written),
     }
 }
 
@@ -237,5 +236,5 @@ fn reserved(turn: Turn) -> Result<Vec<u8>, Code> {
     let mut host = ScriptHost::new(turn.begun(), Vec::new(turn.alloc()), Vec::new(turn.alloc()));
     let reserved = turn.ended(host.reserve(NOTES));
     reserved.map_err(no_memory)?;
-    told(turn.alloc(), &host.whole())
+    text_of(turn.alloc(), &host.whole())
 }

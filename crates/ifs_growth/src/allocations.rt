@@ -1,21 +1,22 @@
-//! Growths that are refused: the orders to a library that is preloaded to this program.
+//! Orders to the preloaded library that refuses allocations.
 
 use arrayvec::ArrayString;
 use std::alloc::{AllocError, Global};
 use std::fmt::{Display, Write};
 
-/// A request for so many bytes, which no C library has, is an order to that library: to refuse no growth any more.
-/// So many bytes more are the growth to refuse, counted from the order on.
+/// A request for this many bytes is an order to the library, since no C library has as many. The order alone ends all refusals. If
+/// the request is larger by N bytes, the library refuses allocation N from there on.
 const ORDER: usize = 1 << 60;
 
-/// So many more ask whether the last growth that was to be refused was refused: if so, the next one is.
+/// A request larger by this many bytes asks whether the last chosen allocation was refused. If so, the library refuses the next
+/// one.
 const ASK: usize = 1 << 32;
 
-/// One turn of a call, in which one of its growths is to be refused.
+/// One turn of a call. It refuses one allocation of the call.
 #[derive(Clone, Copy)]
 pub struct Turn {
     alloc: Global,
-    /// Which growth of the call, from 1 on; 0 for none.
+    /// The number of the allocation, from 1 on; 0 for none.
     growth: u32,
 }
 
@@ -25,29 +26,29 @@ impl Turn {
         Turn { alloc, growth: 0 }
     }
 
-    /// The turn that refuses this growth.
+    /// The turn that refuses this allocation.
     pub fn refusing(alloc: Global, growth: u32) -> Self {
         Turn { alloc, growth }
     }
 
-    /// What has ample memory, before the call and after it.
+    /// The allocator before and after the call.
     pub fn alloc(self) -> Global {
         self.alloc
     }
 
-    /// What the call takes its memory from. Its growths are counted from here on.
+    /// The allocator for the call. The library counts allocations from here on.
     pub fn begun(self) -> Global {
         order(self.alloc, ORDER + self.growth as usize);
         self.alloc
     }
 
-    /// The answer of the call, whose growths are counted no more.
+    /// Ends the count, and returns the answer of the call.
     pub fn ended<T>(self, answer: T) -> T {
         order(self.alloc, ORDER);
         answer
     }
 
-    /// Whether the growth was refused.
+    /// Whether the allocation was refused.
     pub fn is_met(self) -> bool {
         if self.growth == 0 {
             return false;
@@ -59,29 +60,28 @@ impl Turn {
     }
 }
 
-/// Gives an order.
 fn order(alloc: Global, bytes: usize) {
     let _refused = is_refused(alloc, bytes);
 }
 
-/// Whether so many bytes are refused.
+/// Whether an allocation of this many bytes fails.
 fn is_refused(alloc: Global, bytes: usize) -> bool {
     let asked: Result<Vec<u8>, AllocError> = Vec::with_capacity(alloc, bytes);
     asked.is_err()
 }
 
-/// What a fault says of itself, as far as it fits.
+/// The text of a fault, up to 64 bytes.
 pub type Code = ArrayString<64>;
 
-/// The code of a fault.
+/// The text of a fault.
 pub fn code_of<F: Display + Drop>(fault: F) -> Code {
     let mut code = Code::new();
-    // a text that does not fit is no code of want of memory either way
+    // a text that does not fit is no out-of-memory code in any case
     let _written = write!(code, "{fault}");
     code
 }
 
-/// The code of want of memory where a call says no more.
+/// The code of a failed allocation, if a call reports no more.
 pub fn no_memory(_refused: AllocError) -> Code {
     code_of("AllocError")
 }
