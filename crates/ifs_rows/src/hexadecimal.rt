@@ -8,7 +8,7 @@ ghost use Rattle.ifs_rows.specs.Blanks.{is_no_blank};
 use hex::FromHexError;
 use std::alloc::{AllocError, Global};
 
-/// The digits of a text; its spaces and newlines are passed over.
+/// The digits of a text, without its spaces and newlines.
 pub fn digits_of(alloc: Global, text: &str) -> Result<Vec<u8>, AllocError>
     ensures { IfOk result (λ digits. digits.items ≡ filter is_no_blank text.now) }
 {
@@ -19,7 +19,7 @@ pub fn digits_of(alloc: Global, text: &str) -> Result<Vec<u8>, AllocError>
         .collect(alloc)
 }
 
-/// The bytes that a text spells, two digits each; its spaces and newlines are passed over.
+/// The bytes that a text spells, two digits each. Spaces and newlines do not count.
 pub fn bytes_of(alloc: Global, text: &str) -> Result<Vec<u8>, FromHexError>
     ensures spelled { IfOk result (λ bytes. decode_of (filter is_no_blank text.now) ≡ Ok bytes.items) }
     ensures refused { IfErr result

@@ -64,7 +64,8 @@ pub const HELD_BACK: &str = "
     00 000b 05000000 0e00000a 05000001 0e00000a 04000000 04000001 07000000 0e00000a 09000000 0b000000 00000000
 ";
 
-/// The always body: `link 0 down, jf 4, state 0, want, ret`. Body of `a`: `link 0 up, jf 4, state 1, want, ret`. Body of `b`: `known 0, jf 6, test 0, jf 6, cmd 0, queue, ret`.
+/// The always body: `link 0 down, jf 4, state 0, want, ret`. Body of `a`: `link 0 up, jf 4, state 1, want, ret`. Body of `b`:
+/// `known 0, jf 6, test 0, jf 6, cmd 0, queue, ret`.
 pub const STALE: &str = "
     49465356 01 0001 0001 0000000d 0001
     0001 0001 0001 0002 0006 0000

@@ -1,9 +1,9 @@
-//! The largest of each kind: an image with full tables, texts of 1,024 bytes and 8,192 instructions; a policy that
-//! compiles, with as many bytes, tokens, definitions and entries; and the image of the longest line of digits.
+//! The largest inputs. An image has full tables, texts of 1,024 bytes and 8,192 instructions. A policy that compiles has as many
+//! bytes, tokens, definitions and entries as there may be. Another image has the longest line of digits.
 
 use std::alloc::{AllocError, Global};
 
-/// How many bytes the image has.
+/// How many bytes the largest image has.
 pub const LARGEST_BYTES: usize = 1_480_767;
 
 /// The lines before the tables.
@@ -16,7 +16,7 @@ start 255
 always init 0 body 1 tests 0,1,2,3,63
 ";
 
-/// For each table what stands before and after an entry's text, and how many entries there may be.
+/// For each table, the text before and after an entry's text, and how many entries there may be.
 const TABLES: [(&str, &str, u32); 4] = [
     ("iface", "", 64),
     ("test 604800", "", 64),
@@ -24,7 +24,7 @@ const TABLES: [(&str, &str, u32); 4] = [
     ("state", " init 6 body 7 tests 0,1,2,3,63", 256),
 ];
 
-/// The text of an image that is accepted, and has as much as an image may have.
+/// The text of an accepted image that has as much as an image may have.
 pub fn largest_listing(alloc: Global) -> Result<String, AllocError> {
     let mut listing = String::from_str(alloc, FRONT)?;
     let fill = repeated(alloc, "x", 1_019)?;
@@ -45,7 +45,7 @@ fn repeated(alloc: Global, part: &str, count: u32) -> Result<String, AllocError>
     Ok(text)
 }
 
-/// Puts so many entries, whose texts are a number of five digits and what fills them up.
+/// Puts `count` entries. Each text is a number of five digits and then `fill`.
 fn put_table(
     listing: &mut String,
     (before, after): (&str, &str),
@@ -59,7 +59,7 @@ fn put_table(
     Ok(())
 }
 
-/// Puts a routine of 1,024 instructions, each of which is reached.
+/// Puts a routine of 1,024 instructions, all of them reached.
 fn put_routine(listing: &mut String) -> Result<(), AllocError> {
     listing.push_str("routine results 0\njump 1\n")?;
     for _ in 0..511 {
@@ -68,7 +68,7 @@ fn put_routine(listing: &mut String) -> Result<(), AllocError> {
     listing.push_str("ret\n")
 }
 
-/// The lines of the smallest image after its version and before its state, and then its state and, in version 1, its routine.
+/// The lines of the smallest image: between its version and its state, its state, and its routine in version 1.
 pub const SMALLEST: (&str, &str, &str) = (
     "stack 0
 frames 1
@@ -99,7 +99,7 @@ pub const LARGEST_COMPILED: usize = 1_091_373;
 /// How many bytes a policy's text may have.
 const LARGEST_TEXT: usize = 1_048_576;
 
-/// How often each line of the largest policy stands there. A number of its own stands for each sharp.
+/// How often each line of the largest policy occurs. A number of its own replaces each `#`.
 const LINES: [(u32, &str); 5] = [
     (1, "init-state s10255\n"),
     (
@@ -118,8 +118,8 @@ set-state s10000 set-state s10000 set-state s10000 set-state s10000 set-state s1
     ),
 ];
 
-/// The text of a policy that compiles beside [`largest_definitions`], and has as much as a policy may have: 1,048,576
-/// bytes, 16,384 tokens, full tables and 8,192 instructions.
+/// The text of a policy that compiles with [`largest_definitions`] and has as much as a policy may have: 1,048,576 bytes, 16,384
+/// tokens, full tables and 8,192 instructions.
 pub fn largest_policy(alloc: Global) -> Result<String, AllocError> {
     let mut text = String::new(alloc);
     for (count, line) in LINES {
@@ -129,8 +129,8 @@ pub fn largest_policy(alloc: Global) -> Result<String, AllocError> {
     Ok(text)
 }
 
-/// Definitions for the largest policy, as many as there may be, a line each: a name, `=`, and four runs of commands
-/// of 1,024 bytes.
+/// Definitions for the largest policy, as many as there may be. Each is a line: a name, `=`, and four runs of commands of 1,024
+/// bytes.
 pub fn largest_definitions(alloc: Global) -> Result<String, AllocError> {
     let fill = repeated(alloc, "x", 1_018)?;
     let fill = fill.as_str();
@@ -140,7 +140,7 @@ pub fn largest_definitions(alloc: Global) -> Result<String, AllocError> {
     Ok(lines)
 }
 
-/// The name and the value of each line, which its first `=` parts.
+/// The name and the value of each line, before and after its first `=`.
 pub fn definitions_in(alloc: Global, lines: &str) -> Result<Vec<(&str, &str)>, AllocError> {
     let mut definitions = Vec::new(alloc);
     for definition in lines.lines().filter_map(|line| line.split_once('=')) {
@@ -149,7 +149,7 @@ pub fn definitions_in(alloc: Global, lines: &str) -> Result<Vec<(&str, &str)>, A
     Ok(definitions)
 }
 
-/// Puts a line so many times, with numbers of five digits.
+/// Puts a line `count` times, with numbers of five digits.
 fn put_lines(text: &mut String, line: &str, count: u32) -> Result<(), AllocError> {
     for number in 0..count {
         put_numbered(text, line, u64::from(number) + 10_000)?;
@@ -157,7 +157,7 @@ fn put_lines(text: &mut String, line: &str, count: u32) -> Result<(), AllocError
     Ok(())
 }
 
-/// Puts a line with this number for each sharp.
+/// Puts a line with this number in place of each `#`.
 fn put_numbered(text: &mut String, line: &str, number: u64) -> Result<(), AllocError> {
     for character in line.chars() {
         if character == '#' {

@@ -1,5 +1,5 @@
-//! Images, sessions and large inputs that the tests of several crates use. A library for tests alone: what a text can say is a case of
-//! `vectors/`.
+//! Images, sessions and large inputs that the tests of several crates use. Only tests use this library. What a text can say is a
+//! case of `ifs_vectors`.
 #![tactic(auto)]
 
 mod hexadecimal;
@@ -23,7 +23,7 @@ pub struct Row {
     pub policy: Option<&'static str>,
     /// The image's bytes in hexadecimal.
     pub image: &'static str,
-    /// Request lines, from a fresh core on.
+    /// Request lines for a fresh core.
     pub requests: &'static str,
     /// Their reply lines: one for each request, except that a trace has several.
     pub replies: &'static str,

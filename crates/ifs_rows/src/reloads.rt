@@ -14,7 +14,7 @@ pub struct Reload {
 /// The policy that compiles to [`images::FIRST_POLICY`].
 pub const FIRST_POLICY: &str = "state a { if carp0.link.up run \"echo m\" }";
 
-/// A test by a macro by another one.
+/// A macro with a test, used by another macro.
 const MACROS: &str =
     "net = '( \"ping -q -c 1 host\" every 10 )'\nbad = '! $net'\nstate a { if $bad run \"echo d\" }";
 
@@ -35,7 +35,7 @@ const LOOKING_AT_OPENING: &str = "
     00 0001 00000000
 ";
 
-/// A link that is known, while a command waits in the queue.
+/// A session that leaves a known link, and a command in the queue.
 pub fn with_a_command() -> Row {
     Row {
         name: "reload with a command",
@@ -48,7 +48,7 @@ pub fn with_a_command() -> Row {
     }
 }
 
-/// The same link, and then an image whose `init` asks for it.
+/// A session that leaves a known link, and then an image whose `init` asks for it.
 pub fn first_policy_reloaded() -> Reload {
     Reload {
         before: Row {
@@ -78,7 +78,7 @@ pub fn first_policy_reloaded() -> Reload {
     }
 }
 
-/// A test that runs while the same image is read again.
+/// A test that runs while a reload reads the same image.
 pub fn macros_reloaded() -> Reload {
     Reload {
         before: Row {
@@ -106,7 +106,7 @@ pub fn macros_reloaded() -> Reload {
     }
 }
 
-/// All of them.
+/// All reloads.
 pub fn reloads() -> [Reload; 2] {
     [first_policy_reloaded(), macros_reloaded()]
 }

@@ -1,9 +1,9 @@
-//! The cases of a file, and the sections of a case, where they lie in the file's text.
+//! The cases of a file and the sections of a case, borrowed from the file's text.
 
-/// What begins a case, with the end of the line before it.
+/// The mark of a case, with the newline before it.
 pub const CASE: &str = "\n=== ";
 
-/// What begins a section, with the end of the line before it.
+/// The mark of a section, with the newline before it.
 pub const SECTION: &str = "\n--- ";
 
 /// A case: its name, and its text from the name on.
@@ -13,7 +13,7 @@ pub struct Case<'a> {
     pub text: &'a str,
 }
 
-/// A section: its word, its flags with a space between them, and its lines, of which the last has no end.
+/// A section: its word, its flags with spaces between them, and its lines. The last line has no newline.
 #[derive(Clone, Copy)]
 pub struct Section<'a> {
     pub word: &'a str,

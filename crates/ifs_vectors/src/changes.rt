@@ -3,14 +3,14 @@
 use anyhow::{Result, ensure};
 use std::alloc::{AllocError, Global};
 
-/// A change of the line of a number: the line that takes its place, or none.
+/// A change of a line: its number, and the line that replaces it, if there is one.
 #[derive(Clone, Copy)]
 struct Change<'a> {
     number: usize,
     line: Option<&'a str>,
 }
 
-/// The change that a line says: `line N: TEXT`, `line N:` or `no line N`.
+/// The change that a line states: `line N: TEXT`, `line N:` or `no line N`.
 fn change_of(line: &str) -> Option<Change<'_>> {
     if let Some(number) = line.strip_prefix("no line ") {
         let number = number.parse::<usize>().ok()?;
@@ -52,7 +52,7 @@ pub fn count_lines(text: &str) -> usize {
     count
 }
 
-/// A text with changes, a line each.
+/// Applies changes to a text. Each change is a line.
 pub fn changed(alloc: Global, text: &str, changes: &str) -> Result<Vec<u8>> {
     let count = count_of(text);
     for line in lines_in(changes).split('\n').take(count_of(changes)) {
@@ -61,7 +61,7 @@ pub fn changed(alloc: Global, text: &str, changes: &str) -> Result<Vec<u8>> {
     Ok(put_changed(alloc, text, changes, count)?)
 }
 
-/// Whether a line is a change of one of so many lines, or of the one that would be next.
+/// Whether a line changes one of the first `count` lines or adds the next one.
 fn is_within(line: &str, count: usize) -> bool {
     match change_of(line) {
         Some(change) => 0 < change.number && change.number <= count.saturating_add(1),
@@ -87,7 +87,7 @@ fn put_changed(
     Ok(out)
 }
 
-/// Puts what takes the place of a line. Whether there is a change of it.
+/// Puts the replacement of a line. Returns whether the line has a change.
 fn put_changes(out: &mut Vec<u8>, changes: &str, number: usize) -> Result<bool, AllocError> {
     let mut is_changed = false;
     for line in lines_in(changes).split('\n') {

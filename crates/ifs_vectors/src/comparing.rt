@@ -1,4 +1,4 @@
-//! Comparisons of what is found with what is expected. What differs is printed.
+//! Comparisons of results with what is expected. They print what differs.
 
 use crate::cases::{Case, Section};
 use crate::repeating::text_of;
@@ -15,7 +15,7 @@ pub struct Place<'a> {
     pub case: Case<'a>,
 }
 
-/// Whether something is as expected. Else a line names the case, the section and what is wrong.
+/// Whether something holds. If not, prints the case, the section and what is wrong.
 pub fn holds<R: Print>(
     rt: &R,
     place: Place<'_>,
@@ -29,7 +29,7 @@ pub fn holds<R: Print>(
     Ok(is_so)
 }
 
-/// Whether a text is the expected one. Else both are printed.
+/// Whether a text is the expected one. If not, prints both.
 pub fn same<R: Print>(
     rt: &R,
     place: Place<'_>,
@@ -46,12 +46,12 @@ pub fn same<R: Print>(
     Ok(is_same)
 }
 
-/// Bytes as a text, as far as they are one.
+/// Bytes as text, or `other bytes` if they are not UTF-8.
 fn shown(bytes: &[u8]) -> &str {
     str::from_utf8(bytes).unwrap_or("other bytes")
 }
 
-/// Whether what is printed is that of the section of a word, if the case has it. The status is 1 exactly if it is a refusal.
+/// Whether an answer prints the section of a word, if the case has it. The status has to be 1 exactly if the answer is a refusal.
 pub fn expected<R: Print + AllocGlobal>(
     rt: &R,
     place: Place<'_>,
@@ -79,7 +79,7 @@ pub fn is_text<R: Print + AllocGlobal>(
     Ok(same(rt, place, section.word, found, wanted.as_slice())?)
 }
 
-/// Whether bytes are those that the section of a word has in hexadecimal digits, if the case has it.
+/// Whether bytes are those of the section of a word, if the case has it. The section has them in hexadecimal digits.
 pub fn expected_bytes<R: Print + AllocGlobal>(
     rt: &R,
     place: Place<'_>,
@@ -100,7 +100,7 @@ pub fn hexadecimal(alloc: Global, text: &[u8]) -> Result<Vec<u8>> {
     Ok(bytes_of(alloc, str::from_utf8(text)?)?)
 }
 
-/// Whether notes and then the length of the file of an answer are printed, if there is one.
+/// Whether an answer with a file prints these notes and then the file's length.
 pub fn tells_length<R: Print + AllocGlobal>(
     rt: &R,
     place: Place<'_>,

@@ -1,10 +1,10 @@
-//! Escapes: `\xHH` is a byte, and `\xHH*N;` is N of it.
+//! Escapes: `\xHH` is a byte, and `\xHH*N;` is that byte N times.
 
 use ifs_base::digit_value;
 use std::alloc::AllocError;
 use std::str;
 
-/// A byte, how many of it, and what is after the escape.
+/// A byte, how often it occurs, and the rest after the escape.
 #[derive(Clone, Copy)]
 struct Escape<'a> {
     byte: u8,
@@ -12,7 +12,7 @@ struct Escape<'a> {
     rest: &'a [u8],
 }
 
-/// Puts a line whose escapes are undone.
+/// Puts a line with bytes in place of its escapes.
 pub fn put_unescaped(text: &mut Vec<u8>, line: &str) -> Result<(), AllocError> {
     let mut is_first = true;
     for piece in line.split("\\x") {
@@ -26,7 +26,7 @@ pub fn put_unescaped(text: &mut Vec<u8>, line: &str) -> Result<(), AllocError> {
     Ok(())
 }
 
-/// Puts what stands after `\x`, with these two characters where they begin no escape.
+/// Puts the text after `\x`. If it begins no escape, these two characters stay.
 fn put_escape(text: &mut Vec<u8>, piece: &[u8]) -> Result<(), AllocError> {
     match escape_of(piece) {
         Some(escape) => put_bytes(text, escape),
@@ -56,7 +56,7 @@ fn escape_of(piece: &[u8]) -> Option<Escape<'_>> {
     Some(Escape { byte, times, rest })
 }
 
-/// The number of `*N;`, where these bytes begin so, and what is after it.
+/// The number of `*N;` and the rest after it, if these bytes begin so.
 fn times_of(bytes: &[u8]) -> Option<(u32, &[u8])> {
     let text = str::from_utf8(bytes).ok()?;
     let (times, rest) = text.strip_prefix('*')?.split_once(';')?;

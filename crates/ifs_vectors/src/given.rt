@@ -7,7 +7,7 @@ use anyhow::{Context, Result, ensure};
 use std::alloc::Global;
 use std::str;
 
-/// Which text it is.
+/// The kinds of texts.
 #[derive(Clone, Copy, PartialEq, Eq)]
 pub enum Kind {
     Policy,
@@ -85,7 +85,7 @@ fn definitions_of(alloc: Global, case: Case<'_>) -> Result<Vec<u8>> {
     }
 }
 
-/// What a section gives that names another case and changes its text.
+/// The text of a `like` section, which names another case and changes its text.
 fn given_like(alloc: Global, file: &str, case: Case<'_>, like: Section<'_>) -> Result<Given> {
     let lines = lines_of(alloc, like)?;
     let lines = str::from_utf8(lines.as_slice())?;

@@ -1,7 +1,8 @@
-//! Changes of the bytes of some images, beside a slow checker that shares nothing with the verifier but the reader of images.
+//! Changes the bytes of some images, and compares the verifier with a slow checker. The two share only the reader of images and the
+//! names of faults.
 //!
-//! Each image is cut before each byte and made a byte longer, which both checkers refuse at the known place. Then each of its
-//! bytes is set to each other value: there the verifier gives the slow checker's answer, with its check and its place.
+//! It cuts each image before each byte, and adds a byte. Both checkers have to refuse the result at the known place. Then it sets
+//! each byte to each other value. The verifier has to give the slow checker's answer, with its check and its place.
 
 mod changes;
 mod fields;

@@ -1,4 +1,4 @@
-//! What is expected of images, and what holds of each.
+//! Expectations of images, and what holds for each image.
 
 use crate::comparing::{Place, expected, expected_bytes, holds, is_text, same, tells_length};
 use crate::given::Kind;
@@ -12,7 +12,7 @@ use std::io;
 /// The most bytes of an image that the slow checker judges.
 const JUDGED_BYTES: usize = 4_096;
 
-/// What the words on images answer to one.
+/// The answers of `verify`, `disasm` and `upgrade` on an image.
 struct Answers {
     verified: Answer,
     listed: Answer,
@@ -29,7 +29,7 @@ impl Drop for Answers {
     }
 }
 
-/// Whether the image that an answer made is as expected, or none is expected.
+/// Whether the image of an answer is as expected. If there is no image, none may be expected.
 pub fn check_made<R: Print + AllocGlobal>(
     rt: &R,
     place: Place<'_>,
@@ -61,8 +61,8 @@ pub fn is_image<R: Print + AllocGlobal>(rt: &R, place: Place<'_>, image: &[u8]) 
     Ok(is_told && is_again && is_judged && is_session)
 }
 
-/// Whether the slow checker gives the verifier's answer on an image that is not too long for it, and what is owed of an image that
-/// is accepted holds.
+/// Whether the slow checker agrees with the verifier on an image, and an accepted image keeps its promises. An image that is too
+/// long for the slow checker passes.
 fn is_judged<R: Print + AllocGlobal>(rt: &R, place: Place<'_>, image: &[u8]) -> io::Result<bool> {
     if image.len() > JUDGED_BYTES {
         return Ok(true);
@@ -107,7 +107,7 @@ fn is_code<R: Print + AllocGlobal>(rt: &R, place: Place<'_>, listing: &str) -> R
     }
 }
 
-/// A text from the first line on that begins with `routine`.
+/// The part of a listing from its first `routine` line on.
 fn code_in(listing: &str) -> &str {
     match listing.find("\nroutine ") {
         Some(end) => listing[end..].trim_start(),
@@ -115,7 +115,7 @@ fn code_in(listing: &str) -> &str {
     }
 }
 
-/// Whether an upgrade is as expected. What is printed of it is its length.
+/// Whether an upgrade is as expected. Its answer prints its length.
 fn is_upgrade<R: Print + AllocGlobal>(rt: &R, place: Place<'_>, upgraded: &Answer) -> Result<bool> {
     let is_told = tells_length(rt, place, "upgrade", upgraded, "")?;
     let is_same = match &upgraded.file {
@@ -128,7 +128,7 @@ fn is_upgrade<R: Print + AllocGlobal>(rt: &R, place: Place<'_>, upgraded: &Answe
     Ok(is_told && is_same)
 }
 
-/// Bytes that are no image are refused alike. An image is the same through its text, and its upgrade is its own upgrade.
+/// If bytes are no image, all words print the same line. An image's text spells the same image, and its upgrade is its own upgrade.
 fn is_again<R: Print + AllocGlobal>(
     rt: &R,
     place: Place<'_>,
@@ -176,7 +176,7 @@ fn is_file(answer: &Answer, bytes: &[u8]) -> bool {
     }
 }
 
-/// Whether an upgrade is its own upgrade, of which `verify` prints these lines.
+/// Whether an upgrade is its own upgrade, and `verify` prints these lines for it.
 fn is_own_upgrade<R: Print + AllocGlobal>(
     rt: &R,
     place: Place<'_>,
@@ -196,7 +196,7 @@ fn is_own_upgrade<R: Print + AllocGlobal>(
     Ok(is_same && is_told)
 }
 
-/// Whether `verify` prints these lines of an upgrade.
+/// Whether `verify` prints these lines for an upgrade.
 fn is_verified<R: Print + AllocGlobal>(
     rt: &R,
     place: Place<'_>,

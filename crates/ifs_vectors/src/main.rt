@@ -1,8 +1,8 @@
 //! Runs the worked cases of `data/` over the libraries, and tries the verifier on changed bytes. `data/README.md` describes the
 //! files, and says what holds of each case.
 //!
-//! A line is printed for each file, with the number of its cases, and then one for each image whose bytes are changed. A line before
-//! it names each case that fails and each wrong answer: then the exit status is 1.
+//! It prints a line with the number of cases for each file, and then a line for each image whose bytes it changes. Before these
+//! lines it names each case that fails and each wrong answer. If there is one, the exit status is 1.
 #![tactic(auto)]
 
 mod cases;
@@ -53,7 +53,6 @@ fn main(rt: HostRuntime) -> Result<()> {
     Ok(())
 }
 
-/// Runs all files.
 fn run<R: Files + Print + AllocGlobal>(rt: &R) -> Result<Tally> {
     let mut total = Tally::default();
     for file in FILES {
@@ -63,7 +62,6 @@ fn run<R: Files + Print + AllocGlobal>(rt: &R) -> Result<Tally> {
     Ok(total)
 }
 
-/// Runs the cases of a file.
 fn run_file<R: Files + Print + AllocGlobal>(rt: &R, file: &str) -> Result<Tally> {
     let text = fs::read_to_string(rt, file)?;
     let tally = running::run_cases(rt, file, text.as_str())?;

@@ -6,17 +6,17 @@ use std::fmt;
 /// Two answers that differ, or an answer that breaks a promise.
 #[derive(Clone, Copy)]
 pub enum Mismatch {
-    /// The slow checker's answer or the verifier's is not the wanted one.
+    /// The slow checker or the verifier does not give the wanted answer.
     Answers {
         wanted: Verdict,
         slow: Verdict,
         verifier: Verdict,
     },
-    /// What is read is written as other bytes, or not written.
+    /// The image that was read is written as other bytes, or not written.
     Written,
-    /// The image is not opened.
+    /// The image does not open.
     NotOpened,
-    /// A step, counted from 1, tells more than the image states; 0 is the opening.
+    /// A step exceeds the budgets that the image states. Steps count from 1, and 0 is the opening.
     Over {
         step: u64,
     },

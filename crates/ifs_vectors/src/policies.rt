@@ -1,4 +1,4 @@
-//! What is expected of policies and assembly texts, and what holds of each.
+//! Expectations of policies and assembly texts, and what holds for each.
 
 use crate::comparing::{Place, expected, holds, same, tells_length};
 use crate::given::Given;
@@ -8,7 +8,7 @@ use ifs_answer::{Answer, Task, answer};
 use ifs_rows::definitions_in;
 use std::{io, str};
 
-/// What the words on policies answer to one.
+/// The answers of `check`, `graph` and `compile` on a policy.
 struct Answers {
     checked: Answer,
     pictured: Answer,
@@ -62,7 +62,8 @@ fn are_expected<R: Print + AllocGlobal>(
     Ok(checked && pictured && compiled && agree)
 }
 
-/// What is no policy is refused alike. Else the notes come first, and an image is made, or its refusal is expected.
+/// If `check` refuses a text, the other words print the same line. If not, `compile` prints the notes first. Then it makes an
+/// image, or the case expects its refusal.
 fn agree<R: Print + AllocGlobal>(rt: &R, place: Place<'_>, answers: &Answers) -> Result<bool> {
     let checked = answers.checked.text.as_str();
     if answers.checked.status != 0 {
@@ -75,7 +76,7 @@ fn agree<R: Print + AllocGlobal>(rt: &R, place: Place<'_>, answers: &Answers) ->
     Ok(is_made && is_told)
 }
 
-/// Whether a policy that `check` refuses is refused by the other words with the same line.
+/// Whether the other words refuse a policy with the line of `check`.
 fn are_refused<R: Print>(rt: &R, place: Place<'_>, answers: &Answers) -> io::Result<bool> {
     let line = answers.checked.text.as_bytes();
     let picture = answers.pictured.text.as_bytes();
@@ -85,7 +86,7 @@ fn are_refused<R: Print>(rt: &R, place: Place<'_>, answers: &Answers) -> io::Res
     Ok(is_pictured && is_compiled)
 }
 
-/// The notes in what `check` prints of a policy: all before its last line.
+/// The notes that `check` prints of a policy: all before its last line.
 fn notes_in(lines: &str) -> &str {
     match lines.find("ok ") {
         Some(end) => &lines[..end],

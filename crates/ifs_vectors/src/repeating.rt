@@ -1,4 +1,4 @@
-//! The text of a section: its lines, repeated and with their escapes undone.
+//! The text of a section: its lines, with repetitions and escapes expanded.
 
 use crate::cases::Section;
 use crate::escapes::put_unescaped;
@@ -70,7 +70,7 @@ fn put_line(text: &mut Vec<u8>, form: Form, line: &str) -> Result<(), AllocError
     Ok(text.push(b'\n')?)
 }
 
-/// Puts lines, of which those between `*N` and `*` appear N times.
+/// Puts lines. Those between `*N` and `*` appear N times.
 fn put_repeated(
     alloc: Global,
     text: &mut Vec<u8>,
@@ -87,7 +87,7 @@ fn put_repeated(
     Ok(())
 }
 
-/// Takes a line: into the repetition that is open, as its beginning or end, or as it is.
+/// Takes a line. It belongs to the open repetition, begins or ends one, or is put as it is.
 fn take_line<'a>(
     alloc: Global,
     block: &mut Block<'a>,
@@ -115,7 +115,7 @@ fn times_of(line: &str) -> Option<u32> {
     line.strip_prefix('*')?.parse::<u32>().ok()
 }
 
-/// Puts lines so many times.
+/// Puts lines `times` times.
 fn put_block(
     alloc: Global,
     text: &mut Vec<u8>,
@@ -131,7 +131,7 @@ fn put_block(
     Ok(())
 }
 
-/// Puts a line for this time, whose number is put for each sharp where lines are numbered.
+/// Puts a line of a repetition. If lines are numbered, the number of this time replaces each `#`.
 fn put_time(
     alloc: Global,
     text: &mut Vec<u8>,
@@ -146,7 +146,7 @@ fn put_time(
     put_line(text, form, numbered.as_str())
 }
 
-/// A line with a number for each sharp.
+/// A line with a number in place of each `#`.
 fn with_number(alloc: Global, line: &str, number: u32) -> Result<String, AllocError> {
     let mut text = String::new(alloc);
     let mut is_first = true;

@@ -4,7 +4,7 @@ use crate::cases::{Case, SECTION, Section};
 use crate::given::Kind;
 use anyhow::{Result, ensure};
 
-/// Each word and each flag is known, no section appears twice, and there is something that each is about.
+/// Checks that each section fits the text, appears once and has known flags. Something has to be expected.
 pub fn check_sections(case: Case<'_>, kind: Kind) -> Result<()> {
     let own = if case.has_section("like") {
         "like"
@@ -17,7 +17,7 @@ pub fn check_sections(case: Case<'_>, kind: Kind) -> Result<()> {
     Ok(())
 }
 
-/// The word of the first section that is unknown, appears twice or has nothing that it is about.
+/// The word of the first section that does not fit the text, appears twice or has unknown flags.
 fn first_wrong<'a>(case: Case<'a>, kind: Kind, own: &str) -> Option<&'a str> {
     for piece in case.text.split(SECTION).skip(1) {
         let section = Section::new(piece);
@@ -28,14 +28,14 @@ fn first_wrong<'a>(case: Case<'a>, kind: Kind, own: &str) -> Option<&'a str> {
     None
 }
 
-/// Whether a section appears once, with flags that are known, and is about something.
+/// Whether a section fits the text, appears once and has known flags.
 fn is_fit(case: Case<'_>, section: Section<'_>, kind: Kind, own: &str) -> bool {
     let word = section.word;
     let is_known = word == own || is_about(word, kind);
     is_known && case.count_of(word) == 1 && has_known_flags(section)
 }
 
-/// Whether a case has a section that is no part of what it gives.
+/// Whether a case has a section besides its text and its definitions.
 fn expects(case: Case<'_>, own: &str) -> bool {
     for piece in case.text.split(SECTION).skip(1) {
         let section = Section::new(piece);
@@ -54,7 +54,7 @@ fn is_flag(flag: &str) -> bool {
     matches!(flag, "cut" | "escaped" | "repeated" | "numbered")
 }
 
-/// Whether a section of a word may stand beside a text of this kind.
+/// Whether a section of a word fits a text of this kind.
 fn is_about(word: &str, kind: Kind) -> bool {
     match word {
         "define" | "check" | "graph" | "compile" => kind == Kind::Policy,

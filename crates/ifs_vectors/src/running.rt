@@ -16,7 +16,7 @@ pub struct Tally {
 }
 
 impl Tally {
-    /// Both together.
+    /// The sum of both.
     pub fn and(self, other: Tally) -> Tally {
         Tally {
             cases: self.cases.saturating_add(other.cases),
@@ -25,7 +25,7 @@ impl Tally {
     }
 }
 
-/// Runs the cases of a file's text. What fails is printed.
+/// Runs the cases of a file's text, and prints what fails.
 pub fn run_cases<R: Print + AllocGlobal>(rt: &R, file: &str, text: &str) -> Result<Tally> {
     let mut tally = Tally::default();
     for piece in text.split(CASE).skip(1) {
@@ -35,7 +35,6 @@ pub fn run_cases<R: Print + AllocGlobal>(rt: &R, file: &str, text: &str) -> Resu
     Ok(tally)
 }
 
-/// Runs a case.
 fn run_case<R: Print + AllocGlobal>(rt: &R, text: &str, place: Place<'_>) -> Result<Tally> {
     let is_good = match is_case(rt, text, place) {
         Ok(is_good) => is_good,
@@ -61,7 +60,7 @@ fn is_case<R: Print + AllocGlobal>(rt: &R, text: &str, place: Place<'_>) -> Resu
     is_given(rt, place, &given)
 }
 
-/// Whether what is given is as expected.
+/// Whether a given text is as expected.
 fn is_given<R: Print + AllocGlobal>(rt: &R, place: Place<'_>, given: &Given) -> Result<bool> {
     match given.kind {
         Kind::Policy => is_policy(rt, place, given),

@@ -1,4 +1,4 @@
-//! What is expected of sessions, each on a fresh core: request by request, and all at once.
+//! Expectations of sessions, each on a fresh core: request by request, and all requests at once.
 
 use crate::cases::Section;
 use crate::changes::count_lines;
@@ -11,7 +11,7 @@ use ifs_verify::verify;
 use std::alloc::{AllocError, Global};
 use std::str;
 
-/// What begins a request, with the end of the line before it.
+/// The mark of a request, with the newline before it.
 const REQUEST: &str = "\n> ";
 
 /// Whether a session on an image has the replies of a section.
@@ -56,7 +56,7 @@ fn is_one_by_one<R: Print + AllocGlobal>(
     Ok(is_so)
 }
 
-/// Whether a request has these replies, of which the last may lack its newline.
+/// Whether a request has these replies. The last one may lack its newline.
 fn is_turn<R: Print + AllocGlobal>(
     rt: &R,
     place: Place<'_>,
@@ -92,7 +92,7 @@ fn bare(text: &str) -> &str {
     text.strip_suffix('\n').unwrap_or(text)
 }
 
-/// Whether there is one line of reply, or `trace N` and N lines.
+/// Whether the replies are one line, or `trace N` and N lines.
 fn is_counted(replies: &str) -> bool {
     let replies = bare(replies);
     let (first, _rest) = replies.split_once('\n').unwrap_or((replies, ""));

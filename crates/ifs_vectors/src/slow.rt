@@ -19,8 +19,7 @@ mod kinds;
 mod listing;
 mod plain;
 
-/// Whether bytes are accepted. An error is the first check that fails, with its place, in the order of the checks, or a failed
-/// allocation.
+/// Whether bytes are accepted. The error is the first failed check in their order, with its place, or a failed allocation.
 pub fn judge(alloc: Global, bytes: &[u8]) -> Result<(), VerifyFault> {
     let image = read(alloc, bytes)?;
     judge_parts(alloc, image.parts())
@@ -40,7 +39,7 @@ fn judge_listing(alloc: Global, parts: &ImageParts, listing: &Listing) -> Result
     check_budgets(parts, listing, bounds.as_slice())
 }
 
-/// What rounds settle on, each of which starts from what the last one found: until one changes nothing, or after so many.
+/// Repeats a round on the result of the last one. It stops if a round changes nothing, or after `rounds` repetitions.
 fn settled<T: PartialEq + Drop, F: Fn(&[T]) -> Result<Vec<T>, AllocError>>(
     rounds: usize,
     round: F,

@@ -1,4 +1,4 @@
-//! The steps that are made on each image that is accepted.
+//! The steps on each accepted image.
 
 use crate::mismatch::Mismatch;
 use ifs_base::{IfaceId, LinkState, TestId};
@@ -7,10 +7,10 @@ use ifs_image::Budgets;
 use ifs_verify::verify;
 use std::alloc::Global;
 
-/// How many steps are made.
+/// How many steps an image gets.
 const STEPS: u64 = 200;
 
-/// Opens an image that is accepted, and makes the steps. No event, the opening with them, may tell more than is stated.
+/// Opens an accepted image, and makes the steps. Neither the opening nor an event may exceed the stated budgets.
 pub fn check_steps(alloc: Global, bytes: &[u8], stated: Budgets) -> Result<(), Mismatch> {
     let Ok(verified) = verify(alloc, bytes) else {
         return Err(Mismatch::NotOpened);
@@ -36,7 +36,7 @@ fn make_steps(core: &mut Core<'_>, stated: Budgets) -> Result<(), Mismatch> {
     Ok(())
 }
 
-/// Whether a reply, in its two parts, tells no more than is stated.
+/// Whether a reply, in its two parts, keeps to the stated budgets.
 fn keeps(outcome: Outcome, lists: &Lists, stated: Budgets) -> bool {
     match outcome {
         Outcome::Done { cost, .. } | Outcome::Ticked { cost, .. } => {
@@ -46,8 +46,8 @@ fn keeps(outcome: Outcome, lists: &Lists, stated: Budgets) -> bool {
     }
 }
 
-/// The step of a number. Twelve in turn: interfaces change, time goes on by the longest period, tests end with the runs
-/// that they have where one or two tests were started at each tick or every other one, and two commands are taken.
+/// The step of a number. Twelve steps take turns. Interfaces change, time advances by the longest period, and two commands are
+/// taken. Tests end too. Their run numbers fit one or two starts at each tick, or at every other tick.
 fn step_of(number: u64) -> Step {
     let turn = number / 12;
     let changed = if turn % 2 == 0 {

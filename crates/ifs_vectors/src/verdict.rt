@@ -1,4 +1,4 @@
-//! The answers of both checkers on bytes, and what is owed of bytes that are accepted.
+//! The answers of both checkers on bytes, and what holds for accepted bytes.
 
 use crate::mismatch::Mismatch;
 use crate::slow::judge;
@@ -13,7 +13,7 @@ use std::fmt;
 pub enum Verdict {
     /// They are accepted.
     Accepted,
-    /// They are not.
+    /// They are refused.
     Refused(VerifyFault),
 }
 
@@ -42,8 +42,8 @@ pub fn judged(alloc: Global, bytes: &[u8]) -> Verdict {
     }
 }
 
-/// Whether bytes are accepted: the verifier gives the slow checker's answer, which is not want of memory, and where they
-/// are accepted, what is owed of them holds.
+/// Whether bytes are accepted. The verifier has to give the slow checker's answer, and neither may run out of memory. Accepted
+/// bytes have to pass `check_accepted`.
 pub fn compare(alloc: Global, bytes: &[u8], slow: Verdict) -> Result<bool, Mismatch> {
     agree(slow, slow, verified(alloc, bytes))?;
     if slow != Verdict::Accepted {
@@ -53,14 +53,14 @@ pub fn compare(alloc: Global, bytes: &[u8], slow: Verdict) -> Result<bool, Misma
     Ok(true)
 }
 
-/// Both checkers refuse bytes by a fault.
+/// Checks that both checkers refuse bytes with this fault.
 pub fn refuse(alloc: Global, bytes: &[u8], fault: VerifyFault) -> Result<bool, Mismatch> {
     let wanted = Verdict::Refused(fault);
     agree(wanted, judged(alloc, bytes), verified(alloc, bytes))?;
     Ok(false)
 }
 
-/// Both answers are the wanted one, and it is an answer.
+/// Checks that both answers are the wanted one, and that it is no failed allocation.
 fn agree(wanted: Verdict, slow: Verdict, verifier: Verdict) -> Result<(), Mismatch> {
     if slow == wanted && verifier == wanted && wanted != Verdict::Refused(VerifyFault::OutOfMemory) {
         return Ok(());
@@ -72,7 +72,7 @@ fn agree(wanted: Verdict, slow: Verdict, verifier: Verdict) -> Result<(), Mismat
     })
 }
 
-/// Bytes that are accepted are written as they are read, and no event is over what they state.
+/// Checks that accepted bytes are written as they were read, and that no event exceeds the stated budgets.
 fn check_accepted(alloc: Global, bytes: &[u8]) -> Result<(), Mismatch> {
     match read(alloc, bytes) {
         Ok(image) => check_image(alloc, bytes, &image),
@@ -80,7 +80,7 @@ fn check_accepted(alloc: Global, bytes: &[u8]) -> Result<(), Mismatch> {
     }
 }
 
-/// The same of the image that they spell.
+/// The same for the image of these bytes.
 fn check_image(alloc: Global, bytes: &[u8], image: &Image) -> Result<(), Mismatch> {
     if !is_written(alloc, bytes, image) {
         return Err(Mismatch::Written);

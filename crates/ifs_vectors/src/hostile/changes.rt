@@ -1,4 +1,4 @@
-//! Each change of a byte of an image, each cut, and each byte more.
+//! Each cut of an image, each added byte, and each change of a byte.
 
 use super::fields::{field_lengths, field_of};
 use super::tally::{Change, Tally, counted};
@@ -8,7 +8,7 @@ use ifs_image::{ImageFault, read};
 use ifs_verify::VerifyFault;
 use std::io;
 
-/// Cuts an image before each byte: the field that the byte is of is then not there whole.
+/// Cuts an image before each byte. The field of that byte is then incomplete.
 pub fn try_cuts<R: Print + AllocGlobal>(rt: &R, name: &str, bytes: &[u8]) -> Result<Tally> {
     let image = read(rt.alloc(), bytes)?;
     let lengths = field_lengths(rt.alloc(), image.parts())?;
@@ -31,7 +31,7 @@ fn try_each_cut<R: Print + AllocGlobal>(
     Ok(tally)
 }
 
-/// Puts one byte more behind an image, of each value: it is left over.
+/// Adds a byte of each value after an image. That byte is left over.
 pub fn try_longer<R: Print + AllocGlobal>(rt: &R, name: &str, bytes: &[u8]) -> Result<Tally> {
     let mut longer = Vec::from_slice(rt.alloc(), bytes)?;
     longer.push(0)?;
@@ -69,7 +69,7 @@ pub fn try_bytes<R: Print + AllocGlobal>(
     Ok(tally)
 }
 
-/// Sets a byte to each value but the one that it was.
+/// Sets a byte to each value except its own.
 fn try_values<R: Print + AllocGlobal>(
     rt: &R,
     name: &str,
@@ -86,7 +86,7 @@ fn try_values<R: Print + AllocGlobal>(
     Ok(tally)
 }
 
-/// Sets a byte, where there is one.
+/// Sets a byte, if it exists.
 fn set(bytes: &mut [u8], at: usize, value: u8) {
     if let Some(byte) = bytes.get_mut(at) {
         *byte = value;

@@ -40,7 +40,7 @@ fn put_text(lengths: &mut Vec<usize>, text: &Text) -> Result<(), AllocError> {
     lengths.extend_from_slice([2, text.as_bytes().len()].as_slice())
 }
 
-/// Adds what a routine takes and leaves, the number of its instructions, and these.
+/// Adds what a routine takes and leaves, and its instructions with their number.
 fn put_routine(lengths: &mut Vec<usize>, version: u8, routine: &Routine) -> Result<(), AllocError> {
     if version == 1 {
         lengths.push(1)?;
@@ -55,7 +55,7 @@ fn put_routine(lengths: &mut Vec<usize>, version: u8, routine: &Routine) -> Resu
     Ok(())
 }
 
-/// Adds a number of kinds, and so many kinds.
+/// Adds a number of kinds, and the kinds.
 fn put_kinds(lengths: &mut Vec<usize>, count: usize) -> Result<(), AllocError> {
     lengths.push(1)?;
     for _kind in 0..count {
@@ -64,7 +64,7 @@ fn put_kinds(lengths: &mut Vec<usize>, count: usize) -> Result<(), AllocError> {
     Ok(())
 }
 
-/// Where the field begins that a byte is of, given the lengths of all fields.
+/// Where the field of a byte begins, by the lengths of all fields.
 pub fn field_of(lengths: &[usize], at: usize) -> usize {
     let mut start = 0usize;
     for length in lengths {

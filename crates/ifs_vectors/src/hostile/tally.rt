@@ -1,4 +1,4 @@
-//! What was tried, and what came of it.
+//! What was tried, and with what result.
 
 use crate::mismatch::Mismatch;
 use std::{fmt, io};
@@ -6,7 +6,7 @@ use std::{fmt, io};
 /// What was done to an image's bytes.
 #[derive(Clone, Copy)]
 pub enum Change {
-    /// All from a place on were cut off.
+    /// All bytes from a place on were cut off.
     Cut { length: usize },
     /// The byte at a place was set to a value.
     Byte { at: usize, value: u8 },
@@ -33,7 +33,7 @@ pub struct Tally {
 }
 
 impl Tally {
-    /// Both together.
+    /// The sum of both.
     pub fn and(self, other: Tally) -> Tally {
         Tally {
             tried: self.tried.saturating_add(other.tried),
@@ -43,7 +43,7 @@ impl Tally {
     }
 }
 
-/// Counts one byte string, by whether it is accepted. What is wrong with an answer is printed.
+/// Counts one byte string by whether it is accepted, and prints what is wrong with an answer.
 pub fn counted(
     rt: &impl Print,
     name: &str,

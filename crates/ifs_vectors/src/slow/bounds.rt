@@ -1,4 +1,4 @@
-//! What is used from each place on, and the limits of it for a routine.
+//! What the code uses from each place on, and the limits of a routine.
 
 use crate::fault::{Check, code_at};
 use crate::slow::kinds::{Kinds, left_by};
@@ -8,7 +8,7 @@ use ifs_base::{Op, RoutineId};
 use ifs_verify::VerifyFault;
 use std::alloc::{AllocError, Global};
 
-/// What may be used at most from a place on. What is past all numbers is the greatest one.
+/// The most that may be used from a place on. A number that does not fit is the greatest one.
 #[derive(Clone, Copy, Default, PartialEq, Eq)]
 pub struct Bounds {
     /// Values on the stack at one time.
@@ -40,7 +40,7 @@ impl Bounds {
         }
     }
 
-    /// What is used by one, and by another after it: values and frames at one time are not added.
+    /// The use of one, and of another after it. Values and frames at one time are not added.
     pub fn then(self, other: Bounds) -> Bounds {
         Bounds {
             cost: self.cost.saturating_add(other.cost),
@@ -49,7 +49,7 @@ impl Bounds {
         }
     }
 
-    /// What is used in a frame above so many values of its caller.
+    /// The use in a frame above `values` values of its caller.
     fn above(self, values: u32) -> Bounds {
         Bounds {
             height: self.height.saturating_add(values),
@@ -74,7 +74,7 @@ impl Bounds {
     }
 }
 
-/// What is used from each line on, where no routine uses more than it may.
+/// What is used from each line on, or the first routine that uses more than it may.
 pub fn check_bounds(
     alloc: Global,
     listing: &Listing,
@@ -86,7 +86,8 @@ pub fn check_bounds(
     Ok(bounds)
 }
 
-/// One round: what is used from each line on by what the last round has for its successors and for what it calls.
+/// One round: what is used from each line on. It takes the last round's results for the line's successors and for the routine that
+/// the line calls.
 fn round(
     alloc: Global,
     listing: &Listing,
@@ -101,7 +102,7 @@ fn round(
         .collect(alloc)
 }
 
-/// What is used from a line on, whose instruction finds these kinds.
+/// What is used from a line on, if its instruction finds these kinds.
 fn used_from(listing: &Listing, line: &Line, here: Kinds, last: &[Bounds]) -> Bounds {
     let mut after = Bounds::default();
     for place in line.successors().iter().flatten() {
@@ -124,7 +125,7 @@ fn used_at(listing: &Listing, line: &Line, here: Kinds) -> Bounds {
     }
 }
 
-/// What is used by the routine that an instruction calls; nothing where it calls none.
+/// What the routine uses that an instruction calls; nothing if it calls none.
 fn called(listing: &Listing, line: &Line, here: Kinds, last: &[Bounds]) -> Bounds {
     match line.op {
         Op::Call(callee) => at(last, listing.first_of(callee)).above(kept(listing, callee, here)),
@@ -140,7 +141,7 @@ fn kept(listing: &Listing, callee: RoutineId, here: Kinds) -> u32 {
     }
 }
 
-/// What stands at an index; nothing is used where there is none.
+/// What is used from the line of an index on; nothing if there is no such line.
 pub fn at(bounds: &[Bounds], index: Option<usize>) -> Bounds {
     match index {
         Some(index) => bounds.get(index).copied().unwrap_or_default(),

@@ -6,7 +6,7 @@ use ifs_base::RoutineId;
 use ifs_image::{Budgets, ImageParts};
 use ifs_verify::{At, VerifyFault};
 
-/// No event uses more than the image states.
+/// Checks that no event uses more than the image states.
 pub fn check_budgets(
     parts: &ImageParts,
     listing: &Listing,
@@ -52,7 +52,7 @@ fn opening(parts: &ImageParts, listing: &Listing, bounds: &[Bounds]) -> Bounds {
     }
 }
 
-/// What a routine uses, all that it calls with it.
+/// What a routine uses, with all that it calls.
 fn used_by(listing: &Listing, bounds: &[Bounds], routine: RoutineId) -> Bounds {
     at(bounds, listing.first_of(routine))
 }

@@ -8,10 +8,10 @@ use ifs_image::Routine;
 use ifs_verify::VerifyFault;
 use std::alloc::{AllocError, Global};
 
-/// How many kinds may lie on the stack.
+/// How many kinds fit on the stack.
 const MOST: usize = 32;
 
-/// A list of kinds, the topmost last. Behind it there is nothing.
+/// A list of kinds, the topmost last. The places after it are empty.
 #[derive(Clone, Copy, Default, PartialEq, Eq)]
 pub struct Kinds {
     kinds: [Option<Kind>; MOST],
@@ -26,7 +26,7 @@ pub struct Signature {
 }
 
 impl Signature {
-    /// What a routine says of itself.
+    /// What a routine states.
     pub fn of(routine: &Routine) -> Signature {
         Signature {
             params: Kinds::of(routine.params.as_slice()),
@@ -36,7 +36,7 @@ impl Signature {
 }
 
 impl Kinds {
-    /// These kinds, the topmost last, of which there are fewer than 32.
+    /// These kinds, the topmost last. There are fewer than 32.
     fn of(kinds: &[Kind]) -> Kinds {
         let mut list = Kinds::default();
         for kind in kinds {
@@ -50,7 +50,7 @@ impl Kinds {
         u32::try_from(self.count).unwrap_or(u32::MAX)
     }
 
-    /// With one more on top; `None` where there are 32 already.
+    /// With one more on top; `None` if there are 32 already.
     fn with(self, kind: Kind) -> Option<Kinds> {
         let Kinds { mut kinds, count } = self;
         *kinds.get_mut(count)? = Some(kind);
@@ -58,7 +58,7 @@ impl Kinds {
         Some(Kinds { kinds, count })
     }
 
-    /// The topmost, where there is one.
+    /// The topmost, if there is one.
     fn top(self) -> Option<Kind> {
         let last = self.count.checked_sub(1)?;
         self.kinds.get(last).copied().flatten()
@@ -92,7 +92,7 @@ impl Kinds {
         Ok(left)
     }
 
-    /// With these on top, where there is room.
+    /// With these on top, if there is room.
     fn with_all(self, more: Kinds) -> Result<Kinds, Check> {
         let mut list = self;
         for kind in more.kinds.iter().flatten() {
@@ -124,12 +124,12 @@ pub fn left_by(listing: &Listing, line: &Line, kinds: Kinds) -> Result<Kinds, Ch
     }
 }
 
-/// With one more kind on top, where there is room.
+/// With one more kind on top, if there is room.
 fn put(kinds: Kinds, kind: Kind) -> Result<Kinds, Check> {
     kinds.with(kind).ok_or(Check::Stack)
 }
 
-/// The kinds at `ret`, which are the routine's results.
+/// The kinds at `ret`, which have to be the routine's results.
 fn returned(signature: Option<Signature>, kinds: Kinds) -> Result<Kinds, Check> {
     match signature {
         Some(Signature { results, .. }) if results == kinds => Ok(kinds),
@@ -137,13 +137,13 @@ fn returned(signature: Option<Signature>, kinds: Kinds) -> Result<Kinds, Check> 
     }
 }
 
-/// The kinds behind a call: the callee's results in the place of its parameters.
+/// The kinds after a call: the callee's results in place of its parameters.
 fn called(signature: Option<Signature>, kinds: Kinds) -> Result<Kinds, Check> {
     let Signature { params, results } = signature.ok_or(Check::Entry)?;
     kinds.without_all(params)?.with_all(results)
 }
 
-/// The kinds at each line, where all ways to a line agree and each instruction fits what it finds.
+/// The kinds at each line, if all ways to a line agree and each instruction fits what it finds.
 pub fn check_kinds(alloc: Global, listing: &Listing) -> Result<Vec<Option<Kinds>>, VerifyFault> {
     // ways lead forward, so there are fewer rounds than lines
     let kinds = settled(listing.lines().len(), |last| round(alloc, listing, last))?;
@@ -151,7 +151,7 @@ pub fn check_kinds(alloc: Global, listing: &Listing) -> Result<Vec<Option<Kinds>
     Ok(kinds)
 }
 
-/// One round: the kinds at each line by what the last round has at the line from which it is first reached.
+/// One round: the kinds at each line. It takes the last round's kinds at the first line that leads there.
 fn round(
     alloc: Global,
     listing: &Listing,
@@ -165,7 +165,7 @@ fn round(
         .collect(alloc)
 }
 
-/// The kinds at a line: the parameters at a routine's first place, else those that the first line that leads there leaves.
+/// The kinds at a line. At a routine's first place they are its parameters. Elsewhere the first line that leads there leaves them.
 fn found(
     listing: &Listing,
     line: &Line,
@@ -182,8 +182,8 @@ fn found(
     left_by(listing, before, kinds).ok()
 }
 
-/// The first place at which an instruction does not fit what it finds, or leaves to another place what does not stand there. A
-/// line without kinds comes behind the one that is at fault, since the first line that leads to it stands before it.
+/// Reports the first place whose instruction does not fit what it finds, or leaves other kinds than a successor has. A line without
+/// kinds comes after the one at fault, since the first line that leads to it comes before it.
 fn judge_kinds(listing: &Listing, kinds: &[Option<Kinds>]) -> Result<(), VerifyFault> {
     for (line, here) in listing.lines().iter().zip(kinds) {
         let place = code_at(line.routine, line.place);
@@ -196,7 +196,7 @@ fn judge_kinds(listing: &Listing, kinds: &[Option<Kinds>]) -> Result<(), VerifyF
     Ok(())
 }
 
-/// Whether what a line leaves is what stands at each of its successors.
+/// Whether each successor of a line has the kinds that the line leaves.
 fn agrees(listing: &Listing, line: &Line, left: Kinds, kinds: &[Option<Kinds>]) -> bool {
     line.successors()
         .iter()

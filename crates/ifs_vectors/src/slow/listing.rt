@@ -1,4 +1,4 @@
-//! The instructions of an image in one list, with where each may lead.
+//! The instructions of an image in one list, and where each may lead.
 
 use crate::slow::kinds::Signature;
 use ifs_base::{Op, RoutineId};
@@ -18,7 +18,7 @@ pub struct Line {
 }
 
 impl Line {
-    /// The places of its routine at which the run may go on.
+    /// The places of its routine at which the run may continue.
     pub fn successors(&self) -> [Option<usize>; 2] {
         let next = Some(self.place.saturating_add(1));
         match self.op {
@@ -29,7 +29,7 @@ impl Line {
         }
     }
 
-    /// Whether it is before another of its routine and may lead there.
+    /// Whether it comes before another line of its routine and may lead there.
     fn leads_to(&self, other: &Line) -> bool {
         let [first, second] = self.successors();
         let there = Some(other.place);
@@ -43,11 +43,11 @@ impl Line {
 #[derive(Drop)]
 pub struct Listing {
     lines: Vec<Line>,
-    /// Of each routine, the index of its first line.
+    /// The index of each routine's first line.
     firsts: Vec<usize>,
-    /// Of each routine, what it takes and leaves.
+    /// What each routine takes and leaves.
     signatures: Vec<Signature>,
-    /// Of each line, the index of the first line that leads to it.
+    /// The index of the first line that leads to each line.
     origins: Vec<Option<usize>>,
 }
 
@@ -78,7 +78,7 @@ impl Listing {
         self.lines.as_slice()
     }
 
-    /// Of each line, the index of the first line that leads to it.
+    /// The index of the first line that leads to each line.
     pub fn origins(&self) -> &[Option<usize>] {
         self.origins.as_slice()
     }
@@ -119,7 +119,7 @@ fn push_lines(lines: &mut Vec<Line>, index: usize, routine: &Routine) -> Result<
     Ok(())
 }
 
-/// Adds, of each line, the index of the first that leads to it.
+/// Adds for each line the index of the first line that leads to it.
 fn push_origins(lines: &[Line], origins: &mut Vec<Option<usize>>) -> Result<(), AllocError> {
     for line in lines {
         origins.push(lines.iter().position(|other| other.leads_to(line)))?;

@@ -20,7 +20,7 @@ pub fn check_plain(parts: &ImageParts, listing: &Listing) -> Result<(), VerifyFa
     check_reached(lines, listing.origins())
 }
 
-/// A fault, where what a check wants does not hold.
+/// The fault of a check, if what it wants does not hold.
 fn wanted(holds: bool, check: Check, place: At) -> Result<(), VerifyFault> {
     if holds {
         Ok(())
@@ -45,7 +45,7 @@ fn check_states(parts: &ImageParts) -> Result<(), VerifyFault> {
     Ok(())
 }
 
-/// Whether both routines are in the table, and no test of the mask is behind the table's last.
+/// Whether both routines and all tests of the mask are in their tables.
 fn are_within(parts: &ImageParts, handlers: Handlers) -> bool {
     let routines = parts.routines.len();
     usize::from(handlers.init.0) < routines
@@ -53,7 +53,7 @@ fn are_within(parts: &ImageParts, handlers: Handlers) -> bool {
         && are_below(handlers.mask, parts.tests.len())
 }
 
-/// Whether a mask names tests below a number alone: without the bits of these it is 0.
+/// Whether a mask names only tests below a number.
 fn are_below(mask: u64, tests: usize) -> bool {
     let mut rest = mask;
     for _test in 0..tests {
@@ -75,7 +75,7 @@ fn check_operands(parts: &ImageParts, lines: &[Line]) -> Result<(), VerifyFault>
     Ok(())
 }
 
-/// The index that an instruction names, and the length of the table; without an index the first of one entry.
+/// The index that an instruction names, and the length of its table. Without an index it is the first of one entry.
 fn entry_of(parts: &ImageParts, op: Op) -> (usize, usize) {
     match op {
         Op::Link(interface, _) => (usize::from(interface.0), parts.interfaces.len()),
