@@ -17,19 +17,19 @@ use std::alloc::{AllocError, Global};
 /// More reads, writes and runs than a session has.
 const MANY: usize = 100;
 
-/// Which sessions are tried.
+/// Which sessions are tried. N is the number of a session, from 0 on.
 #[derive(Clone, Copy)]
 pub enum Trial {
-    /// The read after so many reads of `simulate` fails.
+    /// `simulate` fails at the read after N reads.
     Reads,
-    /// The write after so many writes of `simulate` fails.
+    /// `simulate` fails at the write after N writes.
     Writes,
     /// The same with `serve_one`.
     ServedReads,
     ServedWrites,
-    /// The run after so many runs of the host fails.
+    /// The host fails at the run after N runs.
     Runs,
-    /// The input ends after so many bytes.
+    /// The input ends after N bytes.
     Cuts,
     /// The input does not end.
     Endless,

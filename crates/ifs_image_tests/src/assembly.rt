@@ -30,7 +30,7 @@ fn takes_the_largest_image(rt: HostRuntime) -> Result<(), Fail> {
     Ok(())
 }
 
-/// The smallest image's text in version 2 with so many routines, each of 1,024 instructions but the last, which has one less.
+/// The smallest image's text in version 2 with `routines` routines. Each has 1,024 instructions, and the last one has one fewer.
 fn long_text(alloc: Global, routines: usize) -> Result<String, AllocError> {
     let mut text = format!(in alloc; "ifsv 2\n{}{}", SMALLEST.0, SMALLEST.1)?;
     for routine in 0..routines {

@@ -11,7 +11,7 @@ use std::alloc::{AllocError, Global};
 use std::process::Abort;
 use std::test::Fail;
 
-/// An image of which so many bytes at an offset give way to others.
+/// An image in which other bytes replace `removed` bytes at an offset.
 fn changed(
     alloc: Global,
     image: &[u8],
@@ -27,13 +27,13 @@ fn changed(
     Ok(bytes)
 }
 
-/// Asserts that bytes are refused with this fault, seen as well as read.
+/// Asserts that `view` and `read` refuse bytes with this fault.
 fn check_refused(rt: &impl Abort, alloc: Global, bytes: &[u8], fault: ImageFault) {
     same(rt, view(alloc, bytes).err(), Some(fault));
     same(rt, read(alloc, bytes).err(), Some(fault));
 }
 
-/// Each front of an image is I1 at the field that is not there whole, and one byte more is I7.
+/// Each prefix of an image is I1 at the incomplete field, and one byte more is I7.
 fn cut_off(rt: &impl Abort, alloc: Global, hex: &str) -> Result<(), Fail> {
     let image = bytes_of(alloc, hex)?;
     let mut start: usize = 0;
@@ -66,7 +66,7 @@ fn every_byte_cut_off(rt: HostRuntime) -> Result<(), Fail> {
     cut_off(&rt, rt.alloc(), images::CALL_IN_A_CALL)
 }
 
-/// An image in hexadecimal, of which so many bytes at an offset give way to others.
+/// The same for an image in hexadecimal.
 fn image_changed(
     alloc: Global,
     image: &str,
@@ -79,7 +79,7 @@ fn image_changed(
     changed(alloc, image.as_slice(), at, removed, put.as_slice())
 }
 
-/// The smallest image of version 2 with 65 routines, of which 64 with 65,535 instructions in all are there.
+/// The smallest image of version 2, which states 65 routines. It has the first 64, with 65,535 instructions in all.
 fn sixty_five_routines(alloc: Global) -> Result<Vec<u8>, Fail> {
     let smallest = images::SMALLEST_UPGRADED;
     let mut bytes = image_changed(alloc, smallest, 24, 1, "41")?;
@@ -91,7 +91,7 @@ fn sixty_five_routines(alloc: Global) -> Result<Vec<u8>, Fail> {
     Ok(bytes)
 }
 
-/// Puts a routine of version 2 with so many instructions.
+/// Puts a routine of version 2 with `count` instructions.
 fn put_long_routine(bytes: &mut Vec<u8>, count: u16) -> Result<(), AllocError> {
     bytes.extend_from_slice(b"\x00\x00")?;
     bytes.extend_from_slice(&count.to_be_bytes())?;
@@ -128,7 +128,7 @@ fn upgrade_of_the_smallest_image(rt: HostRuntime) -> Result<(), Fail> {
     Ok(())
 }
 
-/// So many texts, which are all this one.
+/// Asserts that there are `count` texts, and that all are this one.
 fn check_texts(rt: &impl Abort, texts: &[Text], count: usize, wanted: &str) {
     same(rt, texts.len(), count);
     for text in texts {
@@ -154,7 +154,7 @@ const POLICY: [Op; 5] = [
     Op::Ret,
 ];
 
-/// What bytes are read to is written as those bytes again.
+/// Asserts that the image of bytes is written as the same bytes.
 fn written_again(rt: &impl Abort, alloc: Global, bytes: &[u8]) -> Result<Image, Fail> {
     let image = read(alloc, bytes)?;
     let written = write(alloc, &image)?;
@@ -162,7 +162,7 @@ fn written_again(rt: &impl Abort, alloc: Global, bytes: &[u8]) -> Result<Image, 
     Ok(image)
 }
 
-/// The same of an image in hexadecimal.
+/// The same for an image in hexadecimal.
 fn read_and_written(rt: &impl Abort, alloc: Global, hex: &str) -> Result<Image, Fail> {
     let bytes = bytes_of(alloc, hex)?;
     written_again(rt, alloc, bytes.as_slice())
@@ -180,8 +180,8 @@ fn first_policy(rt: HostRuntime) -> Result<(), Fail> {
     check_first(&rt, &image, 4, 2, 3, &POLICY)
 }
 
-/// An image of one interface `carp0`, one command `echo m` and one state `a`, all of whose routines
-/// but the last are `ret`.
+/// Asserts that an image has one interface `carp0`, one command `echo m` and one state `a`. All its routines except the body are
+/// `ret`.
 fn check_first(
     rt: &impl Abort,
     image: &Image,
@@ -218,7 +218,7 @@ fn check_state(rt: &impl Abort, parts: &ImageParts, init: u16, body: u16) {
     }
 }
 
-/// So many routines, each of them `ret` but for one.
+/// Asserts that there are `routines` routines, and that all except the body are `ret`.
 fn check_code(rt: &impl Abort, parts: &ImageParts, routines: usize, body: usize, last: &[Op]) {
     same(rt, parts.routines.len(), routines);
     for (i, routine) in parts.routines.as_slice().iter().enumerate() {
@@ -231,7 +231,7 @@ fn check_code(rt: &impl Abort, parts: &ImageParts, routines: usize, body: usize,
     }
 }
 
-/// The parts of the smallest image, with a stated stack, in a version in which its routine takes and leaves these kinds.
+/// The parts of the smallest image with this stack and version. Its routine takes and leaves these kinds.
 fn parts_with(
     alloc: Global,
     stack: u16,
@@ -272,12 +272,12 @@ fn parts_with(
     })
 }
 
-/// The parts of the smallest image, with a stated stack.
+/// The parts of the smallest image with this stack.
 fn smallest_parts(alloc: Global, stack: u16) -> Result<ImageParts, AllocError> {
     parts_with(alloc, stack, 1, Kinds::new(), Kinds::new())
 }
 
-/// So many of one kind.
+/// A kind `count` times.
 fn kinds_of(kind: Kind, count: usize) -> Kinds {
     let mut kinds = Kinds::new();
     for _ in 0..count {
@@ -305,7 +305,7 @@ const FITTING: [(u8, (Kind, usize), (Kind, usize), bool); 13] = [
     (255, (Kind::Truth, 0), (Kind::Truth, 0), false),
 ];
 
-/// Whether parts fit whose only routine takes and leaves these kinds.
+/// Whether parts fit if their only routine takes and leaves these kinds.
 fn version_fits(alloc: Global, version: u8, taken: Kinds, left: Kinds) -> Result<bool, Fail> {
     Ok(parts_with(alloc, 0, version, taken, left)?.fits())
 }

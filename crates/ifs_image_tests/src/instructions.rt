@@ -142,7 +142,7 @@ fn texts_are_equal_where_their_bytes_are(rt: HostRuntime) -> Result<(), Fail> {
     Ok(())
 }
 
-/// So many times a byte.
+/// A byte `length` times.
 fn repeated(alloc: Global, byte: u8, length: usize) -> Result<Vec<u8>, AllocError> {
     let mut bytes = Vec::new(alloc);
     for _byte in 0..length {

@@ -1,4 +1,4 @@
-//! A core on the largest image: nothing but memory is in its way.
+//! A core on the largest image. Only an allocation can fail.
 
 use crate::checks::{holds, same};
 use ifs_asm::assemble;
@@ -28,7 +28,7 @@ fn opened<'a>(alloc: Global, verified: Verified<'a>) -> Result<Core<'a>, Fail> {
     }
 }
 
-/// Its last state is the initial one, and its last interface is told.
+/// Asserts that its last state is the initial one, and that its last interface can change.
 fn check_core(rt: &impl Abort, core: &mut Core<'_>) {
     same(rt, core.state(), StateId(255));
     let reply = core.step(Step::Link(IfaceId(63), LinkState::Up));

@@ -1,7 +1,7 @@
-//! Tests of images and of what runs them: instructions, bytes, assembly texts, what the verifier says, handlers on the machine,
-//! schedules, and the steps of a core.
+//! Tests of images: instructions, bytes, assembly texts and the verifier. Tests of what runs them: handlers on the machine,
+//! schedules and the steps of a core.
 //!
-//! They stand over the crates that they test, so that these are proved once and not again with their tests.
+//! They are in a crate above those that they test. So those are proved once, and not again with their tests.
 #![tactic(auto)]
 
 #[cfg(test)]

@@ -1,4 +1,4 @@
-//! Runs of small images, against values from outside and against the table as a slow program.
+//! Runs of small images, compared with worked values and with the table as a slow program.
 
 ghost use Rattle.std.specs.Prelude.{◌≤◌, length};
 ghost use Rattle.ifs_image.specs.Limits.{CountsFit};
@@ -25,7 +25,7 @@ const DOWN: [LinkState; 2] = [LinkState::Down, LinkState::Unknown];
 
 const UP: [LinkState; 2] = [LinkState::Up, LinkState::Unknown];
 
-/// What the images of these tests say of themselves.
+/// The version and the budgets of the images of these tests.
 const BUDGETS: &str = "ifsv 1
 stack 32
 frames 32
@@ -43,7 +43,7 @@ command \"c\"
 command \"d\"
 ";
 
-/// The text form of an image up to its routines, with two states; all handlers are one routine.
+/// The text of an image up to its routines. It has two states, and all its handlers are one routine.
 fn front_of(alloc: Global, routine: usize) -> Result<String, AllocError> {
     let handlers = format!(in alloc; "init {routine} body {routine} tests -\n")?;
     let handlers = handlers.as_str();
@@ -62,8 +62,8 @@ fn front_of(alloc: Global, routine: usize) -> Result<String, AllocError> {
     Ok(text)
 }
 
-/// The bytes of an image of version 2 whose handlers are all the last of these routines, each of them what it takes
-/// and leaves, and its instructions.
+/// The bytes of an image of version 2. Each routine is what it takes and leaves, and its instructions. The last one is every
+/// handler.
 fn spelled_in_two(alloc: Global, routines: &[(&str, &str)]) -> Result<Vec<u8>, Fail> {
     let front = front_of(alloc, routines.len().saturating_sub(1))?;
     let rest = front.as_str().strip_prefix("ifsv 1\n").ok_or("a front")?;
@@ -81,7 +81,7 @@ fn text_in_two(alloc: Global, rest: &str, routines: &[(&str, &str)]) -> Result<S
     Ok(text)
 }
 
-/// The bytes of an image whose handlers are all the last of these routines. All but it have one result.
+/// The bytes of an image with these routines. The last one is every handler, and the others have one result.
 fn spelled(alloc: Global, routines: &[&str]) -> Result<Vec<u8>, Fail> {
     let text = text_of(alloc, routines)?;
     bytes_in(alloc, text.as_str())
@@ -96,7 +96,7 @@ fn text_of(alloc: Global, routines: &[&str]) -> Result<String, AllocError> {
     Ok(text)
 }
 
-/// Puts the lines of a routine, whose instructions have commas between them.
+/// Puts the lines of a routine. Its instructions have commas between them.
 fn put_routine(text: &mut String, results: u8, code: &str) -> Result<(), AllocError> {
     writeln!(text, "routine results {results}")?;
     put_code(text, code)
@@ -111,7 +111,7 @@ fn put_code(text: &mut String, code: &str) -> Result<(), AllocError> {
     Ok(())
 }
 
-/// Facts for an image: the first entry of each table has the first value, and so on by turns.
+/// Facts for an image. The entries of each table take the values in turn.
 fn facts_for(image: &ImageView<'_>, links: [LinkState; 2], tests: [Option<bool>; 2]) -> Facts
     requires { CountsFit image.now }
     ensures { AreFactsOf image.now (facts_of result) }
@@ -147,7 +147,7 @@ fn body_run(
     (cost, effects)
 }
 
-/// The run of the always body, which is the one of the slow program over a copy of the image.
+/// The run of the always body. Asserts that the slow program makes the same run on a copy of the image.
 fn compared(
     rt: &impl Abort,
     alloc: Global,
@@ -167,7 +167,7 @@ fn compared(
     Ok(slow)
 }
 
-/// The run of the always body of an image, which is the one of the slow program.
+/// The run of the always body of an image. Asserts that the slow program makes the same run.
 fn ran(
     rt: &impl Abort,
     alloc: Global,
@@ -207,7 +207,7 @@ fn check_run(rt: &impl Abort, run: &plain::Ending, want: (u32, &[u16], Option<u1
     same_in(rt, name, run.wish, want.2);
 }
 
-/// The cost of a handler, its commands and its wish.
+/// Asserts the cost of a handler, its commands and its wish.
 fn check(
     rt: &impl Abort,
     alloc: Global,
@@ -247,20 +247,20 @@ fn worked_rows(rt: HostRuntime) -> Result<(), Fail> {
     Ok(())
 }
 
-/// One command, whatever the link is.
+/// A handler queues one command, whatever the link is.
 #[test]
 fn queues(rt: HostRuntime) -> Result<(), Fail> {
     let code = "link 0 up, pop, cmd 0, queue, ret";
     check(&rt, rt.alloc(), code, (UP, NEVER), (5, &[0], None))
 }
 
-/// Code that queues command 1 where this code leaves true, and command 0 too where it leaves false.
+/// Code that queues command 1. If this code leaves false, it queues command 0 before that.
 fn queueing(alloc: Global, code: &str) -> Result<String, AllocError> {
     let end = code.split(',').count().saturating_add(3);
     format!(in alloc; "{code}, jt {end}, cmd 0, queue, cmd 1, queue, ret")
 }
 
-/// What the code leaves, told by the commands that are queued.
+/// Asserts what the code leaves, by the commands that are queued.
 fn check_truth(
     rt: &impl Abort,
     alloc: Global,
@@ -305,7 +305,7 @@ fn last_wish(rt: HostRuntime) -> Result<(), Fail> {
     check(&rt, rt.alloc(), code, (DOWN, NEVER), (7, &[], Some(0)))
 }
 
-/// The code of routines 1 to 14, each of which calls the one before it twice.
+/// The code of routines 1 to 14. Each calls the one before it twice.
 fn calls(alloc: Global) -> Result<Vec<String>, AllocError> {
     let mut codes = Vec::new(alloc);
     for k in 0..14 {
@@ -325,7 +325,7 @@ fn with_handler<'a>(alloc: Global, codes: &'a [String]) -> Result<Vec<&'a str>, 
     Ok(routines)
 }
 
-/// Routine k costs 6 * 2^k - 4, which for 14 is 98,300; its handler adds `call`, `pop` and `ret`.
+/// Routine k costs 6 * 2^k - 4, so routine 14 costs 98,300. Its handler adds `call`, `pop` and `ret`.
 #[test]
 fn cost_through_calls(rt: HostRuntime) -> Result<(), Fail> {
     let codes = calls(rt.alloc())?;
@@ -335,7 +335,7 @@ fn cost_through_calls(rt: HostRuntime) -> Result<(), Fail> {
     Ok(())
 }
 
-/// What a handler costs, its commands and its wish, in an image of version 2.
+/// Asserts the cost of a handler, its commands and its wish in an image of version 2.
 fn check_in_two(
     rt: &impl Abort,
     alloc: Global,
@@ -350,7 +350,7 @@ fn check_in_two(
     Ok(())
 }
 
-/// Values that are given and left keep their order; one below stays where it is.
+/// Values that a routine takes and leaves keep their order. A value below them stays in place.
 #[test]
 fn values_keep_their_order(rt: HostRuntime) -> Result<(), Fail> {
     let both = "params command,command results command,command";
@@ -405,7 +405,7 @@ fn values_keep_their_order(rt: HostRuntime) -> Result<(), Fail> {
     )
 }
 
-/// A call in a call, whose callee takes a value that its caller was given and one of its own.
+/// A call in a call. The inner callee takes a value that its caller was given, and one of its caller's own.
 #[test]
 fn a_call_in_a_call(rt: HostRuntime) -> Result<(), Fail> {
     let routines: [(&str, &str); 5] = [
@@ -463,7 +463,7 @@ fn small_code(
     Ok(code)
 }
 
-/// The runs of the always body before the first test ended, and after one found false.
+/// Compares the runs of the always body before the first test ended, and after it ended as false.
 fn compared_twice(
     rt: &impl Abort,
     alloc: Global,
@@ -475,13 +475,13 @@ fn compared_twice(
     Ok(())
 }
 
-/// Whether a routine is accepted; then it runs as the slow program says.
+/// Whether a routine is accepted. If so, asserts that it runs like the slow program.
 fn small(rt: &impl Abort, alloc: Global, code: &str) -> Result<bool, Fail> {
     let image = spelled(alloc, &[code])?;
     agrees(rt, alloc, image.as_slice())
 }
 
-/// Whether an image is accepted; then its always body runs as the slow program says.
+/// Whether an image is accepted. If so, asserts that its always body runs like the slow program.
 fn agrees(rt: &impl Abort, alloc: Global, image: &[u8]) -> Result<bool, Fail> {
     let Ok(verified) = verify(alloc, image) else {
         return Ok(false);
@@ -500,7 +500,7 @@ fn compared_with_copy(
     compared_twice(rt, alloc, verified, copied.parts())
 }
 
-/// How many of the routines of this length are accepted, of which there are so many.
+/// How many of the `count` routines of this length are accepted.
 fn smalls(
     rt: &impl Abort,
     alloc: Global,
@@ -518,7 +518,7 @@ fn smalls(
     Ok(accepted)
 }
 
-/// All routines of at most six of five instructions, before their `ret`.
+/// All routines of at most six instructions before their `ret`, made of five instructions.
 #[test]
 fn small_routines(rt: HostRuntime) -> Result<(), Fail> {
     for (ops, wanted) in SMALL {

@@ -1,4 +1,4 @@
-//! Schedules as lists of calls with the answers that they must get.
+//! Schedules as lists of calls with their expected answers.
 
 use crate::checks::{holds, holds_in, same, same_in};
 use arrayvec::ArrayVec;
@@ -60,7 +60,7 @@ fn play_one(rt: &impl Abort, schedule: &mut Schedule, call: Call) {
     }
 }
 
-/// The idle tests are these, and the next moment is the first one's.
+/// Asserts that these are the idle tests, and that the next moment is the first one's.
 fn assert_idle(rt: &impl Abort, schedule: &Schedule, entries: &[(u64, u16)]) {
     same(
         rt,
@@ -74,7 +74,7 @@ fn assert_idle(rt: &impl Abort, schedule: &Schedule, entries: &[(u64, u16)]) {
     }
 }
 
-/// A tick that starts these tests.
+/// Makes a tick, and asserts that it starts these tests.
 fn tick(
     rt: &impl Abort,
     schedule: &mut Schedule,
@@ -94,7 +94,7 @@ fn tick(
     }
 }
 
-/// The end of a run, which does not run afterwards.
+/// Ends a run, and asserts that it does not run afterwards.
 fn finish(
     rt: &impl Abort,
     schedule: &mut Schedule,
@@ -162,7 +162,7 @@ fn ticks(rt: HostRuntime) {
     );
 }
 
-/// A list that is lent to two ticks has the starts of the later one alone.
+/// Two ticks fill the same list. It then has the starts of the later one alone.
 #[test]
 fn starts_in_a_lent_list(rt: HostRuntime) {
     let mut periods = ArrayVec::new();
@@ -209,7 +209,7 @@ fn stale(rt: HostRuntime) {
     );
 }
 
-/// Test 0 is the always part's, test 1 the state's; the bits of other tests say nothing.
+/// Test 0 is of the always part, and test 1 of the state. The bits of other tests do not count.
 #[test]
 fn entered_again_while_running(rt: HostRuntime) {
     play(
@@ -252,7 +252,7 @@ fn macros(rt: HostRuntime) {
     );
 }
 
-/// Of two with one due moment the lower index stands first, whichever ended first.
+/// If two tests are due at one moment, the lower index comes first, whichever ended first.
 #[test]
 fn held_back(rt: HostRuntime) {
     play(
@@ -294,8 +294,8 @@ fn three_periods(rt: HostRuntime) {
     );
 }
 
-/// Tests that are due at one moment start by index, in whatever order they were put back; those that are due at
-/// several moments start by index too.
+/// Tests that are due at one moment start by index, in whatever order they were put back. Tests that are due at several moments
+/// start by index too.
 #[test]
 fn starts_by_index(rt: HostRuntime) {
     play(
@@ -319,7 +319,7 @@ fn starts_by_index(rt: HostRuntime) {
     );
 }
 
-/// A result puts a test back between two others, before them and behind them.
+/// A result puts a test back between two others, before them and after them.
 #[test]
 fn put_back_in_between(rt: HostRuntime) {
     play(
@@ -364,7 +364,7 @@ fn due_at_the_last_moment(rt: HostRuntime) {
     );
 }
 
-/// A number that is missing leaves the due tests of higher indexes, which stay in order.
+/// If there is no number left, the due tests of higher indexes stay in order.
 #[test]
 fn left_without_a_number(rt: HostRuntime) {
     play(
@@ -431,7 +431,7 @@ fn all_due_at_once(rt: HostRuntime) {
     assert_all_start(&rt, &mut schedule, 64, 65);
 }
 
-/// A tick that starts all 64 tests, with numbers from one on.
+/// Makes a tick, and asserts that it starts all 64 tests, with numbers from one on.
 fn assert_all_start(rt: &impl Abort, schedule: &mut Schedule, now: u64, first: u64) {
     let mut starts = ArrayVec::new();
     same(rt, schedule.tick_into(now, &mut starts), Ok(false));
@@ -443,7 +443,7 @@ fn assert_all_start(rt: &impl Abort, schedule: &mut Schedule, now: u64, first: u
     same(rt, schedule.next_due(), None);
 }
 
-/// All 64 tests are idle, the last one due at moment 1 and each one before it a moment later.
+/// Asserts that all 64 tests are idle. The last one is due at moment 1, and each one before it a moment later.
 fn assert_idle_backwards(rt: &impl Abort, schedule: &Schedule) {
     same(rt, schedule.idle().len(), 64);
     for (place, (due, test)) in schedule.idle().iter().enumerate() {
@@ -452,7 +452,7 @@ fn assert_idle_backwards(rt: &impl Abort, schedule: &Schedule) {
     }
 }
 
-/// A schedule that goes on with the run numbers of another.
+/// A schedule continues the run numbers of another.
 #[test]
 fn numbers_go_on(rt: HostRuntime) {
     let calls = [
@@ -484,7 +484,7 @@ fn last_number_goes_on(rt: HostRuntime) {
     play(&rt, &[10, 20], LAST, &calls);
 }
 
-/// A schedule without a number starts nothing, and says so where a test is due.
+/// A schedule without a number starts nothing, and reports that if a test is due.
 #[test]
 fn no_number_is_left(rt: HostRuntime) {
     let calls = [

@@ -37,7 +37,7 @@ fn link_of(word: &str) -> Option<LinkState> {
     }
 }
 
-/// The step that a request line asks for, where it asks for one.
+/// The step that a request line asks for, if it asks for one.
 fn step_of(core: &Core<'_>, line: &str) -> Option<Step> {
     let mut words = line.split_whitespace();
     match words.next()? {
@@ -137,7 +137,7 @@ fn reply_text(alloc: Global, core: &Core<'_>, reply: &Reply) -> Result<String, A
     }
 }
 
-/// What the readers say, as the line that answers `status`.
+/// What the readers return, as the reply line to `status`.
 fn status_text(alloc: Global, core: &Core<'_>) -> Result<String, AllocError> {
     let name = core.state_name(core.state()).unwrap_or("");
     let owed = if core.owed() { "yes" } else { "no" };
@@ -149,7 +149,7 @@ fn status_text(alloc: Global, core: &Core<'_>) -> Result<String, AllocError> {
     )
 }
 
-/// The answer to a request line; none where a session answers it without the core.
+/// The reply line to a request line; none if a session replies without the core.
 fn answer(alloc: Global, core: &mut Core<'_>, line: &str) -> Result<Option<String>, AllocError> {
     if line == "status" {
         return Ok(Some(status_text(alloc, core)?));
@@ -197,7 +197,7 @@ fn record(step: Step, answer: Answer, queued: u16, cost: u32) -> Record {
     }
 }
 
-/// What the readers of links say after a step of the row *First run*.
+/// Asserts what the readers of links return after a step of the row *First run*.
 fn check_links(rt: &impl Abort, core: &Core<'_>) {
     same(rt, core.iface_of(b"carp0"), Some(IfaceId(0)));
     same(rt, core.iface_of(b"carp1"), None);
@@ -228,7 +228,7 @@ fn readers_after_steps(rt: HostRuntime) {
     check_trace(&rt, &core, records.as_slice());
 }
 
-/// The second test of the row *Held back* before its first run.
+/// Asserts what the readers return for the second test of the row *Held back* before its first run.
 fn check_test(rt: &impl Abort, core: &Core<'_>) {
     same(rt, core.test_text(TestId(1)), Some("t2"));
     same(rt, core.test_value(TestId(1)), Some(None));
@@ -240,7 +240,7 @@ fn readers_of_tests(rt: HostRuntime) {
     check_test(&rt, &opened(&rt, rt.alloc(), image.as_slice()));
 }
 
-/// A step names what is not in its table.
+/// Asserts the reply to a step that names what is not in its table.
 fn check_no_such(rt: &impl Abort, core: &mut Core<'_>, step: Step) {
     let reply = core.step(step);
     holds(rt, matches!(reply, Reply::NoSuch));

@@ -1,4 +1,4 @@
-//! What the verifier says of images, and the texts of its faults.
+//! Images that the verifier accepts, and the texts of its faults.
 
 use crate::checks::{holds, same};
 use crate::largest::bytes_in;

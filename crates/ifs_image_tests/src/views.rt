@@ -1,4 +1,4 @@
-//! Images that are seen where they lie: what each reader tells, and texts that outlive their view.
+//! Images that are read in place: what each reader returns, and texts that outlive their view.
 
 use crate::checks::same;
 use ifs_base::{CommandId, IfaceId, Kind, LinkState, Op, RoutineId, StateId};
@@ -40,7 +40,7 @@ fn each_reader(rt: HostRuntime) -> Result<(), Fail> {
     check_two_of_each(&rt, &image)
 }
 
-/// Each reader tells what stands in the image with two entries in each table.
+/// Asserts what each reader returns for the image with two entries in each table.
 fn check_two_of_each(rt: &impl Abort, image: &ImageView<'_>) -> Result<(), Fail> {
     check_head(rt, image);
     check_names(rt, image, ["em0", "carp1"], ["up", "down"]);
@@ -109,7 +109,7 @@ fn check_states(rt: &impl Abort, image: &ImageView<'_>) {
     }
 }
 
-/// A routine takes and leaves these kinds.
+/// Asserts that a routine takes and leaves these kinds.
 fn check_kinds(
     rt: &impl Abort,
     image: &ImageView<'_>,
@@ -132,7 +132,7 @@ fn each_kind(rt: HostRuntime) -> Result<(), Fail> {
     check_each_kind(&rt, &image)
 }
 
-/// What each routine of an image of version 2 takes and leaves.
+/// Asserts what each routine of an image of version 2 takes and leaves.
 fn check_each_kind(rt: &impl Abort, image: &ImageView<'_>) -> Result<(), Fail> {
     same(rt, image.version(), 2);
     let both = [Kind::Command, Kind::Truth];
@@ -143,7 +143,7 @@ fn check_each_kind(rt: &impl Abort, image: &ImageView<'_>) -> Result<(), Fail> {
     check_kinds(rt, image, 4, &[], &[])
 }
 
-/// A routine has these instructions, by each way to ask for them.
+/// Asserts that a routine has these instructions, by each way to ask for them.
 fn check_code(
     rt: &impl Abort,
     image: &ImageView<'_>,

@@ -62,7 +62,7 @@ fn check_core(rt: &impl Abort, core: &Core<'_>) {
     same(rt, core.state_name(core.state()), Some("a"));
 }
 
-/// The first report that its link is up queues its one command, the second changes nothing.
+/// The first report that its link is up queues its one command. The second report changes nothing.
 fn check_replies(rt: &impl Abort, replies: &[Reply]) {
     let [Reply::Done { queued, cost, .. }, Reply::Same] = replies else {
         panic!(rt; "other replies")
@@ -79,8 +79,8 @@ fn replies(rt: HostRuntime) -> Result<(), Fail> {
     Ok(())
 }
 
-/// A policy with so many conditions, up to 576, each in two `if`s of one state, 32 of them in a state. The condition of a number has
-/// four instructions or more that negate the link of one of 64 interfaces.
+/// A policy with `count` conditions, at most 576. Each is in two `if`s of one state, and a state has 32 of them. The condition of a
+/// number has four or more instructions that negate the link of one of 64 interfaces.
 fn repeated(alloc: Global, count: u16) -> Result<String, Fail> {
     let mut policy = String::new(alloc);
     for number in 0..count {
@@ -108,9 +108,10 @@ fn put_twice(policy: &mut String, number: u16) -> Result<(), Fail> {
     Ok(())
 }
 
-/// What `compile` prints of policies with so many: the first 510 are shared. The front has 39 bytes, the interfaces 310 and the
-/// states 262. A routine has 3 bytes and 4 for each instruction. A shared one has its condition's 5, 6 or 7 and one more; the inits
-/// and bodies of 16 states and the always part have one each, and two more for each call, or as many as the condition has and one more.
+/// What `compile` prints for policies with this many conditions. The first 510 are shared. The front has 39 bytes, the interfaces
+/// 310 and the states 262. A routine has 3 bytes and 4 for each instruction. A shared routine has its condition's 5, 6 or 7
+/// instructions and one more. The inits and bodies of 16 states and the always part have one instruction each. Each call of a
+/// shared routine adds two. A condition that is not shared adds its own instructions and one more.
 const LIMITS_OF_SHARED: [(u16, &str); 3] = [
     (509, "ok 24504 bytes\n"),
     (510, "ok 24555 bytes\n"),

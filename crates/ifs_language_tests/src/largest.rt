@@ -1,5 +1,5 @@
-//! The largest inputs, for which only an allocation can fail: a text with as many tokens, definitions and entries of each table as there
-//! may be, and an image with full tables.
+//! The largest inputs. Only an allocation can fail for them. The text has as many tokens, definitions and entries of each table as
+//! there may be. The image has full tables.
 
 use crate::checks::{holds, same};
 use crate::policies::counted;
@@ -57,7 +57,7 @@ fn file_of(answer: Answer) -> Option<Vec<u8>> {
     file
 }
 
-/// The bytes that a text of assembly spells, so many.
+/// The bytes that a text of assembly spells. There have to be `count`.
 fn assembled(rt: &impl Abort, alloc: Global, text: &str, count: usize) -> Result<Vec<u8>, Fail> {
     let answer = answer(alloc, Task::Asm, text.as_bytes(), &[])?;
     let line = format!(in alloc; "ok {count} bytes\n")?;

@@ -1,7 +1,7 @@
-//! Tests of the language: tokens, trees and policies of texts, the largest text, and the stories of `ifs_answer`.
+//! Tests of the language: tokens, trees and policies of texts. The largest text and the stories of `ifs_answer` are here too.
 //!
-//! The worked cases of `vectors/` show what the program prints. These tests show what a text cannot say. They are in a crate above the
-//! libraries, so that these are proved once and not again with their tests.
+//! The worked cases of `ifs_vectors` show what the program prints. These tests show what a text cannot say. They are in a crate
+//! above the libraries. So those are proved once, and not again with their tests.
 #![tactic(auto)]
 
 #[cfg(test)]

@@ -20,8 +20,8 @@ fn resolved(
     Ok(resolve(alloc, &tree))
 }
 
-/// What is said of the policy of a text that has a tree, or of its refusal. Only here does one go, so that this is proved
-/// once.
+/// What `say` returns for the policy of a text that has a tree, or for its refusal. Only this function drops that result, so the
+/// drop is proved once.
 fn said_of<T, F: FnOnce(&Result<Policy, ResolveFault>) -> T>(
     alloc: Global,
     text: &str,

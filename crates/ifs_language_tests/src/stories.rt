@@ -1,4 +1,4 @@
-//! What is told of a daemon's steps.
+//! What `explain` prints of a daemon's steps.
 
 use crate::checks::same;
 use ifs_answer::{Explained, Task, answer, explain};
@@ -12,8 +12,8 @@ const POLICY: &[u8] =
     b"state backup { if 'a \"b'.link.up && 'ping \"x\"' every 10 set-state master }\n\
     state master { if em1.link.down set-state backup }\n";
 
-/// What a daemon replied: a change, steps that changed no state, ticks with and without an evaluation, numbers that are in
-/// no table, and lines that tell no step.
+/// The reply of a daemon. Some steps change the state, and some do not. Some ticks evaluate, and some do not. Some numbers are in
+/// no table, and some lines report no step.
 const REPLY: &str = "status \"backup\" owed no queue 0 running 1 now 20\n\
     trace 9\n\
     link 0 up -> done \"backup\" cost 3 queue 0\n\
@@ -50,7 +50,7 @@ const REQUESTS: &str = "link a \"b up\n\
     tick 20\n\
     link em1 down\n";
 
-/// What is told of a reply, with the names of the policy, is this.
+/// Asserts what `explain` prints of a reply, with the names of the policy.
 fn check(
     rt: &impl Abort,
     alloc: Global,
@@ -82,7 +82,7 @@ fn requests(rt: HostRuntime) -> Result<(), Fail> {
     check(&rt, rt.alloc(), REPLY, Explained::Requests, REQUESTS)
 }
 
-/// Of the first step it is told that it changed the state where all steps are told, and not where some were forgotten.
+/// The first step is marked as a change of state if the reply has all steps, and not if some were forgotten.
 #[test]
 fn first_step(rt: HostRuntime) -> Result<(), Fail> {
     let mut reply = String::from_str(rt.alloc(), "link 0 up -> done \"master\" cost 3 queue 0\n")?;

@@ -214,7 +214,7 @@ fn check_given(
     Ok(())
 }
 
-/// A name, a text, the definitions beside it, and its tokens or its fault.
+/// A name, a text with the definitions beside it, and its tokens or its fault.
 type Given = (
     &'static str,
     &'static str,
@@ -277,7 +277,7 @@ fn check_count(
     same_in(rt, name, count, expected);
 }
 
-/// How many tokens a text has with something before it and after it.
+/// Asserts how many tokens a text has with something before it and after it.
 fn check_around(
     rt: &impl Abort,
     alloc: Global,
@@ -333,7 +333,7 @@ fn tokens_in_all(rt: HostRuntime) -> Result<(), Fail> {
     Ok(())
 }
 
-/// So many definitions, a line each.
+/// `count` definitions, a line each.
 fn names(alloc: Global, count: u32) -> Result<String, AllocError> {
     let mut text = String::new(alloc);
     for n in 0..count {
@@ -360,7 +360,7 @@ fn names_in_all(rt: HostRuntime) -> Result<(), Fail> {
     Ok(())
 }
 
-/// A name that is given is one of them.
+/// A name that is given beside the text counts as one of them.
 #[test]
 fn a_given_name_more(rt: HostRuntime) -> Result<(), Fail> {
     let text = names(rt.alloc(), 256)?;
@@ -374,7 +374,7 @@ fn a_given_name_more(rt: HostRuntime) -> Result<(), Fail> {
     )
 }
 
-/// A definition for each line of a text, which is its name.
+/// A definition for each line of a text. The line is its name.
 fn each_given(alloc: Global, names: &str) -> Result<Vec<(&str, &str)>, AllocError> {
     let mut given = Vec::new(alloc);
     for name in names.lines() {
@@ -383,7 +383,7 @@ fn each_given(alloc: Global, names: &str) -> Result<Vec<(&str, &str)>, AllocErro
     Ok(given)
 }
 
-/// As many definitions as there may be names are given beside the text.
+/// There may be as many definitions beside the text as there may be names.
 #[test]
 fn as_many_names_are_given(rt: HostRuntime) -> Result<(), Fail> {
     let mut names = String::new(rt.alloc());
@@ -416,7 +416,7 @@ fn bytes_in_all(rt: HostRuntime) -> Result<(), Fail> {
     Ok(())
 }
 
-/// What is given is looked at first, of any size.
+/// The definitions beside the text are checked first, whatever the size of either.
 #[test]
 fn bytes_of_what_is_given(rt: HostRuntime) -> Result<(), Fail> {
     let over = repeated(rt.alloc(), "\n", 1_048_577)?;
@@ -425,7 +425,7 @@ fn bytes_of_what_is_given(rt: HostRuntime) -> Result<(), Fail> {
     check_given(&rt, alloc, "a text", over, &[("x", "&")], "P4 line 0")
 }
 
-/// A value of many tokens stands in another a great many times, and is copied nowhere.
+/// A value of many tokens occurs in another very many times, and is copied nowhere.
 #[test]
 fn values_are_not_copied(rt: HostRuntime) -> Result<(), Fail> {
     let value = repeated(rt.alloc(), "a ", 16_384)?;

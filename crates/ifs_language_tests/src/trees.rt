@@ -145,7 +145,7 @@ fn show_tree(alloc: Global, tree: &Tree) -> Result<String, AllocError> {
     Ok(out)
 }
 
-/// What is told of a text: its tree, or the fault.
+/// The tree of a text, or its fault.
 fn told(alloc: Global, text: &str) -> Result<String, Fail> {
     match parsed(alloc, text, &[])? {
         Ok(tree) => Ok(show_tree(alloc, &tree)?),
@@ -309,7 +309,7 @@ const ORDERS: [Order; 4] = [
     Order::GroupsInTurn,
 ];
 
-/// A `!` and a `(` in turn, and then those that one of them has more of.
+/// Puts two texts in turn, and then the rest of the one that has more.
 fn in_turn(
     out: &mut String,
     one: &str,
@@ -328,7 +328,7 @@ fn in_turn(
     Ok(())
 }
 
-/// So many `!` and `(` in an order, each on a line of its own.
+/// `bangs` times `!` and `groups` times `(` in an order, each on a line of its own.
 fn openings(alloc: Global, order: Order, bangs: u32, groups: u32) -> Result<String, Fail> {
     let mut out = String::new(alloc);
     match order {
@@ -346,7 +346,7 @@ fn openings(alloc: Global, order: Order, bangs: u32, groups: u32) -> Result<Stri
     Ok(out)
 }
 
-/// How many are open at once: each `if` but the last, which has `!` and `(` in its condition.
+/// How many are open at once: all `if`s except the last, and the `!` and `(` in the last one's condition.
 #[derive(Clone, Copy, Debug)]
 struct Mixture {
     outer_ifs: u32,
@@ -367,7 +367,7 @@ impl Mixture {
         Ok(out)
     }
 
-    /// What is told of its tree: parentheses leave nothing there.
+    /// The text of its tree. Parentheses leave nothing there.
     fn tree(&self, alloc: Global) -> Result<String, Fail> {
         let mut out = String::new(alloc);
         repeat(&mut out, "if a.up { ", self.outer_ifs)?;
@@ -379,7 +379,7 @@ impl Mixture {
     }
 }
 
-/// Each order of a mixture is told so.
+/// Asserts the tree of a mixture or its fault, in each order.
 fn check_orders(
     rt: &impl Abort,
     alloc: Global,
@@ -393,7 +393,7 @@ fn check_orders(
     Ok(())
 }
 
-/// Every mixture of so many open at once, within so many `if`.
+/// Checks every mixture of `others` open `!` and `(`, within `outer_ifs` open `if`s.
 fn check_conditions(
     rt: &impl Abort,
     alloc: Global,
@@ -417,7 +417,7 @@ fn check_conditions(
     Ok(())
 }
 
-/// Every mixture of so many open at once: each has its tree, or is refused at the line of the 33rd.
+/// Checks every mixture of `open` open at once. Each has its tree, or is refused at the line of the 33rd.
 fn check_mixtures(rt: &impl Abort, alloc: Global, open: u32, is_good: bool) -> Result<(), Fail> {
     for outer_ifs in 0..open {
         check_conditions(rt, alloc, outer_ifs, open - 1 - outer_ifs, is_good)?;
@@ -435,7 +435,7 @@ fn the_thirty_third_is_one_too_many(rt: HostRuntime) -> Result<(), Fail> {
     check_mixtures(&rt, rt.alloc(), 33, false)
 }
 
-/// The first that is one too many is told, however many there are.
+/// The fault is at the first that is one too many, however many there are.
 #[test]
 fn more_are_told_at_the_thirty_third(rt: HostRuntime) -> Result<(), Fail> {
     check_mixtures(&rt, rt.alloc(), 40, false)
@@ -449,7 +449,7 @@ const CLOSED: [&str; 4] = [
     "a.link.up if a.link.up run x if ",
 ];
 
-/// A condition with this before it, 40 times.
+/// A condition after this text, which is repeated 40 times.
 fn repeated(alloc: Global, part: &str) -> Result<String, Fail> {
     let mut text = String::new(alloc);
     text.push_str("if ")?;

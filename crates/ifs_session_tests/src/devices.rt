@@ -11,7 +11,7 @@ use std::test::Fail;
 /// No read fails.
 const NEVER: u32 = u32::MAX;
 
-/// A reader that gives three bytes at most, is interrupted before each read that gives some, and fails at this read.
+/// A reader that gives three bytes at most. It is interrupted before each read that gives some, and fails at this read.
 #[derive(Drop)]
 struct Pieces<'a> {
     left: &'a [u8],
@@ -36,7 +36,7 @@ impl Read for Pieces<'_> {
     }
 }
 
-/// Every byte is there of a file that comes in pieces.
+/// A file that comes in pieces has every byte.
 #[test]
 fn files_in_pieces(rt: HostRuntime) -> Result<(), Fail> {
     let bytes = bytes_of(rt.alloc(), SMALLEST_IMAGE)?;
@@ -52,7 +52,7 @@ fn files_in_pieces(rt: HostRuntime) -> Result<(), Fail> {
     Ok(())
 }
 
-/// A read that fails ends the file by its fault, whatever was read before it, and is not tried again.
+/// A failed read ends the file with its fault, whatever was read before it. It is not tried again.
 #[test]
 fn files_cut_off(rt: HostRuntime) {
     for fails_at in 0..12 {
@@ -70,7 +70,7 @@ fn files_cut_off(rt: HostRuntime) {
     }
 }
 
-/// A reader whose reads all fail so.
+/// A reader whose reads all fail with this error.
 #[derive(Drop)]
 struct Failing {
     kind: ErrorKind,
@@ -82,7 +82,7 @@ impl Read for Failing {
     }
 }
 
-/// Of a reader every byte is there.
+/// A file has every byte of its reader.
 #[test]
 fn whole_files(rt: HostRuntime) -> Result<(), Fail> {
     let Ok(short) = whole(rt.alloc(), b"IFSV".as_slice()) else {
@@ -92,7 +92,7 @@ fn whole_files(rt: HostRuntime) -> Result<(), Fail> {
     Ok(())
 }
 
-/// So many bytes are taken up to the limit, and one more is refused.
+/// A file may have bytes up to the limit, and one more is refused.
 #[test]
 fn longest_files(rt: HostRuntime) {
     let longest = whole(rt.alloc(), io::repeat(b'x').take(16_777_216));
@@ -104,12 +104,12 @@ fn longest_files(rt: HostRuntime) {
     );
 }
 
-/// The fault of a reader whose reads all fail so.
+/// The fault of a reader whose reads all fail with this error.
 fn fault_of(alloc: Global, kind: ErrorKind) -> Option<FileFault> {
     whole(alloc, Failing { kind }).err()
 }
 
-/// A read that fails is told by the system's words, and want of memory as such.
+/// The fault of a failed read is the system's own. A failed allocation has another one.
 #[test]
 fn failing_files(rt: HostRuntime) {
     let closed = fault_of(rt.alloc(), ErrorKind::BrokenPipe);

@@ -20,7 +20,7 @@ use std::time::Duration;
 enum Fate {
     /// It has ended with these bits, as `waitpid` gives them.
     Ended(i32),
-    /// It goes on.
+    /// It still runs.
     Runs,
     /// It cannot be waited for.
     Lost,
@@ -63,8 +63,7 @@ impl OpenProcess for Actor {
     }
 }
 
-/// Starts a program for each text that it knows, and counts how often it was asked. A second goes by each time
-/// that its clock is looked at.
+/// Starts a program for each text that it knows, and counts how often it was asked. A second passes at each look at its clock.
 #[derive(Drop)]
 struct Stage {
     alloc: Global,
@@ -166,8 +165,9 @@ fn check_polls(rt: &impl Abort, host: &mut Staged<'_>, ends: &[(u16, u64, bool)]
     check_poll(rt, host, None);
 }
 
-/// Tests that are started, and the ends that are reported. The first started that has ended is reported first, each once; one that
-/// sleeps goes on. A test that cannot be started is false, before all that ran; an earlier such run of the same test is forgotten.
+/// Tests that are started, and the ends that are reported. Of the tests that have ended, the one that started first is reported
+/// first, and each once. A test that sleeps keeps running. A test that cannot be started is false, and comes before all that ran.
+/// An earlier such run of the same test is forgotten.
 const ENDS: [(&[Started], &[(u16, u64, bool)]); 2] = [
     (
         &[
@@ -206,7 +206,7 @@ fn ended_tests_in_order(rt: HostRuntime) -> Result<(), Fail> {
     Ok(())
 }
 
-/// Starts so many runs, of each test in turn.
+/// Starts `count` runs, of each test in turn.
 fn start_runs(host: &mut Staged<'_>, count: u64) {
     for run in 0..count {
         host.start(TestId((run % 64) as u16), run, "exit 0");
@@ -221,7 +221,7 @@ fn check_runs(rt: &impl Abort, host: &mut Staged<'_>, runs: Range<u64>, value: b
     }
 }
 
-/// 256 programs run at once; a test beyond them is told as false.
+/// At most 256 programs run at once. A test beyond them is reported as false.
 #[test]
 fn places(rt: HostRuntime) -> Result<(), Fail> {
     notes_of(rt.alloc(), Limits::default(), |host, _stage| {
@@ -257,7 +257,7 @@ fn check_commands(rt: &impl Abort, host: &mut Staged<'_>) {
     }
 }
 
-/// A command is waited for, and tells the number of its end.
+/// The host waits for a command, and returns the status of its end.
 #[test]
 fn commands(rt: HostRuntime) -> Result<(), Fail> {
     notes_of(rt.alloc(), Limits::default(), |host, _stage| {
@@ -266,7 +266,7 @@ fn commands(rt: HostRuntime) -> Result<(), Fail> {
     Ok(())
 }
 
-/// Each text is given to the shell once, also one that fails; a poll gives it none.
+/// The shell gets each text once, even one that fails. A poll gives it none.
 #[test]
 fn each_text_once(rt: HostRuntime) -> Result<(), Fail> {
     notes_of(rt.alloc(), Limits::default(), |host, stage| {
@@ -289,8 +289,7 @@ fn check_notes(rt: &impl Abort, lines: &Lines, wanted: &[&str]) {
     }
 }
 
-/// Each command has a note with its end and the time that it took; a test has one where it failed to start or to be
-/// waited for.
+/// Each command has a note with its end and the time that it took. A test has a note if it could not be started or waited for.
 #[test]
 fn notes_of_ends(rt: HostRuntime) -> Result<(), Fail> {
     let notes = notes_of(rt.alloc(), Limits::default(), |host, _stage| {
@@ -315,7 +314,7 @@ fn notes_of_ends(rt: HostRuntime) -> Result<(), Fail> {
     Ok(())
 }
 
-/// That all places are taken is noted when the last one is, and again only after one was free.
+/// A note says that all places are taken when the last one is. It comes again only after one was free.
 #[test]
 fn notes_of_places(rt: HostRuntime) -> Result<(), Fail> {
     let notes = notes_of(rt.alloc(), Limits::default(), |host, _stage| {
@@ -329,7 +328,7 @@ fn notes_of_places(rt: HostRuntime) -> Result<(), Fail> {
     Ok(())
 }
 
-/// A command or a test that runs longer than its limit is killed, the test at the first poll after it, and is noted.
+/// A command or a test that runs longer than its limit is killed and noted. A test is killed at the first poll after its limit.
 #[test]
 fn limits(rt: HostRuntime) -> Result<(), Fail> {
     let limits = Limits {

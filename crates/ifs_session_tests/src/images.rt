@@ -13,7 +13,7 @@ const OLD: usize = 3;
 
 const IMAGE: &[u8] = b"IFSV\x01";
 
-/// A folder with an image, and a new file beside it, of which the lengths are known. One call fails, in one way.
+/// A folder with an image and a new file beside it. Only their lengths are kept. One call fails, in one way.
 #[derive(Drop)]
 struct Folder {
     name: &'static str,
@@ -25,7 +25,7 @@ struct Folder {
     is_synced: Cell<bool>,
     is_interrupted: Cell<bool>,
     is_renamed: Cell<bool>,
-    /// The device has its names as they are.
+    /// Whether the device has the names of the folder as they are.
     are_names_synced: Cell<bool>,
 }
 
@@ -45,7 +45,7 @@ impl Folder {
         }
     }
 
-    /// Counts a call, which fails at its turn.
+    /// Counts a call, and fails at its turn.
     fn called(&self) -> io::Result<()> {
         let number = self.calls.get();
         self.calls.set(number.saturating_add(1));
@@ -80,7 +80,7 @@ impl Seek for Opened<'_> {
 }
 
 impl Write for Opened<'_> {
-    /// Takes two bytes at most, once it was interrupted.
+    /// Takes two bytes at most, after one interruption.
     fn write(&mut self, bytes: &[u8]) -> io::Result<usize> {
         self.folder.called()?;
         if !self.folder.is_interrupted.replace(true) {
@@ -197,7 +197,7 @@ impl<'a> Files for View<'a> {
     }
 }
 
-/// Asserts what stands in a folder once an image was written, or a call failed.
+/// Asserts what a folder has after an image was written or a call failed.
 fn check_folder(rt: &impl Abort, folder: &Folder, old: Option<usize>, has_failed: bool) {
     let fails_at = folder.fails_at;
     let is_renamed = folder.is_renamed.get();
@@ -210,8 +210,8 @@ fn check_folder(rt: &impl Abort, folder: &Folder, old: Option<usize>, has_failed
     holds_in(rt, fails_at, has_failed || is_renamed);
 }
 
-/// Whichever call fails, an image stands whole and the new file is gone: the old image where the new one could not take its
-/// place, else the new one. Where none fails the device has its name as well.
+/// Whichever call fails, the folder has the whole new image or what it had before, and the new file is gone. If no call fails, the
+/// device has the new name as well.
 #[test]
 fn whole_or_not_at_all(rt: HostRuntime) {
     for old in [None, Some(OLD)] {
@@ -229,7 +229,7 @@ fn whole_or_not_at_all(rt: HostRuntime) {
     }
 }
 
-/// A folder that cannot be synced by this user or on this system is no fault of an image that stands.
+/// It is no fault if this user or this system cannot sync the folder, once the image has its name.
 #[test]
 fn folders_without_sync(rt: HostRuntime) {
     for failure in [

@@ -1,7 +1,7 @@
-//! Tests of sessions and of the daemon: lines in and lines out, devices, served connections, and the host with its files, images
-//! in folders, commands, tests and reloads.
+//! Tests of sessions and of the daemon: lines in and lines out, devices and served connections. Tests of the host: files and images
+//! in folders, commands and tests, and reloads.
 //!
-//! They stand over the crates that they test, so that these are proved once and not again with their tests.
+//! They are in a crate above those that they test. So those are proved once, and not again with their tests.
 #![tactic(auto)]
 
 #[cfg(test)]

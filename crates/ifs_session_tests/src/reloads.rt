@@ -1,4 +1,4 @@
-//! Images that take over from the core of another, and what is told where they do not.
+//! Reloads of images, and what is reported if they fail.
 
 use crate::checks::{holds_in, same, same_in};
 use bumpalo::Bump;
@@ -23,7 +23,7 @@ fn opened<'a>(alloc: Global, image: &'a [u8]) -> Result<Core<'a>, Fail> {
     }
 }
 
-/// Asserts what is written on requests.
+/// Asserts the replies to requests.
 fn check_replies(
     rt: &impl Abort,
     alloc: Global,
@@ -38,7 +38,7 @@ fn check_replies(
     Ok(())
 }
 
-/// The core that takes over.
+/// The core after a reload.
 fn next<'m>(
     rt: &impl Abort,
     alloc: Global,
@@ -52,7 +52,7 @@ fn next<'m>(
     }
 }
 
-/// A session on an image, and then one on the image that takes over.
+/// Asserts a session on an image, and then one on the image that a reload reads.
 fn check_reload(
     rt: &impl Abort,
     alloc: Global,
@@ -112,7 +112,7 @@ fn check_compiled(rt: &impl Abort, alloc: Global, row: &Row) -> Result<(), Fail>
     Ok(())
 }
 
-/// Links are known by the names of their interfaces.
+/// After a reload the links are known by the names of their interfaces.
 #[test]
 fn other_interfaces_take_over(rt: HostRuntime) -> Result<(), Fail> {
     let images = Bump::new(rt.alloc());
@@ -133,14 +133,14 @@ fn other_interfaces_take_over(rt: HostRuntime) -> Result<(), Fail> {
     )
 }
 
-/// Tells a core links, whose replies are of no matter.
+/// Reports links to a core, and ignores the replies.
 fn told_links(alloc: Global, core: &mut Core<'_>, requests: &str) -> Result<(), Fail> {
     let mut output = MemoryOut::new(alloc);
     simulate(core, &mut MemoryIn::new(requests.as_bytes()), &mut output)?;
     Ok(())
 }
 
-/// What was compiled is opened with what another core handed on.
+/// A compiled image opens with what another core carried.
 #[test]
 fn compiled_is_opened_with(rt: HostRuntime) -> Result<(), Fail> {
     let pair = other_interfaces();
@@ -163,7 +163,7 @@ fn compiled_is_opened_with(rt: HostRuntime) -> Result<(), Fail> {
     )
 }
 
-/// Asserts why bytes do not take over, and that the core goes on as it was.
+/// Asserts why a reload of bytes fails, and that the core is as it was.
 fn check_refused<'m>(
     rt: &impl Abort,
     alloc: Global,
@@ -206,7 +206,7 @@ fn refused_images(rt: HostRuntime) -> Result<(), Fail> {
     Ok(())
 }
 
-/// Asserts that no memory is found for an image, and that the core comes back.
+/// Asserts that a reload runs out of memory, and that the core comes back.
 fn check_no_room<'m>(
     rt: &impl Abort,
     alloc: Global,
@@ -224,7 +224,7 @@ fn check_no_room<'m>(
     }
 }
 
-/// Images that may take no more memory take no image.
+/// An arena that may allocate nothing takes no image.
 #[test]
 fn no_room_for_an_image(rt: HostRuntime) -> Result<(), Fail> {
     let images = Bump::new(rt.alloc());
@@ -234,7 +234,7 @@ fn no_room_for_an_image(rt: HostRuntime) -> Result<(), Fail> {
     check_no_room(&rt, rt.alloc(), &images, core, bytes.as_slice())
 }
 
-/// Asserts why a file does not take over, after so many that did.
+/// Asserts why a reload of a file fails, after `reloads` others.
 fn check_file<'m, R: Files + Alloc<A = Global> + Abort>(
     rt: &R,
     images: &'m Bump,
@@ -299,7 +299,7 @@ fn check_line(
     Ok(())
 }
 
-/// A line whose writing fails is told to have failed.
+/// A failed write of a line is reported.
 #[test]
 fn lines_that_are_not_written(rt: HostRuntime) {
     for call in 0..3 {

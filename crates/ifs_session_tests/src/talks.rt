@@ -26,7 +26,7 @@ fn input_of(alloc: Global, image: &str, requests: &str) -> Result<Vec<u8>, Alloc
     Ok(input)
 }
 
-/// The summary and the output of a run on these bytes, whose lines are read byte by byte.
+/// The summary and the output of a run on these bytes. Its lines are read byte by byte.
 fn run_bytewise(alloc: Global, input: &[u8]) -> Result<(Summary, Vec<u8>), Fail> {
     let mut output = MemoryOut::new(alloc);
     let summary = run_hex(alloc, &mut MemoryIn::new(input), &mut output)?;
@@ -35,7 +35,7 @@ fn run_bytewise(alloc: Global, input: &[u8]) -> Result<(Summary, Vec<u8>), Fail>
     Ok((summary, written))
 }
 
-/// The same over devices of std, whose buffer lends whole lines.
+/// The same over devices of std, with whole lines borrowed from the buffer.
 fn run_buffered(alloc: Global, input: &[u8]) -> Result<(Summary, Vec<u8>), Fail> {
     let mut written = Vec::new(alloc);
     let summary = run_hex(
@@ -85,7 +85,7 @@ fn summary_of(alloc: Global, input: &mut impl ByteIn) -> Result<Summary, Fail> {
     Ok(run_hex(alloc, input, &mut output)?)
 }
 
-/// Of lines that are read byte by byte, and of borrowed ones.
+/// A session reads nothing after `stop`, whether its lines are read byte by byte or borrowed.
 #[test]
 fn what_follows_stop_is_left(rt: HostRuntime) -> Result<(), Fail> {
     let bytes = stopping(rt.alloc())?;
@@ -103,7 +103,7 @@ fn row_input(alloc: Global, row: Row) -> Result<Vec<u8>, AllocError> {
     input_of(alloc, row.image, row.requests)
 }
 
-/// The replies to the first so many requests of a row, each of which has one line.
+/// The replies to the first `count` requests of a row. Each has one line.
 fn first_replies(alloc: Global, row: Row, count: usize) -> Result<String, AllocError> {
     let mut replies = String::new(alloc);
     for reply in row.replies.lines().take(count) {
@@ -113,7 +113,7 @@ fn first_replies(alloc: Global, row: Row, count: usize) -> Result<String, AllocE
     Ok(replies)
 }
 
-/// Whether a run in which the read after so many calls fails is told so, after these replies.
+/// Whether a run reports that the read after `calls` calls fails, and has written these replies.
 fn breaks_reading(alloc: Global, bytes: &[u8], calls: u64, replies: &str) -> bool {
     let mut output = MemoryOut::new(alloc);
     let answer = run_hex(
@@ -125,7 +125,7 @@ fn breaks_reading(alloc: Global, bytes: &[u8], calls: u64, replies: &str) -> boo
         && output.written() == replies.as_bytes()
 }
 
-/// Each read fails in turn: the replies to the lines that were whole by then have been written.
+/// Each read fails in turn. The replies to the lines that were complete by then have been written.
 #[test]
 fn each_read_fails_in_turn(rt: HostRuntime) -> Result<(), Fail> {
     let bytes = row_input(rt.alloc(), sessions::first_run())?;
@@ -141,7 +141,7 @@ fn each_read_fails_in_turn(rt: HostRuntime) -> Result<(), Fail> {
     Ok(())
 }
 
-/// Asserts what a run came to whose write after so many calls fails. Whether there was such a write.
+/// Asserts the result of a run whose write after `calls` calls fails. Returns whether there was such a write.
 fn check_cut(
     rt: &impl Abort,
     answer: Result<Summary, RunFault>,
@@ -158,7 +158,7 @@ fn check_cut(
     true
 }
 
-/// Each write fails in turn: what was written is the beginning of the replies.
+/// Each write fails in turn. The output is a prefix of the replies.
 #[test]
 fn each_write_fails_in_turn(rt: HostRuntime) -> Result<(), Fail> {
     let bytes = row_input(rt.alloc(), sessions::first_run())?;
@@ -185,8 +185,7 @@ fn check_first_written(rt: &impl Abort, alloc: Global, written: &[u8]) -> Result
     Ok(())
 }
 
-/// A heap that has room for the first reply and not for all: the growth that is refused is a write
-/// that failed.
+/// A heap has room for the first reply and not for all. Its failed allocation is a failed write.
 #[test]
 fn growth_refused(rt: HostRuntime) -> Result<(), Fail> {
     let heap = LocalHeap::new(rt.alloc(), 64)?;
@@ -203,7 +202,7 @@ fn growth_refused(rt: HostRuntime) -> Result<(), Fail> {
     Ok(())
 }
 
-/// Lines that break their rule, or are ended by the input, with what is written.
+/// Lines that break their rule or end with the input, and what is written.
 const BROKEN: [(&str, &str); 7] = [
     ("494\n", "refused X1\n"),
     ("", "refused I1 byte 0\n"),
@@ -214,7 +213,7 @@ const BROKEN: [(&str, &str); 7] = [
     ("49465356", "refused I1 byte 4\n"),
 ];
 
-/// Whether a line is refused, read byte by byte and lent, and this is written.
+/// Whether a line is refused and this is written, if it is read byte by byte and if it is borrowed.
 fn is_refused(alloc: Global, line: &[u8], answer: &str) -> bool {
     let mut input = MemoryIn::new(line);
     let mut output = MemoryOut::new(alloc);
@@ -303,7 +302,7 @@ impl Read for LongLines {
     }
 }
 
-/// Of lines that are lent the last byte that may be read is read, and the next one ends the session.
+/// A session with borrowed lines reads the last byte that it may read, and ends at the next one.
 #[test]
 fn too_many_long_lines(rt: HostRuntime) -> Result<(), Fail> {
     let line = input_of(rt.alloc(), images::FIRST_RUN, "")?;
@@ -315,7 +314,7 @@ fn too_many_long_lines(rt: HostRuntime) -> Result<(), Fail> {
     Ok(())
 }
 
-/// A reader that gives the byte `x` at each read after it was interrupted so many times.
+/// A reader that is interrupted `times` times. After that it gives the byte `x` at each read.
 #[derive(Drop)]
 struct Interrupted {
     times: u32,
@@ -335,7 +334,7 @@ impl Read for Interrupted {
     }
 }
 
-/// An interrupted read is tried again, 1,000 times in all, and nothing is lost by it.
+/// An interrupted read is tried 1,000 times in all, and nothing is lost.
 #[test]
 fn interrupted_reads(rt: HostRuntime) {
     let mut patient = FromRead::new(Interrupted { times: 999 });
@@ -345,7 +344,7 @@ fn interrupted_reads(rt: HostRuntime) {
     same(&rt, tired.next(), Ok(Some(b'x')));
 }
 
-/// A fault's text is this code.
+/// Asserts that a fault's text is this code.
 fn check_code<T: Display>(
     rt: &impl Abort,
     alloc: Global,

@@ -1,5 +1,5 @@
 //! Runs the worked cases of `data/` over the libraries, and tries the verifier on changed bytes. `data/README.md` describes the
-//! files, and says what holds of each case.
+//! files, and says what holds for each case.
 //!
 //! It prints a line with the number of cases for each file, and then a line for each image whose bytes it changes. Before these
 //! lines it names each case that fails and each wrong answer. If there is one, the exit status is 1.

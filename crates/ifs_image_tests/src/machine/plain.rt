@@ -1,12 +1,11 @@
-//! The machine's table once more, as a slow program: each frame has a list of its own, and each trap
-//! is looked for.
+//! The machine's table as a slow program. Each frame has a list of its own, and the program checks for each trap.
 
 use ifs_base::{Kind, LinkState, Op};
 use ifs_image::ImageParts;
 use std::alloc::{AllocFailed, Global};
 use std::mem;
 
-/// A value, apart from the machine's own.
+/// A value of the slow program.
 #[derive(Clone, Copy, Debug, PartialEq, Eq)]
 enum Item {
     Truth(bool),
@@ -24,7 +23,7 @@ impl Item {
     }
 }
 
-/// A routine under way, with its own values, the topmost last.
+/// A running routine with its own values, the topmost last.
 #[derive(Drop)]
 struct Frame {
     routine: usize,
@@ -45,7 +44,7 @@ impl<T: Drop> From<AllocFailed<T>> for Stop {
     }
 }
 
-/// What a run came to.
+/// The result of a run.
 #[derive(Debug, Drop)]
 pub struct Ending {
     pub cost: u32,
@@ -53,7 +52,7 @@ pub struct Ending {
     pub wish: Option<u16>,
 }
 
-/// The configuration, with what it is run over.
+/// The configuration, and what it is run over.
 #[derive(Drop)]
 struct Plain<'a> {
     parts: &'a ImageParts,
@@ -84,7 +83,7 @@ impl Plain<'_> {
         height
     }
 
-    /// One value more, where the lists together have room for it.
+    /// Adds a value, if the lists together have room for it.
     fn push(&mut self, item: Item) -> Result<(), Stop> {
         if self.height() >= usize::from(self.parts.budgets.stack) {
             return Err(Stop::Trap);
@@ -181,7 +180,7 @@ impl Plain<'_> {
         Ok(values)
     }
 
-    /// Whether the handler ended.
+    /// Ends a routine. Returns whether the handler ended.
     fn ret(&mut self) -> Result<bool, Stop> {
         let Some(routine) = self.parts.routines.as_slice().get(self.top.routine) else {
             return Err(Stop::Trap);
@@ -200,7 +199,7 @@ impl Plain<'_> {
         Ok(false)
     }
 
-    /// One row of the table; whether the handler ended.
+    /// Makes a row of the table. Returns whether the handler ended.
     fn row(&mut self, alloc: Global) -> Result<bool, Stop> {
         let op = self.op()?;
         self.top.place = self.top.place.saturating_add(1);

@@ -68,7 +68,7 @@ fn next_due_of_held_back(rt: HostRuntime) {
     play(&rt, rt.alloc(), images::HELD_BACK, Some(0), &requests);
 }
 
-/// A test is due at the present moment when its state is entered, and is not due once the state is left.
+/// A test is due at the present moment when its state is entered. It is not due once the state is left.
 #[test]
 fn next_due_of_stale(rt: HostRuntime) {
     let requests = [

@@ -1,4 +1,4 @@
-//! Callers that have nothing but a core that was lent to them, or nothing but bytes.
+//! Callers that have only a borrowed core, or only bytes.
 
 ghost use Rattle.std.specs.Prelude.{◌≡◌, All, IfOk};
 ghost use Rattle.ifs_machine.specs.Run.{IsCommand};
@@ -32,7 +32,7 @@ fn replies(alloc: Global, core: &mut Core<'_>, steps: &[Step]) -> Result<Vec<Rep
     Ok(replies)
 }
 
-/// Verifies bytes. What is answered is the image that they spell, which keeps what the headline promises.
+/// Verifies bytes. The result is the image that they spell, and it keeps what the headline promises.
 fn verified<'a>(alloc: Global, bytes: &'a [u8]) -> Result<Verified<'a>, VerifyFault>
     ensures verified { IfOk result (IsVerified bytes.now) }
     ensures kept { IfOk result IsKept }
@@ -62,7 +62,7 @@ fn known_text<'a>(core: &Core<'a>, command: CommandId) -> &'a str
     text
 }
 
-/// What a step names: the state that its reply tells, or the command that it hands out.
+/// What a step names: the state in its reply, or the command that it takes.
 fn named<'a>(core: &mut Core<'a>, step: Step) -> Option<&'a str> {
     match core.step(step) {
         Reply::Done { state, .. } | Reply::Ticked { state, .. } => Some(listed_name(core, state)),
@@ -71,7 +71,7 @@ fn named<'a>(core: &mut Core<'a>, step: Step) -> Option<&'a str> {
     }
 }
 
-/// The name of the state in which a core stands.
+/// The name of a core's current state.
 fn current_name<'a>(core: &Core<'a>) -> &'a str {
     listed_name(core, core.state())
 }
@@ -109,7 +109,7 @@ fn names_of_a_lent_core(rt: HostRuntime) -> Result<(), Fail> {
     Ok(())
 }
 
-/// The first four requests of the row *First run*, with one place for the lists of all of them.
+/// Asserts the outcomes of the first four requests of the row *First run*, with one place for all their lists.
 fn check_lists(rt: &impl Abort, core: &mut Core<'_>, lists: &mut Lists) {
     let done = Outcome::Done {
         state: StateId(0),
@@ -155,7 +155,7 @@ fn check_budgets(rt: &impl Abort, core: &Core<'_>) {
     same(rt, budgets.commands, 1);
 }
 
-/// The texts of the commands that a core hands out after a link is told, which live as long as the image's bytes.
+/// The texts that a link's change and a `Take` name. They live as long as the image's bytes.
 fn texts_of_a_core<'a>(rt: &impl Abort, alloc: Global, image: &'a [u8]) -> [Option<&'a str>; 2] {
     let mut core = opened(rt, alloc, image);
     [named(&mut core, LINK_UP), named(&mut core, Step::Take)]

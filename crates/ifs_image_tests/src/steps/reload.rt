@@ -1,4 +1,4 @@
-//! Images that take over from the core of another.
+//! Cores that open with what another core carried.
 
 use super::{bytes_in, check_row, opened};
 use crate::checks::same;
@@ -9,7 +9,7 @@ use std::alloc::{AllocError, Global};
 use std::process::Abort;
 use std::test::Fail;
 
-/// What a core hands on.
+/// What a core carries.
 fn carried(rt: &impl Abort, alloc: Global, core: Core<'_>) -> Carried {
     match core.carry(alloc) {
         Ok(carried) => carried,
@@ -17,7 +17,7 @@ fn carried(rt: &impl Abort, alloc: Global, core: Core<'_>) -> Carried {
     }
 }
 
-/// What the core of the image before hands on after its session.
+/// What the core of the first image carries after its session.
 fn carried_after(rt: &impl Abort, alloc: Global, reload: &Reload) -> Result<Carried, AllocError> {
     let image = bytes_in(rt, alloc, reload.before.image);
     let mut core = opened(rt, alloc, image.as_slice());
@@ -25,7 +25,7 @@ fn carried_after(rt: &impl Abort, alloc: Global, reload: &Reload) -> Result<Carr
     Ok(carried(rt, alloc, core))
 }
 
-/// Asserts the replies of the core that is opened with what was handed on.
+/// Asserts the replies of the core that opens with what was carried.
 fn check_after(
     rt: &impl Abort,
     alloc: Global,

@@ -33,7 +33,7 @@ fn texts_of_faults(rt: HostRuntime) -> Result<(), Fail> {
     Ok(())
 }
 
-/// So is that of each fault of reading.
+/// The same for each fault of reading.
 #[test]
 fn texts_of_faults_of_reading(rt: HostRuntime) -> Result<(), Fail> {
     for (fault, text) in [

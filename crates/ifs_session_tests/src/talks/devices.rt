@@ -14,7 +14,7 @@ use std::io::{self, ErrorKind, Read, Write};
 use std::process::Abort;
 use std::test::Fail;
 
-/// So many bytes, no two neighbours of which are the same, nor two at the distance of a buffer.
+/// `count` bytes. No two neighbours are the same, nor two at the distance of a buffer.
 fn pattern(alloc: Global, count: u32) -> Result<Vec<u8>, AllocError> {
     let mut bytes = Vec::new(alloc);
     for index in 0..count {
@@ -23,7 +23,7 @@ fn pattern(alloc: Global, count: u32) -> Result<Vec<u8>, AllocError> {
     Ok(bytes)
 }
 
-/// A reader of std that gives at most so many bytes at each read, and fails once, at this read.
+/// A reader of std that gives at most `most` bytes at each read. It fails once, at this read.
 #[derive(Drop)]
 struct Pieces<'a> {
     left: &'a [u8],
@@ -72,7 +72,7 @@ const READERS: [(&str, usize, u32, ErrorKind, u32); 6] = [
     ("failing between buffers", 65_536, 2, ErrorKind::Other, 1),
 ];
 
-/// How often a reader fails that gives these bytes, in their order, and then the end.
+/// Asserts that a reader gives these bytes in order, and then the end. Returns how often it fails.
 fn failures_of(rt: &impl Abort, name: &str, input: &mut FromRead<Pieces<'_>>, bytes: &[u8]) -> u32 {
     let mut failed: u32 = 0;
     for byte in bytes {
@@ -88,8 +88,7 @@ fn failures_of(rt: &impl Abort, name: &str, input: &mut FromRead<Pieces<'_>>, by
     failed
 }
 
-/// Each byte comes, in its order, over several buffers; a read that fails is told as such, once, and
-/// is not the end of input.
+/// Each byte comes in order over several buffers. A failed read is reported once, and is not the end of input.
 #[test]
 fn bytes_over_several_buffers(rt: HostRuntime) -> Result<(), Fail> {
     let bytes = pattern(rt.alloc(), 150_000)?;
@@ -140,8 +139,7 @@ fn bytes_taken_one_by_one(rt: HostRuntime) -> Result<(), Fail> {
     Ok(())
 }
 
-/// A writer of std that takes at most seven bytes at each write, keeps them, and keeps a 0 for each
-/// flush; it fails where it is told to.
+/// A writer of std that takes at most seven bytes at each write. It keeps them, and a 0 for each flush. It fails if `fails` is set.
 #[derive(Drop)]
 struct Log {
     bytes: Vec<u8>,
@@ -167,7 +165,7 @@ impl Write for Log {
     }
 }
 
-/// Each byte goes out, in its order, and a flush is passed on after it.
+/// Each byte goes out in order, and a flush is passed on after it.
 #[test]
 fn writes_and_flushes(rt: HostRuntime) -> Result<(), Fail> {
     let bytes = pattern(rt.alloc(), 200)?;
@@ -182,7 +180,7 @@ fn writes_and_flushes(rt: HostRuntime) -> Result<(), Fail> {
     Ok(())
 }
 
-/// A write or a flush that fails is told.
+/// A failed write or flush is reported.
 #[test]
 fn failing_writes(rt: HostRuntime) {
     let mut log = Log {
@@ -194,7 +192,7 @@ fn failing_writes(rt: HostRuntime) {
     same(&rt, output.flush(), Err(DeviceFault));
 }
 
-/// A session over the devices of std: a read that fails is S1, after the replies to the lines before.
+/// A session over the devices of std. A failed read is S1, after the replies to the lines before it.
 #[test]
 fn a_failed_read_ends_the_session(rt: HostRuntime) -> Result<(), Fail> {
     let row = sessions::first_run();
@@ -224,7 +222,7 @@ fn a_failed_read_ends_the_session(rt: HostRuntime) -> Result<(), Fail> {
     Ok(())
 }
 
-/// A writer that holds back all that it is given until it is flushed, and shows how much it holds.
+/// A writer that holds back all that it is given until it is flushed. It shows how much it holds.
 #[derive(Drop)]
 struct Holding<'a> {
     gone: Vec<u8>,
@@ -267,8 +265,8 @@ fn check_gone(rt: &impl Abort, output: &Holding<'_>, lines: &str, name: &str) {
     holds_in(rt, name, output.held.is_empty());
 }
 
-/// A reader whose bytes come in pieces of these lengths, and then the rest, each of which is waited
-/// for. It counts the waits at which the writer holds something back.
+/// A reader whose bytes come in pieces of these lengths, and then the rest. It waits for each piece. It counts the waits at which
+/// the writer holds something back.
 #[derive(Drop)]
 struct Waiting<'a> {
     ready: &'a [u8],
@@ -327,7 +325,7 @@ const COMINGS: [(&str, &[usize], u32); 3] = [
     ("cut within lines", &[16, 16, 8], 5),
 ];
 
-/// Asserts how the replies to a row's requests go out, which come so after the line of its image.
+/// Asserts how the replies to a row's requests go out, if the requests come so after the line of its image.
 fn check_coming(rt: &impl Abort, alloc: Global, image: &[u8], coming: (&str, &[usize], u32)) {
     let row = sessions::first_run();
     let (name, lengths, flushes) = coming;
@@ -347,8 +345,8 @@ fn check_coming(rt: &impl Abort, alloc: Global, image: &[u8], coming: (&str, &[u
     check_gone(rt, &output, row.replies, name);
 }
 
-/// No reply is held back where a byte is waited for, nor at the end; and lines that stand ready are
-/// served without a flush between them.
+/// No reply is held back while a session waits for a byte, nor at the end. Lines that are ready are served without a flush between
+/// them.
 #[test]
 fn replies_go_out_before_a_wait(rt: HostRuntime) -> Result<(), Fail> {
     let image = input_of(rt.alloc(), sessions::first_run().image, "")?;

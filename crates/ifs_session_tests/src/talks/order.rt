@@ -14,7 +14,7 @@ use std::process::Abort;
 const START: u64 = 1;
 /// A command is run.
 const RUN: u64 = 2;
-/// Bytes are written; several writes without anything between them are one.
+/// Bytes are written. Several writes without anything between them are one.
 const WRITE: u64 = 3;
 /// What was written goes out.
 const FLUSH: u64 = 4;
@@ -34,7 +34,7 @@ impl Order {
     }
 }
 
-/// A host whose tests find false, each as soon as it is started.
+/// A host whose tests end as false, each as soon as it is started.
 #[derive(Drop)]
 struct OrderedHost<'a> {
     order: &'a Order,
@@ -98,8 +98,8 @@ fn order_of(rt: &impl Abort, alloc: Global, image: &str, requests: &[u8]) -> u64
     order.digits.get()
 }
 
-/// The reply to a tick is written, and goes out, after the test that it starts; and the replies to a
-/// link and to a question after the commands of that link, and of the test that ended before it.
+/// The reply to a tick is written and goes out after the test that it starts. The replies to a link and to a question go out after
+/// the commands of that link, and of the test that ended before it.
 #[test]
 fn replies_come_after_what_they_tell_of(rt: HostRuntime) {
     let starts = order_of(&rt, rt.alloc(), images::MACROS, b"tick 0\nstatus\nstop\n");
@@ -108,8 +108,8 @@ fn replies_come_after_what_they_tell_of(rt: HostRuntime) {
     same(&rt, runs, 423_434);
 }
 
-/// After a line that asks for a reload nothing is written and nothing sent on; the test that had ended
-/// before it runs its command.
+/// After a line that asks for a reload, nothing is written and nothing goes out. The test that had ended before it runs its
+/// command.
 #[test]
 fn nothing_is_written_after_a_reload(rt: HostRuntime) {
     let reload = order_of(&rt, rt.alloc(), images::MACROS, b"tick 0\nreload\nstatus\n");

@@ -13,8 +13,7 @@ use std::alloc::Global;
 use std::process::Abort;
 use std::test::Fail;
 
-/// What connections on the image of the first run are asked, with their replies and what of it is
-/// left unread.
+/// The requests of connections on the image of the first run, their replies, and what is left unread of the requests.
 const RELOADS: [(&str, &[u8], &str, &[u8]); 5] = [
     (
         "after other lines",
@@ -49,7 +48,7 @@ fn check_reload(rt: &impl Abort, talk: &Talk<Global>, replies: &str, name: &str)
     same_in(rt, name, talk.waiting, 0);
 }
 
-/// The replies to the lines before a reload stand, nothing is said to it, and no line after it is read.
+/// The lines before a reload have their replies. The reload has none, and no line after it is read.
 #[test]
 fn reloads(rt: HostRuntime) {
     for (name, requests, replies, left) in RELOADS {
@@ -60,7 +59,7 @@ fn reloads(rt: HostRuntime) {
     }
 }
 
-/// Lines that resemble `reload`, the last of which has 257 bytes, and one that is a request.
+/// Lines that resemble `reload`, and one that is a request. The last that resembles it has 257 bytes.
 const RESEMBLING: &[u8] =
     b"reload \n reload\nReload\nreload x\nreloads\nreload\r\nreloadxxxxxxxxxxxxxxxxxxxxxxxxxxxxxxxxxxxxxxxxxxxxxxxxxxxxxxxxxxxxxxxxxxxxxxxxxxxxxxxxxxxxxxxxxxxxxxxxxxxxxxxxxxxxxxxxxxxxxxxxxxxxxxxxxxxxxxxxxxxxxxxxxxxxxxxxxxxxxxxxxxxxxxxxxxxxxxxxxxxxxxxxxxxxxxxxxxxxxxxxxxxxxxxxxxxxxxxxxxxxxxxxxxxxxxxxxxxxxxxxxxxxxxxxxxx\nlink carp0 up\n";
 
@@ -73,7 +72,7 @@ fn check_resembling(rt: &impl Abort, talk: &Talk<Global>) {
     holds(rt, !talk.served.stopped);
 }
 
-/// What resembles `reload` is no request and ends nothing; a line too long is told so first.
+/// What resembles `reload` is no request and ends nothing. A line that is too long has a fault of its own.
 #[test]
 fn what_resembles_a_reload(rt: HostRuntime) {
     let mut input = MemoryIn::new(RESEMBLING);
@@ -81,7 +80,7 @@ fn what_resembles_a_reload(rt: HostRuntime) {
     check_resembling(&rt, &talk);
 }
 
-/// The test had ended before the reload: its end is a step behind the reload, and its command is run last.
+/// The test had ended before the reload. Its end is a step after it, and its command is run last.
 fn check_polled_before(rt: &impl Abort, talk: &Talk<Global>) {
     check_reload(rt, talk, "tick \"a\" cost 4 queue - starts 0:1\n", "polled");
     let steps = [
@@ -96,7 +95,7 @@ fn check_polled_before(rt: &impl Abort, talk: &Talk<Global>) {
     same(rt, command.as_bytes(), b"echo d".as_slice());
 }
 
-/// A test that had ended before a reload is made a step, and its command is run.
+/// The end of a test before a reload becomes a step, and its command is run.
 #[test]
 fn ends_of_tests_before_a_reload(rt: HostRuntime) -> Result<(), Fail> {
     let talk = macros_talk(&rt, rt.alloc(), b"tick 0\nreload\nstatus\n")?;
@@ -104,7 +103,7 @@ fn ends_of_tests_before_a_reload(rt: HostRuntime) -> Result<(), Fail> {
     Ok(())
 }
 
-/// Whether a connection whose write after so many calls fails is told so, and no reload.
+/// Whether a connection reports that its write after `calls` calls fails, and no reload.
 fn is_cut(rt: &impl Abort, alloc: Global, calls: u64) -> bool {
     let talk = Talk::new(
         rt,
@@ -123,7 +122,7 @@ fn is_cut(rt: &impl Abort, alloc: Global, calls: u64) -> bool {
     true
 }
 
-/// A write that fails ends a connection before the line of a reload is read; after it there is none.
+/// A failed write ends a connection before the line of a reload is read. After that line there is no write.
 #[test]
 fn each_write_before_a_reload_fails_in_turn(rt: HostRuntime) {
     for calls in 0..100 {
@@ -135,7 +134,7 @@ fn each_write_before_a_reload_fails_in_turn(rt: HostRuntime) {
     holds_in(&rt, "some call is past the last", false);
 }
 
-/// Asserts what is written once the image was read anew.
+/// Asserts the line that is written after a reload.
 fn check_line(rt: &impl Abort, alloc: Global, core: &Core<'_>, line: &str) {
     let mut output = MemoryOut::new(alloc);
     same(rt, write_reloaded(core, &mut output), Ok(()));
@@ -152,11 +151,11 @@ fn lines_of_reloads(rt: HostRuntime) {
     check_line(&rt, rt.alloc(), &core, "reloaded \"a\" queue 3\n");
 }
 
-/// In a name with a quote the quote is escaped; the init has queued a command.
-/// One state, whose name and whose init's command have bytes that are escaped in quotes.
+/// One state. Its name and its init's command have bytes that are escaped in quotes.
 const QUOTES: &str =
     "4946535601000100010000000500010000000000010001000400000000000100000000000000000005225c1f7f7e00036120220002000300000000000000000000010000000000000100000000000003090000000b0000000000000000000100000000";
 
+/// The quote in a name is escaped, and the init has queued a command.
 #[test]
 fn a_quote_in_the_line_of_a_reload(rt: HostRuntime) {
     let image = bytes_in(&rt, rt.alloc(), QUOTES);
@@ -164,7 +163,7 @@ fn a_quote_in_the_line_of_a_reload(rt: HostRuntime) {
     check_line(&rt, rt.alloc(), &core, "reloaded \"a \\\"\" queue 1\n");
 }
 
-/// Asserts what a writer was given whose write after so many calls fails. Whether there was such a write.
+/// Asserts the output of a writer whose write after `calls` calls fails. Returns whether there was such a write.
 fn is_line_cut(rt: &impl Abort, alloc: Global, core: &Core<'_>, calls: u64) -> bool {
     let mut output = MemoryOut::failing_after(alloc, calls);
     let answer = write_reloaded(core, &mut output);
@@ -177,7 +176,7 @@ fn is_line_cut(rt: &impl Abort, alloc: Global, core: &Core<'_>, calls: u64) -> b
     true
 }
 
-/// Asserts what writers were given whose writes fail after more and more calls, up to one that does not fail.
+/// Asserts the outputs of writers that fail after more and more calls, up to one that does not fail.
 fn check_cut_lines(rt: &impl Abort, alloc: Global, core: &Core<'_>) {
     for calls in 0..100 {
         if !is_line_cut(rt, alloc, core, calls) {
@@ -196,7 +195,7 @@ fn each_write_of_the_line_fails_in_turn(rt: HostRuntime) {
     check_cut_lines(&rt, rt.alloc(), &core);
 }
 
-/// A writer of which nothing goes out.
+/// A writer whose flushes fail, so nothing goes out.
 #[derive(Drop)]
 struct Stuck;
 
@@ -215,7 +214,7 @@ fn check_stuck(rt: &impl Abort, core: &Core<'_>) {
     same(rt, answer, Err(SessionFault::WriteFailed));
 }
 
-/// A line that does not go out is a write that failed.
+/// A line that does not go out is a failed write.
 #[test]
 fn a_line_that_does_not_go_out(rt: HostRuntime) {
     let image = bytes_in(&rt, rt.alloc(), images::FIRST_RUN);

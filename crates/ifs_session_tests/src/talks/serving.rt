@@ -28,12 +28,12 @@ pub(super) fn opened<'a>(rt: &impl Abort, alloc: Global, image: &'a [u8]) -> Cor
     }
 }
 
-/// A host whose polls and runs answer nothing.
+/// A host whose polls and runs return nothing.
 pub(super) fn quiet<A: Allocator + Copy>(alloc: A, script: Global) -> ScriptHost<A> {
     ScriptHost::new(alloc, Vec::new(script), Vec::new(script))
 }
 
-/// The results of a connection. A function that asserts borrows them, so that no assertion is where all of them are dropped.
+/// The results of a connection. Functions that assert borrow them, so no assertion is in a function that drops them all.
 #[derive(Drop)]
 pub(super) struct Talk<A: Allocator + Copy> {
     /// How many commands wait after it.
@@ -76,7 +76,7 @@ impl<A: Allocator + Copy> Talk<A> {
     }
 }
 
-/// A connection of these requests on the image of these digits, over a host that answers nothing.
+/// A connection of these requests on the image of these digits, over a quiet host.
 pub(super) fn quiet_talk(
     rt: &impl Abort,
     alloc: Global,
@@ -87,7 +87,7 @@ pub(super) fn quiet_talk(
     Talk::new(rt, alloc, image, quiet(alloc, alloc), input, output)
 }
 
-/// So many commands were run, the last of which has this text.
+/// Asserts that `count` commands were run, and that the last one has this text.
 fn check_last_text(rt: &impl Abort, host: &ScriptHost<Global>, count: u32, text: &str) {
     let mut runs: u32 = 0;
     let mut last: &[u8] = &[];
@@ -121,7 +121,7 @@ fn check_macros(rt: &impl Abort, talk: &Talk<Global>) {
     check_macros_host(rt, &talk.host);
 }
 
-/// The host was polled and answered this.
+/// Asserts that the host was polled and returned this.
 fn check_polled(rt: &impl Abort, event: &HostEvent<HostText>, wanted: Option<(TestId, u64, bool)>) {
     match event {
         HostEvent::Polled(ending) => same(rt, *ending, wanted),
@@ -129,7 +129,7 @@ fn check_polled(rt: &impl Abort, event: &HostEvent<HostText>, wanted: Option<(Te
     }
 }
 
-/// The host was told to start the only test.
+/// Asserts that the host started the only test.
 fn check_started(rt: &impl Abort, event: &HostEvent<HostText>) {
     match event {
         HostEvent::Started(start) => {
@@ -141,7 +141,7 @@ fn check_started(rt: &impl Abort, event: &HostEvent<HostText>) {
     }
 }
 
-/// The host ran this text.
+/// Asserts that the host ran this text.
 fn check_ran(rt: &impl Abort, event: &HostEvent<HostText>, text: &str) {
     match event {
         HostEvent::Ran(command) => same(rt, command.as_bytes(), text.as_bytes()),
@@ -182,7 +182,7 @@ pub(super) fn macros_talk(
     ))
 }
 
-/// A test is started, fails, and its command is run before the reply to `status`.
+/// A test starts and fails, and its command is run before the reply to `status`.
 #[test]
 fn macros(rt: HostRuntime) -> Result<(), Fail> {
     let talk = macros_talk(&rt, rt.alloc(), b"tick 0\nstatus\nstop\n")?;
@@ -190,7 +190,7 @@ fn macros(rt: HostRuntime) -> Result<(), Fail> {
     Ok(())
 }
 
-/// The line `tick 0`, so many times.
+/// The line `tick 0`, `count` times.
 fn ticks(alloc: Global, count: u32) -> Result<Vec<u8>, AllocError> {
     let mut requests = Vec::new(alloc);
     for _ in 0..count {
@@ -207,7 +207,7 @@ fn check_full(rt: &impl Abort, talk: &Talk<Global>, left: &[u8]) {
     same(rt, talk.lines(), 448);
 }
 
-/// 449 ticks: 448 are answered, and the last line is unread.
+/// Of 449 ticks 448 have a reply, and the last line is unread.
 #[test]
 fn full(rt: HostRuntime) -> Result<(), Fail> {
     let requests = ticks(rt.alloc(), 449)?;
@@ -232,7 +232,7 @@ fn check_refused(rt: &impl Abort, talk: &Talk<Global>) {
     check_last_text(rt, &talk.host, 1, "echo m");
 }
 
-/// A client's `result` and `take` are no requests, whatever their numbers; a line too long is told so first.
+/// A client's `result` and `take` are no requests, whatever their numbers.
 #[test]
 fn what_hosts_do_is_no_request(rt: HostRuntime) {
     let requests =
@@ -261,7 +261,7 @@ fn check_queue_is_run(rt: &impl Abort, core: &mut Core<'_>, host: &mut ScriptHos
     check_last_text(rt, host, 3, "echo m");
 }
 
-/// Commands are taken until there is none, and their texts run.
+/// Commands are taken until there is none, and their texts are run.
 #[test]
 fn queues_are_run(rt: HostRuntime) {
     let image = bytes_in(&rt, rt.alloc(), images::FIRST_RUN);
@@ -270,13 +270,13 @@ fn queues_are_run(rt: HostRuntime) {
     check_queue_is_run(&rt, &mut core, &mut quiet(rt.alloc(), rt.alloc()));
 }
 
-/// What the row of the first run says, of a client that is served: its commands are taken by the service.
+/// The requests of the row of the first run, from a client that is served. The service takes the commands.
 const REQUESTS: &[u8] = b"link carp0 up\nlink carp0 up\nlink carp0 down\nlink carp0 up\nstop\n";
 
 const REPLIES: &str =
     "done \"a\" cost 6 queue 0\nsame\ndone \"a\" cost 6 queue 0\ndone \"a\" cost 6 queue 0\nbye\n";
 
-/// Statuses of runs, of which the one after so many fails.
+/// The statuses of runs: `calls` that end with 1, and then one that fails.
 fn failing_run(alloc: Global, calls: u32) -> Result<Vec<Result<i32, HostFault>>, AllocError> {
     let mut statuses = Vec::new(alloc);
     for _ in 0..calls {
@@ -293,7 +293,7 @@ fn check_stopped(rt: &impl Abort, talk: &Talk<Global>, calls: u32) {
     check_last_text(rt, &talk.host, 3, "echo m");
 }
 
-/// Each run of the host fails in turn: the steps and the replies are the same as without.
+/// Each run of the host fails in turn. The steps and the replies stay the same.
 #[test]
 fn each_run_fails_in_turn(rt: HostRuntime) -> Result<(), Fail> {
     for calls in 0..4 {
@@ -319,7 +319,7 @@ fn check_broken(rt: &impl Abort, talk: &Talk<Global>, lines: usize, calls: usize
     same_in(rt, calls, talk.waiting, 0);
 }
 
-/// Each read fails in turn: the lines that were whole by then are served, and their replies written.
+/// Each read fails in turn. The lines that were complete by then are served, and their replies are written.
 #[test]
 fn each_read_fails_in_turn(rt: HostRuntime) {
     let mut lines: usize = 0;
@@ -333,8 +333,8 @@ fn each_read_fails_in_turn(rt: HostRuntime) {
     }
 }
 
-/// Asserts what a connection came to whose write after so many calls fails; where it is that of `bye`, the
-/// connection was stopped all the same. Whether there was such a write.
+/// Asserts the result of a connection whose write after `calls` calls fails. If that is the write of `bye`, the connection was
+/// stopped all the same. Returns whether there was such a write.
 fn check_cut(rt: &impl Abort, talk: &Talk<Global>, calls: u64) -> bool {
     holds_in(rt, calls, REPLIES.as_bytes().starts_with(talk.written()));
     same_in(rt, calls, talk.waiting, 0);
@@ -347,7 +347,7 @@ fn check_cut(rt: &impl Abort, talk: &Talk<Global>, calls: u64) -> bool {
     true
 }
 
-/// Each write fails in turn: what was written is the beginning of the replies.
+/// Each write fails in turn. The output is a prefix of the replies.
 #[test]
 fn each_write_fails_in_turn(rt: HostRuntime) {
     for calls in 0..100 {
@@ -373,7 +373,7 @@ fn check_noted<A: Allocator + Copy>(rt: &impl Abort, talk: &Talk<A>, whole: bool
     same(rt, talk.host.whole(), whole);
 }
 
-/// A note that finds no memory is dropped, and what is served stays the same.
+/// A note whose allocation fails is dropped. The replies and the end stay the same.
 #[test]
 fn growth_refused(rt: HostRuntime) -> Result<(), Fail> {
     for (size, whole) in [(4096, false), (65_536, true)] {
