@@ -10,8 +10,8 @@ pub mod sessions;
 
 pub use hexadecimal::{bytes_of, digits_of};
 pub use largest::{
-    LARGEST_BYTES, LARGEST_COMPILED, SMALLEST, definitions_in, largest_definitions, largest_listing,
-    largest_policy, longest_line_listing,
+    LARGEST_BYTES, LARGEST_COMPILED, SMALLEST, definitions_in, largest_definitions,
+    largest_listing, largest_policy, longest_line_listing,
 };
 
 /// An image that is accepted, with a session on it.

@@ -58,7 +58,7 @@ pub fn first_policy_reloaded() -> Reload {
             replies: "done \"a\" cost 6 queue 0\n\
                       taken 0 \"echo m\"\n",
             policy: Some(FIRST_POLICY),
-        image: images::FIRST_POLICY,
+            image: images::FIRST_POLICY,
         },
         after: Row {
             name: "first policy reloaded",

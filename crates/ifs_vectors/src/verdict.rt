@@ -62,7 +62,10 @@ pub fn refuse(alloc: Global, bytes: &[u8], fault: VerifyFault) -> Result<bool, M
 
 /// Checks that both answers are the wanted one, and that it is no failed allocation.
 fn agree(wanted: Verdict, slow: Verdict, verifier: Verdict) -> Result<(), Mismatch> {
-    if slow == wanted && verifier == wanted && wanted != Verdict::Refused(VerifyFault::OutOfMemory) {
+    if slow == wanted
+        && verifier == wanted
+        && wanted != Verdict::Refused(VerifyFault::OutOfMemory)
+    {
         return Ok(());
     }
     Err(Mismatch::Answers {

@@ -6,8 +6,7 @@ use ifs_base::TestId;
 use ifs_core::{Core, Step};
 use ifs_rows::images;
 use ifs_session::{
-    ByteOut, DeviceFault, End, HostEvent, MemoryIn, MemoryOut, SessionFault,
-    write_reloaded,
+    ByteOut, DeviceFault, End, HostEvent, MemoryIn, MemoryOut, SessionFault, write_reloaded,
 };
 use std::alloc::Global;
 use std::process::Abort;

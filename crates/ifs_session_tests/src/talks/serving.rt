@@ -172,14 +172,7 @@ pub(super) fn macros_talk(
     let host = ScriptHost::new(alloc, endings, Vec::new(alloc));
     let mut input = MemoryIn::new(requests);
     let output = MemoryOut::new(alloc);
-    Ok(Talk::new(
-        rt,
-        alloc,
-        images::MACROS,
-        host,
-        &mut input,
-        output,
-    ))
+    Ok(Talk::new(rt, alloc, images::MACROS, host, &mut input, output))
 }
 
 /// A test starts and fails, and its command is run before the reply to `status`.

@@ -81,7 +81,10 @@ pub fn check_bounds(
     kinds: &[Option<Kinds>],
 ) -> Result<Vec<Bounds>, VerifyFault> {
     // ways lead forward and calls to lower routines, so there are no more rounds than lines
-    let bounds = settled(listing.lines().len(), |last| round(alloc, listing, kinds, last))?;
+    let bounds = settled(
+        listing.lines().len(),
+        |last| round(alloc, listing, kinds, last),
+    )?;
     judge_bounds(listing, bounds.as_slice())?;
     Ok(bounds)
 }

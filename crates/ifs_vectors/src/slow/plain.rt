@@ -22,11 +22,7 @@ pub fn check_plain(parts: &ImageParts, listing: &Listing) -> Result<(), VerifyFa
 
 /// The fault of a check, if what it wants does not hold.
 fn wanted(holds: bool, check: Check, place: At) -> Result<(), VerifyFault> {
-    if holds {
-        Ok(())
-    } else {
-        Err(check.at(place))
-    }
+    if holds { Ok(()) } else { Err(check.at(place)) }
 }
 
 /// The initial state and the always part are within their tables.
@@ -89,11 +85,7 @@ fn entry_of(parts: &ImageParts, op: Op) -> (usize, usize) {
 
 /// No handler takes or leaves a value.
 fn check_handlers(parts: &ImageParts, listing: &Listing) -> Result<(), VerifyFault> {
-    wanted(
-        stand_alone(listing, parts.always),
-        Check::Leaves,
-        At::Head,
-    )?;
+    wanted(stand_alone(listing, parts.always), Check::Leaves, At::Head)?;
     for (index, state) in parts.states.as_slice().iter().enumerate() {
         let alone = stand_alone(listing, state.handlers);
         wanted(alone, Check::Leaves, state_at(index))?;
@@ -149,11 +141,7 @@ fn check_calls(lines: &[Line]) -> Result<(), VerifyFault> {
 fn check_reached(lines: &[Line], origins: &[Option<usize>]) -> Result<(), VerifyFault> {
     for (line, origin) in lines.iter().zip(origins) {
         let reached = line.place == 0 || origin.is_some();
-        wanted(
-            reached,
-            Check::Reached,
-            code_at(line.routine, line.place),
-        )?;
+        wanted(reached, Check::Reached, code_at(line.routine, line.place))?;
     }
     Ok(())
 }
