@@ -1,9 +1,9 @@
-//! Why a session ends before its end.
+//! Faults that end a session.
 
 use ifs_verify::VerifyFault;
 use thiserror::Error;
 
-/// Why a session ends before `stop` and before the end of input.
+/// A fault that ends a session before `stop` and before the end of input.
 #[derive(Clone, Copy, Debug, PartialEq, Eq, Error)]
 pub enum SessionFault {
     /// S1: a read failed.
@@ -17,19 +17,19 @@ pub enum SessionFault {
     TooMuchInput,
 }
 
-/// Why a run of an image that comes as a line of hexadecimal digits ends before its end.
+/// A fault that ends a run whose image is the first line of its input.
 #[derive(Clone, Copy, Debug, PartialEq, Eq, Error)]
 pub enum RunFault {
-    /// The first line is not an even number of lower-case hexadecimal digits, at most 131,072.
+    /// X1: the first line is not an even number of at most 131,072 lower-case hexadecimal digits.
     #[error("X1")]
     X1,
-    /// The image is not accepted.
+    /// The verifier rejects the image.
     #[error("{0}")]
     Verify(VerifyFault),
-    /// No memory was found for the image or for the core.
+    /// V0: an allocation for the image or for the core failed.
     #[error("V0")]
     Memory,
-    /// The first line could not be read, a refusal could not be written, or the session ended so.
+    /// S1 to S3: the first line could not be read, the line of a refusal could not be written, or the session failed.
     #[error("{0}")]
     Session(SessionFault),
 }

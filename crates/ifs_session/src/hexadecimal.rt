@@ -1,4 +1,4 @@
-//! Images as lines of hexadecimal digits.
+//! Images that are written as a line of hexadecimal digits.
 
 ghost use Rattle.std.specs.Prelude.{◌≡◌, ◌≤◌, [], length, IfOk};
 ghost use Rattle.ifs_session.specs.inner.Reading.{DigitGives, SpellsFront, AtHandGives, LineSpells};
@@ -8,22 +8,22 @@ use crate::device::ByteIn;
 use ifs_base::{Items, digit_value};
 use std::alloc::{AllocError, Global};
 
-/// The most bytes of an image's line: 131,072 digits.
+/// The most bytes that an image's line spells, in 131,072 digits.
 const BYTES: usize = 65_536;
 
-/// Why a line gives no bytes.
+/// Why a line cannot be read as bytes.
 #[derive(Clone, Copy, PartialEq, Eq)]
 pub(crate) enum HexFault {
-    /// The line breaks its rule.
+    /// The line is invalid.
     Broken,
-    /// No memory was found for the bytes.
+    /// An allocation for the bytes failed.
     Memory,
     /// A read failed.
     NotRead,
 }
 
-/// Reads the bytes that a line of hexadecimal digits spells: lower case, an even number of them and
-/// at most 131,072. It stops at the first byte that breaks this.
+/// Reads the bytes that a line spells. A valid line is an even number of at most 131,072 lower-case hexadecimal digits.
+/// Reading stops at the first byte that makes the line invalid.
 pub(crate) fn hex_line<R: ByteIn>(alloc: Global, reader: &mut R) -> Result<Items<u8>, HexFault>
     ensures { HexGives result
         (record { left = R.left reader.old; faults = R.faults reader.old })
@@ -36,7 +36,7 @@ pub(crate) fn hex_line<R: ByteIn>(alloc: Global, reader: &mut R) -> Result<Items
     }
 }
 
-/// Reads those bytes into a place, which is empty.
+/// Reads those bytes into an empty vector.
 fn read_line<R: ByteIn>(reader: &mut R, bytes: &mut Vec<u8>) -> Result<(), HexFault>
     requires { bytes.old.items ≡ [] }
     ensures { LineSpells result bytes.new.items
@@ -60,8 +60,7 @@ fn read_line<R: ByteIn>(reader: &mut R, bytes: &mut Vec<u8>) -> Result<(), HexFa
     }
 }
 
-/// Reads the bytes whose digits stand at hand, as many as stand there whole and there is room for, and
-/// puts them after the others. Where memory is wanting nothing is read.
+/// Reads the bytes whose digits are at hand, up to the limit, and appends them. If an allocation fails, nothing is read.
 fn take_at_hand<R: ByteIn>(reader: &mut R, bytes: &mut Vec<u8>) -> Result<(), HexFault>
     requires { length bytes.old.items ≤ 65536 }
     ensures { AtHandGives result bytes.old.items bytes.new.items
@@ -75,8 +74,7 @@ fn take_at_hand<R: ByteIn>(reader: &mut R, bytes: &mut Vec<u8>) -> Result<(), He
     Ok(())
 }
 
-/// Puts the bytes that the front of a text spells after the others, as many as there is room for, and
-/// answers how many digits those are.
+/// Appends the bytes that the front of a text spells, up to the limit, and returns their number of digits.
 fn append_spelled(text: &[u8], bytes: &mut Vec<u8>) -> Result<usize, AllocError>
     requires { length bytes.old.items ≤ 65536 }
     ensures { IfOk result (λ count. SpellsFront text.now count bytes.old.items bytes.new.items) }
@@ -95,7 +93,7 @@ fn append_spelled(text: &[u8], bytes: &mut Vec<u8>) -> Result<usize, AllocError>
     Ok(text.len() - left.len())
 }
 
-/// Reads a digit; `None` at the end of the line.
+/// Reads a digit. Returns `None` at the end of the line.
 fn read_digit<R: ByteIn>(reader: &mut R) -> Result<Option<u8>, HexFault>
     ensures { DigitGives result
         (record { left = R.left reader.old; faults = R.faults reader.old })

@@ -1,4 +1,4 @@
-//! Hosts: what runs commands and tests.
+//! Hosts, which run commands and tests.
 
 ghost use Rattle.std.specs.Prelude.{◌≡◌, [], ◌∷◌, ℕ, Option, None};
 ghost use Rattle.ifs_session.specs.Hosts.{HostLog, Adds, ran, launched, polled, RunCounts};
@@ -11,7 +11,7 @@ use thiserror::Error;
 #[error("the host failed")]
 pub struct HostFault;
 
-/// A test that a host is told to start.
+/// A test for a host to start.
 #[derive(Clone, Copy, Debug, PartialEq, Eq)]
 pub struct Launch<T> {
     /// The test.
@@ -22,41 +22,39 @@ pub struct Launch<T> {
     pub text: T,
 }
 
-/// One thing that happens at a host.
+/// One event at a host.
 #[derive(Debug, Drop)]
 pub enum HostEvent<T> {
-    /// It is polled, and answers this.
+    /// A poll, with its result.
     Polled(Option<(TestId, u64, bool)>),
-    /// It is told to start a test.
+    /// The start of a test.
     Started(Launch<T>),
-    /// It runs a text.
+    /// The run of a command, by its text.
     Ran(T),
 }
 
-/// What runs commands, starts tests and tells how they ended.
+/// Runs commands, starts tests and reports how they ended.
 ///
-/// It may tell what it was given and what it answered, and may cease to; and how often it failed:
-/// one that tells failures counts each, up to 2^64 - 1.
+/// A host may report its log and its number of failures. It may stop reporting the log. It counts failures up to 2^64 - 1.
 pub trait Host {
-    // What it was given and what it answered, in order, where that is known.
+    // The events so far, in order, if they are known.
     ghost told: { Self → Option HostLog } = { λ _. None };
 
-    // How often a command could not be run, where that is known.
+    // The number of commands that could not be run, if it is known.
     ghost faults: { Self → Option ℕ } = { λ _. None };
 
-    /// Starts a test, whose run has this number and whose command this text. One that cannot be started
-    /// ends as one that found false: `poll` answers it.
+    /// Starts run number `run` of a test, whose command is `text`. If it cannot be started, `poll` later reports that it
+    /// found false.
     fn start(&mut self, test: TestId, run: u64, text: &str)
         ensures log { Adds (launched (record { test = test; run = run; text = text.now } ∷ [])) (told self.old) (told self.new) }
         ensures counts { faults self.new ≡ faults self.old };
 
-    /// A run of a test that has ended and was not answered before, with its value; `None` where there
-    /// is none now.
+    /// Returns a run of a test that has ended, with its value, once for each run. Returns `None` if no further run has ended.
     fn poll(&mut self) -> Option<(TestId, u64, bool)>
         ensures log { Adds (polled result) (told self.old) (told self.new) }
         ensures counts { faults self.new ≡ faults self.old };
 
-    /// Runs the text of a command to its end, and answers its exit status.
+    /// Runs the text of a command to its end, and returns its exit status. It fails if the text cannot be run.
     fn run(&mut self, text: &str) -> Result<i32, HostFault>
         ensures log { Adds (ran (text.now ∷ [])) (told self.old) (told self.new) }
         ensures counts { RunCounts result (faults self.old) (faults self.new) };

@@ -1,8 +1,8 @@
-//! What holds of every line, whoever reads it.
+//! Laws about image lines.
 
 ghost use Rattle.ifs_session.specs.Hexadecimal.{OneAnswer};
 
-/// No first line both keeps its rule, so that it gives bytes, and breaks it, whatever follows it.
+/// No first line is both valid and invalid, whatever follows it.
 pub fn no_line_is_good_and_broken()
     ensures { OneAnswer }
 {}

@@ -1,10 +1,10 @@
 //! Sessions: lines of requests in, lines of replies out.
 //!
-//! A request asks for a step of the core, or for what the core says of itself; each line of input
-//! has one reply, which has gone out before the next line is waited for.
+//! A request makes a step of the core, or asks a question about the core. Each line of input has one reply.
+//! A reply is flushed before the next line is waited for.
 //!
-//! Contract: the bytes written are exactly the replies of the run over the lines that were read,
-//! for every reader and every writer that tells its bytes.
+//! Contract: the bytes written are exactly the replies to the lines that were read, if the reader and the writer
+//! report their bytes.
 #![tactic(auto)]
 
 mod device;

@@ -15,9 +15,9 @@ use arrayvec::ArrayVec;
 pub(crate) struct Line {
     /// Its first 256 bytes.
     pub kept: ArrayVec<u8, LINE>,
-    /// Whether it has more bytes than those.
+    /// Whether it has more bytes.
     pub is_longer: bool,
-    /// Whether a newline ends it; else the input does.
+    /// Whether a newline ends it. Otherwise the input ends it.
     pub is_ended: bool,
 }
 
@@ -26,7 +26,7 @@ impl Line {
     ghost use Rattle.ifs_session.specs.inner.Serving.{kept_asked};
     ghost use Rattle.ifs_session.specs.inner.Connections.{kept_client_asked};
 
-    /// What the line asks for, or its fault.
+    /// The request of the line, or its fault.
     pub fn request(&self) -> Result<Request<'_>, RequestFault>
         ensures { told_by result ≡ kept_asked self.now }
     {
@@ -36,7 +36,7 @@ impl Line {
         parse_request(self.kept.as_slice())
     }
 
-    /// What the line of a client asks for, or its fault: `take` and `result` are no requests there.
+    /// The request of a client's line, or its fault. A client has no requests `take` and `result`.
     pub fn client_request(&self) -> Result<Request<'_>, RequestFault>
         ensures { told_by result ≡ kept_client_asked self.now }
     {
@@ -51,7 +51,7 @@ impl Line {
     }
 }
 
-/// Whether a line asks for what hosts do: `result` or `take`.
+/// Whether a line asks for an action of the host: `result` or `take`.
 fn is_of_hosts(line: &[u8]) -> bool
     ensures { result ≡ asks_of_hosts line.now }
 {
@@ -61,8 +61,8 @@ fn is_of_hosts(line: &[u8]) -> bool
     }
 }
 
-/// The line, without its newline, that stands whole at the front of these bytes and has at most `most`
-/// bytes with its newline.
+/// The first line of the bytes, without its newline. It is `None` if there is no newline, or if the line has more than
+/// `most` bytes with its newline.
 pub(crate) fn line_at_hand(bytes: &[u8], most: u32) -> Option<&[u8]>
     ensures exact { option_map (λ line. line.now) result ≡ first_line most bytes.now }
     ensures first { IfSome result (λ line. StandsFirst line.now most bytes.now) }
@@ -82,8 +82,9 @@ fn newline(bytes: &[u8]) -> Option<usize>
     bytes.iter().position(|byte| *byte == b'\n')
 }
 
-/// Reads the next line, and takes its bytes and its newline from the budget; `None` at the end of
-/// input. It fails where a read fails, and where a byte comes after the budget is spent.
+/// Reads the next line, and subtracts its bytes and its newline from the budget. Returns `None` at the end of input.
+///
+/// It fails if a read fails, and if there is a byte after the budget is spent.
 pub(crate) fn next_line<R: ByteIn>(
     reader: &mut R,
     budget: &mut u32,

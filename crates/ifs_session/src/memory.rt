@@ -1,4 +1,4 @@
-//! Devices in memory, which tell their bytes and failures, and fail at a given call for tests.
+//! Devices in memory. They report their bytes and failures, and can fail at a given call for tests.
 
 ghost use Rattle.std.specs.Prelude.{◌≡◌, ◌↔◌, ◌⊎◌, ◌+◌, ◌<◌, ◌≤◌, [], length, Some, None, IsTrue, IsOk, IsErr, OnErr};
 ghost use Rattle.ifs_session.specs.Memory.{counted_down};
@@ -8,7 +8,7 @@ use crate::device::{ByteIn, ByteOut, DeviceFault};
 use std::alloc::{Allocator, Global};
 use std::marker::Model;
 
-/// Counts a call down, and says whether it is the one that fails.
+/// Counts a call down, and returns whether it fails.
 fn fails_now(fails_after: &mut Option<u64>) -> bool
     ensures now { IsTrue result ↔ (fails_after.old ≡ Some 0) }
     ensures counted { fails_after.new ≡ counted_down fails_after.old }
@@ -43,14 +43,14 @@ impl<'a> Model for MemoryIn<'a> {
 }
 
 impl<'a> MemoryIn<'a> {
-    /// A reader of these bytes that never fails.
+    /// A reader of bytes that never fails.
     pub fn new(bytes: &'a [u8]) -> Self
         ensures { result ≡ record { left = bytes.entry.now; faults = 0; fails_after = None } }
     {
         MemoryIn::with(bytes, None)
     }
 
-    /// A reader of these bytes that fails once, after as many calls as `calls` says.
+    /// A reader of bytes that fails once, after `calls` calls.
     pub fn failing_after(bytes: &'a [u8], calls: u64) -> Self
         ensures { result ≡ record { left = bytes.entry.now; faults = 0; fails_after = Some calls } }
     {
@@ -99,7 +99,7 @@ impl ByteIn for MemoryIn<'_> {
     }
 }
 
-/// A writer of bytes into memory, which keeps the allocator that it is made with.
+/// A writer of bytes into memory.
 #[derive(Debug, Drop)]
 pub struct MemoryOut<A: Allocator = Global> {
     written: Vec<u8, A>,
@@ -117,15 +117,14 @@ impl<A: Allocator> Model for MemoryOut<A> {
 }
 
 impl<A: Allocator> MemoryOut<A> {
-    /// A writer that has written nothing, and fails only where it has to ask for memory.
+    /// An empty writer, which fails only if an allocation from `alloc` fails.
     pub fn new(alloc: A) -> Self
         ensures { result ≡ record { written = []; capacity = 0; faults = 0; fails_after = None } }
     {
         MemoryOut::with(alloc, None)
     }
 
-    /// A writer that has written nothing and fails once, after as many calls as `calls` says; and
-    /// where memory is refused.
+    /// An empty writer, which fails once after `calls` calls, and if an allocation from `alloc` fails.
     pub fn failing_after(alloc: A, calls: u64) -> Self
         ensures { result ≡ record { written = []; capacity = 0; faults = 0; fails_after = Some calls } }
     {
@@ -157,7 +156,7 @@ impl<A: Allocator> ByteOut for MemoryOut<A> {
 
     ghost faults = { λ s. Some s.faults };
 
-    /// Fails at the given call and where memory is refused, and then writes nothing.
+    /// Fails at the given call and if an allocation fails, and then writes nothing.
     fn put(&mut self, bytes: &[u8]) -> Result<(), DeviceFault>
         ensures puts { PutGives result bytes.now (Some self.old.written) (Some self.new.written) (Some self.old.faults) (Some self.new.faults) }
         ensures failing { self.old.fails_after ≡ Some 0 → IsErr result }
@@ -177,7 +176,7 @@ impl<A: Allocator> ByteOut for MemoryOut<A> {
         Ok(())
     }
 
-    /// Nothing is held back, so this does nothing.
+    /// Does nothing, since nothing is held back.
     fn flush(&mut self) -> Result<(), DeviceFault>
         ensures puts { PutGives result [] (Some self.old.written) (Some self.new.written) (Some self.old.faults) (Some self.new.faults) }
         ensures same { self.new ≡ self.old }

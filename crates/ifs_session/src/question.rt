@@ -1,5 +1,5 @@
-//! Questions: requests that ask what a core says of itself, and change nothing. A question is a word; its word and its reply are
-//! here, in `specs/Questions.antt`, and in the functions that write the reply.
+//! Questions: requests that read the core and change nothing. A question is a word. Its word and its reply are here, in
+//! `specs/Questions.antt`, and in the functions that write the reply.
 
 ghost use Rattle.std.specs.Prelude.{◌≡◌};
 ghost use Rattle.ifs_session.specs.Device.{PutGives};
@@ -12,13 +12,13 @@ use ifs_core::Core;
 /// A question.
 #[derive(Clone, Copy, PartialEq, Eq)]
 pub(crate) enum Question {
-    /// The state, whether an evaluation is owed, and how much is queued and runs.
+    /// The state, whether an evaluation is owed, and the numbers of queued commands and of running tests.
     Status,
     /// The records of the last steps.
     Trace,
 }
 
-/// The question that a word asks.
+/// The question of a word.
 pub(crate) fn question_in(word: &[u8]) -> Option<Question>
     ensures { result ≡ question_in word.now }
 {

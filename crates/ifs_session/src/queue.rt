@@ -1,4 +1,4 @@
-//! The commands of the queue, run in order.
+//! Running the commands of the queue in order.
 
 ghost use Rattle.std.specs.Prelude.{◌≡◌, ◌+◌, ◌≤◌, ◌++◌, [], map, length};
 ghost use Rattle.ifs_core.specs.Event.{Behaviour};
@@ -10,15 +10,15 @@ use crate::host::Host;
 use arrayvec::ArrayVec;
 use ifs_core::{Core, Step};
 
-/// Takes the commands of the queue until it is empty, and runs the text of each, in order. Whatever the
-/// host answers changes nothing. The answer has the steps that were made, each of which is `Take`.
+/// Takes each command of the queue in order, and runs its text. The host's results change nothing. Returns the steps,
+/// which are all `Take`.
 pub fn run_queue<H: Host>(core: &mut Core<'_>, host: &mut H) -> ArrayVec<Step, 64>
     ensures image { core.new.image ≡ core.old.image }
     ensures steps { result.items ≡ takes_of core.old.state.queue }
-    // The core is the one before with these steps made.
+    // The core has made exactly these steps.
     ensures state { (b : Behaviour) → core.new.state ≡ after_steps b core.old.image.budgets.commands result.items core.old.state }
     ensures empty { core.new.state.queue ≡ [] }
-    // The host was given the texts of the commands, in order.
+    // The host has run exactly the texts of the commands, in order.
     ensures told { Adds (ran (texts_of core.old.image core.old.state.queue)) (H.told host.old) (H.told host.new) }
 {
     let mut steps = ArrayVec::new();
@@ -26,7 +26,7 @@ pub fn run_queue<H: Host>(core: &mut Core<'_>, host: &mut H) -> ArrayVec<Step, 6
     steps
 }
 
-/// Takes the commands of the queue until it is empty, runs the text of each, and adds the steps.
+/// Takes each command of the queue, runs its text, and appends the steps.
 pub(crate) fn empty_queue<H: Host, const N: usize>(
     core: &mut Core<'_>,
     host: &mut H,
@@ -45,7 +45,7 @@ pub(crate) fn empty_queue<H: Host, const N: usize>(
     empty_rest(core, host, steps);
 }
 
-/// The same, where the steps have room for as many as the queue has commands.
+/// The same, with room for exactly the commands of the queue.
 fn empty_rest<H: Host, const N: usize>(
     core: &mut Core<'_>,
     host: &mut H,

@@ -1,4 +1,4 @@
-//! Lines of refusals, written piece by piece without allocation.
+//! Lines of refusals, written in pieces without allocation.
 
 ghost use Rattle.std.specs.Prelude.{◌≡◌, IfErr, OnOk};
 ghost use Rattle.ifs_session.specs.Device.{PutGives, HoldsNothing};
@@ -15,16 +15,16 @@ use ifs_verify::VerifyFault;
 /// Why the image of the first line is refused.
 #[derive(Clone, Copy, PartialEq, Eq)]
 pub(crate) enum Refusal {
-    /// The line breaks its rule.
+    /// The line is invalid.
     Broken,
-    /// The image is not accepted.
+    /// The verifier rejects the image.
     NotAccepted(VerifyFault),
-    /// No memory was found for the image or for the core.
+    /// An allocation for the image or for the core failed.
     Memory,
 }
 
 impl Refusal {
-    /// What is printed of the refusal.
+    /// The words of the refusal.
     fn text(self) -> FaultText
         ensures { fault_words result ≡ refusal_words self }
     {
@@ -40,8 +40,7 @@ impl Refusal {
     }
 }
 
-/// Writes the line that says what was refused, sees that it goes out, and gives its fault; where that
-/// cannot be written, that is the fault.
+/// Writes and flushes the line of a refusal, and returns its fault. If the write fails, that is the fault.
 pub(crate) fn refuse<W: ByteOut>(writer: &mut W, refusal: Refusal) -> RunFault
     ensures { RefuseGives refusal result
         (record { written = W.written writer.old; held = W.held writer.old; faults = W.faults writer.old })
@@ -57,9 +56,9 @@ pub(crate) fn refuse<W: ByteOut>(writer: &mut W, refusal: Refusal) -> RunFault
     }
 }
 
-/// Writes the line of a refusal, `refused` and the fault, and sees that it has gone out.
+/// Writes and flushes the line of a refusal: `refused` and the fault.
 ///
-/// It fails with `SessionFault::WriteFailed` if a write fails; how much of the line went out is open then.
+/// It fails with `SessionFault::WriteFailed` if a write fails. Any part of the line may have gone out then.
 pub fn write_refused<W: ByteOut>(fault: FaultText, writer: &mut W) -> Result<(), SessionFault>
     ensures puts { PutGives result (refused_line (fault_words fault)) (W.written writer.old) (W.written writer.new) (W.faults writer.old) (W.faults writer.new) }
     ensures out { OnOk result (HoldsNothing (W.held writer.new)) }
@@ -71,7 +70,7 @@ pub fn write_refused<W: ByteOut>(fault: FaultText, writer: &mut W) -> Result<(),
     }
 }
 
-/// Writes the line of a refusal, and sees that it goes out.
+/// Writes and flushes the line of a refusal.
 #[tactic(auto, using(crate::proofs::Known::written_laws))]
 fn put_refused<W: ByteOut>(out: &mut W, fault: FaultText) -> Result<(), DeviceFault>
     ensures puts { PutGives result (refused_line (fault_words fault)) (W.written out.old) (W.written out.new) (W.faults out.old) (W.faults out.new) }
@@ -84,7 +83,7 @@ fn put_refused<W: ByteOut>(out: &mut W, fault: FaultText) -> Result<(), DeviceFa
     Ok(())
 }
 
-/// Writes a fault as it is printed.
+/// Writes the code and the place of a fault.
 #[tactic(auto, using(crate::proofs::Known::written_laws))]
 fn put_fault_text<W: ByteOut>(out: &mut W, fault: FaultText) -> Result<(), DeviceFault>
     ensures { PutGives result (fault_words fault) (W.written out.old) (W.written out.new) (W.faults out.old) (W.faults out.new) }
@@ -94,7 +93,7 @@ fn put_fault_text<W: ByteOut>(out: &mut W, fault: FaultText) -> Result<(), Devic
     Ok(())
 }
 
-/// Writes the place of a fault, behind its code.
+/// Writes the place of a fault, after its code.
 #[tactic(auto, using(crate::proofs::Known::written_laws))]
 fn put_place<W: ByteOut>(out: &mut W, place: FaultPlace) -> Result<(), DeviceFault>
     ensures { PutGives result (place_words place) (W.written out.old) (W.written out.new) (W.faults out.old) (W.faults out.new) }

@@ -1,4 +1,4 @@
-//! Reply lines, written piece by piece without allocation.
+//! Reply lines, written in pieces without allocation.
 
 ghost use Rattle.std.specs.Prelude.{◌≡◌, ◌<◌, decimal, map, length, IfErr, OnOk};
 ghost use Rattle.std.specs.List.{flat_map};
@@ -74,7 +74,7 @@ fn put_start<W: ByteOut>(out: &mut W, start: &Start) -> Result<(), DeviceFault>
     Ok(())
 }
 
-/// Writes the starts of a tick, with commas between them; a dash where there is none.
+/// Writes the starts of a tick, separated by commas, or a dash if there are none.
 #[tactic(auto, using(crate::proofs::Known::written_laws))]
 fn put_start_list<W: ByteOut>(out: &mut W, starts: &[Start]) -> Result<(), DeviceFault>
     ensures { PutGives result (listed (map start_word starts.now)) (W.written out.old) (W.written out.new) (W.faults out.old) (W.faults out.new) }
@@ -90,7 +90,7 @@ fn put_start_list<W: ByteOut>(out: &mut W, starts: &[Start]) -> Result<(), Devic
     Ok(())
 }
 
-/// Writes the starts of a tick, and whether a due test was left without a number.
+/// Writes the starts of a tick, and whether there was no run number left for a test that was due.
 #[tactic(auto, using(crate::proofs::Known::written_laws))]
 fn put_starts<W: ByteOut>(out: &mut W, starts: &[Start], exhausted: bool) -> Result<(), DeviceFault>
     ensures { PutGives result (starts_words starts.now exhausted) (W.written out.old) (W.written out.new) (W.faults out.old) (W.faults out.new) }
@@ -103,7 +103,7 @@ fn put_starts<W: ByteOut>(out: &mut W, starts: &[Start], exhausted: bool) -> Res
     Ok(())
 }
 
-/// Writes the reply line of a step, by its outcome and its lists.
+/// Writes the reply line of a step, from its outcome and its lists.
 #[tactic(auto, using(crate::proofs::Known::written_laws))]
 pub(crate) fn put_reply<W: ByteOut>(
     out: &mut W,
@@ -144,7 +144,7 @@ pub(crate) fn put_reply<W: ByteOut>(
     }
 }
 
-/// Writes the evaluation of a tick, if it made one, before its starts.
+/// Writes the evaluation of a tick, if it made one, and a space.
 #[tactic(auto, using(crate::proofs::Known::written_laws))]
 fn put_before_starts<W: ByteOut>(
     out: &mut W,
@@ -165,7 +165,7 @@ fn put_before_starts<W: ByteOut>(
     Ok(())
 }
 
-/// Writes the reply line of a command that was taken.
+/// Writes the reply line of a taken command.
 #[tactic(auto, using(crate::proofs::Known::written_laws))]
 fn put_taken<W: ByteOut>(
     out: &mut W,
@@ -182,7 +182,7 @@ fn put_taken<W: ByteOut>(
     Ok(())
 }
 
-/// Writes the line of a status.
+/// Writes the status line.
 #[tactic(auto, using(crate::proofs::Known::written_laws))]
 pub(crate) fn put_status<W: ByteOut>(out: &mut W, core: &Core<'_>) -> Result<(), DeviceFault>
     ensures { PutGives result (status_line core.now.image core.now.state) (W.written out.old) (W.written out.new) (W.faults out.old) (W.faults out.new) }
@@ -196,7 +196,7 @@ pub(crate) fn put_status<W: ByteOut>(out: &mut W, core: &Core<'_>) -> Result<(),
     Ok(())
 }
 
-/// Writes the numbers of a status.
+/// Writes the numbers of the status line.
 #[tactic(auto, using(crate::proofs::Known::written_laws))]
 fn put_status_numbers<W: ByteOut>(out: &mut W, core: &Core<'_>) -> Result<(), DeviceFault>
     ensures { PutGives result (status_numbers core.now.state) (W.written out.old) (W.written out.new) (W.faults out.old) (W.faults out.new) }
@@ -207,10 +207,10 @@ fn put_status_numbers<W: ByteOut>(out: &mut W, core: &Core<'_>) -> Result<(), De
     Ok(())
 }
 
-/// Writes the line of a service that has read its image anew, `reloaded`, the name of the core's state in
-/// quotes, `queue` and how many commands are queued, and sees that it has gone out.
+/// Writes and flushes the reply to a `reload` that was done: `reloaded`, the name of the core's state in quotes, `queue`
+/// and the number of queued commands.
 ///
-/// It fails with `SessionFault::WriteFailed` where a write fails; how much of the line went out is open then.
+/// It fails with `SessionFault::WriteFailed` if a write fails. Any part of the line may have gone out then.
 pub fn write_reloaded<W: ByteOut>(core: &Core<'_>, writer: &mut W) -> Result<(), SessionFault>
     ensures puts { PutGives result (reloaded_line core.now.image core.now.state) (W.written writer.old) (W.written writer.new) (W.faults writer.old) (W.faults writer.new) }
     ensures out { OnOk result (HoldsNothing (W.held writer.new)) }
@@ -222,7 +222,7 @@ pub fn write_reloaded<W: ByteOut>(core: &Core<'_>, writer: &mut W) -> Result<(),
     }
 }
 
-/// Writes the line of a service that has read its image anew, and sees that it goes out.
+/// Writes and flushes the reply to a `reload` that was done.
 #[tactic(auto, using(crate::proofs::Known::written_laws))]
 fn put_reloaded<W: ByteOut>(out: &mut W, core: &Core<'_>) -> Result<(), DeviceFault>
     ensures puts { PutGives result (reloaded_line core.now.image core.now.state) (W.written out.old) (W.written out.new) (W.faults out.old) (W.faults out.new) }
@@ -321,7 +321,7 @@ fn put_record<W: ByteOut>(out: &mut W, core: &Core<'_>, item: &Record) -> Result
     Ok(())
 }
 
-/// Writes what a record says of the answer.
+/// Writes the part of a record after its step.
 #[tactic(auto, using(crate::proofs::Known::written_laws))]
 fn put_answer_words<W: ByteOut>(
     out: &mut W,
@@ -339,7 +339,7 @@ fn put_answer_words<W: ByteOut>(
     Ok(())
 }
 
-/// Writes the lines of the trace: how many records there are, and each, the oldest first.
+/// Writes the lines of the trace: its number of records, and each record, the oldest first.
 #[tactic(auto, using(crate::proofs::Known::written_laws))]
 pub(crate) fn put_trace<W: ByteOut>(out: &mut W, core: &Core<'_>) -> Result<(), DeviceFault>
     ensures { PutGives result (trace_lines core.now.image core.now.state.trace) (W.written out.old) (W.written out.new) (W.faults out.old) (W.faults out.new) }
@@ -350,7 +350,7 @@ pub(crate) fn put_trace<W: ByteOut>(out: &mut W, core: &Core<'_>) -> Result<(), 
     Ok(())
 }
 
-/// Writes the lines of the trace's records, the oldest first.
+/// Writes the lines of the records, the oldest first.
 #[tactic(auto, using(crate::proofs::Known::written_laws))]
 fn put_records<W: ByteOut>(out: &mut W, core: &Core<'_>) -> Result<(), DeviceFault>
     ensures { PutGives result (flat_map (record_line core.now.image) core.now.state.trace) (W.written out.old) (W.written out.new) (W.faults out.old) (W.faults out.new) }

@@ -1,4 +1,4 @@
-//! Requests, and their lines.
+//! Requests, and how they are parsed.
 
 ghost use Rattle.std.specs.Prelude.{◌≡◌, ◌==◌};
 ghost use Rattle.std.specs.List.{before_first, after_first, position};
@@ -11,29 +11,29 @@ use crate::question::{Question, question_in};
 use ifs_base::{LinkState, Number, TestId, parse_number};
 use thiserror::Error;
 
-/// What a line asks for.
+/// A request.
 #[derive(Clone, Copy, PartialEq, Eq)]
 pub(crate) enum Request<'a> {
-    /// The interface of this name has a link state.
+    /// The interface of this name has this link state.
     Link(&'a [u8], LinkState),
-    /// A test's run has ended, with a value.
+    /// A run of a test has ended with this value.
     Result(TestId, u64, bool),
-    /// It is this moment, in seconds.
+    /// The time is this moment, in seconds.
     Tick(u64),
-    /// The first command of the queue is taken.
+    /// Take the first command of the queue.
     Take,
-    /// What the core says of itself.
+    /// A question about the core.
     Question(Question),
-    /// The session ends.
+    /// End the session or the service.
     Stop,
-    /// The image is read anew, which a session does not do.
+    /// Read the image again. A session does not do this.
     Reload,
 }
 
-/// Why a line is no request.
+/// Why a line is not a request that can be done.
 #[derive(Clone, Copy, Debug, PartialEq, Eq, Error)]
 pub enum RequestFault {
-    /// C1: the line has no form of a request.
+    /// C1: the line does not have the form of a request.
     #[error("C1")]
     NoRequest,
     /// C2: the line has over 256 bytes.
@@ -91,7 +91,7 @@ fn word_request(word: &[u8]) -> Result<Request<'_>, RequestFault>
     }
 }
 
-/// The request of a question, if it is one.
+/// The request for a question, if there is one.
 fn question_request<'a>(question: Option<Question>) -> Result<Request<'a>, RequestFault>
     ensures { told_by result ≡ question_asked question }
 {
@@ -101,7 +101,7 @@ fn question_request<'a>(question: Option<Question>) -> Result<Request<'a>, Reque
     }
 }
 
-/// The request of `link` and this text: a name, a space and a link state.
+/// The request of `link` and a text: a name, a space and a link state.
 fn link_request(text: &[u8]) -> Result<Request<'_>, RequestFault>
     ensures { told_by result ≡ link_asked text.now }
 {
@@ -126,7 +126,7 @@ fn named_link(name: &[u8], link: LinkState) -> Result<Request<'_>, RequestFault>
     Ok(Request::Link(name, link))
 }
 
-/// The request of `result` and this text: two numbers, and `ok` or `fail`.
+/// The request of `result` and a text: two numbers, and `ok` or `fail`.
 fn result_request(text: &[u8]) -> Result<Request<'_>, RequestFault>
     ensures { told_by result ≡ result_asked text.now }
 {
@@ -139,7 +139,7 @@ fn result_request(text: &[u8]) -> Result<Request<'_>, RequestFault>
     Err(RequestFault::NoRequest)
 }
 
-/// The request of `tick` and this text: a number.
+/// The request of `tick` and a text: a number.
 fn tick_request(text: &[u8]) -> Result<Request<'_>, RequestFault>
     ensures { told_by result ≡ tick_asked (number_of text.now) }
 {
@@ -150,7 +150,7 @@ fn tick_request(text: &[u8]) -> Result<Request<'_>, RequestFault>
     }
 }
 
-/// The request of a result with this value, by the text of its two numbers.
+/// The request of a result with this value, from the text of its two numbers.
 #[tactic(auto, using(crate::proofs::Numbers::kept_numbers))]
 fn valued_result(numbers: &[u8], value: bool) -> Result<Request<'_>, RequestFault>
     ensures { told_by result ≡ result_valued numbers.now value }
@@ -159,7 +159,7 @@ fn valued_result(numbers: &[u8], value: bool) -> Result<Request<'_>, RequestFaul
     numbered_result(parse_number(test), parse_number(run), value)
 }
 
-/// What stands before the first space, and after it; all and nothing where there is none.
+/// The parts of a text before and after its first space. If there is none, all of it is before.
 fn split_at_space(text: &[u8]) -> (&[u8], &[u8])
     ensures before { result.0.now ≡ before_first (λ byte. byte == 32) text.now }
     ensures after { result.1.now ≡ after_first (λ byte. byte == 32) text.now }
@@ -177,8 +177,7 @@ fn first_space(text: &[u8]) -> Option<usize>
     text.iter().position(|byte| *byte == b' ')
 }
 
-/// The request of a result, by its two numbers. That one of them is no number comes before that one
-/// is out of range.
+/// The request of a result, from its two numbers. A text that is no number is reported before a number out of range.
 fn numbered_result<'a>(
     test: Option<Number>,
     run: Option<Number>,

@@ -1,4 +1,4 @@
-//! Runs of an image that comes as the first line of the input.
+//! Runs of an image that is the first line of the input.
 
 ghost use Rattle.std.specs.Prelude.{◌≡◌, Ok};
 ghost use Rattle.ifs_session.specs.inner.Opening.{ImageGives, LineGives};
@@ -16,22 +16,21 @@ use ifs_core::Core;
 use ifs_verify::verify;
 use std::alloc::Global;
 
-/// Why the first line gives no bytes.
+/// Why the first line cannot be read as bytes.
 #[derive(Clone, Copy, PartialEq, Eq)]
 pub(crate) enum Unopened {
-    /// It is refused.
+    /// The line is refused.
     Refused(Refusal),
     /// A read failed.
     NotRead,
 }
 
-/// Runs an image: the first line of the input has it in lower-case hexadecimal digits, at most
-/// 131,072 and an even number of them; then come request lines, as for `simulate`. The image's line
-/// does not count toward the bytes of requests that are read.
+/// Runs the image of the first line of the input, and then serves request lines as `simulate` does. The first line is an
+/// even number of at most 131,072 lower-case hexadecimal digits. It does not count toward the bytes of requests.
 ///
-/// A line that breaks this rule is refused at the first byte that does, and nothing after it is
-/// read; an image that is not accepted is refused, and so is one for which no memory is found. A
-/// refusal writes its line, or answers that this write failed.
+/// An invalid first line is refused at its first invalid byte, and nothing after that byte is read. An image that the
+/// verifier rejects is refused too, and so is one for which an allocation fails. A refusal writes its line. If that write
+/// fails, the fault is S2.
 pub fn run_hex<R: ByteIn, W: ByteOut>(
     alloc: Global,
     reader: &mut R,
@@ -71,7 +70,7 @@ fn bytes_of_line<R: ByteIn>(alloc: Global, reader: &mut R) -> Result<Items<u8>, 
     }
 }
 
-/// Runs the image that the bytes of the first line spell, over what comes after that line.
+/// Runs the image that bytes spell on the request lines after the first line.
 fn run_image<R: ByteIn, W: ByteOut>(
     alloc: Global,
     bytes: &[u8],

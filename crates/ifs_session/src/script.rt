@@ -1,4 +1,4 @@
-//! A host in memory, for tests: it answers by a script and notes what happened at it.
+//! A host in memory, for tests. It returns results from a script, and logs its events.
 
 ghost use Rattle.std.specs.Prelude.{◌≡◌, ◌+◌, ◌<◌, ◌≤◌, ◌∷◌, [], length, drop, true, None, Some, IfSome, IsSome, OnOk};
 ghost use Rattle.ifs_session.specs.Hosts.{Happening, Adds, ran, launched, polled, RunCounts};
@@ -10,10 +10,10 @@ use ifs_base::{TestId, limits};
 use std::alloc::{AllocError, Allocator, Global};
 use std::marker::Model;
 
-/// The most bytes of a text that is noted.
+/// The most bytes of a text in the log.
 const TEXT: usize = limits::TEXT as usize;
 
-/// A text that a host was given.
+/// The text of a command.
 #[derive(Debug, Drop)]
 pub struct HostText {
     bytes: ArrayVec<u8, TEXT>,
@@ -28,7 +28,7 @@ impl Model for HostText {
 }
 
 impl HostText {
-    /// A copy of this text; `None` where it has over 1,024 bytes.
+    /// A copy of a text. It is `None` if the text has more than 1,024 bytes.
     fn of(text: &str) -> Option<Self>
         ensures copies { IfSome result (λ copy. copy ≡ text.now) }
         ensures fits { length text.now ≤ 1024 → IsSome result }
@@ -48,8 +48,8 @@ impl HostText {
     }
 }
 
-/// A host that starts and runs nothing: it answers polls and runs by a script, and notes what happened
-/// at it, as long as it finds memory for that and no text has over 1,024 bytes.
+/// A host that starts and runs nothing. Its polls and runs return results from a script. It reports its log of events as
+/// long as the log is complete.
 pub struct ScriptHost<A: Allocator = Global> {
     endings: Vec<Option<(TestId, u64, bool)>>,
     next_ending: usize,
@@ -91,8 +91,7 @@ impl<A: Allocator> Model for ScriptHost<A> {
 }
 
 impl<A: Allocator> ScriptHost<A> {
-    /// A host with these answers to polls and to runs. It takes no memory here; its notes take some
-    /// from `alloc`.
+    /// A host with these results of polls and of runs. Its log allocates from `alloc`, but not here.
     pub fn new(
         alloc: A,
         endings: Vec<Option<(TestId, u64, bool)>>,
@@ -111,7 +110,7 @@ impl<A: Allocator> ScriptHost<A> {
         }
     }
 
-    /// Finds memory for so many more notes, which are then sure to be told.
+    /// Reserves memory for `notes` more events of the log.
     pub fn reserve(&mut self, notes: usize) -> Result<(), AllocError>
         ensures room { OnOk result (length self.new.log + notes ≤ self.new.room) }
         ensures same { self.new ≡ record { endings = self.old.endings; statuses = self.old.statuses; log = self.old.log; room = self.new.room; whole = self.old.whole; faults = self.old.faults } }
@@ -119,22 +118,22 @@ impl<A: Allocator> ScriptHost<A> {
         self.events.reserve(notes)
     }
 
-    /// Whether all was noted: it becomes false with the first note for which no memory was found, or
-    /// whose text is too long, and stays so.
+    /// Whether the log is complete. It is false from the first event whose allocation failed or whose text has more than
+    /// 1,024 bytes.
     pub fn whole(&self) -> bool
         ensures { result ≡ self.now.whole }
     {
         self.whole
     }
 
-    /// What happened, in order, what was not noted left out.
+    /// The events of the log, in order.
     pub fn events(&self) -> &[HostEvent<HostText>]
         ensures { result.now ≡ self.now.log }
     {
         self.events.as_slice()
     }
 
-    /// Notes what happened. Where there is room for one more note, it goes on telling.
+    /// Adds an event to the log.
     fn note(&mut self, event: HostEvent<HostText>)
         ensures log { Adds (event ∷ []) (told_whole self.old.whole self.old.log) (told_whole self.new.whole self.new.log) }
         ensures tells { length self.old.log < self.old.room → self.new.whole ≡ self.old.whole }
@@ -148,7 +147,7 @@ impl<A: Allocator> ScriptHost<A> {
         self.whole = self.whole && noted;
     }
 
-    /// The next status of the script, and 0 after its last.
+    /// The next status of the script, or 0 after its last.
     fn next_run(&mut self) -> Result<i32, HostFault>
         ensures next { result ≡ next_status self.old.statuses }
         ensures statuses { self.new.statuses ≡ drop 1 self.old.statuses }
@@ -180,7 +179,7 @@ impl<A: Allocator> Host for ScriptHost<A> {
         ensures counts { Some self.new.faults ≡ Some self.old.faults }
         ensures endings { self.new.endings ≡ self.old.endings }
         ensures statuses { self.new.statuses ≡ self.old.statuses }
-        // Where there is room for one more note, it goes on telling.
+        // With room for one more event the log stays complete.
         ensures tells { length text.now ≤ 1024 → length self.old.log < self.old.room → self.new.whole ≡ self.old.whole }
         ensures room { self.old.room ≤ self.new.room }
         ensures grows { length self.new.log ≤ length self.old.log + 1 }
@@ -191,14 +190,14 @@ impl<A: Allocator> Host for ScriptHost<A> {
         }
     }
 
-    /// The next answer of the script, and `None` after its last.
+    /// The next result of the script, or `None` after its last.
     fn poll(&mut self) -> Option<(TestId, u64, bool)>
         ensures log { Adds (polled result) (told_whole self.old.whole self.old.log) (told_whole self.new.whole self.new.log) }
         ensures counts { Some self.new.faults ≡ Some self.old.faults }
         ensures next { result ≡ next_ending self.old.endings }
         ensures endings { self.new.endings ≡ drop 1 self.old.endings }
         ensures statuses { self.new.statuses ≡ self.old.statuses }
-        // Where there is room for one more note, it goes on telling.
+        // With room for one more event the log stays complete.
         ensures tells { length self.old.log < self.old.room → self.new.whole ≡ self.old.whole }
         ensures room { self.old.room ≤ self.new.room }
         ensures grows { length self.new.log ≤ length self.old.log + 1 }
@@ -214,14 +213,14 @@ impl<A: Allocator> Host for ScriptHost<A> {
         answer
     }
 
-    /// The next status of the script, and 0 after its last.
+    /// The next status of the script, or 0 after its last.
     fn run(&mut self, text: &str) -> Result<i32, HostFault>
         ensures log { Adds (ran (text.now ∷ [])) (told_whole self.old.whole self.old.log) (told_whole self.new.whole self.new.log) }
         ensures counts { RunCounts result (Some self.old.faults) (Some self.new.faults) }
         ensures next { result ≡ next_status self.old.statuses }
         ensures statuses { self.new.statuses ≡ drop 1 self.old.statuses }
         ensures endings { self.new.endings ≡ self.old.endings }
-        // Where there is room for one more note, it goes on telling.
+        // With room for one more event the log stays complete.
         ensures tells { length text.now ≤ 1024 → length self.old.log < self.old.room → self.new.whole ≡ self.old.whole }
         ensures room { self.old.room ≤ self.new.room }
         ensures grows { length self.new.log ≤ length self.old.log + 1 }

@@ -1,4 +1,4 @@
-//! One served connection: requests of a client, ends of tests and commands, in one order.
+//! One served connection: requests of a client, ends of tests, and commands, in one order.
 
 ghost use Rattle.std.specs.Prelude.{◌≡◌, ◌≢◌, ◌+◌, ◌-◌, ◌<◌, ◌≤◌, ◌∷◌, [], List, All, length, map, None, Some, IfOk};
 ghost use Rattle.std.specs.Prelude.{IfSome, IsOk, MatchResult};
@@ -33,22 +33,22 @@ use ifs_sched::Start;
 /// The most steps of a connection.
 pub(crate) const STEPS: usize = 512;
 
-/// The most places that a step and the taking of all commands after it want.
+/// The most steps that one step needs, with the taking of all commands after it.
 const PLACES_OF_STEP: usize = 65;
 
 /// Why a connection ended.
 #[derive(Clone, Copy, Debug, PartialEq, Eq)]
 pub enum End {
-    /// The input was at its end.
+    /// The input ended.
     Closed,
-    /// The last line asked for the end of the service.
+    /// The last line was `stop`.
     Stop,
-    /// The last line asked for the image to be read anew. Nothing was written for it; what came of it is
-    /// told by who reads the image, as with `write_reloaded`.
+    /// The last line was `reload`. Nothing was written for it. The caller reads the image again and writes the reply, as
+    /// with `write_reloaded`.
     Reload,
-    /// Fewer than 65 places for steps were left.
+    /// There was room for fewer than 65 more steps.
     Full,
-    /// A read or a write failed, or too much was read.
+    /// A read or a write failed, or the input was too long.
     Fault(SessionFault),
 }
 
@@ -59,24 +59,24 @@ pub struct Served {
     pub steps: ArrayVec<Step, STEPS>,
     /// Why it ended.
     pub end: End,
-    /// Whether the last line that was read asked for the end of the service, also where its reply could
-    /// not be written.
+    /// Whether the last line was `stop`, also if its reply could not be written.
     pub stopped: bool,
 }
 
-/// Serves one connection. The queue is emptied: each command is taken and its text run by the host.
-/// Then, for one request line after the other: the host is polled while it answers ends of tests and at
-/// least 130 places for steps are free, and each is made a step, after which the queue is emptied; the
-/// step of the line is made, the tests that it starts are told to the host, and the queue is emptied;
-/// and the reply is written. It has gone out before the next line is waited for.
+/// Serves one connection. It first empties the queue: it takes each command, and the host runs its text. Then it serves one
+/// request line after another, each in these parts:
 ///
-/// A client cannot take commands nor tell results of tests: `take` and `result` are no requests here.
+/// 1. It polls the host while the host reports ends of tests and there is room for at least 130 steps. Each end becomes a
+///    step, after which the queue is emptied.
+/// 2. It makes the step of the line, starts the step's tests at the host, and empties the queue.
+/// 3. It writes the reply, which is flushed before the next line is waited for.
 ///
-/// It ends at the end of input; with `stop`, once the reply to it has gone out; with `reload`, for which
-/// the host is polled as before other lines, no step is made and nothing is written; after a line that
-/// leaves fewer than 65 places for steps; where a read or a write fails; and at byte 16,777,217. Nothing
-/// behind its last line is read. A line `reload` that was read always ends it with `End::Reload`: what was
-/// written before has gone out by then, so there is no write after it that could fail.
+/// A client cannot take commands or report results of tests: `take` and `result` are not requests here.
+///
+/// The connection ends at the end of input, and with `stop` once its reply has gone out. It ends with `reload`: the host is
+/// polled as before other lines, no step is made, and nothing is written. It ends after a line that leaves room for fewer
+/// than 65 steps, if a read or a write fails, and if there is a byte 16,777,217. Nothing after its last line is read. A line
+/// `reload` that was read always ends it with `End::Reload`: no write that could fail comes after it.
 pub fn serve_one<H: Host, R: ByteIn, W: ByteOut>(
     core: &mut Core<'_>,
     host: &mut H,
@@ -84,7 +84,7 @@ pub fn serve_one<H: Host, R: ByteIn, W: ByteOut>(
     writer: &mut W,
 ) -> Served
     ensures image { core.new.image ≡ core.old.image }
-    // The core is the one before with the steps made, and none of them was answered `Busy`.
+    // The core has made exactly these steps, and the reply to none of them is `Busy`.
     ensures made { (b : Behaviour) → IsBehaviour core.old.image b → core.new.state ≡ after_steps b core.old.image.budgets.commands result.steps.items core.old.state }
     ensures never_busy { (b : Behaviour) → IsBehaviour core.old.image b → All (λ reply. reply ≢ Reply.Busy) (replies b core.old.image.budgets.commands result.steps.items core.old.state) }
     ensures full { result.end ≡ End.Full → 447 < length result.steps.items }
@@ -102,37 +102,37 @@ pub fn serve_one<H: Host, R: ByteIn, W: ByteOut>(
     }
 }
 
-/// How the lines of a connection came to their end.
+/// How a connection ended.
 #[derive(Clone, Copy, PartialEq, Eq)]
 pub(crate) struct Close {
-    /// Why they did.
+    /// Why it ended.
     pub end: End,
-    /// Whether the last of them asked for the end of the service.
+    /// Whether the last line was `stop`.
     pub stopped: bool,
 }
 
-/// Why the next line was not served to its end.
+/// Why the next line was not served.
 #[derive(Clone, Copy, PartialEq, Eq)]
 pub(crate) struct Break {
     /// What failed.
     pub fault: SessionFault,
-    /// Whether the line was read and asked for the end of the service.
+    /// Whether the line was read and was `stop`.
     pub stopped: bool,
 }
 
-/// What a line asks of its connection.
+/// What follows a line.
 #[derive(Clone, Copy, PartialEq, Eq)]
 pub(crate) enum Leave {
-    /// To go on, as all lines do but `stop` and `reload`.
+    /// The connection goes on, as after all lines except `stop` and `reload`.
     Stays,
-    /// To end, and the service with it.
+    /// The connection and the service end.
     Stops,
-    /// To end, for the image to be read anew.
+    /// The connection ends, and the image is read again.
     Reloads,
 }
 
 impl Leave {
-    /// Whether the service is to end.
+    /// Whether the service ends.
     fn is_stop(self) -> bool
         ensures { result ≡ stops_by self }
     {
@@ -143,13 +143,13 @@ impl Leave {
 /// A line that was served.
 #[derive(Clone, Copy, PartialEq, Eq)]
 pub(crate) struct ServedLine {
-    /// What it asked of the connection.
+    /// What follows it.
     pub leave: Leave,
-    /// Whether a newline ends it; else the input does.
+    /// Whether a newline ends it. Otherwise the input ends it.
     pub is_ended: bool,
 }
 
-/// Serves the lines of a connection, and adds the steps.
+/// Serves the lines of a connection, and appends the steps.
 fn serve_lines<H: Host, R: ByteIn, W: ByteOut>(
     core: &mut Core<'_>,
     host: &mut H,
@@ -194,7 +194,7 @@ fn serve_lines<H: Host, R: ByteIn, W: ByteOut>(
     }
 }
 
-/// The end after a line, where so many steps were made; `None` where another line is to be read.
+/// The end after a line when `steps` steps have been made. It is `None` if the connection goes on.
 fn end_after(line: ServedLine, steps: usize) -> Option<End>
     requires { steps ≤ 512 }
     ensures { result ≡ end_of line steps }
@@ -208,8 +208,7 @@ fn end_after(line: ServedLine, steps: usize) -> Option<End>
     }
 }
 
-/// This end, once what was written has gone out. At a reload it has already, and nothing is asked of the
-/// writer.
+/// Flushes the writer and returns the end. At a reload the writer holds nothing back, and is not used.
 fn flushed<W: ByteOut>(writer: &mut W, end: End) -> End
     requires { end ≡ End.Reload → HoldsNothing (W.held writer.old) }
     ensures ends { FlushGives end result (W.written writer.old) (W.written writer.new) (W.faults writer.old) (W.faults writer.new) }
@@ -224,7 +223,7 @@ fn flushed<W: ByteOut>(writer: &mut W, end: End) -> End
     }
 }
 
-/// Reads the next line, once what was written has gone out, and serves it.
+/// Flushes the writer, reads the next line, and serves it.
 fn next_exchange<H: Host, R: ByteIn, W: ByteOut>(
     core: &mut Core<'_>,
     host: &mut H,
@@ -271,7 +270,7 @@ fn next_exchange<H: Host, R: ByteIn, W: ByteOut>(
     }
 }
 
-/// What breaks where the reply to this could not be written.
+/// The failure to write the reply to a line.
 fn unanswered(asked: Result<Request<'_>, RequestFault>) -> Break
     ensures { result ≡ record { fault = SessionFault.WriteFailed; stopped = is_stop (told_by asked.entry) } }
 {
@@ -281,7 +280,7 @@ fn unanswered(asked: Result<Request<'_>, RequestFault>) -> Break
     }
 }
 
-/// Polls the host for ends of tests, and makes each a step, after which the queue is emptied.
+/// Polls the host for ends of tests. Each becomes a step, after which the queue is emptied.
 fn hear_endings<H: Host>(
     core: &mut Core<'_>,
     host: &mut H,
@@ -300,7 +299,7 @@ fn hear_endings<H: Host>(
     }
 }
 
-/// Polls the host where at least 130 places are left beside so many steps; `None` where fewer are.
+/// Polls the host if there is room for at least 130 steps after `steps`. Otherwise returns `None`.
 fn next_ending<H: Host>(host: &mut H, steps: usize) -> Option<(TestId, u64, bool)>
     requires { steps ≤ 512 }
     ensures few { 512 - steps < 130 → result ≡ None }
@@ -313,7 +312,7 @@ fn next_ending<H: Host>(host: &mut H, steps: usize) -> Option<(TestId, u64, bool
     host.poll()
 }
 
-/// Makes a step, tells the host the tests that it starts, and empties the queue.
+/// Makes a step, starts its tests at the host, and empties the queue.
 fn make<H: Host>(
     core: &mut Core<'_>,
     host: &mut H,
@@ -340,7 +339,7 @@ fn make<H: Host>(
     outcome
 }
 
-/// Tells the host the tests that a step starts, if it does.
+/// Starts the tests of a step at the host.
 fn tell_starts<H: Host>(core: &Core<'_>, host: &mut H, outcome: Outcome, lists: &Lists)
     ensures { Adds (launched (launches_told core.now.image (reply_of outcome lists.now))) (H.told host.old) (H.told host.new) }
 {
@@ -349,7 +348,7 @@ fn tell_starts<H: Host>(core: &Core<'_>, host: &mut H, outcome: Outcome, lists: 
     }
 }
 
-/// Tells the host the tests that start.
+/// Starts tests at the host.
 fn start_tests<H: Host>(core: &Core<'_>, host: &mut H, starts: &[Start])
     ensures { Adds (launched (map (launch_of core.now.image) starts.now)) (H.told host.old) (H.told host.new) }
 {
@@ -359,7 +358,7 @@ fn start_tests<H: Host>(core: &Core<'_>, host: &mut H, starts: &[Start])
     }
 }
 
-/// Makes the step that is asked for, if one is, and writes the reply; where a reload is asked for, nothing.
+/// Makes the step of a line, if it has one, and writes the reply. A reload has none.
 fn answer<H: Host, W: ByteOut>(
     core: &mut Core<'_>,
     host: &mut H,
@@ -406,8 +405,7 @@ fn answer_step<H: Host, W: ByteOut>(
     reply(core, host, lists, writer, outcome)
 }
 
-/// Writes the reply to a step, once the host was told the tests that it starts and ran the commands
-/// after that.
+/// Writes the reply to a step, after the host started its tests and ran its commands.
 fn reply<H: Host, W: ByteOut>(
     core: &Core<'_>,
     _host: &H,
@@ -423,7 +421,7 @@ fn reply<H: Host, W: ByteOut>(
     put_reply(writer, core, outcome, lists)
 }
 
-/// The step that is asked for, if one is.
+/// The step of a line, if it has one.
 fn step_of(core: &Core<'_>, asked: Result<Request<'_>, RequestFault>) -> Option<Step>
     ensures { result ≡ step_asked core.now.image (told_by asked.entry) }
 {
@@ -437,7 +435,7 @@ fn step_of(core: &Core<'_>, asked: Result<Request<'_>, RequestFault>) -> Option<
     }
 }
 
-/// Writes the reply to what asks for no step; where it is a reload, nothing.
+/// Writes the reply to a line without a step. For a reload it writes nothing.
 fn tell<W: ByteOut>(
     core: &Core<'_>,
     writer: &mut W,
@@ -458,7 +456,7 @@ fn tell<W: ByteOut>(
     }
 }
 
-/// What this asks of the connection.
+/// What follows a line with this request.
 fn leave_asked(asked: Result<Request<'_>, RequestFault>) -> Leave
     ensures { result ≡ leave_of (told_by asked.entry) }
 {
@@ -469,7 +467,7 @@ fn leave_asked(asked: Result<Request<'_>, RequestFault>) -> Leave
     }
 }
 
-/// Whether this asks for the end of the service.
+/// Whether a line is `stop`.
 fn asks_stop(asked: Result<Request<'_>, RequestFault>) -> bool
     ensures { result ≡ is_stop (told_by asked.entry) }
 {

@@ -18,47 +18,46 @@ use crate::request::{Request, RequestFault, request_of};
 use ifs_base::LinkState;
 use ifs_core::{Core, Lists, Step};
 
-/// The most bytes of requests that a session reads.
+/// The most bytes of requests that a session or a connection reads.
 pub(crate) const INPUT: u32 = 16_777_216;
 
-/// How a session went that no fault ended.
+/// How a session went that did not fail.
 #[derive(Clone, Copy, Debug, PartialEq, Eq)]
 pub struct Summary {
     /// How many lines were read.
     pub requests: u32,
     /// How many of them were steps.
     pub steps: u32,
-    /// Whether the last was `stop`.
+    /// Whether the last line was `stop`.
     pub stopped: bool,
 }
 
-/// What a line was.
+/// The kind of a line.
 #[derive(Clone, Copy, PartialEq, Eq)]
 pub(crate) enum LineKind {
     /// A step of the core.
     Step,
-    /// A question, or no request.
+    /// A question, or a line that is refused.
     Other,
-    /// The end of the session.
+    /// The request `stop`.
     Stop,
 }
 
 /// A line that was served.
 #[derive(Clone, Copy, PartialEq, Eq)]
 pub(crate) struct Served {
-    /// What it was.
+    /// Its kind.
     pub kind: LineKind,
-    /// Whether a newline ends it; else the input does.
+    /// Whether a newline ends it. Otherwise the input ends it.
     pub is_ended: bool,
 }
 
-/// Serves request lines until `stop`, whose rest is left unread, or to the end of input: makes their
-/// steps and writes their replies, one after the other. Each reply has gone out before the next
-/// line is waited for. The line `reload` is no request here, and is answered `fault C1`.
+/// Serves request lines until `stop` or the end of input: makes their steps and writes their replies, in order. Input after
+/// `stop` is left unread. Each reply is flushed before the next line is waited for. The reply to `reload` is `fault C1`.
 ///
-/// It fails where a read or a write fails, and at byte 16,777,217. The core then stands after the
-/// steps made. A read that fails, and too much input, leave the replies to the whole lines before,
-/// which have gone out; a write that fails leaves open how much of its reply went out.
+/// It fails if a read or a write fails, and if there is a byte 16,777,217. The core keeps the steps that were made. If a
+/// read fails or the input is too long, the replies to the whole lines before have gone out. If a write fails, any part of
+/// its reply may have gone out.
 pub fn simulate<R: ByteIn, W: ByteOut>(
     core: &mut Core<'_>,
     reader: &mut R,
@@ -90,8 +89,7 @@ pub fn simulate<R: ByteIn, W: ByteOut>(
     }
 }
 
-/// Serves the next line; `None` at the end of input. A line that stands whole among the bytes at hand
-/// is served from where it stands.
+/// Serves the next line. Returns `None` at the end of input. A whole line at hand is served in place.
 fn serve_next<R: ByteIn, W: ByteOut>(
     core: &mut Core<'_>,
     lists: &mut Lists,
@@ -121,8 +119,7 @@ fn serve_next<R: ByteIn, W: ByteOut>(
     }
 }
 
-/// Reads the next line byte by byte, once what was written has gone out, and serves it; `None` at the
-/// end of input.
+/// Flushes the writer, reads the next line byte by byte, and serves it. Returns `None` at the end of input.
 #[cold]
 #[inline(never)]
 fn serve_read<R: ByteIn, W: ByteOut>(
@@ -167,7 +164,7 @@ fn count(summary: &mut Summary, kind: LineKind)
     }
 }
 
-/// Serves what a line asks for, and says of what kind the line was.
+/// Serves the request of a line, and returns the kind of the line.
 fn serve<W: ByteOut>(
     core: &mut Core<'_>,
     lists: &mut Lists,
@@ -188,7 +185,7 @@ fn serve<W: ByteOut>(
     }
 }
 
-/// Serves a request, and says of what kind it was.
+/// Serves a request, and returns the kind of its line.
 fn serve_request<W: ByteOut>(
     core: &mut Core<'_>,
     lists: &mut Lists,
@@ -225,7 +222,7 @@ fn serve_request<W: ByteOut>(
     }
 }
 
-/// Serves a request for the link state of the interface of this name.
+/// Serves the request that reports a link state.
 fn serve_link<W: ByteOut>(
     core: &mut Core<'_>,
     lists: &mut Lists,
@@ -247,7 +244,7 @@ fn serve_link<W: ByteOut>(
     }
 }
 
-/// Makes a step, whose lists go into the place that is lent, and writes its reply.
+/// Makes a step, whose lists go into `lists`, and writes its reply.
 fn make_step<W: ByteOut>(
     core: &mut Core<'_>,
     lists: &mut Lists,

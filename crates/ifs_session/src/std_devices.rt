@@ -1,4 +1,4 @@
-//! Devices over the readers and writers of std.
+//! Devices over readers and writers of std.
 
 ghost use Rattle.std.specs.Prelude.{◌≡◌, ℕ, ◌≤◌, [], ◌∷◌, length, None, Some, MatchOption, IfOk, OnOk, OnErr};
 ghost use Rattle.std.specs.Io.KnownBytes.{Keeps, IsAtEnd, ReadConsumes};
@@ -7,15 +7,14 @@ ghost use Rattle.ifs_session.specs.Device.{NextGives};
 use crate::device::{ByteIn, ByteOut, DeviceFault};
 use std::io::{ErrorKind, Read, Write};
 
-/// How many bytes a reader asks for at once.
+/// The most bytes of one read.
 const BUFFER: usize = 65_536;
 
-/// How often a read is tried again that was interrupted.
+/// The most tries of a read that is interrupted.
 const TRIES: u32 = 1000;
 
-/// A reader of bytes over one of std, with a buffer of 65,536 bytes. It tells the bytes that stand in
-/// its buffer, which can be read without waiting, and where that reader tells its own, all that are
-/// left.
+/// A reader of bytes over a reader of std, with a buffer of 65,536 bytes. The bytes in its buffer can be read without
+/// waiting. It reports the bytes that are left if the reader of std does.
 #[derive(Debug, Drop)]
 pub struct FromRead<R> {
     reader: R,
@@ -28,7 +27,7 @@ pub struct FromRead<R> {
 impl<R: Read> FromRead<R> {
     ghost use Rattle.ifs_session.specs.Buffer.{buffered, left_over};
 
-    /// Over this reader, with an empty buffer.
+    /// A reader over `reader`, with an empty buffer.
     pub fn new(reader: R) -> Self
         ensures buffer { buffered result ≡ [] }
         ensures left { left_over R.remaining result ≡ R.remaining reader }
@@ -48,7 +47,7 @@ impl<R: Read> FromRead<R> {
         &self.buffer[self.start..self.end]
     }
 
-    /// Takes the first byte out of the buffer, if there is one.
+    /// Removes the first byte of the buffer, if there is one.
     fn pop(&mut self) -> Option<u8>
         ensures gives { MatchOption result ((buffered self.old ≡ []) × (buffered self.new ≡ [])) (λ byte. buffered self.old ≡ byte ∷ buffered self.new) }
         ensures reader { self.new.reader ≡ self.old.reader }
@@ -61,7 +60,7 @@ impl<R: Read> FromRead<R> {
         Some(byte)
     }
 
-    /// The next byte after the buffer, which is empty, is filled anew. It stands apart, so that `next` is short.
+    /// Fills the empty buffer, and returns its first byte. It is a function of its own to keep `next` short.
     #[cold]
     #[inline(never)]
     fn refilled(&mut self) -> Result<Option<u8>, DeviceFault>
@@ -72,7 +71,7 @@ impl<R: Read> FromRead<R> {
         Ok(self.pop())
     }
 
-    /// Fills the buffer, which is empty, with what one read gives.
+    /// Fills the empty buffer by one read.
     fn fill(&mut self) -> Result<(), DeviceFault>
         requires { buffered self.old ≡ [] }
         ensures kept { Keeps (left_over R.remaining self.old) (left_over R.remaining self.new) }
@@ -86,7 +85,7 @@ impl<R: Read> FromRead<R> {
     }
 }
 
-/// Reads into a buffer. A read that was interrupted is tried again, up to 1,000 times.
+/// Reads into a buffer. A read that is interrupted is tried again, up to 1,000 times in all.
 fn read_some<R: Read>(reader: &mut R, buffer: &mut [u8; BUFFER]) -> Result<usize, DeviceFault>
     ensures within { IfOk result (λ count. count ≤ BUFFER) }
     ensures bytes { ReadConsumes (R.remaining reader.old) (R.remaining reader.new) result buffer.new }
@@ -125,14 +124,14 @@ impl<R: Read> ByteIn for FromRead<R> {
     }
 }
 
-/// A writer of bytes over one of std. It has no buffer of its own, and tells nothing.
+/// A writer of bytes over a writer of std. It has no buffer, and reports nothing.
 #[derive(Debug, Drop)]
 pub struct ToWrite<W> {
     writer: W,
 }
 
 impl<W: Write> ToWrite<W> {
-    /// Over this writer.
+    /// A writer over `writer`.
     pub fn new(writer: W) -> Self {
         ToWrite { writer }
     }

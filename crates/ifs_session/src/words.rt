@@ -1,4 +1,4 @@
-//! Words of replies, written piece by piece: numbers, quoted texts and lists.
+//! Parts of replies: numbers, quoted texts and lists.
 
 ghost use Rattle.std.specs.Prelude.{◌≡◌, ◌<◌, ◌≤◌, [], ◌∷◌, ◌++◌, length, take, decimal, map};
 ghost use Rattle.std.specs.Bool.{OnTrue};
@@ -28,7 +28,7 @@ fn digit(number: u8) -> u8
     b'0' + number
 }
 
-/// Writes words and a number.
+/// Writes words and then a number.
 #[tactic(auto, using(crate::proofs::Known::written_laws))]
 #[inline(always)]
 pub(crate) fn put_numbered<W: ByteOut>(
@@ -53,8 +53,7 @@ pub(crate) fn put_quoted<W: ByteOut>(out: &mut W, text: &[u8]) -> Result<(), Dev
     Ok(())
 }
 
-/// Writes what stands between the quotes of a quoted text: bytes that stand there as they are in runs,
-/// and the others one by one.
+/// Writes the inside of a quoted text. Bytes without an escape are written in runs, and the others one by one.
 #[tactic(auto, using(crate::proofs::Known::written_laws))]
 fn put_escaped<W: ByteOut>(out: &mut W, text: &[u8]) -> Result<(), DeviceFault>
     ensures { PutGives result (flat_map quoted_byte text.now) (W.written out.old) (W.written out.new) (W.faults out.old) (W.faults out.new) }
@@ -71,7 +70,7 @@ fn put_escaped<W: ByteOut>(out: &mut W, text: &[u8]) -> Result<(), DeviceFault>
     }
 }
 
-/// How many bytes at the front of a text stand in quotes as they are.
+/// The length of the front of a text that needs no escape in quotes.
 fn plain_length(text: &[u8]) -> usize
     ensures within { result ≤ length text.now }
     ensures plain { flat_map quoted_byte (take result text.now) ≡ take result text.now }
@@ -84,14 +83,14 @@ fn plain_length(text: &[u8]) -> usize
     text.len()
 }
 
-/// Whether a byte stands in quotes as it is.
+/// Whether a byte needs no escape in quotes.
 fn is_plain(byte: u8) -> bool
     ensures { OnTrue result (quoted_byte byte ≡ byte ∷ []) }
 {
     matches!(quote_byte(byte), QuotedByte::Plain(_))
 }
 
-/// Writes a byte as it stands in a quoted text.
+/// Writes a byte of a quoted text, escaped if needed.
 fn put_quoted_byte<W: ByteOut>(out: &mut W, byte: u8) -> Result<(), DeviceFault>
     ensures { PutGives result (quoted_byte byte) (W.written out.old) (W.written out.new) (W.faults out.old) (W.faults out.new) }
 {
@@ -102,7 +101,7 @@ fn put_quoted_byte<W: ByteOut>(out: &mut W, byte: u8) -> Result<(), DeviceFault>
     }
 }
 
-/// Writes the numbers of commands, with commas between them; a dash where there is none.
+/// Writes the numbers of commands, separated by commas, or a dash if there are none.
 pub(crate) fn put_commands<W: ByteOut>(
     out: &mut W,
     commands: &[CommandId],
