@@ -1,4 +1,4 @@
--- Accounts: each thing that is done carries them on.
+-- Accounts: each action changes them by its function.
 use Rattle.std.proofs.Common.{◌≡◌, ℕ, ◌-◌, Bool, true, false, cond, nat_lt, ◌<◌, ◌≤◌, length, List, [], ◌∷◌, ◌++◌}
 use Rattle.std.proofs.Common.{Option, Some, None, refl, sym, ap, ◌∙◌, subst, arith}
 use Rattle.std.proofs.lemmas.Bool.Decides.{nat_tests}
@@ -14,7 +14,7 @@ use Rattle.ifs_session.specs.Accounts.{emptied, acted, heard, heard_out, run_end
 use Rattle.ifs_session.specs.inner.Connections.{Progress, HasComeTo, Carries, HasFollowed}
 use Rattle.ifs_session.proofs.Logs.{adds_both}
 
--- A step was made, and its starts were told.
+-- A step was made, and the host started its tests.
 pub makes : (b : Behaviour) (image : ImageParts) (step : Step) (origin : Option HostLog) (a : Account) (before : Progress) (state : CoreState) (reply : Reply) (told : Option HostLog)
     → HasComeTo origin a before → state ≡ (turn b image.budgets.commands step before.state).next → reply ≡ (turn b image.budgets.commands step before.state).reply
     → Adds (launched (launches_told image reply)) before.told told
@@ -26,7 +26,7 @@ makes b image step origin a before state reply told h next is starts = record {
       (subst (λ r. Adds (launched (launches_told image r)) before.told told) (is ∙ ap (λ s. (turn b image.budgets.commands step s).reply) h.state_is) starts);
 }
 
--- The tests that a step starts were told, and then the texts of commands were run.
+-- The host started the tests of a step, and then ran the texts of commands.
 pub followed : (image image' : ImageParts) (reply : Reply) (texts : List (List ℕ)) (earlier between told : Option HostLog) → image' ≡ image
     → Adds (launched (launches_told image reply)) earlier between → Adds (ran texts) between told → HasFollowed image' reply told
 followed image image' reply texts earlier between told same starts runs = record {
@@ -79,14 +79,14 @@ heard_by : (few : Bool) (origin : Option HostLog) (a : Account) (before : Progre
 heard_by true origin a before told is h unasked asked = record { state_is = h.state_is; steps_are = h.steps_are; told_is = subst (Adds a.log origin) (sym (unasked (is_few _ is))) h.told_is }
 heard_by false origin a before told is h unasked asked = hears origin a before None told h (asked (is_many _ is))
 
--- The host was polled to the end, or too few places are free.
+-- The host was polled to the end, or there is too little room.
 pub heard_no_more : (origin : Option HostLog) (a : Account) (before : Progress) (told : Option HostLog) → HasComeTo origin a before
     → (512 - length before.steps < 130 → told ≡ before.told) → (130 ≤ 512 - length before.steps → Adds (polled None) before.told told)
     → HasComeTo origin (heard_out a) (record { state = before.state; steps = before.steps; told = told })
 heard_no_more origin a before told h unasked asked =
     heard_by (nat_lt (512 - length a.steps) 130) origin a before told (ap (λ steps. nat_lt (512 - length steps) 130) h.steps_are) h unasked asked
 
--- The host answered one more end of a test, and its step was made.
+-- A poll returned one more end of a test, and its step was made.
 pub hear_more : (b : Behaviour) (image image' : ImageParts) (endings : List Ending) (e : Ending) (start before after : Progress) (told : Option HostLog) → image' ≡ image
     → Carries (runs_ended b image endings) start before → Adds (polled (Some e)) before.told told
     → Carries (acted b image' (Some (Finished e.0 e.1 e.2))) (record { state = before.state; steps = before.steps; told = told }) after
@@ -96,7 +96,7 @@ hear_more b image image' endings e start before after told same so_far answer mo
     (subst (λ i. HasComeTo origin (run_ended b i e (runs_ended b image endings a)) after) same
     (more origin _ (hears origin (runs_ended b image endings a) before (Some e) told (so_far origin a h) answer)))
 
--- ---- what was written stays
+-- ---- what was written
 
 ended_said : (b : Behaviour) (image : ImageParts) (endings : List Ending) (a : Account) → (runs_ended b image endings a).said ≡ a.said
 ended_said b image [] a = refl
@@ -110,7 +110,7 @@ acted_said : (b : Behaviour) (image : ImageParts) (wanted : Option Step) (a : Ac
 acted_said b image None a = refl
 acted_said b image (Some step) a = refl
 
--- Nothing is written while an exchange is attended to.
+-- The steps of an exchange write nothing.
 pub attended_said : (b : Behaviour) (image : ImageParts) (exchange : Exchange) (a : Account) → (attended b image exchange a).said ≡ a.said
 attended_said b image exchange a =
     acted_said b image _ (listened b image exchange a)
@@ -121,6 +121,6 @@ not_few : (w : Bool) (steps : ℕ) (answer : Option Ending) (e : Ending) → nat
 not_few true steps answer e w few is = let none = few (is_few steps w) in cc
 not_few false steps answer e w few is = is_many steps w
 
--- Where an end of a test was answered, enough places are free.
+-- If a poll returned the end of a test, there is enough room.
 pub room_asked : (steps : ℕ) (answer : Option Ending) (e : Ending) → (512 - steps < 130 → answer ≡ None) → answer ≡ Some e → 130 ≤ 512 - steps
 room_asked steps answer e few is = not_few (nat_lt (512 - steps) 130) steps answer e refl few is

@@ -1,4 +1,4 @@
--- A line that was read: the host was heard, and what it asks was done and replied to.
+-- A line that was read: the host was polled, and the line was done and replied to.
 use Rattle.std.proofs.Common.{◌≡◌, ◌≢◌, ℕ, Bool, false, List, [], Option, None, Err, refl, sym, ap, ◌∙◌, subst}
 use Rattle.std.specs.Io.KnownBytes.{append_known}
 use Rattle.ifs_image.specs.declared.parts.ImageParts.{ImageParts}
@@ -29,12 +29,12 @@ not_read b ReadFailed before after (text, r) o idle = (text, r, o, idle, refl)
 not_read b TooMuchInput before after (text, byte, r) o idle = (text, byte, r, o, idle, refl)
 not_read b WriteFailed before after r o idle = absurd r
 
--- No reply was written.
+-- The reply could not be written.
 pub no_reply : (b : Behaviour) (broken : Break) (stop : Bool) (before after : ConnectionPoint) → broken ≡ record { fault = WriteFailed; stopped = stop }
     → ExchangeFails b WriteFailed stop before after → ExchangeFails b broken.fault broken.stopped before after
 no_reply b broken stop before after is fails = subst (λ x. ExchangeFails b x.fault x.stopped before after) (sym is) fails
 
--- A reload makes no step.
+-- `reload` makes no step.
 pub no_step : (image : ImageParts) (a : Asked) → leave_of a ≡ leaves.Reloads → step_asked image a ≡ None
 no_step image (ALink name link) h = cc
 no_step image (AResult test run value) h = cc
@@ -45,7 +45,7 @@ no_step image AStop h = cc
 no_step image AReload h = refl
 no_step image (AFault fault) h = cc
 
--- What is no reload leaves a connection as a write that fails says.
+-- Except for `reload`, a failed write changes nothing about what follows a line.
 pub left_unanswered : (a : Asked) → leave_of a ≢ leaves.Reloads → left_by (Fault WriteFailed) (is_stop a) ≡ leave_of a
 left_unanswered (ALink name link) h = refl
 left_unanswered (AResult test run value) h = refl
@@ -56,7 +56,7 @@ left_unanswered AStop h = refl
 left_unanswered AReload h = absurd (h refl)
 left_unanswered (AFault fault) h = refl
 
--- It was attended to.
+-- The line was done.
 pub exchange_attended : (b : Behaviour) (text : List ℕ) (ended : Bool) (leave : Leave) (endings : List Ending) (before after : ConnectionPoint) (middle : Progress) (image : ImageParts) (a : Asked)
     → ReadsText text ended (taken_in before) (taken_in after) → image ≡ before.moment.core.image → after.moment.core.image ≡ image → a ≡ client_asked text
     → Carries (λ account. heard_out (runs_ended b before.moment.core.image endings account)) (progress_of before) middle
@@ -72,7 +72,7 @@ exchange_attended b text ended leave endings before after middle image a r same 
   asks = left ∙ ap leave_of asks;
 }
 
--- And it was replied to.
+-- The line was replied to.
 pub exchange_answered : (b : Behaviour) (text : List ℕ) (endings : List Ending) (before after : ConnectionPoint) (middle : Progress) (image : ImageParts) (a : Asked) (written : Option (List ℕ)) (faults : Option ℕ)
     → written ≡ append_known before.moment.written [] → faults ≡ before.moment.write_faults → image ≡ before.moment.core.image → a ≡ client_asked text
     → Carries (λ account. heard_out (runs_ended b before.moment.core.image endings account)) (progress_of before) middle

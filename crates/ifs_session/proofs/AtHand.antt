@@ -1,4 +1,4 @@
--- A line that stands whole among the bytes at hand.
+-- A whole line at hand.
 use Rattle.std.proofs.Common.{◌≡◌, ◌≢◌, ℕ, ◌+◌, ◌<◌, Option, Bool, true, false, cond, not, nat_lt, List, [], ◌∷◌, ◌++◌}
 use Rattle.std.proofs.Common.{length, take, drop, get_or, Some, None, sym, ap, ◌∙◌, arith, length-take, zero, suc}
 use Rattle.std.specs.Prelude.{◌==◌, if◌then◌else◌, option_and_then}
@@ -17,7 +17,7 @@ other_byte byte h = grind (arith, nat_tests)
 a_newline : (byte : ℕ) → not (byte == 10) ≡ false → byte ≡ 10
 a_newline byte h = grind (arith, nat_tests)
 
--- A front each byte of which is no newline.
+-- A front without a newline.
 plain_front : (bytes : List ℕ) (n : ℕ) → ((k : ℕ) → k < n → get_or bytes k 0 ≢ 10) → HasNoNewline (take n bytes)
 plain_front bytes zero h = tt
 plain_front [] (suc n) h = tt
@@ -40,7 +40,7 @@ stands_first bytes end most e below =
           (ap (λ n. get_or bytes n 0) (sym at.0) ∙ a_newline _ (prefix_len_stops other bytes 0 at.1)));
     }
 
--- The line, where a newline stands at this place, if it is short enough.
+-- The line that ends with a newline at this place, if it is short enough.
 abbrev line_to : ℕ → List ℕ → ℕ → Option (List ℕ)
 line_to most bytes end = if nat_lt end most then Some (take end bytes) else None
 

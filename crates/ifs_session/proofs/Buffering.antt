@@ -9,7 +9,7 @@ none_taken bytes count none within =
     let e : length (take (count - 0) bytes) ≡ 0 = ap length none in
     omega (arith, length-take {A = ℕ} (count - 0) bytes)
 
--- A read that gave nothing into a buffer with room was at the end.
+-- A read of no bytes into a buffer with room was at the end of input.
 pub filled_at_end : (bytes : List ℕ) (count : ℕ) (known : Option (List ℕ)) → slice_range bytes 0 count ≡ [] → count ≤ length bytes → 0 < length bytes → (count ≡ 0 → 0 < length bytes → IsAtEnd known)
     → IsAtEnd (prepend_known (slice_range bytes 0 count) known)
 filled_at_end bytes count None none within room end = tt
@@ -18,7 +18,7 @@ filled_at_end bytes count (Some rest) none within room end =
     let all : slice_range bytes 0 count ++ rest ≡ [] ++ [] = cc in
     all
 
--- Bytes are taken from the front of the buffer.
+-- Bytes are removed from the front of the buffer.
 front_taken : (bytes : List ℕ) (start end count : ℕ) → count ≤ length (slice_range bytes start end) → slice_range bytes (start + count) end ≡ drop count (slice_range bytes start end)
 front_taken bytes start end count within =
     let fits : count ≤ end - start = omega (arith, within, length-take {A = ℕ} (end - start) (drop start bytes)) in

@@ -1,4 +1,4 @@
--- A connection exchange by exchange: what was read so far, and what was made of it.
+-- The loop over exchanges: what was read so far, and its effect.
 use Rattle.std.proofs.Common.{◌≡◌, ◌≢◌, ℕ, ◌+◌, ◌-◌, ◌<◌, ◌≤◌, Bool, true, false, nat_lt, List, [], ◌∷◌, ◌++◌}
 use Rattle.std.proofs.Common.{length, All, Option, Some, None, Ok, Err, inl, inr, subst, refl, sym, ap, ◌∙◌}
 use Rattle.std.proofs.Common.{append_assoc, arith, length-append}
@@ -50,7 +50,7 @@ use Rattle.ifs_session.proofs.Lawful.{Kept, account_keeps}
 abbrev pub so_far : Behaviour → List Exchange → Moment → Account
 so_far b exchanges before = account b before.core.image exchanges before.core.state
 
--- These exchanges were served since a moment, at which the host told this, and none of them ended the connection.
+-- These exchanges were served since a moment, at which the host had this log, and none of them ended the connection.
 pub record Ongoing (b : Behaviour) (exchanges : List Exchange) (origin : Option HostLog) (before : Moment) (now : ConnectionPoint) : Type 0 where
   pub plain : ArePlain (lines_in exchanges)
   pub on : All AsksNeither (lines_in exchanges)
@@ -82,9 +82,9 @@ ongoing_start b origin before now steps left written reads writes image budget s
   written = written ∙ sym (append_known-nil before.written);
 }
 
--- ---- what was attended to
+-- ---- exchanges that were done
 
--- What is known of the core at the beginning.
+-- The facts about the core at the beginning.
 pub record Sound (b : Behaviour) (before : Moment) : Type 0 where
   pub kept : Kept b before.core.image
   pub at : IsStateOf before.core.image before.core.state
@@ -112,7 +112,7 @@ idle_stands origin a now after core idle stands = record {
   told_is = subst (Adds a.log origin) (sym idle.told) stands.told_is;
 }
 
--- Exchanges were served, and since then nothing was done.
+-- Exchanges were served, and nothing was done since.
 served_before : {b : Behaviour} {exchanges : List Exchange} {origin : Option HostLog} {before : Moment} {now : ConnectionPoint} (after : ConnectionPoint) → Sound b before → Ongoing b exchanges origin before now
     → OnlyReads now.moment after.moment → Idles now after → HasAttended b exchanges after.steps origin after.told before after.moment × HasAnswered b exchanges before after.moment
 served_before {b} {exchanges} {origin} {before} {now} after sound u o idle = (
@@ -159,7 +159,7 @@ reading_past {b} {exchanges} {origin} {before} {now} text byte after sound u r o
       not_stopped = refl;
     }
 
--- What was written could not go out.
+-- The writer could not be flushed.
 flushing_fails : {b : Behaviour} {exchanges : List Exchange} {origin : Option HostLog} {before : Moment} {now : ConnectionPoint} (after : ConnectionPoint) → Sound b before → Ongoing b exchanges origin before now
     → OnlyWrites now.moment after.moment → Idles now after → after.moment.write_faults ≡ counted now.moment.write_faults
     → ConnectionBreaksWriting b false (unlines (lines_in exchanges)) exchanges after.steps origin after.told before after.moment
@@ -173,7 +173,7 @@ flushing_fails {b} {exchanges} {origin} {before} {now} after sound u o idle one 
   one_fault = one ∙ ap counted u.write_faults;
 }
 
--- The input was at its end.
+-- The input ended.
 pub nothing_left : {b : Behaviour} {exchanges : List Exchange} {origin : Option HostLog} {before : Moment} {now : ConnectionPoint} (after : ConnectionPoint) → Sound b before → Ongoing b exchanges origin before now
     → ExchangeGives b (Ok None) now after → ConnectionCompletes b Closed false (unlines (lines_in exchanges)) exchanges after.steps origin after.told before after.moment
 nothing_left {b} {exchanges} {origin} {before} {now} after sound u (r, o, idle) =
@@ -189,7 +189,7 @@ nothing_left {b} {exchanges} {origin} {before} {now} after sound u (r, o, idle) 
       ends = (refl, r.at_end);
     }
 
--- ---- a line was read and attended to
+-- ---- a line was read and done
 
 -- One more exchange, since the moment at the beginning.
 record Advances (b : Behaviour) (exchanges : List Exchange) (origin : Option HostLog) (input : List ℕ) (before : Moment) (after : ConnectionPoint) : Type 0 where
@@ -227,7 +227,7 @@ advances {b} {exchanges} {origin} {before} {now} {after} {exchange} {ended} u m 
 AsksNeither-push : (exchanges : List Exchange) (exchange : Exchange) → All AsksNeither (lines_in exchanges) → leave_of (client_asked exchange.line) ≡ leaves.Stays → All AsksNeither (lines_in (exchanges ++ exchange ∷ []))
 AsksNeither-push exchanges exchange on last = subst (All AsksNeither) (sym (lines_in-push exchanges exchange)) (All-append AsksNeither (lines_in exchanges) (exchange.line ∷ []) on (All-cons AsksNeither exchange.line [] last (All-nil AsksNeither)))
 
--- What is asked for, by the last line.
+-- What follows the last line.
 AskFor-push : (leave : Leave) (exchanges : List Exchange) (exchange : Exchange) → All AsksNeither (lines_in exchanges) → leave ≡ leave_of (client_asked exchange.line) → AskFor leave (lines_in (exchanges ++ exchange ∷ []))
 AskFor-push leaves.Stays exchanges exchange on is = AsksNeither-push exchanges exchange on (sym is)
 AskFor-push leaves.Stops exchanges exchange on is = (lines_in exchanges, exchange.line, lines_in-push exchanges exchange, on, sym is)
@@ -249,7 +249,7 @@ replying_fails {b} {exchanges} {origin} {before} {now} {after} {exchange} {ended
       one_fault = one ∙ ap counted u.write_faults;
     }
 
--- No reply was written.
+-- The next line was not served, or not replied to.
 not_done : {b : Behaviour} {exchanges : List Exchange} {origin : Option HostLog} {before : Moment} {now : ConnectionPoint} (fault : SessionFault) (stopped : Bool) (after : ConnectionPoint) → Sound b before → Ongoing b exchanges origin before now
     → ExchangeFails b fault stopped now after → ConnectionGives b (Fault fault) stopped after.steps origin after.told before after.moment
 not_done {b} {exchanges} {origin} {before} {now} ReadFailed stopped after sound u (text, r, o, idle, on) =
@@ -264,7 +264,7 @@ pub not_served : {b : Behaviour} {exchanges : List Exchange} {origin : Option Ho
     → ExchangeGives b (Err broken) now after → ConnectionGives b (Fault broken.fault) broken.stopped after.steps origin after.told before after.moment
 not_served broken after sound u fails = not_done broken.fault broken.stopped after sound u fails
 
--- And it was replied to.
+-- The line was replied to.
 answers : {b : Behaviour} {exchanges : List Exchange} {origin : Option HostLog} {before : Moment} {now after : ConnectionPoint} {exchange : Exchange} → Ongoing b exchanges origin before now → AnswersExchange b exchange now after
     → HasAnswered b (exchanges ++ exchange ∷ []) before after.moment
 answers {b} {exchanges} {origin} {before} {now} {after} {exchange} u r =
@@ -298,7 +298,7 @@ goes_on {b} {exchanges} {origin} {before} {now} {after} {exchange} u m r =
       written = said.written;
     }
 
--- ---- its end
+-- ---- the end of the connection
 
 completes : {b : Behaviour} {exchanges : List Exchange} {origin : Option HostLog} {before : Moment} {now after : ConnectionPoint} {exchange : Exchange} {ended stop : Bool} {leave : Leave} (end : End) → Sound b before → Ongoing b exchanges origin before now
     → ServesExchange b exchange ended leave now after → AnswersExchange b exchange now after → left_by end stop ≡ leave
@@ -366,7 +366,7 @@ on_by leaves.Stays true ended e = cc
 on_by leaves.Stays false false e = cc
 on_by leaves.Stays false true e = record { stays = refl; not_full = refl; is_ended = refl }
 
--- The end and whether the service was stopped say what the line asked for.
+-- The end and whether the service was stopped determine what follows the line.
 left_so : {leave : Leave} {full ended : Bool} {end : End} → EndsBy full ended leave end → left_by end (stops_by leave) ≡ leave
 left_so OnStop = refl
 left_so OnReload = refl
@@ -382,9 +382,9 @@ ends_as {after = after} {exchange} {ended} Full front m (WithoutRoom full) = (re
 ends_as Closed front m (AtEnd over) = (refl, (m.read.last over).1)
 ends_as (Fault fault) front m by = elim by [ ]
 
--- ---- what was written last goes out, or does not
+-- ---- the last flush
 
--- The moment at which the writer tells this.
+-- A moment with another state of the writer.
 abbrev pub at_end : Moment → Option (List ℕ) → Option ℕ → Moment
 at_end now written faults = record { core = now.core; left = now.left; written = written; read_faults = now.read_faults; write_faults = faults }
 
@@ -419,7 +419,7 @@ whole_at_end Reload stopped input steps now e = inr e.1
 whole_at_end Full stopped input steps now e = e.2
 whole_at_end (Fault fault) stopped input steps now e = absurd e
 
--- Where it was no reload, a write that failed says the same of what was asked for.
+-- Except at a reload, a failed write changes nothing about what follows the line.
 left_alike : (end : End) (stopped : Bool) → end ≢ Reload → left_by end stopped ≡ left_by (Fault WriteFailed) stopped
 left_alike Closed stopped h = refl
 left_alike Stop stopped h = refl
@@ -481,7 +481,7 @@ room_left line steps is within =
     let on = on_by line.leave (nat_lt (512 - steps) 65) line.is_ended (sym is) in
     has_room steps on.not_full within
 
--- Only where no room is left it ends so.
+-- The connection is full only if there is no room.
 pub full_without_room : (line : ServedLine) (steps : ℕ) (end result : End) (written written' : Option (List ℕ)) (faults faults' : Option ℕ)
     → Some end ≡ end_of line steps → FlushGives end result written written' faults faults' → result ≡ Full → 447 < steps
 full_without_room line steps end result written written' faults faults' is (inr (no_reload, broken, one)) full = cc
@@ -492,9 +492,9 @@ full_without_room line steps end result written written' faults faults' is (inl 
 pub reload_holds : (line : ServedLine) (steps : ℕ) (held : Option (List ℕ)) → (line.leave ≡ leaves.Reloads → HoldsNothing held) → Some Reload ≡ end_of line steps → HoldsNothing held
 reload_holds line steps held quiet is = quiet (is_reload line.leave (nat_lt (512 - steps) 65) line.is_ended (sym is))
 
--- ---- whatever its end was
+-- ---- any end
 
--- Exchanges were attended to, and the steps are theirs.
+-- Whatever the end is, exchanges were done, and the steps are theirs.
 pub record Attended (b : Behaviour) (steps : List Step) (told told' : Option HostLog) (before after : Moment) : Type 0 where
   pub exchanges : List Exchange
   pub attended : HasAttended b exchanges steps told told' before after

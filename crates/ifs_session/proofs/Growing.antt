@@ -1,4 +1,4 @@
--- What steps make of a core and of a host's log, one list after the other.
+-- The effect of lists of steps on a core and on a host's log.
 use Rattle.std.proofs.Common.{◌≡◌, ◌≢◌, ℕ, Bool, true, false, not, nat_lt, if◌then◌else◌, cond, List, [], ◌∷◌, ◌++◌}
 use Rattle.std.proofs.Common.{All, Option, Some, None, refl, sym, ap, ◌∙◌, subst, append-nil}
 use Rattle.std.specs.List.{flat_map, filter_map}
@@ -25,7 +25,7 @@ use Rattle.ifs_session.specs.Accounts.{client_asked, step_asked, takes_of, texts
 use Rattle.ifs_session.specs.Service.{ending_made, ending_heard, request_made, text_taken, given_to_host, gives}
 use Rattle.ifs_session.proofs.Logs.{launched_heard, launched_given}
 
--- ---- replies to steps, one after the other
+-- ---- replies to steps
 
 replies-append : (b : Behaviour) (room : ℕ) (steps more : List Step) (s : CoreState)
     → replies b room (steps ++ more) s ≡ replies b room steps s ++ replies b room more (after_steps b room steps s)
@@ -37,13 +37,13 @@ after_steps-append : (b : Behaviour) (room : ℕ) (steps more : List Step) (s : 
 after_steps-append b room [] more s = refl
 after_steps-append b room (step ∷ steps) more s = after_steps-append b room steps more (turn b room step s).next
 
--- ---- what grows
+-- ---- lists of steps that are joined
 
--- The step that a line asks for.
+-- The step of a line.
 abbrev pub line_step : ImageParts → List ℕ → Option Step
 line_step image line = step_asked image (client_asked line)
 
--- Steps lead from one state to another, none was answered `Busy`, and they are those of these lines and of this log.
+-- Steps lead from one state to another, the reply to none of them is `Busy`, and they are those of these lines and of this log.
 pub record Grows (b : Behaviour) (image : ImageParts) (lines : List (List ℕ)) (steps : List Step) (log : HostLog) (s s' : CoreState) : Type 0 where
   pub stands : IsStateOf image s'
   pub made : s' ≡ after_steps b image.budgets.commands steps s
@@ -59,7 +59,7 @@ filter_both : {X Y Z : Type 0} (f : X → Option Z) (g : Y → Option Z) (xs xs'
     → filter_map f xs ≡ filter_map g ys → filter_map f xs' ≡ filter_map g ys' → filter_map f (xs ++ xs') ≡ filter_map g (ys ++ ys')
 filter_both f g xs xs' ys ys' e e' = filter_map-append f xs xs' ∙ append_both e e' ∙ sym (filter_map-append g ys ys')
 
--- What grew twice has grown.
+-- Two such lists of steps are joined.
 pub grows_more : (b : Behaviour) (image : ImageParts) (lines lines' : List (List ℕ)) (steps steps' : List Step) (log log' : HostLog) (s mid s' : CoreState)
     → Grows b image lines steps log s mid → Grows b image lines' steps' log' mid s' → Grows b image (lines ++ lines') (steps ++ steps') (log ++ log') s s'
 grows_more b image lines lines' steps steps' log log' s mid s' g h =
@@ -77,7 +77,7 @@ grows_more b image lines lines' steps steps' log log' s mid s' g h =
 
 -- ---- takes
 
--- The taking of all commands leaves the queue empty.
+-- Taking all commands leaves the queue empty.
 pub record Empties (b : Behaviour) (image : ImageParts) (queue : List CommandId) (s s' : CoreState) : Type 0 where
   pub grows : Grows b image [] (takes_of queue) (ran (texts_of image queue)) s s'
   pub empty : s'.queue ≡ []
@@ -110,9 +110,9 @@ takes_grow b image (command ∷ queue) s kept is stands e =
       empty = rest.empty;
     }
 
--- ---- a step that is no take
+-- ---- a step other than a take
 
--- Its reply takes no command.
+-- The reply of a turn takes no command.
 pub record TakesNone (image : ImageParts) (t : Turn) : Type 0 where
   pub none : text_taken image t.reply ≡ []
 
@@ -151,7 +151,7 @@ tick_takes b image room now s =
     (either image p.owed (if lacks_room room s then unchanged Busy s else full) plain
     (either image (lacks_room room s) (unchanged Busy s) full (record { none = refl }) (record { none = refl })) (record { none = refl }))
 
--- A step that is no take grows, where the queue is empty, by its own, after what was heard.
+-- One step other than a take is such a list, if the queue is empty. It comes after these polls.
 pub step_grows : (b : Behaviour) (image : ImageParts) (step : Step) (lines : List (List ℕ)) (heard : HostLog) (s : CoreState)
     → IsKept image → IsBehaviour image b → IsStateOf image s → s.queue ≡ []
     → TakesNone image (turn b image.budgets.commands step s)

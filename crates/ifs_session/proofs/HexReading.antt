@@ -1,4 +1,4 @@
--- Reading a line of hexadecimal digits.
+-- Reading an image's line.
 use Rattle.std.proofs.Common.{◌≡◌, ℕ, ◌+◌, ◌*◌, ◌/◌, ◌%◌, ◌<◌, true, false, List, [], ◌∷◌, ◌++◌, length, All, Option}
 use Rattle.std.proofs.Common.{Some, None, Ok, Err, refl, sym, subst, ap, ◌∙◌, append-nil, arith, length-append}
 use Rattle.std.proofs.lemmas.List.Elements.{All-push, All-append}
@@ -22,7 +22,7 @@ takes_more {text} {more} {before} {at} {after} first then_more = record {
 takes_same : {text other : List ℕ} {before after : Feed} → text ≡ other → Takes text before after → Takes other before after
 takes_same {before = before} {after} same takes = record { given = subst (λ t. Consumes before.left after.left t) same takes.given; same_faults = takes.same_faults }
 
--- The high digit of a byte was read, and a byte more is within the limit.
+-- The high digit of a byte was read, and another byte is within the limit.
 pub high_read : {bytes : List ℕ} {before at after : Feed} (digit : ℕ) → ReadsBeginning bytes None before at → (digit < 16) × Takes (hex_digit digit ∷ []) at after → length bytes < 65536
     → ReadsBeginning bytes (Some digit) before after
 high_read {bytes} digit reads (small, more) room = record {
@@ -61,7 +61,7 @@ line_ends {bytes} reads (ended, more, end) = (
   },
 )
 
--- The line ends after an odd digit.
+-- The line ends after a high digit.
 pub odd_digit : {bytes : List ℕ} {digit : ℕ} {before at after : Feed} → ReadsBeginning bytes (Some digit) before at → DigitGives (Ok None) at after → HexGives (Err Broken) before after
 odd_digit {bytes} {digit} reads (ended, more, end) = (
   bytes,
@@ -70,7 +70,7 @@ odd_digit {bytes} {digit} reads (ended, more, end) = (
   record { begins = reads.begins; takes = takes_more reads.takes more; breaks = OddDigit digit ended refl refl end },
 )
 
--- A digit too many comes.
+-- There is a digit after 131,072.
 pub digit_too_many : {bytes : List ℕ} {before at after : Feed} (digit : ℕ) → ReadsBeginning bytes None before at → (digit < 16) × Takes (hex_digit digit ∷ []) at after → length bytes ≡ 65536 → HexGives (Err Broken) before after
 digit_too_many {bytes} digit reads (small, more) full = (
   bytes,
@@ -91,7 +91,7 @@ hex_text-push [] high low small =
     ∙ ap (λ d. hex_digit high ∷ hex_digit d ∷ []) (low_half high low small)
 hex_text-push (byte ∷ bytes) high low small = ap (λ t. hex_digit (byte / 16) ∷ hex_digit (byte % 16) ∷ t) (hex_text-push bytes high low small)
 
--- One more byte is whole.
+-- One more byte was read.
 pub low_read : {bytes : List ℕ} {high : ℕ} {before at after : Feed} (low : ℕ) → ReadsBeginning bytes (Some high) before at → (low < 16) × Takes (hex_digit low ∷ []) at after
     → ReadsBeginning (bytes ++ (16 * high + low) ∷ []) None before after
 low_read {bytes} {high} low reads (small, more) =
@@ -110,7 +110,7 @@ hex_text-append : (bytes more : List ℕ) → hex_text (bytes ++ more) ≡ hex_t
 hex_text-append [] more = refl
 hex_text-append (byte ∷ bytes) more = ap (λ t. hex_digit (byte / 16) ∷ hex_digit (byte % 16) ∷ t) (hex_text-append bytes more)
 
--- The bytes whose digits stood at hand were read.
+-- The bytes whose digits are at hand were read.
 pub at_hand_read : {bytes bytes' : List ℕ} {done : Unit {0}} {before at after : Feed} → ReadsBeginning bytes None before at → AtHandGives (Ok done) bytes bytes' at after → ReadsBeginning bytes' None before after
 at_hand_read {bytes} {bytes'} reads (more, are_bytes, appended, within, takes) = record {
   begins = record { are_bytes = subst (All (λ byte. byte < 256)) (sym appended) (All-append (λ byte. byte < 256) bytes more reads.begins.are_bytes are_bytes); within = within; begun = tt };
@@ -119,13 +119,13 @@ at_hand_read {bytes} {bytes'} reads (more, are_bytes, appended, within, takes) =
       (takes_more reads.takes takes);
 }
 
--- No memory was found for them.
+-- An allocation for them failed.
 pub at_hand_starves : {bytes : List ℕ} {before at : Feed} (fault : HexFault) (bytes' : List ℕ) (after : Feed) → ReadsBeginning bytes None before at → AtHandGives (Err fault) bytes bytes' at after → HexGives (Err fault) before after
 at_hand_starves {bytes} {before = before} Memory bytes' after reads same = (bytes, subst (ReadsBeginning bytes None before) (sym same) reads)
 at_hand_starves Broken bytes' after reads none = absurd none
 at_hand_starves NotRead bytes' after reads none = absurd none
 
--- The input is at its end.
+-- The input ends.
 pub at_the_end : {before after : Feed} → Keeps before.left after.left × IsAtEnd after.left × (after.faults ≡ before.faults) → DigitGives (Ok None) before after
 at_the_end {before} {after} h = (false, record { given = kept_consumes before.left after.left h.0; same_faults = h.2 }, h.1)
 

@@ -1,4 +1,4 @@
--- What pieces written one after the other come to.
+-- Bytes that are written or read in pieces.
 use Rattle.std.proofs.Common.{◌≡◌, ℕ, zero, suc, ◌+◌, ◌<◌, List, [], ◌∷◌, ◌++◌, length, take, drop, get_or, slice_get}
 use Rattle.std.proofs.Common.{Option, Some, None, refl, sym, ap, ◌∙◌, append_assoc, append-nil, arith}
 use Rattle.std.proofs.Math.Seq.{take-suc}
@@ -18,7 +18,7 @@ pub consumes_nothing : (known : Option (List ℕ)) → Consumes known known []
 consumes_nothing None = tt
 consumes_nothing (Some bytes) = refl
 
--- What is read in turn.
+-- Two texts that are read one after the other.
 pub consumes_more : (a b c : Option (List ℕ)) (first then_more : List ℕ) → Consumes a b first → Consumes b c then_more → Consumes a c (first ++ then_more)
 consumes_more None b c first then_more p q = tt
 consumes_more (Some xs) None c first then_more p q = absurd p
@@ -43,7 +43,7 @@ keeps_nothing_read (Some xs) None c text p none q = absurd p
 keeps_nothing_read (Some xs) (Some ys) None text p none q = absurd q
 keeps_nothing_read (Some xs) (Some ys) (Some zs) text p none q = q ∙ sym (p ∙ ap (λ t. t ++ ys) none)
 
--- What follows an item of a list, and what follows its last.
+-- The rest of a list from one of its items.
 drop_at : {X : Type 0} (xs : List X) (i : ℕ) (x : X) → slice_get xs i ≡ Some x → drop i xs ≡ x ∷ drop (i + 1) xs
 drop_at [] i x e = cc
 drop_at (y ∷ xs) zero x e = cc
@@ -59,7 +59,7 @@ next_piece f xs i x known known' all at told written =
     ∙ append_known-append known (f x) (flat_map f (drop (i + 1) xs))
     ∙ ap (λ rest. append_known known (flat_map f rest)) (sym (drop_at xs i x at)) ∙ told
 
--- The front of a list that is one longer.
+-- The front of a list with one more item.
 pub longer_front : (bytes : List ℕ) (i : ℕ) → i < length bytes → take (i + 1) bytes ≡ take i bytes ++ get_or bytes i 0 ∷ []
 longer_front bytes i within = let e : i + 1 ≡ suc i = omega arith in ap (λ n. take n bytes) e ∙ take-suc bytes i 0 within
 

@@ -1,4 +1,4 @@
--- What an account keeps: its steps lead from the state at its beginning to its own, and are those of its lines and of its log.
+-- The law of accounts: its steps lead from the state at its beginning to its own, and are those of its lines and of its log.
 use Rattle.std.proofs.Common.{◌≡◌, ℕ, Bool, true, false, cond, List, [], ◌∷◌, ◌++◌, Option, slice_get, Some, None}
 use Rattle.std.proofs.Common.{option_map, refl, sym, ap, subst, append_assoc, append-nil}
 use Rattle.std.specs.List.{filter_map}
@@ -24,12 +24,12 @@ use Rattle.ifs_session.specs.Service.{ending_made, ending_heard, request_made, g
 use Rattle.ifs_session.proofs.Growing.{Grows, TakesNone, line_step, grows_more, takes_grow, step_grows, link_takes}
 use Rattle.ifs_session.proofs.Growing.{finished_takes, tick_takes}
 
--- What is known of a core's image throughout.
+-- The facts about a core's image.
 pub record Kept (b : Behaviour) (image : ImageParts) : Type 0 where
   pub kept : IsKept image
   pub behaves : IsBehaviour image b
 
--- An account whose queue is empty.
+-- An account obeys the law, and its queue is empty.
 pub record Lawful (b : Behaviour) (image : ImageParts) (lines : List (List ℕ)) (s : CoreState) (a : Account) : Type 0 where
   pub grows : Grows b image lines a.steps a.log s a.state
   pub empty : a.state.queue ≡ []
@@ -46,7 +46,7 @@ no_more_lines {b} {image} {lines} {steps} {log} {s} {s'} g = subst (λ ls. Grows
 same_log : {b : Behaviour} {image : ImageParts} {lines : List (List ℕ)} {steps : List Step} {log log' : HostLog} {s s' : CoreState} → log ≡ log' → Grows b image lines steps log s s' → Grows b image lines steps log' s s'
 same_log {b} {image} {lines} {steps} {s = s} {s'} e g = subst (λ l. Grows b image lines steps l s s') e g
 
--- A step that was made, and the taking of the commands after it.
+-- A step was made, and the commands after it were taken.
 acts_lawful : (b : Behaviour) (image : ImageParts) (step : Step) (lines more : List (List ℕ)) (heard_before : HostLog) (s : CoreState) (a : Account)
     → Kept b image → Lawful b image lines s a → TakesNone image (turn b image.budgets.commands step a.state)
     → filter_map ending_made (step ∷ []) ≡ filter_map ending_heard heard_before → filter_map given_to_host heard_before ≡ [] → filter_map request_made (step ∷ []) ≡ filter_map (line_step image) more
@@ -106,7 +106,7 @@ listened_lawful b image exchange lines s a k l =
 
 -- ---- requests
 
--- A step that was asked for is no end of a test and takes no command.
+-- The step of a request is no end of a test and takes no command.
 record Requested (image : ImageParts) (step : Step) : Type 0 where
   pub request : request_made step ≡ Some step
   pub no_ending : ending_made step ≡ None
@@ -157,7 +157,7 @@ all_served_lawful b image (exchange ∷ exchanges) lines s a k l =
     subst (λ ls. Lawful b image ls s (all_served b image exchanges (served b image exchange a))) (append_assoc lines (exchange.line ∷ []) (lines_in exchanges))
     (all_served_lawful b image exchanges (lines ++ exchange.line ∷ []) s (served b image exchange a) k (served_lawful b image exchange lines s a k l))
 
--- The account of a connection keeps it.
+-- The account of a connection obeys the law.
 pub account_keeps : (b : Behaviour) (image : ImageParts) (exchanges : List Exchange) (s : CoreState) → Kept b image → IsStateOf image s
     → ConnectionKeeps b image (lines_in exchanges) (account b image exchanges s).steps (account b image exchanges s).log s (account b image exchanges s).state
 account_keeps b image exchanges s k stands =

@@ -1,4 +1,4 @@
--- What a line asks of which the first 256 bytes are kept.
+-- What a line asks for, from its first 256 bytes.
 use Rattle.std.proofs.Common.{◌≡◌, ℕ, ◌≤◌, Bool, true, false, nat_lt, cond, List, length, take, ap, ◌∙◌, take_all}
 use Rattle.std.proofs.Common.{arith}
 use Rattle.std.proofs.lemmas.Bool.Decides.{nat_tests}
@@ -19,11 +19,11 @@ asked_by_length f true kept text k l = ap (λ w. cond w (AFault TooLong) (f text
 asked_by_length f false kept text k l =
     ap f (k ∙ take_all 256 text (short_length (length text) l)) ∙ ap (λ w. cond w (AFault TooLong) (f text)) l
 
--- It asks what the whole line does.
+-- A line asks for what its whole text asks for.
 pub kept_asked-line : {line : Line} {text : List ℕ} {before after : Intake} → ReadsLine line text before after → kept_asked line ≡ asked text
 kept_asked-line {line} {text} r = asked_by_length short_asked line.is_longer line.kept.items text r.kept r.longer
 
--- And so of a client.
+-- The same for a client's line.
 pub kept_client_asked-line : {line : Line} {text : List ℕ} {before after : Intake} → ReadsLine line text before after → kept_client_asked line ≡ client_asked text
 kept_client_asked-line {line} {text} r =
     asked_by_length (λ kept. cond (asks_of_hosts kept) (AFault NoRequest) (short_asked kept)) line.is_longer line.kept.items text r.kept r.longer

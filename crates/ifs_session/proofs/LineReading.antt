@@ -1,4 +1,4 @@
--- Reading a line, byte by byte.
+-- Reading a line byte by byte.
 use Rattle.std.proofs.Common.{◌≡◌, ◌≢◌, ℕ, ◌+◌, ◌-◌, ◌<◌, ◌≤◌, Bool, true, false, ◌==◌, nat_lt, List, [], ◌∷◌, ◌++◌}
 use Rattle.std.proofs.Common.{length, take, Option, refl, sym, subst, ap, ◌∙◌, append-nil, take_all, arith}
 use Rattle.std.proofs.Common.{length-append, length-take}
@@ -10,7 +10,7 @@ use Rattle.ifs_session.specs.Device.{counted}
 use Rattle.ifs_session.specs.inner.Reading.{HasNoNewline, Intake, ReadsLine, ReadsNothing, ReadFails, ReadsTooMuch}
 use Rattle.ifs_session.proofs.Known.{consumes_nothing, consumes_more, consumes_kept, keeps_nothing_read}
 
--- Partway in a line: this text was read, and this is kept of it.
+-- In the middle of a line: this text was read, and this part of it is kept.
 pub record Partway (kept : List ℕ) (is_longer : Bool) (text : List ℕ) (before after : Intake) : Type 0 where
   pub plain : HasNoNewline text
   pub kept_is : kept ≡ take 256 text
@@ -40,7 +40,7 @@ partway_start kept at e = record {
   same_faults = refl;
 }
 
--- Fewer than 256 bytes are kept of a text that is shorter.
+-- All bytes of a text shorter than 256 bytes are kept.
 short_text : (text kept : List ℕ) → kept ≡ take 256 text → length kept < 256 → length text < 256
 short_text text kept e h = omega (arith, ap length e, length-take 256 text)
 
@@ -59,7 +59,7 @@ some_kept n h = grind (arith, nat_tests)
 none_kept : (n : ℕ) → true ≡ (n == 0) → n ≡ 0
 none_kept n h = grind (arith, nat_tests)
 
--- A byte more, which is kept.
+-- One more byte, which is kept.
 pub partway_push : {kept : List ℕ} {is_longer : Bool} {text : List ℕ} {before at : Intake} (byte : ℕ) (left : Option (List ℕ)) (faults : Option ℕ) → Partway kept is_longer text before at
     → byte ≢ 10 → at.budget ≢ 0 → Consumes at.left left (byte ∷ []) → faults ≡ at.faults → length kept < 256
     → Partway (kept ++ byte ∷ []) is_longer (text ++ byte ∷ []) before (record { left = left; faults = faults; budget = at.budget - 1 })
@@ -74,7 +74,7 @@ partway_push {kept} {is_longer} {text} {before} {at} byte left faults h other mo
   same_faults = same ∙ h.same_faults;
 }
 
--- A byte more, for which there is no room.
+-- One more byte, which is not kept.
 pub partway_drop : {kept : List ℕ} {is_longer : Bool} {text : List ℕ} {before at : Intake} (byte : ℕ) (left : Option (List ℕ)) (faults : Option ℕ) → Partway kept is_longer text before at
     → byte ≢ 10 → at.budget ≢ 0 → Consumes at.left left (byte ∷ []) → faults ≡ at.faults → length kept ≡ 256
     → Partway kept true (text ++ byte ∷ []) before (record { left = left; faults = faults; budget = at.budget - 1 })

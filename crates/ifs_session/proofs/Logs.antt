@@ -1,4 +1,4 @@
--- What a host tells, after one thing came to its log and then another.
+-- The log of a host after some events and then others.
 use Rattle.std.proofs.Common.{◌≡◌, List, [], ◌∷◌, ◌++◌, Option, Some, None, refl, sym, ap, ◌∙◌, append_assoc}
 use Rattle.std.proofs.Common.{append-nil}
 use Rattle.std.specs.List.{filter_map}
@@ -16,7 +16,7 @@ adds_both more last a None (Some z) p q = absurd q
 adds_both more last None (Some y) (Some z) p q = absurd p
 adds_both more last (Some x) (Some y) (Some z) p q = q ∙ ap (λ log. log ++ last) p ∙ append_assoc x more last
 
--- Tests that were started are no answers, and were given.
+-- Starts of tests are no polls.
 pub launched_heard : (starts : List Launch) → filter_map ending_heard (launched starts) ≡ []
 launched_heard [] = refl
 launched_heard (start ∷ starts) = launched_heard starts

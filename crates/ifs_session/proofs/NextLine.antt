@@ -1,4 +1,4 @@
--- Serving the next line, lent or read.
+-- Serving the next line, in place or read.
 use Rattle.std.proofs.Common.{◌≡◌, ℕ, ◌+◌, ◌-◌, ◌≤◌, Bool, true, List, [], ◌∷◌, ◌++◌, length, take, Option, Some, None}
 use Rattle.std.proofs.Common.{Ok, Err, inr, subst, sym, ap, ◌∙◌, append_assoc, arith, length-append}
 use Rattle.std.proofs.Math.Seq.{take-append_seam}
@@ -13,7 +13,7 @@ use Rattle.ifs_session.specs.inner.Reading.{ReadsText, StandsFirst}
 use Rattle.ifs_session.specs.inner.Serving.{intake, kind_of, NextServed, ServeGives}
 use Rattle.ifs_session.proofs.Known.{append_known-nil}
 
--- A line was read, what was written before has gone out or is held on, and it was served.
+-- A line was read and served, and the writes before it are kept.
 pub line_served : (b : Behaviour) (kind : LineKind) (text : List ℕ) (ended : Bool) (before : Moment) (budget : ℕ) (after : Moment) (budget' : ℕ) (a : Asked) (written : Option (List ℕ)) (faults : Option ℕ)
     → ReadsText text ended (intake before budget) (intake after budget') → a ≡ asked text
     → written ≡ append_known before.written [] → faults ≡ before.write_faults → after.core.image ≡ before.core.image
@@ -30,7 +30,7 @@ line_served b kind text ended before budget after budget' a written faults r ask
   },
 )
 
--- And its reply could not be written.
+-- The reply to a line could not be written.
 pub line_unreplied : (b : Behaviour) (text : List ℕ) (ended : Bool) (before : Moment) (budget : ℕ) (after : Moment) (budget' : ℕ) (a : Asked) (faults : Option ℕ)
     → ReadsText text ended (intake before budget) (intake after budget') → a ≡ asked text
     → faults ≡ before.write_faults → after.core.image ≡ before.core.image → after.core.state ≡ (deed b before.core.image a before.core.state).next → after.write_faults ≡ counted faults
@@ -58,7 +58,7 @@ pub may_skip : (line bytes : List ℕ) (most : ℕ) (ready : Option (List ℕ)) 
 may_skip line bytes most None none first = absurd (not_empty line most (subst (StandsFirst line most) none first))
 may_skip line bytes most (Some ready) (more, is) first = subst (λ r. length line + 1 ≤ length r) (sym is) (long_enough line bytes more most first)
 
--- It was read when it was skipped.
+-- The line was read when its bytes were skipped.
 pub lent_line : (line bytes : List ℕ) (most : ℕ) (ready ready' left left' : Option (List ℕ)) (faults faults' : Option ℕ) → AreAtHand bytes ready → StandsFirst line most bytes
     → SkipGives (length line + 1) ready ready' left left' faults faults'
     → ReadsText line true (record { left = left; faults = faults; budget = most }) (record { left = left'; faults = faults'; budget = most - (length line + 1) })

@@ -1,4 +1,4 @@
--- No first line both gives bytes and is broken.
+-- No first line is both valid and invalid.
 use Rattle.std.proofs.Common.{◌≡◌, ◌≢◌, ℕ, ◌+◌, ◌/◌, ◌%◌, ◌<◌, ◌≤◌, Bool, true, false, All, List, [], ◌∷◌, ◌++◌, length}
 use Rattle.std.proofs.Common.{Option, Some, None, refl, sym, subst, ap, ◌∙◌, append_assoc, arith}
 use Rattle.std.proofs.lemmas.Bool.Decides.{nat_tests}
@@ -13,7 +13,7 @@ use Rattle.ifs_session.specs.Hexadecimal.{DigitTooMany, OneAnswer}
 no_newline : (digit : ℕ) → hex_digit digit ≢ 10
 no_newline digit same = grind (arith, nat_tests)
 
--- What a line that breaks the rule goes on with, after its whole bytes, does not end a line.
+-- The text of an invalid line after its whole bytes does not end a line.
 not_at_an_end : (whole : ℕ) (high : Option ℕ) (last left : List ℕ) (ended : Bool) (rest : List ℕ) (after : Feed) → (ended ≡ false → rest ≡ [])
     → BreaksRule whole high last after → line_end ended ++ rest ≡ high_digit high ++ last ++ left → ⊥
 not_at_an_end whole None last left true rest after end (NoDigit byte is _ other) same =
@@ -38,7 +38,7 @@ not_at_an_end whole (Some digit) last left false rest after end breaks same =
     let none = end refl in
     cc
 
--- A byte begins with two digits, which do not break the rule while a byte more is within the limit.
+-- The two digits of a byte do not make a line invalid while another byte is within the limit.
 no_break_at_a_byte : (whole : ℕ) (high : Option ℕ) (last left : List ℕ) (byte : ℕ) (rest : List ℕ) (after : Feed) → byte < 256 → whole < 65536 → after.left ≡ Some left
     → BreaksRule whole high last after → hex_digit (byte / 16) ∷ hex_digit (byte % 16) ∷ rest ≡ high_digit high ++ last ++ left → ⊥
 no_break_at_a_byte whole None last left byte rest after small room known (NoDigit other is no_digit _) same =
@@ -56,7 +56,7 @@ no_break_at_a_byte whole high last left byte rest after small room known (OddDig
     cc
 no_break_at_a_byte whole high last left byte rest after small room known (DigitTooMany digit _ full _ _) same = absurd (omega arith)
 
--- Bytes and a line's end are not what a line begins with that breaks the rule.
+-- No invalid line begins with a valid line and its end.
 apart : (whole : ℕ) (bytes others : List ℕ) (high : Option ℕ) (last left : List ℕ) (ended : Bool) (rest : List ℕ) (after : Feed) → All (λ byte. byte < 256) bytes → whole + length bytes ≤ 65536
     → (ended ≡ false → rest ≡ []) → after.left ≡ Some left → BreaksRule (whole + length others) high last after
     → hex_text bytes ++ (line_end ended ++ rest) ≡ hex_text others ++ (high_digit high ++ last ++ left) → ⊥
@@ -73,7 +73,7 @@ apart whole (byte ∷ bytes) (other ∷ others) high last left ended rest after 
     let more : whole + length (other ∷ others) ≡ (whole + 1) + length others = omega arith in
     apart (whole + 1) bytes others high last left ended rest after (All-tail (λ b. b < 256) byte bytes small) (omega arith) end known (subst (λ n. BreaksRule n high last after) more breaks) (cc)
 
--- What follows a text that known bytes begin with is known.
+-- The rest of known bytes after a text is known.
 known_rest : (text bytes : List ℕ) (known : Option (List ℕ)) → (start : Option (List ℕ)) → start ≡ Some bytes → Consumes start known text → (rest : List ℕ) × (known ≡ Some rest) × (bytes ≡ text ++ rest)
 known_rest text bytes None None is takes = cc
 known_rest text bytes None (Some all) is takes = absurd takes

@@ -1,4 +1,4 @@
--- Sessions line by line: what was read so far, and what was made of it.
+-- The loop over lines: what was read so far, and its effect.
 use Rattle.std.proofs.Common.{◌≡◌, ◌≢◌, ◌⊎◌, ℕ, ◌+◌, ◌<◌, ◌≤◌, Bool, true, false, ◌==◌, cond, not, List, [], ◌∷◌, ◌++◌}
 use Rattle.std.proofs.Common.{length, count_by, Option, None, Ok, Err, inl, inr, subst, refl, sym, ap, ◌∙◌}
 use Rattle.std.proofs.Common.{append_assoc, append-nil, arith, length-append}
@@ -35,12 +35,12 @@ abbrev pub unlines : List (List ℕ) → List ℕ
 unlines [] = []
 unlines (line ∷ lines) = line ++ 10 ∷ unlines lines
 
--- Each of these lines is without newline.
+-- None of these lines has a newline.
 abbrev pub ArePlain : List (List ℕ) → Type 0
 ArePlain [] = Unit {0}
 ArePlain (line ∷ lines) = HasNoNewline line × ArePlain lines
 
--- A byte that is no newline goes on a line.
+-- A byte other than a newline extends a line.
 other_byte : {X : Type 0} (byte : ℕ) (x y : X) → byte ≢ 10 → cond (byte == 10) x y ≡ y
 other_byte byte x y h = grind (arith, nat_tests)
 
@@ -54,7 +54,7 @@ whole_lines-ended [] rest plain = refl
 whole_lines-ended (byte ∷ text) rest plain =
     other_byte byte _ _ plain.0 ∙ ap (onto_line byte) (whole_lines-ended text rest plain.1)
 
--- A rest without newline is a line if it has a byte, and no whole line.
+-- A rest without a newline is a line if it has a byte, but not a whole line.
 input_lines-rest : (text : List ℕ) → HasNoNewline text → 0 < length text → input_lines text ≡ text ∷ []
 input_lines-rest [] plain some = absurd (omega arith)
 input_lines-rest (byte ∷ []) plain some = other_byte byte _ _ plain.0
@@ -101,7 +101,7 @@ may_stop-push [] text on = tt
 may_stop-push (line ∷ []) text on = (on.0, tt)
 may_stop-push (line ∷ next ∷ lines) text on = (on.0, may_stop-push (next ∷ lines) text on.1)
 
--- Lines that are each ended by a newline end with one, if there are any.
+-- The input that lines make ends with a newline, if there are any lines.
 unlines-end : (lines : List (List ℕ)) → (unlines lines ≡ []) ⊎ ((front : List ℕ) × (unlines lines ≡ front ++ 10 ∷ []))
 unlines-end [] = inl refl
 unlines-end (line ∷ lines) =
@@ -120,7 +120,7 @@ unlines-ends_lines lines left =
 count_by-push : {X : Type 0} (p : X → Bool) (xs : List X) (x : X) → count_by p (xs ++ x ∷ []) ≡ count_by p xs + cond (p x) 1 0
 count_by-push p xs x = sum_by-append (λ y. cond (p y) 1 0) xs (x ∷ []) ∙ omega arith
 
--- ---- what is made of lines, one after the other
+-- ---- the effect of lines
 
 replies_to-append : (b : Behaviour) (image : ImageParts) (lines others : List (List ℕ)) (s : CoreState)
     → replies_to b image (lines ++ others) s ≡ replies_to b image lines s ++ replies_to b image others (after_lines b image lines s)
@@ -171,7 +171,7 @@ underway_start b now = record {
 pub all_lines : (lines : List (List ℕ)) → ArePlain lines → input_lines (unlines lines) ≡ lines
 all_lines lines plain = ap input_lines (sym (append-nil (unlines lines))) ∙ input_lines-unlines lines [] plain ∙ append-nil lines
 
--- What was written could not go out.
+-- The writer could not be flushed.
 pub flushing_fails : {b : Behaviour} {lines : List (List ℕ)} {summary : Summary} {budget : ℕ} {before now : Moment} (after : Moment)
     → Underway b lines summary budget before now → OnlyWrites now after → after.write_faults ≡ counted now.write_faults
     → BreaksWriting b (unlines lines) before after
@@ -184,7 +184,7 @@ flushing_fails {b} {lines} {before = before} {now} after u o one = record {
   go_on = NoneStops-may_stop _ (subst NoneStops (sym (all_lines lines u.plain)) u.on);
 }
 
--- Lines were served and replied to, and since then something was read that ends no further line.
+-- Lines were served and replied to, and nothing was done since.
 served_before : {b : Behaviour} {lines : List (List ℕ)} {summary : Summary} {budget : ℕ} {before now : Moment} (others : List (List ℕ)) (after : Moment)
     → Underway b lines summary budget before now → OnlyReads now after → lines ≡ others → HasServed b others before after × HasReplied b others before after
 served_before {b} {before = before} others after u o same = (
@@ -210,7 +210,7 @@ reading_fails {b} {lines} {before = before} {now} text after budget' u r o =
       go_on = subst NoneStops whole u.on;
     }
 
--- A byte too many was read.
+-- A byte after the limit was read.
 reading_past : {b : Behaviour} {lines : List (List ℕ)} {summary : Summary} {budget : ℕ} {before now : Moment} (text : List ℕ) (byte : ℕ) (after : Moment) (budget' : ℕ)
     → Underway b lines summary budget before now → ReadsTooMuch text byte (intake now budget) (intake after budget') → OnlyReads now after
     → ReadsPast b (unlines lines ++ text) byte before after
@@ -231,7 +231,7 @@ ends_running : (stopped : Bool) (input : List ℕ) (after : Moment) → stopped 
 ends_running false input after e end = end
 ends_running true input after e end = cc
 
--- The input was at its end.
+-- The input ended.
 pub nothing_left : {b : Behaviour} {lines : List (List ℕ)} {summary : Summary} {budget : ℕ} {before now : Moment} (after : Moment) (budget' : ℕ)
     → Underway b lines summary budget before now → NextServed b (Ok None) now budget after budget'
     → Completes b summary (unlines lines) before after
@@ -250,7 +250,7 @@ nothing_left {b} {lines} {summary} {budget} {before} {now} after budget' u (r, o
 
 -- ---- a line that was read and served
 
--- What a line counts for, in a summary that goes on.
+-- The effect of a line on the summary.
 pub record Counts (image : ImageParts) (a : Asked) (s next : Summary) : Type 0 where
   pub requests : next.requests ≡ s.requests + 1
   pub steps : next.steps ≡ s.steps + cond (is_step image a) 1 0
@@ -285,7 +285,7 @@ same_deed : {b : Behaviour} {lines : List (List ℕ)} {summary : Summary} {budge
     → deed b now.core.image (asked text) now.core.state ≡ deed b before.core.image (asked text) (after_lines b before.core.image lines before.core.state)
 same_deed {b} {before = before} {now} text u = ap (λ i. deed b i (asked text) now.core.state) u.image ∙ ap (deed b before.core.image (asked text)) u.state
 
--- A line was read and its step, if it is one, was made: the state is that after this line too.
+-- A line was read, and its step was made, if it has one: the state is that after this line too.
 pub record Advances (b : Behaviour) (lines : List (List ℕ)) (text input : List ℕ) (before after : Moment) (budget : ℕ) : Type 0 where
   pub given : Consumes before.left after.left input
   pub spent : 16777216 ≡ length input + budget
@@ -321,7 +321,7 @@ replying_fails {b} {lines} {before = before} {after = after} {text} {ended} u m 
       go_on = subst OnlyLastMayStop (sym a.lines_are) (may_stop-push lines text u.on);
     }
 
--- No line was served.
+-- The next line was not served, or not replied to.
 pub not_served : {b : Behaviour} {lines : List (List ℕ)} {summary : Summary} {budget : ℕ} {before now : Moment} (fault : SessionFault) (after : Moment) (budget' : ℕ)
     → Underway b lines summary budget before now → NextServed b (Err fault) now budget after budget'
     → SessionGives b (Err fault) before after
@@ -330,7 +330,7 @@ not_served TooMuchInput after budget' u (text, byte, r, o) = (_, byte, reading_p
 not_served WriteFailed after budget' u (one, inl o) = (_, flushing_fails after u o one)
 not_served WriteFailed after budget' u (one, inr (text, ended, m)) = (_, replying_fails u m one)
 
--- And it was replied to.
+-- The line was replied to.
 pub record Replies (b : Behaviour) (lines : List (List ℕ)) (text : List ℕ) (summary : Summary) (before after : Moment) : Type 0 where
   pub written_is : after.written ≡ append_known before.written (replies_to b before.core.image (lines ++ text ∷ []) before.core.state)
   pub faults_are : after.write_faults ≡ before.write_faults
@@ -363,7 +363,7 @@ ends_stopped : (lines : List (List ℕ)) (text input : List ℕ) (after : Moment
 ends_stopped lines text input after true e are on stop line = (lines, text, are, on, stop, line)
 ends_stopped lines text input after false e are on stop line = cc
 
--- The line was `stop`, or the input ended with it.
+-- The session ended after the line.
 session_ends : {b : Behaviour} {lines : List (List ℕ)} {text input : List ℕ} {next : Summary} {before after : Moment} {budget : ℕ}
     → Advances b lines text input before after budget → Replies b lines text next before after → EndsWell next.stopped input after
     → Completes b next input before after
@@ -385,7 +385,7 @@ is_ended : (ended : Bool) → not ended ≡ false → ended ≡ true
 is_ended true h = refl
 is_ended false h = cc
 
--- The line was the last, whichever of the two made it so.
+-- The session ended with `stop`, or the input ended with the line.
 pub session_closes : {b : Behaviour} {lines : List (List ℕ)} {summary next : Summary} {budget budget' : ℕ} {before now after : Moment} {text : List ℕ} {ended : Bool}
     → Underway b lines summary budget before now → MakesLine b text ended now budget after budget' → Replies b lines text next before after
     → (next.stopped ≡ true) ⊎ ((next.stopped ≡ false) × (not ended ≡ true))
@@ -420,7 +420,7 @@ session_goes_on {lines = lines} {budget' = budget'} {before} {after = after} {te
       running = running;
     }
 
--- ---- counts, and what is written at the end
+-- ---- counts, and the last flush
 
 pub line_total : (kind : LineKind) (s next : Summary) → next ≡ with_request kind s → next.requests ≡ s.requests + 1
 line_total kinds.Step s next e = ap (λ x. x.requests) e
@@ -453,7 +453,7 @@ out_flushed {summary = summary} {now = now} written faults (input, done) put = (
   },
 )
 
--- Input that a session ended with was read to the end of a line, and only its last line may ask for the end.
+-- The input of a session that ended was read to the end of a line, and only its last line may be `stop`.
 ends_lines : (stopped : Bool) (input : List ℕ) (now : Moment) → EndsWell stopped input now → EndsLines input now.left
 ends_lines false input now end = inr (inr end.1)
 ends_lines true input now end = inr end.5
@@ -462,7 +462,7 @@ ends_may_stop : (stopped : Bool) (input : List ℕ) (now : Moment) → EndsWell 
 ends_may_stop false input now end = NoneStops-may_stop (input_lines input) end.0
 ends_may_stop true input now end = subst OnlyLastMayStop (sym end.2) (may_stop-push end.0 end.1 end.3)
 
--- They could not go out.
+-- The replies could not go out.
 pub out_fails : {b : Behaviour} {summary : Summary} {before now : Moment} (written : Option (List ℕ)) (faults : Option ℕ)
     → (input : List ℕ) × Completes b summary input before now → faults ≡ counted now.write_faults
     → (input : List ℕ) × BreaksWriting b input before (record { core = now.core; left = now.left; written = written; read_faults = now.read_faults; write_faults = faults })

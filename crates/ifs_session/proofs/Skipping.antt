@@ -1,4 +1,4 @@
--- Taking bytes that can be read without waiting, one by one.
+-- Skipping bytes one by one.
 use Rattle.std.proofs.Common.{◌≡◌, ℕ, ◌+◌, ◌<◌, List, [], ◌∷◌, length, take, drop, get_or, Option, Some, None, Result}
 use Rattle.std.proofs.Common.{Ok, refl, sym, subst, ap, ◌∙◌, arith}
 use Rattle.std.proofs.lemmas.List.{drop_more}
@@ -11,17 +11,17 @@ keeps_itself : (known : Option (List ℕ)) → Keeps known known
 keeps_itself None = tt
 keeps_itself (Some bytes) = refl
 
--- Nothing was taken yet.
+-- No byte was skipped yet.
 pub nothing_skipped : (ready left : Option (List ℕ)) (faults : Option ℕ) → SkipGives 0 ready ready left left faults faults
 nothing_skipped None left faults = (keeps_itself left, refl)
 nothing_skipped (Some bytes) left faults = (refl, consumes_nothing left, refl)
 
--- What is ready, by its first byte.
+-- The bytes that can be read without waiting, from the first of them.
 first_ready : (result : Result (Option ℕ) DeviceFault) (byte : ℕ) (bytes : List ℕ) (now next : Option (List ℕ)) → now ≡ Some (byte ∷ bytes) → ReadyGives result now next
     → (result ≡ Ok (Some byte)) × (next ≡ Some bytes)
 first_ready result byte bytes now next is gives = subst (λ n. ReadyGives result n next) is gives
 
--- One byte more was taken.
+-- One more byte was skipped.
 pub one_skipped : (count i : ℕ) (result : Result (Option ℕ) DeviceFault) (ready now next left at after : Option (List ℕ)) (faults same more : Option ℕ)
     → MaySkip count ready → i < count → SkipGives i ready now left at faults same
     → NextGives result at after same more → ReadyGives result now next

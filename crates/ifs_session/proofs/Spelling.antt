@@ -13,7 +13,7 @@ use Rattle.ifs_session.specs.inner.Reading.{SpellsFront}
 use Rattle.ifs_session.proofs.Known.{kept_consumes}
 use Rattle.ifs_session.proofs.HexReading.{hex_text-push}
 
--- So far this much of a text has spelled the bytes that were put after the others.
+-- The front of a text so far spells the bytes that were appended.
 pub record Spelled (text left bytes bytes' : List ℕ) : Type 0 where
   pub more : List ℕ
   pub are_bytes : All (λ byte. byte < 256) more
@@ -39,7 +39,7 @@ one_spelled {text} {left} {bytes} {bytes'} first second high low rest s at (high
       ∙ append_assoc (hex_text s.more) (hex_digit high ∷ []) (hex_digit low ∷ rest));
 }
 
--- A text by its first two bytes.
+-- A text from its first two bytes.
 pub by_two : (left : List ℕ) → 2 ≤ length left → left ≡ get_or left 0 0 ∷ get_or left 1 0 ∷ take (length left - 2) (drop 2 left)
 by_two left two =
     drop_more left 0 0 (omega arith)
@@ -57,7 +57,7 @@ spelled_front {text} {left} s =
       spelled = ap (λ n. take n text) count ∙ ap (take (length (hex_text s.more))) s.whole ∙ take-append_seam (hex_text s.more) left;
     }
 
--- ---- they are taken from those at hand
+-- ---- bytes at hand
 
 pub may_take : (count : ℕ) (text : List ℕ) (ready : Option (List ℕ)) → AreAtHand text ready → count ≤ length text → MaySkip count ready
 may_take count text None none fits = omega (arith, ap length none)

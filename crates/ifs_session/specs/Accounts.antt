@@ -1,4 +1,4 @@
--- Accounts: what the requests of a connection and the ends of tests make of a core and of a host.
+-- Accounts: the effect of a connection's requests and of ends of tests on a core and on a host.
 use Rattle.std.specs.Prelude.{ℕ, ◌-◌, nat_lt, Bool, ◌||◌, if◌then◌else◌, List, [], ◌∷◌, ◌++◌, length, map, slice_get}
 use Rattle.std.specs.Prelude.{codes, Option, Some, None, unwrap_or, option_map}
 use Rattle.std.specs.Str.{bytes_eq}
@@ -19,24 +19,24 @@ use Rattle.ifs_session.specs.Questions.{reply_to}
 use Rattle.ifs_session.specs.Replies.{command_text, reply_line, fault_line, bye_line}
 use Rattle.ifs_session.specs.Hosts.{Ending, Launch, HostLog, ran, launched, polled}
 
--- Whether a line asks for what the service does by itself: a result, or the taking of a command.
+-- Whether a line asks for an action of the host: `result` or `take`.
 abbrev pub asks_of_hosts : List ℕ → Bool
 asks_of_hosts line = starts_with (codes "result ") line || bytes_eq line (codes "take")
 
--- What a line of a client asks for, or its fault: as in a session, but `take` and `result` are no requests of a client.
+-- What a client's line asks for, or its fault. It is as in a session, except that a client has no requests `take` and `result`.
 abbrev pub client_asked : List ℕ → Asked
 client_asked line =
     if nat_lt 256 (length line) then AFault TooLong else
     if asks_of_hosts line then AFault NoRequest else
     short_asked line
 
--- The step that is asked for, if one is.
+-- The step of a request, if it has one.
 abbrev pub step_asked : ImageParts → Asked → Option Step
 step_asked image (ALink name link) = option_map (λ interface. Link interface link) (interface_of image.interfaces name)
 step_asked image (ATick moment) = Some (Tick moment)
 step_asked image _ = None
 
--- The reply to what asks for no step, told of a core; nothing is said to `reload`.
+-- The reply to a request without a step. `reload` has none.
 abbrev pub told_line : ImageParts → Asked → CoreState → List ℕ
 told_line image (AQuestion question) s = reply_to question image s
 told_line image AStop s = bye_line
@@ -45,7 +45,7 @@ told_line image (AFault fault) s = fault_line fault
 told_line image (ALink name link) s = fault_line NoInterface
 told_line image _ s = fault_line NoRequest
 
--- The test that starts, as a host is told, with the text of its command.
+-- The test that starts, with the text of its command.
 abbrev pub launch_of : ImageParts → Start → Launch
 launch_of image start = record {
   test = start.test;
@@ -53,12 +53,12 @@ launch_of image start = record {
   text = unwrap_or (option_map (λ test. test.text) (slice_get image.tests start.test.0)) [];
 }
 
--- The tests that a reply says are started.
+-- The tests that a reply starts.
 abbrev pub launches_told : ImageParts → Reply → List Launch
 launches_told image (Ticked evaluated state queued cost starts exhausted) = map (launch_of image) starts.items
 launches_told image _ = []
 
--- The account of a connection: the core's state, the steps made, what the host was given and answered, and what was written.
+-- The account of a connection: the core's state, the steps made, the host's events, and the bytes written.
 pub record Account : Type 0 where
   pub state : CoreState
   pub steps : List Step
@@ -69,7 +69,7 @@ pub record Account : Type 0 where
 abbrev pub begun : CoreState → Account
 begun s = record { state = s; steps = []; log = []; said = [] }
 
--- A step is made, and the tests that it starts are told to the host.
+-- A step is made, and the host starts its tests.
 abbrev pub made : Behaviour → ImageParts → Step → Account → Account
 made b image step a =
     let t = turn b image.budgets.commands step a.state in
@@ -82,7 +82,7 @@ takes_of queue = map (λ _. Take) queue
 abbrev pub texts_of : ImageParts → List CommandId → List (List ℕ)
 texts_of image queue = map (λ command. command_text image command.0) queue
 
--- The queue is emptied: each command is taken, and its text given to the host, in order.
+-- The queue is emptied: each command is taken, and the host runs its text, in order.
 abbrev pub emptied : Behaviour → ImageParts → Account → Account
 emptied b image a = record {
   state = after_steps b image.budgets.commands (takes_of a.state.queue) a.state;
@@ -91,29 +91,29 @@ emptied b image a = record {
   said = a.said;
 }
 
--- The host answered this when it was polled.
+-- A poll of the host returned this.
 abbrev pub heard : Option Ending → Account → Account
 heard answer a = record { state = a.state; steps = a.steps; log = a.log ++ polled answer; said = a.said }
 
--- The end of a test's run was answered, its step is made, and the queue is emptied.
+-- A poll returned the end of a test's run, its step is made, and the queue is emptied.
 abbrev pub run_ended : Behaviour → ImageParts → Ending → Account → Account
 run_ended b image e a = emptied b image (made b image (Finished e.0 e.1 e.2) (heard (Some e) a))
 
--- The same of several, one after the other.
+-- The same for several ends of runs, in order.
 abbrev pub runs_ended : Behaviour → ImageParts → List Ending → Account → Account
 runs_ended b image [] a = a
 runs_ended b image (e ∷ es) a = runs_ended b image es (run_ended b image e a)
 
--- The host is polled where at least 130 places for steps are free, and answers that there is no more.
+-- The last poll, if there is room for at least 130 steps: the host reports no further end.
 abbrev pub heard_out : Account → Account
 heard_out a = if nat_lt (512 - length a.steps) 130 then a else heard None a
 
--- What is asked is done: the step, if it is one, is made, and the queue is emptied.
+-- The step of a request, if it has one, is made, and the queue is emptied.
 abbrev pub acted : Behaviour → ImageParts → Option Step → Account → Account
 acted b image None a = a
 acted b image (Some step) a = emptied b image (made b image step a)
 
--- What is replied: the reply to the step, or what is told where there is none.
+-- The reply to a step, or this reply if there is no step.
 abbrev pub replied : Behaviour → ImageParts → Option Step → List ℕ → CoreState → List ℕ
 replied b image None told s = told
 replied b image (Some step) told s = reply_line image (turn b image.budgets.commands step s).reply
@@ -122,34 +122,34 @@ replied b image (Some step) told s = reply_line image (turn b image.budgets.comm
 abbrev pub with_said : List ℕ → Account → Account
 with_said more a = record { state = a.state; steps = a.steps; log = a.log; said = a.said ++ more }
 
--- One exchange of a connection: the line of a request, and the ends of tests that were answered before it was done.
+-- One exchange of a connection: a request line, and the ends of tests that polls returned before it was done.
 pub record Exchange : Type 0 where
   pub line : List ℕ
   pub endings : List Ending
 
--- The account when the ends of an exchange were heard, and when its request was done too.
+-- The account after the polls of an exchange, and after its request.
 abbrev pub listened : Behaviour → ImageParts → Exchange → Account → Account
 listened b image exchange a = heard_out (runs_ended b image exchange.endings a)
 
 abbrev pub attended : Behaviour → ImageParts → Exchange → Account → Account
 attended b image exchange a = acted b image (step_asked image (client_asked exchange.line)) (listened b image exchange a)
 
--- The reply to the request of an exchange, by the core's state before it was done.
+-- The reply to a request, from the core's state before it.
 abbrev pub answered : Behaviour → ImageParts → Asked → CoreState → List ℕ
 answered b image asked s = replied b image (step_asked image asked) (told_line image asked s) s
 
 abbrev pub exchange_reply : Behaviour → ImageParts → Exchange → Account → List ℕ
 exchange_reply b image exchange a = answered b image (client_asked exchange.line) (listened b image exchange a).state
 
--- The account after an exchange, whose request was replied to.
+-- The account after an exchange and its reply.
 abbrev pub served : Behaviour → ImageParts → Exchange → Account → Account
 served b image exchange a = with_said (exchange_reply b image exchange a) (attended b image exchange a)
 
--- The account after exchanges, one after the other.
+-- The account after exchanges, in order.
 abbrev pub all_served : Behaviour → ImageParts → List Exchange → Account → Account
 all_served b image [] a = a
 all_served b image (exchange ∷ exchanges) a = all_served b image exchanges (served b image exchange a)
 
--- The account of a connection of these exchanges, on a core of this state: its queue is emptied first.
+-- The account of a connection with these exchanges on a core of this state. The queue is emptied first.
 abbrev pub account : Behaviour → ImageParts → List Exchange → CoreState → Account
 account b image exchanges s = all_served b image exchanges (emptied b image (begun s))

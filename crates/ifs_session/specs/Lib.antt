@@ -1,4 +1,4 @@
--- From the top down: a run, a session, its lines, their requests and replies, and what these stand on.
+-- From the top down: runs, sessions, connections, lines, requests, replies, and what these use.
 pub mod Runs
 pub mod Sessions
 pub mod Service

@@ -1,13 +1,13 @@
--- Lines: how input is cut.
+-- Lines: how input is split.
 use Rattle.std.specs.Prelude.{ℕ, Bool, true, false, ◌==◌, if◌then◌else◌, List, [], ◌∷◌}
 use Rattle.std.specs.List.{onto_first}
 
--- The lines of an input: it is cut at newlines, and a last rest of at least one byte is a line.
+-- The lines of an input. It is split at newlines, and a rest of at least one byte is a line too.
 abbrev pub input_lines : List ℕ → List (List ℕ)
 input_lines [] = []
 input_lines (byte ∷ input) = if byte == 10 then [] ∷ input_lines input else onto_first byte (input_lines input)
 
--- A byte put before the first line, if there is one.
+-- Lines with a byte before the first line, if there is one.
 abbrev pub onto_line : ℕ → List (List ℕ) → List (List ℕ)
 onto_line byte [] = []
 onto_line byte (line ∷ lines) = (byte ∷ line) ∷ lines

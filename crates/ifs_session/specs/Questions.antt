@@ -1,4 +1,4 @@
--- Questions: requests that ask what a core says of itself. Each is a word, and changes nothing.
+-- Questions: requests that read the core. Each is a word, and changes nothing.
 use Rattle.std.specs.Prelude.{ℕ, if◌then◌else◌, List, codes, Option, Some, None}
 use Rattle.std.specs.Str.{bytes_eq}
 use Rattle.ifs_image.specs.declared.parts.ImageParts.{ImageParts}
@@ -7,7 +7,7 @@ use Rattle.ifs_session.specs.declared.question.Question.{Question}
 use Rattle.ifs_session.specs.declared.question.Question.TheVariants.{Status, Trace}
 use Rattle.ifs_session.specs.Replies.{status_line, trace_lines}
 
--- The question that a word asks.
+-- The question of a word.
 abbrev pub question_in : List ℕ → Option Question
 question_in word =
     if bytes_eq word (codes "status") then Some Status else

@@ -40,29 +40,29 @@ evaluation_words image state cost commands =
 abbrev pub start_word : Start → List ℕ
 start_word start = decimal start.test.0 ++ codes ":" ++ decimal start.run
 
--- The starts of a tick, and whether a due test was left without a number.
+-- The starts of a tick, and whether there was no run number left for a test that was due.
 abbrev pub starts_words : List Start → Bool → List ℕ
 starts_words starts exhausted =
     codes "starts " ++ listed (map start_word starts) ++ (if exhausted then codes " exhausted" else [])
 
--- The line that ends here.
+-- Words and the end of their line.
 abbrev pub ended_line : List ℕ → List ℕ
 ended_line words = words ++ codes "\n"
 
--- What stands before the starts of a tick: its evaluation, if it made one.
+-- The words before the starts of a tick: its evaluation, if it made one.
 abbrev pub before_starts : Bool → List ℕ → List ℕ
 before_starts true evaluation = evaluation ++ codes " "
 before_starts false evaluation = []
 
--- The line of a tick, by whether it evaluated.
+-- The line of a tick, from whether it made an evaluation.
 abbrev pub tick_line : Bool → List ℕ → List ℕ → List ℕ
 tick_line evaluated evaluation starts = ended_line (codes "tick " ++ before_starts evaluated evaluation ++ starts)
 
--- The line of a command that was taken.
+-- The line of a taken command.
 abbrev pub taken_line : ImageParts → ℕ → List ℕ
 taken_line image command = ended_line (codes "taken " ++ decimal command ++ codes " " ++ quoted (command_text image command))
 
--- The line of a reply to a step.
+-- The reply line of a step.
 abbrev pub reply_line : ImageParts → Reply → List ℕ
 reply_line image (Done state queued cost) = ended_line (codes "done " ++ evaluation_words image state.0 cost queued.items)
 reply_line image Same = codes "same\n"
@@ -75,26 +75,26 @@ reply_line image Stale = codes "stale\n"
 reply_line image Backwards = codes "backwards\n"
 reply_line image NoSuch = codes "nosuch\n"
 
--- Whether something is so.
+-- The word of a truth.
 abbrev pub yes_or_no : Bool → List ℕ
 yes_or_no answer = if answer then codes "yes" else codes "no"
 
--- The numbers of a status: the commands in the queue, the tests that run, and the present moment.
+-- The numbers of the status line: the commands in the queue, the tests that run, and the present moment.
 abbrev pub status_numbers : CoreState → List ℕ
 status_numbers s = codes " queue " ++ decimal (length s.queue)
     ++ codes " running " ++ decimal (running_count s.position.schedule)
     ++ codes " now " ++ decimal s.position.schedule.present
 
--- The line of a status.
+-- The status line.
 abbrev pub status_line : ImageParts → CoreState → List ℕ
 status_line image s = ended_line (codes "status " ++ quoted (state_name image s.position.current.0)
     ++ codes " owed " ++ yes_or_no s.position.owed ++ status_numbers s)
 
--- The line of a service that has read its image anew: the name of the state, and how many commands are queued.
+-- The reply to a `reload` that was done: the name of the state, and the number of queued commands.
 abbrev pub reloaded_line : ImageParts → CoreState → List ℕ
 reloaded_line image s = ended_line (codes "reloaded " ++ quoted (state_name image s.position.current.0) ++ codes " queue " ++ decimal (length s.queue))
 
--- The value of a test.
+-- The word of a test's value.
 abbrev pub value_word : Bool → List ℕ
 value_word value = if value then codes "ok" else codes "fail"
 
@@ -105,14 +105,14 @@ step_words (Finished test run value) = codes "result " ++ decimal test.0 ++ code
 step_words (Tick now) = codes "tick " ++ decimal now
 step_words Take = codes "take"
 
--- The name of an answer.
+-- The word of an answer.
 abbrev pub answer_word : Answer → List ℕ
 answer_word answers.Done = codes "done"
 answer_word answers.Same = codes "same"
 answer_word answers.Ticked = codes "ticked"
 answer_word answers.Taken = codes "taken"
 
--- What a record says of the answer: its name, the state after it, the cost and the number of commands queued.
+-- A record after its step: the word of its answer, the state afterwards, the cost, and the number of commands queued.
 abbrev pub answer_words : ImageParts → Record → List ℕ
 answer_words image r = answer_word r.answer ++ codes " " ++ quoted (state_name image r.state.0)
     ++ codes " cost " ++ decimal r.cost ++ codes " queue " ++ decimal r.queued
@@ -121,7 +121,7 @@ answer_words image r = answer_word r.answer ++ codes " " ++ quoted (state_name i
 abbrev pub record_line : ImageParts → Record → List ℕ
 record_line image r = ended_line (step_words r.step ++ codes " -> " ++ answer_words image r)
 
--- The lines of a trace: how many records there are, and each, the oldest first.
+-- The lines of a trace: its number of records, and each record, the oldest first.
 abbrev pub trace_lines : ImageParts → List Record → List ℕ
 trace_lines image trace = ended_line (codes "trace " ++ decimal (length trace)) ++ flat_map (record_line image) trace
 
@@ -136,6 +136,6 @@ fault_code NoInterface = codes "C4"
 abbrev pub fault_line : RequestFault → List ℕ
 fault_line fault = ended_line (codes "fault " ++ fault_code fault)
 
--- The line of `stop`.
+-- The reply to `stop`.
 abbrev pub bye_line : List ℕ
 bye_line = codes "bye\n"

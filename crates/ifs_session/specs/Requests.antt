@@ -1,4 +1,4 @@
--- Requests: what a line asks for, or its fault.
+-- Requests: what a line asks for.
 use Rattle.std.specs.Prelude.{ℕ, ◌-◌, ◌^◌, Bool, true, false, ◌&&◌, ◌==◌, nat_lt, if◌then◌else◌, List, [], ◌∷◌, length}
 use Rattle.std.specs.Prelude.{take, drop, codes, Option, Some, None}
 use Rattle.std.specs.List.{before_first, after_first}
@@ -34,14 +34,14 @@ starts_with word text = bytes_eq (take (length word) text) word
 abbrev pub ends_with : List ℕ → List ℕ → Bool
 ends_with word text = bytes_eq (drop (length text - length word) text) word
 
--- What stands after the word that a text begins with, and before the one that it ends with.
+-- The rest of a text after the word that it begins with, and before the word that it ends with.
 abbrev pub behind_word : List ℕ → List ℕ → List ℕ
 behind_word word text = drop (length word) text
 
 abbrev pub before_word : List ℕ → List ℕ → List ℕ
 before_word word text = take (length text - length word) text
 
--- What is asked by `link` and this: a name, a space and a link state.
+-- The request of `link` and a text: a name, a space and a link state.
 abbrev pub link_asked : List ℕ → Asked
 link_asked text =
     if ends_with (codes " up") text then link_named (before_word (codes " up") text) Up else
@@ -49,35 +49,35 @@ link_asked text =
     if ends_with (codes " unknown") text then link_named (before_word (codes " unknown") text) Unknown else
     AFault NoRequest
 
--- What is asked by `result`, a test, a run and a value: the test's number is below 2 ^ 16, the run's below 2 ^ 64.
+-- The request of `result`, a test, a run and a value. The test's number is below 2 ^ 16, and the run's is below 2 ^ 64.
 abbrev pub result_numbered : Option ℕ → Option ℕ → Bool → Asked
 result_numbered (Some test) (Some run) value =
     if nat_lt test (2 ^ 16) && nat_lt run (2 ^ 64) then AResult test run value else AFault OutOfRange
 result_numbered _ _ value = AFault NoRequest
 
--- The same, of the text of the two numbers, with a space between them.
+-- The same for the text of the two numbers, with a space between them.
 abbrev pub result_valued : List ℕ → Bool → Asked
 result_valued text value =
     result_numbered (number_of (before_first (λ byte. byte == 32) text)) (number_of (after_first (λ byte. byte == 32) text)) value
 
--- What is asked by `result` and this: two numbers, and `ok` or `fail`.
+-- The request of `result` and a text: two numbers, and `ok` or `fail`.
 abbrev pub result_asked : List ℕ → Asked
 result_asked text =
     if ends_with (codes " ok") text then result_valued (before_word (codes " ok") text) true else
     if ends_with (codes " fail") text then result_valued (before_word (codes " fail") text) false else
     AFault NoRequest
 
--- What is asked by `tick` and a number, which is below 2 ^ 64.
+-- The request of `tick` and a number, which is below 2 ^ 64.
 abbrev pub tick_asked : Option ℕ → Asked
 tick_asked None = AFault NoRequest
 tick_asked (Some moment) = if nat_lt moment (2 ^ 64) then ATick moment else AFault OutOfRange
 
--- What is asked by a question, if it is one.
+-- The request for a question, if there is one.
 abbrev pub question_asked : Option Question → Asked
 question_asked None = AFault NoRequest
 question_asked (Some question) = AQuestion question
 
--- What is asked by a word alone.
+-- The request of a line that is one word.
 abbrev pub word_asked : List ℕ → Asked
 word_asked word =
     if bytes_eq word (codes "take") then ATake else
@@ -85,7 +85,7 @@ word_asked word =
     if bytes_eq word (codes "reload") then AReload else
     question_asked (question_in word)
 
--- What is asked by a line that is not too long.
+-- The request of a line that is not too long.
 abbrev pub short_asked : List ℕ → Asked
 short_asked line =
     if starts_with (codes "link ") line then link_asked (behind_word (codes "link ") line) else
@@ -93,6 +93,6 @@ short_asked line =
     if starts_with (codes "tick ") line then tick_asked (number_of (behind_word (codes "tick ") line)) else
     word_asked line
 
--- What a line asks for, or its fault: a line of over 256 bytes is too long, whatever it says.
+-- What a line asks for, or its fault. A line of more than 256 bytes is too long.
 abbrev pub asked : List ℕ → Asked
 asked line = if nat_lt 256 (length line) then AFault TooLong else short_asked line

@@ -1,4 +1,4 @@
--- Runs of an image that comes as the first line of the input, in hexadecimal digits.
+-- Runs of an image that is the first line of the input, in hexadecimal digits.
 use Rattle.std.specs.Prelude.{◌≡◌, ◌≢◌, ◌⊎◌, ℕ, List, ◌++◌, codes, decimal, Result, Ok, Err}
 use Rattle.std.specs.Io.KnownBytes.{append_known}
 use Rattle.ifs_image.specs.Spelling.{Spells}
@@ -22,44 +22,44 @@ use Rattle.ifs_session.specs.Device.{counted, Feed, Sink, HoldsNothing}
 use Rattle.ifs_session.specs.Hexadecimal.{HexGives}
 use Rattle.ifs_session.specs.Sessions.{Moment, SessionGives}
 
--- What is refused, by its code and its place.
+-- The words of a refusal: its code and its place.
 abbrev pub refusal_words : Refusal → List ℕ
 refusal_words refusals.Broken = codes "X1"
 refusal_words (refusals.NotAccepted fault) = verify_fault_words fault
 refusal_words refusals.Memory = codes "V0"
 
--- The line of a refusal, by the words of its fault.
+-- The line of a refusal with these words.
 abbrev pub refused_line : List ℕ → List ℕ
 refused_line words = codes "refused " ++ words ++ codes "\n"
 
--- What a run answers where it refuses.
+-- The fault of a run with this refusal.
 abbrev pub run_fault : Refusal → RunFault
 run_fault refusals.Broken = X1
 run_fault (refusals.NotAccepted fault) = Verify fault
 run_fault refusals.Memory = Memory
 
--- A core stands at the opening of the image that these bytes spell, which is accepted.
+-- A core is the opening of the image that these bytes spell. The image is accepted.
 pub record OpensImage (bytes : List ℕ) (core : OpenCore) : Type 0 where
   pub spelled : Spells bytes core.image
   pub accepted : IsAccepted core.image
   pub state_is : (b : Behaviour) → IsBehaviour core.image b → core.state ≡ opened b core.image (nothing_known core.image)
 
--- Why the first line is refused: it breaks its rule; or the bytes that it spells are not accepted, unless the fault is want of memory, and the check that is named fails in them; or no memory was found, in the line or after it.
+-- Why the first line is refused. It is invalid. Or the verifier rejects the bytes that it spells with this fault, or runs out of memory. Or an allocation failed while it was read or afterwards.
 abbrev pub LineRefused : Refusal → Feed → Feed → Type 0
 LineRefused refusals.Broken before after = HexGives (Err hex_faults.Broken) before after
 LineRefused (refusals.NotAccepted fault) before after = (bytes : List ℕ) × HexGives (Ok bytes) before after × AreNotAccepted bytes fault × IsRefusal bytes fault
 LineRefused refusals.Memory before after = HexGives (Err hex_faults.Memory) before after ⊎ ((bytes : List ℕ) × HexGives (Ok bytes) before after)
 
--- A reader and a writer, by what they tell.
+-- What a reader and a writer report.
 pub record Streams : Type 0 where
   pub feed : Feed
   pub sink : Sink
 
--- The moment of a session at which the core and the streams are these.
+-- The moment of a session with this core and these streams.
 abbrev pub moment : OpenCore → Streams → Moment
 moment core s = record { core = core; left = s.feed.left; written = s.sink.written; read_faults = s.feed.faults; write_faults = s.sink.faults }
 
--- The image of the first line was opened, nothing was written till then, and the session on its core gave this.
+-- The image of the first line was opened, nothing was written before that, and the session on its core had this result.
 pub record Runs (result : Result Summary SessionFault) (before after : Streams) : Type 0 where
   pub opening : OpenCore
   pub ending : OpenCore
@@ -71,7 +71,7 @@ pub record Runs (result : Result Summary SessionFault) (before after : Streams) 
   pub session : (b : Behaviour) → IsBehaviour opening.image b → SessionGives b result (moment opening start) (moment ending after)
   pub out : result ≢ Err WriteFailed → HoldsNothing after.sink.held
 
--- The first line was refused with this, and its line was written and has gone out.
+-- The first line was refused. The line of the refusal was written and has gone out.
 pub record Refuses (refusal : Refusal) (before after : Streams) : Type 0 where
   pub why : LineRefused refusal before.feed after.feed
   pub written : after.sink.written ≡ append_known before.sink.written (refused_line (refusal_words refusal))
@@ -83,13 +83,13 @@ pub record CannotRead (before after : Streams) : Type 0 where
   pub why : HexGives (Err hex_faults.NotRead) before.feed after.feed
   pub same_sink : after.sink ≡ before.sink
 
--- The first line was refused, and the line that says so could not be written.
+-- The first line was refused, and the line of the refusal could not be written.
 pub record CannotRefuse (before after : Streams) : Type 0 where
   pub refusal : Refusal
   pub why : LineRefused refusal before.feed after.feed
   pub one_fault : after.sink.faults ≡ counted before.sink.faults
 
--- What a run gives.
+-- The result of a run.
 abbrev pub RunGives : Result Summary RunFault → Streams → Streams → Type 0
 RunGives (Ok summary) before after = Runs (Ok summary) before after
 RunGives (Err X1) before after = Refuses refusals.Broken before after

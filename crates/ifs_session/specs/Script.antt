@@ -1,9 +1,9 @@
--- A host that answers by a script, and what it notes.
+-- A host that returns results from a script, and its log.
 use Rattle.std.specs.Prelude.{ℕ, ℤ, pos, Bool, true, false, List, [], ◌∷◌, Option, Some, None, Result, Ok}
 use Rattle.ifs_session.specs.declared.host.HostFault.{HostFault}
 use Rattle.ifs_session.specs.Hosts.{Ending, HostLog}
 
--- A scripted host: the answers that are left to polls and to runs, what it noted, for how many notes there is room without asking for memory, whether it noted all, and how often a run failed.
+-- A scripted host: the results that are left for polls and for runs, its log, the capacity of the log, whether the log is complete, and the number of failed runs.
 pub record Script : Type 0 where
   pub endings : List (Option Ending)
   pub statuses : List (Result ℤ HostFault)
@@ -12,17 +12,17 @@ pub record Script : Type 0 where
   pub whole : Bool
   pub faults : ℕ
 
--- What it tells: its notes, as long as they are whole.
+-- The log that it reports: its own, as long as that is complete.
 abbrev pub told_whole : Bool → HostLog → Option HostLog
 told_whole true log = Some log
 told_whole false log = None
 
--- The next answer to a poll: the first that is left, or that there is no end of a test.
+-- The next result of a poll: the first that is left, or no end of a test.
 abbrev pub next_ending : List (Option Ending) → Option Ending
 next_ending [] = None
 next_ending (answer ∷ answers) = answer
 
--- The next answer to a run: the first that is left, or the status 0.
+-- The next result of a run: the first that is left, or the status 0.
 abbrev pub next_status : List (Result ℤ HostFault) → Result ℤ HostFault
 next_status [] = Ok (pos 0)
 next_status (status ∷ statuses) = status

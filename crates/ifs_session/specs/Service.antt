@@ -1,4 +1,4 @@
--- Service: what a served connection gives, in each way that it ends.
+-- Service: the result of a served connection, for each of its ends.
 use Rattle.std.specs.Prelude.{◌≡◌, ◌≢◌, ℕ, ◌<◌, Bool, true, false, if◌then◌else◌, List, [], ◌∷◌, ◌++◌, length, map, All}
 use Rattle.std.specs.Prelude.{Option, Some, None}
 use Rattle.std.specs.List.{flat_map, filter_map}
@@ -24,40 +24,40 @@ use Rattle.ifs_session.specs.Requests.{Asked, AStop, AReload}
 use Rattle.ifs_session.specs.Sessions.{Moment, HasRead, EndsLine, EndsLines}
 use Rattle.ifs_session.specs.Accounts.{Exchange, client_asked, step_asked, launches_told, account}
 
--- ---- what the steps of a connection are, whatever its exchanges
+-- ---- the steps of a connection
 
--- The ends of tests that steps tell of.
+-- The end of a test that a step reports.
 abbrev pub ending_made : Step → Option Ending
 ending_made (Finished test run value) = Some (test, run, value)
 ending_made _ = None
 
--- The steps that a client can ask for: those that are no end of a test and take no command.
+-- A step that a client can ask for: it reports no end of a test and takes no command.
 abbrev pub request_made : Step → Option Step
 request_made (Link interface link) = Some (Link interface link)
 request_made (Tick now) = Some (Tick now)
 request_made _ = None
 
--- The text of the command that a reply hands out.
+-- The text of the command that a reply returns.
 abbrev pub text_taken : ImageParts → Reply → List (List ℕ)
 text_taken image (Taken command) = command_text image command.0 ∷ []
 text_taken image _ = []
 
--- The end of a test that a host told of, when it was polled.
+-- The end of a test that a poll of the host returned.
 abbrev pub ending_heard : Happening → Option Ending
 ending_heard (Polled answer) = answer
 ending_heard _ = None
 
--- What a host was given: all that happened at it but its answers.
+-- The events of a host other than polls.
 abbrev pub given_to_host : Happening → Option Happening
 given_to_host (Polled answer) = None
 given_to_host (Started launch) = Some (Started launch)
 given_to_host (Ran text) = Some (Ran text)
 
--- What a host is to be given for a reply: the tests that it says are started, and the text of the command that it hands out.
+-- The events of a host that a reply asks for: the starts of its tests, and the run of the command that it returns.
 abbrev pub gives : ImageParts → Reply → HostLog
 gives image reply = launched (launches_told image reply) ++ ran (text_taken image reply)
 
--- These steps lead from one state of a core to another, and none of them was answered `Busy`. The ends of tests among them are those that the host answered, each once, in order; the requests are those of the lines, in order; and the host was given the tests that they start and the texts of the commands that they take, and nothing else, in the order of the steps. They leave the queue empty.
+-- These steps lead from one state of a core to another, and the reply to none of them is `Busy`. Their ends of tests are those that the host reported, each once, in order. Their requests are those of the lines, in order. The host started their tests and ran their commands, in order, and nothing else. They leave the queue empty.
 pub record ConnectionKeeps (b : Behaviour) (image : ImageParts) (lines : List (List ℕ)) (steps : List Step) (log : HostLog) (s s' : CoreState) : Type 0 where
   pub made : s' ≡ after_steps b image.budgets.commands steps s
   pub never_busy : All (λ reply. reply ≢ Busy) (replies b image.budgets.commands steps s)
@@ -66,38 +66,38 @@ pub record ConnectionKeeps (b : Behaviour) (image : ImageParts) (lines : List (L
   pub given_in : filter_map given_to_host log ≡ flat_map (gives image) (replies b image.budgets.commands steps s)
   pub empty : s'.queue ≡ []
 
--- ---- its exchanges and its end
+-- ---- the exchanges and the end of a connection
 
 -- The lines of exchanges.
 abbrev pub lines_in : List Exchange → List (List ℕ)
 lines_in exchanges = map (λ exchange. exchange.line) exchanges
 
--- What is asked of a connection: by `stop` to end, and the service with it, by `reload` to end for the image to be read anew, and by all else to go on.
+-- What follows a line: after `stop` the service ends, after `reload` the image is read again, and after any other line the connection goes on.
 abbrev pub leave_of : Asked → Leave
 leave_of AStop = leaves.Stops
 leave_of AReload = leaves.Reloads
 leave_of _ = leaves.Stays
 
--- A line asks neither for the end of the service nor for the image to be read anew.
+-- A line is neither `stop` nor `reload`.
 abbrev pub AsksNeither : List ℕ → Type 0
 AsksNeither line = leave_of (client_asked line) ≡ leaves.Stays
 
--- The last of these lines asks for this, and those before it for neither.
+-- The last of these lines is the one that is followed by this, and those before it are neither `stop` nor `reload`.
 abbrev pub OnlyLastAsks : Leave → List (List ℕ) → Type 0
 OnlyLastAsks leave lines = (earlier : List (List ℕ)) × (last : List ℕ) × (lines ≡ earlier ++ last ∷ []) × All AsksNeither earlier × (leave_of (client_asked last) ≡ leave)
 
--- These lines ask this of a connection: to go on where none of them asks for either, and else only the last does, for just this.
+-- What follows these lines: the connection goes on if none of them is `stop` or `reload`. Otherwise only the last of them is.
 abbrev pub AskFor : Leave → List (List ℕ) → Type 0
 AskFor leaves.Stays lines = All AsksNeither lines
 AskFor leaves.Stops lines = OnlyLastAsks leaves.Stops lines
 AskFor leaves.Reloads lines = OnlyLastAsks leaves.Reloads lines
 
--- What the lines of a connection asked of it, by its end and by whether the service was stopped: a reload where it ended with one, and in no other case.
+-- What follows the lines of a connection, from its end and whether the service was stopped: a reload exactly if it ended with one.
 abbrev pub left_by : End → Bool → Leave
 left_by Reload stopped = leaves.Reloads
 left_by _ stopped = if stopped then leaves.Stops else leaves.Stays
 
--- From one moment to another these exchanges were attended to, of a host that told this before and tells that now. Each of them left the queue empty.
+-- These exchanges were done from one moment to another, with the logs of the host before and after. Each of them left the queue empty.
 pub record HasAttended (b : Behaviour) (exchanges : List Exchange) (steps : List Step) (told told' : Option HostLog) (before after : Moment) : Type 0 where
   pub image : after.core.image ≡ before.core.image
   pub state : after.core.state ≡ (account b before.core.image exchanges before.core.state).state
@@ -106,12 +106,12 @@ pub record HasAttended (b : Behaviour) (exchanges : List Exchange) (steps : List
   pub keeps : ConnectionKeeps b before.core.image (lines_in exchanges) steps (account b before.core.image exchanges before.core.state).log before.core.state after.core.state
   pub each_empties : (front rest : List Exchange) → exchanges ≡ front ++ rest → (account b before.core.image front before.core.state).state.queue ≡ []
 
--- And each was replied to, in order, and nothing else was written.
+-- Each of these exchanges was replied to, in order, and nothing else was written.
 pub record HasAnswered (b : Behaviour) (exchanges : List Exchange) (before after : Moment) : Type 0 where
   pub written : after.written ≡ append_known before.written (account b before.core.image exchanges before.core.state).said
   pub same_faults : after.write_faults ≡ before.write_faults
 
--- How a connection ends without a fault: at the end of input; with a line that asks for the end of the service, or for the image to be read anew; or where fewer than 65 places for steps are left. After the last line nothing more was read.
+-- How a connection ends without a fault: at the end of input, with `stop`, with `reload`, or with room for fewer than 65 steps. Nothing was read after the last line.
 abbrev pub EndsAs : End → Bool → List ℕ → List Step → Moment → Type 0
 EndsAs Closed stopped input steps after = (stopped ≡ false) × IsAtEnd after.left
 EndsAs Stop stopped input steps after = (stopped ≡ true) × EndsLine input after.left
@@ -119,7 +119,7 @@ EndsAs Reload stopped input steps after = (stopped ≡ false) × EndsLine input 
 EndsAs Full stopped input steps after = (stopped ≡ false) × (447 < length steps) × EndsLines input after.left
 EndsAs (Fault fault) stopped input steps after = ⊥
 
--- A connection has ended without a fault: each line is that of an exchange, in order.
+-- A connection has ended without a fault. Each line has an exchange, in order.
 pub record ConnectionCompletes (b : Behaviour) (end : End) (stopped : Bool) (input : List ℕ) (exchanges : List Exchange) (steps : List Step) (told told' : Option HostLog) (before after : Moment) : Type 0 where
   pub read : HasRead input before after
   pub lines : input_lines input ≡ lines_in exchanges
@@ -129,7 +129,7 @@ pub record ConnectionCompletes (b : Behaviour) (end : End) (stopped : Bool) (inp
   pub asks : AskFor (left_by end stopped) (input_lines input)
   pub ends : EndsAs end stopped input steps after
 
--- A read failed: the lines that were whole by then were served.
+-- A read failed. The whole lines before it were served.
 pub record ConnectionBreaksReading (b : Behaviour) (stopped : Bool) (input : List ℕ) (exchanges : List Exchange) (steps : List Step) (told told' : Option HostLog) (before after : Moment) : Type 0 where
   pub read : HasRead input before after
   pub lines : whole_lines input ≡ lines_in exchanges
@@ -139,7 +139,7 @@ pub record ConnectionBreaksReading (b : Behaviour) (stopped : Bool) (input : Lis
   pub asks : AskFor (left_by (Fault ReadFailed) stopped) (whole_lines input)
   pub not_stopped : stopped ≡ false
 
--- A write failed: the lines that were read by then, each to its end, were attended to. Only the last may have asked for the end of the service, and none asked for a reload.
+-- A write failed. The lines that were read, each to its end, were done. Only the last may be `stop`, and none is `reload`.
 pub record ConnectionBreaksWriting (b : Behaviour) (stopped : Bool) (input : List ℕ) (exchanges : List Exchange) (steps : List Step) (told told' : Option HostLog) (before after : Moment) : Type 0 where
   pub read : HasRead input before after
   pub whole : EndsLines input after.left
@@ -149,7 +149,7 @@ pub record ConnectionBreaksWriting (b : Behaviour) (stopped : Bool) (input : Lis
   pub asks : AskFor (left_by (Fault WriteFailed) stopped) (input_lines input)
   pub one_fault : after.write_faults ≡ counted before.write_faults
 
--- A byte was read after the 16,777,216 of a connection: the lines that were whole before it were served.
+-- A byte was read after the 16,777,216 bytes of a connection. The whole lines before it were served.
 pub record ConnectionReadsPast (b : Behaviour) (stopped : Bool) (input : List ℕ) (byte : ℕ) (exchanges : List Exchange) (steps : List Step) (told told' : Option HostLog) (before after : Moment) : Type 0 where
   pub given : Consumes before.left after.left (input ++ byte ∷ [])
   pub full : length input ≡ 16777216
@@ -160,7 +160,7 @@ pub record ConnectionReadsPast (b : Behaviour) (stopped : Bool) (input : List �
   pub asks : AskFor (left_by (Fault TooMuchInput) stopped) (whole_lines input)
   pub not_stopped : stopped ≡ false
 
--- What a connection gives: there is an input that was read, and exchanges, one for each of its lines.
+-- The result of a connection: an input that was read, and an exchange for each of its lines.
 abbrev pub ConnectionGives : Behaviour → End → Bool → List Step → Option HostLog → Option HostLog → Moment → Moment → Type 0
 ConnectionGives b (Fault ReadFailed) stopped steps told told' before after =
     (input : List ℕ) × (exchanges : List Exchange) × ConnectionBreaksReading b stopped input exchanges steps told told' before after

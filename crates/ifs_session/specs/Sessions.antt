@@ -21,27 +21,27 @@ use Rattle.ifs_session.specs.Questions.{reply_to}
 use Rattle.ifs_session.specs.Replies.{reply_line, fault_line, bye_line}
 use Rattle.ifs_session.specs.Lines.{input_lines, whole_lines}
 
--- What a line makes: the bytes of its reply, and the state after it.
+-- The effect of a line: the bytes of its reply, and the state afterwards.
 pub record Deed : Type 0 where
   pub reply : List ℕ
   pub next : CoreState
 
--- A step is made.
+-- The effect of a step.
 abbrev pub step_deed : Behaviour → ImageParts → Step → CoreState → Deed
 step_deed b image step s =
     let t = turn b image.budgets.commands step s in
     record { reply = reply_line image t.reply; next = t.next }
 
--- Nothing changes, and this is replied.
+-- Nothing changes, with this reply.
 abbrev pub told : List ℕ → CoreState → Deed
 told reply s = record { reply = reply; next = s }
 
--- A link state was asked for an interface, which may not be in the table.
+-- The effect of a link state for an interface that may be missing from the table.
 abbrev pub link_deed : Behaviour → ImageParts → LinkState → Option IfaceId → CoreState → Deed
 link_deed b image link None s = told (fault_line NoInterface) s
 link_deed b image link (Some interface) s = step_deed b image (Link interface link) s
 
--- What is made of what is asked; `reload` is no request of a session, whose image is not read anew.
+-- The effect of a request. `reload` is not a request of a session, which does not read its image again.
 abbrev pub deed : Behaviour → ImageParts → Asked → CoreState → Deed
 deed b image (ALink name link) s = link_deed b image link (interface_of image.interfaces name) s
 deed b image (AResult test run value) s = step_deed b image (Finished (record { 0 = test }) run value) s
@@ -52,7 +52,7 @@ deed b image AStop s = told bye_line s
 deed b image AReload s = told (fault_line NoRequest) s
 deed b image (AFault fault) s = told (fault_line fault) s
 
--- The replies to lines, one after the other.
+-- The replies to lines, in order.
 abbrev pub replies_to : Behaviour → ImageParts → List (List ℕ) → CoreState → List ℕ
 replies_to b image [] s = []
 replies_to b image (line ∷ lines) s = (deed b image (asked line) s).reply ++ replies_to b image lines (deed b image (asked line) s).next
@@ -62,7 +62,7 @@ abbrev pub after_lines : Behaviour → ImageParts → List (List ℕ) → CoreSt
 after_lines b image [] s = s
 after_lines b image (line ∷ lines) s = after_lines b image lines (deed b image (asked line) s).next
 
--- Whether what is asked is a step: all but what has a fault or asks the core of itself.
+-- Whether a request is a step of the core.
 abbrev pub is_step : ImageParts → Asked → Bool
 is_step image (ALink name link) = is_some (interface_of image.interfaces name)
 is_step image (AResult test run value) = true
@@ -70,23 +70,23 @@ is_step image (ATick moment) = true
 is_step image ATake = true
 is_step image _ = false
 
--- Whether a line asks for the end of the session.
+-- Whether a request is `stop`.
 abbrev pub is_stop : Asked → Bool
 is_stop AStop = true
 is_stop _ = false
 
--- None of these lines asks for the end of the session.
+-- None of these lines is `stop`.
 abbrev pub NoneStops : List (List ℕ) → Type 0
 NoneStops [] = Unit {0}
 NoneStops (line ∷ lines) = (is_stop (asked line) ≡ false) × NoneStops lines
 
--- None of these lines but the last asks for the end of the session.
+-- None of these lines except the last may be `stop`.
 abbrev pub OnlyLastMayStop : List (List ℕ) → Type 0
 OnlyLastMayStop [] = Unit {0}
 OnlyLastMayStop (line ∷ []) = Unit {0}
 OnlyLastMayStop (line ∷ next ∷ lines) = (is_stop (asked line) ≡ false) × OnlyLastMayStop (next ∷ lines)
 
--- A moment of a session: the core, what the reader has left and the writer has written, where they tell it, and how often each has failed.
+-- A moment of a session: the core, the bytes left and the bytes written, and the numbers of failures. A device may not report its own.
 pub record Moment : Type 0 where
   pub core : OpenCore
   pub left : Option (List ℕ)
@@ -94,35 +94,35 @@ pub record Moment : Type 0 where
   pub read_faults : Option ℕ
   pub write_faults : Option ℕ
 
--- From one moment to another these bytes were read, at most as many as a session reads.
+-- These bytes were read from one moment to another, at most as many as a session reads.
 pub record HasRead (input : List ℕ) (before after : Moment) : Type 0 where
   pub given : Consumes before.left after.left input
   pub within : length input ≤ 16777216
 
--- From one moment to another these lines were served: each made its step, if it was one.
+-- The steps of these lines were made from one moment to another.
 pub record HasServed (b : Behaviour) (lines : List (List ℕ)) (before after : Moment) : Type 0 where
   pub image : after.core.image ≡ before.core.image
   pub state : after.core.state ≡ after_lines b before.core.image lines before.core.state
 
--- And each was replied to, in order, and nothing else was written.
+-- Each of these lines was replied to, in order, and nothing else was written.
 pub record HasReplied (b : Behaviour) (lines : List (List ℕ)) (before after : Moment) : Type 0 where
   pub written : after.written ≡ append_known before.written (replies_to b before.core.image lines before.core.state)
   pub same_faults : after.write_faults ≡ before.write_faults
 
--- The input ends with a newline, or it is at its end.
+-- The input read ends with a newline, or all input was read.
 abbrev pub EndsLine : List ℕ → Option (List ℕ) → Type 0
 EndsLine input left = ((front : List ℕ) × (input ≡ front ++ 10 ∷ [])) ⊎ IsAtEnd left
 
--- The input was read to the end of a line, if any was read.
+-- The input was read to the end of a line, if any of it was read.
 abbrev pub EndsLines : List ℕ → Option (List ℕ) → Type 0
 EndsLines input left = (input ≡ []) ⊎ EndsLine input left
 
--- How a session ends that ends well: at the end of input, where no line asked for it; or with its last line, which alone asks for it. After that line's newline, where it has one, nothing more was read.
+-- How a session ends without a fault: at the end of input with no line `stop`, or with its last line, which alone is `stop`. Nothing was read after the newline of that line.
 abbrev pub EndsWell : Bool → List ℕ → Moment → Type 0
 EndsWell false input after = NoneStops (input_lines input) × IsAtEnd after.left
 EndsWell true input after = (earlier : List (List ℕ)) × (stop : List ℕ) × (input_lines input ≡ earlier ++ stop ∷ []) × NoneStops earlier × (is_stop (asked stop) ≡ true) × EndsLine input after.left
 
--- A session has ended.
+-- A session has ended without a fault.
 pub record Completes (b : Behaviour) (summary : Summary) (input : List ℕ) (before after : Moment) : Type 0 where
   pub read : HasRead input before after
   pub served : HasServed b (input_lines input) before after
@@ -132,7 +132,7 @@ pub record Completes (b : Behaviour) (summary : Summary) (input : List ℕ) (bef
   pub steps : summary.steps ≡ count_by (λ line. is_step before.core.image (asked line)) (input_lines input)
   pub end : EndsWell summary.stopped input after
 
--- A read failed: the lines that were whole by then were served.
+-- A read failed. The whole lines before it were served.
 pub record BreaksReading (b : Behaviour) (input : List ℕ) (before after : Moment) : Type 0 where
   pub read : HasRead input before after
   pub served : HasServed b (whole_lines input) before after
@@ -140,7 +140,7 @@ pub record BreaksReading (b : Behaviour) (input : List ℕ) (before after : Mome
   pub one_fault : after.read_faults ≡ counted before.read_faults
   pub go_on : NoneStops (whole_lines input)
 
--- A write failed: the lines that were read by then, each to its end, were served.
+-- A write failed. The steps of the lines that were read, each to its end, were made.
 pub record BreaksWriting (b : Behaviour) (input : List ℕ) (before after : Moment) : Type 0 where
   pub read : HasRead input before after
   pub whole : EndsLines input after.left
@@ -149,7 +149,7 @@ pub record BreaksWriting (b : Behaviour) (input : List ℕ) (before after : Mome
   pub one_fault : after.write_faults ≡ counted before.write_faults
   pub go_on : OnlyLastMayStop (input_lines input)
 
--- A byte was read after the 16,777,216 that a session reads: the lines that were whole before it were served.
+-- A byte was read after the 16,777,216 bytes of a session. The whole lines before it were served.
 pub record ReadsPast (b : Behaviour) (input : List ℕ) (byte : ℕ) (before after : Moment) : Type 0 where
   pub given : Consumes before.left after.left (input ++ byte ∷ [])
   pub full : length input ≡ 16777216
@@ -158,7 +158,7 @@ pub record ReadsPast (b : Behaviour) (input : List ℕ) (byte : ℕ) (before aft
   pub same_faults : after.read_faults ≡ before.read_faults
   pub go_on : NoneStops (whole_lines input)
 
--- What a session gives: there is an input that was read, and the lines of which were served.
+-- The result of a session: an input that was read, whose lines were served.
 abbrev pub SessionGives : Behaviour → Result Summary SessionFault → Moment → Moment → Type 0
 SessionGives b (Ok summary) before after = (input : List ℕ) × Completes b summary input before after
 SessionGives b (Err ReadFailed) before after = (input : List ℕ) × BreaksReading b input before after

@@ -1,4 +1,4 @@
--- What only private functions promise one another.
+-- Contracts of private functions.
 pub mod Opening
 pub mod Parsing
 pub mod Reading

@@ -1,4 +1,4 @@
--- What the functions that take a line apart give.
+-- Contracts of the functions that parse a line.
 use Rattle.std.specs.Prelude.{◌^◌, Bool, nat_lt, if◌then◌else◌, Option, Some, Result, Ok, Err}
 use Rattle.ifs_session.specs.declared.request.RequestFault.{RequestFault}
 use Rattle.ifs_session.specs.declared.request.RequestFault.TheVariants.{OutOfRange, NoRequest}
@@ -9,7 +9,7 @@ use Rattle.ifs_session.specs.declared.request.Request.TheVariants as requests
 use Rattle.ifs_session.specs.Requests.{Asked, ALink, AResult, ATick, ATake, AQuestion, AStop, AReload}
 use Rattle.ifs_session.specs.Requests.{AFault}
 
--- What an answer of the parser says.
+-- What a result of the parser asks for.
 abbrev pub told_by : Result Request RequestFault → Asked
 told_by (Ok (requests.Link name link)) = ALink name.now link
 told_by (Ok (requests.Result test run value)) = AResult test.0 run value
@@ -20,7 +20,7 @@ told_by (Ok requests.Stop) = AStop
 told_by (Ok requests.Reload) = AReload
 told_by (Err fault) = AFault fault
 
--- What is asked by `result` with these numbers, of which enough is kept.
+-- The request of `result` with these numbers.
 abbrev pub result_kept : Option Number → Option Number → Bool → Asked
 result_kept (Some (Within test)) (Some (Within run)) value = if nat_lt test (2 ^ 16) then AResult test run value else AFault OutOfRange
 result_kept (Some _) (Some _) value = AFault OutOfRange
