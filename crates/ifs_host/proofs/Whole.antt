@@ -1,13 +1,13 @@
--- Reading up to a limit that is not passed.
+-- Reading up to a limit that is not exceeded.
 use Rattle.std.proofs.Common.{ℕ, ◌<◌, ◌≡◌, ◌++◌, List, [], length, take, Option}
 use Rattle.std.proofs.Common.{Some, None, IfSome, option_map, ◌∙◌, subst, arith}
 use Rattle.std.proofs.lemmas.List.{take_all, length-take-le}
 
--- Of bytes of which fewer than the limit were taken all were taken.
+-- If fewer bytes than the limit were read, all bytes were read.
 pub all_taken : (limit : ℕ) (left : List ℕ) → length (take limit left) < limit → take limit left ≡ left
 all_taken limit left fewer = take_all limit left (grind (arith, length-take-le limit left))
 
--- The same of known bytes, of which those up to the limit were read.
+-- The same for a reader whose bytes are known.
 of_known : (limit : ℕ) (known : Option (List ℕ)) (bytes : List ℕ) → length bytes < limit
     → IfSome (option_map (take limit) known) (λ taken. bytes ≡ [] ++ taken)
     → IfSome known (λ left. bytes ≡ left)
@@ -16,7 +16,7 @@ of_known limit (Some left) bytes fewer taken =
     let P : List ℕ → Type 0 = λ xs. length xs < limit in
     taken ∙ all_taken limit left (subst P taken fewer)
 
--- What was read of a reader up to the limit is all that it had left, where that is known.
+-- The bytes read up to the limit are all that the reader had left, if these are known.
 pub whole : (limit : ℕ) (known up_to : Option (List ℕ)) (before bytes : List ℕ)
     → up_to ≡ option_map (take limit) known → before ≡ [] → length bytes < limit
     → IfSome up_to (λ taken. bytes ≡ before ++ taken)

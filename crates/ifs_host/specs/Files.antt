@@ -1,6 +1,6 @@
--- What the program takes of files.
+-- The limit of files.
 use Rattle.std.specs.Prelude.{ℕ, ◌≤◌, List, length}
 
--- Bytes are not too many for a file.
+-- Bytes are within the limit of a file.
 abbrev pub IsWithinLimit : List ℕ → Type 0
 IsWithinLimit bytes = length bytes ≤ 16777216

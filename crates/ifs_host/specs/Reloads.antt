@@ -1,4 +1,4 @@
--- An image that takes over from a core: what is opened in its place, and why none is.
+-- Reloads: the core that is opened in place of another, and why there is none.
 use Rattle.std.specs.Prelude.{ℕ, ◌≡◌, List, [], codes}
 use Rattle.ifs_image.specs.Spelling.{Spells}
 use Rattle.ifs_verify.specs.Accepted.{IsAccepted}
@@ -12,7 +12,7 @@ use Rattle.ifs_verify.specs.FaultWords.{verify_fault_words}
 use Rattle.ifs_host.specs.declared.reloading.ReloadFault.{ReloadFault}
 use Rattle.ifs_host.specs.declared.reloading.ReloadFault.TheVariants as reloads
 
--- An image takes over from a core, whose queue is empty: these bytes spell it, it is accepted, and it is opened with what the core hands on.
+-- An image is opened in place of a core whose queue is empty: these bytes spell it, it is accepted, and it is opened with what the core carries.
 pub record IsTakenOver (core : OpenCore) (bytes : List ℕ) (next : OpenCore) : Type 0 where
   pub spelled : Spells bytes next.image
   pub accepted : IsAccepted next.image
@@ -21,13 +21,13 @@ pub record IsTakenOver (core : OpenCore) (bytes : List ℕ) (next : OpenCore) : 
   pub handed_on : IsCarriedFrom core carried
   pub state : (b : Behaviour) → IsBehaviour next.image b → next.state ≡ opened b next.image (known_by carried next.image)
 
--- Why the image of some bytes does not take over from a core: they are not accepted, and the check that is named fails, unless it is want of memory; or the core hands on nothing.
+-- Why a reload of these bytes is refused: the verifier rejects them with this fault or runs out of memory, or the core cannot carry what it knows.
 abbrev pub IsReloadRefusal : OpenCore → List ℕ → ReloadFault → Type 0
 IsReloadRefusal core bytes (reloads.Image fault) = AreNotAccepted bytes fault × IsRefusal bytes fault
 IsReloadRefusal core bytes (reloads.Carry cause) = CannotCarry core.state.queue cause
 IsReloadRefusal core bytes _ = ⊥
 
--- The words of a line that tells why no image took over.
+-- The words of a refused reload.
 abbrev pub reload_words : ReloadFault → List ℕ
 reload_words reloads.File = codes "L2"
 reload_words reloads.TooMany = codes "L3"

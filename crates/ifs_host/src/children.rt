@@ -1,4 +1,4 @@
-//! Starts of tests that wait to be answered.
+//! Starts of tests whose ends have not been reported.
 
 ghost use Rattle.std.specs.Prelude.{◌≡◌, ◌<◌, ◌↔◌, List, [], ◌∷◌, ◌++◌, length, map, IsTrue, IfOk, IfSome, MatchOption};
 ghost use Rattle.ifs_sched.specs.declared.start.Start.{Start};
@@ -14,7 +14,7 @@ use ifs_sched::Start;
 use std::alloc::{AllocError, Global};
 use std::marker::Model;
 
-/// How many programs may run at once.
+/// The most programs that run at once.
 pub const PLACES: usize = 256;
 
 /// A program that was started for a test.
@@ -24,7 +24,7 @@ struct Running<Q: Runner> {
     child: Q::Child,
 }
 
-/// What waits to be answered: programs that were started for tests, and starts that failed, each in order.
+/// The starts that wait: programs that were started for tests, and starts that failed, each in order.
 pub struct Children<Q: Runner> {
     running: Vec<Running<Q>>,
     failed: ArrayVec<Start, 64>,
@@ -52,7 +52,7 @@ impl<Q: Runner> Model for Children<Q> {
 }
 
 impl<Q: Runner> Children<Q> {
-    /// None that waits, and room for every program.
+    /// Without starts, and with room for every program.
     pub fn new(alloc: Global) -> Result<Self, AllocError>
         ensures { IfOk result (λ children. children ≡ none_waits) }
     {
@@ -69,7 +69,7 @@ impl<Q: Runner> Children<Q> {
         self.running.len() < PLACES
     }
 
-    /// A start whose program runs.
+    /// Adds a start whose program runs.
     pub fn run(&mut self, start: Start, child: Q::Child)
         requires { length self.old.running < 256 }
         ensures { self.new ≡ with_running (start, Q.number child) self.old }
@@ -79,7 +79,7 @@ impl<Q: Runner> Children<Q> {
         };
     }
 
-    /// A start that failed.
+    /// Adds a start that failed. An earlier failed start of the same test goes, and of the others the latest 63 stay.
     pub fn fail(&mut self, start: Start)
         ensures { self.new ≡ with_failed start self.old }
     {
@@ -88,8 +88,8 @@ impl<Q: Runner> Children<Q> {
         self.failed.push(start);
     }
 
-    /// Takes out a start that has ended, with its value: the first that failed, and where none did the
-    /// first whose program has ended.
+    /// Removes a start that has ended, and returns it with its value. It is the first that failed, or else the first whose
+    /// program has ended.
     pub fn ended(&mut self, runner: &mut Q) -> Option<(Start, bool)>
         ensures { Ends result self.old self.new (Q.told runner.old) (Q.told runner.new) }
     {
@@ -101,14 +101,14 @@ impl<Q: Runner> Children<Q> {
     }
 }
 
-/// Takes out the starts of the test of this one.
+/// Removes the starts of the same test.
 fn forget(failed: &mut ArrayVec<Start, 64>, start: Start)
     ensures { failed.new.items ≡ of_others start failed.old.items }
 {
     failed.retain(|earlier| earlier.test.0 != start.test.0);
 }
 
-/// Takes out the first start where there is no room for another one.
+/// Removes the first start if there is no room for another one.
 fn make_room(failed: &mut ArrayVec<Start, 64>)
     ensures latest { failed.new.items ≡ latest failed.old.items }
     ensures room { length failed.new.items < 64 }
@@ -118,7 +118,7 @@ fn make_room(failed: &mut ArrayVec<Start, 64>)
     }
 }
 
-/// Takes out the first start whose program has ended, with its value.
+/// Removes the first start whose program has ended, and returns it with its value.
 fn take_ended<Q: Runner>(runner: &mut Q, running: &mut Vec<Running<Q>>) -> Option<(Start, bool)>
     ensures same { MatchOption result
         (map {B = Program} (λ it. (it.start, Q.number it.child)) running.new.items ≡ map {B = Program} (λ it. (it.start, Q.number it.child)) running.old.items)
@@ -134,7 +134,7 @@ fn take_ended<Q: Runner>(runner: &mut Q, running: &mut Vec<Running<Q>>) -> Optio
     Some(ended)
 }
 
-/// The first program that has ended, with its start and value.
+/// Finds the first program that has ended, with its start and value.
 fn first_ended<Q: Runner>(
     runner: &mut Q,
     running: &mut Vec<Running<Q>>,
@@ -150,8 +150,8 @@ fn first_ended<Q: Runner>(
     first_ended_of(runner, running.as_mut_slice())
 }
 
-/// The first of these programs that has ended, with its start and value. One that cannot be waited for has
-/// ended and found false.
+/// Finds the first of these programs that has ended, with its start and value. A program that cannot be waited for has
+/// ended with false.
 fn first_ended_of<Q: Runner>(
     runner: &mut Q,
     running: &mut [Running<Q>],

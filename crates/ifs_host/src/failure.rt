@@ -1,4 +1,4 @@
-//! How the program fails.
+//! Failures of the program, and their exit statuses.
 
 use crate::files::FileFault;
 use crate::shell::SHELL;
@@ -8,31 +8,31 @@ use std::fmt::{self, Display, Formatter, Write};
 use std::io;
 use std::process::ExitCode;
 
-/// Why the program did not do what it was asked for, which gives its exit status.
+/// Why the program failed. It determines the exit status.
 #[derive(Debug, Drop)]
 pub enum Failure<'a> {
     /// The input was refused, and its line was printed: status 1.
     Refused,
-    /// The command line was wrong, and its message was printed: status 2.
+    /// The command line was wrong, and a message was printed: status 2.
     CommandLine,
     /// A file could not be read or written, or a socket failed: status 3.
     File { path: &'a str, fault: FileFault },
-    /// Nothing came back over a socket, or not in time: status 3.
+    /// There was no reply over a socket, or not in time: status 3.
     NoReply { socket: &'a str },
     /// The shell cannot be run: status 3.
     Shell(io::Error),
-    /// Standard output failed: status 3.
+    /// A write to standard output failed: status 3.
     Output(io::Error),
-    /// A session ended by a fault: status 3.
+    /// A session failed: status 3.
     Session(SessionFault),
 }
 
 impl<'a> Failure<'a> {
-    /// Writes the cause of a failed device to standard error, and gives the exit status.
+    /// Writes the cause of status 3 to standard error, and returns the exit status.
     pub fn reported(self, rt: &impl Eprint) -> ExitCode {
         let status = self.status();
         if status == 3 {
-            // nothing is left to be done if standard error fails too
+            // if standard error fails too, only the status is left
             let _written = eprintln!(rt; "device {self}");
         }
         ExitCode::from(status)
@@ -46,7 +46,7 @@ impl<'a> Failure<'a> {
         }
     }
 
-    /// The failure of a file. If memory ran out for its bytes, the line with this code is printed.
+    /// The failure of a file. If an allocation for its bytes failed, prints the line with this code.
     pub fn of_file(
         rt: &impl Print,
         code: &'static str,
@@ -59,7 +59,7 @@ impl<'a> Failure<'a> {
         }
     }
 
-    /// The failure of a call of the system on a file.
+    /// The failure of a system call on a file.
     pub fn of_system(path: &'a str, error: io::Error) -> Failure<'a> {
         Failure::File {
             path,
@@ -67,18 +67,18 @@ impl<'a> Failure<'a> {
         }
     }
 
-    /// Prints the line with the code that says that memory ran out.
+    /// Prints the line with this code, for a failed allocation.
     pub fn out_of_memory(rt: &impl Print, code: &'static str) -> Failure<'a> {
         refused(println!(rt; "refused {code}"))
     }
 
-    /// Prints the line that says what is refused.
+    /// Prints the line of a refusal.
     pub fn of_refusal(rt: &impl Print, fault: FaultText) -> Failure<'a> {
         refused(println!(rt; "refused {fault}"))
     }
 }
 
-/// What follows a line of a refusal that was printed so.
+/// The failure after the line of a refusal was printed with this result.
 fn refused<'a>(printed: io::Result<()>) -> Failure<'a> {
     match printed {
         Ok(()) => Failure::Refused,

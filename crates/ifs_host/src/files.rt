@@ -1,4 +1,4 @@
-//! Files.
+//! Reading files.
 
 ghost use Rattle.std.specs.Prelude.{◌≡◌, ◌≢◌, IfOk, IfErr, IfSome};
 ghost use Rattle.ifs_host.specs.Files.{IsWithinLimit};
@@ -10,19 +10,19 @@ use std::io::{self, ErrorKind, Read};
 use std::rt::Files;
 use thiserror::Error;
 
-/// How many bytes a file has at most.
+/// The most bytes of a file.
 const LIMIT: u64 = 16_777_216;
 
-/// Why the bytes of a file cannot be had.
+/// Why a file cannot be read.
 #[derive(Debug, Drop, Error)]
 pub enum FileFault {
     /// It could not be opened, or a read failed.
     #[error("{0}")]
     System(io::Error),
-    /// It has over 16,777,216 bytes.
+    /// It has more than 16,777,216 bytes.
     #[error("too large")]
     TooLarge,
-    /// No memory was found for its bytes.
+    /// An allocation for its bytes failed.
     #[error("no memory")]
     Memory,
 }
@@ -39,7 +39,7 @@ impl From<io::Error> for FileFault {
     }
 }
 
-/// The bytes of a file.
+/// Reads a file.
 pub fn contents<R: Files + Alloc<A = Global>>(rt: &R, path: &str) -> Result<Vec<u8>, FileFault>
     ensures { IfOk result (λ bytes. IsWithinLimit bytes.items) }
 {
@@ -47,9 +47,8 @@ pub fn contents<R: Files + Alloc<A = Global>>(rt: &R, path: &str) -> Result<Vec<
     whole(rt.alloc(), file)
 }
 
-/// The bytes of a regular file. A folder, a pipe or a device in its place is an error of the system, and is not opened:
-/// its bytes may never come or never end. That holds of what the path leads to when it is looked at; between that
-/// and the opening it may be replaced.
+/// Reads a regular file. A folder, a pipe or a device is a system error and is not opened, since its bytes may never come
+/// or never end. The file may be replaced between that check and its opening.
 pub fn regular<R: Files + Alloc<A = Global>>(rt: &R, path: &str) -> Result<Vec<u8>, FileFault>
     ensures { IfOk result (λ bytes. IsWithinLimit bytes.items) }
 {
@@ -60,7 +59,7 @@ pub fn regular<R: Files + Alloc<A = Global>>(rt: &R, path: &str) -> Result<Vec<u
     }
 }
 
-/// Every byte that a reader has left, where they are at most 16,777,216.
+/// Reads every byte that a reader has left, at most 16,777,216.
 pub fn whole<R: Read + Drop>(alloc: Global, reader: R) -> Result<Vec<u8>, FileFault>
     ensures limit { IfOk result (λ bytes. IsWithinLimit bytes.items) }
     // Nothing is cut off.

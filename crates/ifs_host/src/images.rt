@@ -1,4 +1,4 @@
-//! Image files that are written.
+//! Writing image files.
 
 ghost use Rattle.std.specs.Prelude.{OnOk};
 ghost use Rattle.std.specs.Io.KnownBytes.{Appends};
@@ -9,14 +9,14 @@ use std::io::{self, ErrorKind, Write};
 use std::path::Path;
 use std::rt::Files;
 
-/// Writes an image to a path. A regular file is written whole or not at all: a new file takes its place,
-/// with its mode; whatever fails before that, the old one stands and no other file is left. Then the folder is synced, so that
-/// the new file stands after a loss of power as well. Where a link leads to a file, that file is replaced and the link stays. What
-/// is no regular file is written as it stands.
+/// Writes an image to a path. A regular file is written whole or not at all: a new file with its mode replaces it. If
+/// anything fails before that, the old file is unchanged and no other file is left. Then the folder is synced, so that the
+/// new file survives a loss of power. If the path is a link to a file, that file is replaced and the link stays. Anything
+/// but a regular file, such as a device, is written in place.
 ///
-/// An error is the first call of the system that failed: of a link that leads nowhere, of a folder in place
-/// of a file, of a folder that is missing or full. Want of memory is an error too. Where the folder cannot be synced the new file
-/// stands; that is an error as well, but where its user may not read the folder or its system syncs none.
+/// An error is that of the first system call that failed: for a link that leads nowhere, for a folder in place of a file, or
+/// for a folder that is missing or full. A failed allocation is an error too. If the folder cannot be synced, that is an
+/// error, and the new file is there. It is no error if the user may not read the folder, or if the system syncs no folders.
 pub fn write_image<R: Files + Alloc<A = Global>>(
     rt: &R,
     path: &str,
@@ -41,8 +41,7 @@ pub fn write_image<R: Files + Alloc<A = Global>>(
     }
 }
 
-/// Puts a new file in the place of a path, and waits until the device has its name. Where that place cannot be taken there
-/// is no new file.
+/// Replaces the file at a path by a new one, and syncs its folder. If it cannot be replaced, there is no new file.
 fn replace<R: Files + Alloc<A = Global>>(
     rt: &R,
     path: &str,
@@ -55,14 +54,14 @@ fn replace<R: Files + Alloc<A = Global>>(
         done = fs::rename(rt, name.as_str(), path);
     }
     if done.is_err() {
-        // what failed first is told, whether the new file could be removed or not
+        // the first failure is reported, also if the new file cannot be removed
         let _removed = fs::remove_file(rt, name.as_str());
         return done;
     }
     sync_folder(rt, folder_of(path))
 }
 
-/// The folder that a path's last name is in.
+/// The folder of a path's last name.
 fn folder_of(path: &str) -> &str {
     match Path::new(path).parent() {
         Some(folder) if !folder.as_str().is_empty() => folder.as_str(),
@@ -70,8 +69,7 @@ fn folder_of(path: &str) -> &str {
     }
 }
 
-/// Waits until the device has the names of a folder. One that may not be read, or whose system syncs no folders, is left to
-/// the system.
+/// Syncs the names of a folder. It ignores a folder that may not be read, and a system that syncs no folders.
 fn sync_folder<R: Files>(rt: &R, folder: &str) -> io::Result<()> {
     match fs::open(rt, folder).and_then(|names| names.sync_all()) {
         Err(error) if is_left_to_system(error.kind()) => Ok(()),
@@ -79,7 +77,7 @@ fn sync_folder<R: Files>(rt: &R, folder: &str) -> io::Result<()> {
     }
 }
 
-/// Whether a failure says that a folder cannot be synced by this user or on this system.
+/// Whether an error means that this user or this system cannot sync a folder.
 fn is_left_to_system(kind: ErrorKind) -> bool {
     matches!(
         kind,
@@ -87,7 +85,7 @@ fn is_left_to_system(kind: ErrorKind) -> bool {
     )
 }
 
-/// A new file in the folder of a path, with a name that was free.
+/// Creates a file in the folder of a path, under a free name.
 fn new_beside<R: Files + Alloc<A = Global>>(rt: &R, path: &str) -> io::Result<(String, R::File)> {
     for number in 1..=u32::MAX {
         let name = format!(in rt.alloc(); "{path}.{number}.new")?;
@@ -100,7 +98,7 @@ fn new_beside<R: Files + Alloc<A = Global>>(rt: &R, path: &str) -> io::Result<(S
     Err(io::Error::from(ErrorKind::AlreadyExists))
 }
 
-/// Gives an empty file its mode and its bytes, and waits until the device has them.
+/// Sets the mode of an empty file, writes its bytes, and syncs it.
 fn fill<F: Write + OpenFile>(
     file: &mut F,
     mode: Option<Permissions>,

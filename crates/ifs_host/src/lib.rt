@@ -1,9 +1,9 @@
-//! The daemon and what it stands on: files, images that are loaded again, and commands and tests as programs.
+//! The daemon and what it uses: files, the reload of images, and commands and tests as programs.
 //!
-//! Contract: a file is read and an image written whole, if the reader and the writer report their bytes. A test that the
-//! host was asked to start waits until its end is reported, or until a later start of it fails. An image takes over from
-//! a core only if its bytes are accepted, and goes on with what that core knew; else the core is as it was. The host asks
-//! its runner once for each text, and reports what the runner answered, if the runner reports what it was asked.
+//! Contract: a file is read and an image written whole, if the reader and the writer report their bytes. A started test
+//! waits until its end is reported, or until a later start of it fails. A reload opens an image only if its bytes are
+//! accepted, with what the core before it knew. Otherwise that core is unchanged. The host calls its runner once for each
+//! text, and reports the runner's results, if the runner reports its calls.
 #![tactic(auto)]
 
 mod children;

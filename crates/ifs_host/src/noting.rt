@@ -1,4 +1,4 @@
-//! What the daemon's notes say beside those of its commands and tests.
+//! The notes of the daemon, except for those of commands and tests.
 
 use crate::reloading::ReloadFault;
 use ifs_base::{IfaceId, LinkState, Quoted, StateId};
@@ -10,7 +10,7 @@ use log::span::Spans;
 use log::{LevelFilter, Log, Logged, Metadata, info, warn};
 use std::fmt::{self, Display, Formatter, Write};
 
-/// Where a daemon's notes go.
+/// The log of a daemon's notes.
 pub type Notebook = Logged<HostRuntime, StandardError>;
 
 /// Which notes are written.
@@ -18,12 +18,12 @@ pub type Notebook = Logged<HostRuntime, StandardError>;
 pub struct Notes {
     /// The level up to which notes are written.
     pub level: LevelFilter,
-    /// Whether the ends of connections are noted that are no faults.
+    /// Whether ends of connections without a fault are noted.
     pub ends: bool,
 }
 
 impl Notes {
-    /// Notes how a connection ended.
+    /// Notes the end of a connection.
     pub(crate) fn note_end(self, notes: &Notebook, end: End) {
         match end {
             End::Fault(fault) => info!(notes; "fault {fault}"),
@@ -33,7 +33,7 @@ impl Notes {
     }
 }
 
-/// The word that is noted of a connection's end.
+/// The word for a connection's end.
 fn word_of_end(end: End) -> &'static str {
     match end {
         End::Closed => "closed",
@@ -44,23 +44,23 @@ fn word_of_end(end: End) -> &'static str {
     }
 }
 
-/// Notes that an image took over, and in which state it begins.
+/// Notes a reload, and the state that it begins in.
 pub fn note_taken_over(notes: &Notebook, core: &Core<'_>) {
     let state = Quoted(core.state_name(core.state()).unwrap_or_default());
     info!(notes; "image taken over in state {state}");
 }
 
-/// Notes that no image took over, and why.
+/// Notes a refused reload, and its cause.
 pub fn note_not_taken_over(notes: &Notebook, fault: ReloadFault) {
     warn!(notes; "image refused: {fault}");
 }
 
-/// Standard error, where the program's name stands before each note.
+/// Standard error, with the program's name before each note.
 #[derive(Drop)]
 pub struct StandardError(Console<HostRuntime>);
 
 impl StandardError {
-    /// That of this runtime.
+    /// The standard error of a runtime.
     pub fn new(rt: HostRuntime) -> Self {
         StandardError(Console(rt))
     }
@@ -84,7 +84,7 @@ impl Log for StandardError {
     }
 }
 
-/// Where a core stood before a connection.
+/// The state and the moment of a core before a connection.
 #[derive(Clone, Copy)]
 pub struct Snapshot {
     state: StateId,
@@ -92,7 +92,7 @@ pub struct Snapshot {
 }
 
 impl Snapshot {
-    /// Where a core stands.
+    /// The state and the moment of a core.
     pub fn of(core: &Core<'_>) -> Self {
         Snapshot {
             state: core.state(),
@@ -101,20 +101,20 @@ impl Snapshot {
     }
 }
 
-/// Notes that a tick goes backwards, once for each moment before which one came.
+/// Notes ticks that go backwards, once for each moment that one comes before.
 #[derive(Drop)]
 pub struct Backwards {
-    /// The moment for which it was noted last.
+    /// The moment of the last note.
     noted: Option<u64>,
 }
 
 impl Backwards {
-    /// Nothing was noted yet.
+    /// Without a note so far.
     pub fn new() -> Self {
         Backwards { noted: None }
     }
 
-    /// Notes the ticks among these steps that go backwards, the first of which was made at this moment.
+    /// Notes the ticks among these steps that go backwards. `before` is the core before the first of them.
     pub fn note(&mut self, notes: &Notebook, before: Snapshot, steps: &[Step]) {
         let mut now = before.moment;
         for step in steps {
@@ -131,8 +131,8 @@ impl Backwards {
     }
 }
 
-/// Notes the changes of state that these steps made, each with its cause. Of over 256 steps the trace has only
-/// the last: what those before changed is not noted, or as one change by a later cause.
+/// Notes the changes of state by these steps, each with its cause. The trace has the last 256 steps only. Changes by earlier
+/// steps are not noted, or as one change with a later cause.
 pub fn note_changes(notes: &Notebook, core: &Core<'_>, before: Snapshot, steps: &[Step]) {
     let Made { first, changed } = made_by(core, before, steps);
     if !changed {
@@ -150,15 +150,15 @@ pub fn note_changes(notes: &Notebook, core: &Core<'_>, before: Snapshot, steps: 
     }
 }
 
-/// What steps left in the trace.
+/// The records of steps in the trace.
 struct Made {
-    /// The index of the first of their records, which are its last ones.
+    /// The index of the first record. The last is the last of the trace.
     first: usize,
-    /// Whether the state was another one between them, or after them, than before.
+    /// Whether the state changed.
     changed: bool,
 }
 
-/// What these steps left in the trace: a step that was refused left nothing.
+/// The records of these steps. A refused step has none.
 fn made_by(core: &Core<'_>, before: Snapshot, steps: &[Step]) -> Made {
     let mut first = core.trace_len();
     let mut state = core.state();
@@ -190,7 +190,7 @@ fn note_change(notes: &Notebook, core: &Core<'_>, from: StateId, record: Record)
     info!(notes; "state {from} -> {to} by {cause}");
 }
 
-/// What a step tells, by names.
+/// The cause of a change, with names.
 #[derive(Clone, Copy)]
 enum Cause<'a> {
     Link(&'a str, LinkState),
@@ -200,7 +200,7 @@ enum Cause<'a> {
 }
 
 impl<'a> Cause<'a> {
-    /// What this step tells a core.
+    /// The cause that a step is.
     fn of(core: &Core<'a>, step: Step) -> Self {
         match step {
             Step::Link(interface, link) => Cause::Link(interface_name(core, interface), link),
@@ -224,7 +224,7 @@ impl Display for Cause<'_> {
     }
 }
 
-/// The name of an interface; none where it is not in the table.
+/// The name of an interface. It is empty if the interface is not in the table.
 fn interface_name<'a>(core: &Core<'a>, interface: IfaceId) -> &'a str {
     let image = core.image();
     let index = usize::from(interface.0);
@@ -235,7 +235,7 @@ fn interface_name<'a>(core: &Core<'a>, interface: IfaceId) -> &'a str {
     }
 }
 
-/// The word of requests for a link's state.
+/// The word of a link state in requests.
 fn word_of(link: LinkState) -> &'static str {
     match link {
         LinkState::Up => "up",

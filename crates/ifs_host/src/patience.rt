@@ -1,4 +1,4 @@
-//! Connections whose waiting is bounded.
+//! Connections with a limit on waiting.
 
 ghost use Rattle.std.specs.Io.{WritesAtMost};
 
@@ -8,30 +8,30 @@ use std::os::unix::net::UnixStream;
 use std::rt::Clock;
 use std::time::{Duration, Instant};
 
-/// How many bytes one write gives the system at most, so that it waits once at most.
+/// The most bytes of one system call, so that it waits at most once.
 const PIECE: usize = 16_384;
 
-/// How many bytes a short piece has at most.
+/// The most bytes of a short piece.
 const SHORT: usize = 1_024;
 
-/// How many short pieces are not timed, as many as a connection makes steps: two looks at the clock cost a tenth of
-/// what the writing of such a piece does.
+/// The number of short pieces that are not timed, one for each step of a connection. Timing a piece costs a tenth of its
+/// writing.
 const UNTIMED: u32 = 512;
 
-/// How long an untimed piece may wait, and is counted as having waited, in milliseconds. Where that is not enough it is
-/// timed.
+/// The limit of an untimed piece, in milliseconds, which is also the time that it counts for. If it is not enough, the piece
+/// is timed.
 const MOMENT: u64 = 10;
 
-/// How long a connection may keep its other end waiting.
+/// How long a connection may be waited for.
 #[derive(Clone, Copy)]
 pub struct Patience {
-    /// For a line to come whole, or for a piece of a reply to be taken.
+    /// For a whole line, or for the writing of a piece of a reply.
     pub once: Duration,
     /// In all.
     pub whole: Duration,
 }
 
-/// A connection, and how long it was waited for.
+/// A connection, and how long it has been waited for.
 #[derive(Drop)]
 pub struct Waits<'a, C: Clock> {
     clock: &'a C,
@@ -41,7 +41,7 @@ pub struct Waits<'a, C: Clock> {
 }
 
 impl<'a, C: Clock> Waits<'a, C> {
-    /// A connection that was not waited for yet.
+    /// A connection that has not been waited for.
     pub fn new(clock: &'a C, stream: &'a UnixStream, patience: Patience) -> Self {
         Waits {
             clock,
@@ -51,8 +51,8 @@ impl<'a, C: Clock> Waits<'a, C> {
         }
     }
 
-    /// How long may be waited where this much of what is had once has gone. It is an error, that of a call
-    /// that waited too long, where nothing is left.
+    /// The time that is left, after this time for the same line or piece. If none is left, the error is that of a call that
+    /// timed out.
     fn left(&self, gone: Duration) -> io::Result<Duration> {
         let once = self.patience.once.saturating_sub(gone);
         let left = once.min(self.patience.whole.saturating_sub(self.waited.get()));
@@ -62,32 +62,31 @@ impl<'a, C: Clock> Waits<'a, C> {
         Ok(left)
     }
 
-    /// How long was waited since this moment, which counts.
+    /// The time since this moment, which counts as waiting.
     fn waited_since(&self, began: Instant) -> io::Result<Duration> {
         let waited = began.elapsed(self.clock)?;
         self.count(waited);
         Ok(waited)
     }
 
-    /// Counts that this long was waited.
+    /// Counts waiting.
     fn count(&self, waited: Duration) {
         self.waited.set(self.waited.get().saturating_add(waited));
     }
 }
 
-/// Reads of a connection. A read fails where a line does not come whole, or all waiting of the connection has
-/// taken too long.
+/// The reader of a connection. A read fails if a line does not come whole in time, or if all waiting has taken too long.
 #[derive(Drop)]
 pub struct PatientReader<'a, C: Clock> {
     waits: &'a Waits<'a, C>,
-    /// How long the line that is being read was waited for.
+    /// How long the present line has been waited for.
     gone: Duration,
-    /// How long the system was told to wait, where it was told.
+    /// The timeout that is set, if any.
     told: Option<Duration>,
 }
 
 impl<'a, C: Clock> PatientReader<'a, C> {
-    /// Reads of this connection.
+    /// The reader of a connection.
     pub fn new(waits: &'a Waits<'a, C>) -> Self {
         PatientReader {
             waits,
@@ -117,19 +116,18 @@ impl<'a, C: Clock> Read for PatientReader<'a, C> {
     }
 }
 
-/// Writes to a connection. A write fails where a piece is not taken in time, or all waiting of the connection
-/// has taken too long.
+/// The writer of a connection. A write fails if a piece is not written in time, or if all waiting has taken too long.
 #[derive(Drop)]
 pub struct PatientWriter<'a, C: Clock> {
     waits: &'a Waits<'a, C>,
-    /// How long the system was told to wait, where it was told.
+    /// The timeout that is set, if any.
     told: Option<Duration>,
-    /// How many pieces may yet go untimed.
+    /// The number of pieces that may still go untimed.
     untimed: u32,
 }
 
 impl<'a, C: Clock> PatientWriter<'a, C> {
-    /// Writes to this connection.
+    /// The writer of a connection.
     pub fn new(waits: &'a Waits<'a, C>) -> Self {
         PatientWriter {
             waits,
@@ -138,7 +136,7 @@ impl<'a, C: Clock> PatientWriter<'a, C> {
         }
     }
 
-    /// Writes a piece, which waits this long at most.
+    /// Writes a piece within a time limit.
     fn write_within(&mut self, limit: Duration, piece: &[u8]) -> io::Result<usize>
         ensures bound { WritesAtMost result piece.now }
     {
@@ -150,7 +148,7 @@ impl<'a, C: Clock> PatientWriter<'a, C> {
         stream.write(piece)
     }
 
-    /// Writes a piece by the clock.
+    /// Writes a piece, and counts its waiting.
     fn write_timed(&mut self, piece: &[u8]) -> io::Result<usize>
         ensures bound { WritesAtMost result piece.now }
     {

@@ -1,4 +1,4 @@
-//! An image that takes over from the core that runs.
+//! Reloads: an image is opened in place of the core that runs.
 
 ghost use Rattle.std.specs.Prelude.{◌≡◌, Some, IfOk, IfErr};
 ghost use Rattle.ifs_base.specs.FaultTexts.{fault_words};
@@ -14,24 +14,24 @@ use std::alloc::{AllocError, Global};
 use std::fmt::{self, Display, Formatter, Write};
 use std::rt::Files;
 
-/// How many images may take over in one run. Each is kept to its end, since the core's texts and code lie in it.
+/// The most reloads of one run. Each image is kept to the end, since the core's texts and code are borrowed from it.
 pub const RELOADS: u32 = 64;
 
-/// Why an image does not take over.
+/// Why a reload is refused.
 #[derive(Clone, Copy, Debug, PartialEq, Eq)]
 pub enum ReloadFault {
     /// L2: the file cannot be read, or is too large.
     File,
-    /// L3: 64 images have taken over already.
+    /// L3: there were 64 reloads already.
     TooMany,
-    /// Its bytes are not accepted, or no memory was found for them: the fault of the verifier.
+    /// The verifier rejects the bytes, or an allocation for them failed: the fault of the verifier.
     Image(VerifyFault),
-    /// L0 and L1: the core cannot hand on what it knows.
+    /// L0 and L1: the core cannot carry what it knows.
     Carry(CarryCause),
 }
 
 impl ReloadFault {
-    /// What is printed of the fault.
+    /// The words of the fault.
     pub fn text(self) -> FaultText
         ensures { fault_words result ≡ reload_words self }
     {
@@ -57,15 +57,15 @@ impl Display for ReloadFault {
     }
 }
 
-/// A core that goes on as it was, and why no image took over from it.
+/// A core that is unchanged, and why the reload is refused.
 #[derive(Drop)]
 pub struct ReloadRefused<'a> {
     pub core: Core<'a>,
     pub fault: ReloadFault,
 }
 
-/// Reads an image anew and opens it in the place of a core. L3 where 64 images have taken over already, which is looked
-/// at before the file; L2 where that is no regular file, cannot be read or is too large. Else it is as `take_over` has it.
+/// Reads an image again, and opens it in place of a core. L3 if there were 64 reloads already, which comes before any fault
+/// of the file. L2 if the file is not regular, cannot be read, or is too large. Other refusals are those of `take_over`.
 pub fn reload<'m, R: Files + Alloc<A = Global>>(
     rt: &R,
     images: &'m Bump,
@@ -94,11 +94,11 @@ pub fn reload<'m, R: Files + Alloc<A = Global>>(
     }
 }
 
-/// Opens the image of these bytes in the place of a core, with what that hands on. Bytes that are accepted are kept
-/// among the images; others leave nothing behind.
+/// Opens the image of these bytes in place of a core, with what that core carries. Bytes that are accepted are kept among
+/// the images, and others are not.
 ///
-/// It is refused by the fault of the verifier where the bytes are not accepted, by V0 where no memory is found for
-/// them, and by L1 and L0 where the core cannot hand on what it knows. The core is then as it was.
+/// The refusal is the fault of the verifier if it rejects the bytes, V0 if an allocation for them fails, and L1 or L0 if the
+/// core cannot carry what it knows. The core is unchanged then.
 pub fn take_over<'m>(
     alloc: Global,
     images: &'m Bump,
@@ -118,7 +118,7 @@ pub fn take_over<'m>(
     }
 }
 
-/// These bytes among the images, where they are accepted.
+/// Copies bytes to the images, if they are accepted.
 fn kept<'m>(alloc: Global, images: &'m Bump, bytes: &[u8]) -> Result<&'m [u8], VerifyFault>
     ensures kept { IfOk result (λ image. image.now ≡ bytes.now) }
     ensures not_accepted { IfErr result (AreNotAccepted bytes.now) }
@@ -131,7 +131,7 @@ fn kept<'m>(alloc: Global, images: &'m Bump, bytes: &[u8]) -> Result<&'m [u8], V
     }
 }
 
-/// Opens an image that lies among the images in the place of a core.
+/// Opens an image in place of a core.
 fn open_in_place<'m>(
     alloc: Global,
     image: &'m [u8],

@@ -1,16 +1,16 @@
-//! Runners: what starts programs for a host, waits for them, and runs texts to their ends.
+//! Runners, which start programs for a host, wait for them, and run texts to their ends.
 
 ghost use Rattle.std.specs.Prelude.{◌≡◌, ℕ, Option, None};
 ghost use Rattle.ifs_host.specs.Runners.{RunnerLog, RunnerTells, spawned_once, asked_once, ran_once, test_value};
 
 use thiserror::Error;
 
-/// A program could not be started, or a text not be run.
+/// A program could not be started, or a text could not be run.
 #[derive(Clone, Copy, Debug, PartialEq, Eq, Error)]
 #[error("the runner failed")]
 pub struct RunFault;
 
-/// What a runner answers of a program that it started.
+/// The status of a program that a runner started.
 #[derive(Clone, Copy, Debug, PartialEq, Eq)]
 pub enum Waited {
     /// It still runs.
@@ -24,8 +24,7 @@ pub enum Waited {
 }
 
 impl Waited {
-    /// The value of a test by what is answered of its program: none while that runs, and true only where it has
-    /// ended with success.
+    /// The value of a test from the status of its program. It is `None` while the program runs, and true only after success.
     pub fn value(self) -> Option<bool>
         ensures { result ≡ test_value self }
     {
@@ -38,25 +37,25 @@ impl Waited {
     }
 }
 
-/// One thing that a runner was asked, with its answer.
+/// One call of a runner, with its result.
 #[derive(Debug, Drop)]
 pub enum RunnerEvent<T> {
-    /// To start the program of a text: the number of the program, where it was started.
+    /// The start of the program of a text, with the program's number if it was started.
     Spawned(T, Option<u64>),
-    /// Whether the program of this number still runs.
+    /// A look at the program of this number, with its status.
     Asked(u64, Waited),
-    /// To run a text to its end: its exit status, where it could be run.
+    /// The run of a text to its end, with its exit status if it could be run.
     Ran(T, Option<i32>),
 }
 
-/// What starts programs, tells whether they still run, and runs texts.
+/// Starts programs, reports their status, and runs texts.
 ///
-/// It may tell what it was asked and what it answered, and may cease to.
+/// A runner may report its log of calls, and may stop reporting it.
 pub trait Runner {
     /// A program that was started.
     type Child: Drop;
 
-    // What it was asked and what it answered, in order, where that is known.
+    // The calls so far, in order, if they are known.
     ghost told: { Self → Option RunnerLog } = { λ _. None };
 
     // The number of a program.
@@ -66,12 +65,12 @@ pub trait Runner {
     fn spawn(&mut self, text: &str) -> Result<Self::Child, RunFault>
         ensures log { RunnerTells (spawned_once number text.now result) (told self.old) (told self.new) };
 
-    /// Whether a program still runs, and else how it ended.
+    /// Returns the status of a program.
     fn try_wait(&mut self, child: &mut Self::Child) -> Waited
         ensures log { RunnerTells (asked_once (number child.old) result) (told self.old) (told self.new) }
         ensures number { number child.new ≡ number child.old };
 
-    /// Runs a text to its end, and answers its exit status.
+    /// Runs a text to its end, and returns its exit status.
     fn run(&mut self, text: &str) -> Result<i32, RunFault>
         ensures log { RunnerTells (ran_once text.now result) (told self.old) (told self.new) };
 }

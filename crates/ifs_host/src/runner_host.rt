@@ -1,4 +1,4 @@
-//! A host over a runner: tests are programs that the runner starts, and commands are texts that it runs.
+//! A host over a runner. Tests are programs that the runner starts, and commands are texts that it runs.
 
 ghost use Rattle.std.specs.Prelude.{◌≡◌, ◌<◌, [], ◌∷◌, length, None, IfOk};
 ghost use Rattle.ifs_session.specs.Hosts.{Adds, ran, launched, polled, RunCounts};
@@ -13,8 +13,7 @@ use ifs_session::{Host, HostFault};
 use std::alloc::{AllocError, Global};
 use std::marker::Model;
 
-/// Runs at most 256 tests at once. A test for which there is no place, or whose program cannot be started, ends
-/// as one that found false.
+/// Runs at most 256 tests at once. If there is no place for a test, or its program cannot be started, it ends with false.
 pub struct RunnerHost<Q: Runner> {
     runner: Q,
     children: Children<Q>,
@@ -38,7 +37,7 @@ impl<Q: Runner> Model for RunnerHost<Q> {
 }
 
 impl<Q: Runner> RunnerHost<Q> {
-    /// A host over this runner, for which nothing runs.
+    /// A host over a runner, without tests.
     pub fn over(alloc: Global, runner: Q) -> Result<Self, AllocError>
     where
         Q: Drop,
@@ -50,7 +49,7 @@ impl<Q: Runner> RunnerHost<Q> {
         })
     }
 
-    /// Starts the program of a test, for which there is a place.
+    /// Starts the program of a test.
     fn spawn(&mut self, start: Start, text: &str)
         requires { length self.old.waiting.running < 256 }
         ensures { FindsPlace start text.now self.old self.new }

@@ -8,7 +8,7 @@ use std::net::Shutdown;
 use std::os::unix::net::UnixStream;
 use std::time::Duration;
 
-/// The words with which a reply begins that says that the request was not done.
+/// The first words of replies to requests that were not done.
 const NOT_DONE: [&[u8]; 6] = [
     b"fault",
     b"busy",
@@ -26,8 +26,8 @@ pub fn send<'a>(rt: &HostRuntime, socket: &'a str, request: &str) -> Result<(), 
     }
 }
 
-/// Sends a request to the daemon of a socket, and prints the reply that comes within this time. If `check` is set, a reply
-/// that says that the request was not done is a refusal.
+/// Sends a request to the daemon of a socket, and prints the reply, which must come within the limit. If `check` is set, the
+/// reply to a request that was not done is a refusal.
 pub fn send_and_wait<'a>(
     rt: &HostRuntime,
     socket: &'a str,
@@ -44,7 +44,8 @@ pub fn send_and_wait<'a>(
     }
 }
 
-/// What the daemon of a socket replies to request lines, the last of them without its newline, within this time.
+/// Sends request lines to the daemon of a socket, and returns its reply, which must come within the limit. The last line of
+/// `requests` has no newline.
 pub fn replied<'a>(
     rt: &HostRuntime,
     socket: &'a str,
@@ -61,7 +62,7 @@ pub fn replied<'a>(
     }
 }
 
-/// The bytes that come back on request lines. Over 16,777,216 bytes are too many.
+/// Sends request lines, and returns the bytes that come back, at most 16,777,216.
 fn reply_to(
     rt: &HostRuntime,
     socket: &str,
@@ -75,7 +76,7 @@ fn reply_to(
     }
 }
 
-/// What comes back over a connection within this time.
+/// The bytes that come back over a connection within the limit.
 fn reply_within(
     rt: &HostRuntime,
     stream: &UnixStream,
@@ -89,7 +90,7 @@ fn reply_within(
     whole(rt.alloc(), PatientReader::new(&waits))
 }
 
-/// A connection on which a request was written, and nothing more will be.
+/// Opens a connection and writes a request, and closes its writing half.
 fn written(rt: &HostRuntime, socket: &str, request: &str) -> io::Result<UnixStream> {
     let stream = UnixStream::connect(rt, socket)?;
     let mut writer = &stream;

@@ -1,4 +1,4 @@
-//! The daemon: one connection after another over a Unix socket, on one image after another.
+//! The daemon: serves one connection after another over a Unix socket, and reloads its image.
 
 use crate::failure::Failure;
 pub use crate::noting::Notes;
@@ -25,19 +25,19 @@ use std::os::unix::net::{UnixListener, UnixStream};
 use std::thread;
 use std::time::Duration;
 
-/// How many seconds a client may keep a line, or the writing of a piece of a reply, waiting.
+/// The most seconds of waiting for a whole line, or for the writing of a piece of a reply.
 const ONCE: u64 = 5;
 
-/// How many seconds a client may keep the others waiting in all.
+/// The most seconds of waiting in one connection.
 const WHOLE: u64 = 30;
 
-/// How many milliseconds the daemon waits after an `accept` that failed.
+/// The pause after an `accept` that failed, in milliseconds.
 const PAUSE: u64 = 100;
 
-/// How many bytes of replies are held back at most.
+/// The most bytes of replies that are held back.
 const HELD: usize = 65_536;
 
-/// What a daemon is to serve, and how.
+/// The options of a daemon.
 #[derive(Clone, Copy)]
 pub struct Serving<'a> {
     /// The image's file.
@@ -46,13 +46,13 @@ pub struct Serving<'a> {
     pub socket: &'a str,
     /// Which notes it writes.
     pub notes: Notes,
-    /// How long commands and tests may run.
+    /// The time limits of commands and tests.
     pub limits: Limits,
 }
 
-/// Serves the image of a file over a socket, until a client asks for the end. If a client asks for it, the file is
-/// read again, and its image takes over. The socket's file is made here and removed at the end; one that is there
-/// already is a fault. Notes go to standard error.
+/// Serves the image of a file over a socket until a client sends `stop`. If a client sends `reload`, it reads the file
+/// again and goes on with its image. It makes the socket's file, and removes it at the end. It fails if the file exists
+/// already. Notes go to standard error.
 pub fn serve<'a>(rt: &HostRuntime, asked: Serving<'a>) -> Result<(), Failure<'a>> {
     let notes = Logged::new(*rt, asked.notes.level, StandardError::new(*rt));
     let images = Bump::new(rt.alloc());
@@ -72,7 +72,7 @@ pub fn serve<'a>(rt: &HostRuntime, asked: Serving<'a>) -> Result<(), Failure<'a>
     service.run(core)
 }
 
-/// The core that begins: its image is the first of the images that are kept.
+/// Opens the first core. Its image is the first of the images that are kept.
 fn first_core<'m, 'a>(
     rt: &HostRuntime,
     images: &'m Bump,
@@ -85,15 +85,15 @@ fn first_core<'m, 'a>(
     }
 }
 
-/// What serves a core: its host, where its image comes from, and what it notes.
+/// The state of a daemon, except for its core.
 #[derive(Drop)]
 struct Service<'m, 'p, 'h, 'a> {
     rt: &'a HostRuntime,
     notes: &'a Notebook,
     asked: Serving<'p>,
-    /// The images that took over, and the first.
+    /// The first image, and those of reloads.
     images: &'m Bump,
-    /// How many took over.
+    /// The number of reloads.
     reloads: u32,
     host: &'h mut Shell<'a, HostRuntime, Notebook>,
     backwards: Backwards,
@@ -106,12 +106,12 @@ enum After {
     Next,
     /// The image is read again, and then the next connection.
     Reload,
-    /// The end of the service.
+    /// The end of the daemon.
     Stop,
 }
 
 impl<'m, 'p, 'h, 'a> Service<'m, 'p, 'h, 'a> {
-    /// Makes the socket, serves its clients on a core, and removes its file.
+    /// Makes the socket, serves its clients, and removes its file.
     fn run(&mut self, core: Core<'m>) -> Result<(), Failure<'p>> {
         match bound(self.rt, self.asked.socket) {
             Ok((listener, made)) => {
@@ -125,7 +125,7 @@ impl<'m, 'p, 'h, 'a> Service<'m, 'p, 'h, 'a> {
         }
     }
 
-    /// Serves the clients of a socket on a core.
+    /// Serves the clients of a socket.
     fn serve_on(&mut self, listener: &UnixListener, core: Core<'m>) -> Result<(), Failure<'p>> {
         match self.begin(listener) {
             Ok(()) => {
@@ -139,7 +139,7 @@ impl<'m, 'p, 'h, 'a> Service<'m, 'p, 'h, 'a> {
         }
     }
 
-    /// Keeps others from the socket, checks that commands can be run, and prints that clients are listened to.
+    /// Restricts the socket's file, checks that commands can be run, and prints `ready`.
     fn begin(&self, listener: &UnixListener) -> Result<(), Failure<'p>> {
         if let Err(error) = keep_from_others(self.rt, self.asked.socket) {
             return Err(Failure::of_system(self.asked.socket, error));
@@ -151,8 +151,7 @@ impl<'m, 'p, 'h, 'a> Service<'m, 'p, 'h, 'a> {
         Ok(())
     }
 
-    /// Runs the commands of the opening, and then serves one connection after another, up to 4,294,967,295
-    /// of them, until one asks for the end.
+    /// Runs the commands of the opening, and then serves up to 4,294,967,295 connections, until one ends with `stop`.
     fn listen(&mut self, listener: &UnixListener, core: Core<'m>) {
         let mut core = core;
         run_queue(&mut core, self.host);
@@ -168,7 +167,7 @@ impl<'m, 'p, 'h, 'a> Service<'m, 'p, 'h, 'a> {
         }
     }
 
-    /// Serves one connection. If memory runs out for what is held back, that is a fault of its writes.
+    /// Serves one connection. If the allocation for its replies fails, that is a failed write.
     fn connection(&mut self, stream: &UnixStream, core: &mut Core<'m>) -> After {
         let waits = Waits::new(self.rt, stream, patience());
         let writer = PatientWriter::new(&waits);
@@ -185,19 +184,19 @@ impl<'m, 'p, 'h, 'a> Service<'m, 'p, 'h, 'a> {
         } = serve_one(core, self.host, &mut input, &mut output);
         self.note(core, before, steps.as_slice());
         if let End::Fault(_) = end {
-            // what a failed write left is not tried again when the writer is dropped
+            // so that dropping the writer does not write again
             let _closed = stream.shutdown(Shutdown::Write);
         }
         self.after(end, stopped)
     }
 
-    /// Notes what the steps of a connection changed.
+    /// Notes the effect of the steps of a connection.
     fn note(&mut self, core: &Core<'_>, before: Snapshot, steps: &[Step]) {
         self.backwards.note(self.notes, before, steps);
         note_changes(self.notes, core, before, steps);
     }
 
-    /// Notes a connection's end, except of one that asks for the image to be read again, and returns what follows.
+    /// Notes a connection's end, unless it is a reload, and returns what follows.
     fn after(&self, end: End, stopped: bool) -> After {
         if end == End::Reload {
             return After::Reload;
@@ -206,8 +205,8 @@ impl<'m, 'p, 'h, 'a> Service<'m, 'p, 'h, 'a> {
         if stopped { After::Stop } else { After::Next }
     }
 
-    /// Reads the image again, which takes over from a core. If it is refused the core goes on as it was. Either way the client
-    /// of this connection is sent a line that says so.
+    /// Reads the image again, and opens it in place of a core. If it is refused, that core goes on. Either way the client gets
+    /// a line.
     fn reload(&mut self, stream: &UnixStream, core: Core<'m>) -> Core<'m> {
         let reloaded = reload(self.rt, self.images, self.asked.image, self.reloads, core);
         let waits = Waits::new(self.rt, stream, patience());
@@ -216,7 +215,7 @@ impl<'m, 'p, 'h, 'a> Service<'m, 'p, 'h, 'a> {
             Ok(core) => self.taken_over(core, &mut output),
             Err(ReloadRefused { core, fault }) => {
                 note_not_taken_over(self.notes, fault);
-                // the core goes on even if its client is gone
+                // the core goes on, also if the client is gone
                 let _written = write_refused(fault.text(), &mut output);
                 core
             }
@@ -225,7 +224,7 @@ impl<'m, 'p, 'h, 'a> Service<'m, 'p, 'h, 'a> {
         core
     }
 
-    /// Counts a core that took over, and runs the commands of its opening, also if its client is gone.
+    /// Counts a reload, and runs the commands of the opening, also if the client is gone.
     fn taken_over<W: ByteOut>(&mut self, core: Core<'m>, output: &mut W) -> Core<'m> {
         let mut core = core;
         self.reloads = self.reloads.saturating_add(1);
@@ -235,7 +234,7 @@ impl<'m, 'p, 'h, 'a> Service<'m, 'p, 'h, 'a> {
         core
     }
 
-    /// Removes the socket's file; an error in that is the failure.
+    /// Removes the socket's file. If that fails, it is the failure.
     fn removed(
         &self,
         made: FileNumber,
@@ -248,7 +247,7 @@ impl<'m, 'p, 'h, 'a> Service<'m, 'p, 'h, 'a> {
     }
 }
 
-/// How long a client may keep the others waiting.
+/// How long a client may keep the daemon waiting.
 fn patience() -> Patience {
     Patience {
         once: Duration::from_secs(ONCE),
@@ -256,18 +255,17 @@ fn patience() -> Patience {
     }
 }
 
-/// Drops a core, in one place for all ways on which that is done.
+/// Drops a core. One function for all exits makes their proofs cheaper.
 fn let_go(_core: Core<'_>) {}
 
-/// Starts the shell and waits for its end, as for a command that a connection asks for: with a descriptor
-/// more than there are now.
+/// Runs the shell once, with one more file descriptor open, as during a connection.
 fn try_host(rt: &HostRuntime, listener: &UnixListener) -> io::Result<()> {
     let _as_a_connection = listener.try_clone()?;
     try_shell(rt)
 }
 
-/// The next connection. If the system refuses it, that is tried again after a pause; the cause is noted, once
-/// while it stays the same.
+/// Accepts the next connection. If that fails, it tries again after a pause. It notes the cause, once while it stays the
+/// same.
 fn accepted(rt: &HostRuntime, notes: &Notebook, listener: &UnixListener) -> Option<UnixStream> {
     let mut noted = None;
     for _ in 0..u64::MAX {

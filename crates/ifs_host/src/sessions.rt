@@ -8,13 +8,13 @@ use ifs_verify::{VerifyFault, verify};
 use std::alloc::Global;
 use std::io::{self, BufWriter, Stdout};
 
-/// How many bytes of replies are held back at most, until input is waited for.
+/// The most bytes of replies that are held back until input is waited for.
 const HELD: usize = 65_536;
 
-/// The code of the line that says that memory ran out.
+/// The code of a failed allocation.
 const MEMORY: &str = "V0";
 
-/// A session whose first line is the image.
+/// Runs a session whose first line is the image.
 pub fn by_hexadecimal<'a>(rt: &HostRuntime) -> Result<(), Failure<'a>> {
     let Ok(writer) = BufWriter::with_capacity(rt.alloc(), HELD, io::writer(rt)) else {
         return Err(Failure::out_of_memory(rt, MEMORY));
@@ -28,19 +28,19 @@ pub fn by_hexadecimal<'a>(rt: &HostRuntime) -> Result<(), Failure<'a>> {
     }
 }
 
-/// A session on the image of a file.
+/// Runs a session on the image of a file.
 pub fn on_file<'a>(rt: &HostRuntime, path: &'a str) -> Result<(), Failure<'a>> {
     let image = image_at(rt, path)?;
     on_image(rt, image.as_slice())
 }
 
-/// A session on the image of these bytes.
+/// Runs a session on the image of these bytes.
 fn on_image<'a>(rt: &HostRuntime, image: &[u8]) -> Result<(), Failure<'a>> {
     let mut core = core_on(rt, image)?;
     simulated(rt, &mut core)
 }
 
-/// The bytes of an image's file. If memory ran out for them, the line that says so is printed.
+/// Reads an image's file. If an allocation fails, prints the line that says so.
 pub fn image_at<'a>(rt: &HostRuntime, path: &'a str) -> Result<Vec<u8>, Failure<'a>> {
     match contents(rt, path) {
         Ok(image) => Ok(image),
@@ -48,7 +48,7 @@ pub fn image_at<'a>(rt: &HostRuntime, path: &'a str) -> Result<Vec<u8>, Failure<
     }
 }
 
-/// A core on the image of these bytes, in place. If they are refused, the line that says so is printed.
+/// Opens a core on the image of these bytes, in place. If they are refused, prints the line that says so.
 pub(crate) fn core_on<'a, 'p>(rt: &HostRuntime, image: &'a [u8]) -> Result<Core<'a>, Failure<'p>> {
     match opened(rt.alloc(), image) {
         Ok(core) => Ok(core),
@@ -56,7 +56,7 @@ pub(crate) fn core_on<'a, 'p>(rt: &HostRuntime, image: &'a [u8]) -> Result<Core<
     }
 }
 
-/// A core on the image of these bytes.
+/// Opens a core on the image of these bytes.
 fn opened<'a>(alloc: Global, image: &'a [u8]) -> Result<Core<'a>, VerifyFault> {
     match Core::open(alloc, verify(alloc, image)?) {
         Ok(core) => Ok(core),
@@ -64,7 +64,7 @@ fn opened<'a>(alloc: Global, image: &'a [u8]) -> Result<Core<'a>, VerifyFault> {
     }
 }
 
-/// A session on a core.
+/// Runs a session on a core.
 fn simulated<'a>(rt: &HostRuntime, core: &mut Core<'_>) -> Result<(), Failure<'a>> {
     let Ok(writer) = BufWriter::with_capacity(rt.alloc(), HELD, io::writer(rt)) else {
         return Err(Failure::out_of_memory(rt, MEMORY));

@@ -1,4 +1,4 @@
-//! The daemon's host: commands and tests run by the shell, with notes of what they did.
+//! The daemon's host: it runs commands and tests by the shell, and notes what they did.
 
 ghost use Rattle.std.specs.Prelude.{◌≡◌, ◌⊎◌, [], ◌∷◌, Some, IfOk, IfSome};
 ghost use Rattle.std.specs.Process.{child_status, command_args, command_program};
@@ -21,42 +21,42 @@ use std::{io, thread};
 /// The program that runs texts.
 pub const SHELL: &str = "/bin/sh";
 
-/// How long the daemon waits at first before it looks again whether a command has ended, in milliseconds.
+/// The first pause between two looks at a command that runs, in milliseconds.
 const SHORTEST_PAUSE: u64 = 1;
 
-/// How long it waits at most, in milliseconds.
+/// The longest such pause, in milliseconds.
 const LONGEST_PAUSE: u64 = 64;
 
-/// How long the shell may run a text before it is killed; for ever where nothing is said.
+/// How long the shell may run a text before it is killed. `None` is no limit.
 #[derive(Clone, Copy, Debug, Default)]
 pub struct Limits {
     /// How long a command may run.
     pub command: Option<Duration>,
-    /// How long a test may run, which then has found false. It is looked at when the ends of tests are asked for.
+    /// How long a test may run. If it runs longer, it ends with false. The limit is checked when the host is polled.
     pub test: Option<Duration>,
 }
 
-/// Runs each text by `/bin/sh -c`, with empty standard input and both outputs dropped, and notes each command
-/// with its end, what could not be started or waited for, what was killed, and that no place is left.
+/// Runs each text by `/bin/sh -c`, with empty standard input and both outputs dropped. It notes each command with its end,
+/// what could not be started or waited for, what was killed, and that no place is left.
 ///
-/// It tells nothing of what it was asked, since what is started tells nothing of it.
+/// It reports no log of its calls, since the programs of the system report none.
 #[derive(Drop)]
 pub struct ShellRunner<'a, R: Processes, L> {
     runtime: &'a R,
     notes: &'a L,
     limits: Limits,
-    /// How many tests run.
+    /// The number of tests that run.
     running: usize,
 }
 
-/// A test that was started, seen as the status of its program.
+/// A test that was started. Its model is the status of its program.
 #[derive(Drop)]
 pub struct ShellTest<P: OpenProcess> {
     child: Child<P>,
     text: String,
-    /// When it was started, where the clock told that.
+    /// When it was started, if the clock worked.
     began: Option<Instant>,
-    /// Whether it was seen to run longer than it may.
+    /// Whether it has reached its limit.
     late: bool,
 }
 
@@ -78,11 +78,11 @@ struct Ended {
     killed: bool,
 }
 
-/// The host of the daemon: commands and tests run by the shell.
+/// The host of the daemon.
 pub type Shell<'a, R, L> = RunnerHost<ShellRunner<'a, R, L>>;
 
 impl<'a, R: Processes + Clock + Alloc<A = Global>, L: Log> RunnerHost<ShellRunner<'a, R, L>> {
-    /// A host for which nothing runs, with these limits, which writes notes.
+    /// A host without tests, with these limits, which writes notes.
     pub fn new(runtime: &'a R, notes: &'a L, limits: Limits) -> Result<Self, AllocError> {
         let runner = ShellRunner {
             runtime,
@@ -94,7 +94,7 @@ impl<'a, R: Processes + Clock + Alloc<A = Global>, L: Log> RunnerHost<ShellRunne
     }
 }
 
-/// Starts the shell and waits for its end. An error is why commands and tests would not run here.
+/// Runs the shell once. The error is why commands and tests cannot run.
 pub fn try_shell<R: Processes + Alloc<A = Global>>(rt: &R) -> io::Result<()> {
     if status_of(rt, ":")?.success() {
         Ok(())
@@ -137,12 +137,12 @@ impl<'a, R: Processes + Clock + Alloc<A = Global>, L: Log> ShellRunner<'a, R, L>
         }
     }
 
-    /// Counts a test that runs no more.
+    /// Counts a test that has ended.
     fn free_place(&mut self) {
         self.running = self.running.saturating_sub(1);
     }
 
-    /// Kills a test that runs longer than it may.
+    /// Kills a test that has reached its limit.
     fn kill_if_late(&self, test: &mut ShellTest<R::Started>)
         ensures { test.new ≡ test.old }
     {
@@ -154,7 +154,7 @@ impl<'a, R: Processes + Clock + Alloc<A = Global>, L: Log> ShellRunner<'a, R, L>
         note_kill(self.notes, test.text.as_str(), killed);
     }
 
-    /// Notes how a command ended, which was started at this moment.
+    /// Notes the end of a command that was started at this moment.
     fn note_end(&self, text: &str, ended: Ended, began: Option<Instant>) {
         let lasted = began
             .and_then(|began| began.elapsed(self.runtime).ok())
@@ -172,7 +172,7 @@ fn note_kill(notes: &impl Log, text: &str, killed: io::Result<()>) {
     }
 }
 
-/// Notes how a command ended, which ran so long.
+/// Notes the end of a command that ran this long.
 fn note_ended(notes: &impl Log, text: &str, ended: Ended, lasted: Duration) {
     let text = Quoted(text);
     let code = code_of(ended.status);
@@ -190,7 +190,7 @@ fn note_ended(notes: &impl Log, text: &str, ended: Ended, lasted: Duration) {
     log!(notes; level, "command {text}: {killed}exit {code} after {millis} ms");
 }
 
-/// Whether what was started at this moment has run as long as it may.
+/// Whether a program that was started at this moment has reached its limit.
 fn is_late(clock: &impl Clock, began: Option<Instant>, limit: Option<Duration>) -> bool {
     let (Some(began), Some(limit)) = (began, limit) else {
         return false;
@@ -198,7 +198,7 @@ fn is_late(clock: &impl Clock, began: Option<Instant>, limit: Option<Duration>) 
     began.elapsed(clock).is_ok_and(|elapsed| elapsed >= limit)
 }
 
-/// Waits for the end of a program, and kills it where it runs longer than this.
+/// Waits for the end of a program, and kills it if it runs longer than the limit.
 fn ended_within<P: OpenProcess + Drop>(
     clock: &impl Clock,
     child: &mut Child<P>,
@@ -267,7 +267,7 @@ fn status_of<R: Processes + Alloc<A = Global>>(rt: &R, text: &str) -> io::Result
     call.command.status(rt)
 }
 
-/// What is answered of a program whose status is this; it still runs where it has none.
+/// The status of a program from its exit status. It runs while it has none.
 fn waited(status: Option<ExitStatus>) -> Waited
     ensures { Agrees result status }
 {
@@ -278,7 +278,7 @@ fn waited(status: Option<ExitStatus>) -> Waited
     }
 }
 
-/// The number that the shell itself gives for how a program ended: its exit code, or 128 and the signal.
+/// The number that a shell uses for the end of a program: its exit code, or 128 plus the signal.
 fn code_of(status: ExitStatus) -> i32
     ensures { result ≡ shell_code status }
 {

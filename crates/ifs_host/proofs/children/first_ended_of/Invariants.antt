@@ -1,4 +1,4 @@
--- The programs stay as they were, and those before this one were asked about and still run.
+-- The programs are unchanged, and those before this one still run.
 use Rattle.std.proofs.Common.{◌≡◌, map, take}
 use Rattle.ifs_host.specs.Runners.{RunnerTells}
 use Rattle.ifs_host.specs.Children.{Program, all_run}
