@@ -1,4 +1,4 @@
--- What the program's answers say of the bytes of a file.
+-- Answers: what they say about the bytes of a file.
 use Rattle.std.specs.Prelude.{ℕ, ◌≡◌, ◌≢◌, ◌+◌, ◌==◌, ◌++◌, ◌⊎◌, ⊤, List, length, take, count_by}
 use Rattle.std.specs.Prelude.{Option, None, Err, IsSomeAnd}
 use Rattle.std.specs.Str.{IsUtf8, IsValidUpTo}
@@ -60,7 +60,7 @@ ArePolicy bytes defs = IsUtf8 bytes × ((policy : PolicyParts) × HasPolicy byte
 abbrev pub AreCompiled : List ℕ → List (List ℕ × List ℕ) → Type 0
 AreCompiled bytes defs = IsUtf8 bytes × Compiles bytes defs
 
--- Bytes, with definitions beside them, are what a task asks for.
+-- Bytes are valid for a task with these definitions.
 abbrev pub AreGood : Task → List ℕ → List (List ℕ × List ℕ) → Type 0
 AreGood Check bytes defs = ArePolicy bytes defs
 AreGood Compile bytes defs = AreCompiled bytes defs
@@ -70,11 +70,11 @@ AreGood Asm bytes defs = AreAssembly bytes
 AreGood Upgrade bytes defs = AreImage bytes
 AreGood Graph bytes defs = ArePolicy bytes defs
 
--- A text is the line of the budgets that the image states which bytes spell.
+-- A text is the line of the budgets of the image that bytes spell.
 abbrev pub TellsBudgets : List ℕ → List ℕ → Type 0
 TellsBudgets bytes text = (image : ImageParts) × Spells bytes image × (text ≡ budgets_line image.budgets)
 
--- A text is the lines of the notes on what bytes say, and then the line of how many names and texts their policy has.
+-- A text is the lines of the notes on a policy, and then the line of the numbers of its names and texts.
 pub record TellsPolicy (bytes : List ℕ) (defs : List (List ℕ × List ℕ)) (text : List ℕ) : Type 0 where
   pub said : File
   pub policy : PolicyParts
@@ -82,13 +82,13 @@ pub record TellsPolicy (bytes : List ℕ) (defs : List (List ℕ × List ℕ)) (
   pub has : HasPolicy bytes defs policy
   pub printed : text ≡ note_lines said.notes ++ counts_line policy.tables
 
--- A text is the lines of the notes on what bytes say, and then the line of a file of so many bytes.
+-- A text is the lines of the notes on a policy, and then the line of a file of this size in bytes.
 pub record TellsCompiled (bytes : List ℕ) (defs : List (List ℕ × List ℕ)) (text : List ℕ) (size : ℕ) : Type 0 where
   pub said : File
   pub says : SaysFile bytes defs said
   pub printed : text ≡ note_lines said.notes ++ size_line size
 
--- What is printed of good bytes, beside the file that is given: what was found in them, or its length. Of a picture nothing is said.
+-- The text for valid bytes, with the file beside it: what the bytes contain, or the length of the file. A picture may be any text.
 abbrev pub IsPrinted : Task → List ℕ → List (List ℕ × List ℕ) → Option (List ℕ) → List ℕ → Type 0
 IsPrinted Check bytes defs file text = TellsPolicy bytes defs text
 IsPrinted Compile bytes defs file text = IsSomeAnd file (λ image. TellsCompiled bytes defs text (length image))
@@ -98,25 +98,25 @@ IsPrinted Asm bytes defs file text = IsSomeAnd file (λ image. text ≡ size_lin
 IsPrinted Upgrade bytes defs file text = IsSomeAnd file (λ image. text ≡ size_line (length image))
 IsPrinted Graph bytes defs file text = ⊤
 
--- A text is the line of a refusal, which tells in words a fault of which something holds.
+-- A text is the line of a refusal: the words of a fault that holds.
 pub record Tells {Fault : Type 0} (words : Fault → List ℕ) (Holds : Fault → Type 0) (text : List ℕ) : Type 0 where
   pub fault : Fault
   pub holds : Holds fault
   pub printed : text ≡ refusal_line (words fault)
 
--- The first byte of some that is no UTF-8 stands on this line, counted from 1.
+-- The first byte that is not UTF-8 is on this line, counted from 1.
 abbrev pub IsNoText : List ℕ → ℕ → Type 0
 IsNoText bytes line = (n : ℕ) × IsValidUpTo bytes n × (line ≡ 1 + count_by (λ byte. byte == 10) (take n bytes))
 
--- A text tells a line with a byte that is no UTF-8, by the code of what begins no word.
+-- A text is the refusal of a line with a byte that is not UTF-8, in a policy.
 abbrev pub TellsNoText : List ℕ → List ℕ → Type 0
 TellsNoText bytes text = Tells no_text_words (IsNoText bytes) text
 
--- A text tells such a line by the code of a line of assembly that is not known.
+-- A text is the refusal of a line with a byte that is not UTF-8, in assembly text.
 abbrev pub TellsNoLine : List ℕ → List ℕ → Type 0
 TellsNoLine bytes text = Tells (λ line. asm_fault_words (Unknown line)) (IsNoText bytes) text
 
--- What is printed of refused bytes: a fault that they have, in its words.
+-- The text for invalid bytes: the words of a fault that they have.
 abbrev pub IsRefusedBy : Task → List ℕ → List (List ℕ × List ℕ) → List ℕ → Type 0
 IsRefusedBy Check bytes defs text = TellsNoText bytes text ⊎ Tells policy_fault_words (IsTextRefused bytes defs) text
 IsRefusedBy Compile bytes defs text = TellsNoText bytes text ⊎ Tells compile_fault_words (λ fault. (fault ≢ Memory) × IsCompileRefusal bytes defs fault) text
@@ -126,7 +126,7 @@ IsRefusedBy Asm bytes defs text = TellsNoLine bytes text ⊎ Tells asm_fault_wor
 IsRefusedBy Upgrade bytes defs text = Tells image_fault_words (λ fault. image_of bytes ≡ Err fault) text
 IsRefusedBy Graph bytes defs text = TellsNoText bytes text ⊎ Tells policy_fault_words (IsTextRefused bytes defs) text
 
--- The file that is given for good bytes: of a text that is compiled the image that means its policy, of assembly text the image that it spells, of an image its upgrade, and none of the other tasks.
+-- The file for valid bytes: the image that means a compiled policy, the image that assembly text spells, or the upgrade of an image. The other tasks have none.
 abbrev pub IsGiven : Task → List ℕ → List (List ℕ × List ℕ) → Option (List ℕ) → Type 0
 IsGiven Check bytes defs file = file ≡ None
 IsGiven Compile bytes defs file = IsSomeAnd file (IsCompiled bytes defs)

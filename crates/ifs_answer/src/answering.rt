@@ -1,4 +1,4 @@
-//! What the words on files answer, apart from the files themselves.
+//! The answer of each task.
 
 ghost use Rattle.std.specs.Prelude.{◌≡◌, ◌≢◌, ◌≤◌, None, option_map, string_bytes, IfOk};
 ghost use Rattle.ifs_answer.specs.Answers.{AreAccepted, AreGood, IsGiven, IsPrinted, IsRefusedBy, Tells, TellsBudgets};
@@ -19,8 +19,7 @@ use ifs_image::Budgets;
 use ifs_verify::{VerifyFault, verify};
 use std::alloc::{AllocError, Global};
 
-/// The answer to a task on these bytes: its text is the lines on success, and a line on a refusal. An error
-/// is want of memory. The definitions are those that stand beside a policy.
+/// The answer to a task on these bytes, with these definitions beside a policy. The only error is a failed allocation.
 pub fn answer(
     alloc: Global,
     task: Task,
@@ -29,14 +28,14 @@ pub fn answer(
 ) -> Result<Answer, AllocError>
     // The status is 0 or 1.
     ensures status { IfOk result (λ answer. answer.status ≤ 1) }
-    // Bytes are told to be good exactly where they are what the task asks for.
+    // The status is 0 exactly if the bytes are valid for the task.
     ensures good { IfOk result (λ answer. answer.status ≡ 0 → AreGood task input.now (defined_by defs.now)) }
     ensures refused { IfOk result (λ answer. answer.status ≢ 0 → ¬ AreGood task input.now (defined_by defs.now)) }
-    // What is printed of good bytes is what they are: budgets, counts, notes, lengths, an image's text. Of a picture nothing is said.
+    // The text for valid bytes is their budgets, counts, notes, length, or assembly text. A picture may be any text.
     ensures text { IfOk result (λ answer. answer.status ≡ 0 → IsPrinted task input.now (defined_by defs.now) (option_map (λ file. file.items) answer.file) (string_bytes answer.text)) }
-    // What is printed of refused bytes is a fault that they have.
+    // The text for invalid bytes is a fault that they have.
     ensures told { IfOk result (λ answer. answer.status ≢ 0 → IsRefusedBy task input.now (defined_by defs.now) (string_bytes answer.text)) }
-    // The file is the one that the task asks for, and there is none with a refusal.
+    // The file is the one that the task makes. There is none for invalid bytes.
     ensures file { IfOk result (λ answer. answer.status ≡ 0 → IsGiven task input.now (defined_by defs.now) (option_map (λ file. file.items) answer.file)) }
     ensures no_file { IfOk result (λ answer. answer.status ≢ 0 → answer.file ≡ None) }
 {
@@ -51,7 +50,7 @@ pub fn answer(
     }
 }
 
-/// The answer of `verify`: the stated budgets of an image.
+/// The answer of `verify`: the budgets that an image states.
 fn verified(alloc: Global, image: &[u8]) -> Result<Answer, AllocError>
     ensures status { IfOk result (λ answer. answer.status ≤ 1) }
     ensures good { IfOk result (λ answer. answer.status ≡ 0 → AreAccepted image.now) }
@@ -67,7 +66,7 @@ fn verified(alloc: Global, image: &[u8]) -> Result<Answer, AllocError>
     }
 }
 
-/// The answer that is the budgets that an image states.
+/// The answer with an image's budgets.
 fn budgeted(alloc: Global, budgets: Budgets) -> Result<Answer, AllocError>
     ensures good { IfOk result (λ answer. (answer.status ≡ 0) × (answer.file ≡ None)) }
     ensures text { IfOk result (λ answer. string_bytes answer.text ≡ budgets_line budgets) }

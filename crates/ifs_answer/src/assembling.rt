@@ -1,4 +1,4 @@
-//! What `asm` answers to the bytes of an assembly text.
+//! The answer of `asm`.
 
 ghost use Rattle.std.specs.Prelude.{◌≡◌, ◌≢◌, ◌≤◌, ◌⊎◌, length, None, option_map, string_bytes, IsSomeAnd, IfOk};
 ghost use Rattle.ifs_answer.specs.Answers.{AreAssembly, IsAssembled, Tells, TellsNoLine};
@@ -33,7 +33,7 @@ pub fn asm(alloc: Global, bytes: &[u8]) -> Result<Answer, AllocError>
     }
 }
 
-/// A line with a byte that is no UTF-8 has no form that is known.
+/// A line with a byte that is not UTF-8 has an unknown form.
 fn unknown(fault: NotText) -> AsmFault
     ensures { result ≡ Unknown fault.line }
 {

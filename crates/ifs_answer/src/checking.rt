@@ -1,4 +1,4 @@
-//! What `check` and `graph` answer to the bytes of a policy.
+//! The answers of `check` and `graph`.
 
 ghost use Rattle.std.specs.Prelude.{◌≡◌, ◌≢◌, ◌≤◌, ◌++◌, ◌⊎◌, None, Some, string_bytes, IfOk, IfErr};
 ghost use Rattle.std.specs.Str.{IsUtf8};
@@ -18,7 +18,7 @@ use std::alloc::{AllocError, Global};
 use std::fmt::{self, Display, Formatter, Write};
 use std::str::from_utf8;
 
-/// P1: a byte that is no UTF-8, with its line, from 1.
+/// P1: the line, from 1, of the first byte that is not UTF-8.
 #[derive(Clone, Copy, Debug, PartialEq, Eq)]
 pub struct NotText {
     pub line: usize,
@@ -33,7 +33,7 @@ impl Display for NotText {
     }
 }
 
-/// The text of these bytes. They are none where a byte is no UTF-8: the line is that of the first one.
+/// The text of these bytes, or the line of the first byte that is not UTF-8.
 #[tactic(auto, using(crate::proofs::Texts::not_utf8))]
 pub fn text_of(bytes: &[u8]) -> Result<&str, NotText>
     ensures text { IfOk result (λ text. (text.now ≡ bytes.now) × IsUtf8 bytes.now) }
@@ -53,13 +53,13 @@ pub fn text_of(bytes: &[u8]) -> Result<&str, NotText>
 /// What is printed of a policy.
 #[derive(Clone, Copy, PartialEq, Eq)]
 pub enum Shown {
-    /// Its notes, and how many names it has.
+    /// Its notes, and the numbers of its names.
     Counts,
-    /// Its states, as a picture in graphviz's language.
+    /// Its states, as a picture in the language of graphviz.
     Picture,
 }
 
-/// The answer of `check` and of `graph`: what is printed of a policy, or why bytes are none.
+/// The answer of `check` and of `graph`: what is printed of a policy, or why the bytes are not a policy.
 #[tactic(auto, using(crate::proofs::Texts::no_policy))]
 pub fn show(
     alloc: Global,
@@ -100,7 +100,7 @@ fn answered(
     told(alloc, shown, text, defs, &found)
 }
 
-/// The same of a policy that is borrowed.
+/// The same for a policy that is borrowed.
 fn told(
     alloc: Global,
     shown: Shown,
@@ -117,7 +117,7 @@ fn told(
     }
 }
 
-/// The answer that is the notes on a policy, and how many names it has.
+/// The answer with the notes on a policy and the numbers of its names.
 fn counted(alloc: Global, found: &PolicyText) -> Result<Answer, AllocError>
     ensures good { IfOk result (λ answer. (answer.status ≡ 0) × (answer.file ≡ None)) }
     ensures text { IfOk result (λ answer. string_bytes answer.text ≡ note_lines found.now.tree.notes ++ counts_line found.now.policy.tables) }

@@ -1,4 +1,4 @@
-//! What `compile` answers to the bytes of a policy.
+//! The answer of `compile`.
 
 ghost use Rattle.std.specs.Prelude.{◌≡◌, ◌≢◌, ◌≤◌, ◌++◌, ◌⊎◌, length, None, Some, Ok, option_map, string_bytes};
 ghost use Rattle.std.specs.Prelude.{IsSomeAnd, IfOk};
@@ -40,14 +40,14 @@ pub fn compile(alloc: Global, bytes: &[u8], defs: &[(&str, &str)]) -> Result<Ans
     }
 }
 
-/// The answer that is these lines, if there was memory for them, and this image.
+/// The answer with these lines, if their allocation did not fail, and this image.
 fn written(lines: Result<String, AllocError>, image: Vec<u8>) -> Result<Answer, AllocError>
     ensures { IfOk result (λ answer. (answer.status ≡ 0) × (Ok answer.text ≡ lines) × (answer.file ≡ Some image)) }
 {
     Ok(Answer::good(lines?, Some(image)))
 }
 
-/// The lines of the notes of a policy, and of an image of so many bytes.
+/// The lines of the notes on a policy, and of an image of this size in bytes.
 fn lines_of(alloc: Global, tree: &Tree, size: usize) -> Result<String, AllocError>
     ensures { IfOk result (λ lines. string_bytes lines ≡ note_lines tree.now.notes ++ size_line size) }
 {

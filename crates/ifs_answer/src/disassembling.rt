@@ -1,4 +1,4 @@
-//! What `disasm` answers to the bytes of an image.
+//! The answer of `disasm`.
 
 ghost use Rattle.std.specs.Prelude.{◌≡◌, ◌≢◌, ◌≤◌, None, Err, string_bytes, IfOk};
 ghost use Rattle.ifs_answer.specs.Answers.{AreImage, IsListing, Tells};
@@ -26,7 +26,7 @@ pub fn disasm(alloc: Global, bytes: &[u8]) -> Result<Answer, AllocError>
     }
 }
 
-/// The answer that is the canonical text of an image.
+/// The answer with the canonical text of an image.
 fn listed(alloc: Global, image: &Image) -> Result<Answer, AllocError>
     ensures good { IfOk result (λ answer. (answer.status ≡ 0) × (answer.file ≡ None)) }
     ensures text { IfOk result (λ answer. string_bytes answer.text ≡ canonical image.now) }

@@ -1,7 +1,7 @@
-//! The changes of state that a policy's text asks for, as the edges of a picture.
+//! The changes of state in a policy's text, as the edges of a picture.
 //!
-//! What is gone through are the tokens of a text that has a policy, so that each condition can be shown as it is written,
-//! macros by their names.
+//! The edges are made from the tokens of the text, so that each condition is shown as it is written, with macros by their
+//! names.
 
 use crate::labels::put_label;
 use ifs_base::Span;
@@ -10,27 +10,27 @@ use ifs_policy::Policy;
 use std::alloc::{AllocError, Global};
 use std::mem;
 
-/// What the next token is taken for.
+/// What the next token is.
 #[derive(Clone, Copy)]
 enum Awaited {
-    /// What a part or an action begins with, or a brace.
+    /// The beginning of a part or of an action, or a brace.
     Part,
-    /// A name or a command that tells nothing here: of `run`, or of `init-state`.
+    /// The operand of `run` or of `init-state`, which is ignored.
     Operand,
     /// The name of a state whose parts follow.
     State,
-    /// A condition, or what goes on behind it.
+    /// A part of a condition, or the first token after it.
     Condition,
     /// The name of the state that is set.
     Target,
 }
 
-/// What has begun and not ended: a state, an `init`, or an `if`.
+/// A state, an `init`, or an `if` that has begun and not ended.
 #[derive(Drop)]
 struct Level {
     /// The condition of an `if`, as it is written.
     condition: Option<String>,
-    /// Whether it ends with a brace; else it ends with its one action.
+    /// Whether it ends with a brace. Otherwise it ends with its one action.
     braced: bool,
 }
 
@@ -41,22 +41,22 @@ pub(crate) struct Source<'t, 'p> {
     pub policy: &'p Policy,
 }
 
-/// The edges of a policy, and what the tokens so far have begun.
+/// The edges of a policy, and the levels that the tokens so far have begun.
 #[derive(Drop)]
 pub(crate) struct Edges {
     alloc: Global,
     /// A line for each edge.
     pub lines: String,
-    /// Whether one of them parts from what stands outside any state.
+    /// Whether one of them is outside any state.
     pub from_any: bool,
     awaited: Awaited,
-    /// The state whose parts are gone through, by its number; none outside any.
+    /// The number of the state that the tokens are in. It is `None` outside any state.
     state: Option<usize>,
     /// From the outermost.
     levels: Vec<Level>,
-    /// What was read of a condition.
+    /// The condition so far.
     condition: String,
-    /// Where its last token stands.
+    /// The span of its last token.
     last: Option<Span>,
 }
 
@@ -83,7 +83,7 @@ impl Edges {
         Ok(edges)
     }
 
-    /// Goes on with a token.
+    /// Takes a token.
     fn take(&mut self, source: Source<'_, '_>, token: &Token) -> Result<(), AllocError> {
         match self.awaited {
             Awaited::Part => self.begin(&token.what),
@@ -97,7 +97,7 @@ impl Edges {
         }
     }
 
-    /// Goes on with a token that begins or ends something.
+    /// Takes a token that begins or ends something.
     fn begin(&mut self, what: &What) -> Result<(), AllocError> {
         match what {
             What::Word(word) => self.begin_word(word.as_str()),
@@ -125,7 +125,7 @@ impl Edges {
         Ok(())
     }
 
-    /// A state begins.
+    /// Begins a state.
     fn enter(&mut self, source: Source<'_, '_>, name: &What) -> Result<(), AllocError> {
         self.state = Some(number_of(source.policy, name));
         self.open(None)
@@ -140,14 +140,14 @@ impl Edges {
         Ok(())
     }
 
-    /// What began last has a block.
+    /// Gives the last level a block.
     fn open_brace(&mut self) {
         if let Some(level) = self.levels.last_mut() {
             level.braced = true;
         }
     }
 
-    /// A block ends, and so what it is the block of.
+    /// Ends a block and its level.
     fn close_brace(&mut self) {
         let _ended = self.levels.pop();
         self.end_action();
@@ -156,7 +156,7 @@ impl Edges {
         }
     }
 
-    /// An action ends, and so does each `if` and `init` that has it for its only one.
+    /// Ends an action, and each `if` and `init` that has only this action.
     fn end_action(&mut self) {
         self.awaited = Awaited::Part;
         let kept = self
@@ -168,7 +168,7 @@ impl Edges {
         self.levels.truncate(kept);
     }
 
-    /// Goes on with a token behind `if`: one of the condition, or the first behind it.
+    /// Takes a token after `if`: one of the condition, or the first after it.
     fn go_on(&mut self, source: Source<'_, '_>, token: &Token) -> Result<(), AllocError> {
         if begins_actions(&token.what) {
             self.last = None;
@@ -176,7 +176,7 @@ impl Edges {
             self.open(Some(condition))?;
             return self.begin(&token.what);
         }
-        // all tokens of a macro stand where it is used
+        // all tokens of a macro have the span of its use
         if self.last == Some(token.span) {
             return Ok(());
         }
@@ -184,7 +184,7 @@ impl Edges {
         self.add(written(source.text, token.span))
     }
 
-    /// Adds a token's text to the condition. Tokens are parted by a blank, but not at a dot.
+    /// Adds a token's text to the condition. Tokens are separated by a space, except at a dot.
     fn add(&mut self, piece: &str) -> Result<(), AllocError> {
         let together = self.condition.is_empty() || piece == "." || self.condition.ends_with('.');
         if !together {
@@ -208,7 +208,7 @@ impl Edges {
         Ok(())
     }
 
-    /// Ends the line of an edge with its conditions, a line of its label for each `if`, the outermost first.
+    /// Ends the line of an edge with its conditions. Its label has a line for each `if`, the outermost first.
     fn put_conditions(&mut self) -> Result<(), AllocError> {
         let mut before = " [label=\"";
         for level in self.levels.as_slice() {
@@ -223,7 +223,7 @@ impl Edges {
     }
 }
 
-/// Whether a token cannot stand in a condition, but behind it.
+/// Whether a token is the first after a condition.
 fn begins_actions(what: &What) -> bool {
     match what {
         What::BraceOpen => true,
@@ -240,7 +240,7 @@ fn number_of(policy: &Policy, name: &What) -> usize {
     }
 }
 
-/// What stands in a text at this place.
+/// The part of a text at this span.
 fn written(text: &str, span: Span) -> &str {
     text.get(span.start as usize..span.end as usize)
         .unwrap_or_default()

@@ -1,27 +1,26 @@
-//! What a daemon tells of its steps, with the names of its image.
+//! The steps of a daemon, with the names of its image.
 
 use ifs_base::{Number, Quoted, parse_number};
 use ifs_image::ImageView;
 use std::alloc::{AllocError, Global};
 
-/// How many steps a daemon tells at most.
+/// The most steps that a daemon reports.
 const MOST_STEPS: usize = 256;
 
-/// What is told of the steps.
+/// What is printed of the steps.
 #[derive(Clone, Copy, Debug, PartialEq, Eq)]
 pub enum Explained {
-    /// What each did, but for ticks that evaluated nothing.
+    /// What each did, without ticks that evaluated nothing.
     Steps,
     /// The request lines of these steps.
     Requests,
 }
 
-/// What a daemon replied to `status` and `trace`, with the names of its image in place of numbers. An error is want of
-/// memory.
+/// Explains what a daemon replied to `status` and `trace`, with the names of its image in place of numbers. The only error
+/// is a failed allocation.
 ///
-/// A line of a step tells its moment, or `-` where that is not known, and begins with `*` where the state changed. A
-/// number that the image has no name for stays as it is, as does a line that tells no step; of request lines such a line
-/// is left out.
+/// The line of a step has its moment, or `-` if that is not known, and begins with `*` if the state changed. A number
+/// without a name in the image is unchanged. A line without a step is unchanged too, and `Requests` leaves it out.
 pub fn explain(
     alloc: Global,
     image: &ImageView<'_>,
@@ -46,7 +45,7 @@ fn steps_of(alloc: Global, image: &ImageView<'_>, reply: &str) -> Result<String,
     Ok(story.text)
 }
 
-/// The state before the first step, in quotes: the initial one, where all steps are told.
+/// The state before the first step, in quotes. It is the initial one, if all steps are reported.
 fn initial_of(
     alloc: Global,
     image: &ImageView<'_>,
@@ -65,7 +64,7 @@ fn initial_of(
     }
 }
 
-/// What has been told so far of some lines, the moment of the last tick, and the state after the last step, in quotes.
+/// The text so far, the moment of the last tick, and the state after the last step, in quotes.
 #[derive(Drop)]
 struct Story<'r> {
     text: String,
@@ -100,7 +99,7 @@ impl<'r> Story<'r> {
         self.know(entry.state)
     }
 
-    /// Whether this is another state than the one before, where that is known.
+    /// Whether the state before is known and is another one.
     fn changes_to(&self, state: &str) -> bool {
         match &self.state {
             Some(before) => before.as_str() != state,
@@ -156,13 +155,13 @@ struct Entry<'r> {
 #[derive(Clone, Copy)]
 enum Happened<'r> {
     Link { interface: &'r str, state: &'r str },
-    /// The number of its run and how it ended stand together, parted by a blank.
+    /// `run` is the number of the run and its value, separated by a space.
     Result { test: &'r str, run: &'r str },
     Tick { moment: &'r str },
     Take,
 }
 
-/// The entry that a line tells: `STEP -> NAME "STATE" cost N queue N`.
+/// The entry of a line: `STEP -> NAME "STATE" cost N queue N`.
 fn entry_of(line: &str) -> Option<Entry<'_>> {
     let (step, told) = line.split_once(" -> ")?;
     let happened = happened_of(step)?;
@@ -178,7 +177,7 @@ fn entry_of(line: &str) -> Option<Entry<'_>> {
     })
 }
 
-/// The step that these words tell.
+/// The step of these words.
 fn happened_of(step: &str) -> Option<Happened<'_>> {
     if step == "take" {
         return Some(Happened::Take);
@@ -201,7 +200,7 @@ fn happened_of(step: &str) -> Option<Happened<'_>> {
     }
 }
 
-/// Adds a step, with the names of what it tells of.
+/// Adds a step, with names.
 fn put_happened(
     text: &mut String,
     image: &ImageView<'_>,

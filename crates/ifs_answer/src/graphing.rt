@@ -1,4 +1,4 @@
-//! The states of a policy as a picture, in graphviz's language.
+//! Pictures of the states of a policy, in the language of graphviz.
 
 ghost use Rattle.std.specs.Prelude.{◌≡◌, None, IfOk};
 
@@ -9,8 +9,8 @@ use ifs_lex::tokens;
 use ifs_policy::Policy;
 use std::alloc::{AllocError, Global};
 
-/// The answer that is a policy's picture: a node for each state, the initial one with two borders, and an edge for each
-/// `set-state`, with its conditions. Those outside any state part from one node.
+/// The answer with a policy's picture: a node for each state, with two borders for the initial one, and an edge for each
+/// `set-state`, with its conditions. Those outside any state start at one node.
 pub(crate) fn drawn(
     alloc: Global,
     text: &str,
@@ -28,7 +28,7 @@ fn picture_of(
     defs: &[(&str, &str)],
     policy: &Policy,
 ) -> Result<String, AllocError> {
-    // a text that has a policy has tokens
+    // the text of a policy has tokens, unless an allocation fails
     let Ok(tokens) = tokens(alloc, text, defs) else {
         return Err(AllocError);
     };

@@ -2,8 +2,8 @@
 
 use std::alloc::AllocError;
 
-/// Adds a text to a label that stands between `"`, so that it is shown as it is: a newline begins a line, and the bytes
-/// below 20 and 7f in hexadecimal are shown as `\xHH`.
+/// Adds a text to a label between `"`, so that it is shown unchanged. A newline begins a line, and the bytes 00 to 1f and
+/// 7f are shown as `\xHH`.
 pub(crate) fn put_label(label: &mut String, text: &str) -> Result<(), AllocError> {
     let mut first = true;
     for piece in text.split('&') {
@@ -16,7 +16,7 @@ pub(crate) fn put_label(label: &mut String, text: &str) -> Result<(), AllocError
     Ok(())
 }
 
-/// How an ampersand is written before this text. With a letter or `#` behind it, it would begin an entity.
+/// An ampersand before this text. Before a letter or `#` it would begin an entity, so it is escaped.
 fn ampersand_before(text: &str) -> &'static str {
     match text.as_bytes() {
         [byte, ..] if byte.is_ascii_alphabetic() || *byte == b'#' => "&amp;",

@@ -1,7 +1,7 @@
-//! What each word of the program that works on a file answers, from the file's bytes alone.
+//! The answers of the commands that work on a file, from the file's bytes alone.
 //!
-//! Contract: the status is 0 exactly if the bytes are what the word asks for. What is printed of them is then
-//! their budgets, counts, notes, length or text, and else a fault that they have; the file is theirs.
+//! Contract: the status is 0 exactly if the bytes are valid for the command. The text is then their budgets, counts, notes,
+//! length or assembly text, and the file is the image that they describe. Otherwise the text is a fault that they have.
 #![tactic(auto)]
 
 mod answering;

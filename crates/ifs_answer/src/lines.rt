@@ -1,4 +1,4 @@
-//! The lines that tell what good bytes are.
+//! The lines that are printed for valid bytes.
 
 ghost use Rattle.std.specs.Prelude.{◌≡◌, ◌++◌, string_bytes, IfOk, OnOk};
 ghost use Rattle.ifs_answer.specs.Lines.{budgets_line, size_line, note_line, note_lines, counts_line};
@@ -7,7 +7,7 @@ use ifs_image::Budgets;
 use ifs_policy::{Counts, Policy};
 use std::alloc::{AllocError, Global};
 
-/// The line of the budgets that an image states.
+/// The line of an image's budgets.
 pub(crate) fn of_budgets(alloc: Global, budgets: Budgets) -> Result<String, AllocError>
     ensures { IfOk result (λ line. string_bytes line ≡ budgets_line budgets) }
 {
@@ -20,14 +20,14 @@ pub(crate) fn of_budgets(alloc: Global, budgets: Budgets) -> Result<String, Allo
     format!(in alloc; "ok stack {stack} frames {frames} cost {cost} commands {commands}\n")
 }
 
-/// The line of a file of so many bytes.
+/// The line of a file of this size in bytes.
 pub(crate) fn of_size(alloc: Global, size: usize) -> Result<String, AllocError>
     ensures { IfOk result (λ line. string_bytes line ≡ size_line size) }
 {
     format!(in alloc; "ok {size} bytes\n")
 }
 
-/// Adds the line of a file of so many bytes.
+/// Adds the line of a file of this size in bytes.
 pub(crate) fn put_size(lines: &mut String, size: usize) -> Result<(), AllocError>
     ensures { OnOk result (string_bytes lines.new ≡ string_bytes lines.old ++ size_line size) }
 {
@@ -35,7 +35,7 @@ pub(crate) fn put_size(lines: &mut String, size: usize) -> Result<(), AllocError
     Ok(())
 }
 
-/// A line for each note, whose number it has.
+/// The lines of notes on these lines of a policy.
 pub(crate) fn of_notes(alloc: Global, notes: &[u32]) -> Result<String, AllocError>
     ensures { IfOk result (λ lines. string_bytes lines ≡ note_lines notes.now) }
 {
@@ -54,7 +54,7 @@ fn put_note(lines: &mut String, line: u32) -> Result<(), AllocError>
     Ok(())
 }
 
-/// Adds the line of how many names and texts a policy has.
+/// Adds the line of the numbers of names and texts of a policy.
 pub(crate) fn put_counts(lines: &mut String, policy: &Policy) -> Result<(), AllocError>
     ensures { OnOk result (string_bytes lines.new ≡ string_bytes lines.old ++ counts_line policy.now.tables) }
 {

@@ -10,27 +10,27 @@ use ifs_image::{Image, write};
 use std::alloc::{AllocError, Global};
 use std::fmt::Display;
 
-/// What is asked of the bytes of a file.
+/// A task on the bytes of a file.
 #[derive(Clone, Copy, Debug, PartialEq, Eq)]
 pub enum Task {
-    /// Tell whether a text is a policy.
+    /// Check whether a text is a policy.
     Check,
     /// Compile a policy to an image.
     Compile,
     /// Verify an image.
     Verify,
-    /// Tell the assembly text of an image.
+    /// Print the assembly text of an image.
     Disasm,
     /// Make the image that an assembly text spells.
     Asm,
-    /// Make the image of version 2 that says what an image says.
+    /// Make the image of version 2 with the same content as an image.
     Upgrade,
-    /// Show the states of a policy as a picture.
+    /// Draw the states of a policy.
     Graph,
 }
 
 impl Task {
-    /// The code that refuses for want of memory.
+    /// The code of a failed allocation.
     pub fn memory_code(self) -> &'static str
         ensures { result.now ≡ memory_words self }
     {
@@ -43,7 +43,7 @@ impl Task {
     }
 }
 
-/// What is printed, the exit status, and the file that is to be written.
+/// The exit status, the text to print, and the file to write.
 #[derive(Debug, Drop)]
 pub struct Answer {
     pub status: u8,
@@ -52,7 +52,7 @@ pub struct Answer {
 }
 
 impl Answer {
-    /// The answer to bytes that are good: its lines and its file.
+    /// The answer to valid bytes: its text and its file.
     pub(crate) fn good(text: String, file: Option<Vec<u8>>) -> Answer
         ensures status { result.status ≡ 0 }
         ensures text { result.text ≡ text }
@@ -65,7 +65,7 @@ impl Answer {
         }
     }
 
-    /// The answer that gives the bytes of an image, and tells their number.
+    /// The answer with the bytes of an image as its file. Its text is their number.
     pub(crate) fn written(alloc: Global, image: &Image) -> Result<Answer, AllocError>
         ensures status { IfOk result (λ answer. answer.status ≡ 0) }
         ensures file { IfOk result (λ answer. IsSomeAnd (option_map (λ file. file.items) answer.file) (λ file. Spells file image.now)) }
@@ -76,7 +76,7 @@ impl Answer {
         Ok(Answer::good(line, Some(file)))
     }
 
-    /// The answer to bytes that are refused: one line, with the fault.
+    /// The answer to invalid bytes: one line with the fault.
     pub(crate) fn refused<F: Display + Drop>(alloc: Global, fault: F) -> Result<Answer, AllocError>
         ensures status { IfOk result (λ answer. answer.status ≡ 1) }
         ensures text { IfSome (F.output fault) (λ words. IfOk result (λ answer. string_bytes answer.text ≡ refusal_line words)) }

@@ -1,4 +1,4 @@
-//! What `upgrade` answers to the bytes of an image.
+//! The answer of `upgrade`.
 
 ghost use Rattle.std.specs.Prelude.{◌≡◌, ◌≢◌, ◌≤◌, length, None, Err, option_map, string_bytes, IsSomeAnd, IfOk};
 ghost use Rattle.ifs_answer.specs.Answers.{AreImage, IsUpgraded, Tells};
@@ -10,8 +10,8 @@ use crate::task::Answer;
 use ifs_image::{ImageFault, read};
 use std::alloc::{AllocError, Global};
 
-/// The answer of `upgrade`: the length of the image of version 2 that says what an image says, accepted or not, which
-/// is the file.
+/// The answer of `upgrade`: the length of the image of version 2 with the same content, which is the file. The image may be
+/// accepted or not.
 pub fn upgrade(alloc: Global, bytes: &[u8]) -> Result<Answer, AllocError>
     ensures status { IfOk result (λ answer. answer.status ≤ 1) }
     ensures good { IfOk result (λ answer. answer.status ≡ 0 → AreImage bytes.now) }

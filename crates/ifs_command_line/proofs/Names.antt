@@ -28,7 +28,7 @@ no_equals (b ∷ rest) h (suc i) under =
     let whole : prefix_len continues_name rest ≡ length rest = second (begins_name b) _ _ h in
     continues_apart _ (prefix_len_passes continues_name rest i 0 (omega (arith, whole)))
 
--- Where a word defines a name, it is split into that name and its value.
+-- A word that defines a name is split into that name and its value.
 pub parted : (word : List ℕ) (found : Option (Bor (List ℕ) × Bor (List ℕ))) → IsSplitOnceResult 61 word found
     → (name value : List ℕ) → Defines word name value
     → MatchOption found ⊥ (λ x. (x.0.now ≡ name) × (x.1.now ≡ value))

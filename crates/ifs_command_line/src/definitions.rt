@@ -5,8 +5,8 @@ ghost use Rattle.ifs_command_line.specs.Definitions.{Defines};
 
 use ifs_lex::is_macro_name;
 
-/// The name and the value that a word gives, which is split at its first `=`. It gives none if it has no `=`,
-/// or if what is before it is no macro name.
+/// The name and the value of a word after `-D`, which is split at its first `=`. It is `None` if there is no `=`, or if the
+/// part before it is not a macro name.
 pub fn definition_of(word: &str) -> Option<(&str, &str)>
     ensures found { IfSome result (λ it. Defines word.now it.0.now it.1.now) }
     ensures only { (name value : List ℕ) → Defines word.now name value

@@ -1,7 +1,7 @@
-//! The command line of the program: which words it has, and what they ask for.
+//! The command line of the program: its words, and what they ask for.
 //!
-//! Contract: a word after `-D` gives a macro's name and its value, split at the first `=`, exactly if that name is a
-//! macro name. The rest is shown by tests.
+//! Contract: a word after `-D` defines a macro exactly if the part before its first `=` is a macro name. The rest is tested,
+//! not proved.
 #![tactic(auto)]
 
 mod definitions;

@@ -1,30 +1,30 @@
-//! What may follow a word of the command line: operands, options and flags.
+//! Parts of the command line after its word: operands, options and flags.
 
 use crate::words::{NOTES, SOCKET};
 use clap::builder::ValueParser;
 use clap::{Arg, ArgAction, Command};
 use std::alloc::{AllocError, Global};
 
-/// How many seconds an option may say at most: a week.
+/// The most seconds of an option: a week.
 const LONGEST: u64 = 604_800;
 
-/// What help calls a definition.
+/// The name of a definition in the help.
 pub(crate) const DEFINITION: &str = "NAME=VALUE";
 
-/// What may follow a word, by its id and what its help says.
+/// A part of the command line, with its id and its help.
 #[derive(Clone, Copy)]
 pub(crate) enum Part {
-    /// An operand that is required, and what help calls it.
+    /// A required operand, with its name in the help.
     Operand {
         id: &'static str,
         name: &'static str,
         help: &'static str,
     },
-    /// The operand that names a socket. It is not empty.
+    /// The operand that names a socket. It must not be empty.
     Socket {
         help: &'static str,
     },
-    /// An option that says how long something may take.
+    /// An option that is a time limit.
     Seconds {
         id: &'static str,
         help: &'static str,
@@ -35,13 +35,13 @@ pub(crate) enum Part {
         help: &'static str,
         conflicts: &'static [&'static str],
     },
-    /// The option that says which notes a daemon writes.
+    /// The option for the notes of a daemon.
     Notes,
-    /// Definitions beside a policy's text.
+    /// Definitions of macros.
     Definitions,
 }
 
-/// A word that this may follow, too.
+/// Adds a part to a word.
 pub(crate) fn add_part<'a>(
     alloc: Global,
     command: Command<'a>,
@@ -50,7 +50,7 @@ pub(crate) fn add_part<'a>(
     command.arg(arg_of(alloc, part)?)
 }
 
-/// What may follow a word, as the parser of command lines has it.
+/// A part, as the parser of command lines has it.
 fn arg_of<'a>(alloc: Global, part: Part) -> Result<Arg<'a>, AllocError> {
     match part {
         Part::Operand { id, name, help } => Ok(operand(alloc, id, name, help)),

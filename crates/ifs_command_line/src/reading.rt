@@ -1,4 +1,4 @@
-//! What the words of a command line ask for.
+//! Reading the words of a command line.
 
 use crate::definitions::definition_of;
 use crate::parts::DEFINITION;
@@ -14,19 +14,19 @@ use std::rt::Env;
 use std::time::Duration;
 use std::{env, io};
 
-/// Why the words ask for nothing that is left to be done.
+/// Why the words ask for nothing more.
 #[derive(Drop)]
 pub enum Unasked {
-    /// They ask for help or the version, which were printed on standard output.
+    /// They ask for help or the version, which was printed on standard output.
     Printed,
-    /// Standard output failed.
+    /// A write to standard output failed.
     Output(io::Error),
-    /// They are wrong, or memory ran out while they were read. The message was written to standard error.
+    /// They are wrong, or an allocation failed. A message was written to standard error.
     Wrong,
 }
 
-/// The words that the program was called with, its name the first. Words that cannot be read are wrong ones, of which a
-/// message goes to standard error.
+/// Reads the words of the command line, with the program's name as the first. If they cannot be read, a message goes to
+/// standard error.
 pub fn read<R: Env + Print + Eprint + Alloc<A = Global>>(rt: &R) -> Result<Vec<String>, Unasked> {
     match words_of(rt) {
         Ok(words) => Ok(words),
@@ -34,8 +34,8 @@ pub fn read<R: Env + Print + Eprint + Alloc<A = Global>>(rt: &R) -> Result<Vec<S
     }
 }
 
-/// What these words ask for. If they ask for help or the version, that is printed on standard output; if they ask for
-/// nothing, a message goes to standard error.
+/// Returns what these words ask for. If they ask for help or the version, prints that on standard output. If they are wrong,
+/// a message goes to standard error.
 pub fn asked<'a, R: Print + Eprint + Alloc<A = Global>>(
     rt: &R,
     words: &'a [String],
@@ -46,11 +46,11 @@ pub fn asked<'a, R: Print + Eprint + Alloc<A = Global>>(
     }
 }
 
-/// Prints the text of what is no task.
+/// Prints a message of the parser.
 fn shown<R: Print + Eprint>(rt: &R, error: &Error) -> Unasked {
     let printed = error.print(rt);
     if error.use_stderr() {
-        // the status says it even if standard error fails too
+        // if standard error fails too, only the status is left
         return Unasked::Wrong;
     }
     match printed {
@@ -66,7 +66,7 @@ fn words_of<R: Env + Alloc<A = Global>>(rt: &R) -> Result<Vec<String>, Error> {
     }
 }
 
-/// Why the words could not be read.
+/// The message on words that cannot be read.
 fn unread(alloc: Global, error: &io::Error) -> Result<Error, AllocError> {
     let (kind, message) = if error.kind() == io::ErrorKind::InvalidData {
         (
@@ -85,7 +85,7 @@ fn request_of<'a>(alloc: Global, words: &'a [String]) -> Result<Request<'a>, Err
     requested(alloc, &mut command, &matches)
 }
 
-/// What the words ask for, once they were parsed.
+/// What parsed words ask for.
 fn requested<'a>(
     alloc: Global,
     command: &mut Command<'a>,
@@ -107,7 +107,7 @@ fn requested<'a>(
     })
 }
 
-/// What a word asks for with these operands; none if it is no word.
+/// What a word asks for with these operands. It is `None` if the word is unknown.
 fn asked_with<'a>(word: &str, operands: &ArgMatches<'a>) -> Option<Asked<'a>> {
     let file = operand_of(operands, FILE);
     let image = operand_of(operands, IMAGE);
@@ -161,7 +161,7 @@ fn explain_of<'a>(image: &'a str, operands: &ArgMatches<'a>) -> Explain<'a> {
     }
 }
 
-/// What a client does once its request is written.
+/// What a client does after its request is written.
 fn manner_of(operands: &ArgMatches<'_>) -> Manner {
     if operands.get_flag(NO_WAIT) {
         Manner::NoWait
@@ -173,7 +173,7 @@ fn manner_of(operands: &ArgMatches<'_>) -> Manner {
     }
 }
 
-/// Which notes a word asks for; all where there is none.
+/// The notes that a word asks for. Without a word, it is all.
 fn notes_of(word: &str) -> Notes {
     match word {
         "changes" => Notes::Changes,
@@ -183,17 +183,17 @@ fn notes_of(word: &str) -> Notes {
     }
 }
 
-/// The time that an option says, in seconds.
+/// The time limit of an option.
 fn seconds_of(operands: &ArgMatches<'_>, id: &str) -> Option<Duration> {
     operands.get_one::<u64>(id).map(Duration::from_secs)
 }
 
-/// What is given for an operand of a word.
+/// The value of an operand.
 fn operand_of<'a>(operands: &ArgMatches<'a>, id: &str) -> &'a str {
     operands.get_str(id).unwrap_or_default()
 }
 
-/// An error if a request to a daemon is more than one line.
+/// Fails if a request to a daemon has more than one line.
 fn look_at(command: &mut Command<'_>, asked: Asked<'_>) -> Result<(), Error> {
     match asked {
         Asked::Send(Send { request, .. }) if request.contains('\n') => Err(command.error(
@@ -204,7 +204,7 @@ fn look_at(command: &mut Command<'_>, asked: Asked<'_>) -> Result<(), Error> {
     }
 }
 
-/// The definitions of the command line; an error if a word gives none.
+/// The definitions of the command line. It fails if a word defines nothing.
 fn definitions_of<'a>(
     alloc: Global,
     command: &mut Command<'_>,

@@ -1,18 +1,18 @@
-//! What the words of a command line ask for. All of it is borrowed from them.
+//! What a command line asks for, borrowed from its words.
 
 use std::time::Duration;
 
-/// What is asked, and the definitions beside it: names of macros, with their values, in the order of the words.
+/// What a command line asks for, and its definitions: names of macros with their values, in order.
 #[derive(Drop)]
 pub struct Request<'a> {
     pub asked: Asked<'a>,
     pub definitions: Vec<(&'a str, &'a str)>,
 }
 
-/// What the command line asks for.
+/// What a command line asks for, without its definitions.
 #[derive(Clone, Copy)]
 pub enum Asked<'a> {
-    /// No words: a session whose first line is the image.
+    /// Without words: run a session whose first line is the image.
     Session,
     /// Check whether a file is a policy.
     Check { file: &'a str },
@@ -24,11 +24,11 @@ pub enum Asked<'a> {
     Disasm { image: &'a str },
     /// Assemble the text of a file, and write its image.
     Asm { file: &'a str, image: &'a str },
-    /// Write the image of version 2 that says what the image of a file says.
+    /// Write the image of version 2 with the same content as the image of a file.
     Upgrade { image: &'a str, upgraded: &'a str },
     /// Print the states of the policy of a file as a picture.
     Graph { file: &'a str },
-    /// A session on the image of a file.
+    /// Run a session on the image of a file.
     Sim { image: &'a str },
     /// Run the daemon.
     Serve(Serve<'a>),
@@ -71,7 +71,7 @@ pub struct Send<'a> {
     pub manner: Manner,
 }
 
-/// What a client does once its request is written.
+/// What a client does after its request is written.
 #[derive(Clone, Copy)]
 pub enum Manner {
     /// It ends.
@@ -80,7 +80,7 @@ pub enum Manner {
     Wait {
         /// How long it waits at most.
         limit: Option<Duration>,
-        /// Whether a reply that says that the request was not done is a refusal.
+        /// Whether the reply to a request that was not done is a refusal.
         check: bool,
     },
 }
@@ -98,7 +98,7 @@ pub struct Explain<'a> {
 /// What is printed of a daemon's steps.
 #[derive(Clone, Copy, Debug, PartialEq, Eq)]
 pub enum Explained {
-    /// What each did.
+    /// The effect of each.
     Steps,
     /// The request lines of these steps.
     Requests,

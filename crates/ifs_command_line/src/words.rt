@@ -1,13 +1,13 @@
-//! The words of the command line, with what may follow each.
+//! The words of the command line, with their parts.
 
 use crate::parts::{Part, add_part};
 use clap::Command;
 use std::alloc::{AllocError, Global};
 
-/// The operand that names the file that is read.
+/// The operand that names the file to read.
 pub(crate) const FILE: &str = "file";
 
-/// The operand that names the image that is written.
+/// The operand that names the image to write.
 pub(crate) const IMAGE: &str = "image";
 
 /// The operand that names a socket.
@@ -16,66 +16,66 @@ pub(crate) const SOCKET: &str = "socket";
 /// The operand that is a request line.
 pub(crate) const REQUEST: &str = "request";
 
-/// The option that says which notes a daemon writes.
+/// The option for the notes of a daemon.
 pub(crate) const NOTES: &str = "notes";
 
-/// The option that says how long a command may run.
+/// The option for the time limit of a command.
 pub(crate) const COMMAND_LIMIT: &str = "command-limit";
 
-/// The option that says how long a test may run.
+/// The option for the time limit of a test.
 pub(crate) const TEST_LIMIT: &str = "test-limit";
 
-/// The option that says how long a client waits for the reply.
+/// The option for the time limit of a reply.
 pub(crate) const WAIT: &str = "wait";
 
 /// The flag of a client that does not wait for the reply.
 pub(crate) const NO_WAIT: &str = "no-wait";
 
-/// The flag of a client that looks at the reply.
+/// The flag of a client that checks the reply.
 pub(crate) const CHECK: &str = "check";
 
 /// The flag that asks for request lines.
 pub(crate) const REQUESTS: &str = "requests";
 
-/// What the program is, as its help says.
+/// The help on the program.
 const ABOUT: &str =
     "Checks and compiles failover policies, and verifies and runs their images. Without words it reads an image as a line of hexadecimal digits and then request lines from standard input.";
 
-/// What help says of a file that is read.
+/// The help on a file to read.
 const READ: &str = "a file of at most 16,777,216 bytes";
 
-/// What help says of a file that is written.
+/// The help on a file to write.
 const WRITTEN: &str =
     "the file that is written, whole or not at all; what is no regular file is written as it stands";
 
-/// What help says of how long a client waits.
+/// The help on the time limit of a reply.
 const WAITED: &str = "end with status 3 where the reply does not come whole in this time";
 
 /// A word of the command line.
 #[derive(Clone, Copy)]
 struct Word {
     name: &'static str,
-    /// What its help says.
+    /// Its help.
     about: &'static str,
     /// What may follow it.
     parts: &'static [Part],
 }
 
-/// The policy that is read.
+/// The policy to read.
 const POLICY: Part = Part::Operand {
     id: FILE,
     name: "FILE",
     help: READ,
 };
 
-/// The image that is read.
+/// The image to read.
 const IMAGE_FILE: Part = Part::Operand {
     id: FILE,
     name: "IMAGE",
     help: READ,
 };
 
-/// The image that is written.
+/// The image to write.
 const NEW_IMAGE: Part = Part::Operand {
     id: IMAGE,
     name: "IMAGE",
@@ -204,7 +204,7 @@ fn words() -> &'static [Word] {
     WORDS
 }
 
-/// The command line that is understood.
+/// The command line for the parser.
 pub(crate) fn command<'a>(alloc: Global) -> Result<Command<'a>, AllocError> {
     let mut command = Command::new(alloc, "ifsvm").version("0.1.0").about(ABOUT);
     for word in words() {
@@ -213,7 +213,7 @@ pub(crate) fn command<'a>(alloc: Global) -> Result<Command<'a>, AllocError> {
     Ok(command)
 }
 
-/// A word as it is understood, with its parts.
+/// A word with its parts for the parser.
 fn command_of<'a>(alloc: Global, word: Word) -> Result<Command<'a>, AllocError> {
     let mut command = Command::new(alloc, word.name).about(word.about);
     for part in word.parts {

@@ -1,11 +1,11 @@
-//! Words on files: a file is read, its answer is written, and then printed.
+//! Commands on files: read a file, write the image of its answer, and print the answer.
 
 use ifs_answer::{Answer, Task, answer};
 use ifs_host::failure::Failure;
 use ifs_host::files::contents;
 use ifs_host::images::write_image;
 
-/// A task on a file, and the image that is written.
+/// A task on a file, and the path of the image to write, if any.
 #[derive(Clone, Copy)]
 pub struct Job<'a> {
     task: Task,
@@ -32,7 +32,7 @@ impl<'a> Job<'a> {
         }
     }
 
-    /// Does the task: reads the file, writes the image that it answers, if any, and then prints the answer.
+    /// Does the task: reads the file, writes the image of the answer, if any, and then prints the answer.
     pub fn done(self, rt: &HostRuntime, definitions: &[(&str, &str)]) -> Result<(), Failure<'a>> {
         let input = self.input(rt)?;
         self.answered(rt, input.as_slice(), definitions)

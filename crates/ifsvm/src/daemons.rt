@@ -13,7 +13,7 @@ use log::LevelFilter;
 use std::io::ErrorKind;
 use std::str::from_utf8;
 
-/// The requests that ask for what `explain` prints.
+/// The requests whose replies `explain` prints.
 const REQUESTS: &str = "status\ntrace";
 
 /// Runs the daemon.
@@ -30,7 +30,7 @@ pub fn serve<'a>(rt: &HostRuntime, asked: words::Serve<'a>) -> Result<(), Failur
     serving::serve(rt, serving)
 }
 
-/// Which notes a word asks for.
+/// The notes that the command line asks for.
 fn notes_of(notes: words::Notes) -> Notes {
     let level = match notes {
         words::Notes::All | words::Notes::Changes => LevelFilter::Info,
@@ -43,7 +43,7 @@ fn notes_of(notes: words::Notes) -> Notes {
     }
 }
 
-/// Sends a request to a daemon, and prints its reply if that is waited for.
+/// Sends a request to a daemon, and prints its reply unless it does not wait.
 pub fn send<'a>(rt: &HostRuntime, asked: words::Send<'a>) -> Result<(), Failure<'a>> {
     match asked.manner {
         words::Manner::NoWait => sent(rt, asked.socket, asked.request),
@@ -53,7 +53,7 @@ pub fn send<'a>(rt: &HostRuntime, asked: words::Send<'a>) -> Result<(), Failure<
     }
 }
 
-/// Asks the daemon of a socket what it did, and prints that with the names of an image.
+/// Asks the daemon of a socket for its steps, and prints them with the names of an image.
 pub fn explain<'a>(rt: &HostRuntime, asked: words::Explain<'a>) -> Result<(), Failure<'a>> {
     let image = image_at(rt, asked.image)?;
     explain_image(rt, asked, image.as_slice())

@@ -1,9 +1,8 @@
-//! `ifsvm`: checks, shows and compiles failover policies, and verifies, shows and runs their images.
+//! `ifsvm`: checks, draws and compiles failover policies, and verifies, prints and runs their images.
 //!
-//! Without words it reads an image as a line of hexadecimal digits and then request lines from
-//! standard input, and writes the replies to standard output. Exit statuses: 0 done, 1 refused
-//! input, 2 command line, 3 a file, stream or socket that failed, a file that is too large, no reply, or a shell
-//! that does not run.
+//! Without words it reads an image as a line of hexadecimal digits and then request lines from standard input, and writes
+//! the replies to standard output. Exit statuses: 0 done, 1 refused input, 2 wrong command line. Status 3 is a file, stream
+//! or socket that failed, a file that is too large, no reply, or a shell that does not run.
 #![tactic(auto)]
 
 mod answers;
@@ -23,7 +22,7 @@ fn main(rt: HostRuntime) -> ExitCode {
     }
 }
 
-/// Does what these words ask for, and gives the exit status.
+/// Does what these words ask for, and returns the exit status.
 fn ended(rt: &HostRuntime, words: &[String]) -> ExitCode {
     match asked(rt, words) {
         Ok(Request { asked, definitions }) => match done(rt, asked, definitions.as_slice()) {
@@ -34,7 +33,7 @@ fn ended(rt: &HostRuntime, words: &[String]) -> ExitCode {
     }
 }
 
-/// The exit status where nothing is left to be done.
+/// The exit status if the words ask for nothing more.
 fn reported(rt: &HostRuntime, unasked: Unasked) -> ExitCode {
     match unasked {
         Unasked::Printed => ExitCode::SUCCESS,
@@ -43,7 +42,7 @@ fn reported(rt: &HostRuntime, unasked: Unasked) -> ExitCode {
     }
 }
 
-/// Does what is asked.
+/// Does what the command line asks for.
 fn done<'a>(
     rt: &HostRuntime,
     asked: Asked<'a>,
