@@ -17,11 +17,6 @@ tells_both more last a None (Some z) p q = absurd q
 tells_both more last None (Some y) (Some z) p q = absurd p
 tells_both more last (Some x) (Some y) (Some z) p q = q ∙ ap (λ log. log ++ last) p ∙ append_assoc x more last
 
--- The log of a runner that was not called.
-pub tells_nothing : (told : Option RunnerLog) → RunnerTells [] told told
-tells_nothing None = tt
-tells_nothing (Some log) = sym (append-nil log)
-
 -- A program without a value still runs.
 pub still_runs : (answer : Waited) → test_value answer ≡ None → answer ≡ Runs
 still_runs Runs none = refl

@@ -82,10 +82,6 @@ pub record Empties (b : Behaviour) (image : ImageParts) (queue : List CommandId)
   pub grows : Grows b image [] (takes_of queue) (ran (texts_of image queue)) s s'
   pub empty : s'.queue ≡ []
 
-one_taken : (b : Behaviour) (image : ImageParts) (command : CommandId) (queue : List CommandId) (s s' : CoreState) → s.queue ≡ command ∷ queue
-    → turn b image.budgets.commands Take s ≡ take_turn (command ∷ queue) s
-one_taken b image command queue s s' e = ap (λ q. take_turn q s) e
-
 pub takes_grow : (b : Behaviour) (image : ImageParts) (queue : List CommandId) (s : CoreState) → IsKept image → IsBehaviour image b → IsStateOf image s → s.queue ≡ queue
     → Empties b image queue s (after_steps b image.budgets.commands (takes_of queue) s)
 takes_grow b image [] s kept is stands e = record {

@@ -4,7 +4,6 @@ use Rattle.std.specs.Io.Take.{take_remaining}
 use Rattle.ifs_host.proofs.Whole.{whole}
 use Rattle.ifs_host.proofs.files.whole.Goals as goal
 
--- src/files.rt
 pub returns-else-len-gt-LIMIT-clause-every_byte : goal.returns-else-len-gt-LIMIT-clause-every_byte
 returns-else-len-gt-LIMIT-clause-every_byte g c =
     whole c.take.result.limit (g.R.Read.remaining c.args.reader)
