@@ -1,7 +1,7 @@
--- Numbers, read digit by digit.
+-- The loop over the digits of a number.
 use Rattle.std.proofs.Common.{◌≡◌, ℕ, ◌^◌, ◌≤◌, Option, Some, None}
 
--- What is kept of the number n that was spelled so far: n itself below 2 ^ 64, and nothing above.
+-- The loop keeps the number n if it is below 2 ^ 64, and nothing otherwise.
 abbrev pub Keeps : Option ℕ → ℕ → Type 0
 Keeps None n = 2 ^ 64 ≤ n
 Keeps (Some m) n = m ≡ n

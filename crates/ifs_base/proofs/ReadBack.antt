@@ -1,4 +1,4 @@
--- Each instruction is read back from its four bytes.
+-- `op_of` reads each instruction back from its four bytes.
 use Rattle.std.proofs.Common.{◌≡◌, ℕ, ◌+◌, ◌*◌, ◌/◌, ◌%◌, refl, ap, arith}
 use Rattle.ifs_base.specs.declared.op.LinkState.TheVariants.{Unknown, Down, Up}
 use Rattle.ifs_base.specs.declared.op.Op.TheVariants.{Ret, Yes, No, Link, Test, Known, Negate, Both}
@@ -6,11 +6,11 @@ use Rattle.ifs_base.specs.declared.op.Op.TheVariants.{Either, PushCommand, PushS
 use Rattle.ifs_base.specs.declared.op.Op.TheVariants.{Jump, JumpFalse, JumpTrue, Call, Pop, Dup}
 use Rattle.ifs_base.specs.Spelling.{op_with, IsReadBack}
 
--- a number is made of its two bytes
+-- A number is made of its two bytes.
 two_bytes : (n : ℕ) → 256 * (n / 256) + n % 256 ≡ n
 two_bytes n = omega arith
 
--- an instruction whose operand is read from its two bytes
+-- An operand is read from its two bytes.
 with_operand : (code state n : ℕ) → op_with code state (256 * (n / 256) + n % 256) ≡ op_with code state n
 with_operand code state n = ap (op_with code state) (two_bytes n)
 

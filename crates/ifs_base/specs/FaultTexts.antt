@@ -1,10 +1,10 @@
--- Faults as lines print them: a code, and the place where the fault is.
+-- How a line prints a fault: its code, and its place.
 use Rattle.std.specs.Prelude.{ℕ, List, [], ◌++◌, codes, decimal}
 use Rattle.ifs_base.specs.declared.fault_text.FaultText.{FaultText}
 use Rattle.ifs_base.specs.declared.fault_text.FaultPlace.{FaultPlace}
 use Rattle.ifs_base.specs.declared.fault_text.FaultPlace.TheVariants.{Nowhere, Line, Byte, Routine, Head, State, Instruction}
 
--- What follows a fault's code.
+-- The words of a place.
 abbrev pub place_words : FaultPlace → List ℕ
 place_words Nowhere = []
 place_words (Line line) = codes " line " ++ decimal line
@@ -14,6 +14,6 @@ place_words Head = codes " head"
 place_words (State state) = codes " state " ++ decimal state.0
 place_words (Instruction routine place) = codes " routine " ++ decimal routine.0 ++ codes " place " ++ decimal place
 
--- A fault as it is printed.
+-- The words of a fault.
 abbrev pub fault_words : FaultText → List ℕ
 fault_words fault = fault.code.now ++ place_words fault.place

@@ -1,16 +1,16 @@
--- Kinds of values, and lists of them, the topmost first.
+-- Kinds of values, and stacks of them, the top first.
 use Rattle.std.specs.Prelude.{Bool, true, false, if◌then◌else◌, List, [], ◌∷◌, Option, Some, None}
 use Rattle.ifs_base.specs.declared.op.Kind.{Kind}
 use Rattle.ifs_base.specs.declared.op.Kind.TheVariants.{Truth, Command, StateName}
 
--- Whether two kinds are one.
+-- Whether two kinds are the same.
 abbrev pub is_kind : Kind → Kind → Bool
 is_kind Truth Truth = true
 is_kind Command Command = true
 is_kind StateName StateName = true
 is_kind _ _ = false
 
--- What is left below these kinds; none where others are on top, or too few.
+-- The kinds below the wanted ones. There are none if other kinds are on top, or too few.
 abbrev pub without : List Kind → List Kind → Option (List Kind)
 without [] kinds = Some kinds
 without (wanted ∷ more) [] = None

@@ -1,7 +1,7 @@
--- Results: what goes on only where nothing was wrong.
+-- Results in sequence.
 use Rattle.std.specs.Prelude.{Result, Ok, Err}
 
--- Goes on where nothing was wrong.
+-- Goes on with the value of a result, or stops at its fault.
 infixl 10 ◌>>=◌
 abbrev pub ◌>>=◌ : {A B E : Type 0} → Result A E → (A → Result B E) → Result B E
 (Ok x) >>= f = f x

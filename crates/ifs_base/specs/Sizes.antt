@@ -1,4 +1,4 @@
--- Sizes: what names, commands and periods keep to.
+-- The limits of names, commands and periods.
 use Rattle.std.specs.Prelude.{ℕ, ◌≢◌, ◌≤◌, List, length, All}
 
 -- A name or a command has from 1 to 1,024 bytes, none of them a NUL.

@@ -1,4 +1,4 @@
--- Words of lines and texts: hexadecimal digits, link states, quoted texts and lists.
+-- Words of lines: hexadecimal digits, link states, quoted texts and lists.
 use Rattle.std.specs.Prelude.{ℕ, ◌≢◌, ◌<◌, ◌+◌, ◌/◌, ◌%◌, ◌==◌, ◌||◌, nat_lt, if◌then◌else◌, List, [], ◌∷◌, ◌++◌, codes}
 use Rattle.std.specs.List.{flat_map}
 use Rattle.ifs_base.specs.declared.op.LinkState.{LinkState}
@@ -16,11 +16,11 @@ link_word Up = codes "up"
 abbrev pub hex_digit : ℕ → ℕ
 hex_digit digit = if nat_lt digit 10 then 48 + digit else 87 + digit
 
--- A byte is no hexadecimal digit in lower case.
+-- A byte that is no hexadecimal digit in lower case.
 abbrev pub IsNoDigit : ℕ → Type 0
 IsNoDigit byte = (digit : ℕ) → digit < 16 → byte ≢ hex_digit digit
 
--- A byte inside a quoted text: a quote and a backslash stand after a backslash, and bytes below 20 and 7f, in hexadecimal, are written so.
+-- A byte of a quoted text. A quote and a backslash get a backslash. Bytes below 32 and the byte 127 are hexadecimal.
 abbrev pub quoted_byte : ℕ → List ℕ
 quoted_byte byte =
     if (byte == 34) || (byte == 92) then 92 ∷ byte ∷ [] else
@@ -31,12 +31,12 @@ quoted_byte byte =
 abbrev pub quoted : List ℕ → List ℕ
 quoted text = codes "\"" ++ flat_map quoted_byte text ++ codes "\""
 
--- Texts with commas between them, and a dash where there is none.
+-- Texts with commas between them, or a dash if there is none.
 abbrev pub listed : List (List ℕ) → List ℕ
 listed [] = codes "-"
 listed (text ∷ texts) = text ++ flat_map (λ other. codes "," ++ other) texts
 
--- The bytes that an answer of the quoting stands for.
+-- The bytes that a `QuotedByte` stands for.
 abbrev pub bytes_of : QuotedByte → List ℕ
 bytes_of (Plain byte) = byte ∷ []
 bytes_of (Escaped byte) = 92 ∷ byte ∷ []

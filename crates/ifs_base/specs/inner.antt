@@ -1,2 +1,2 @@
--- What only private functions promise one another.
+-- Contracts of private functions.
 pub mod Digits

@@ -1,4 +1,4 @@
-//! Faults as lines print them.
+//! How a line prints a fault.
 
 ghost use Rattle.std.specs.Prelude.{Some};
 ghost use Rattle.ifs_base.specs.FaultTexts.{place_words, fault_words};
@@ -6,7 +6,7 @@ ghost use Rattle.ifs_base.specs.FaultTexts.{place_words, fault_words};
 use crate::ids::{RoutineId, StateId};
 use std::fmt::{self, Display, Formatter, Write};
 
-/// What is printed of a fault: its code, and then its place, as in `P6 line 3`.
+/// The text of a fault: its code, and then its place, as in `P6 line 3`.
 #[derive(Clone, Copy)]
 pub struct FaultText {
     /// The fault's code, such as `P6`.
@@ -18,9 +18,9 @@ pub struct FaultText {
 /// Where a fault is.
 #[derive(Clone, Copy)]
 pub enum FaultPlace {
-    /// The code says it all.
+    /// The fault has no place.
     Nowhere,
-    /// On a line of a text, from 1; on line 0 in what is given beside it.
+    /// On a line of a text, from 1. Definitions given beside the text have line 0.
     Line(u64),
     /// At a byte, by its offset.
     Byte(u64),
@@ -30,7 +30,7 @@ pub enum FaultPlace {
     Head,
     /// In a state of an image.
     State(StateId),
-    /// At an instruction of a routine, by its place from 0.
+    /// At an instruction of a routine. Places count from 0.
     Instruction(RoutineId, u16),
 }
 

@@ -1,10 +1,10 @@
-//! A table whose clauses see the list of its entries.
+//! A list whose clauses see its values.
 
 ghost use Rattle.std.specs.Prelude.{◌≡◌, ◌↔◌, IsTrue, [], length};
 
 use std::marker::Model;
 
-/// A list of values on the heap. Clauses see the list, and neither capacity nor address.
+/// A list of values on the heap. Clauses see its values, and neither capacity nor address.
 #[derive(Debug)]
 pub struct Items<T> {
     items: Vec<T>,
@@ -25,21 +25,21 @@ impl<T> Model for Items<T> {
 }
 
 impl<T> Items<T> {
-    /// The values of a vector, in order. Takes no memory.
+    /// Makes a list of a vector. It allocates nothing.
     pub fn new(items: Vec<T>) -> Self
         ensures { result ≡ items.items }
     {
         Items { items }
     }
 
-    /// Lends the values.
+    /// Borrows the values.
     pub fn as_slice(&self) -> &[T]
         ensures { result.now ≡ self.now }
     {
         self.items.as_slice()
     }
 
-    /// Gives the vector back. Takes no memory.
+    /// Returns the vector. It allocates nothing.
     pub fn into_vec(self) -> Vec<T>
         ensures { result.items ≡ self }
     {
@@ -47,14 +47,14 @@ impl<T> Items<T> {
         items
     }
 
-    /// How many values there are.
+    /// Returns the number of values.
     pub fn len(&self) -> usize
         ensures { result ≡ length self.now }
     {
         self.items.len()
     }
 
-    /// Whether there is none.
+    /// Returns whether the list is empty.
     pub fn is_empty(&self) -> bool
         ensures { IsTrue result ↔ (self.now ≡ []) }
     {

@@ -1,20 +1,20 @@
-//! Decimal numbers, read digit by digit.
+//! Reads decimal numbers.
 
 ghost use Rattle.std.specs.Prelude.{◌≡◌};
 ghost use Rattle.std.specs.Option.{option_map};
 ghost use Rattle.ifs_base.specs.Numbers.{number_of, sized};
 ghost use Rattle.ifs_base.specs.inner.Digits.{with_digit};
 
-/// A number that digits spell.
+/// A number that decimal digits spell.
 #[derive(Clone, Copy, Debug, PartialEq, Eq)]
 pub enum Number {
-    /// One below 2^64.
+    /// A number below 2^64.
     Within(u64),
-    /// One of 2^64 or more.
+    /// A number of 2^64 or more.
     TooGreat,
 }
 
-/// The number that decimal digits spell; `None` where a text is empty or has another byte.
+/// Reads the number that decimal digits spell. Returns `None` if a text is empty or has another byte.
 pub fn parse_number(text: &[u8]) -> Option<Number>
     ensures { result ≡ option_map sized (number_of text.now) }
 {
@@ -31,7 +31,7 @@ pub fn parse_number(text: &[u8]) -> Option<Number>
     Some(value.map_or(Number::TooGreat, Number::Within))
 }
 
-/// A number with one more digit at its end, while it is below 2^64.
+/// Appends a digit to a number. Returns `None` if the result is 2^64 or more.
 fn with_digit(value: Option<u64>, digit: u8) -> Option<u64>
     ensures { result ≡ with_digit value digit }
 {

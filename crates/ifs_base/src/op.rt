@@ -1,11 +1,11 @@
-//! The instructions, and the values that they work on.
+//! The instructions, and the kinds of values on the stack.
 
 use crate::ids::{CommandId, IfaceId, RoutineId, StateId, TestId};
 
-/// What is known of an interface's link. For a carp(4) interface up is master and down is backup.
+/// The state of an interface's link. A carp(4) interface is up as master, and down as backup.
 #[derive(Clone, Copy, Debug, Default, PartialEq, Eq)]
 pub enum LinkState {
-    /// Nothing was said yet; its code is 0.
+    /// No report came yet. Its code is 0.
     #[default]
     Unknown,
     /// Its code is 1.
@@ -26,46 +26,49 @@ pub enum Kind {
     StateName,
 }
 
-/// An instruction. Beside each stand its code in hexadecimal, its text, and the stack before and
-/// after it, the top at the right.
+/// An instruction.
+///
+/// Each variant has its code in hexadecimal, its text in assembly, the stack before and after it, and
+/// what it does. The top of the stack is at the right, and `…` is what it leaves as it is. Control goes on
+/// at the next place unless the line says where.
 #[derive(Clone, Copy, Debug, PartialEq, Eq)]
 pub enum Op {
-    /// `00 ret`, results → results: back to the caller, or the end of a handler.
+    /// `00 ret`, `… results` → `… results`: returns to the caller, or ends a handler.
     Ret,
-    /// `01 true`, nothing → Truth.
+    /// `01 true`, `…` → `… Truth`: pushes true.
     Yes,
-    /// `02 false`, nothing → Truth.
+    /// `02 false`, `…` → `… Truth`: pushes false.
     No,
-    /// `03 link n s`, nothing → Truth: whether interface n has link state s.
+    /// `03 link n s`, `…` → `… Truth`: pushes whether interface n has link state s.
     Link(IfaceId, LinkState),
-    /// `04 test n`, nothing → Truth: whether test n has the value true.
+    /// `04 test n`, `…` → `… Truth`: pushes whether test n has the value true.
     Test(TestId),
-    /// `05 known n`, nothing → Truth: whether test n has a value.
+    /// `05 known n`, `…` → `… Truth`: pushes whether test n has a value.
     Known(TestId),
-    /// `06 not`, Truth → Truth.
+    /// `06 not`, `… Truth` → `… Truth`: negates the top.
     Negate,
-    /// `07 and`, Truth Truth → Truth.
+    /// `07 and`, `… Truth Truth` → `… Truth`: true if both are true.
     Both,
-    /// `08 or`, Truth Truth → Truth.
+    /// `08 or`, `… Truth Truth` → `… Truth`: true if at least one is true.
     Either,
-    /// `09 cmd n`, nothing → Command.
+    /// `09 cmd n`, `…` → `… Command`: pushes command n.
     PushCommand(CommandId),
-    /// `0a state n`, nothing → StateName.
+    /// `0a state n`, `…` → `… StateName`: pushes the name of state n.
     PushState(StateId),
-    /// `0b queue`, Command → nothing: appends it to the commands of the event.
+    /// `0b queue`, `… Command` → `…`: appends the command to the commands of the event.
     Queue,
-    /// `0c want`, StateName → nothing: sets the wish.
+    /// `0c want`, `… StateName` → `…`: sets the wish to that state.
     Want,
-    /// `0d jump n`, nothing → nothing: goes on at place n.
+    /// `0d jump n`, `…` → `…`: goes on at place n.
     Jump(u16),
-    /// `0e jf n`, Truth → nothing: goes on at place n where it is false, else at the next.
+    /// `0e jf n`, `… Truth` → `…`: goes on at place n if the truth is false.
     JumpFalse(u16),
-    /// `0f jt n`, Truth → nothing: goes on at place n where it is true, else at the next.
+    /// `0f jt n`, `… Truth` → `…`: goes on at place n if the truth is true.
     JumpTrue(u16),
-    /// `10 call n`, parameters of n → results of n: runs routine n from its place 0, on a list of its own with these.
+    /// `10 call n`, `… parameters` → `… results`: runs routine n from its place 0.
     Call(RoutineId),
-    /// `11 pop`, any → nothing.
+    /// `11 pop`, `… any` → `…`: drops the top.
     Pop,
-    /// `12 dup`, any → the same twice.
+    /// `12 dup`, `… any` → `… any any`: pushes the top once more.
     Dup,
 }

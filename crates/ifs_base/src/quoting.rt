@@ -1,10 +1,10 @@
-//! Texts in quotes, as replies have them.
+//! Quoted texts, as replies print them.
 
 use crate::words::{QuotedByte, quote_byte};
 use std::fmt::{self, Formatter, Write};
 
-/// Shows a text between quotes on one line: with `\"` and `\\`, and `\xHH` for the bytes below 20 and 7f in
-/// hexadecimal.
+/// Prints a text between quotes on one line. It prints a quote as `\"` and a backslash as `\\`. It prints the
+/// bytes below 20 and the byte 7f, in hexadecimal, as `\xHH`.
 #[derive(Clone, Copy, Debug)]
 pub struct Quoted<'a>(pub &'a str);
 
@@ -18,7 +18,7 @@ impl fmt::Display for Quoted<'_> {
     }
 }
 
-/// Writes a character as it stands in quotes.
+/// Writes a character as a quoted text has it.
 fn put_character<W: Write>(f: &mut Formatter<W>, character: char) -> fmt::Result {
     let Ok(byte) = u8::try_from(character) else {
         return f.write_char(character);

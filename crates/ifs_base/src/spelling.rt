@@ -1,4 +1,4 @@
-//! Instructions and kinds to bytes and back.
+//! Encodes and decodes instructions and kinds.
 
 ghost use Rattle.std.specs.Prelude.{◌≡◌, ◌≢◌, Some, IfSome, IfNone};
 ghost use Rattle.ifs_base.specs.declared.op.Op.{Op};
@@ -9,8 +9,8 @@ ghost use Rattle.ifs_base.specs.Spelling.{code_of_kind, kind_of_code};
 use crate::ids::{CommandId, IfaceId, RoutineId, StateId, TestId};
 use crate::op::{Kind, LinkState, Op};
 
-/// The four bytes of an instruction: its code, the link state of `link` (0 in all others), and the
-/// operand, high byte first (0 where there is none).
+/// Returns the four bytes of an instruction: its code, its link state, and its operand with the high byte first.
+/// An instruction other than `link` has link state 0. An instruction without an operand has operand 0.
 pub fn encode_op(op: Op) -> [u8; 4]
     ensures { result ≡ spelling op }
 {
@@ -37,15 +37,15 @@ pub fn encode_op(op: Op) -> [u8; 4]
     }
 }
 
-/// The instruction that four bytes spell. `None` exactly where they spell none: an unknown code, a
-/// byte 1 that is not 0 (at `link`: over 2), or an operand that is not 0 where there is none.
+/// Returns the instruction that four bytes spell. Returns `None` for an unknown code, for a nonzero operand of an
+/// instruction without one, for a byte 1 over 2 of `link`, and for a nonzero byte 1 of any other instruction.
 pub fn decode_op(bytes: [u8; 4]) -> Option<Op>
     ensures value { result ≡ op_of bytes }
-    // What is found is spelled so.
+    // An instruction that is found is spelled by these bytes.
     ensures found { IfSome result (λ op. bytes ≡ spelling op) }
-    // What spells an instruction is answered with it,
+    // An instruction that the bytes spell is found.
     ensures spelled { (op : Op) → HasSpelling op → bytes ≡ spelling op → result ≡ Some op }
-    // and so nothing is found only where no instruction is spelled so.
+    // None is found only if the bytes spell no instruction.
     ensures none { IfNone result ((op : Op) → HasSpelling op → bytes ≢ spelling op) }
 {
     let [code, state, high, low] = bytes;
@@ -74,7 +74,7 @@ pub fn decode_op(bytes: [u8; 4]) -> Option<Op>
     }
 }
 
-/// The byte of a kind of values.
+/// Returns the byte of a kind.
 pub fn encode_kind(kind: Kind) -> u8
     ensures { result ≡ code_of_kind kind }
 {
@@ -85,12 +85,12 @@ pub fn encode_kind(kind: Kind) -> u8
     }
 }
 
-/// The kind of a byte. `None` exactly where it is over 2.
+/// Returns the kind of a byte. Returns `None` for a byte over 2.
 pub fn decode_kind(code: u8) -> Option<Kind>
     ensures value { result ≡ kind_of_code code }
-    // What is found has this byte,
+    // A kind that is found has this byte.
     ensures found { IfSome result (λ kind. code ≡ code_of_kind kind) }
-    // and nothing is found only where no kind has it.
+    // None is found only if no kind has this byte.
     ensures none { IfNone result ((kind : Kind) → code ≢ code_of_kind kind) }
 {
     match code {

@@ -1,4 +1,4 @@
-//! A text whose clauses see the list of its bytes.
+//! A text whose clauses see its bytes.
 
 ghost use Rattle.std.specs.Prelude.{◌≡◌, string_bytes, nat_eq};
 ghost use Rattle.std.specs.Hash as fed;
@@ -11,7 +11,7 @@ use std::alloc::AllocError;
 use std::hash::{Hash, Hasher};
 use std::marker::Model;
 
-/// A text on the heap, in UTF-8. Clauses see its bytes. Two are equal where their bytes are.
+/// A text on the heap, in UTF-8. Clauses see its bytes. Two texts are equal if their bytes are.
 #[derive(Debug)]
 pub struct Text {
     text: String,
@@ -32,21 +32,21 @@ impl Model for Text {
 }
 
 impl Text {
-    /// The text of a string. Takes no memory.
+    /// Makes a text of a string. It allocates nothing.
     pub fn new(text: String) -> Self
         ensures { result ≡ string_bytes text }
     {
         Text { text }
     }
 
-    /// Lends the text.
+    /// Borrows the text.
     pub fn as_str(&self) -> &str
         ensures { result.now ≡ self.now }
     {
         self.text.as_str()
     }
 
-    /// Lends the text's bytes.
+    /// Borrows the bytes of the text.
     pub fn as_bytes(&self) -> &[u8]
         ensures { result.now ≡ self.now }
     {

@@ -1,20 +1,20 @@
-//! Words of lines and texts: hexadecimal digits, and the bytes of quoted texts.
+//! Hexadecimal digits, and the bytes of quoted texts.
 
 ghost use Rattle.std.specs.Prelude.{◌≡◌, ◌<◌, MatchOption};
 ghost use Rattle.ifs_base.specs.Words.{hex_digit, IsNoDigit, quoted_byte, bytes_of};
 
-/// A byte as it stands in a quoted text.
+/// A byte as a quoted text has it.
 #[derive(Clone, Copy, Debug, PartialEq, Eq)]
 pub enum QuotedByte {
-    /// The byte as it is.
+    /// The byte itself.
     Plain(u8),
-    /// The byte after a backslash.
+    /// A backslash and the byte.
     Escaped(u8),
-    /// Its two hexadecimal digits after a backslash and an `x`, the high one first.
+    /// A backslash, an `x`, and two hexadecimal digits, the high one first.
     Hexadecimal(u8, u8),
 }
 
-/// How a byte stands in a quoted text.
+/// Returns a byte as a quoted text has it.
 pub fn quote_byte(byte: u8) -> QuotedByte
     ensures { bytes_of result ≡ quoted_byte byte }
 {
@@ -25,7 +25,7 @@ pub fn quote_byte(byte: u8) -> QuotedByte
     }
 }
 
-/// The hexadecimal digit of a number below 16, in lower case.
+/// Returns the hexadecimal digit of a number below 16, in lower case.
 pub fn hex_digit(digit: u8) -> u8
     requires { digit < 16 }
     ensures { result ≡ hex_digit digit }
@@ -37,7 +37,7 @@ pub fn hex_digit(digit: u8) -> u8
     }
 }
 
-/// The value of a hexadecimal digit in lower case.
+/// Returns the value of a hexadecimal digit in lower case. Returns `None` for any other byte.
 pub fn digit_value(byte: u8) -> Option<u8>
     ensures { MatchOption result (IsNoDigit byte) (λ digit. (digit < 16) × (byte ≡ hex_digit digit)) }
 {
