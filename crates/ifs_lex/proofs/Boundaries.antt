@@ -1,4 +1,4 @@
--- Where a text may be cut: beside bytes of ASCII.
+-- Where a text may be cut: before and after bytes of ASCII.
 use Rattle.std.proofs.Common.{◌≡◌, ℕ, zero, suc, ◌+◌, ◌-◌, ◌<◌, ◌≤◌, Bool, true, false, cond}
 use Rattle.std.proofs.Common.{eqb, ◌&&◌, ◌||◌, not, List, [], ◌∷◌, length, take, drop, get_or}
 use Rattle.std.proofs.Common.{Option, Some, None, option_map, refl, sym, ◌∙◌, ap, subst, arith}
@@ -24,7 +24,7 @@ word_ascii b h = grind (arith, nat_tests)
 name_ascii : (b : ℕ) → continues_name b ≡ true → b < 128
 name_ascii b h = grind (arith, nat_tests)
 
--- A quote is of ASCII.
+-- A quote is a byte of ASCII.
 pub quote_ascii : (b : ℕ) → is_quote b ≡ true → b < 128
 quote_ascii b h = grind (arith, nat_tests)
 
@@ -75,13 +75,13 @@ inside_at q escaped [] n h = absurd (cc)
 inside_at q escaped (b ∷ rest) n h =
     inside_test q b n (not escaped) rest _ _ refl (λ k e. inside_at q (eqb b 92) rest k e) h
 
--- Before the quote that closes.
+-- Before the closing quote.
 pub inside_boundary : (q : ℕ) (text bytes : List ℕ) (n : ℕ) → q < 128 → bytes ≡ text → Some n ≡ inside_len q false bytes → IsCharBoundary text n
 inside_boundary q text bytes n l e h =
     let f = inside_at q false bytes n (sym h) in
     moved text bytes n e (IsCharBoundary-before_ascii bytes n f.0 (omega (arith, f.1)))
 
--- Where a gap ends: at the end, after a byte of ASCII, or where it has no byte.
+-- A gap ends at the end of the bytes, after a byte of ASCII, or at its start.
 pub record GapEnds (gap : Gap) (bs : List ℕ) (i : ℕ) : Type 0 where
   pub within : i ≤ length bs
   pub before : i < length bs → 0 < i → get_or bs (i - 1) 0 < 128
@@ -221,7 +221,7 @@ lexeme_ends (b ∷ rest) u =
 pub lexeme_boundary : (text : List ℕ) (n : ℕ) → IsUtf8 text → n ≡ (lexeme_here text).len → IsCharBoundary text n
 lexeme_boundary text n u e = let P : ℕ → Type 0 = λ i. IsCharBoundary text i in subst P (sym e) (lexeme_ends text u)
 
--- A text that begins where another is cut is one.
+-- The rest of a text after a cut is a text.
 pub rest_utf8 : (bytes rest text : List ℕ) (n : ℕ) → IsUtf8 bytes → bytes ≡ text → IsCharBoundary text n → rest ≡ drop n text → IsUtf8 rest
 rest_utf8 bytes rest text n u e b r =
     let P : List ℕ → Type 0 = λ xs. IsUtf8 xs in

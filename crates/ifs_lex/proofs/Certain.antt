@@ -1,4 +1,4 @@
--- What is certain at once is the first fault.
+-- The fault that is certain at once is the first fault.
 use Rattle.std.proofs.Common.{◌≡◌, ℕ, Bool, true, false, cond, ltb, List, [], ◌∷◌, length}
 use Rattle.std.proofs.Common.{Option, Some, None, Result, Ok, Err, ap, ◌∙◌}
 use Rattle.ifs_base.specs.declared.span.Span.{Span}
@@ -14,7 +14,7 @@ use Rattle.ifs_lex.specs.Expansion.{tokens_after, segments_from, given_one, give
 use Rattle.ifs_lex.specs.AtOnce.{fault_without_macros, certain_at_once}
 use Rattle.ifs_lex.proofs.Unrolled.{lexemes_unroll}
 
--- A fault, or else something.
+-- A fault, or else a value.
 abbrev told : {X : Type 0} → X → Option LexFault → Result X LexFault
 told x None = Ok x
 told x (Some fault) = Err fault

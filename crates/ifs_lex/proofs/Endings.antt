@@ -1,4 +1,4 @@
--- Each text ends once.
+-- The tokens of a text end once.
 use Rattle.std.proofs.Common.{◌≡◌, ℕ, zero, suc, ◌+◌, ◌<◌, Bool, true, false, cond, ltb}
 use Rattle.std.proofs.Common.{◌||◌, List, [], ◌∷◌, ◌++◌, length, map, Option, Some, None}
 use Rattle.std.proofs.Common.{option_map, Result, Ok, Err, refl, sym, ◌∙◌, ap, subst, arith}
@@ -30,7 +30,7 @@ fine x = Ok x
 Values : List What → Type 0
 Values ws = (span : Span) → Endless (map (token span) ws)
 
--- No token of a macro is.
+-- No token of a macro is the end.
 record Sound (m : Macros) : Type 0 where
   pub values : (name : List ℕ) (known : Macro) → m.known name ≡ Some known → Values known.whats
 
@@ -213,7 +213,7 @@ last_once span (Uses _) s next ts g l h k = absurd (cc)
 last_once span Stray s next ts g l h k = absurd (cc)
 last_once span Unclosed s next ts g l h k = absurd (cc)
 
--- The cursor after the segment that stands at a cursor.
+-- The cursor after the next segment.
 next_place : TextCursor → TextCursor
 next_place p = after_definition (after_lexeme p) (is_some (definition_here (after_lexeme p) (lexeme_at p).lexeme))
 
@@ -275,6 +275,6 @@ spelled_ends_once text defs ts h = all_end _ text ts (λ m e. given_sound defs n
 pub spelled_once : (text : List ℕ) (defs : List (List ℕ × List ℕ)) (ts us : List Token) → HasTokens text defs ts → HasTokens text defs us → ts ≡ us
 spelled_once text defs ts us h k = let same = sym h ∙ k in cc
 
--- A refused text spells none.
+-- A text with a fault spells no tokens.
 pub spelled_none : (text : List ℕ) (defs : List (List ℕ × List ℕ)) (ts : List Token) (fault : LexFault) → HasTokens text defs ts → tokens_of text defs ≡ Err fault → ⊥
 spelled_none text defs ts fault h k = let same = sym h ∙ k in cc

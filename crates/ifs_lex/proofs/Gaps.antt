@@ -1,4 +1,4 @@
--- The bytes of blanks and comments that are read are those that the relation says.
+-- The lexer reads the blanks and comments of the relation.
 use Rattle.std.proofs.Common.{◌≡◌, ℕ, zero, suc, ◌+◌, ◌<◌, ◌≤◌, Bool, true, false, cond, eqb, ◌&&◌}
 use Rattle.std.proofs.Common.{◌||◌, not, List, [], ◌∷◌, length, drop, get_or, Option, Some, None}
 use Rattle.std.proofs.Common.{option_map, refl, sym, ◌∙◌, ap, subst, arith, length-drop, drop-drop}
@@ -13,7 +13,7 @@ use Rattle.ifs_lex.specs.inner.Gaps.{comment_bytes, IsGapPart}
 use Rattle.ifs_lex.specs.Spelling.{after_backslash, Closes, Unended, IsGap, empty, blank, joined, comment, last_comment}
 use Rattle.ifs_lex.proofs.Spelt.{true_false, shift, one_part, closes, closed}
 
--- The bytes of a comment and what comes after it, by the place of the newline that ends it.
+-- The length of a comment and of the gap after it, by the place of the newline that ends it.
 abbrev comment_end : List ℕ → Option ℕ → ℕ
 comment_end bs m = option_map_or (λ k. suc k + gap_len Blanks (drop (suc k) bs)) m (length bs)
 
@@ -48,7 +48,7 @@ none_from bs u None e = refl
 none_from bs u (Some k) e =
     let c = closes 10 false bs k e in absurd (true_false _ _ (u k c.within c.closes) c.free refl)
 
--- A blank goes on with what comes after it.
+-- A gap goes on after a blank.
 blank_not_hash : (b : ℕ) → is_blank b ≡ true → eqb b 35 ≡ false
 blank_not_hash b h = grind (arith, nat_tests)
 
@@ -74,14 +74,14 @@ comment_step rest n e =
     let more : 1 + gap_len (Comment false) rest ≡ suc n = omega arith in
     here ∙ more
 
--- No gap begins with a byte that is none of these.
+-- A byte that is none of these begins no gap.
 pub no_gap : (b : ℕ) (rest : List ℕ) → eqb b 35 ≡ false → is_blank b ≡ false → (eqb b 92 && begins_with 10 rest) ≡ false → gap_len Blanks (b ∷ rest) ≡ 0
 no_gap b rest e f g =
     ap (λ t. by_first b rest t (is_blank b) (eqb b 92 && begins_with 10 rest)) e ∙
     ap (λ t. by_first b rest false t (eqb b 92 && begins_with 10 rest)) f ∙
     ap (λ t. by_first b rest false false t) g
 
--- A gap after which none begins is the one that is read.
+-- The lexer reads a gap after which no other begins.
 pub gap_only : (bytes : List ℕ) (n : ℕ) → IsGap bytes n → gap_len Blanks (drop n bytes) ≡ 0 → gap_len Blanks bytes ≡ n
 gap_only _ _ (empty bytes) h = h
 gap_only _ _ (blank b rest n e g) h = blank_step b rest e ∙ ap (λ i. suc i) (gap_only rest n g h)
@@ -103,7 +103,7 @@ gap_within _ _ (comment rest k n c g) =
     omega (arith, c.within)
 gap_within _ _ (last_comment rest u) = omega arith
 
--- What is read of shorter bytes is a gap.
+-- The lexer reads gaps of shorter bytes.
 abbrev Shorter : ℕ → Type 0
 Shorter most = (xs : List ℕ) → length xs < most → IsGap xs (gap_len Blanks xs)
 
@@ -161,7 +161,7 @@ gap_below zero bytes l = absurd (omega arith)
 gap_below (suc most) [] l = empty []
 gap_below (suc most) (b ∷ rest) l = first_gap most b rest _ refl (omega arith) (λ xs k. gap_below most xs k)
 
--- What is read is a gap.
+-- The lexer reads a gap.
 pub gap_found : (bytes : List ℕ) → IsGap bytes (gap_len Blanks bytes)
 gap_found bytes = gap_below (suc (length bytes)) bytes (omega arith)
 

@@ -1,4 +1,4 @@
--- What ropes stand for, cell by cell.
+-- The tokens of ropes, cell by cell.
 use Rattle.std.proofs.Common.{◌≡◌, ℕ, zero, suc, ◌+◌, ◌*◌, ◌<◌, ◌≤◌, List, [], ◌∷◌, ◌++◌, length, map, get_or}
 use Rattle.std.proofs.Common.{refl, sym, ◌∙◌, ap, subst, arith, append_assoc, length-append, ◌⊎◌, inl, inr}
 use Rattle.std.proofs.lemmas.Bool.{cases_lt}
@@ -61,7 +61,7 @@ rope_from before (c ∷ rest) (suc k) d l h =
     let E : ℕ → Type 0 = λ i. IsEarlier i (get_or rest k d) in
     ap (λ i. whats_at (ropes_from before (c ∷ rest)) i) (sym z) ∙ rope_from (before ++ (w ∷ [])) rest k d (omega arith) (subst E (sym z) h)
 
--- What a cell is: as many stand for ropes as there are cells, and each for what it joins.
+-- A cell has the tokens of what it joins, and joins earlier cells.
 pub record IsCell (cells : List Cell) (ropes : List (List What)) (n : ℕ) (cell : Cell) : Type 0 where
   pub whats : whats_at ropes n ≡ whats_in ropes cell
   pub earlier : IsEarlier n cell
@@ -110,7 +110,7 @@ pub weight_two : (l r n : ℕ) → l < n → r < n → weight l + weight r < wei
 weight_two l r n h g =
     let a = weight_up l n h in let b = weight_up r n g in let c = weight_some n in omega arith
 
--- One cell put for another, or two for the one that joins them.
+-- A cell on the stack gives way to nothing, to its token, or to the two cells that it joins.
 pub none_put : (cells : List Cell) (ropes : List (List What)) (n : ℕ) (x : Cell) → IsCell cells ropes n x → x ≡ Empty → whats_at ropes n ≡ []
 none_put cells ropes n x f e = f.whats ∙ ap (whats_in ropes) e
 
@@ -135,7 +135,7 @@ both_lighter cells ropes n l r x left one two f e a b =
     let second = ap weights a ∙ weights-push left r in
     omega arith
 
--- One token given out.
+-- One token is appended.
 pub leaf_out : (span : Span) (old new : List Token) (what made : What) (ws rest : List What) → new ≡ old ++ (token span made ∷ []) → made ≡ what → ws ≡ what ∷ [] → new ++ map (token span) rest ≡ old ++ map (token span) (ws ++ rest)
 leaf_out span old new what made ws rest a b e =
     rw (a, b, e) (append_assoc old (token span what ∷ []) (map (token span) rest))
@@ -143,7 +143,7 @@ leaf_out span old new what made ws rest a b e =
 pub all_two : (m l r : ℕ) (left one two : List ℕ) → All (λ n. n < m) left → one ≡ left ++ r ∷ [] → two ≡ one ++ l ∷ [] → l < m → r < m → All (λ n. n < m) two
 all_two m l r left one two all a b g h = grind (arith, elements)
 
--- After one cell more: it stands at the end, and all others where they stood.
+-- A new cell is at the end, and the others stay.
 pub record Pushed (old new : List (List What)) (root : ℕ) (ws : List What) : Type 0 where
   pub within : root < length new
   pub whats : whats_at new root ≡ ws

@@ -1,4 +1,4 @@
--- The lexeme that is read is the one that the relation says.
+-- The lexeme that the lexer reads is the one of the relation.
 use Rattle.std.proofs.Common.{◌≡◌, ℕ, ◌+◌, ◌≤◌, Bool, true, false, cond, eqb, ◌&&◌, List, [], ◌∷◌, ◌++◌, length}
 use Rattle.std.proofs.Common.{take, Option, Some, None, refl, sym, ◌∙◌, ap, subst, arith, length-append}
 use Rattle.std.specs.List.{prefix_len}
@@ -50,7 +50,7 @@ sign_no_gap _ rest _ bang = refl
 sign_no_gap _ rest _ conjunction = refl
 sign_no_gap _ rest _ disjunction = refl
 
--- No gap comes where a lexeme does.
+-- No gap comes before a lexeme.
 pub lexeme_no_gap : (bs : List ℕ) (lexeme : Lexeme) (n : ℕ) → IsLexeme bs lexeme n → gap_len Blanks bs ≡ 0
 lexeme_no_gap _ _ _ (word b rest n e l) =
     no_gap b rest (word_not_hash b e) (word_not_blank b e) (ap (λ t. t && begins_with 10 rest) (word_not_backslash b e))
@@ -77,7 +77,7 @@ sign_not_last _ _ bang = refl
 sign_not_last _ _ conjunction = refl
 sign_not_last _ _ disjunction = refl
 
--- Lexemes come after a lexeme.
+-- A lexeme of the relation is not the last one.
 pub lexeme_not_last : (bs : List ℕ) (lexeme : Lexeme) (n : ℕ) → IsLexeme bs lexeme n → is_last lexeme ≡ false
 lexeme_not_last _ _ _ (word b rest n e l) = refl
 lexeme_not_last _ _ _ (quoted q rest value n e c s) = refl
@@ -112,7 +112,7 @@ here_sign _ rest _ bang = refl
 here_sign _ rest _ conjunction = refl
 here_sign _ rest _ disjunction = refl
 
--- A lexeme that comes first is the one that is read.
+-- The lexer reads the lexeme that comes first.
 pub lexeme_only : (bs : List ℕ) (lexeme : Lexeme) (n : ℕ) → IsLexeme bs lexeme n → lexeme_here bs ≡ scan lexeme n
 lexeme_only _ _ _ (word b rest n e l) =
     here_word b rest e ∙
@@ -126,7 +126,7 @@ lexeme_only _ _ _ (uses b rest n e l) =
     ap (λ k. scan (Uses (take k (b ∷ rest))) (1 + k)) (longest_once continues_name (b ∷ rest) _ n (prefix_longest continues_name (b ∷ rest)) l)
 lexeme_only _ _ _ (sign s rest what h) = here_sign s rest what h
 
--- The end, a lexeme, or a place that no case fits.
+-- The lexer reads the end, a lexeme, or what is no lexeme.
 pub data Reads (bytes : List ℕ) (s : Scan) : Type 0 where
   at_end : bytes ≡ [] → s.lexeme ≡ One End → s.len ≡ 0 → Reads bytes s
   an_lexeme : IsLexeme bytes s.lexeme s.len → Reads bytes s
@@ -178,7 +178,7 @@ sign_reads b rest =
     pick R (eqb b 38) _ _ (λ e. two_reads b 38 And rest conjunction e) (λ _.
     pick R (eqb b 124) _ _ (λ e. two_reads b 124 Or rest disjunction e) (λ _. stray _)))))))))
 
--- What is read is the end, a lexeme, or none.
+-- What the lexer reads.
 pub reads : (bs : List ℕ) → Reads bs (lexeme_here bs)
 unfolding lexeme_here
 reads [] = at_end refl refl refl
@@ -190,7 +190,7 @@ reads (b ∷ rest) =
     pick R (is_quote b) _ _ (λ e. quoted_reads b rest e _ refl) (λ _.
     pick R (eqb b 36) _ _ (λ e. subst P (sym (eqb-true b 36 e)) (use_reads rest)) (λ _. sign_reads b rest)))
 
--- The end is read where nothing is left.
+-- The lexer reads the end if nothing is left.
 pub none_left : (bs : List ℕ) → bs ≡ [] → lexeme_here bs ≡ scan (One End) 0
 unfolding lexeme_here
 none_left bs e = ap lexeme_here e

@@ -1,4 +1,4 @@
--- What is found by searches for a byte is what the functions on bytes say.
+-- Searches for a byte find what the functions on bytes say.
 use Rattle.std.proofs.Common.{Option, Some, None, option_map, cond, ◌≡◌, ℕ, zero, suc, [], ◌∷◌, ◌+◌, ◌-◌, ◌<◌, ◌≤◌, Bool, true, false, List, length, drop}
 use Rattle.std.proofs.Common.{get_or, get_or-drop, length-drop, refl, sym, ◌∙◌, ap, subst, arith, ◌⊎◌, inl, inr}
 use Rattle.std.proofs.lemmas.Bool.{cases_lt, eq-eqb, eqb-true}
@@ -9,15 +9,15 @@ use Rattle.ifs_lex.specs.inner.Pieces.{kept_len}
 use Rattle.ifs_lex.specs.Spelling.{after_backslash}
 use Rattle.ifs_lex.proofs.Spelt.{closes, closed, true_false}
 
--- Each byte of a kind that stands before a place is after a backslash.
+-- Each such byte before a place is after a backslash.
 abbrev pub Passed : ℕ → List ℕ → ℕ → Type 0
 Passed quote bytes place = (k : ℕ) → k < place → get_or bytes k 0 ≡ quote → after_backslash false bytes k ≡ true
 
--- A search in what is left from a place finds the first one of a byte.
+-- A search finds the first such byte of what is left.
 abbrev Finds : ℕ → List ℕ → ℕ → Type 0
 Finds quote left ahead = NoneBefore (Passes (is_byte quote) left) 0 (length left) ahead × Passes (is_byte quote) left ahead
 
--- None of the kind stands from one place up to another one.
+-- No such byte is between two places.
 abbrev Absent : ℕ → List ℕ → ℕ → ℕ → Type 0
 Absent quote bytes from ahead = Nowhere (Passes (is_byte quote) (drop from bytes)) 0 ahead
 
@@ -48,7 +48,7 @@ passed_next q bs place k p here same (inr m) l =
     let e : place ≡ k = omega arith in
     subst (λ (i : ℕ). after_backslash false bs i ≡ true) e here
 
--- Past what is found, where that is after a backslash.
+-- The search goes on after a byte that is after a backslash.
 pub passed_found : (q : ℕ) (bs left : List ℕ) (from ahead : ℕ) → left ≡ drop from bs → from ≤ length bs → Passed q bs from → Finds q left ahead → after_backslash false bs (from + ahead) ≡ true → (from + ahead + 1 ≤ length bs) × Passed q bs (from + ahead + 1)
 passed_found q bs left from ahead same w p h here =
     let f = subst (λ (xs : List ℕ). Finds q xs ahead) same h in
@@ -60,7 +60,7 @@ none_case q bs p None e = refl
 none_case q bs p (Some k) e =
     let c = closes q false bs k e in absurd (true_false _ _ (p k c.within c.closes) c.free refl)
 
--- Nothing closes where no more is found.
+-- No byte closes if the search finds no more.
 pub not_found : (q : ℕ) (bs left : List ℕ) (from : ℕ) → left ≡ drop from bs → from ≤ length bs → Passed q bs from → Nowhere (Passes (is_byte q) left) 0 (length left) → inside_len q false bs ≡ None
 not_found q bs left from same w p h =
     let none = subst (λ (xs : List ℕ). Nowhere (Passes (is_byte q) xs) 0 (length xs)) same h in
@@ -68,7 +68,7 @@ not_found q bs left from same w p h =
     let e : from + length (drop from bs) ≡ length bs = omega arith in
     none_case q bs (subst (Passed q bs) e (passed q bs from (length (drop from bs)) p none)) _ refl
 
--- Each byte before a place has a part in the value.
+-- Each byte before a place is part of the value.
 abbrev pub KeptTo : ℕ → List ℕ → ℕ → Type 0
 KeptTo quote bytes place = (k : ℕ) → k < place → is_dropped quote (get_or bytes k 0) (drop (k + 1) bytes) ≡ false
 
@@ -96,7 +96,7 @@ all_kept q [] h = refl
 all_kept q (b ∷ rest) h =
     kept_later q b rest None None (h 0 (omega arith)) (all_kept q rest (later_kept q b rest (length rest) h)) refl
 
--- A byte that is neither a newline nor a backslash has a part in the value.
+-- A byte that is neither a newline nor a backslash is part of the value.
 other_kept : (q b : ℕ) (rest : List ℕ) → (is_byte2 10 92 b ≡ true → ⊥) → is_dropped q b rest ≡ false
 unfolding is_dropped
 other_kept q b rest h = grind (arith, nat_tests)
@@ -126,7 +126,7 @@ pub place_within : (bs left : List ℕ) (from ahead : ℕ) → left ≡ drop fro
 place_within bs left from ahead same w l =
     let len = ap length same ∙ length-drop from bs in omega arith
 
--- What was asked of the bytes after a place.
+-- A test of the bytes after a place.
 pub asked : (q b : ℕ) (xs ys : List ℕ) (t s : Bool) → xs ≡ ys → t ≡ is_dropped q b xs → t ≡ s → is_dropped q b ys ≡ s
 asked q b xs ys t s same e f = sym (ap (is_dropped q b) same) ∙ sym e ∙ f
 

@@ -1,4 +1,4 @@
--- The segments of a text from a cursor on: the next one, and those after it.
+-- The segments of a text from a cursor on: the next segment, and those after it.
 use Rattle.std.proofs.Common.{◌≡◌, ℕ, Bool, true, false, cond, List, [], ◌∷◌, Option, Some, None}
 use Rattle.std.proofs.Common.{option_map, Result, Ok, Err, refl, sym, ◌∙◌, ap, ◌<◌, ◌≤◌, length, arith}
 use Rattle.std.specs.Prelude.{is_some}
@@ -39,7 +39,7 @@ text_last (Uses _) t h = refl
 text_last Stray t h = absurd (cc)
 text_last Unclosed t h = absurd (cc)
 
--- The lexemes after one that is not the last.
+-- The lexemes after the next one, if it is not the last.
 after : TextCursor → List Spanned
 after p = cond (is_last (lexeme_at p).lexeme) [] (lexemes_at (after_lexeme p))
 
@@ -79,7 +79,7 @@ bind_same : {A B : Type 0} (r : Result A LexFault) (f g : A → Result B LexFaul
 bind_same (Ok x) f g h = h x
 bind_same (Err fault) f g h = refl
 
--- Ends at the last lexeme, or goes on from a cursor.
+-- The tokens at the last lexeme, or those from a cursor on.
 unfoldable pub ending : Bool → TextCursor → Expanded → Result (List Token) LexFault
 ending last r next = cond last (Ok next.tokens) (tokens_after next (segments_from 0 (lexemes_at r)))
 
@@ -101,7 +101,7 @@ defines s p name text last h =
     ap (λ xs. tokens_after next xs) (ap (segments_from 2) (after_is p last) ∙ rest_after (after_lexeme p) text h) ∙
     sym (ap (λ b. cond b (Ok next.tokens) (tokens_after next (segments_from 0 (lexemes_at (after_lexeme (after_lexeme (after_lexeme p))))))) last))
 
--- The segments by the name and the text that were found.
+-- The segments, by the name and the text of the first one.
 parts_by : Spanned → List Spanned → Option (List ℕ) → Option (List ℕ) → List Segment
 parts_by a xs name text =
     option_map_or (λ part. part ∷ segments_from 2 xs) (option_map_or (λ n. option_map (λ t. Defines n t a.span) text) name None) (Stands a ∷ segments_from 0 xs)
@@ -119,12 +119,12 @@ by_name s p (Some name) e =
     let given = ap given_text (after_is p last) ∙ given_here (after_lexeme p) in
     ap (λ t. tokens_after s (parts_by (lexeme_at p) (after p) (Some name) t)) given ∙ by_text s p name _ last refl
 
--- The tokens from a cursor on are those of its first segment, then of what comes after it.
+-- The tokens from a cursor on are those of the next segment, and then those of the rest.
 pub turn_is : (s : Expanded) (p : TextCursor) → tokens_after s (segments_from 0 (lexemes_at p)) ≡ (with_turn (lexeme_at p) (definition_here (after_lexeme p) (lexeme_at p).lexeme) s >>= ending (is_last (lexeme_at p).lexeme) (after_definition (after_lexeme p) (is_some (definition_here (after_lexeme p) (lexeme_at p).lexeme))))
 unfolding parts_by
 turn_is s p = ap (λ xs. tokens_after s (segments_from 0 xs)) (unrolled p) ∙ by_name s p _ refl
 
--- One turn of the code is the next segment.
+-- One turn of the code takes the next segment.
 turn : (s : Expanded) (p q r : TextCursor) (x : Spanned) (d : Option (List ℕ × List ℕ)) (is_one : Bool) → x ≡ lexeme_at p → q ≡ after_lexeme p → d ≡ definition_here q x.lexeme → is_one ≡ is_some d → r ≡ after_definition q is_one → tokens_after s (segments_from 0 (lexemes_at p)) ≡ (with_turn x d s >>= ending (is_last x.lexeme) r)
 turn s p q r x d is_one ex eq ed eo er = rw (er, eo, ed, eq, ex) (turn_is s p)
 

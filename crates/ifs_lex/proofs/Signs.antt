@@ -1,4 +1,4 @@
--- A sign is no name, no text and not the end; it stands for itself.
+-- A sign is no name, no text and no end, and is its own token.
 use Rattle.std.proofs.Common.{◌≡◌, [], ◌∷◌, Some, None, false, refl}
 use Rattle.ifs_base.specs.declared.span.Span.{Span}
 use Rattle.ifs_lex.specs.declared.pieces.Sign.{Sign}

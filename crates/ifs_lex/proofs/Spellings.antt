@@ -1,4 +1,4 @@
--- The lexemes that are read are those that the relation says.
+-- The lexer reads the lexemes of the relation.
 use Rattle.std.proofs.Common.{◌≡◌, ℕ, zero, suc, ◌+◌, ◌≤◌, Bool, true, false, cond, eqb, List, [], ◌∷◌, length, take}
 use Rattle.std.proofs.Common.{drop, count_by, refl, sym, ◌∙◌, ap, subst, arith, length-drop, drop-drop, take-add}
 use Rattle.std.proofs.lemmas.List.{drop_all}
@@ -92,7 +92,7 @@ found_from text (suc most) at l h =
     (found_turn text (lexemes_from most (cursor text (at + gap + s.len))) at gap s (is_last s.lexeme) g (omega arith) (reads (drop (at + gap) text)) refl
     (λ within ended. found_from text most (at + gap + s.len) within ended) (subst Q e h))
 
--- The lexemes that are read up to the end of a text are its lexemes.
+-- The lexemes that the lexer reads up to the end of a text are its lexemes.
 pub spelling_found : (text : List ℕ) (lexemes : List Spanned) → lexemes_of text ≡ lexemes → Ended lexemes → Spelling text 0 lexemes
 unfolding lexemes_at
 spelling_found text lexemes e h =
@@ -124,6 +124,6 @@ spelling_ended : (text : List ℕ) (at : ℕ) (lexemes : List Spanned) → Spell
 spelling_ended text _ _ (ends at gap g whole) = refl
 spelling_ended text _ _ (goes_on at gap own lexeme lexemes g i rest) = ended_more (stands text lexeme (at + gap) (at + gap + own)) lexemes (spelling_ended text (at + gap + own) lexemes rest)
 
--- The lexemes of a text are those that are read, up to its end.
+-- The lexer reads the lexemes of a text, up to its end.
 pub spelling_only : (text : List ℕ) (lexemes : List Spanned) → Spelling text 0 lexemes → (lexemes_of text ≡ lexemes) × Ended lexemes
 spelling_only text lexemes h = (only_from text 0 lexemes h, spelling_ended text 0 lexemes h)

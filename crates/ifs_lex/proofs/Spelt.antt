@@ -1,4 +1,4 @@
--- What the functions on bytes read is what the relations say, and nothing else.
+-- The functions on bytes read what the relations say, and nothing else.
 use Rattle.std.proofs.Common.{Option, Some, None, option_map, ◌≡◌, ◌≢◌, ℕ, zero, suc, ◌+◌, ◌<◌}
 use Rattle.std.proofs.Common.{◌≤◌, Bool, true, false, cond, eqb, ◌&&◌, ◌||◌, not, List, []}
 use Rattle.std.proofs.Common.{◌∷◌, get_or, refl, sym, ◌∙◌, ap, subst, arith, ◌⊎◌, inl, inr}

@@ -1,4 +1,4 @@
--- A text has a list of lexemes, or is stuck in one place with one fault.
+-- A text has a list of lexemes, or is stuck at one place with one fault.
 use Rattle.std.proofs.Common.{◌≡◌, ℕ, zero, suc, ◌+◌, Bool, true, false, cond, eqb, ◌&&◌, not}
 use Rattle.std.proofs.Common.{List, [], ◌∷◌, ◌++◌, length, take, drop, Option, Some, None}
 use Rattle.std.proofs.Common.{refl, sym, ◌∙◌, ap, subst, arith, drop-drop, ◌⊎◌, inl, inr}
@@ -24,7 +24,7 @@ use Rattle.ifs_lex.proofs.Scanned.{lexeme_no_gap, lexeme_not_last, lexeme_only, 
 use Rattle.ifs_lex.proofs.Scanned.{Reads, at_end, an_lexeme, no_lexeme, reads, none_left}
 use Rattle.ifs_lex.proofs.Spellings.{cursor, turned, unrolled, spelling_only}
 
--- After the blanks and comments that are read none come.
+-- No gap comes after the gap that the lexer reads.
 after_gap : (o : Option Gap) (gap : Gap) (b : ℕ) (rest : List ℕ) → gap_after gap b rest ≡ o
     → ((next : Gap) → gap_len Blanks (drop (gap_len next rest) rest) ≡ 0) → (o ≡ None → gap_len Blanks (b ∷ rest) ≡ 0)
     → gap_len Blanks (drop (option_map_or (λ next. 1 + gap_len next rest) o 0) (b ∷ rest)) ≡ 0
@@ -48,7 +48,7 @@ gap_over (Comment escaped) (b ∷ rest) =
     after_gap (gap_after (Comment escaped) b rest) (Comment escaped) b rest refl (λ next. gap_over next rest)
     (λ e. absurd (in_comment b (eqb b 10 && not escaped) (eqb b 92) e))
 
--- Where none is read, none comes.
+-- No gap comes if the lexer reads none.
 pub no_gap_here : (bytes : List ℕ) (n : ℕ) → IsGap bytes n → gap_len Blanks bytes ≡ 0 → n ≡ 0
 no_gap_here _ _ (empty bytes) h = refl
 no_gap_here _ _ (blank b rest n e g) h = let s = blank_step b rest e in absurd (omega (arith, s, h))
@@ -56,7 +56,7 @@ no_gap_here _ _ (joined rest n g) h = let s = joined_step rest in absurd (omega 
 no_gap_here _ _ (comment rest k n c g) h = let s = comment_step rest (gap_len (Comment false) rest) refl in absurd (omega (arith, s, h))
 no_gap_here _ _ (last_comment rest u) h = let s = comment_step rest (gap_len (Comment false) rest) refl in absurd (omega (arith, s, h))
 
--- An open quote is read where one is.
+-- The lexer reads a quote that none closes.
 not_closed : (q : ℕ) (rest : List ℕ) → ((n : ℕ) → ¬ Closes q false rest n) → (o : Option ℕ) → inside_len q false rest ≡ o → o ≡ None
 not_closed q rest none None e = refl
 not_closed q rest none (Some n) e = absurd (none n (closes q false rest n e))
@@ -121,7 +121,7 @@ read_open (b ∷ rest) =
     pick O (is_quote b) _ _ (λ e. quoted_opens b rest e _ refl) (λ _.
     pick O (eqb b 36) _ _ (λ _. use_opens (b ∷ rest) rest) (λ _. sign_opens (b ∷ rest) b rest)))
 
--- Nothing fits where what is read is no lexeme.
+-- Nothing fits where the lexer reads no lexeme.
 pub fits_nothing : (bytes : List ℕ) → gap_len Blanks bytes ≡ 0 → ((lexeme_here bytes).lexeme ≡ One End → ⊥) → is_last (lexeme_here bytes).lexeme ≡ true → FitsNothing bytes
 fits_nothing bytes gap none last = record {
   goes_on = λ e. none (ap (λ (s : Scan). s.lexeme) (none_left bytes e));
@@ -129,7 +129,7 @@ fits_nothing bytes gap none last = record {
   no_lexeme = λ lexeme n i. true_false _ _ last (ap (λ (s : Scan). is_last s.lexeme) (lexeme_only bytes lexeme n i) ∙ lexeme_not_last bytes lexeme n i) refl;
 }
 
--- What is read where nothing fits is no lexeme.
+-- The lexer reads no lexeme where nothing fits.
 pub nothing_read : (bytes : List ℕ) → FitsNothing bytes → (is_last (lexeme_here bytes).lexeme ≡ true) × ((lexeme_here bytes).lexeme ≡ One End → ⊥)
 nothing_read bytes h = by_reads (reads bytes)
   where
@@ -139,7 +139,7 @@ nothing_read bytes h = by_reads (reads bytes)
     by_reads (no_lexeme none last) = (last, none)
 
 module _ (text : List ℕ) where
-  -- The lexemes up to a place where nothing fits are all that are read but the last one.
+  -- The lexer reads the lexemes up to a place where nothing fits, and one that is none.
   abbrev Last : ℕ → Spanned
   Last end = let s = lexeme_here (drop end text) in stands text s.lexeme end (end + s.len)
 
@@ -180,7 +180,7 @@ one_fault_at text at (lexing.Stray m) _ h k = absurd k
 one_fault_at text at (lexing.Unclosed m) _ h k = absurd k
 one_fault_at text at _ other h k = absurd h
 
--- A text is stuck in one place, with one fault.
+-- A text is stuck at one place, with one fault.
 pub stuck_once : (text : List ℕ) (at second : ℕ) (fault other : LexFault) → IsStuck text at fault → IsStuck text second other → (at ≡ second) × (fault ≡ other)
 stuck_once text at second fault other h k =
     let start : ℕ → Spanned = λ n. Last text n in
@@ -198,12 +198,12 @@ stuck_unspelled text lexemes at fault spelled h =
     let same : lexemes ≡ h.lexemes ++ Last text at ∷ [] = sym only.0 ∙ read_up_to text h.before h.nothing in
     (nothing_read (drop at text) h.nothing).1 (ended_last h.lexemes (Last text at) (subst Ended same only.1))
 
--- A lexeme that is none, and the fault that it is told as.
+-- What is no lexeme, and its fault.
 pub data Told (p : Spanned) : LexFault → Type 0 where
   told_stray : p.lexeme ≡ Stray → Told p (lexing.Stray p.span.line)
   told_open : p.lexeme ≡ Unclosed → Told p (lexing.Unclosed p.span.line)
 
--- Some lexeme is told as a fault.
+-- Some lexeme has a fault.
 abbrev pub Tells : LexFault → List Spanned → Type 0
 Tells fault [] = ⊥
 Tells fault (p ∷ rest) = Told p fault ⊎ Tells fault rest
@@ -258,7 +258,7 @@ module _ (text : List ℕ) (fault : LexFault) where
       (λ end r. reach end (stands text s.lexeme (at + gap) (at + gap + s.len) ∷ r.0, lexeme_to at gap s.len end s.lexeme r.0 g i r.1)) rest)
       (subst (Tells fault) (turned text (lexemes_from most) at) h)
 
--- A text of which a lexeme that is none is read is stuck.
+-- A text is stuck if the lexer reads a lexeme with a fault.
 pub stuck_in : (text : List ℕ) (fault : LexFault) → Tells fault (lexemes_of text) → StuckWith text fault
 unfolding lexemes_at
 stuck_in text fault h = stuck_from text fault (1 + length text) 0 (λ end r. r) h

@@ -18,14 +18,14 @@ use Rattle.ifs_lex.specs.Expansion.{Macro, Macros, with_macro, known_as, is_give
 use Rattle.ifs_lex.specs.inner.Ropes.{whats_at, Holds, KeepsRopes}
 use Rattle.ifs_lex.specs.inner.Kept.{IsValue, macro_of}
 
--- A value stays one while ropes are added.
+-- A rope stays a value when ropes are added.
 pub value_keeps : (before after : List (List What)) (rope : Rope) → KeepsRopes before after → IsValue before rope → IsValue after rope
 value_keeps before after rope k v = record {
   holds = (omega (arith, k.room, v.holds.0), ap length (k.same rope.root v.holds.0) ∙ v.holds.1);
   within = v.within;
 }
 
--- What is found in a table is a value.
+-- An entry that the table finds has a value.
 pub value_found : (ropes : List (List What)) (found : Option Entry) (o : Option Entry) → ((entry : Entry) → o ≡ Some entry → IsValue ropes entry.rope) → found ≡ o → IfSome found (λ entry. IsValue ropes entry.rope)
 value_found ropes None o values e = tt
 value_found ropes (Some entry) o values e = values entry (sym e)
@@ -37,18 +37,18 @@ macro_keeps before after (Some entry) k values =
     let same = k.same entry.rope.root v.holds.0 in
     ap (λ ws. let made : Macro = record { whats = ws; given = entry.given } in Some made) same
 
--- Macros by what finds their entries.
+-- Macros, by the function that finds their entries.
 abbrev known_by : List (List What) → (List ℕ → Option Entry) → ℕ → Macros
 known_by ropes find count = record { known = λ name. option_map (macro_of ropes) (find name); count = count }
 
--- What a table knows stays the same while ropes are added.
+-- The macros stay the same when ropes are added.
 pub macros_keep : (before after : List (List What)) (find : List ℕ → Option Entry) (count : ℕ) → KeepsRopes before after → ((name : List ℕ) (entry : Entry) → find name ≡ Some entry → IsValue before entry.rope) → known_by after find count ≡ known_by before find count
 macros_keep before after find count k values =
     let known : List (List What) → List ℕ → Option Macro = λ ropes name. option_map (macro_of ropes) (find name) in
     let same : known after ≡ known before = fun_ext (λ name. macro_keeps before after (find name) k (values name)) in
     ap (λ (f : List ℕ → Option Macro). let made : Macros = record { known = f; count = count } in made) same
 
--- A rope of two, no longer than a value may be.
+-- Two joined ropes are a value if they are not too long.
 pub value_both : (before after : List (List What)) (left right rope : Rope) → IsValue before left → IsValue before right → left.count + right.count ≤ 16384 → Holds after rope → whats_at after rope.root ≡ whats_at before left.root ++ whats_at before right.root → IsValue after rope
 value_both before after left right rope l r within h e =
     let both = length-append (whats_at before left.root) (whats_at before right.root) in
@@ -63,11 +63,11 @@ entry_case ropes entry e true o v h k =
     subst P same v
 entry_case ropes entry e false o v h k = h k
 
--- What a table finds by the bytes of a name.
+-- The entry that a table has under a name.
 abbrev pub found : {S : Type 0} → HashMap (Bor (List ℕ)) Entry S → List ℕ → Option Entry
 found m name = hash.get_by (λ k. bytes_eq name k.now) m
 
--- What a table finds after one entry more.
+-- A table with one more entry.
 abbrev pub Puts : {S : Type 0} → HashMap (Bor (List ℕ)) Entry S → HashMap (Bor (List ℕ)) Entry S → List ℕ → Entry → Type 0
 Puts m n bs entry = hash.UpdatesBy (λ x y. bytes_eq x.now y.now) (λ k. bytes_eq bs k.now) m n (Some entry)
 
@@ -85,7 +85,7 @@ some_map : (ropes : List (List What)) (o : Option Entry) → is_some (option_map
 some_map ropes None = refl
 some_map ropes (Some entry) = refl
 
--- The macros with one entry more.
+-- The macros with one more entry.
 pub macros_put : {S : Type 0} (ropes : List (List What)) (m n : HashMap (Bor (List ℕ)) Entry S) (bs : List ℕ) (entry : Entry) (old : Option Entry) → Puts m n bs entry → hash.hash_map_len n ≡ hash.hash_map_len m + cond (is_some old) 0 1 → old ≡ found m bs → with_macro bs (macro_of ropes entry) (known_by ropes (found m) (hash.hash_map_len m)) ≡ known_by ropes (found n) (hash.hash_map_len n)
 macros_put ropes m n bs entry old puts size was =
     let before : List ℕ → Option Macro = λ asked. cond (bytes_eq bs asked) (Some (macro_of ropes entry)) (option_map (macro_of ropes) (found m asked)) in
@@ -95,13 +95,13 @@ macros_put ropes m n bs entry old puts size was =
     ap (λ (f : List ℕ → Option Macro). let made : Macros = record { known = f; count = hash.hash_map_len m + cond (is_some (option_map (macro_of ropes) (found m bs))) 0 1 } in made) known ∙
     ap (λ (k : ℕ). let made : Macros = record { known = after; count = k } in made) count
 
--- A name that is known, or for which there is room, gets its macro.
+-- A name gets its macro if it is known, or if the table has room for it.
 pub put_known : (line : ℕ) (given : Bool) (name : List ℕ) (whats : List What) (m n : Macros) → (is_some (m.known name) || ltb m.count 256) ≡ true → with_macro name (record { whats = whats; given = given }) m ≡ n → known_as line given name (Some whats) m ≡ Ok n
 put_known line given name whats m n t e =
     let wanted : Bool → Result Macros LexFault = λ b. cond b (Ok (with_macro name (record { whats = whats; given = given }) m)) (Err (OverLimit line)) in
     ap wanted t ∙ ap (λ k. Ok k) e
 
--- A definition that is read.
+-- A definition whose value is read.
 pub define_read : (line : ℕ) (given : Bool) (name value : List ℕ) (m n : Macros) (whats : List What) (wanted : Result Macros LexFault) → is_given m name ≡ false → Some whats ≡ value_of m value → n ≡ m → known_as line given name (Some whats) n ≡ wanted → defined line given name value m ≡ wanted
 unfolding defined
 define_read line given name value m n whats wanted g v e h =

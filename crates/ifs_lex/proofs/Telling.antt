@@ -1,4 +1,4 @@
--- P1 and P2 are told of lexemes of the text alone.
+-- P1 and P2 are faults of lexemes of the text.
 use Rattle.std.proofs.Common.{◌≡◌, ◌≢◌, ℕ, zero, suc, ◌+◌, ◌<◌, Bool, true, false, cond, ltb}
 use Rattle.std.proofs.Common.{◌||◌, List, [], ◌∷◌, length, Option, Some, None, option_map}
 use Rattle.std.proofs.Common.{Result, Ok, Err, refl, sym, ◌∙◌, ap, subst, arith, ◌⊎◌, inl, inr}
@@ -32,7 +32,7 @@ OfLexemes (lexing.Stray line) = Unit {0}
 OfLexemes (lexing.Unclosed line) = Unit {0}
 OfLexemes _ = ⊥
 
--- A fault of another kind is none of these.
+-- A fault of another kind is neither.
 other_fault : {A : Type 0} (f fault : LexFault) → (OfLexemes f → ⊥) → OfLexemes fault → f ≡ fault → A
 other_fault f fault none h e = absurd (none (subst OfLexemes (sym e) h))
 
@@ -57,7 +57,7 @@ use_fault : {B : Type 0} (span : Span) (o : Option Macro) (s : Expanded) (fault 
 use_fault span None s fault h e = other_fault (UnknownMacro span.line) fault (λ k. k) h (inside_err (UnknownMacro span.line) fault e)
 use_fault span (Some known) s fault h e = whats_fault span known.whats s fault h e
 
--- What a lexeme that is none is told as.
+-- The fault of what is no lexeme.
 abbrev ToldAs : Span → Lexeme → LexFault → Type 0
 ToldAs span i fault = ((i ≡ Stray) × (fault ≡ lexing.Stray span.line)) ⊎ ((i ≡ Unclosed) × (fault ≡ lexing.Unclosed span.line))
 
@@ -95,7 +95,7 @@ defined_fault {B = B} line given name value m fault h e = by_given (is_given m n
     by_given false k = known_fault line given name (value_of m value) m fault h k
 
 module _ (fault : LexFault) (h : OfLexemes fault) where
-  -- One part, and then more.
+  -- The fault of a segment, or of those after it.
   stands_fault : (p : Spanned) (rest : List Spanned) (s : Expanded) (r : Result Expanded LexFault) → with_lexeme p.span p.lexeme s ≡ r
       → ((next : Expanded) → tokens_after next (segments_from 0 rest) ≡ Err fault → Tells fault rest)
       → (r >>= λ next. tokens_after next (segments_from 0 rest)) ≡ Err fault → Tells fault (p ∷ rest)
@@ -150,7 +150,7 @@ module _ (fault : LexFault) (h : OfLexemes fault) where
   unfolding tokens_of
   tokens_fault text defs k = stuck_in text fault (macros_fault (given_from no_macros defs) text (given_fault defs no_macros) k)
 
--- Where P1 or P2 is told of a text, it is stuck with it.
+-- A text with the fault P1 or P2 is stuck with that fault.
 pub told_stuck : (text : List ℕ) (defs : List (List ℕ × List ℕ)) (fault : LexFault) → (fault ≢ Memory → tokens_of text defs ≡ Err fault) → SaysStuck text fault
 told_stuck text defs (lexing.Stray line) k = tokens_fault (lexing.Stray line) tt text defs (k (λ e. absurd (cc)))
 told_stuck text defs (lexing.Unclosed line) k = tokens_fault (lexing.Unclosed line) tt text defs (k (λ e. absurd (cc)))
@@ -159,7 +159,7 @@ told_stuck text defs (BadMacro line) k = tt
 told_stuck text defs (OverLimit line) k = tt
 told_stuck text defs Memory k = tt
 
--- What is read last is the end, or told as a fault.
+-- The last lexeme is the end, or has a fault.
 abbrev Known : List Spanned → Type 0
 Known lexemes = Ended lexemes ⊎ ((fault : LexFault) × Tells fault lexemes)
 

@@ -65,7 +65,7 @@ unfolding lexeme_here
 lexeme_some [] e = absurd (cc)
 lexeme_some (b ∷ rest) e = omega arith
 
--- What is left gets less.
+-- Fewer bytes are left after a lexeme.
 pub fewer_left : (p : TextCursor) → is_last (lexeme_at p).lexeme ≡ false → length (after_lexeme p).left < length p.left
 fewer_left p e =
     let q = past_gap p in
@@ -94,7 +94,7 @@ same_fuel (suc n) (suc m) p l k =
     ap (λ rest. lexeme_at p ∷ rest)
     (same_rest (is_last (lexeme_at p).lexeme) _ _ (λ e. let less = fewer_left p e in same_fuel n m (after_lexeme p) (omega arith) (omega arith)))
 
--- The next lexeme, then those after it.
+-- The next lexeme, and those after it.
 pub lexemes_unroll : (p : TextCursor) → lexemes_at p ≡ lexeme_at p ∷ cond (is_last (lexeme_at p).lexeme) [] (lexemes_at (after_lexeme p))
 unfolding lexemes_at
 lexemes_unroll p =
@@ -137,14 +137,14 @@ value_fails m n before p a target k e f h =
     sym (value_none m (cond (is_last a) [] (lexemes_at (after_lexeme p)))) ∙
     next_of m before p a None target e (moved m n a before None k f) h
 
--- A value that is not too long is read.
+-- A value whose text is not too long.
 pub value_whole : (m : Macros) (text : List ℕ) → length text ≤ 1048576 → value_of m text ≡ value_from m (Some []) (lexemes_of text)
 unfolding value_of
 value_whole m text l =
     let t : ltb 1048576 (length text) ≡ false = search (rules, tests) in
     ap (λ b. cond b None (value_from m (Some []) (lexemes_of text))) t
 
--- Where nothing is left to read a cursor is not passed.
+-- A cursor moves over each lexeme but the last.
 pub last_moves : (p : TextCursor) (a : Lexeme) (q : TextCursor) → a ≡ (lexeme_at p).lexeme → q ≡ after_lexeme p → is_last a ≡ false → length q.left < length p.left
 last_moves p a q e r l =
     let less = fewer_left p (ap is_last (sym e) ∙ l) in

@@ -1,4 +1,4 @@
--- The value of what stands between two quotes, part by part.
+-- The value of the bytes between two quotes, part by part.
 use Rattle.std.proofs.Common.{◌≡◌, ℕ, suc, ◌+◌, ◌<◌, Bool, true, false, cond, eqb, ◌&&◌, ◌||◌}
 use Rattle.std.proofs.Common.{List, [], ◌∷◌, ◌++◌, length, take, drop, get_or, Option, Some}
 use Rattle.std.proofs.Common.{None, option_map, refl, sym, ◌∙◌, ap, subst, arith, length-drop}
@@ -8,7 +8,7 @@ use Rattle.std.proofs.lemmas.Str.{IsCharBoundary-before_ascii, IsCharBoundary-af
 use Rattle.ifs_lex.specs.Lexemes.{is_dropped, quoted_value}
 use Rattle.ifs_lex.specs.inner.Pieces.{kept_len}
 
--- The bytes before the first one dropped, then the value of what comes after it.
+-- The bytes before the first dropped byte, and then the value of the bytes after it.
 pub record KeptTo (q : ℕ) (bs : List ℕ) (n : ℕ) : Type 0 where
   pub within : n < length bs
   pub ascii : get_or bs n 0 < 128
@@ -55,12 +55,12 @@ whole_test q b rest false None e ih h =
     ap (λ t. cond t (quoted_value q rest) (b ∷ quoted_value q rest)) e ∙ ap (λ xs. b ∷ xs) (ih refl)
 whole_test q b rest false (Some k) e ih h = absurd (cc)
 
--- Where no byte is dropped the value is all of it.
+-- The value is all bytes if none is dropped.
 pub kept_whole : (q : ℕ) (bs : List ℕ) → kept_len q bs ≡ None → quoted_value q bs ≡ bs
 kept_whole q [] h = refl
 kept_whole q (b ∷ rest) h = whole_test q b rest _ _ refl (λ e. kept_whole q rest e) h
 
--- The same of the bytes that a text lends, with the places at which it is cut.
+-- The same of the bytes of a text, with the places of the cuts.
 pub record Kept (q : ℕ) (text : List ℕ) (n : ℕ) : Type 0 where
   pub before : IsCharBoundary text n
   pub after : IsCharBoundary (drop n text) 1

@@ -1,4 +1,4 @@
--- A text that has tokens, or is a value, is read to its end.
+-- The lexer reads a text to its end if the text has tokens or is a value.
 use Rattle.std.proofs.Common.{◌≡◌, ℕ, zero, suc, ◌<◌, Bool, true, false, cond, ltb, List, [], ◌∷◌, length}
 use Rattle.std.proofs.Common.{Option, Some, None, option_map, Result, Ok, Err, refl, sym, ◌∙◌, ap, subst, arith}
 use Rattle.std.specs.Prelude.{is_some}
@@ -32,7 +32,7 @@ ended_before p l h =
     let P : List Spanned → Type 0 = λ xs. Ended xs in
     subst P (sym (lexemes_unroll p ∙ ap (λ t. lexeme_at p ∷ cond t [] (lexemes_at (after_lexeme p))) l)) (ended_more (lexeme_at p) (lexemes_at (after_lexeme p)) h)
 
--- The lexemes of a definition are not the last ones.
+-- The lexemes of a definition are not the last.
 abbrev given : Option (List ℕ) → Option (List ℕ) → Option (List ℕ × List ℕ)
 given name text = option_map_or (λ n. option_map (λ t. (n, t)) text) name None
 
@@ -61,7 +61,7 @@ turn_end p s next l e =
     lexeme_end (lexeme_at p).span (lexeme_at p).lexeme s next l
     (sym (ap (λ o. with_turn (lexeme_at p) (given o (text_here (after_lexeme p))) s) none) ∙ e)
 
--- The cursor after the segment that stands at a cursor.
+-- The cursor after the next segment.
 abbrev next_place : TextCursor → TextCursor
 next_place p = after_definition (after_lexeme p) (is_some (definition_here (after_lexeme p) (lexeme_at p).lexeme))
 

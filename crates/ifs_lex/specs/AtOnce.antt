@@ -1,4 +1,4 @@
--- Faults that are certain at once, before anything is kept: no want of memory comes in their place.
+-- Faults that are certain before the first allocation. `tokens` returns them even if allocations fail.
 use Rattle.std.specs.Prelude.{ℕ, nat_lt, if◌then◌else◌, List, [], ◌∷◌, length, Option, Some, None}
 use Rattle.ifs_base.specs.declared.span.Span.{Span}
 use Rattle.ifs_lex.specs.declared.fault.LexFault.{LexFault}
@@ -7,19 +7,19 @@ use Rattle.ifs_lex.specs.declared.fault.LexFault.TheVariants.{UnknownMacro, BadM
 use Rattle.ifs_lex.specs.Characters.{is_macro_name}
 use Rattle.ifs_lex.specs.Lexemes.{Lexeme, One, Uses, Stray, Unclosed, Spanned, lexeme_at, start}
 
--- What is wrong with a lexeme where no macro is known.
+-- The fault of a lexeme if no macro is known.
 abbrev pub fault_without_macros : Span → Lexeme → Option LexFault
 fault_without_macros span (One _) = None
 fault_without_macros span (Uses name) = Some (UnknownMacro span.line)
 fault_without_macros span Stray = Some (lexing.Stray span.line)
 fault_without_macros span Unclosed = Some (lexing.Unclosed span.line)
 
--- What is wrong with the first lexeme of a text where no macro is known.
+-- The fault of a text's first lexeme if no macro is known.
 abbrev pub fault_of_first : Spanned → Option LexFault
 fault_of_first p = fault_without_macros p.span p.lexeme
 
--- What is certain at once of a text: with no definition beside it, that it is too long, or what is wrong with its first
--- lexeme; with some, that the first of them has no macro name, or too long a value.
+-- The certain fault of a text. Without definitions beside it, the text is too long, or its first lexeme has a fault. With
+-- definitions, the first one has no macro name, or too long a value.
 abbrev pub certain_at_once : List ℕ → List (List ℕ × List ℕ) → Option LexFault
 certain_at_once text [] = if nat_lt 1048576 (length text) then Some (OverLimit 1) else fault_of_first (lexeme_at (start text))
 certain_at_once text (def ∷ rest) =

@@ -1,4 +1,4 @@
--- The characters of a policy text, by their bytes in ASCII.
+-- The bytes of a policy text, in ASCII.
 use Rattle.std.specs.Prelude.{ℕ, Bool, false, ◌&&◌, ◌||◌, ◌==◌, nat_le, List, [], ◌∷◌, length}
 use Rattle.std.specs.List.{prefix_len}
 use Rattle.std.specs.Str.{bytes_eq}
@@ -20,19 +20,19 @@ is_blank b = (b == 9) || (b == 10) || (b == 13) || (b == 32)
 abbrev pub is_quote : ℕ → Bool
 is_quote b = (b == 34) || (b == 39)
 
--- What a macro name begins with: a letter or _.
+-- A byte with which a macro name can begin: a letter or _.
 abbrev pub begins_name : ℕ → Bool
 begins_name b = is_letter b || (b == 95)
 
--- What a macro name goes on with: letters, digits and _.
+-- A byte with which a macro name can go on: a letter, a digit or _.
 abbrev pub continues_name : ℕ → Bool
 continues_name b = is_letter b || is_digit b || (b == 95)
 
--- What a word begins with: a letter, a digit, _ or /.
+-- A byte with which a word can begin: a letter, a digit, _ or /.
 abbrev pub begins_word : ℕ → Bool
 begins_word b = is_letter b || is_digit b || (b == 95) || (b == 47)
 
--- What a word goes on with: these and - : + @ % * ~.
+-- A byte with which a word can go on: one of these, or - : + @ % * ~.
 abbrev pub continues_word : ℕ → Bool
 continues_word b = begins_word b || (b == 45) || (b == 58) || (b == 43) || (b == 64) || (b == 37) || (b == 42) || (b == 126)
 

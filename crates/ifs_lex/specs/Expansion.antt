@@ -1,4 +1,4 @@
--- From the lexemes of a text to its tokens: definitions are taken out, uses replaced.
+-- From the lexemes of a text to its tokens, without definitions, and with macros in place of their uses.
 use Rattle.std.specs.Prelude.{◌≡◌, ℕ, zero, suc, ◌+◌, Bool, true, false, ◌&&◌, ◌||◌, not, nat_lt, if◌then◌else◌, List}
 use Rattle.std.specs.Prelude.{[], ◌∷◌, ◌++◌, length, map, Option, Some, None, option_map, is_some, Result, Ok, Err}
 use Rattle.std.specs.Borrow.{Bor}
@@ -15,16 +15,16 @@ use Rattle.ifs_lex.specs.declared.fault.LexFault.TheVariants.{UnknownMacro, BadM
 use Rattle.ifs_lex.specs.Characters.{is_macro_name, is_reserved}
 use Rattle.ifs_lex.specs.Lexemes.{Lexeme, One, Uses, Stray, Unclosed, Spanned, lexemes_of}
 
--- The definitions that are given beside a text: names with values.
+-- The definitions that are given beside a text: names and values.
 abbrev pub defined_by : List (Bor (List ℕ) × Bor (List ℕ)) → List (List ℕ × List ℕ)
 defined_by defs = map (λ d. (d.0.now, d.1.now)) defs
 
--- What is known of a macro: its tokens, and whether it was given beside the text.
+-- A macro: its tokens, and whether it was given beside the text.
 pub record Macro : Type 0 where
   pub whats : List What
   pub given : Bool
 
--- The macros known at a place, by name, and how many names there are.
+-- The macros that are known at a place, by name, and the number of names.
 pub record Macros : Type 0 where
   pub known : List ℕ → Option Macro
   pub count : ℕ
@@ -33,14 +33,14 @@ pub record Macros : Type 0 where
 abbrev pub no_macros : Macros
 no_macros = record { known = λ name. None; count = 0 }
 
--- With this macro under a name, in place of what the name had before.
+-- The same with a macro under a name, in place of the macro that the name had.
 abbrev pub with_macro : List ℕ → Macro → Macros → Macros
 with_macro name new m = record {
   known = λ asked. if bytes_eq name asked then Some new else m.known asked;
   count = m.count + (if is_some (m.known name) then 0 else 1);
 }
 
--- What a lexeme of a value stands for: no sign `=`, no use of an unknown macro, nothing that is no lexeme.
+-- The tokens of a lexeme of a value. A value has no sign `=`, no use of an unknown macro, and no fault.
 abbrev pub whats_of : Macros → Lexeme → Option (List What)
 whats_of m (One Equals) = None
 whats_of m (One End) = Some []
@@ -49,33 +49,33 @@ whats_of m (Uses name) = option_map (λ known. known.whats) (m.known name)
 whats_of m Stray = None
 whats_of m Unclosed = None
 
--- What was read of a value and then this, at most 16,384 in all.
+-- The tokens of a value so far, and more of them, at most 16,384 in all.
 abbrev pub joined : List What → Option (List What) → Option (List What)
 joined before None = None
 joined before (Some more) = if nat_lt 16384 (length before + length more) then None else Some (before ++ more)
 
--- What the lexemes of a value stand for, after what was read of it.
+-- The tokens of a value, after those of its first lexemes.
 abbrev pub value_from : Macros → Option (List What) → List Spanned → Option (List What)
 value_from m before [] = before
 value_from m None (p ∷ rest) = None
 value_from m (Some before) (p ∷ rest) = value_from m (joined before (whats_of m p.lexeme)) rest
 
--- What a value stands for; its text has at most 1,048,576 bytes.
+-- The tokens of a value. Its text has at most 1,048,576 bytes.
 unfoldable pub value_of : Macros → List ℕ → Option (List What)
 value_of m text = if nat_lt 1048576 (length text) then None else value_from m (Some []) (lexemes_of text)
 
--- A macro given beside the text is known under this name.
+-- A macro of this name was given beside the text.
 abbrev pub is_given : Macros → List ℕ → Bool
 is_given m name = option_map_or (λ known. known.given) (m.known name) false
 
--- A macro read at a line: a bad value is looked for before one name too many, of 256.
+-- The macros with one more. A bad value is the fault before a name too many, of 256.
 abbrev pub known_as : ℕ → Bool → List ℕ → Option (List What) → Macros → Result Macros LexFault
 known_as line given name None m = Err (BadMacro line)
 known_as line given name (Some whats) m =
     if is_some (m.known name) || nat_lt m.count 256 then Ok (with_macro name (record { whats = whats; given = given }) m)
     else Err (OverLimit line)
 
--- The macros after a definition. Where the name was given beside the text it is not read.
+-- The macros after a definition. It is not read if its name was given beside the text.
 unfoldable pub defined : ℕ → Bool → List ℕ → List ℕ → Macros → Result Macros LexFault
 defined line given name value m = if is_given m name then Ok m else known_as line given name (value_of m value) m
 
@@ -109,7 +109,7 @@ macro_text_of (Uses _) = None
 macro_text_of Stray = None
 macro_text_of Unclosed = None
 
--- The text that the next two lexemes give to a name: the sign `=` and a string.
+-- The text that the next two lexemes give to a name: they are the sign `=` and a string.
 abbrev pub given_text : List Spanned → Option (List ℕ)
 given_text [] = None
 given_text (e ∷ []) = None
@@ -120,14 +120,14 @@ abbrev pub definition_at : Spanned → List Spanned → Option Segment
 definition_at p rest =
     option_map_or (λ name. option_map (λ text. Defines name text p.span) (given_text rest)) (macro_name_of p.lexeme) None
 
--- The segments of a text, so many lexemes left out; a definition is three lexemes.
+-- The segments of a text after some lexemes. A definition is three lexemes.
 abbrev pub segments_from : ℕ → List Spanned → List Segment
 segments_from left_out [] = []
 segments_from (suc left_out) (p ∷ rest) = segments_from left_out rest
 segments_from zero (p ∷ rest) =
     option_map_or (λ part. part ∷ segments_from 2 rest) (definition_at p rest) (Stands p ∷ segments_from 0 rest)
 
--- The tokens so far and the macros known.
+-- The tokens so far, and the known macros.
 pub record Expanded : Type 0 where
   pub tokens : List Token
   pub macros : Macros
@@ -135,22 +135,22 @@ pub record Expanded : Type 0 where
 abbrev pub expanded : List Token → Macros → Expanded
 expanded tokens macros = record { tokens = tokens; macros = macros }
 
--- A token and where it stands.
+-- A token at a place.
 abbrev pub token : Span → What → Token
 token span what = record { what = what; span = span }
 
--- With these tokens, at most 16,384 in all.
+-- The same with more tokens, at most 16,384 in all.
 abbrev pub with_whats : Span → List What → Expanded → Result Expanded LexFault
 with_whats span whats s =
     if nat_lt 16384 (length s.tokens + length whats) then Err (OverLimit span.line)
     else Ok (expanded (s.tokens ++ map (token span) whats) s.macros)
 
--- With the tokens of a macro, where it is known.
+-- The same with the tokens of a macro, if it is known.
 abbrev pub with_use : Span → Option Macro → Expanded → Result Expanded LexFault
 with_use span None s = Err (UnknownMacro span.line)
 with_use span (Some known) s = with_whats span known.whats s
 
--- With what a lexeme gives. The token at the end does not count.
+-- The same with what a lexeme gives. The limit does not count the end.
 abbrev pub with_lexeme : Span → Lexeme → Expanded → Result Expanded LexFault
 with_lexeme span (One End) s = Ok (expanded (s.tokens ++ (token span End ∷ [])) s.macros)
 with_lexeme span (One what) s = with_whats span (what ∷ []) s
@@ -158,12 +158,12 @@ with_lexeme span (Uses name) s = with_use span (s.macros.known name) s
 with_lexeme span Stray s = Err (lexing.Stray span.line)
 with_lexeme span Unclosed s = Err (lexing.Unclosed span.line)
 
--- With what a segment gives.
+-- The same with what a segment gives.
 unfoldable pub with_segment : Segment → Expanded → Result Expanded LexFault
 with_segment (Defines name value span) s = defined span.line false name value s.macros >>= λ m. Ok (expanded s.tokens m)
 with_segment (Stands p) s = with_lexeme p.span p.lexeme s
 
--- The tokens after these segments.
+-- The tokens after some segments.
 abbrev pub tokens_after : Expanded → List Segment → Result (List Token) LexFault
 tokens_after s [] = Ok s.tokens
 tokens_after s (part ∷ rest) = with_segment part s >>= λ next. tokens_after next rest
@@ -172,22 +172,22 @@ tokens_after s (part ∷ rest) = with_segment part s >>= λ next. tokens_after n
 abbrev pub given_one : List ℕ → List ℕ → Macros → Result Macros LexFault
 given_one name value m = if is_macro_name name then defined 0 true name value m else Err (BadMacro 0)
 
--- The macros after all of them, in order.
+-- The macros after all definitions that are given beside the text, in order.
 abbrev pub given_from : Macros → List (List ℕ × List ℕ) → Result Macros LexFault
 given_from m [] = Ok m
 given_from m (def ∷ rest) = given_one def.0 def.1 m >>= λ next. given_from next rest
 
--- The tokens of a text under what is given beside it: faults of that come first, then the text's size.
+-- The tokens of a text with the definitions beside it. Faults of these come first, and then the size of the text.
 unfoldable pub tokens_of : List ℕ → List (List ℕ × List ℕ) → Result (List Token) LexFault
 tokens_of text defs =
     given_from no_macros defs >>= λ m.
     if nat_lt 1048576 (length text) then Err (OverLimit 1) else tokens_after (expanded [] m) (segments_from 0 (lexemes_of text))
 
--- The tokens that a text spells under what is given beside it.
+-- A text spells tokens, with the definitions beside it.
 abbrev pub HasTokens : List ℕ → List (List ℕ × List ℕ) → List Token → Type 0
 HasTokens text defs tokens = tokens_of text defs ≡ Ok tokens
 
--- The end of a text.
+-- Whether a token is the end.
 abbrev pub is_end : What → Bool
 is_end End = true
 is_end _ = false
@@ -197,7 +197,7 @@ abbrev pub Endless : List Token → Type 0
 Endless [] = Unit {0}
 Endless (first ∷ rest) = (is_end first.what ≡ false) × Endless rest
 
--- The one end stands last.
+-- The last token, and no other, is the end.
 pub record EndsOnce (tokens : List Token) : Type 0 where
   pub front : List Token
   pub last : Token

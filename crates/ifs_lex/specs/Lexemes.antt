@@ -9,18 +9,18 @@ use Rattle.ifs_lex.specs.declared.token.What.TheVariants.{Word, Quoted, BraceOpe
 use Rattle.ifs_lex.specs.declared.token.What.TheVariants.{ParenClose, Dot, Equals, Bang, And, Or, End}
 use Rattle.ifs_lex.specs.Characters.{is_blank, is_quote, begins_name, continues_name, begins_word, continues_word}
 
--- The first byte is this one.
+-- Bytes begin with this one.
 abbrev pub begins_with : ℕ → List ℕ → Bool
 begins_with byte [] = false
 begins_with byte (b ∷ rest) = b == byte
 
--- What a byte between lexemes stands in: blanks, or a comment, with whether the byte before was a backslash.
+-- What a byte between lexemes is in: blanks, or a comment. A comment knows whether the byte before was a backslash.
 pub data Gap : Type 0 where
   Blanks : Gap
   Comment : Bool → Gap
 
--- Where a byte of a gap leads: `#` begins a comment, a newline ends it but after a backslash; a
--- backslash before a newline is a blank. There is none where the gap ends before the byte.
+-- What comes after a byte of a gap, if the byte is in the gap. `#` begins a comment. A newline ends it unless a
+-- backslash comes before. A backslash before a newline is a blank.
 abbrev pub gap_after : Gap → ℕ → List ℕ → Option Gap
 gap_after Blanks b rest =
     if b == 35 then Some (Comment false) else
@@ -28,29 +28,28 @@ gap_after Blanks b rest =
 gap_after (Comment escaped) b rest =
     if (b == 10) && not escaped then Some Blanks else Some (Comment (b == 92))
 
--- How many bytes of blanks and comments come first.
+-- The length of the blanks and comments that come first.
 abbrev pub gap_len : Gap → List ℕ → ℕ
 gap_len gap [] = 0
 gap_len gap (b ∷ rest) = option_map_or (λ next. 1 + gap_len next rest) (gap_after gap b rest) 0
 
--- How many bytes stand before the quote that closes: the first one that is not after a backslash.
+-- The number of bytes before the closing quote, which is the first one that is not after a backslash.
 abbrev pub inside_len : ℕ → Bool → List ℕ → Option ℕ
 inside_len quote escaped [] = None
 inside_len quote escaped (b ∷ rest) =
     if (b == quote) && not escaped then Some 0 else option_map (λ n. 1 + n) (inside_len quote (b == 92) rest)
 
--- A backslash is dropped before the same quote, a space, a tab or a newline, and a newline always is.
+-- A byte is dropped from a value: a newline, or a backslash before the same quote, a space, a tab or a newline.
 unfoldable pub is_dropped : ℕ → ℕ → List ℕ → Bool
 is_dropped quote b rest =
     (b == 10) || ((b == 92) && (begins_with quote rest || begins_with 32 rest || begins_with 9 rest || begins_with 10 rest))
 
--- The value of what stands between two quotes.
+-- The value of the bytes between two quotes.
 abbrev pub quoted_value : ℕ → List ℕ → List ℕ
 quoted_value quote [] = []
 quoted_value quote (b ∷ rest) = if is_dropped quote b rest then quoted_value quote rest else b ∷ quoted_value quote rest
 
--- A lexeme: a token, a use of a macro by its name, a character that begins nothing, a quote that opens
--- and is not closed.
+-- A lexeme: a token, a use of a macro by its name, a character that begins no lexeme, or a quote that no quote closes.
 pub data Lexeme : Type 0 where
   One : What → Lexeme
   Uses : List ℕ → Lexeme
@@ -65,7 +64,7 @@ pub record Scan : Type 0 where
 abbrev pub scan : Lexeme → ℕ → Scan
 scan lexeme len = record { lexeme = lexeme; len = len }
 
--- A word, as far as it can go on.
+-- A word, as long as it can be.
 abbrev pub word_here : List ℕ → Scan
 word_here bytes = let n = prefix_len continues_word bytes in scan (One (Word (take n bytes))) n
 
@@ -79,7 +78,7 @@ abbrev pub begins_macro : List ℕ → Bool
 begins_macro [] = false
 begins_macro (b ∷ rest) = begins_name b
 
--- A use, by what comes after its `$`: a macro name, as far as it can go on.
+-- A use, by what comes after its `$`: a macro name, as long as it can be.
 abbrev pub use_here : List ℕ → Scan
 use_here rest =
     let n = prefix_len continues_name rest in if begins_macro rest then scan (Uses (take n rest)) (1 + n) else scan Stray 0
@@ -101,7 +100,7 @@ sign_here b rest =
     if b == 38 then twice 38 And rest else
     if b == 124 then twice 124 Or rest else scan Stray 0
 
--- The lexeme that comes first where no gap does.
+-- The lexeme that comes first, if no gap does.
 unfoldable pub lexeme_here : List ℕ → Scan
 lexeme_here [] = scan (One End) 0
 lexeme_here (b ∷ rest) =
@@ -109,13 +108,13 @@ lexeme_here (b ∷ rest) =
     if is_quote b then quoted_here b rest else
     if b == 36 then use_here rest else sign_here b rest
 
--- A cursor in a text: how many bytes stand before it, its line, and the bytes that are left.
+-- A cursor in a text: its offset, its line, and the bytes after it.
 pub record TextCursor : Type 0 where
   pub at : ℕ
   pub line : ℕ
   pub left : List ℕ
 
--- The cursor so many bytes on.
+-- The cursor after n more bytes.
 abbrev pub past : ℕ → TextCursor → TextCursor
 past n p = record {
   at = p.at + n;
@@ -123,11 +122,11 @@ past n p = record {
   left = drop n p.left;
 }
 
--- Past blanks and comments.
+-- The cursor after blanks and comments.
 abbrev pub past_gap : TextCursor → TextCursor
 past_gap p = past (gap_len Blanks p.left) p
 
--- A lexeme and where it stands.
+-- A lexeme and its place.
 pub record Spanned : Type 0 where
   pub lexeme : Lexeme
   pub span : Span
@@ -138,11 +137,11 @@ lexeme_at p =
     let q = past_gap p in let here = lexeme_here q.left in
     record { lexeme = here.lexeme; span = record { line = q.line; start = q.at; end = q.at + here.len } }
 
--- The cursor after it.
+-- The cursor after the next lexeme.
 abbrev pub after_lexeme : TextCursor → TextCursor
 after_lexeme p = let q = past_gap p in past (lexeme_here q.left).len q
 
--- Nothing is read after the end of the text, nor after what begins no lexeme.
+-- The lexer stops after the end of the text, and after what is no token and no use.
 abbrev pub is_last : Lexeme → Bool
 is_last (One End) = true
 is_last (One _) = false
@@ -150,17 +149,17 @@ is_last (Uses _) = false
 is_last Stray = true
 is_last Unclosed = true
 
--- The lexemes from a cursor on, at most so many.
+-- The lexemes from a cursor on, at most `most`.
 abbrev pub lexemes_from : ℕ → TextCursor → List Spanned
 lexemes_from zero p = []
 lexemes_from (suc most) p =
     let found = lexeme_at p in found ∷ (if is_last found.lexeme then [] else lexemes_from most (after_lexeme p))
 
--- The lexemes from a cursor on; each has a byte at least.
+-- The lexemes from a cursor on. Each has at least one byte.
 unfoldable pub lexemes_at : TextCursor → List Spanned
 lexemes_at p = lexemes_from (1 + length p.left) p
 
--- The cursor at which a text begins.
+-- The cursor at the start of a text.
 abbrev pub start : List ℕ → TextCursor
 start text = record { at = 0; line = 1; left = text }
 

@@ -1,4 +1,4 @@
--- Texts without a list of lexemes: where they are stuck, and why.
+-- Texts without a list of lexemes: the place where they are stuck, and the reason.
 use Rattle.std.specs.Prelude.{◌≡◌, ◌≢◌, ℕ, ◌+◌, true, false, List, [], ◌∷◌, drop}
 use Rattle.ifs_lex.specs.Characters.{is_quote}
 use Rattle.ifs_lex.specs.declared.fault.LexFault.{LexFault}
@@ -22,13 +22,13 @@ pub record IsUnclosed (bytes : List ℕ) : Type 0 where
   pub opens : is_quote quote ≡ true
   pub unclosed : (n : ℕ) → ¬ Closes quote false rest n
 
--- Here is neither the end, nor a blank or a comment, nor does a lexeme begin.
+-- Nothing fits: neither the end, nor a blank or a comment, nor a lexeme.
 pub record FitsNothing (bytes : List ℕ) : Type 0 where
   pub goes_on : bytes ≢ []
   pub no_gap : (n : ℕ) → IsGap bytes n → n ≡ 0
   pub no_lexeme : (lexeme : Lexeme) (n : ℕ) → ¬ IsLexeme bytes lexeme n
 
--- What is wrong at a place where nothing fits, and its line: P2 where a quote opens that none closes, and else P1.
+-- The fault at a place where nothing fits, with its line: P2 at a quote that none closes, and otherwise P1.
 abbrev pub IsFaultAt : List ℕ → ℕ → LexFault → Type 0
 IsFaultAt text at (lexing.Stray line) = (line ≡ line_at text at) × ¬ IsUnclosed (drop at text)
 IsFaultAt text at (lexing.Unclosed line) = (line ≡ line_at text at) × IsUnclosed (drop at text)
@@ -45,7 +45,7 @@ pub record IsStuck (text : List ℕ) (at : ℕ) (fault : LexFault) : Type 0 wher
 abbrev pub StuckWith : List ℕ → LexFault → Type 0
 StuckWith text fault = (at : ℕ) × IsStuck text at fault
 
--- P1 and P2 say that the text itself is stuck, with that fault; other faults say nothing of that.
+-- P1 and P2 say that the text itself is stuck with that fault. Other faults do not say so.
 abbrev pub SaysStuck : List ℕ → LexFault → Type 0
 SaysStuck text (lexing.Stray line) = StuckWith text (lexing.Stray line)
 SaysStuck text (lexing.Unclosed line) = StuckWith text (lexing.Unclosed line)

@@ -1,66 +1,66 @@
-//! The characters of words, names and blanks.
+//! The bytes of words, names and blanks.
 
 ghost use Rattle.std.specs.Prelude.{◌≡◌};
 ghost use Rattle.std.specs.List.{prefix_len};
 ghost use Rattle.ifs_lex.specs.Characters as characters;
 
-/// Whether the byte is a letter.
+/// Returns whether a byte is a letter.
 fn is_letter(byte: u8) -> bool
     ensures { result ≡ characters.is_letter byte }
 {
     matches!(byte, b'A'..=b'Z' | b'a'..=b'z')
 }
 
-/// Whether the byte is a digit.
+/// Returns whether a byte is a digit.
 fn is_digit(byte: u8) -> bool
     ensures { result ≡ characters.is_digit byte }
 {
     matches!(byte, b'0'..=b'9')
 }
 
-/// Whether the byte is a blank by itself.
+/// Returns whether a byte is a blank.
 pub fn is_blank(byte: u8) -> bool
     ensures { result ≡ characters.is_blank byte }
 {
     matches!(byte, b' ' | b'\t' | b'\r' | b'\n')
 }
 
-/// Whether the byte opens a quoted text.
+/// Returns whether a byte opens a quoted text.
 pub fn is_quote(byte: u8) -> bool
     ensures { result ≡ characters.is_quote byte }
 {
     matches!(byte, b'"' | b'\'')
 }
 
-/// Whether a macro name can begin with the byte.
+/// Returns whether a macro name can begin with a byte.
 pub fn begins_name(byte: u8) -> bool
     ensures { result ≡ characters.begins_name byte }
 {
     is_letter(byte) || byte == b'_'
 }
 
-/// Whether a macro name can go on with the byte.
+/// Returns whether a macro name can go on with a byte.
 pub fn continues_name(byte: u8) -> bool
     ensures { result ≡ characters.continues_name byte }
 {
     is_letter(byte) || is_digit(byte) || byte == b'_'
 }
 
-/// Whether a word can begin with the byte.
+/// Returns whether a word can begin with a byte.
 pub fn begins_word(byte: u8) -> bool
     ensures { result ≡ characters.begins_word byte }
 {
     is_letter(byte) || is_digit(byte) || byte == b'_' || byte == b'/'
 }
 
-/// Whether a word can go on with the byte.
+/// Returns whether a word can go on with a byte.
 pub fn continues_word(byte: u8) -> bool
     ensures { result ≡ characters.continues_word byte }
 {
     begins_word(byte) || matches!(byte, b'-' | b':' | b'+' | b'@' | b'%' | b'*' | b'~')
 }
 
-/// How many bytes a macro name goes on for.
+/// Returns for how many bytes a macro name goes on.
 pub fn name_run(bytes: &[u8]) -> usize
     ensures { result ≡ prefix_len characters.continues_name bytes.now }
 {
@@ -70,7 +70,7 @@ pub fn name_run(bytes: &[u8]) -> usize
         .count()
 }
 
-/// How many bytes a word goes on for.
+/// Returns for how many bytes a word goes on.
 pub fn word_run(bytes: &[u8]) -> usize
     ensures { result ≡ prefix_len characters.continues_word bytes.now }
 {
@@ -80,7 +80,7 @@ pub fn word_run(bytes: &[u8]) -> usize
         .count()
 }
 
-/// Whether a text is a macro name: a letter or `_`, and then letters, digits and `_` alone.
+/// Returns whether a text is a macro name: a letter or `_`, and then only letters, digits and `_`.
 pub fn is_macro_name(text: &str) -> bool
     ensures { result ≡ characters.is_macro_name text.now }
 {
@@ -90,7 +90,7 @@ pub fn is_macro_name(text: &str) -> bool
     }
 }
 
-/// Whether a word is reserved.
+/// Returns whether a word is reserved.
 pub fn is_reserved(word: &str) -> bool
     ensures { result ≡ characters.is_reserved word.now }
 {

@@ -1,4 +1,4 @@
-//! A cursor in a text, from which lexemes are read.
+//! A cursor in a text. It reads one lexeme after another.
 
 ghost use Rattle.std.specs.Prelude.{◌≡◌, ◌==◌, ◌≤◌, count_by, length};
 ghost use Rattle.std.specs.Str.{IsCharBoundary};
@@ -9,14 +9,14 @@ use crate::scans::gap_len;
 use ifs_base::Span;
 use std::marker::Model;
 
-/// What was found in a text, and where.
+/// A piece of a text, and its place.
 #[derive(Clone, Copy)]
 pub struct Found<'a> {
     pub piece: Piece<'a>,
     pub span: Span,
 }
 
-/// How many newlines there are. Each byte is looked at, so that many are at once.
+/// Counts the newlines. It looks at every byte, so that the compiler can use vector instructions.
 fn newlines(bytes: &[u8]) -> u32
     requires { length bytes.now ≤ 1048576 }
     ensures { result ≡ count_by (λ b. b == 10) bytes.now }
@@ -28,7 +28,7 @@ fn newlines(bytes: &[u8]) -> u32
     count
 }
 
-/// A cursor in a text of at most 1,048,576 bytes: what is left of it, how many bytes stand before, and the line.
+/// A cursor in a text of at most 1,048,576 bytes: the text after it, its offset, and its line, from 1.
 #[derive(Drop)]
 pub struct Cursor<'a> {
     left: &'a str,
@@ -50,7 +50,7 @@ impl<'a> Model for Cursor<'a> {
 impl<'a> Cursor<'a> {
     ghost use Rattle.ifs_lex.specs.Lexemes as lexemes;
 
-    /// Where a text begins.
+    /// Makes a cursor at the begin of a text.
     pub fn start(text: &'a str) -> Self
         requires { length text.now ≤ 1048576 }
         ensures { result ≡ lexemes.start text.now }
@@ -62,7 +62,7 @@ impl<'a> Cursor<'a> {
         }
     }
 
-    /// The same cursor, to look ahead from.
+    /// Copies the cursor, to look ahead.
     pub fn again(&self) -> Self
         ensures { result ≡ self.now }
     {
@@ -83,7 +83,7 @@ impl<'a> Cursor<'a> {
         self.left = left;
     }
 
-    /// The next lexeme, past blanks and comments, and goes on after it.
+    /// Skips blanks and comments, and reads the next lexeme.
     pub fn next(&mut self) -> Found<'a>
         ensures found { spanned_of result ≡ lexemes.lexeme_at self.old }
         ensures after { self.new ≡ lexemes.after_lexeme self.old }

@@ -1,4 +1,4 @@
-//! Why a text has no tokens.
+//! The faults of a policy's text.
 
 ghost use Rattle.std.specs.Prelude.{◌≡◌, Some};
 ghost use Rattle.ifs_base.specs.FaultTexts.{fault_words};
@@ -10,26 +10,26 @@ use std::alloc::{AllocError, AllocFailed};
 use std::fmt::{self, Debug, Display, Formatter, Write};
 use thiserror::Error;
 
-/// The first fault from the left, with its line, from 1. Faults of the definitions that are given
-/// beside the text come before it and have line 0.
+/// The first fault from the left. `line` is its line, from 1. Faults of the definitions that are given beside the
+/// text come first and have line 0.
 #[derive(Clone, Copy, PartialEq, Eq, Error)]
 pub enum LexFault {
-    /// P1: a character that begins nothing.
+    /// P1: a character that begins no lexeme.
     Stray { line: u32 },
-    /// P2: a quoted text that is not closed, at its quote.
+    /// P2: a quoted text that no quote closes, at its first quote.
     Unclosed { line: u32 },
-    /// P3: a use of a macro that is not known.
+    /// P3: a use of an unknown macro.
     UnknownMacro { line: u32 },
-    /// P4: a macro whose value is no list of tokens, or a given name that is no macro name, at the name.
+    /// P4: a macro whose value is no list of tokens, or a given name that is no macro name. It is at the name.
     BadMacro { line: u32 },
-    /// P5: too long a text, a token too many, or a macro name too many.
+    /// P5: the text is too long, or has too many tokens or macro names.
     OverLimit { line: u32 },
-    /// P0: no memory was found.
+    /// P0: an allocation failed.
     Memory,
 }
 
 impl LexFault {
-    /// What is printed of the fault.
+    /// Returns the fault's code and place, as lines print them.
     pub fn text(self) -> FaultText
         ensures { fault_words result ≡ lex_fault_words self }
     {
@@ -61,7 +61,7 @@ impl Display for LexFault {
     }
 }
 
-/// As the fault is printed.
+/// Prints the same text as `Display`.
 impl Debug for LexFault {
     fn fmt<W: Write>(&self, f: &mut Formatter<W>) -> fmt::Result {
         Display::fmt(self, f)

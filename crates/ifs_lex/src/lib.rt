@@ -1,8 +1,8 @@
-//! The first step from a policy text: its tokens, with macros replaced.
+//! The first step from a policy text: `tokens` reads its tokens and expands macros.
 //!
-//! A text is read from the left into lexemes: words, quoted texts, signs and uses of macros. Definitions
-//! are taken out, and each use becomes the tokens of its macro as known at that place.
-//! Contract: `tokens` answers the tokens of the text, or the first fault from the left with its line.
+//! The lexer reads lexemes from the left: words, quoted texts, signs and uses of macros. It removes the
+//! definitions, and replaces each use by the tokens that its macro has at that place.
+//! Contract: `tokens` returns the tokens of the text, or the first fault from the left with its line.
 #![tactic(auto)]
 
 mod characters;

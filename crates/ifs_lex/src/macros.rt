@@ -1,4 +1,4 @@
-//! The macros known at a place of a text.
+//! The macros that are known at a place of a text.
 
 ghost use Rattle.std.specs.Prelude.{◌≡◌, ℕ, List, Some};
 ghost use Rattle.std.specs.HashMap as hash;
@@ -42,7 +42,7 @@ impl<'a> MacroTable<'a> {
     ghost use Rattle.ifs_lex.specs.inner.Kept.{macro_of, whats_of_rope, IsAsWanted};
     ghost use Rattle.ifs_lex.specs.inner.Known.{macros_of};
 
-    /// No macro.
+    /// Makes a table without macros.
     pub fn new(alloc: Global) -> Result<Self, AllocError>
         ensures { IfOk result (λ made. macros_of made ≡ no_macros) }
     {
@@ -52,7 +52,7 @@ impl<'a> MacroTable<'a> {
         })
     }
 
-    /// The macro of a name, where it is known.
+    /// Returns the macro of a name, if it is known.
     pub fn get(&self, name: &str) -> Option<Entry>
         ensures known { option_map (macro_of self.now.ropes) result ≡ (macros_of self.now).known name.now }
         ensures value { IfSome result (λ entry. IsValue self.now.ropes entry.rope) }
@@ -60,7 +60,7 @@ impl<'a> MacroTable<'a> {
         self.table.get(name).copied()
     }
 
-    /// Gives out the tokens of a value, all with one span.
+    /// Appends the tokens of a value to `tokens`, all with one span.
     pub fn give_out(
         &self,
         alloc: Global,
@@ -98,7 +98,7 @@ impl<'a> MacroTable<'a> {
         Ok(rope)
     }
 
-    /// What a piece of a value stands for, where it has a part in one.
+    /// Makes a rope of a piece of a value. Returns `None` if a value may not have this piece.
     #[tactic(auto, using(crate::proofs::Signs::sign_whats))]
     fn part(&mut self, alloc: Global, piece: Piece<'_>) -> Result<Option<Rope>, AllocError>
         ensures whats { IfOk result (λ part. option_map (whats_of_rope self.new.ropes) part ≡ whats_of (macros_of self.old) (lexeme_of piece.entry)) }
@@ -130,7 +130,7 @@ impl<'a> MacroTable<'a> {
         }
     }
 
-    /// What was read of a value and then a piece of it.
+    /// Appends a piece to what was read of a value.
     fn longer(
         &mut self,
         alloc: Global,
@@ -155,7 +155,7 @@ impl<'a> MacroTable<'a> {
         }
     }
 
-    /// What a value stands for, where its text is a list of tokens.
+    /// Reads a value. Returns `None` if its text is no list of tokens.
     #[tactic(auto, unfolding(crate::specs::Expansion::value_of))]
     fn value_of(&mut self, alloc: Global, text: &str) -> Result<Option<Rope>, AllocError>
         ensures whats { IfOk result (λ value. option_map (whats_of_rope self.new.ropes) value ≡ value_of (macros_of self.old) text.now) }
@@ -182,14 +182,14 @@ impl<'a> MacroTable<'a> {
         }
     }
 
-    /// Whether the name is known, or one name more may be.
+    /// Returns whether the name is known, or the table may have one name more.
     fn has_room(&self, name: &str) -> bool
         ensures { result ≡ (is_some ((macros_of self.now).known name.now) || nat_lt (macros_of self.now).count 256) }
     {
         self.table.len() < MAX_MACROS || self.get(name).is_some()
     }
 
-    /// Whether the name was given beside the text.
+    /// Returns whether the name was given beside the text.
     fn is_given(&self, name: &str) -> bool
         ensures { result ≡ is_given (macros_of self.now) name.now }
     {
@@ -213,7 +213,7 @@ impl<'a> MacroTable<'a> {
         Err(LexFault::OverLimit { line })
     }
 
-    /// Reads a definition. Where the name was given beside the text it stays as it is.
+    /// Reads a definition. It changes nothing if the name was given beside the text.
     #[tactic(auto, unfolding(crate::specs::Expansion::defined))]
     pub fn define(
         &mut self,

@@ -1,4 +1,4 @@
-//! The piece that comes first in a text.
+//! The first piece of a text.
 
 ghost use Rattle.std.specs.Prelude.{◌≡◌, ◌<◌, ◌≤◌, ◌+◌, ◌++◌, ◌∷◌, length, IfOk, IfSome, MatchOption};
 ghost use Rattle.ifs_lex.specs.Lexemes as lexemes;
@@ -26,12 +26,12 @@ pub enum Sign {
     Either,
 }
 
-/// A piece of a text, lent by it.
+/// A piece of a text, borrowed from it.
 #[derive(Clone, Copy)]
 pub enum Piece<'a> {
     /// A word.
     Bare(&'a str),
-    /// A quoted text: its quote, and what stands between.
+    /// A quoted text: its quote, and the text between the quotes.
     Between(u8, &'a str),
     /// A use of the macro of this name.
     Named(&'a str),
@@ -41,13 +41,13 @@ pub enum Piece<'a> {
     Plain(Sign),
     /// The end of the text.
     Last,
-    /// A character that begins nothing.
+    /// A character that begins no lexeme.
     Stray,
-    /// A quote that opens and is not closed.
+    /// A quote that no other quote closes.
     Unclosed,
 }
 
-/// What a sign is as a token.
+/// Returns the token of a sign.
 pub fn what_of(sign: Sign) -> What
     ensures { result ≡ what_of sign }
 {
@@ -63,7 +63,7 @@ pub fn what_of(sign: Sign) -> What
     }
 }
 
-/// The text once more.
+/// Copies a text.
 pub fn text_from(alloc: Global, text: &str) -> Result<Text, AllocError>
     ensures { IfOk result (λ made. made ≡ text.now) }
 {
@@ -74,7 +74,7 @@ impl<'a> Piece<'a> {
     ghost use Rattle.ifs_lex.specs.Expansion as expansion;
     ghost use Rattle.std.specs.Prelude.{option_map};
 
-    /// The name that the piece can give to a macro.
+    /// Returns the name that the piece can give to a macro.
     #[tactic(auto, using(crate::proofs::Signs::sign_name))]
     pub fn name(&self) -> Option<&'a str>
         ensures { option_map (λ name. name.now) result ≡ expansion.macro_name_of (lexeme_of self.now) }
@@ -96,7 +96,7 @@ impl<'a> Piece<'a> {
         }
     }
 
-    /// Whether the piece is the sign `=`.
+    /// Returns whether the piece is the sign `=`.
     #[tactic(auto, using(crate::proofs::Signs::sign_equals))]
     pub fn is_equals(&self) -> bool
         ensures { result ≡ expansion.is_equals (lexeme_of self.now) }
@@ -113,7 +113,7 @@ impl<'a> Piece<'a> {
         }
     }
 
-    /// Whether nothing is read after the piece.
+    /// Returns whether the lexer stops after the piece.
     #[tactic(auto, using(crate::proofs::Signs::sign_last))]
     pub fn is_last(&self) -> bool
         ensures { result ≡ lexemes.is_last (lexeme_of self.now) }
@@ -130,7 +130,7 @@ impl<'a> Piece<'a> {
         }
     }
 
-    /// The text that the piece can give to a macro.
+    /// Returns the text that the piece can give to a macro.
     #[tactic(auto, using(crate::proofs::Signs::sign_text))]
     pub fn text(&self, alloc: Global) -> Result<Option<Text>, AllocError>
         ensures { IfOk result (λ text. text ≡ expansion.macro_text_of (lexeme_of self.now)) }
@@ -153,7 +153,7 @@ impl<'a> Piece<'a> {
     }
 }
 
-/// How many bytes stand before the first one that has no part in the value, where there is one.
+/// Returns the offset of the first byte that is no part of the value, if there is one.
 fn kept_len(quote: u8, bytes: &[u8]) -> Option<usize>
     ensures { result ≡ kept_len quote bytes.now }
 {
@@ -168,7 +168,7 @@ fn kept_len(quote: u8, bytes: &[u8]) -> Option<usize>
     None
 }
 
-/// What stands before the first byte that has no part in the value, and what stands after it.
+/// Splits a text at the first byte that is no part of the value, if there is one. It drops that byte.
 fn split_kept(quote: u8, text: &str) -> Option<(&str, &str)>
     ensures value { MatchOption
         result
@@ -185,7 +185,7 @@ fn split_kept(quote: u8, text: &str) -> Option<(&str, &str)>
     }
 }
 
-/// The value of what stands between two quotes.
+/// Returns the value of the text between two quotes.
 pub fn quoted_value(alloc: Global, quote: u8, inside: &str) -> Result<Text, AllocError>
     ensures { IfOk result (λ value. value ≡ lexemes.quoted_value quote inside.now) }
 {
@@ -261,7 +261,7 @@ fn sign_here(byte: u8, rest: &[u8]) -> (Piece<'static>, usize)
 }
 
 #[tactic(auto, unfolding(crate::specs::Lexemes::lexeme_here), using(crate::proofs::Boundaries::quote_ascii))]
-/// The piece that comes first, where no blank and no comment does, and its number of bytes.
+/// Returns the first piece of a text that begins with no blank and no comment, and its number of bytes.
 pub fn piece_here(text: &str) -> (Piece<'_>, usize)
     ensures lexeme { lexeme_of result.0 ≡ (lexemes.lexeme_here text.now).lexeme }
     ensures len { result.1 ≡ (lexemes.lexeme_here text.now).len }

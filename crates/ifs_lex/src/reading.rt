@@ -1,4 +1,4 @@
-//! A text to its tokens.
+//! Reads the tokens of a text.
 
 ghost use Rattle.std.specs.Prelude.{◌≡◌, ◌≤◌, [], ◌∷◌, length, option_map, is_some};
 ghost use Rattle.std.specs.Prelude.{Some, Err, IfOk, IfErr, IsOkAnd, ◌≢◌, List};
@@ -25,7 +25,8 @@ use crate::token::{Token, What};
 use ifs_base::{Span, Text};
 use std::alloc::{AllocError, Global};
 
-/// The name and the text of the definition that begins with a piece, where one does; the cursor goes on after it.
+/// Reads the rest of a definition that begins with a piece, and returns its name and its text. If no definition
+/// begins with the piece, the cursor stays.
 fn definition<'a>(
     alloc: Global,
     cursor: &mut Cursor<'a>,
@@ -52,7 +53,7 @@ fn definition<'a>(
     }
 }
 
-/// The tokens so far and the macros known.
+/// The tokens so far, and the known macros.
 #[derive(Drop)]
 pub struct Reading<'a> {
     pub tokens: Vec<Token>,
@@ -126,7 +127,7 @@ impl<'a> Reading<'a> {
         }
     }
 
-    /// With a definition, or with what a piece gives.
+    /// Adds a definition, or what a piece gives.
     fn with(
         &mut self,
         alloc: Global,
@@ -147,7 +148,7 @@ impl<'a> Reading<'a> {
     }
 }
 
-/// The tokens of a text under the macros that are given beside it.
+/// Reads the tokens of a text with the macros that are given beside it.
 #[tactic(auto, using(crate::proofs::Segments::some_same))]
 fn read<'a>(alloc: Global, text: &'a str, macros: MacroTable<'a>) -> Result<Vec<Token>, LexFault>
     requires { length text.now ≤ 1048576 }
@@ -206,7 +207,7 @@ fn read_given<'a>(
     Ok(())
 }
 
-/// What is wrong with a piece where no macro is known.
+/// Returns the fault of a piece if no macro is known.
 fn fault_without_macros(found: Found<'_>) -> Option<LexFault>
     ensures { result ≡ at_once.fault_without_macros found.entry.span (lexeme_of found.entry.piece) }
 {
@@ -223,7 +224,7 @@ fn fault_without_macros(found: Found<'_>) -> Option<LexFault>
     }
 }
 
-/// The fault that is certain before anything is kept, where there is one.
+/// Returns the fault that is certain before the first allocation, if there is one.
 fn certain_at_once<'a>(text: &'a str, defs: &[(&'a str, &'a str)]) -> Option<LexFault>
     ensures { result ≡ at_once.certain_at_once text.now (defined_by defs.now) }
 {
@@ -264,7 +265,7 @@ fn read_all<'a>(
     }
 }
 
-/// The fault that is certain at once, or else what is read.
+/// Returns the fault that is certain at once, or else reads the text.
 fn answer<'a>(
     alloc: Global,
     text: &'a str,
@@ -279,29 +280,28 @@ fn answer<'a>(
     }
 }
 
-/// The tokens of a policy text, the one `End` last. `defs` are definitions that win over the text's:
-/// of two with one name the first holds.
+/// Returns the tokens of a policy text. The last token, and no other, is `End`. `defs` are definitions that take
+/// precedence over those of the text. Of two definitions in `defs` with one name, the first counts.
 ///
-/// A refusal is the first fault from the left, with its line; faults of `defs` come before the text
-/// and have line 0. P0, for want of memory, may come in place of another answer, but not of a fault that is
-/// certain before anything is kept.
+/// A fault is the first from the left, and has its line. Faults of `defs` come before those of the text and have
+/// line 0. If an allocation fails, the fault is P0 instead, unless another one is certain before the first allocation.
 pub fn tokens<'a>(
     alloc: Global,
     text: &'a str,
     defs: &'a [(&'a str, &'a str)],
 ) -> Result<Vec<Token>, LexFault>
-    // What is answered are the tokens that the text spells.
+    // The text spells the returned tokens.
     ensures found { IfOk result (λ tokens. HasTokens text.now (defined_by defs.now) tokens.items) }
-    // The one end stands last.
+    // The last token, and no other, is the end.
     ensures ended { IfOk result (λ tokens. EndsOnce tokens.items) }
-    // Tokens that the text spells are answered, unless want of memory is told.
+    // Tokens that the text spells are returned, unless an allocation fails.
     ensures only { (spelled : List Token) → HasTokens text.now (defined_by defs.now) spelled
         → result ≢ Err Memory → IsOkAnd result (λ tokens. tokens.items ≡ spelled) }
-    // Any other refusal is the first fault.
+    // Any other fault is the first.
     ensures first_fault { IfErr result (λ fault. fault ≢ Memory → tokens_of text.now (defined_by defs.now) ≡ Err fault) }
-    // P1 and P2 are told only of a text that is stuck, and with that fault: never of a macro's value.
+    // P1 and P2 are faults of a text that is stuck with that fault, and never of a macro's value.
     ensures stuck { IfErr result (λ fault. SaysStuck text.now fault) }
-    // What is certain before anything is kept is told, and no want of memory in its place.
+    // A fault that is certain before the first allocation is returned, even if allocations fail.
     ensures at_once { (fault : LexFault) → at_once.certain_at_once text.now (defined_by defs.now) ≡ Some fault → result ≡ Err fault }
 {
     match answer(alloc, text, defs) {

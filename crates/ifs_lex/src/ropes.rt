@@ -1,4 +1,4 @@
-//! The values of macros, kept so that one value can stand in many.
+//! The values of macros. Values share the values of the macros that they use.
 
 ghost use Rattle.std.specs.Prelude.{◌≡◌, ◌<◌, ◌+◌, ◌^◌, ◌++◌, ◌∷◌, [], map, length, IfOk, OnOk};
 ghost use Rattle.std.specs.List.{All};
@@ -11,7 +11,7 @@ use ifs_base::Span;
 use std::alloc::{AllocError, Global};
 use std::marker::Model;
 
-/// Nothing, one token, or two earlier cells one after the other.
+/// No token, one token, or two earlier cells in sequence.
 #[derive(Drop)]
 pub enum Cell {
     Empty,
@@ -19,14 +19,14 @@ pub enum Cell {
     Both(usize, usize),
 }
 
-/// The tokens that a cell stands for, and how many they are.
+/// The tokens of a cell, and their number.
 #[derive(Clone, Copy)]
 pub struct Rope {
     pub root: usize,
     pub count: usize,
 }
 
-/// The same once more.
+/// Copies a token.
 fn copied(alloc: Global, what: &What) -> Result<What, AllocError>
     ensures { IfOk result (λ made. made ≡ what.now) }
 {
@@ -46,7 +46,7 @@ fn copied(alloc: Global, what: &What) -> Result<What, AllocError>
     })
 }
 
-/// The cells of all values. Clauses see what each stands for.
+/// The cells of all values. Clauses see the tokens of each cell.
 pub struct Ropes {
     cells: Vec<Cell>,
 }
@@ -70,12 +70,12 @@ impl Model for Ropes {
 }
 
 impl Rope {
-    /// No token: the first cell.
+    /// No token. It is the first cell.
     pub const EMPTY: Rope = Rope { root: 0, count: 0 };
 }
 
 impl Ropes {
-    /// Ropes with the empty one at 0.
+    /// Makes ropes with the empty rope at 0.
     pub fn new(alloc: Global) -> Result<Self, AllocError>
         ensures { IfOk result (λ made. made ≡ [] ∷ []) }
     {
@@ -84,7 +84,7 @@ impl Ropes {
         Ok(Ropes { cells })
     }
 
-    /// A rope of one token.
+    /// Makes a rope of one token.
     pub fn leaf(&mut self, what: What) -> Result<Rope, AllocError>
         ensures made { IfOk result (λ rope. Holds self.new rope) }
         ensures whats { IfOk result (λ rope. whats_at self.new rope.root ≡ what ∷ []) }
@@ -95,7 +95,7 @@ impl Ropes {
         Ok(Rope { root, count: 1 })
     }
 
-    /// Two ropes one after the other. Where one is empty it is the other.
+    /// Joins two ropes. If one is empty, the result is the other.
     pub fn both(&mut self, left: Rope, right: Rope) -> Result<Rope, AllocError>
         requires left_holds { Holds self.old left }
         requires right_holds { Holds self.old right }
@@ -150,7 +150,7 @@ impl Ropes {
         }
     }
 
-    /// Gives out the tokens of a rope, all with one span.
+    /// Appends the tokens of a rope to `tokens`, all with one span.
     pub fn give_out(
         &self,
         alloc: Global,

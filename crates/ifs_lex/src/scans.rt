@@ -1,4 +1,4 @@
-//! How far what stands first in a text goes on.
+//! Lengths of what comes first in a text.
 
 ghost use Rattle.std.specs.Prelude.{◌≡◌, ◌≤◌, ◌<◌, ◌∷◌, false, length, IfSome, MatchOption};
 ghost use Rattle.ifs_lex.specs.Lexemes as lexemes;
@@ -9,7 +9,7 @@ ghost use Rattle.ifs_lex.specs.inner.Gaps.{comment_bytes, IsGapPart};
 use crate::characters::is_blank;
 use memchr::memchr;
 
-/// Whether the first byte is this one.
+/// Returns whether bytes begin with this one.
 pub fn begins_with(byte: u8, bytes: &[u8]) -> bool
     ensures { result ≡ lexemes.begins_with byte bytes.now }
 {
@@ -19,7 +19,7 @@ pub fn begins_with(byte: u8, bytes: &[u8]) -> bool
     }
 }
 
-/// How many bytes a comment goes on for, by what comes after its `#`: up to its newline, and with that.
+/// Returns the length of a comment after its `#`. Its newline is part of it.
 fn comment_len(bytes: &[u8]) -> usize
     ensures value { result ≡ comment_bytes bytes.now (lexemes.inside_len 10 false bytes.now) }
     ensures within { result ≤ length bytes.now }
@@ -30,7 +30,7 @@ fn comment_len(bytes: &[u8]) -> usize
     }
 }
 
-/// How many bytes the blank, the joined line or the comment has that begins with a byte, where one does.
+/// Returns the length of the blank, the joined line or the comment that begins with a byte, if one does.
 #[tactic(auto, using(crate::proofs::Gaps::blank_part, crate::proofs::Gaps::joined_here, crate::proofs::Gaps::comment_here, crate::proofs::Gaps::no_gap))]
 fn part_of(byte: u8, rest: &[u8]) -> Option<usize>
     ensures { MatchOption result (lexemes.gap_len Blanks (byte ∷ rest.now) ≡ 0) (IsGapPart (byte ∷ rest.now)) }
@@ -47,7 +47,7 @@ fn part_of(byte: u8, rest: &[u8]) -> Option<usize>
     None
 }
 
-/// How many bytes the part of a gap has that comes first, where one does.
+/// Returns the length of the first part of a gap, if one comes first.
 fn gap_part(bytes: &[u8]) -> Option<usize>
     ensures { MatchOption result (lexemes.gap_len Blanks bytes.now ≡ 0) (IsGapPart bytes.now) }
 {
@@ -57,7 +57,7 @@ fn gap_part(bytes: &[u8]) -> Option<usize>
     }
 }
 
-/// How many bytes of blanks and comments come first.
+/// Returns the length of the blanks and comments that come first.
 pub fn gap_len(bytes: &[u8]) -> usize
     ensures { result ≡ lexemes.gap_len Blanks bytes.now }
 {
@@ -68,7 +68,7 @@ pub fn gap_len(bytes: &[u8]) -> usize
     len
 }
 
-/// Whether the byte before a place is a backslash.
+/// Returns whether the byte before a place is a backslash.
 fn is_after_backslash(bytes: &[u8], place: usize) -> bool
     requires { place ≤ length bytes.now }
     ensures { result ≡ after_backslash false bytes.now place }
@@ -76,7 +76,7 @@ fn is_after_backslash(bytes: &[u8], place: usize) -> bool
     place > 0 && bytes[place - 1] == b'\\'
 }
 
-/// How many bytes stand before the quote that closes, where there is one.
+/// Returns the number of bytes before the closing quote, if there is one.
 pub fn inside_len(quote: u8, bytes: &[u8]) -> Option<usize>
     ensures value { result ≡ lexemes.inside_len quote false bytes.now }
     ensures within { IfSome result (λ len. len < length bytes.now) }
@@ -93,7 +93,7 @@ pub fn inside_len(quote: u8, bytes: &[u8]) -> Option<usize>
 }
 
 #[tactic(auto, unfolding(crate::specs::Lexemes::is_dropped))]
-/// Whether a byte between quotes has no part in the value.
+/// Returns whether a byte between quotes is no part of the value.
 pub fn is_dropped(quote: u8, byte: u8, rest: &[u8]) -> bool
     ensures { result ≡ lexemes.is_dropped quote byte rest.now }
 {

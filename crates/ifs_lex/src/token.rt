@@ -1,8 +1,8 @@
-//! Tokens: what a policy is made of.
+//! The tokens of a policy.
 
 use ifs_base::{Span, Text};
 
-/// What a token is.
+/// A token without its place.
 #[derive(Debug, Drop)]
 pub enum What {
     /// A word without quotes.
@@ -31,7 +31,7 @@ pub enum What {
     End,
 }
 
-/// A token and where it stands. A token of a macro stands where the macro is used.
+/// A token and its place. The place of a macro's token is that of the use of the macro.
 #[derive(Debug, Drop)]
 pub struct Token {
     pub what: What,

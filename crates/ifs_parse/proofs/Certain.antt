@@ -1,4 +1,4 @@
--- What is certain at once is where tokens stop.
+-- Tokens stop with the fault that is certain at once.
 use Rattle.std.proofs.Common.{◌≡◌, ℕ, zero, suc, Bool, true, false, ◌||◌, cond, List, [], ◌∷◌, length}
 use Rattle.std.proofs.Common.{Option, Some, None, Result, Ok, Err, refl, ap, ◌∙◌, option_map}
 use Rattle.std.specs.Option.{option_map_or}
@@ -27,11 +27,11 @@ use Rattle.ifs_parse.specs.inner.Reading.{block}
 use Rattle.ifs_parse.specs.inner.Reading.{statement, part, state_item, item, items, read_within}
 use Rattle.ifs_parse.specs.AtOnce.{may_come_first, certain_of_tokens}
 
--- A mark that does not come is passed over.
+-- `either` goes on without a mark that is not next.
 passed : {X : Type 0} (m : Mark) (yes_then : Span → Parse X) (else_then : Parse X) (s : Progress) → accepted m s.left ≡ None → either m yes_then else_then s ≡ else_then s
 passed m yes_then else_then s e = ap (λ o. option_map_or (λ span. yes_then span (after_token s)) o (else_then s)) e
 
--- None of the marks that a file can begin with.
+-- The next token has none of the marks with which a file can begin.
 record NoneFirst (ts : List Token) : Type 0 where
   pub init_state : accepted mark.InitState ts ≡ None
   pub state_word : accepted mark.State ts ≡ None
@@ -67,11 +67,11 @@ none_first t rest h =
       end = not_marked t rest mark.End f.1;
     }
 
--- What may be missing is missing where its mark does not come.
+-- The same of `begins`.
 passed_optional : {X : Type 0} (m : Mark) (yes_then : Span → Parse X) (else_then : Parse (Option X)) (s : Progress) → accepted m s.left ≡ None → begins m yes_then else_then s ≡ else_then s
 passed_optional m yes_then else_then s e = passed m (λ span. yes_then span ▸ λ x. pure (Some x)) else_then s e
 
--- No statement, no part and no item begins there.
+-- No statement, no part and no item comes.
 no_statement_over : (conditional : Span → Parse (Statement Test Name Wish)) (s : Progress) → NoneFirst s.left → statement_over conditional s ≡ Ok (None, s)
 no_statement_over conditional s h =
     passed_optional mark.If conditional (begins mark.Run (λ _. run) (begins mark.SetState set_state no_more)) s h.conditional ∙

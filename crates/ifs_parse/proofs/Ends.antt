@@ -1,4 +1,4 @@
--- Rules that have no end among their tokens; so tokens that say a file end once.
+-- No token inside a rule is the end, so tokens that say a file end once.
 use Rattle.std.proofs.Common.{◌≡◌, ℕ, zero, suc, inl, inr, refl, sym, ap, subst, ◌∙◌, Bool}
 use Rattle.std.proofs.Common.{false, Option, Some, None, List, [], ◌∷◌, ◌++◌, append_assoc}
 use Rattle.ifs_lex.specs.declared.token.Token.{Token}
@@ -70,7 +70,7 @@ by_what what.And h = refl
 by_what what.Or h = refl
 by_what what.End h = absurd (h refl)
 
--- What the end stands for by no means stands for a token that is not the end.
+-- A token that stands for something is not the end if the end stands for nothing.
 by_end : {X : Type 0} (of : What → Option X) → of what.End ≡ None → (w : What) (x : X) → of w ≡ Some x → is_end w ≡ false
 by_end of none w x h = by_what w (λ e. let k = sym none ∙ ap of (sym e) ∙ h in absurd (cc))
 
@@ -223,7 +223,7 @@ module _ (fits : ℕ → Bool) where
         (λ _. free_then (grammar.AreBraced (grammar.IsPart S)) _ (free_braced (grammar.IsPart S) free_part) (λ parts. free_gives _)))))
         (free_then (grammar.IsPart S) _ free_part (λ p. free_gives _)))
 
-  -- Where tokens whose one end stands last go on so that they say a file, they say it already.
+  -- Nothing comes after tokens that end once, if the whole says a file.
   pub ends_there : (room : ℕ) (tokens tail : List Token) (file : File) → EndsOnce tokens → grammar.SaysWithin fits room (tokens ++ tail) file → tail ≡ []
   unfolding grammar.SaysWithin
   ends_there room tokens tail file ends h =

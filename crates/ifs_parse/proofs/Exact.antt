@@ -1,4 +1,4 @@
--- What it means that a parser reads a rule, and that the parsers that are made of such ones do.
+-- When a parser reads a rule. Combinators of parsers that read rules read the combined rules.
 use Rattle.std.proofs.Common.{◌≡◌, Bool, true, false, length-append, inl, inr, ℕ, zero, suc}
 use Rattle.std.proofs.Common.{◌≤◌, refl, sym, ap, subst, ◌∙◌, Option, Some, None, Ok, Err}
 use Rattle.std.proofs.Common.{List, [], ◌∷◌, ◌++◌, length, append_assoc, append-nil, arith}
@@ -17,18 +17,18 @@ use Rattle.ifs_parse.specs.Words.{marked}
 use Rattle.ifs_parse.specs.Rules.{Rule, GivesValue, OneToken, TheMark, ◌⨟◌, ◌or◌, Never, Optional, Noted, Many}
 use Rattle.ifs_parse.specs.Rules.{Enough, More}
 
--- What must or must not be next, by the value that was read.
+-- What may be next after a value.
 abbrev pub Stop : Type 0 → Type 1
 Stop X = X → List Token → Type 0
 
--- Whatever is next.
+-- Anything may be next.
 abbrev pub Always : {X : Type 0} → Stop X
 Always x next = Unit {0}
 
 abbrev pub Any : List Token → Type 0
 Any next = Unit {0}
 
--- What was read is in the rule.
+-- The parser took tokens that the rule has with this value.
 pub record Found {X : Type 0} (rule : Rule X) (stop : Stop X) (s : Progress) (x : X) (t : Progress) : Type 0 where
   pub tokens : List Token
   pub notes : List ℕ
@@ -37,16 +37,16 @@ pub record Found {X : Type 0} (rule : Rule X) (stop : Stop X) (s : Progress) (x 
   pub said : rule tokens x notes
   pub stops : stop x t.left
 
--- A parser reads a rule from where it starts: what is in it is read, and what is read is in it.
+-- A parser reads a rule: it reads what the rule has, and from a start it reads nothing else.
 pub record Reads {X : Type 0} (start : List Token → Type 0) (read : Parse X) (rule : Rule X) (stop : Stop X) : Type 0 where
   pub again : (p : List Token) (x : X) (ns : List ℕ) (q : List Token) (m : List ℕ) → rule p x ns → stop x q → read (progress (p ++ q) m) ≡ Ok (x, progress q (m ++ ns))
   pub reads : (s : Progress) (x : X) (t : Progress) → start s.left → read s ≡ Ok (x, t) → Found rule stop s x t
 
--- The same, wherever it starts.
+-- The same from any start.
 abbrev pub Exact : {X : Type 0} → Parse X → Rule X → Stop X → Type 0
 Exact read rule stop = Reads Any read rule stop
 
--- What went on had something to go on with.
+-- A sequence that gives a value had a value to go on with.
 pub record Went {A B : Type 0} (r : Result A ParseFault) (f : A → Result B ParseFault) (b : B) : Type 0 where
   pub on : A
   pub was : r ≡ Ok on
@@ -56,7 +56,7 @@ pub went : {A B : Type 0} (r : Result A ParseFault) (f : A → Result B ParseFau
 went (Ok a) f b e = record { on = a; was = refl; then_is = e }
 went (Err fault) f b e = absurd (cc)
 
--- What an `Ok` holds.
+-- The value of an `Ok`.
 abbrev pub inside : {A : Type 0} → A → Result A ParseFault → A
 inside other (Ok a) = a
 inside other (Err fault) = other
@@ -68,7 +68,7 @@ good a = Ok a
 pub told : {X : Type 0} (rule : Rule X) (stop : Stop X) (s : Progress) (a b : X × Progress) → good a ≡ good b → Found rule stop s a.0 a.1 → Found rule stop s b.0 b.1
 told rule stop s a b e h = subst (λ (p : _ × Progress). Found rule stop s p.0 p.1) (ap (inside a) e) h
 
--- A value and no token.
+-- Takes no token and gives a value.
 pub exact_pure : {X : Type 0} (v : X) → Exact (pure v) (GivesValue v) Always
 exact_pure v = record {
   again = λ p x ns q m h stop. rw (h.none, h.is_value, h.unnoted, append-nil m);
@@ -128,13 +128,13 @@ module _ {X Y : Type 0} (start : List Token → Type 0) (p : Parse X) (q : X →
   pub reads_then : Reads start (p ▸ q) (P ⨟ Q) stop
   reads_then = record { again = then_again; reads = then_reads }
 
--- One thing and then another, where whatever may come after the first.
+-- One thing and then another, if anything may come after the first.
 pub exact_then : {X Y : Type 0} (p : Parse X) (q : X → Parse Y) (P : Rule X) (Q : X → Rule Y) (stop : Stop Y)
     → Exact p P Always → ((x : X) → Exact (q x) (Q x) stop) → Exact (p ▸ q) (P ⨟ Q) stop
 exact_then p q P Q stop exact_p exact_q =
     reads_then Any p q P Q Always (λ x. Any) (λ x. stop) stop exact_p exact_q (λ x next a. tt) (λ x y back ns next h s. (tt, s)) (λ x y back ns next h a s. s)
 
--- The same with what is made of the first alone.
+-- What is made of one thing.
 pub exact_map : {X Y : Type 0} (p : Parse X) (f : X → Y) (P : Rule X) → Exact p P Always → Exact (p ▸ λ x. pure (f x)) (P ⨟ λ x. GivesValue (f x)) Always
 exact_map p f P exact_p = exact_then p (λ x. pure (f x)) P (λ x. GivesValue (f x)) Always exact_p (λ x. exact_pure (f x))
 
@@ -191,14 +191,14 @@ module _ {X : Type 0} (start : List Token → Type 0) (mark : Mark) (q : Span �
         stops = q_after x t.left a.stops;
       }
 
-  -- What goes on after a mark, or else something else.
+  -- A mark and what comes after it, or something else.
   pub reads_either : Reads start (either mark q r) ((TheMark mark ⨟ Q) or R) stop
   reads_either = record {
     again = either_again;
     reads = λ s x t begun e. either_found s.left s.notes begun (accepted mark s.left) refl x t e;
   }
 
--- The same, where what has no mark before it begins with something else, and whatever may follow.
+-- The same if the rest begins with no such mark, and anything may follow.
 pub exact_either : {X : Type 0} (mark : Mark) (q : Span → Parse X) (r : Parse X) (Q : Span → Rule X) (R : Rule X)
     → ((span : Span) → Exact (q span) (Q span) Always) → Exact r R Always
     → ((x : X) (p : List Token) (ns : List ℕ) (next : List Token) → R p x ns → accepted mark (p ++ next) ≡ None)
@@ -207,12 +207,12 @@ exact_either mark q r Q R exact_q exact_r apart =
     reads_either Any mark q r Q R Always Always Always exact_q exact_r (λ x next a. tt) (λ x next a. tt)
     (λ x p ns next h a. (apart x p ns next h, tt)) (λ x p ns next h begun a b. tt)
 
--- What must not be next where nothing came, and where something did.
+-- What may be next if nothing came, and if something came.
 abbrev pub Until : {X : Type 0} → (List Token → Type 0) → (List Token → Type 0) → Stop (Option X)
 Until none some None next = none next
 Until none some (Some x) next = some next
 
--- Nothing more.
+-- Nothing.
 no_more_again : {X : Type 0} (some : List Token → Type 0) (p : List Token) (o : Option X) (ns : List ℕ) (q : List Token) (m : List ℕ)
     → Optional {X = X} Never p o ns → Until {X = X} Any some o q → no_more {X = X} (progress (p ++ q) m) ≡ Ok (o, progress q (m ++ ns))
 no_more_again some p None ns q m h stop = rw (h.0, h.1, append-nil m)
@@ -310,7 +310,7 @@ module _ {X : Type 0} (mark : Mark) (q : Span → Parse X) (r : Parse (Option X)
   begins_found [] m (Some span) h o t e = absurd (cc)
   begins_found (u ∷ ts) m (Some span) h o t e = some_found u ts m span h o t e
 
-  -- What comes after a mark, where the mark does, or else something else.
+  -- A mark and what comes after it, or something else that may be missing.
   pub exact_begins : Exact (begins mark q r) (Optional ((TheMark mark ⨟ Q) or R)) (Until begun some)
   exact_begins = record {
     again = begins_again;
@@ -324,7 +324,7 @@ module _ {X : Type 0} (p : Parse (Option X)) (P : Rule X) (none some : List Toke
   required_found s (Some y) u a x t e =
       told P (λ x. some) s (y, u) (x, t) e (record { tokens = a.tokens; notes = a.notes; taken = a.taken; noted = a.noted; said = a.said; stops = a.stops })
 
-  -- What must come.
+  -- Something that must come.
   pub exact_required : Exact (required p) P (λ x. some)
   exact_required = record {
     again = λ ts x ns q m h stop. rw (exact_p.again ts (Some x) ns q m h stop);
@@ -332,7 +332,7 @@ module _ {X : Type 0} (p : Parse (Option X)) (P : Rule X) (none some : List Toke
         required_found s w.on.0 w.on.1 (exact_p.reads s w.on.0 w.on.1 tt w.was) x t w.then_is;
   }
 
--- What comes after one more is more or the end.
+-- A repetition begins with one of its parts, or with what comes after it.
 pub many_next : {A X : Type 0} {add : A → X → A} (P : Rule X) (some : List Token → Type 0)
     → ((x : X) (p : List Token) (ns : List ℕ) (next : List Token) → P p x ns → some (p ++ next))
     → {a b : A} {p : List Token} {ns : List ℕ} (next : List Token) → Many P add a p b ns → some next → some (p ++ next)
@@ -393,14 +393,14 @@ module _ {A X : Type 0} (part : Parse (Option X)) (add : A → X → A) (P : Rul
       many_turn n a (progress ts m) w.on.0 w.on.1 b t less (exact_part.reads (progress ts m) w.on.0 w.on.1 tt w.was) begun
       (λ a u l s e. many_reads n a u.left u.notes b t l s e) w.then_is
 
-  -- As many things as come.
+  -- A repetition.
   pub reads_many : (a : A) → Reads some (many part add a) (Many P add a) Ends
   reads_many a = record {
     again = λ p b ns q m h stop. many_again (length (p ++ q)) q m h (omega (arith, length-append p q)) stop.0 stop.1;
     reads = λ s b t begun e. many_reads (length s.left) a s.left s.notes b t (omega arith) begun e;
   }
 
--- The same, where whatever may follow each of them.
+-- The same if anything may follow each part.
 pub exact_many : {A X : Type 0} (part : Parse (Option X)) (add : A → X → A) (P : Rule X) (none : List Token → Type 0)
     → Exact part (Optional P) (Until none Any) → ((x : X) (p : List Token) (ns : List ℕ) → P p x ns → 1 ≤ length p) → none []
     → (a : A) → Exact (many part add a) (Many P add a) (λ b. none)
@@ -426,7 +426,7 @@ module _ {X : Type 0} (line : ℕ) (p : Parse (X × Bool)) (P : Rule (X × Bool)
       let e = exact_p.again ts (x, h.is_noted) h.within q m h.said stops in
       rw (e, noted_is line h.is_noted q m h.within, h.notes_are)
 
-  -- What may have a note of its own.
+  -- A rule with a note of its own.
   pub exact_noted : Exact (with_note line p) (Noted line P) (λ x. stop)
   exact_noted = record {
     again = noted_again;

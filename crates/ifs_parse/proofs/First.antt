@@ -1,4 +1,4 @@
--- Where the parsers of the grammar fail.
+-- Where each parser of the grammar fails.
 use Rattle.std.proofs.Common.{◌≡◌, inl, inr, ℕ, zero, suc, ◌≤◌, refl, sym, ap, subst, append_assoc, append-nil, ◌∙◌}
 use Rattle.std.proofs.Common.{Bool, true, false, ◌||◌, Option, Some, None, Ok, Err, List, [], ◌∷◌, ◌++◌, length}
 use Rattle.std.specs.Prelude.{Result, if◌then◌else◌, option_map}
@@ -143,7 +143,7 @@ over_by_next a b h s = (no_by_next mark.Or a b h s.0, no_by_next mark.And a b h 
 abbrev fits : ℕ → Bool
 fits = words.fits_period
 
--- The periods that fit without a limit, and how many may be open with one more.
+-- The periods that fit, and how many may be open, without a limit.
 abbrev wide : Limit → ℕ → Bool
 wide Periods = grammar.any_period
 wide Depth = fits
@@ -321,7 +321,7 @@ exact_all_at room = exact_all (reading.one fits room) (grammar.IsOne fits room) 
 stuck_leaf : (limit : Limit) → Stuck limit Any (reading.test fits ▸ λ t. pure (tree.Leaf t)) (grammar.IsTest fits ⨟ λ t. GivesValue (tree.Leaf t)) (grammar.IsTest (wide limit) ⨟ λ t. GivesValue (tree.Leaf t))
 stuck_leaf limit = stuck_map (reading.test fits) tree.Leaf (grammar.IsTest fits) (exact_test fits) (stuck_test limit)
 
--- How many more may be open by the wider rule is any number here.
+-- The wider rule may have any number of open conditions.
 module _ (limit : Limit) (room wide_room : ℕ) (stuck_o : Stuck limit Any (reading.one fits room) (grammar.IsOne fits room) (grammar.IsOne (wide limit) wide_room)) where
   stuck_any_over : Stuck limit Any (reading.condition fits room) (grammar.IsCondition fits room) (grammar.IsCondition (wide limit) wide_room)
   stuck_any_over =
@@ -339,7 +339,7 @@ module _ (limit : Limit) (room wide_room : ℕ) (stuck_o : Stuck limit Any (read
       (λ c. stuck_map (expected mark.ParenClose) (λ _. c) (TheMark mark.ParenClose) (exact_mark mark.ParenClose) (stuck_mark mark.ParenClose sample_close))
       (λ c next s. tt) (λ c. over_by_next) (λ c. sample_then _ _ sample_close (λ _. sample_gives _))
 
--- Where nothing more may be open.
+-- The parser fails at `!` and `(` if nothing may be open.
 stuck_one_deep : (limit : Limit) (Negated Grouped : Rule (tree.Condition Test)) → (OfDepth limit → Sample Negated) → (OfDepth limit → Sample Grouped)
     → Stuck limit Any (reading.one fits zero) (grammar.IsOne fits zero) (grammar.IsOneOver Negated Grouped (grammar.IsTest (wide limit)))
 stuck_one_deep limit Negated Grouped negated grouped =
@@ -370,7 +370,7 @@ SetRule = TheMark mark.SetState ⨟ λ span. grammar.IsString ⨟ λ name. Gives
 sample_statement_over : (Cond : Rule (Statement Test Name Wish)) → Sample (grammar.IsStatementOver Cond)
 sample_statement_over Cond = sample_right _ _ (sample_left _ _ (sample_then _ _ sample_run (λ _. sample_then _ _ sample_string (λ command. sample_gives _))))
 
--- The statements that need no `if`.
+-- Statements without `if`.
 stuck_simple : {limit : Limit} → Stuck limit Any (begins mark.Run (λ _. reading.run) (begins mark.SetState reading.set_state no_more)) (Optional (RunRule or (SetRule or Never))) (Optional (RunRule or (SetRule or Never)))
 stuck_simple =
     stuck_begins mark.Run (λ _. reading.run) (begins mark.SetState reading.set_state no_more) (λ _. grammar.IsString ⨟ λ command. GivesValue (Run command)) (SetRule or Never)
@@ -398,7 +398,7 @@ stuck_statement_over conditional Cond W stuck_c within =
     (stuck_begins mark.If conditional (begins mark.Run (λ _. reading.run) (begins mark.SetState reading.set_state no_more)) (λ _. Cond) (RunRule or (SetRule or Never)) stuck_c stuck_simple)
 
 module _ (W : Rule (Statement Test Name Wish)) where
-  -- After `if`, or with none.
+  -- A statement after `if`, or one without it.
   abbrev IfOr : Rule (Option (Statement Test Name Wish))
   IfOr = (TheMark mark.If ⨟ λ _. W ⨟ λ s. GivesValue (Some s)) or Optional (RunRule or (SetRule or Never))
 
@@ -418,7 +418,7 @@ module _ (W : Rule (Statement Test Name Wish)) where
         notes_are = h.notes_are ∙ ap (λ (l : List ℕ). h.before ++ l) (h.second.notes_are ∙ ap (λ (l : List ℕ). h.second.before ++ l) h.second.second.unnoted ∙ append-nil h.second.before);
       }))
 
--- Where nothing more may be open.
+-- The parser fails at `if` if nothing may be open.
 stuck_statement_deep : (limit : Limit) (W : Rule (Statement Test Name Wish)) → (OfDepth limit → Sample W)
     → Stuck limit Any (reading.statement_over reading.deep) (Optional (grammar.IsStatementOver Never)) (Optional (grammar.IsStatementOver W))
 stuck_statement_deep limit W sample_w =
@@ -432,7 +432,7 @@ statement_by_next : ByNext NoStatement
 statement_by_next a b h s =
     (sym (found_by_next (marked mark.If) a b h) ∙ s.0, (sym (found_by_next (marked mark.Run) a b h) ∙ s.1.0, (sym (found_by_next (marked mark.SetState) a b h) ∙ s.1.1.0, tt)))
 
--- What stands in braces.
+-- A repetition in braces.
 stuck_braced : {limit : Limit} {X : Type 0} (part : Parse (Option X)) (P W : Rule X) (none : List Token → Type 0) → Exact part (Optional P) (Until none Any) → Stuck limit Any part (Optional P) (Optional W) → ByNext none
     → ((x : X) (p : List Token) (ns : List ℕ) → P p x ns → 1 ≤ length p) → none [] → Stuck limit Any (reading.braced part) (grammar.AreBraced P) (grammar.AreBraced W)
 stuck_braced part P W none exact_p stuck_p by_next longer ended =
@@ -444,7 +444,7 @@ stuck_braced part P W none exact_p stuck_p by_next longer ended =
 sample_braced : {X : Type 0} (P : Rule X) → Sample (grammar.AreBraced P)
 sample_braced P = sample_then _ _ (sample_many _ _ _) (λ xs. sample_then _ _ sample_close_brace (λ _. sample_gives _))
 
--- What fails of statements, and of blocks of them.
+-- Where the parsers of statements and of blocks fail.
 record Fallible (limit : Limit) (statement : Parse (Option (Statement Test Name Wish))) (S W : Rule (Statement Test Name Wish)) : Type 0 where
   stuck : Stuck limit Any statement (Optional S) (Optional W)
   block : Stuck limit Any (reading.block statement) (grammar.IsBlock S) (grammar.IsBlock W)
@@ -467,7 +467,7 @@ fallible_over limit statement S W k stuck_s sample_s =
 sample_block : (S : Rule (Statement Test Name Wish)) → Sample S → Sample (grammar.IsBlock S)
 sample_block S s = sample_right _ _ (sample_then _ _ s (λ x. sample_gives _))
 
--- What stands after `if`, by how many more may be open.
+-- What comes after `if`, by how many more may be open.
 abbrev IfRule : (ℕ → Bool) → ℕ → Rule (Statement Test Name Wish)
 IfRule good room = grammar.IsConditional (grammar.IsCondition good room) (grammar.IsBlock (grammar.IsStatement good room))
 
@@ -536,7 +536,7 @@ module _ (limit : Limit) (statement : Parse (Option (Statement Test Name Wish)))
 abbrev read_all : Parse (List Item)
 read_all = reading.items (reading.item (reading.part (reading.statement fits 32)))
 
--- The file of all items.
+-- The rule of files.
 abbrev AllWithin : (ℕ → Bool) → ℕ → Rule (List Item)
 AllWithin good room = grammar.AreItems (grammar.IsItem (grammar.IsPart (grammar.IsStatement good room)))
 
@@ -548,7 +548,7 @@ goes_on good room front token rest g =
     append_assoc front (g.token ∷ []) g.begun.tail ∙ ap (λ (t : Token). front ++ t ∷ g.begun.tail) same in
     (g.begun.tail, file g.begun.x g.begun.notes, subst (λ (l : List Token). AllWithin good room l g.begun.x g.begun.notes) whole g.begun.said)
 
--- Which limit a fault is of, if any.
+-- The limit that a fault is about, if any.
 abbrev limit_of : ParseFault → Limit
 limit_of (Unexpected line) = Periods
 limit_of (Period line) = Periods
@@ -562,7 +562,7 @@ helps_at (Period line) front token rest h = goes_on grammar.any_period 32 front 
 helps_at (Nesting line) front token rest h = goes_on fits 33 front token rest (h tt)
 helps_at Memory front token rest h = tt
 
--- Where the tokens up to their end are the front of what says a file, they say it.
+-- Tokens that end once do not fail if more tokens after them would say a file.
 not_whole : (tokens tail : List Token) (f : File) (fault : ParseFault) → EndsOnce tokens → grammar.Says (tokens ++ tail) f → reading.read_within fits 32 tokens ≡ Err fault → ⊥
 not_whole tokens tail f fault ends said e =
     let none : tail ≡ [] = ends_there fits 32 tokens tail f ends said in
@@ -599,7 +599,7 @@ module _ (tokens : List Token) (fault : ParseFault) (ends : EndsOnce tokens) (e 
       stops_by f.front f.left f.can.tail (file f.can.x f.can.notes) f.whole f.line f.can.said f.helped
       (λ w h. ap (λ (r : Result (List Item × Progress) ParseFault). r >>= λ r. Ok (file r.0 r.1.notes)) (f.same w [] h))
 
--- A fault is where the tokens stop.
+-- A fault of the parser says where the tokens stop.
 pub stops_at : (tokens : List Token) (fault : ParseFault) → EndsOnce tokens → reading.read_within fits 32 tokens ≡ Err fault → StopsAt tokens fault
 unfolding reading.read_within
 stops_at tokens fault ends e = broke_all tokens fault ends e (broke (read_all (progress tokens [])) (λ r. Ok (file r.0 r.1.notes)) fault e)

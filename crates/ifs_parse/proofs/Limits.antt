@@ -1,4 +1,4 @@
--- Which limits would let no token go on.
+-- Limits within which no token goes on.
 use Rattle.std.proofs.Common.{◌≡◌, ℕ, ◌≤◌, ◌+◌, refl, sym, subst, ◌∙◌, Bool, true, Ok, Err, List, ◌∷◌, ◌++◌, arith}
 use Rattle.std.specs.Prelude.{Result}
 use Rattle.ifs_lex.specs.declared.token.Token.{Token}
@@ -12,7 +12,7 @@ use Rattle.ifs_parse.proofs.Wider.{Alike, follows_read}
 use Rattle.ifs_parse.proofs.Whole.{says_read}
 
 module _ (front : List Token) (token : Token) (fault : ParseFault) (same : (w : List Token) → read_within fits_period 32 (front ++ token ∷ w) ≡ Err fault) where
-  -- Within limits that a fault does not depend on, nothing goes on.
+  -- Nothing goes on within limits on which the fault does not depend.
   none_goes_on : (fits top : ℕ → Bool) (room great : ℕ) → ((n : ℕ) → fits n ≡ true → top n ≡ true) → room ≤ great → ((n : ℕ) → fits_period n ≡ true → top n ≡ true) → 32 ≤ great
       → ((line n : ℕ) → Period line ≡ fault → top n ≡ fits_period n) → ((line : ℕ) → Nesting line ≡ fault → great ≡ 32) → NoneGoesOn fits room front token
   none_goes_on fits top room great wider less from more periods nested = λ w other said.

@@ -1,4 +1,4 @@
--- Tokens stop in one place and with one fault, by the relation alone.
+-- Tokens stop at one place and with one fault.
 use Rattle.std.proofs.Common.{◌≡◌, inl, inr, ℕ, refl, sym, ap, subst, ◌∙◌, Bool, List, [], ◌∷◌, ◌++◌, append_assoc}
 use Rattle.ifs_lex.specs.declared.token.Token.{Token}
 use Rattle.ifs_parse.specs.declared.fault.ParseFault.{ParseFault}
@@ -7,7 +7,7 @@ use Rattle.ifs_parse.specs.Files.{File}
 use Rattle.ifs_parse.specs.Words.{fits_period}
 use Rattle.ifs_parse.specs.Grammar.{Says, IsAt, GoesOn, NoneGoesOn, NoHelp, Helps, StopsAt, any_period}
 
--- Two fronts of one list, each with the next token: they are the same, or one goes on from the other.
+-- Two fronts of one list, each with its next token: they are the same, or one goes on from the other.
 data Fronts (a b : List Token) (t u : Token) : Type 0 where
   Same : a ≡ b → t ≡ u → Fronts a b t u
   Longer : (m : List Token) → b ≡ a ++ t ∷ m → Fronts a b t u
@@ -24,7 +24,7 @@ fronts [] (y ∷ b) t u v w e = let first : y ≡ t = cc in Longer b (ap (λ (x 
 fronts (x ∷ a) [] t u v w e = let first : x ≡ u = cc in Shorter a (ap (λ (y : Token). y ∷ a) first)
 fronts (x ∷ a) (y ∷ b) t u v w e = let first : x ≡ y = cc in after_one x y a b t u first (fronts a b t u v w (cc))
 
--- What cannot go on with a token has no front that does.
+-- Tokens that go on with a token that cannot go on say no file.
 passes : (a : List Token) (t : Token) → NoneGoesOn fits_period 32 a t → (b m tail : List Token) (f : File) → b ≡ a ++ t ∷ m → Says (b ++ tail) f → ⊥
 passes a t none b m tail f e said =
     none (m ++ tail) f (subst (λ (l : List Token). Says l f) (ap (λ (l : List Token). l ++ tail) e ∙ append_assoc a (t ∷ m) tail) said)
@@ -32,7 +32,7 @@ passes a t none b m tail f e said =
 clash : (fits : ℕ → Bool) (room : ℕ) (front : List Token) (token : Token) → NoneGoesOn fits room front token → GoesOn fits room front token → ⊥
 clash fits room front token none goes = none goes.0 goes.1 goes.2
 
--- What helps against a fault, and what does not.
+-- The limits that help against a fault, and those that do not.
 abbrev Told : ParseFault → List Token → Token → Type 0
 Told fault front token = NoHelp fault front token × Helps fault front token
 

@@ -1,4 +1,4 @@
--- Operands put together while they are read say what the whole list of them does.
+-- Operands that the parser puts together while it reads them say what the whole list of them says.
 use Rattle.std.proofs.Common.{◌≡◌, inl, inr, ℕ, ◌≤◌, refl, sym, ap, subst, ◌∙◌, Bool, true, false, ◌&&◌}
 use Rattle.std.proofs.Common.{◌||◌, List, [], ◌∷◌, ◌++◌, length, map, append_assoc, append-nil, arith}
 use Rattle.std.specs.List.{Any, list_any}
@@ -15,7 +15,7 @@ use Rattle.ifs_parse.specs.Rules.{Rule, GivesValue, TheMark, ◌⨟◌, ◌or◌
 use Rattle.ifs_parse.specs.Grammar as grammar
 use Rattle.ifs_parse.specs.Grammar.{Operands, operands, whole, is_chain, conjunction, disjunction}
 
--- The rules by what is kept while operands are read: the condition so far, and whether one of them is a chain.
+-- The rules over what the parser keeps of operands: the condition so far, and whether one of them is a chain.
 abbrev pub IsChain : Rule (tree.Condition Test) → tree.Condition Test → Rule Operand
 IsChain one first = one ⨟ λ second. Many (TheMark mark.And ⨟ λ _. one) with_last [] ⨟ λ rest. GivesValue (operand (all_of (tree.And first second) rest) true)
 
@@ -30,7 +30,7 @@ AreAlternatives all first =
 abbrev pub IsAny : Rule Operand → Rule (tree.Condition Test)
 IsAny all = all ⨟ λ first. (TheMark mark.Or ⨟ λ span. Noted span.line (AreAlternatives all first)) or GivesValue first.condition
 
--- What is kept of the operands of `&&`.
+-- What the parser keeps of the operands of `&&`.
 abbrev pub kept : Operands (tree.Condition Test) → Operand
 kept o = operand (conjunction o) (is_chain o)
 
@@ -71,13 +71,13 @@ gives_made {p = p} {ns = ns} x h e = record {
 moved : {X : Type 0} (P : Rule X) {p q : List Token} {x : X} {n m : List ℕ} → p ≡ q → n ≡ m → P p x n → P q x m
 moved P {p = p} {q = q} {x = x} {n = n} {m = m} t e h = subst (λ (l : List Token). P l x m) t (subst (λ (l : List ℕ). P p x l) e h)
 
--- A list that was begun goes on from what stands in it.
+-- A repetition that has some values goes on from those values.
 begun : {X : Type 0} {P : Rule X} (c a : List X) {b : List X} {p : List Token} {ns : List ℕ} → Many P with_last a p b ns → Many P with_last (c ++ a) p (c ++ b) ns
 begun c a Enough = Enough
 begun {P = P} c a (More {b = b} {x = x} {front = front} {back = back} {before = before} {after = after} h rest) =
     More h (subst (λ l. Many P with_last l back (c ++ b) after) (sym (append_assoc c a (x ∷ []))) (begun c (with_last a x) rest))
 
--- What a list that was begun goes on with.
+-- What comes after the values that a repetition has.
 record GoesOn {X : Type 0} (P : Rule X) (c a b : List X) (p : List Token) (ns : List ℕ) : Type 0 where
   pub more : List X
   pub is_whole : b ≡ c ++ more
@@ -107,7 +107,7 @@ module _ (one : Rule (tree.Condition Test)) where
       (sym (ap (λ (l : List ℕ). l ++ after) h.notes_are ∙ append_assoc h.before h.after after))
       (in_turn _ _ _ _ h.x (kept (operands first c)) h.first tail))
 
-  -- The operands of `&&`, as they are kept.
+  -- The parser keeps the operands of `&&`.
   pub kept_all : (p : List Token) (o : Operands (tree.Condition Test)) (ns : List ℕ) → grammar.IsAll one p o ns → IsAll one p (kept o) ns
   kept_all p o ns h =
       let m = made_of h.second in
@@ -137,7 +137,7 @@ module _ (one : Rule (tree.Condition Test)) where
         made = m.made;
       }
 
-  -- What is kept is kept of operands.
+  -- What the parser keeps comes from operands.
   pub all_kept : (p : List Token) (k : Operand) (ns : List ℕ) → IsAll one p k ns → Made (grammar.IsAll one) kept p k ns
   all_kept p k ns h =
       let m = chain_kept h.x h.back k h.after h.second in
@@ -155,7 +155,7 @@ or_or : (a b c : Bool) → ((a || b) || c) ≡ (a || (b || c))
 or_or true b c = refl
 or_or false b c = refl
 
--- What is kept of the operands of `||` after the first two.
+-- What the parser keeps of the operands of `||` after the first two.
 abbrev gathered : Bool → List (Operands (tree.Condition Test)) → Others
 gathered b xs = others (map conjunction xs) (b || list_any is_chain xs)
 
@@ -207,7 +207,7 @@ module _ (all : Rule (Operands (tree.Condition Test))) (All : Rule Operand)
       let g = kept_many b (with_last xs m.x) same more in
       record { x = g.x; said = More m.said g.said; made = g.made }
 
-  -- What is said by the whole list is what is kept of it.
+  -- The whole list says what the parser keeps of it.
   same_said : (first second : Operands (tree.Condition Test)) (ys : List (Operands (tree.Condition Test)))
       → (any_of (tree.Or (conjunction first) (conjunction second)) (map conjunction ys), (is_chain first || is_chain second) || list_any is_chain ys) ≡ grammar.said_by (operands first (second ∷ ys))
   same_said first second ys = ap (λ t. (any_of (tree.Or (conjunction first) (conjunction second)) (map conjunction ys), t)) (or_or (is_chain first) (is_chain second) (list_any is_chain ys))
@@ -286,7 +286,7 @@ module _ (all : Rule (Operands (tree.Condition Test))) (All : Rule Operand)
       moved (grammar.IsAny all) (sym h.tokens_are) (sym h.notes_are)
       (in_turn _ _ _ _ s.x c s.said (kept_rest s.x h.back c h.after (subst (λ (k : Operand). KeptDisjoined k h.back c h.after) s.made h.second)))
 
--- A condition by the whole lists of its operands is one by what is kept of them.
+-- A condition by the whole lists of its operands is one by what the parser keeps of them.
 pub condition_kept : (one : Rule (tree.Condition Test)) (p : List Token) (c : tree.Condition Test) (ns : List ℕ) → grammar.IsAny (grammar.IsAll one) p c ns → IsAny (IsAll one) p c ns
 condition_kept one = any_to (grammar.IsAll one) (IsAll one) (kept_all one) (all_kept one)
 
@@ -308,7 +308,7 @@ is_two [] h = absurd (omega (arith, h))
 is_two (x ∷ []) h = absurd (omega (arith, h))
 is_two (x ∷ y ∷ rest) h = refl
 
--- The list's rule for notes, by how many operands there are.
+-- The rule for notes, by the numbers of operands.
 pub noted_two : {X : Type 0} (o : Operands (Operands X)) → grammar.is_noted o ≡ true → (2 ≤ length (whole o)) × Any (λ all. 2 ≤ length (whole all)) (whole o)
 noted_two o h =
     let b = both (is_chain o) (list_any is_chain (whole o)) h in

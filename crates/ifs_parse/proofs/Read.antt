@@ -55,7 +55,7 @@ taken false a c e = absurd (cc)
 pub mark_apart : (m n : Mark) → is m n ≡ false → (t : Token) (span : Span) → marked m t ≡ Some span → marked n t ≡ None
 mark_apart m n differ t span h = rw (is_at (mark_of t.what) m n (taken (is (mark_of t.what) m) t.span span h) differ)
 
--- What begins with one mark begins with no other.
+-- What begins with one mark begins with no other mark.
 pub begins_apart : {X : Type 0} (m n : Mark) (Q : Span → Rule X) → is m n ≡ false → (x : X) (p : List Token) (ns : List ℕ) (next : List Token)
     → (TheMark m ⨟ Q) p x ns → accepted n (p ++ next) ≡ None
 begins_apart m n Q differ x p ns next h =
@@ -69,7 +69,7 @@ by_test : (P : Mark → Type 0) (b : Bool) (m n : Mark) → P m → P n → P (c
 by_test P true m n h k = h
 by_test P false m n h k = k
 
--- What holds of each word that the grammar names, and of other tokens, holds of each word.
+-- What holds of the mark of each word in the grammar, and of `Other`, holds of the mark of each word.
 pub of_words : (P : Mark → Type 0) → P mark.State → P mark.InitState → P mark.Init → P mark.If → P mark.Run → P mark.SetState → P mark.Every → P mark.Link
     → P mark.Up → P mark.Down → P mark.Unknown → P mark.Other → (word : List ℕ) → P (mark_of_word word)
 of_words P a b c d e f g h i j k l word =
@@ -178,11 +178,11 @@ module _ (fits : ℕ → Bool) where
       (λ _. link_test_exact name) (exact_then _ _ _ _ _ (exact_mark mark.Every) (λ _. exact_map _ _ _ exact_period))
       (begins_apart mark.Every mark.Dot _ dot_every))
 
--- A mark is not next.
+-- This mark is not next.
 abbrev pub No : Mark → List Token → Type 0
 No m next = (accepted m next ≡ None) × Unit {0}
 
--- What is made of the first thing alone.
+-- What is made of one thing.
 reads_map : {X Y : Type 0} (start stop : List Token → Type 0) (p : Parse X) (f : X → Y) (P : Rule X) → Reads start p P (λ x. stop)
     → Reads start (p ▸ λ x. pure (f x)) (P ⨟ λ x. GivesValue (f x)) (λ y. stop)
 reads_map start stop p f P exact_p =
@@ -272,14 +272,14 @@ module _ (all : Parse Operand) (All : Rule Operand) (exact_a : Exact all All (λ
       (λ first c back ns next h s. (any_next first c back ns next h s, s))
       (λ first c back ns next h a b. b)
 
--- The same by the whole lists of operands.
+-- A condition, by the whole lists of operands.
 exact_operands : (one : Parse (tree.Condition Test)) (One : Rule (tree.Condition Test)) → Exact one One Always
     → Exact (reading.any (reading.all one)) (grammar.IsAny (grammar.IsAll One)) (λ c. Over)
 exact_operands one One exact_o =
     exact_as (reading.any (reading.all one)) (operands.IsAny (operands.IsAll One)) (grammar.IsAny (grammar.IsAll One)) (λ c. Over)
     (kept_condition One) (condition_kept One) (exact_any (reading.all one) (operands.IsAll One) (exact_all one One exact_o))
 
--- Nothing more can be open.
+-- Nothing may be open.
 exact_deep : {X : Type 0} (span : Span) (stop : Stop X) → Exact (reading.deep span) Never stop
 exact_deep span stop = record { again = λ p x ns q m h s. absurd h; reads = λ s x t a e. absurd (cc) }
 
@@ -300,7 +300,7 @@ close_ends : {X : Type 0} (Q : Span → Rule X) (x : X) (p : List Token) (ns : L
 close_ends Q x p ns next h =
     ((begins_apart mark.ParenClose mark.Or Q close_or x p ns next h, tt), (begins_apart mark.ParenClose mark.And Q close_and x p ns next h, tt))
 
--- What begins with a rule that is not this mark does not.
+-- A sequence does not begin with this mark if its first rule does not.
 then_apart : {X Y : Type 0} (m : Mark) (P : Rule X) (Q : X → Rule Y) → ((x : X) (p : List Token) (ns : List ℕ) (next : List Token) → P p x ns → accepted m (p ++ next) ≡ None)
     → (y : Y) (p : List Token) (ns : List ℕ) (next : List Token) → (P ⨟ Q) p y ns → accepted m (p ++ next) ≡ None
 then_apart m P Q apart y p ns next h =
@@ -348,7 +348,7 @@ pub exact_condition : (fits : ℕ → Bool) (room : ℕ) → Exact (reading.cond
 exact_condition fits room =
     exact_operands (reading.one fits room) (grammar.IsOne fits room) (exact_one fits room)
 
--- The notes before stay, and more come after them.
+-- Notes stay while operands are read.
 pub notes_stay : (fits : ℕ → Bool) (room : ℕ) (begun more : reading.Others) (second : Operand) (s t u : Progress) → reading.all (reading.one fits room) s ≡ Ok (second, t)
     → many (reading.next_operand mark.Or (reading.all (reading.one fits room))) reading.with_operand begun t ≡ Ok (more, u) → length s.notes ≤ length u.notes
 notes_stay fits room begun more second s t u reads goes =
@@ -373,7 +373,7 @@ differ_set_run : is mark.SetState mark.Run ≡ false
 unfolding is
 differ_set_run = refl
 
--- What is no mark of a statement begins none.
+-- A mark of no statement begins none.
 pub not_statement : (m : Mark) → is m mark.If ≡ false → is m mark.Run ≡ false → is m mark.SetState ≡ false → {X : Type 0} (Q : Span → Rule X) (x : X) (p : List Token) (ns : List ℕ) (next : List Token)
     → (TheMark m ⨟ Q) p x ns → NoStatement (p ++ next)
 not_statement m a b c Q x p ns next h =
@@ -418,13 +418,13 @@ module _ (conditional : Span → Parse (Statement Test Name Wish)) (Cond : Rule 
   statement_longer x p ns (inr (inl h)) = begins_longer mark.Run _ p x ns h
   statement_longer x p ns (inr (inr h)) = begins_longer mark.SetState _ p x ns h
 
-  -- A statement begins with none but its marks.
+  -- A statement begins only with one of its marks.
   pub statement_apart : (m : Mark) → is mark.If m ≡ false → is mark.Run m ≡ false → is mark.SetState m ≡ false → (x : Statement Test Name Wish) (p : List Token) (ns : List ℕ) (next : List Token)
       → grammar.IsStatementOver Cond p x ns → accepted m (p ++ next) ≡ None
   statement_apart m a b c =
       or_apart m (TheMark mark.If ⨟ λ _. Cond) (RunRule or SetRule) (begins_apart mark.If m _ a) (or_apart m RunRule SetRule (begins_apart mark.Run m _ b) (begins_apart mark.SetState m _ c))
 
--- What stands in braces.
+-- A repetition in braces.
 pub exact_braced : {X : Type 0} (part : Parse (Option X)) (P : Rule X) (none : List Token → Type 0) → Exact part (Optional P) (Until none Any)
     → ((x : X) (p : List Token) (ns : List ℕ) → P p x ns → 1 ≤ length p) → none []
     → ((Q : Span → Rule (List X)) (x : List X) (p : List Token) (ns : List ℕ) (next : List Token) → (TheMark mark.BraceClose ⨟ Q) p x ns → none (p ++ next))
@@ -527,7 +527,7 @@ module _ (Cond : Rule (Statement Test Name Wish)) (conditional : Span → Parse 
       (λ c. exact_map (reading.block statement) (λ inner. If c inner) (grammar.IsBlock (grammar.IsStatementOver Cond)) (exact_block statement Cond exact_s conditional exact_c)) (λ c next s. tt)
       (λ c x back ns next h s. (block_over (λ inner. If c inner) x back ns next h, tt)) (λ c x back ns next h a b. tt)
 
--- What comes after `if`, where so many more may be open after it.
+-- What comes after `if`, by how many more may be open.
 exact_if : (fits : ℕ → Bool) (room : ℕ) → Span → Exact (reading.conditional fits room) (grammar.IsConditional (grammar.IsCondition fits room) (grammar.IsBlock (grammar.IsStatement fits room))) Always
 exact_if fits zero span =
     exact_conditional Never reading.deep (λ span. exact_deep span Always) (reading.condition fits zero) (grammar.IsCondition fits zero) (exact_condition fits zero)
@@ -537,7 +537,7 @@ exact_if fits (suc room) span =
     (reading.condition fits (suc room)) (grammar.IsCondition fits (suc room)) (exact_condition fits (suc room))
     (reading.statement fits (suc room)) (exact_statement_over (λ _. reading.conditional fits room) (grammar.IsConditional (grammar.IsCondition fits room) (grammar.IsBlock (grammar.IsStatement fits room))) (exact_if fits room))
 
--- What is known of statements: they are read, have a token, and begin with none but their marks; blocks of them are read.
+-- The parser reads statements and blocks of them. A statement has a token, and begins only with one of its marks.
 pub record Known (statement : Parse (Option (Statement Test Name Wish))) (S : Rule (Statement Test Name Wish)) : Type 0 where
   pub exact : Exact statement (Optional S) (Until NoStatement Any)
   pub longer : (x : Statement Test Name Wish) (p : List Token) (ns : List ℕ) → S p x ns → 1 ≤ length p
@@ -584,7 +584,7 @@ module _ {X Y : Type 0} (p : Parse (Option X)) (f : X → Y) (P : Rule X) (none 
         };
       }
 
-  -- What is made of what may come.
+  -- What is made of a thing that may be missing.
   pub exact_option : Exact (p ▸ λ o. pure (option_map f o)) (Optional (P ⨟ λ x. GivesValue (f x))) (Until none Any)
   exact_option = record {
     again = option_again;

@@ -1,5 +1,5 @@
--- Where a parser fails: what stands before could go on, and what comes with the next token fails alike. Where a limit is
--- the reason, the next token could go on by the wider rule that is the same without that limit.
+-- Where a parser fails. The tokens before that place can go on, and with the next token the parser always fails alike. If
+-- a limit is the reason, the next token can go on by a wider rule, which is the same without that limit.
 use Rattle.std.proofs.Common.{◌≡◌, inl, inr, ℕ, zero, suc, ◌≤◌, refl, sym, ap, subst, ◌∙◌, cond}
 use Rattle.std.proofs.Common.{Bool, true, false, Option, Some, None, Ok, Err, List, [], ◌∷◌}
 use Rattle.std.proofs.Common.{◌++◌, length, length-append, append_assoc, append-nil, arith}
@@ -21,11 +21,11 @@ use Rattle.ifs_parse.specs.Rules.{Rule, GivesValue, OneToken, TheMark, ◌⨟◌
 use Rattle.ifs_parse.specs.Rules.{Enough, More}
 use Rattle.ifs_parse.proofs.Exact.{Always, Any, Until, Found, Reads, Exact}
 
--- The next token, where there is one.
+-- The next token, if there is one.
 abbrev pub next_token : List Token → Option Token
 next_token = found (λ t. Some t)
 
--- The limits of the grammar: of periods, and of how many may be open at once.
+-- The limits of the grammar: of periods, and of nesting.
 pub data Limit : Type 0 where
   Periods : Limit
   Depth : Limit
@@ -38,25 +38,25 @@ abbrev pub OfDepth : Limit → Type 0
 OfDepth Periods = ⊥
 OfDepth Depth = Unit {0}
 
--- A fault is told of a limit.
+-- A fault is about a limit.
 abbrev pub IsOf : Limit → ParseFault → Type 0
 IsOf limit (Unexpected line) = ⊥
 IsOf limit (Period line) = OfPeriods limit
 IsOf limit (Nesting line) = OfDepth limit
 IsOf limit Memory = ⊥
 
--- Something in a rule begins with these tokens.
+-- A rule has something that begins with these tokens.
 pub record Begins {X : Type 0} (rule : Rule X) (front : List Token) : Type 0 where
   pub tail : List Token
   pub x : X
   pub notes : List ℕ
   pub said : rule (front ++ tail) x notes
 
--- Something that a rule has.
+-- A rule has something.
 abbrev pub Sample : {X : Type 0} → Rule X → Type 0
 Sample rule = Begins rule []
 
--- Something begins with these tokens and the next one.
+-- A rule has something that begins with these tokens and the next one.
 pub record Goes {X : Type 0} (rule : Rule X) (front left : List Token) : Type 0 where
   pub token : Token
   pub next : next_token left ≡ Some token
@@ -75,12 +75,12 @@ pub record Fails (limit : Limit) {X : Type 0} (read : Parse X) (rule wide : Rule
 abbrev pub Within : {X : Type 0} → Rule X → Rule X → Type 0
 Within {X = X} P W = (p : List Token) (x : X) (ns : List ℕ) → P p x ns → W p x ns
 
--- Each failure is of that kind, and the wider rule has what the rule has.
+-- Each fault of a parser is such a failure, and the wider rule has what the rule has.
 pub record Stuck (limit : Limit) {X : Type 0} (start : List Token → Type 0) (read : Parse X) (rule wide : Rule X) : Type 0 where
   pub fails : (s : Progress) (fault : ParseFault) → start s.left → read s ≡ Err fault → Fails limit read rule wide s fault
   pub within : Within rule wide
 
--- What follows from the next token alone.
+-- The next token decides what is found.
 pub found_by_next : {X : Type 0} (what : Token → Option X) (a b : List Token) → next_token a ≡ next_token b → found what a ≡ found what b
 found_by_next what [] [] h = refl
 found_by_next what [] (t ∷ b) h = absurd (cc)
@@ -97,7 +97,7 @@ pub next_append : (front a b : List Token) → next_token a ≡ next_token b →
 next_append [] a b h = h
 next_append (t ∷ front) a b h = refl
 
--- A stop that the next token decides.
+-- The next token decides a condition on what is next.
 abbrev pub ByNext : (List Token → Type 0) → Type 0
 ByNext stop = (a b : List Token) → next_token a ≡ next_token b → stop a → stop b
 
@@ -108,7 +108,7 @@ failed other (Err fault) = fault
 abbrev bad : {A : Type 0} → ParseFault → Result A ParseFault
 bad fault = Err fault
 
--- The same fault by an equation.
+-- An equal fault.
 pub fails_as : {limit : Limit} {X : Type 0} (read : Parse X) (P W : Rule X) (s : Progress) (f g : ParseFault) → bad {A = X × Progress} f ≡ bad g → Fails limit read P W s f → Fails limit read P W s g
 fails_as {limit = limit} read P W s f g e h = subst (Fails limit read P W s) (ap (failed f) e) h
 
@@ -146,7 +146,7 @@ many_within : {A X : Type 0} (P W : Rule X) (add : A → X → A) → Within P W
 many_within P W add h Enough = Enough
 many_within P W add h (More {x = x} {front = front} {before = before} one rest) = More (h front x before one) (many_within P W add h rest)
 
--- What begins with tokens by a rule, by the rules that are made of it.
+-- Beginnings of combined rules.
 pub begins_as : {X : Type 0} (P W : Rule X) → Within P W → (front : List Token) → Begins P front → Begins W front
 begins_as P W within front b = record { tail = b.tail; x = b.x; notes = b.notes; said = within (front ++ b.tail) b.x b.notes b.said }
 
@@ -211,13 +211,13 @@ begins_noted : {X : Type 0} (line : ℕ) (P : Rule (X × Bool)) (front : List To
 begins_noted line P front b =
     record { tail = b.tail; x = b.x.0; notes = if b.x.1 then line ∷ b.notes else b.notes; said = record { is_noted = b.x.1; within = b.notes; notes_are = refl; said = b.said } }
 
--- So does what goes on.
+-- A next token that goes on by one rule goes on by another.
 goes : {X Y : Type 0} (W : Rule X) (V : Rule Y) (before : List Token) → ((front : List Token) → Begins W front → Begins V (before ++ front)) → (front left : List Token)
     → Goes W front left → Goes V (before ++ front) left
 goes W V before to front left g =
     record { token = g.token; next = g.next; begun = subst (Begins V) (sym (append_assoc before front (g.token ∷ []))) (to (front ++ g.token ∷ []) g.begun) }
 
--- A parser fails where one that it calls does, after what it took before.
+-- A parser fails where a parser that it calls fails.
 fails_after : {limit : Limit} {X Y : Type 0} (p : Parse X) (P W : Rule X) (s : Progress) (fault : ParseFault) (f : Fails limit p P W s fault)
     (q : Parse Y) (R V : Rule Y) (before : List Token) (t : Progress) → t.left ≡ before ++ s.left
     → ((front : List Token) → Begins P front → Begins R (before ++ front)) → ((front : List Token) → Begins W front → Begins V (before ++ front))
@@ -254,7 +254,7 @@ module _ {limit : Limit} {X : Type 0} (what : Token → Option X) (sample : Samp
   pub stuck_token : Stuck limit Any (one_token what) (OneToken what) (OneToken what)
   stuck_token = record { fails = λ s fault a e. token_stuck s.left s.notes (found what s.left) refl fault e; within = same_within (OneToken what) }
 
--- What goes on after a result fails in it or after it.
+-- A sequence fails in its first part or after it.
 pub data Broke {A B : Type 0} (r : Result A ParseFault) (f : A → Result B ParseFault) (fault : ParseFault) : Type 0 where
   Before : r ≡ Err fault → Broke r f fault
   After : (a : A) → r ≡ Ok a → f a ≡ Err fault → Broke r f fault
@@ -289,7 +289,7 @@ module _ {limit : Limit} {X Y : Type 0} {W : Rule X} {V : X → Rule Y} (start :
     within = then_within P W Q V stuck_p.within (λ x. (stuck_q x).within);
   }
 
--- The same, where whatever may come after the first.
+-- The same if anything may come after the first.
 pub stuck_then : {limit : Limit} {X Y : Type 0} {W : Rule X} {V : X → Rule Y} (p : Parse X) (q : X → Parse Y) (P : Rule X) (Q : X → Rule Y) → Exact p P Always
     → Stuck limit Any p P W → ((x : X) → Stuck limit Any (q x) (Q x) (V x)) → ((x : X) → Sample (Q x)) → Stuck limit Any (p ▸ q) (P ⨟ Q) (W ⨟ V)
 stuck_then p q P Q exact_p stuck_p stuck_q sample_q =
@@ -341,7 +341,7 @@ module _ {limit : Limit} {X : Type 0} {V : Span → Rule X} {U : Rule X} (mark :
       (λ k. record { token = u; next = refl; begun = begins_marked mark V U u span h [] (helped k span) })
       (inr (inr (ap (λ (s : Span). Nesting s.line) (sym (span_is _ u.span span h))))))
 
-  -- Nothing more can be open after a mark.
+  -- Nothing may be open after a mark.
   pub stuck_deep : Stuck limit Any (either mark q r) ((TheMark mark ⨟ Q) or R) ((TheMark mark ⨟ V) or U)
   stuck_deep = record {
     fails = λ s fault a e. deep_stuck s.left s.notes (accepted mark s.left) refl fault e;
@@ -388,7 +388,7 @@ module _ {limit : Limit} {X : Type 0} {V : Span → Rule X} {U : Rule X} (mark :
 pub stuck_no_more : {limit : Limit} {X : Type 0} → Stuck limit Any (no_more {X = X}) (Optional Never) (Optional Never)
 stuck_no_more = record { fails = λ s fault a e. absurd (cc); within = same_within (Optional Never) }
 
--- The same by other rules.
+-- The same tokens by other rules.
 pub stuck_as : {limit : Limit} {X : Type 0} (start : List Token → Type 0) (read : Parse X) (P W Q V : Rule X) → Within P Q → Within W V → Within Q V
     → Stuck limit start read P W → Stuck limit start read Q V
 stuck_as start read P W Q V to wide_to within stuck = record {
@@ -402,7 +402,7 @@ no_front : (a b : List Token) → a ++ b ≡ [] → a ≡ []
 no_front [] b h = refl
 no_front (t ∷ a) b h = absurd (cc)
 
--- What begins by a rule or with no token begins by the rule, where it has something.
+-- A beginning by a rule or by no token is one by the rule, if the rule has something.
 required_can : {X : Type 0} (P : Rule X) → Sample P → (front tail : List Token) (o : Option X) (ns : List ℕ) → Optional P (front ++ tail) o ns → Begins P front
 required_can P sample front tail None ns h = subst (Begins P) (sym (no_front front tail h.0)) sample
 required_can P sample front tail (Some x) ns h = record { tail = tail; x = x; notes = ns; said = h }
@@ -435,7 +435,7 @@ module _ {limit : Limit} {X : Type 0} {W : Rule X} (p : Parse (Option X)) (P : R
   pub stuck_required : Stuck limit Any (required p) P W
   stuck_required = record { fails = λ s fault a e. required_broke s fault (broke (p s) (λ r. option_map_or pure r.0 unexpected r.1) fault e); within = required_within }
 
--- What is made of what may come.
+-- What is made of a thing that may be missing.
 option_can : {X Y : Type 0} (f : X → Y) (P : Rule X) (ts : List Token) (o : Option X) (ns : List ℕ) → Optional P ts o ns → Optional (P ⨟ λ x. GivesValue (f x)) ts (option_map f o) ns
 option_can f P ts None ns h = h
 option_can f P ts (Some x) ns h =
@@ -484,7 +484,7 @@ module _ {limit : Limit} {X : Type 0} {W : Rule (X × Bool)} (line : ℕ) (p : P
   pub stuck_noted : Stuck limit Any (reading.with_note line p) (Noted line P) (Noted line W)
   stuck_noted = record { fails = λ s fault a e. note_broke s fault (broke (p s) (λ r. Ok (r.0.0, reading.noted (length s.notes) line r.0.1 r.1)) fault e); within = noted_within }
 
--- What begins with as many as come.
+-- A beginning of one part begins a repetition.
 many_can : {A X : Type 0} (P : Rule X) (add : A → X → A) (a : A) (front tail : List Token) (o : Option X) (ns : List ℕ) → Optional P (front ++ tail) o ns → Begins (Many P add a) front
 many_can P add a front tail None ns h = record { tail = tail; x = a; notes = []; said = subst (λ (l : List Token). Many P add a l a []) (sym h.0) Enough }
 many_can P add a front tail (Some x) ns h =

@@ -1,4 +1,4 @@
--- One turn of a loop that puts things together.
+-- One turn of a loop over the parts of a repetition.
 use Rattle.std.proofs.Common.{◌≡◌, ℕ, suc, ◌+◌, ◌-◌, ◌<◌, sym, ap, ◌∙◌, arith, Ok, Err, Option, Some, None}
 use Rattle.std.specs.Option.{option_map_or}
 use Rattle.std.specs.Prelude.{Result}
@@ -7,7 +7,7 @@ use Rattle.ifs_parse.specs.declared.fault.ParseFault.{ParseFault}
 use Rattle.ifs_parse.specs.inner.Combined.{Progress, Parse, many_from}
 
 module _ {A X : Type 0} (part : Parse (Option X)) (add : A → X → A) where
-  -- What one more turn makes.
+  -- The next turn.
   turn : (n e i : ℕ) → i < e → e - i ≡ suc n → (a : A) (s : Progress)
       → many_from part add (e - i) a s ≡ (part s >>= λ r. option_map_or (λ x. many_from part add n (add a x) r.1) r.0 (Ok (a, r.1)))
   turn n e i less same a s = ap (λ m. many_from part add m a s) same

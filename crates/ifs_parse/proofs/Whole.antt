@@ -27,7 +27,7 @@ not_nil : (before : List Token) (e : Token) (left : List Token) → before ++ e 
 not_nil [] e left h = absurd (cc)
 not_nil (x ∷ before) e left h = absurd (cc)
 
--- A token that is the mark of the end is the end.
+-- A token with the mark of the end is the end.
 pub end_is_end : (w : What) → is (mark_of w) mark.End ≡ true → is_end w ≡ true
 unfolding is
 end_is_end (what.Word word) h = absurd (differs (of_words (λ k. is k mark.End ≡ false) refl refl refl refl refl refl refl refl refl refl refl refl word) h)
@@ -43,7 +43,7 @@ end_is_end what.And h = absurd (cc)
 end_is_end what.Or h = absurd (cc)
 end_is_end what.End h = refl
 
--- The end stands last.
+-- Nothing comes after the end.
 pub end_is_last : (before : List Token) (e : Token) (left : List Token) (front : List Token) (last : Token) → before ++ e ∷ left ≡ front ++ last ∷ []
     → is_end e.what ≡ true → Endless front → left ≡ []
 end_is_last [] e left [] last same ends none = cc
@@ -56,7 +56,7 @@ module _ (fits : ℕ → Bool) (room : ℕ) where
   abbrev read_all : Parse (List Item)
   read_all = reading.items (reading.item (reading.part (reading.statement fits room)))
 
-  -- What tokens say is read of them.
+  -- The parser reads what tokens say.
   pub says_read : (tokens : List Token) (f : File) → SaysWithin fits room tokens f → read_within fits room tokens ≡ Ok f
   unfolding SaysWithin read_within
   says_read tokens f h =
@@ -64,7 +64,7 @@ module _ (fits : ℕ → Bool) (room : ℕ) where
       ap (λ (l : List Token). read_all (progress l [])) (sym (append-nil tokens)) ∙ (exact_items (reading.statement fits room) (grammar.IsStatement fits room) (known fits room)).again tokens f.items f.notes [] [] h tt in
       ap (λ (r : Result (List Item × Progress) ParseFault). r >>= λ r. Ok (file r.0 r.1.notes)) e
 
-  -- What is read of tokens whose one end stands last is what they say.
+  -- Tokens that end once say what the parser reads.
   pub read_says : (tokens : List Token) (f : File) → EndsOnce tokens → read_within fits room tokens ≡ Ok f → SaysWithin fits room tokens f
   unfolding SaysWithin read_within
   read_says tokens f ends e =
@@ -86,6 +86,6 @@ module _ (fits : ℕ → Bool) (room : ℕ) where
   pub one_file : (tokens : List Token) (f g : File) → SaysWithin fits room tokens f → SaysWithin fits room tokens g → f ≡ g
   one_file tokens f g h k = ap (inside f) (sym (says_read tokens f h) ∙ says_read tokens g k)
 
-  -- Where tokens say a file, there is no fault.
+  -- Tokens that say a file have no fault.
   pub says_no_fault : (tokens : List Token) (f : File) (fault : ParseFault) → SaysWithin fits room tokens f → read_within fits room tokens ≡ Err fault → ⊥
   says_no_fault tokens f fault h e = let k = sym (says_read tokens f h) ∙ e in absurd (cc)

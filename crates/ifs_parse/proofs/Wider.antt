@@ -1,4 +1,4 @@
--- What a reader within wider limits reads alike: each value, and the faults that the wider limits keep.
+-- A parser within wider limits gives the same values, and the same faults of the kinds that those limits keep.
 use Rattle.std.proofs.Common.{◌≡◌, ℕ, zero, suc, ◌≤◌, refl, sym, ap, subst, Bool, true, false}
 use Rattle.std.proofs.Common.{◌||◌, Option, Some, None, Ok, Err, List, [], length, arith}
 use Rattle.std.specs.Prelude.{Result, if◌then◌else◌, option_map}
@@ -27,7 +27,7 @@ use Rattle.ifs_parse.specs.Rules as rules
 use Rattle.ifs_parse.specs.inner.Reading.{read_within}
 
 module _ (kept : ParseFault → Type 0) where
-  -- The second result is the first one's value, or its fault where that is kept.
+  -- The second result is the value of the first, or its fault if that is kept.
   abbrev pub Alike : {A : Type 0} → Result A ParseFault → Result A ParseFault → Type 0
   Alike (Ok a) r = r ≡ Ok a
   Alike (Err fault) r = kept fault → r ≡ Err fault
@@ -159,7 +159,7 @@ module _ (kept : ParseFault → Type 0) where
         follows_either mark.Bang _ _ _ _ (λ span. follows_map (p span) (u span) _ (h span))
         (follows_either mark.ParenOpen _ _ _ _ (λ span. follows_map (q span) (v span) _ (k span)) (follows_map (reading.test fits) (reading.test wide) _ follows_test))
 
-    -- Where nothing more can be open, something more may be within wider limits, and then that fault is not kept.
+    -- If wider limits allow more to be open, the fault of nesting is not kept.
     follows_deep : {X : Type 0} (p : Span → Parse X) → ((line : ℕ) → kept (Nesting line) → ⊥) → (span : Span) → Follows (reading.deep span) (p span)
     follows_deep p none span s = λ k. absurd (none span.line k)
 
@@ -194,7 +194,7 @@ module _ (kept : ParseFault → Type 0) where
         (λ c. follows_map (reading.block (reading.statement fits room)) (reading.block (reading.statement wide more)) _
         (follows_block (reading.statement fits room) (reading.statement wide more) (follows_statement room more l k))))
 
-    -- Files are read alike.
+    -- Both parsers read files alike.
     pub follows_read : (room more : ℕ) → room ≤ more → ((line : ℕ) → kept (Nesting line) → more ≡ room) → (tokens : List Token) → Alike (read_within fits room tokens) (read_within wide more tokens)
     unfolding read_within
     follows_read room more less same tokens =

@@ -1,4 +1,4 @@
--- The fault that is certain at once, before anything is kept: no want of memory comes in its place.
+-- The fault that is certain before the first allocation. `parse` returns it even if allocations fail.
 use Rattle.std.specs.Prelude.{Bool, ◌||◌, if◌then◌else◌, List, [], ◌∷◌, Option, Some, None}
 use Rattle.ifs_lex.specs.declared.token.Token.{Token}
 use Rattle.ifs_parse.specs.declared.mark.Mark.{Mark}
@@ -7,12 +7,12 @@ use Rattle.ifs_parse.specs.declared.fault.ParseFault.{ParseFault}
 use Rattle.ifs_parse.specs.declared.fault.ParseFault.TheVariants.{Unexpected}
 use Rattle.ifs_parse.specs.Marks.{mark_of, is}
 
--- What a file can begin with: an item, or its end.
+-- The marks with which a file can begin: those of an item, and the end.
 abbrev pub may_come_first : Mark → Bool
 may_come_first m =
     is m mark.InitState || (is m mark.State || (is m mark.Init || (is m mark.If || (is m mark.Run || (is m mark.SetState || is m mark.End)))))
 
--- What is certain at once of tokens: that no file begins with the first of them.
+-- The certain fault of tokens: no file begins with the first token.
 abbrev pub certain_of_tokens : List Token → Option ParseFault
 certain_of_tokens [] = None
 certain_of_tokens (t ∷ rest) = if may_come_first (mark_of t.what) then None else Some (Unexpected t.span.line)

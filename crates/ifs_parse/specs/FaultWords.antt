@@ -1,9 +1,9 @@
--- The faults of tokens as lines print them.
+-- How a line prints a fault of tokens.
 use Rattle.std.specs.Prelude.{ℕ, List, ◌++◌, codes, decimal}
 use Rattle.ifs_parse.specs.declared.fault.ParseFault.{ParseFault}
 use Rattle.ifs_parse.specs.declared.fault.ParseFault.TheVariants.{Unexpected, Period, Nesting, Memory}
 
--- A fault's code, and its line.
+-- The words of a fault: its code, and its line.
 abbrev pub parse_fault_words : ParseFault → List ℕ
 parse_fault_words (Unexpected line) = codes "P6 line " ++ decimal line
 parse_fault_words (Period line) = codes "P7 line " ++ decimal line

@@ -1,4 +1,4 @@
--- What a policy says, from the top.
+-- Policies as their texts say them.
 use Rattle.std.specs.Prelude.{ℕ, List}
 use Rattle.ifs_parse.specs.declared.tree.Item.{Item}
 

@@ -1,4 +1,4 @@
--- The grammar of policies: which tokens say which file, with which notes; one rule a line of the grammar.
+-- The grammar of policies: which tokens say which file, with which notes. Each line of the grammar is one rule.
 use Rattle.std.specs.Prelude.{◌≡◌, ℕ, zero, suc, Bool, true, false, ◌&&◌, if◌then◌else◌}
 use Rattle.std.specs.Prelude.{List, [], ◌∷◌, Option, Some, None, ◌⊎◌, ◌++◌, map}
 use Rattle.std.specs.List.{list_any}
@@ -33,12 +33,12 @@ IsString = OneToken name_of
 abbrev pub IsLinkState : Rule LinkState
 IsLinkState = OneToken (λ t. link_state_of (mark_of t.what))
 
--- A number that fits.
+-- A number, if it fits.
 abbrev pub fitting : (ℕ → Bool) → Option ℕ → Option ℕ
 fitting fits None = None
 fitting fits (Some n) = if fits n then Some n else None
 
--- number : an unquoted word of digits, a period that fits
+-- number : an unquoted word of digits, whose number fits
 abbrev pub IsPeriod : (ℕ → Bool) → Rule ℕ
 IsPeriod fits = OneToken (λ t. fitting fits (number_of_what t.what))
 
@@ -50,7 +50,7 @@ IsLinkTest name = TheMark mark.Link ⨟ λ _. TheMark mark.Dot ⨟ λ _. IsLinkS
 abbrev pub IsTest : (ℕ → Bool) → Rule Test
 IsTest fits = IsString ⨟ λ name. (TheMark mark.Dot ⨟ λ _. IsLinkTest name) or (TheMark mark.Every ⨟ λ _. IsPeriod fits ⨟ λ n. GivesValue (External name n))
 
--- Operands that a sign joins: the first, and the others in order.
+-- Operands of one operator: the first, and the others in order.
 pub record Operands (X : Type 0) : Type 0 where
   pub first : X
   pub others : List X
@@ -58,11 +58,11 @@ pub record Operands (X : Type 0) : Type 0 where
 abbrev pub operands : {X : Type 0} → X → List X → Operands X
 operands first others = record { first = first; others = others }
 
--- All of them, in order.
+-- All operands, in order.
 abbrev pub whole : {X : Type 0} → Operands X → List X
 whole o = o.first ∷ o.others
 
--- There are two or more.
+-- A list has two or more values.
 abbrev pub two_or_more : {X : Type 0} → List X → Bool
 two_or_more [] = false
 two_or_more (only ∷ []) = false
@@ -72,15 +72,15 @@ two_or_more (first ∷ second ∷ rest) = true
 abbrev pub is_chain : {X : Type 0} → Operands X → Bool
 is_chain o = two_or_more (whole o)
 
--- Operands of `||` that get a note: there are two or more, and one of them, whichever it is, is a chain.
+-- Operands of `||` get a note if there are two or more, and at least one is a chain.
 abbrev pub is_noted : {X : Type 0} → Operands (Operands X) → Bool
 is_noted o = is_chain o && list_any is_chain (whole o)
 
--- What operands of `&&` say.
+-- The condition of operands of `&&`.
 abbrev pub conjunction : Operands (tree.Condition Test) → tree.Condition Test
 conjunction o = all_of o.first o.others
 
--- What operands of `||` say.
+-- The condition of operands of `||`.
 abbrev pub disjunction : Operands (Operands (tree.Condition Test)) → tree.Condition Test
 disjunction o = any_of (conjunction o.first) (map conjunction o.others)
 
@@ -92,16 +92,16 @@ Joined sign one = one ⨟ λ first. Many (TheMark sign ⨟ λ _. one) with_last 
 abbrev pub IsAll : Rule (tree.Condition Test) → Rule (Operands (tree.Condition Test))
 IsAll one = Joined mark.And one
 
--- What operands of `||` say, and whether they get a note.
+-- The condition of operands of `||`, and whether they get a note.
 abbrev pub said_by : Operands (Operands (tree.Condition Test)) → tree.Condition Test × Bool
 said_by o = (disjunction o, is_noted o)
 
--- any : all { "||" all }, with a note on the line of its first `||` where its operands get one
+-- any : all { "||" all }, with a note on the line of its first `||` if its operands get one
 abbrev pub IsAny : Rule (Operands (tree.Condition Test)) → Rule (tree.Condition Test)
 IsAny all =
     all ⨟ λ first. (TheMark mark.Or ⨟ λ span. Noted span.line (Joined mark.Or all ⨟ λ more. GivesValue (said_by (operands first (whole more))))) or GivesValue (conjunction first)
 
--- one, by what stands after "!" and within "(" and ")"
+-- one, by what comes after "!" and inside "(" and ")"
 abbrev pub IsOneOver : Rule (tree.Condition Test) → Rule (tree.Condition Test) → Rule Test → Rule (tree.Condition Test)
 IsOneOver negated grouped test =
     (TheMark mark.Bang ⨟ λ _. negated ⨟ λ c. GivesValue (tree.NotSo c))
@@ -126,14 +126,14 @@ abbrev pub IsBlock : Rule (Statement Test Name Wish) → Rule (tree.Block Test N
 IsBlock statement =
     (TheMark mark.BraceOpen ⨟ λ _. AreBraced statement ⨟ λ xs. GivesValue (block_of xs)) or (statement ⨟ λ x. GivesValue (block_of (x ∷ [])))
 
--- stmt, by what stands after `if`
+-- stmt, by what comes after `if`
 abbrev pub IsStatementOver : Rule (Statement Test Name Wish) → Rule (Statement Test Name Wish)
 IsStatementOver conditional =
     (TheMark mark.If ⨟ λ _. conditional)
     or (TheMark mark.Run ⨟ λ _. IsString ⨟ λ command. GivesValue (Run command))
     or (TheMark mark.SetState ⨟ λ span. IsString ⨟ λ name. GivesValue (SetState (record { span = span; state = name })))
 
--- What stands after `if` : any block
+-- What comes after `if` : any block
 abbrev pub IsConditional : Rule (tree.Condition Test) → Rule (tree.Block Test Name Wish) → Rule (Statement Test Name Wish)
 IsConditional condition block = condition ⨟ λ c. block ⨟ λ inner. GivesValue (If c inner)
 
@@ -157,11 +157,11 @@ IsItem part =
 abbrev pub AreItems : Rule Item → Rule (List Item)
 AreItems item = Many item with_last [] ⨟ λ all. TheMark mark.End ⨟ λ _. GivesValue all
 
--- Tokens say a file, with periods that fit and so many `if`, `!` and `(` open at once.
+-- Tokens say a file, with periods that fit, and with at most `room` open `if`, `!` and `(` at the same time.
 unfoldable pub SaysWithin : (ℕ → Bool) → ℕ → List Token → File → Type 0
 SaysWithin fits room tokens file = AreItems (IsItem (IsPart (IsStatement fits room))) tokens file.items file.notes
 
--- Tokens, up to their end, say a file: periods are from 1 to 604,800, and at most 32 `if`, `!` and `(` are open at once.
+-- Tokens with their end say a file: periods are from 1 to 604,800, and at most 32 `if`, `!` and `(` are open at the same time.
 abbrev pub Says : List Token → File → Type 0
 Says = SaysWithin fits_period 32
 
@@ -173,37 +173,36 @@ IsSaid f = ∥ ((tokens : List Token) × Says tokens f) ∥₁
 abbrev pub IsAt : ParseFault → ℕ → Type 0
 IsAt fault line = (fault ≡ Unexpected line) ⊎ (fault ≡ Period line) ⊎ (fault ≡ Nesting line)
 
--- Within limits, nothing that begins with these tokens and one more says a file.
+-- No tokens that begin with a front and a next token say a file within limits.
 abbrev pub NoneGoesOn : (ℕ → Bool) → ℕ → List Token → Token → Type 0
 NoneGoesOn fits room front token = (more : List Token) (other : File) → SaysWithin fits room (front ++ token ∷ more) other → ⊥
 
--- Within limits, something that begins with these tokens and one more says a file.
+-- Some tokens that begin with a front and a next token say a file within limits.
 abbrev pub GoesOn : (ℕ → Bool) → ℕ → List Token → Token → Type 0
 GoesOn fits room front token = (more : List Token) × (other : File) × SaysWithin fits room (front ++ token ∷ more) other
 
--- Periods of any length.
+-- Any period fits.
 abbrev pub any_period : ℕ → Bool
 any_period n = true
 
--- The limit that a fault is of is the reason: without it the token could go on. With any period a period that does not
--- fit could, and with one more open at once what opens too deep.
+-- The limit of a fault is its reason: without the limit, the token could go on. Any period fits in place of one to
+-- 604,800, and 33 may be open in place of 32.
 abbrev pub Helps : ParseFault → List Token → Token → Type 0
 Helps (Unexpected line) front token = Unit {0}
 Helps (Period line) front token = GoesOn any_period 32 front token
 Helps (Nesting line) front token = GoesOn fits_period 33 front token
 Helps Memory front token = Unit {0}
 
--- Which limits do not help: none would let an unexpected token go on, no more room a period that does not fit, and no
--- other periods what opens too deep.
+-- Other limits do not help. None lets an unexpected token go on, no nesting a period that does not fit, and no other
+-- periods a token that opens too much.
 abbrev pub NoHelp : ParseFault → List Token → Token → Type 0
 NoHelp (Unexpected line) front token = (fits : ℕ → Bool) (room : ℕ) → NoneGoesOn fits room front token
 NoHelp (Period line) front token = (room : ℕ) → NoneGoesOn fits_period room front token
 NoHelp (Nesting line) front token = (fits : ℕ → Bool) → NoneGoesOn fits 32 front token
 NoHelp Memory front token = Unit {0}
 
--- Tokens stop at a token: those before it can go on so that they say a file, but not with this one, whatever comes after
--- it; the fault has its line, and is P7 or P8 where the token could go on without that limit, and P6 where no limits
--- would let it.
+-- Tokens stop at a token. The tokens before it can go on to say a file, but not with this token. The fault has its line.
+-- It is P7 or P8 if the token could go on without that limit, and P6 if no limits let it.
 pub record StopsAt (tokens : List Token) (fault : ParseFault) : Type 0 where
   pub front : List Token
   pub token : Token

@@ -1,4 +1,4 @@
--- What a token is in the grammar, but for strings and numbers.
+-- The signs and the words of the grammar.
 use Rattle.std.specs.Prelude.{ℕ, Bool, if◌then◌else◌, List, codes}
 use Rattle.std.specs.Str.{bytes_eq}
 use denote.Enum.Bare.{sameb}
@@ -29,7 +29,7 @@ mark_of_word word =
     if bytes_eq word (codes "run") then Run else
     if bytes_eq word (codes "set-state") then SetState else mark_of_test_word word
 
--- What a token is. A quoted text is no word that the grammar names.
+-- The mark of a token. A quoted text is no word of the grammar.
 abbrev pub mark_of : What → Mark
 mark_of (what.Word word) = mark_of_word word
 mark_of (what.Quoted text) = Other
@@ -44,6 +44,6 @@ mark_of what.And = And
 mark_of what.Or = Or
 mark_of what.End = End
 
--- Whether two are the same.
+-- Whether two marks are the same.
 unfoldable pub is : Mark → Mark → Bool
 is mark other = sameb the_type mark other

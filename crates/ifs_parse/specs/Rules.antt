@@ -1,32 +1,32 @@
--- What grammars are made of: rules that say which tokens stand for which value, and with which notes.
+-- Rules of a grammar: which tokens say which value, and with which notes.
 use Rattle.std.specs.Prelude.{◌≡◌, ℕ, Bool, if◌then◌else◌, List, [], ◌∷◌, ◌++◌, Option, Some, None, ◌⊎◌}
 use Rattle.ifs_base.specs.declared.span.Span.{Span}
 use Rattle.ifs_lex.specs.declared.token.Token.{Token}
 use Rattle.ifs_parse.specs.declared.mark.Mark.{Mark}
 use Rattle.ifs_parse.specs.Words.{marked}
 
--- Tokens, the value that they stand for, and the lines of the notes on them.
+-- Tokens say a value, with notes on these lines.
 abbrev pub Rule : Type 0 → Type 1
 Rule X = List Token → X → List ℕ → Type 0
 
--- No token, and a value.
+-- No token says a value.
 pub record GivesValue {X : Type 0} (value : X) (tokens : List Token) (x : X) (notes : List ℕ) : Type 0 where
   pub none : tokens ≡ []
   pub is_value : x ≡ value
   pub unnoted : notes ≡ []
 
--- One token that stands for a value.
+-- One token says a value.
 pub record OneToken {X : Type 0} (what : Token → Option X) (tokens : List Token) (x : X) (notes : List ℕ) : Type 0 where
   pub token : Token
   pub only : tokens ≡ token ∷ []
   pub stands : what token ≡ Some x
   pub unnoted : notes ≡ []
 
--- A mark, and its span.
+-- A token with a mark says its span.
 abbrev pub TheMark : Mark → Rule Span
 TheMark mark = OneToken (marked mark)
 
--- One rule and then another, which knows the first one's value.
+-- One rule and then another, which depends on the value of the first.
 infixr 5 ◌⨟◌
 pub record ◌⨟◌ {X Y : Type 0} (P : Rule X) (Q : X → Rule Y) (tokens : List Token) (y : Y) (notes : List ℕ) : Type 0 where
   pub x : X
@@ -44,27 +44,27 @@ infixr 4 ◌or◌
 abbrev pub ◌or◌ : {X : Type 0} → Rule X → Rule X → Rule X
 (P or Q) tokens x notes = P tokens x notes ⊎ Q tokens x notes
 
--- No tokens.
+-- No tokens say anything.
 abbrev pub Never : {X : Type 0} → Rule X
 Never tokens x notes = ⊥
 
--- A rule, or no token at all.
+-- A rule, or no token.
 abbrev pub Optional : {X : Type 0} → Rule X → Rule (Option X)
 Optional P tokens None notes = (tokens ≡ []) × (notes ≡ [])
 Optional P tokens (Some x) notes = P tokens x notes
 
--- A rule with a note of its own, at a line, before the notes in it; the value says whether there is one.
+-- A rule, with a note at a line before its other notes if its value says so.
 pub record Noted {X : Type 0} (line : ℕ) (P : Rule (X × Bool)) (tokens : List Token) (x : X) (notes : List ℕ) : Type 0 where
   pub is_noted : Bool
   pub within : List ℕ
   pub notes_are : notes ≡ (if is_noted then line ∷ within else within)
   pub said : P tokens (x, is_noted) within
 
--- With one more at the end.
+-- A list with one more value at the end.
 abbrev pub with_last : {X : Type 0} → List X → X → List X
 with_last xs x = xs ++ x ∷ []
 
--- A rule as often as it comes; the values are put together from the left.
+-- A rule any number of times. `add` puts the values together from the left.
 pub data Many {A X : Type 0} (P : Rule X) (add : A → X → A) : A → List Token → A → List ℕ → Type 0 where
   Enough : {a : A} → Many P add a [] a []
   More : {a b : A} {x : X} {front back : List Token} {before after : List ℕ}

@@ -1,4 +1,4 @@
--- What trees the nodes of the code stand for.
+-- The trees that the nodes of the code stand for.
 use Rattle.std.specs.Prelude.{ℕ, ◌<◌, List, [], ◌∷◌}
 use Rattle.std.specs.List.{AllByRecursion}
 use Rattle.ifs_parse.specs.Trees as tree
@@ -17,7 +17,7 @@ abbrev pub any_of : {L : Type 0} → tree.Condition L → List (tree.Condition L
 any_of first [] = first
 any_of first (next ∷ rest) = any_of (tree.Or first next) rest
 
--- The condition that a node stands for.
+-- The condition of a node.
 abbrev pub condition_of : {L : Type 0} → Node L → tree.Condition L
 condition_of (Leaf l) = tree.Leaf l
 condition_of (Not inner) = tree.NotSo inner.value
@@ -30,7 +30,7 @@ statement_then (Run command) rest = tree.RunThen command rest
 statement_then (SetState state) rest = tree.WantThen state rest
 statement_then (If c inner) rest = tree.IfThen c inner rest
 
--- Statements in order.
+-- The block of statements in order.
 abbrev pub block_of : {L R S : Type 0} → List (Statement L R S) → tree.Block L R S
 block_of [] = tree.Done
 block_of (statement ∷ rest) = statement_then statement (block_of rest)

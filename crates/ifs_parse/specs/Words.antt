@@ -1,4 +1,4 @@
--- The words of the grammar: what a token is.
+-- What single tokens say.
 use Rattle.std.specs.Prelude.{ℕ, Bool, cond, ◌&&◌, nat_le, if◌then◌else◌, List, Option, Some, None, option_map}
 use Rattle.ifs_base.specs.declared.op.LinkState.{LinkState}
 use Rattle.ifs_base.specs.declared.op.LinkState.TheVariants as link
@@ -13,7 +13,7 @@ use Rattle.ifs_parse.specs.declared.mark.Mark.TheVariants as mark
 use Rattle.ifs_parse.specs.declared.tree.Name.{Name}
 use Rattle.ifs_parse.specs.Marks.{mark_of, is}
 
--- A sign, or a word that the grammar names: the span of a token that is this mark.
+-- The span of a token, if it has this mark.
 abbrev pub marked : Mark → Token → Option Span
 marked mark t = cond (is (mark_of t.what) mark) (Some t.span) None
 
@@ -23,7 +23,7 @@ text_of (Word word) = if is_reserved word then None else Some word
 text_of (Quoted text) = Some text
 text_of _ = None
 
--- A string: its text, and where it stands.
+-- A string: its text, and its place.
 abbrev pub name_of : Token → Option Name
 name_of t = option_map (λ text. record { text = text; span = t.span }) (text_of t.what)
 
@@ -34,7 +34,7 @@ link_state_of mark.Down = Some link.Down
 link_state_of mark.Unknown = Some link.Unknown
 link_state_of _ = None
 
--- A number: what an unquoted word of digits spells.
+-- The number that an unquoted word of digits spells.
 abbrev pub number_of_what : What → Option ℕ
 number_of_what (Word word) = number_of word
 number_of_what _ = None

@@ -1,4 +1,4 @@
-//! Blocks: statements in order.
+//! Blocks of statements.
 
 ghost use Rattle.std.specs.Prelude.{◌≡◌};
 ghost use Rattle.std.specs.List.{AllByRecursion};
@@ -8,14 +8,14 @@ ghost use Rattle.ifs_parse.specs.Views.{block_of, InnerBelow};
 use crate::condition::Condition;
 use std::marker::Model;
 
-/// Statements in order, over leaves of conditions, commands and states of some kinds.
+/// Statements in order. The parameters are the leaves of conditions, the commands, and the wishes for states.
 #[cycle(block)]
 #[derive(Drop)]
 pub struct Block<L, R, S> {
     statements: Vec<Statement<L, R, S>>,
 }
 
-/// What is done.
+/// A statement.
 #[cycle(block)]
 #[derive(Drop)]
 pub enum Statement<L, R, S> {
@@ -23,7 +23,7 @@ pub enum Statement<L, R, S> {
     Run(R),
     /// Wishes for a state.
     SetState(S),
-    /// Does a block where a condition is true.
+    /// Executes a block if a condition is true.
     If(Condition<L>, Block<L, R, S>),
 }
 
@@ -47,14 +47,14 @@ impl<L, R, S> Model for Block<L, R, S> {
 }
 
 impl<L, R, S> Block<L, R, S> {
-    /// The block of statements. Takes no memory.
+    /// Makes a block of statements. It allocates nothing.
     pub fn new(statements: Vec<Statement<L, R, S>>) -> Self
         ensures { result ≡ block_of statements.items }
     {
         Block { statements }
     }
 
-    /// Lends the statements. Their blocks are smaller than this one.
+    /// Borrows the statements. Their blocks are smaller than this one.
     pub fn statements(&self) -> &[Statement<L, R, S>]
         ensures value { self.now ≡ block_of result.now }
         ensures smaller { AllByRecursion (InnerBelow (block_size self.now)) result.now }

@@ -6,24 +6,24 @@ ghost use Rattle.ifs_parse.specs.Views.{condition_of, OperandsBelow};
 
 use std::marker::Model;
 
-/// A condition over leaves of a kind.
+/// A condition over leaves.
 #[cycle(condition)]
 #[derive(Drop)]
 pub struct Condition<L> {
     node: Node<L>,
 }
 
-/// What a condition is made of.
+/// The top of a condition.
 #[cycle(condition)]
 #[derive(Drop)]
 pub enum Node<L> {
-    /// What can be looked up by itself.
+    /// A leaf.
     Leaf(L),
-    /// `!` and its operand.
+    /// The negation of an operand.
     Not(Box<Condition<L>>),
-    /// Operands joined by `&&`: the first two, and those after them.
+    /// Operands joined by `&&`: the first two, and the others in order.
     All(Box<Condition<L>>, Box<Condition<L>>, Vec<Condition<L>>),
-    /// Operands joined by `||`: the first two, and those after them.
+    /// Operands joined by `||`: the first two, and the others in order.
     Any(Box<Condition<L>>, Box<Condition<L>>, Vec<Condition<L>>),
 }
 
@@ -47,14 +47,14 @@ impl<L> Model for Condition<L> {
 }
 
 impl<L> Condition<L> {
-    /// The condition of a node. Takes no memory.
+    /// Makes a condition of a node. It allocates nothing.
     pub fn new(node: Node<L>) -> Self
         ensures { result ≡ condition_of node }
     {
         Condition { node }
     }
 
-    /// Lends the node. Its operands are smaller than the condition.
+    /// Borrows the node. Its operands are smaller than the condition.
     #[tactic(auto, using(crate::specs::inner::Falls::operands_are_below))]
     pub fn node(&self) -> &Node<L>
         ensures value { self.now ≡ condition_of result.now }

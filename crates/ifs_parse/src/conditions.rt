@@ -1,4 +1,4 @@
-//! The productions of conditions.
+//! Parses conditions.
 
 ghost use Rattle.std.specs.Prelude.{◌≡◌, ◌≤◌, ◌||◌, [], suc, zero, length, MatchResult};
 ghost use Rattle.ifs_parse.specs.inner.Combined.{IsAsRead, many};
@@ -19,7 +19,7 @@ use crate::tree::Test;
 use ifs_base::Span;
 use std::alloc::Global;
 
-/// The operands after the first two, and whether one of all the operands is a chain.
+/// The operands after the first two, and whether any operand is a chain.
 struct Others {
     rest: Vec<Condition<Test>>,
     is_mixed: bool,
@@ -35,7 +35,7 @@ impl Drop for Others {
 }
 
 impl Others {
-    /// None after the first two operands.
+    /// Makes an empty list after the first two operands.
     fn after(alloc: Global, first: &Operand, second: &Operand) -> Others
         ensures { others_of result ≡ reading.others [] (first.now.is_chain || second.now.is_chain) }
     {
@@ -45,7 +45,7 @@ impl Others {
         }
     }
 
-    /// With one more operand.
+    /// Appends an operand.
     fn add(&mut self, next: Operand) -> Result<(), ParseFault>
         ensures { MatchResult
             result
@@ -57,7 +57,7 @@ impl Others {
         Ok(())
     }
 
-    /// The operands after the first two.
+    /// Returns the operands after the first two.
     fn into_rest(self) -> Vec<Condition<Test>>
         ensures { result.items ≡ self.rest.items }
     {
@@ -69,7 +69,7 @@ impl Others {
     }
 }
 
-/// The first two operands of a chain, each in its box.
+/// Boxes the first two operands of a chain.
 fn boxed(
     alloc: Global,
     first: Condition<Test>,
@@ -82,7 +82,7 @@ fn boxed(
     Ok((first, second))
 }
 
-/// Operands joined by `||`.
+/// Joins operands by `||`.
 fn any(
     alloc: Global,
     first: Operand,
@@ -95,7 +95,7 @@ fn any(
     Ok(Condition::new(Node::Any(first, second, others.into_rest())))
 }
 
-/// How many more may be open within what opens at a span, where so many may be.
+/// Opens one more level of nesting at a span, and returns how many more may be open in it.
 pub fn within(room: u32, span: Span) -> Result<u32, ParseFault>
     ensures { MatchResult result (λ inner. room ≡ suc inner) (λ fault. (room ≡ zero) × (fault ≡ Nesting span.line)) }
 {
@@ -122,7 +122,7 @@ impl<'a> Parser<'a> {
         Ok(Condition::new(Node::Leaf(test)))
     }
 
-    /// `"&&" one`, where it comes.
+    /// "&&" one, if it comes next
     #[cycle(conditions)]
     fn next_one(&mut self, room: u32) -> Result<Option<Condition<Test>>, ParseFault>
         ensures { IsAsRead (λ c. (c, progress_of self.new)) result (reading.next_operand mark.And (reading.one words.fits_period room) (progress_of self.old)) }
@@ -133,7 +133,7 @@ impl<'a> Parser<'a> {
         }
     }
 
-    /// The operands of `{ "&&" one }`.
+    /// { "&&" one }
     #[cycle(conditions)]
     fn ones(&mut self, room: u32) -> Result<Vec<Condition<Test>>, ParseFault>
         ensures { IsAsRead
@@ -173,7 +173,7 @@ impl<'a> Parser<'a> {
         })
     }
 
-    /// `"||" all`, where it comes.
+    /// "||" all, if it comes next
     #[cycle(conditions)]
     fn next_all(&mut self, room: u32) -> Result<Option<Operand>, ParseFault>
         ensures { IsAsRead (λ o. (o, progress_of self.new)) result (reading.next_operand mark.Or (reading.all (reading.one words.fits_period room)) (progress_of self.old)) }
@@ -184,7 +184,7 @@ impl<'a> Parser<'a> {
         }
     }
 
-    /// The operands of `{ "||" all }`.
+    /// { "||" all }
     #[cycle(conditions)]
     fn alls(&mut self, room: u32, before: Others) -> Result<Others, ParseFault>
         ensures { IsAsRead
@@ -203,7 +203,7 @@ impl<'a> Parser<'a> {
         Ok(others)
     }
 
-    /// Notes a line, where operands are mixed, before the notes that stand from a place on.
+    /// Inserts a note of a line at a place of the notes, if operands are mixed.
     fn note(&mut self, place: usize, line: u32, is_mixed: bool) -> Result<(), ParseFault>
         requires { place ≤ length self.old.notes.items }
         ensures { MatchResult
@@ -217,7 +217,7 @@ impl<'a> Parser<'a> {
         Ok(())
     }
 
-    /// What follows `all "||"` : all { "||" all }, with the note where operands are mixed.
+    /// What follows `all "||"` : all { "||" all }, with a note if operands are mixed
     #[cycle(conditions)]
     fn alternatives(
         &mut self,

@@ -1,4 +1,4 @@
-//! Why tokens have no tree.
+//! The faults of a policy's tokens.
 
 ghost use Rattle.std.specs.Prelude.{◌≡◌, Some};
 ghost use Rattle.ifs_base.specs.FaultTexts.{fault_words};
@@ -10,21 +10,21 @@ use std::alloc::{AllocError, AllocFailed};
 use std::fmt::{self, Debug, Display, Formatter, Write};
 use thiserror::Error;
 
-/// What is wrong with the first token that cannot go on, with its line.
+/// The fault at the first token that cannot go on. `line` is its line, from 1.
 #[derive(Clone, Copy, PartialEq, Eq, Error)]
 pub enum ParseFault {
-    /// P6: nothing in the grammar goes on with this token.
+    /// P6: the grammar has nothing that goes on with this token.
     Unexpected { line: u32 },
-    /// P7: a period outside 1 to 604,800.
+    /// P7: a period outside 1 to 604,800 seconds.
     Period { line: u32 },
-    /// P8: the 33rd `if`, `!` or `(` that is open at once.
+    /// P8: the 33rd `if`, `!` or `(` that is open at the same time.
     Nesting { line: u32 },
-    /// P0: no memory was found.
+    /// P0: an allocation failed.
     Memory,
 }
 
 impl ParseFault {
-    /// What is printed of the fault.
+    /// Returns the fault's code and place, as lines print them.
     pub fn text(self) -> FaultText
         ensures { fault_words result ≡ parse_fault_words self }
     {
@@ -54,7 +54,7 @@ impl Display for ParseFault {
     }
 }
 
-/// As the fault is printed.
+/// Prints the same text as `Display`.
 impl Debug for ParseFault {
     fn fmt<W: Write>(&self, f: &mut Formatter<W>) -> fmt::Result {
         Display::fmt(self, f)

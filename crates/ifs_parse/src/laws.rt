@@ -1,4 +1,4 @@
-//! Laws of the grammar, over its definitions alone: each is the contract of a function that does nothing.
+//! Laws of the grammar. Each law is the contract of a function that does nothing.
 
 ghost use Rattle.std.specs.Prelude.{◌≡◌, ◌≤◌, length, List, true};
 ghost use Rattle.std.specs.List.{Any};
@@ -14,13 +14,13 @@ pub fn one_tree()
     ensures { (tokens : List Token) (file other : File) → Says tokens file → Says tokens other → file ≡ other }
 {}
 
-/// Tokens stop with at most one fault, and those that stop say no file.
+/// Tokens stop with at most one fault. Tokens that stop say no file.
 pub fn one_fault()
     ensures one { (tokens : List Token) (fault other : ParseFault) → StopsAt tokens fault → StopsAt tokens other → fault ≡ other }
     ensures none { (tokens : List Token) (file : File) (fault : ParseFault) → Says tokens file → ¬ StopsAt tokens fault }
 {}
 
-/// Operands of `||` get a note exactly where there are two or more, and one of them, whichever it is, is of two or more.
+/// Operands of `||` get a note if and only if there are two or more, and at least one of them has two or more itself.
 pub fn one_note()
     ensures noted { (o : Operands (Operands (tree.Condition Test))) → is_noted o ≡ true → (2 ≤ length (whole o)) × Any (λ all. 2 ≤ length (whole all)) (whole o) }
     ensures only { (o : Operands (Operands (tree.Condition Test))) → 2 ≤ length (whole o) → Any (λ all. 2 ≤ length (whole all)) (whole o) → is_noted o ≡ true }

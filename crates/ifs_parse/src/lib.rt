@@ -1,9 +1,9 @@
-//! The second step from a policy text: the tree of its tokens.
+//! The second step from a policy text: `parse` makes the tree of its tokens.
 //!
-//! A policy has items: `init-state`, states with their parts, and parts outside any state; a part is an
-//! `init` block or a statement. Tokens are read from the left by one method a line of the grammar, with
-//! one token of look-ahead. Where `||` stands beside `&&` without parentheses there is a note.
-//! Contract: `parse` answers the one tree that the grammar gives the tokens, with its notes, or names the
+//! A policy is a list of items: `init-state`, states with their parts, and parts outside any state. A part is
+//! an `init` block or a statement. The parser reads tokens from the left, with one token of look-ahead. It has
+//! one method for each line of the grammar. A `||` beside a `&&` without parentheses gives a note.
+//! Contract: `parse` returns the one tree that the grammar gives the tokens, with its notes, or the fault of the
 //! first token that cannot go on.
 #![tactic(auto)]
 

@@ -1,4 +1,4 @@
-//! What a token is in the grammar, but for strings and numbers.
+//! The signs and the words of the grammar.
 
 ghost use Rattle.std.specs.Prelude.{◌≡◌};
 ghost use Rattle.ifs_parse.specs.AtOnce as at_once;
@@ -6,7 +6,7 @@ ghost use Rattle.ifs_parse.specs.Marks as marks;
 
 use ifs_lex::What;
 
-/// A sign, or a word that the grammar names. A quoted text is none.
+/// A sign or a word of the grammar. A quoted text is neither.
 #[derive(Clone, Copy, PartialEq, Eq)]
 pub enum Mark {
     BraceOpen,
@@ -80,7 +80,7 @@ fn mark_of_word(word: &str) -> Mark
     mark_of_test_word(word)
 }
 
-/// What a token is in the grammar.
+/// Returns the mark of a token.
 pub fn mark_of(what: &What) -> Mark
     ensures { result ≡ marks.mark_of what.now }
 {
@@ -101,7 +101,7 @@ pub fn mark_of(what: &What) -> Mark
 }
 
 impl Mark {
-    /// Whether it is this one.
+    /// Returns whether two marks are the same.
     #[tactic(auto, unfolding(crate::specs::Marks::is))]
     pub fn is(self, other: Mark) -> bool
         ensures { result ≡ marks.is self other }
@@ -109,7 +109,7 @@ impl Mark {
         self == other
     }
 
-    /// Whether a file can begin with it.
+    /// Returns whether a file can begin with the mark.
     pub fn may_come_first(self) -> bool
         ensures { result ≡ at_once.may_come_first self }
     {

@@ -1,4 +1,4 @@
-//! What reads tokens from the left, one token ahead.
+//! The parser: it reads tokens from the left, with one token of look-ahead.
 
 ghost use Rattle.std.specs.Prelude.{◌≡◌, ℕ, option_map, if◌then◌else◌, Ok, Err};
 ghost use Rattle.std.specs.Option.{option_map_or};
@@ -44,7 +44,7 @@ impl Drop for Operand {
 }
 
 impl Operand {
-    /// The condition alone.
+    /// Returns the condition.
     pub fn into_condition(self) -> Condition<Test>
         ensures { result ≡ self.condition }
     {
@@ -56,7 +56,7 @@ impl Operand {
     }
 }
 
-/// The text of a string: a word that is not reserved, or a quoted text.
+/// Returns the text of a string: a word that is not reserved, or a quoted text.
 fn text_of(what: &What) -> Option<&Text>
     ensures { option_map (λ text. text.now) result ≡ words.text_of what.now }
 {
@@ -72,7 +72,7 @@ fn text_of(what: &What) -> Option<&Text>
     }
 }
 
-/// The link state that a word names.
+/// Returns the link state that a word names.
 fn link_state_of(mark: Mark) -> Option<LinkState>
     ensures { result ≡ words.link_state_of mark }
 {
@@ -84,7 +84,7 @@ fn link_state_of(mark: Mark) -> Option<LinkState>
     }
 }
 
-/// The number that an unquoted word of digits spells.
+/// Returns the number that an unquoted word of digits spells.
 fn number_of(what: &What) -> Option<Number>
     ensures { result ≡ option_map sized (words.number_of_what what.now) }
 {
@@ -94,7 +94,7 @@ fn number_of(what: &What) -> Option<Number>
     }
 }
 
-/// A number as a period, which stands at a span.
+/// Makes a period of the number at a span.
 fn period_of(number: Number, span: Span) -> Result<Period, ParseFault>
     ensures { (n : ℕ) → sized n ≡ number → result ≡ (if words.fits_period n then Ok n else Err (fault.Period span.line)) }
 {
@@ -110,7 +110,7 @@ fn period_of(number: Number, span: Span) -> Result<Period, ParseFault>
 }
 
 impl<'a> Parser<'a> {
-    /// The line of the first token.
+    /// Returns the line of the next token.
     fn line(&self) -> u32
         ensures { result ≡ line_of_first self.now.left.now }
     {
@@ -120,14 +120,14 @@ impl<'a> Parser<'a> {
         }
     }
 
-    /// That nothing goes on with the first token.
+    /// Returns the fault that nothing goes on with the next token.
     pub fn unexpected(&self) -> ParseFault
         ensures { result ≡ fault.Unexpected (line_of_first self.now.left.now) }
     {
         ParseFault::Unexpected { line: self.line() }
     }
 
-    /// Takes the first token where it is a mark, and tells its span.
+    /// Takes the next token if it has this mark, and returns its span.
     pub fn accept(&mut self, mark: Mark) -> Option<Span>
         ensures taken { result ≡ accepted mark self.old.left.now }
         ensures after { progress_of self.new ≡ option_map_or (λ _. after_token (progress_of self.old)) result (progress_of self.old) }
@@ -144,7 +144,7 @@ impl<'a> Parser<'a> {
         }
     }
 
-    /// Takes the first token, which must be a mark, and tells its span.
+    /// Takes the next token, which must have this mark, and returns its span.
     pub fn expect(&mut self, mark: Mark) -> Result<Span, ParseFault>
         ensures { IsAsRead (λ span. (span, progress_of self.new)) result (expected mark (progress_of self.old)) }
     {

@@ -1,4 +1,4 @@
-//! The tree of a list of tokens.
+//! Parses the tokens of a policy.
 
 ghost use Rattle.std.specs.Prelude.{◌≡◌, ◌≢◌, Some, Err, IfOk, IfErr, IsOkAnd};
 ghost use Rattle.ifs_lex.specs.Expansion.{EndsOnce};
@@ -18,10 +18,10 @@ use crate::tree::{Item, Tree};
 use ifs_lex::Token;
 use std::alloc::Global;
 
-/// How many `if`, `!` and `(` may be open at once.
+/// The most `if`, `!` and `(` that may be open at the same time.
 const NESTING: u32 = 32;
 
-/// What was read: the items, and the lines of the notes.
+/// The items of a policy, and the lines of its notes.
 #[derive(Drop)]
 struct Parsed {
     items: Vec<Item>,
@@ -42,7 +42,7 @@ fn read(alloc: Global, tokens: &[Token]) -> Result<Parsed, ParseFault>
     Ok(Parsed { items, notes })
 }
 
-/// The fault that is certain before anything is kept, where there is one.
+/// Returns the fault that is certain before the first allocation, if there is one.
 fn certain_at_once(tokens: &[Token]) -> Option<ParseFault>
     ensures { result ≡ at_once.certain_of_tokens tokens.now }
 {
@@ -59,7 +59,7 @@ fn certain_at_once(tokens: &[Token]) -> Option<ParseFault>
     }
 }
 
-/// The fault that is certain at once, or else what is read.
+/// Returns the fault that is certain at once, or else reads the tokens.
 fn answer(alloc: Global, tokens: &[Token]) -> Result<Parsed, ParseFault>
     ensures wanted { IsAsRead (λ parsed. file parsed.items.items parsed.notes.items) result (read_within fits_period 32 tokens.now) }
     ensures at_once { (fault : ParseFault) → at_once.certain_of_tokens tokens.now ≡ Some fault → result ≡ Err fault }
@@ -70,20 +70,20 @@ fn answer(alloc: Global, tokens: &[Token]) -> Result<Parsed, ParseFault>
     }
 }
 
-/// The tree of a policy's tokens, with its notes. The caller owes one `End`, as the last token.
+/// Returns the tree of a policy's tokens, with its notes. The last token, and no other, must be `End`.
 ///
-/// A refusal is that of the first token that cannot go on, with its line. P0, for want of memory, may come
-/// in place of another answer, but not where no file begins with the first token.
+/// A fault is that of the first token that cannot go on, and has its line. If an allocation fails, the fault is
+/// P0 instead. If no file begins with the first token, the fault is always that of this token.
 pub fn parse(alloc: Global, tokens: &[Token]) -> Result<Tree, ParseFault>
     requires { EndsOnce tokens.now }
-    // What is answered is what the tokens say by the grammar, with its notes.
+    // The tokens say the tree by the grammar, with its notes.
     ensures found { IfOk result (λ tree. Says tokens.now tree) }
-    // What the tokens say is answered, unless want of memory is told.
+    // A file that the tokens say is returned, unless an allocation fails.
     ensures only { (file : File) → Says tokens.now file → result ≢ Err Memory → IsOkAnd result (λ tree. tree ≡ file) }
-    // Any other refusal is at the first token that cannot go on: what stands before it can, with it nothing can; and
-    // it is P7 or P8 where the token could go on without that limit, and P6 where it could within no limits.
+    // Any other fault is at the first token that cannot go on: the tokens before it can, and with it nothing can.
+    // It is P7 or P8 if the token could go on without that limit, and P6 if it could not within any limits.
     ensures stops { IfErr result (λ fault. fault ≢ Memory → StopsAt tokens.now fault) }
-    // What is certain before anything is kept is told, and no want of memory in its place.
+    // A fault that is certain before the first allocation is returned, even if allocations fail.
     ensures at_once { (fault : ParseFault) → at_once.certain_of_tokens tokens.now ≡ Some fault → result ≡ Err fault }
 {
     match answer(alloc, tokens) {

@@ -5,7 +5,7 @@ ghost use Rattle.ifs_base.specs.Sizes.{PeriodFits};
 
 use std::marker::Model;
 
-/// How many seconds pass from one start of a test to the next, from 1 to 604,800. Clauses see the number.
+/// The seconds from one start of a test to the next, from 1 to 604,800. Clauses see the number.
 #[derive(Clone, Copy, Debug, PartialEq, Eq, Hash)]
 pub struct Period {
     seconds: u32,
@@ -25,7 +25,7 @@ impl Model for Period {
 }
 
 impl Period {
-    /// The period of so many seconds.
+    /// Makes a period of a number of seconds.
     pub fn new(seconds: u32) -> Self
         requires { PeriodFits seconds }
         ensures { result ≡ seconds }
@@ -33,7 +33,7 @@ impl Period {
         Period { seconds }
     }
 
-    /// How many seconds it is.
+    /// Returns the number of seconds.
     pub fn seconds(self) -> u32
         ensures value { result ≡ self }
         ensures fits { PeriodFits result }

@@ -1,4 +1,4 @@
-//! The productions of statements, states and files.
+//! Parses statements, states and files.
 
 ghost use Rattle.std.specs.Prelude.{◌≡◌, []};
 ghost use Rattle.ifs_parse.specs.inner.Combined.{IsAsRead, many};
@@ -26,7 +26,7 @@ impl<'a> Parser<'a> {
         Ok(Statement::If(condition, inner))
     }
 
-    /// stmt : if any block | run string | set-state string, where one begins
+    /// stmt : if any block | run string | set-state string, if one comes next
     #[cycle(statements)]
     fn statement(&mut self, room: u32) -> Result<Option<Action>, ParseFault>
         ensures { IsAsRead (λ s. (s, progress_of self.new)) result (reading.statement words.fits_period room (progress_of self.old)) }
@@ -46,7 +46,7 @@ impl<'a> Parser<'a> {
         }
     }
 
-    /// The statements of `{ stmt }`.
+    /// { stmt }
     #[cycle(statements)]
     fn statements(&mut self, room: u32) -> Result<Vec<Action>, ParseFault>
         ensures { IsAsRead
@@ -85,7 +85,7 @@ impl<'a> Parser<'a> {
         }
     }
 
-    /// init block | stmt, where one begins
+    /// init block | stmt, if one comes next
     fn part(&mut self, room: u32) -> Result<Option<Part>, ParseFault>
         ensures { IsAsRead (λ p. (p, progress_of self.new)) result (reading.part (reading.statement words.fits_period room) (progress_of self.old)) }
     {
@@ -95,7 +95,7 @@ impl<'a> Parser<'a> {
         Ok(self.statement(room)?.map(Part::Do))
     }
 
-    /// The parts of `{ init block | stmt }`.
+    /// { init block | stmt }
     fn parts(&mut self, room: u32) -> Result<Vec<Part>, ParseFault>
         ensures { IsAsRead
             (λ all. (all.items, progress_of self.new))
@@ -127,7 +127,7 @@ impl<'a> Parser<'a> {
         Ok(Item::State(name, Items::new(parts)))
     }
 
-    /// init-state string | state string "{" { init block | stmt } "}" | init block | stmt, where one begins
+    /// init-state string | state string "{" { init block | stmt } "}" | init block | stmt, if one comes next
     fn item(&mut self, room: u32) -> Result<Option<Item>, ParseFault>
         ensures { IsAsRead
             (λ i. (i, progress_of self.new))
@@ -143,7 +143,7 @@ impl<'a> Parser<'a> {
         Ok(self.part(room)?.map(Item::Always))
     }
 
-    /// The items of a file.
+    /// The items of a file
     fn items(&mut self, room: u32) -> Result<Vec<Item>, ParseFault>
         ensures { IsAsRead
             (λ all. (all.items, progress_of self.new))

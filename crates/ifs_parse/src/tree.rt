@@ -9,56 +9,56 @@ use crate::period::Period;
 use ifs_base::{Items, LinkState, Span, Text};
 use std::marker::Model;
 
-/// A string of a policy and where it stands.
+/// A string of a policy, and its place.
 #[derive(Debug, Drop)]
 pub struct Name {
     pub text: Text,
     pub span: Span,
 }
 
-/// What a condition looks up.
+/// A leaf of a condition.
 #[derive(Debug, Drop)]
 pub enum Test {
     /// Whether an interface has a link state.
     Link(Name, LinkState),
-    /// Whether a command, run with a period, ended well.
+    /// Whether a command that runs with this period ended well.
     External(Name, Period),
 }
 
-/// `set-state`, by its word, and the state that it names.
+/// A wish for a state: the place of the word `set-state`, and the name of the state.
 #[derive(Debug, Drop)]
 pub struct Wish {
     pub span: Span,
     pub state: Name,
 }
 
-/// Statements over the words of a policy.
+/// A block of a policy.
 pub type Actions = Block<Test, Name, Wish>;
 
-/// A statement over the words of a policy.
+/// A statement of a policy.
 pub type Action = Statement<Test, Name, Wish>;
 
-/// A part of a state, or of what stands outside any.
+/// A part of a state, or a part outside any state.
 #[derive(Drop)]
 pub enum Part {
-    /// `init`, by its word, and its block.
+    /// The place of the word `init`, and its block.
     Init(Span, Actions),
     /// A statement.
     Do(Action),
 }
 
-/// What a policy is made of, from the top.
+/// An item of a policy.
 #[derive(Drop)]
 pub enum Item {
-    /// `init-state`, by its word, and the state that it names.
+    /// The place of the word `init-state`, and the name of the state.
     InitState(Span, Name),
-    /// A state's name and its parts, in order.
+    /// The name of a state, and its parts in order.
     State(Name, Items<Part>),
-    /// What stands outside any state.
+    /// A part outside any state.
     Always(Part),
 }
 
-/// A policy as its text says it, and its notes.
+/// A policy as its text says it, with notes.
 pub struct Tree {
     items: Vec<Item>,
     notes: Vec<u32>,
@@ -90,7 +90,7 @@ impl Model for Tree {
 }
 
 impl Tree {
-    /// The tree of these items and notes. Takes no memory.
+    /// Makes a tree of items and notes. It allocates nothing.
     pub(crate) fn new(items: Vec<Item>, notes: Vec<u32>) -> Self
         requires { IsSaid (file items.items notes.items) }
         ensures { result ≡ file items.items notes.items }
@@ -98,16 +98,16 @@ impl Tree {
         Tree { items, notes }
     }
 
-    /// What the policy is made of, in text order.
+    /// Returns the items, in text order.
     pub fn items(&self) -> &[Item]
         ensures items { result.now ≡ self.now.items }
-        // Some tokens say the file, so it keeps the grammar's limits.
+        // Some tokens say the file, so it keeps within the limits of the grammar.
         ensures said { IsSaid self.now }
     {
         self.items.as_slice()
     }
 
-    /// The lines of the notes: of a `||` beside a `&&` without parentheses between them, in text order.
+    /// Returns the lines of the notes, in text order. A note is about a `||` beside a `&&` without parentheses.
     pub fn notes(&self) -> &[u32]
         ensures { result.now ≡ self.now.notes }
     {

@@ -7,7 +7,7 @@ use Rattle.ifs_lex.specs.Lexemes.{gap_len, Blanks}
 abbrev pub comment_bytes : List ℕ → Option ℕ → ℕ
 comment_bytes bytes newline = option_map_or (λ n. n + 1) newline (length bytes)
 
--- A part of a gap has so many bytes, and the rest of the gap comes after it.
+-- A part of a gap has this many bytes, and the rest of the gap comes after it.
 pub record IsGapPart (bytes : List ℕ) (part : ℕ) : Type 0 where
   pub some : 0 < part
   pub within : part ≤ length bytes

@@ -1,4 +1,4 @@
--- The macros that the code's table knows.
+-- The macros of the code's table.
 use Rattle.std.specs.Prelude.{option_map}
 use Rattle.std.specs.HashMap as hash
 use Rattle.std.specs.Str.{bytes_eq}

@@ -1,4 +1,4 @@
--- What the code's pieces of a text stand for.
+-- The lexemes of the code's pieces.
 use Rattle.std.specs.Prelude.{ℕ, ◌+◌, if◌then◌else◌, List, [], ◌∷◌, Option, Some, None, option_map}
 use Rattle.ifs_lex.specs.declared.token.What.TheVariants.{Word, Quoted, BraceOpen, BraceClose, ParenOpen}
 use Rattle.ifs_lex.specs.declared.token.What.TheVariants.{ParenClose, Dot, Equals, Bang, And, Or, End}
@@ -12,7 +12,7 @@ use Rattle.ifs_lex.specs.declared.token.What.{What}
 use Rattle.ifs_lex.specs.declared.cursor.Found.{Found}
 use Rattle.ifs_lex.specs.Lexemes.{Lexeme, Spanned, One, Uses, Stray, Unclosed, is_dropped, quoted_value}
 
--- How many bytes between quotes stand before the first one that has no part in the value.
+-- The number of bytes before the first that is no part of the value.
 abbrev pub kept_len : ℕ → List ℕ → Option ℕ
 kept_len quote [] = None
 kept_len quote (b ∷ rest) = if is_dropped quote b rest then Some 0 else option_map (λ n. 1 + n) (kept_len quote rest)
@@ -28,7 +28,7 @@ what_of Not = Bang
 what_of Both = And
 what_of Either = Or
 
--- The lexeme that a piece is.
+-- The lexeme of a piece.
 abbrev pub lexeme_of : Piece → Lexeme
 lexeme_of (Bare word) = One (Word word.now)
 lexeme_of (Between quote inside) = One (Quoted (quoted_value quote inside.now))
@@ -39,6 +39,6 @@ lexeme_of Last = One End
 lexeme_of piece.Stray = Stray
 lexeme_of piece.Unclosed = Unclosed
 
--- The lexeme that was found, where it stands.
+-- The lexeme of a piece, at its place.
 abbrev pub spanned_of : Found → Spanned
 spanned_of found = record { lexeme = lexeme_of found.piece; span = found.span }

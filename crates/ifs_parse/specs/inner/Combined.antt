@@ -1,4 +1,4 @@
--- What parsers are made of: each takes tokens from the left, and looks one token ahead.
+-- Combinators of parsers. A parser takes tokens from the left, and looks one token ahead.
 use Rattle.std.specs.Prelude.{◌≡◌, ◌≢◌, ℕ, zero, suc, List, [], ◌∷◌, drop, length}
 use Rattle.std.specs.Prelude.{Option, Some, None, Result, Ok, Err, MatchResult}
 use Rattle.std.specs.Option.{option_map_or}
@@ -22,7 +22,7 @@ progress left notes = record { left = left; notes = notes }
 abbrev pub after_token : Progress → Progress
 after_token s = progress (drop 1 s.left) s.notes
 
--- What reads a value, or tells a fault.
+-- A parser reads a value, or reports a fault.
 abbrev pub Parse : Type 0 → Type 0
 Parse X = Progress → Result (X × Progress) ParseFault
 
@@ -31,20 +31,20 @@ abbrev pub line_of_first : List Token → ℕ
 line_of_first [] = 0
 line_of_first (t ∷ ts) = t.span.line
 
--- Nothing goes on with the first token.
+-- The fault that nothing goes on with the first token.
 abbrev pub unexpected : {X : Type 0} → Parse X
 unexpected s = Err (Unexpected (line_of_first s.left))
 
--- What the first token stands for.
+-- What the first token says, if there is one.
 abbrev pub found : {X : Type 0} → (Token → Option X) → List Token → Option X
 found what [] = None
 found what (t ∷ ts) = what t
 
--- The first token, where it is this mark, by its span.
+-- The span of the first token, if it has this mark.
 abbrev pub accepted : Mark → List Token → Option Span
 accepted mark = found (marked mark)
 
--- A value and no token.
+-- Takes no token and gives a value.
 abbrev pub pure : {X : Type 0} → X → Parse X
 pure x s = Ok (x, s)
 
@@ -53,39 +53,39 @@ infixr 5 ◌▸◌
 abbrev pub ◌▸◌ : {X Y : Type 0} → Parse X → (X → Parse Y) → Parse Y
 (p ▸ q) s = p s >>= λ r. q r.0 r.1
 
--- One token that stands for a value.
+-- One token says a value.
 abbrev pub one_token : {X : Type 0} → (Token → Option X) → Parse X
 one_token what s = option_map_or (λ x. Ok (x, after_token s)) (found what s.left) (unexpected s)
 
--- What goes on after a mark, or else what has no mark before it.
+-- Takes a mark and goes on after it, or goes on without it.
 abbrev pub either : {X : Type 0} → Mark → (Span → Parse X) → Parse X → Parse X
 either mark yes_then else_then s = option_map_or (λ span. yes_then span (after_token s)) (accepted mark s.left) (else_then s)
 
--- What comes after a mark, where the mark does; or else something else that may be missing.
+-- The same with a value that may be missing.
 abbrev pub begins : {X : Type 0} → Mark → (Span → Parse X) → Parse (Option X) → Parse (Option X)
 begins mark yes_then else_then = either mark (λ span. yes_then span ▸ λ x. pure (Some x)) else_then
 
--- Nothing more.
+-- Nothing.
 abbrev pub no_more : {X : Type 0} → Parse (Option X)
 no_more = pure None
 
--- What must come.
+-- A value that must come.
 abbrev pub required : {X : Type 0} → Parse (Option X) → Parse X
 required p = p ▸ λ r. option_map_or pure r unexpected
 
--- A mark, by its span.
+-- Takes a mark, and gives its span.
 abbrev pub expected : Mark → Parse Span
 expected mark = either mark pure unexpected
 
--- So many things at most, one after the other, put together from the left.
+-- At most `n` values. `add` puts them together from the left.
 abbrev pub many_from : {A X : Type 0} → Parse (Option X) → (A → X → A) → ℕ → A → Parse A
 many_from part add zero a s = Ok (a, s)
 many_from part add (suc n) a s = part s >>= λ r. option_map_or (λ x. many_from part add n (add a x) r.1) r.0 (Ok (a, r.1))
 
--- As many things as come: each has a token at least.
+-- As many values as come. Each has at least one token.
 abbrev pub many : {A X : Type 0} → Parse (Option X) → (A → X → A) → A → Parse A
 many part add a s = many_from part add (length s.left) a s
 
--- A result is what is wanted, and a fault is the one wanted unless want of memory is told.
+-- A result is the wanted one, or an allocation failed.
 abbrev pub IsAsRead : {X Y : Type 0} → (X → Y) → Result X ParseFault → Result Y ParseFault → Type 0
 IsAsRead view result wanted = MatchResult result (λ x. wanted ≡ Ok (view x)) (λ fault. fault ≢ Memory → wanted ≡ Err fault)

@@ -30,7 +30,7 @@ node_is_smaller (Not inner) = omega arith
 node_is_smaller (All first second rest) = omega (arith, all_grows (tree.And first.value second.value) rest.items)
 node_is_smaller (Any first second rest) = omega (arith, any_grows (tree.Or first.value second.value) rest.items)
 
--- The statements' blocks are smaller than the block.
+-- The blocks of statements are smaller than the block of these statements.
 pub statements_are_smaller : {L R S : Type 0} (statements : List (Statement L R S))
     → max (most (λ s. deep-Statement L R S s) statements) 0 ≤ tree.block_size (block_of statements)
 statements_are_smaller [] = omega arith
@@ -38,7 +38,7 @@ statements_are_smaller (Run command ∷ rest) = omega (arith, statements_are_sma
 statements_are_smaller (SetState state ∷ rest) = omega (arith, statements_are_smaller rest)
 statements_are_smaller (If c inner ∷ rest) = omega (arith, statements_are_smaller rest)
 
--- What is less than a bound less one is below it.
+-- Items whose sizes are below the greatest are below any bound of it.
 below_most : {A : Type 0} (size : A → ℕ) (n : ℕ) (items : List A) → most (λ a. size a + 1) items ≤ n → AllByRecursion (λ a. size a < n) items
 below_most size n [] h = tt
 below_most size n (a ∷ items) h = (omega (arith, h), below_most size n items (omega (arith, h)))
@@ -53,7 +53,7 @@ operands_are_below (Any first second rest) =
     let h = any_grows (tree.Or first.value second.value) rest.items in
     (omega (arith, h), omega (arith, h), below_most tree.condition_size _ rest.items (omega (arith, h)))
 
--- Statements that are below a bound are below a greater one.
+-- The blocks of statements are below each bound of the block of these statements.
 statements_below : {L R S : Type 0} (n : ℕ) (statements : List (Statement L R S)) → tree.block_size (block_of statements) ≤ n
     → AllByRecursion (InnerBelow n) statements
 statements_below n [] h = tt

@@ -1,4 +1,4 @@
--- What tokens say, read from the left: one parser a line of the grammar.
+-- The parser of the grammar. Each line of the grammar is one parser.
 use Rattle.std.specs.Prelude.{ℕ, zero, suc, Bool, true, false, ◌||◌, if◌then◌else◌, List, [], ◌∷◌}
 use Rattle.std.specs.Prelude.{◌++◌, length, insert, Option, option_map, Result, Ok, Err}
 use Rattle.std.specs.Option.{option_map_or}
@@ -40,7 +40,7 @@ string = one_token name_of
 abbrev pub link_state : Parse LinkState
 link_state = one_token (λ t. link_state_of (mark_of t.what))
 
--- number : a period that fits
+-- number : an unquoted word of digits, whose number fits
 abbrev pub period : (ℕ → Bool) → Parse ℕ
 period fits s = option_map_or (λ n. if fits n then Ok (n, after_token s) else Err (Period (line_of_first s.left))) (found (λ t. number_of_what t.what) s.left) (unexpected s)
 
@@ -56,11 +56,11 @@ external_test fits name = period fits ▸ λ n. pure (External name n)
 abbrev pub test : (ℕ → Bool) → Parse Test
 test fits = string ▸ λ name. either mark.Dot (λ _. link_test name) (expected mark.Every ▸ λ _. external_test fits name)
 
--- An operand after its sign, where there is one.
+-- An operand after its operator, if the operator comes.
 abbrev pub next_operand : {X : Type 0} → Mark → Parse X → Parse (Option X)
 next_operand sign operand = begins sign (λ _. operand) no_more
 
--- An operand of `||`, and whether it is a chain.
+-- An operand of `||`, and whether it is a chain of `&&`.
 abbrev pub operand : tree.Condition Test → Bool → Operand
 operand condition is_chain = record { condition = condition; is_chain = is_chain }
 
@@ -72,7 +72,7 @@ chain one first = one ▸ λ second. many (next_operand mark.And one) with_last 
 abbrev pub all : Parse (tree.Condition Test) → Parse Operand
 all one = one ▸ λ first. either mark.And (λ _. chain one first) (pure (operand first false))
 
--- The operands after the first two, and whether one of the operands is a chain.
+-- The operands after the first two, and whether any operand is a chain.
 pub record Others : Type 0 where
   pub rest : List (tree.Condition Test)
   pub is_mixed : Bool
@@ -80,11 +80,11 @@ pub record Others : Type 0 where
 abbrev pub others : List (tree.Condition Test) → Bool → Others
 others rest is_mixed = record { rest = rest; is_mixed = is_mixed }
 
--- With one more operand.
+-- The same with one more operand.
 abbrev pub with_operand : Others → Operand → Others
 with_operand o next = others (o.rest ++ next.condition ∷ []) (o.is_mixed || next.is_chain)
 
--- With a note before those that stand from a place on, where operands are mixed.
+-- The same with a note at a place of the notes, if operands are mixed.
 abbrev pub noted : ℕ → ℕ → Bool → combined.Progress → combined.Progress
 noted place line is_mixed s = if is_mixed then progress s.left (insert s.notes place line) else s
 
@@ -94,11 +94,11 @@ alternatives all first =
     all ▸ λ second. many (next_operand mark.Or all) with_operand (others [] (first.is_chain || second.is_chain)) ▸ λ more.
     pure (any_of (tree.Or first.condition second.condition) more.rest, more.is_mixed)
 
--- What says whether it has a note of its own, with that note at a line.
+-- A parser with a note at a line if its value says so.
 abbrev pub with_note : {X : Type 0} → ℕ → Parse (X × Bool) → Parse X
 with_note line p s = p s >>= λ r. Ok (r.0.0, noted (length s.notes) line r.0.1 r.1)
 
--- The same with the note, at the line of the first `||`.
+-- The same with its note, at the line of the first `||`.
 abbrev pub noted_alternatives : Parse Operand → Operand → Span → Parse (tree.Condition Test)
 noted_alternatives all first span = with_note span.line (alternatives all first)
 
@@ -106,11 +106,11 @@ noted_alternatives all first span = with_note span.line (alternatives all first)
 abbrev pub any : Parse Operand → Parse (tree.Condition Test)
 any all = all ▸ λ first. either mark.Or (noted_alternatives all first) (pure first.condition)
 
--- Nothing more can be open.
+-- Nothing may be open.
 abbrev pub deep : {X : Type 0} → Span → Parse X
 deep span s = Err (Nesting span.line)
 
--- one, by what stands after "!" and after "("
+-- one, by what comes after "!" and after "("
 abbrev pub one_over : (Span → Parse (tree.Condition Test)) → (Span → Parse (tree.Condition Test)) → Parse Test → Parse (tree.Condition Test)
 one_over negated grouped test =
     either mark.Bang (λ span. negated span ▸ λ c. pure (tree.NotSo c))
@@ -126,7 +126,7 @@ one fits (suc room) = one_over (λ _. one fits room) (λ _. any (all (one fits r
 abbrev pub condition : (ℕ → Bool) → ℕ → Parse (tree.Condition Test)
 condition fits room = any (all (one fits room))
 
--- What stands between "{" and "}".
+-- { part } "}"
 abbrev pub braced : {X : Type 0} → Parse (Option X) → Parse (List X)
 braced part = many part with_last [] ▸ λ xs. expected mark.BraceClose ▸ λ _. pure xs
 
@@ -147,20 +147,20 @@ run = string ▸ λ command. pure (Run command)
 abbrev pub set_state : Span → Parse (Statement Test Name Wish)
 set_state span = string ▸ λ name. pure (SetState (record { span = span; state = name }))
 
--- A statement where one begins, by what stands after `if`.
+-- stmt, if one comes, by what comes after `if`
 abbrev pub statement_over : (Span → Parse (Statement Test Name Wish)) → Parse (Option (Statement Test Name Wish))
 statement_over conditional = begins mark.If conditional (begins mark.Run (λ _. run) (begins mark.SetState set_state no_more))
 
--- stmt : if any block | run string | set-state string, where one begins, by how many more may be open
+-- stmt : if any block | run string | set-state string, if one comes, by how many more may be open
 abbrev pub statement : (ℕ → Bool) → ℕ → Parse (Option (Statement Test Name Wish))
 statement fits zero = statement_over deep
 statement fits (suc room) = statement_over (λ _. conditional_over (condition fits room) (block (statement fits room)))
 
--- What follows `if`, by how many more may be open.
+-- What follows `if`, by how many more may be open
 abbrev pub conditional : (ℕ → Bool) → ℕ → Parse (Statement Test Name Wish)
 conditional fits room = conditional_over (condition fits room) (block (statement fits room))
 
--- init block | stmt, where one begins
+-- init block | stmt, if one comes
 abbrev pub part : Parse (Option (Statement Test Name Wish)) → Parse (Option Part)
 part statement =
     begins mark.Init (λ span. block statement ▸ λ inner. pure (Init span inner)) (statement ▸ λ s. pure (option_map Do s))
@@ -169,7 +169,7 @@ part statement =
 abbrev pub state_item : Parse (Option Part) → Parse Item
 state_item part = string ▸ λ name. expected mark.BraceOpen ▸ λ _. braced part ▸ λ parts. pure (State name parts)
 
--- init-state string | state string "{" { init block | stmt } "}" | init block | stmt, where one begins
+-- init-state string | state string "{" { init block | stmt } "}" | init block | stmt, if one comes
 abbrev pub item : Parse (Option Part) → Parse (Option Item)
 item part =
     begins mark.InitState (λ span. string ▸ λ name. pure (InitState span name))
