@@ -1,22 +1,19 @@
 -- Where a text may be cut: before and after bytes of ASCII.
-use Rattle.std.proofs.Common.{◌≡◌, ℕ, zero, suc, ◌+◌, ◌-◌, ◌<◌, ◌≤◌, Bool, true, false, cond}
-use Rattle.std.proofs.Common.{eqb, ◌&&◌, ◌||◌, not, List, [], ◌∷◌, length, take, drop, get_or}
-use Rattle.std.proofs.Common.{Option, Some, None, option_map, refl, sym, ◌∙◌, ap, subst, arith}
+use Rattle.std.proofs.Common.{◌≡◌, ℕ, zero, suc, ◌+◌, ◌-◌, ◌<◌, ◌≤◌, Bool, true, false, cond, eqb, ◌&&◌, ◌||◌, List}
+use Rattle.std.proofs.Common.{[], ◌∷◌, ◌++◌, length, drop, get_or, Option, Some, None, refl, sym, ◌∙◌, ap, subst}
+use Rattle.std.proofs.Common.{arith}
 use Rattle.std.specs.List.{prefix_len}
 use Rattle.std.specs.Option.{option_map_or}
 use Rattle.std.specs.Str.{IsUtf8, IsCharBoundary}
-use Rattle.std.proofs.lemmas.Bool.{eqb-true}
 use Rattle.std.proofs.lemmas.Bool.Decides.{nat_tests}
 use Rattle.std.proofs.lemmas.List.Sums.{prefix_len-le-length, prefix_len_passes}
 use Rattle.std.proofs.lemmas.Str.{IsCharBoundary-start, IsCharBoundary-after_ascii}
 use Rattle.std.proofs.lemmas.Str.{IsCharBoundary-before_ascii, IsCharBoundary-from_rest, IsUtf8-drop}
-use Rattle.ifs_lex.specs.declared.token.What.{What}
-use Rattle.ifs_lex.specs.declared.token.What.TheVariants.{Quoted, And, Or}
-use Rattle.ifs_lex.specs.Lexemes.{Gap}
-use Rattle.ifs_lex.specs.Lexemes.{Blanks, Comment}
-use Rattle.ifs_lex.specs.Characters.{is_blank, is_quote, begins_word, continues_word, continues_name}
-use Rattle.ifs_lex.specs.Lexemes.{gap_after, gap_len, inside_len, begins_with, begins_macro, Scan}
-use Rattle.ifs_lex.specs.Lexemes.{scan, One, Unclosed, quoted_value, use_here, twice, sign_here, lexeme_here}
+use Rattle.ifs_lex.specs.Characters.{is_blank, is_quote, continues_word, continues_name}
+use Rattle.ifs_lex.specs.Lexemes.{Gap, Blanks, Comment, Lexeme, gap_after, gap_len, inside_len, Scan, lexeme_here}
+use Rattle.ifs_lex.specs.Spelling.{IsLexeme, word, quoted, uses, sign}
+use Rattle.ifs_lex.proofs.Spelt.{prefix_longest, longest_once, closes}
+use Rattle.ifs_lex.proofs.Scanned.{by_sign, Reads, at_end, an_lexeme, no_lexeme, reads}
 
 word_ascii : (b : ℕ) → continues_word b ≡ true → b < 128
 word_ascii b h = grind (arith, nat_tests)
@@ -53,33 +50,12 @@ name_boundary text bytes n u e h = moved text bytes n e (run_end continues_name 
 pub first_boundary : (text bytes : List ℕ) → IsUtf8 bytes → bytes ≡ text → 0 < length bytes → get_or bytes 0 0 < 128 → IsCharBoundary text 1
 first_boundary text bytes u e l h = moved text bytes 1 e (IsCharBoundary-after_ascii bytes 0 u l h)
 
-first_is : (b q : ℕ) (t : Bool) → (eqb b q && t) ≡ true → b ≡ q
-first_is b q t h = grind (arith, nat_tests)
-
-inside_test : (q b n : ℕ) (fresh : Bool) (rest : List ℕ) (t : Bool) (m : Option ℕ) → (eqb b q && fresh) ≡ t → ((k : ℕ) → m ≡ Some k → (k < length rest) × (get_or rest k 0 ≡ q)) → cond t (Some 0) (option_map (λ i. 1 + i) m) ≡ Some n → (n < suc (length rest)) × (get_or (b ∷ rest) n 0 ≡ q)
-inside_test q b n fresh rest true m e ih h =
-    let z : 0 ≡ n = cc in
-    let P : ℕ → Type 0 = λ i. (i < suc (length rest)) × (get_or (b ∷ rest) i 0 ≡ q) in
-    subst P z (omega arith, first_is b q fresh e)
-inside_test q b n fresh rest false None e ih h = absurd (cc)
-inside_test q b n fresh rest false (Some k) e ih h =
-    let z : 1 + k ≡ n = cc in
-    let s : suc k ≡ n = omega arith in
-    let P : ℕ → Type 0 = λ i. (i < suc (length rest)) × (get_or (b ∷ rest) i 0 ≡ q) in
-    let f = ih k refl in
-    subst P s (omega (arith, f.0), f.1)
-
--- The byte after what stands between two quotes is the quote.
-pub inside_at : (q : ℕ) (escaped : Bool) (bs : List ℕ) (n : ℕ) → inside_len q escaped bs ≡ Some n → (n < length bs) × (get_or bs n 0 ≡ q)
-inside_at q escaped [] n h = absurd (cc)
-inside_at q escaped (b ∷ rest) n h =
-    inside_test q b n (not escaped) rest _ _ refl (λ k e. inside_at q (eqb b 92) rest k e) h
-
 -- Before the closing quote.
 pub inside_boundary : (q : ℕ) (text bytes : List ℕ) (n : ℕ) → q < 128 → bytes ≡ text → Some n ≡ inside_len q false bytes → IsCharBoundary text n
 inside_boundary q text bytes n l e h =
-    let f = inside_at q false bytes n (sym h) in
-    moved text bytes n e (IsCharBoundary-before_ascii bytes n f.0 (omega (arith, f.1)))
+    let c = closes q false bytes n (sym h) in
+    let at : get_or bytes n 0 ≡ q = c.closes in
+    moved text bytes n e (IsCharBoundary-before_ascii bytes n c.within (omega arith))
 
 -- A gap ends at the end of the bytes, after a byte of ASCII, or at its start.
 pub record GapEnds (gap : Gap) (bs : List ℕ) (i : ℕ) : Type 0 where
@@ -156,66 +132,40 @@ gap_boundary text bytes n u e h =
     let P : ℕ → Type 0 = λ i. IsCharBoundary bytes i in
     moved text bytes n e (subst P (sym h) (cut_at bytes Blanks _ u (gap_ends Blanks bytes) refl))
 
--- A choice, by what each side gives.
-pick : (P : Scan → Type 0) (t : Bool) (x y : Scan) → (t ≡ true → P x) → (t ≡ false → P y) → P (cond t x y)
-pick P true x y first second = first refl
-pick P false x y first second = second refl
+after_one : (b : ℕ) (rest : List ℕ) → b < 128 → IsUtf8 (b ∷ rest) → IsCharBoundary (b ∷ rest) 1
+after_one b rest l u = IsCharBoundary-after_ascii (b ∷ rest) 0 u (omega arith) l
 
--- A scan that ends where a text may be cut.
-abbrev Ends : List ℕ → Scan → Type 0
-Ends bs s = IsCharBoundary bs s.len
+after_two : (b : ℕ) (rest : List ℕ) → b < 128 → IsUtf8 (b ∷ b ∷ rest) → IsCharBoundary (b ∷ b ∷ rest) 2
+after_two b rest l u = IsCharBoundary-after_ascii (b ∷ b ∷ rest) 1 u (omega arith) l
 
-after_one : (b : ℕ) (rest : List ℕ) → IsUtf8 (b ∷ rest) → (k : ℕ) → k < 128 → eqb b k ≡ true → IsCharBoundary (b ∷ rest) 1
-after_one b rest u k l e = IsCharBoundary-after_ascii (b ∷ rest) 0 u (omega arith) (omega (arith, eqb-true b k e))
-
-after_two : (b k : ℕ) (rest : List ℕ) → IsUtf8 (b ∷ rest) → k < 128 → begins_with k rest ≡ true → IsCharBoundary (b ∷ rest) 2
-after_two b k [] u l e = absurd (cc)
-after_two b k (x ∷ more) u l e =
-    IsCharBoundary-after_ascii (b ∷ x ∷ more) 1 u (omega arith) (omega (arith, eqb-true x k e))
-
-twice_ends : (b k : ℕ) (what : What) (rest : List ℕ) → IsUtf8 (b ∷ rest) → k < 128 → Ends (b ∷ rest) (twice k what rest)
-twice_ends b k what rest u l =
-    pick (Ends (b ∷ rest)) (begins_with k rest) _ _ (λ e. after_two b k rest u l e) (λ _. IsCharBoundary-start _ u)
-
-sign_ends : (b : ℕ) (rest : List ℕ) → IsUtf8 (b ∷ rest) → Ends (b ∷ rest) (sign_here b rest)
-sign_ends b rest u =
-    let E = Ends (b ∷ rest) in
-    let one = after_one b rest u in
-    pick E (eqb b 123) _ _ (λ e. one 123 (omega arith) e) (λ _.
-    pick E (eqb b 125) _ _ (λ e. one 125 (omega arith) e) (λ _.
-    pick E (eqb b 40) _ _ (λ e. one 40 (omega arith) e) (λ _.
-    pick E (eqb b 41) _ _ (λ e. one 41 (omega arith) e) (λ _.
-    pick E (eqb b 46) _ _ (λ e. one 46 (omega arith) e) (λ _.
-    pick E (eqb b 61) _ _ (λ e. one 61 (omega arith) e) (λ _.
-    pick E (eqb b 33) _ _ (λ e. one 33 (omega arith) e) (λ _.
-    pick E (eqb b 38) _ _ (λ _. twice_ends b 38 And rest u (omega arith)) (λ _.
-    pick E (eqb b 124) _ _ (λ _. twice_ends b 124 Or rest u (omega arith)) (λ _. IsCharBoundary-start _ u)))))))))
-
-use_ends : (b : ℕ) (rest : List ℕ) → IsUtf8 (b ∷ rest) → eqb b 36 ≡ true → Ends (b ∷ rest) (use_here rest)
-use_ends b rest u e =
-    let one = after_one b rest u 36 (omega arith) e in
-    let past = IsUtf8-drop (b ∷ rest) 1 u one in
-    pick (Ends (b ∷ rest)) (begins_macro rest) _ _
-    (λ _. IsCharBoundary-from_rest (b ∷ rest) 1 (prefix_len continues_name rest) (omega arith) (run_end continues_name name_ascii rest past _ refl))
-    (λ _. IsCharBoundary-start _ u)
-
-quoted_ends : (b : ℕ) (rest : List ℕ) → IsUtf8 (b ∷ rest) → b < 128 → (m : Option ℕ) → inside_len b false rest ≡ m → Ends (b ∷ rest) (option_map_or (λ n. scan (One (Quoted (quoted_value b (take n rest)))) (n + 2)) m (scan Unclosed 0))
-quoted_ends b rest u l None e = IsCharBoundary-start _ u
-quoted_ends b rest u l (Some n) e =
-    let f = inside_at b false rest n e in
+lexeme_cut : (bs : List ℕ) (lexeme : Lexeme) (n : ℕ) → IsLexeme bs lexeme n → IsUtf8 bs → IsCharBoundary bs n
+lexeme_cut _ _ _ (word b rest n e l) u =
+    run_end continues_word word_ascii (b ∷ rest) u n (longest_once continues_word (b ∷ rest) n _ l (prefix_longest continues_word (b ∷ rest)))
+lexeme_cut _ _ _ (quoted q rest value n e c s) u =
     let two : suc n + 1 ≡ n + 2 = omega arith in
-    let P : ℕ → Type 0 = λ i. IsCharBoundary (b ∷ rest) i in
-    subst P two (IsCharBoundary-after_ascii (b ∷ rest) (suc n) u (omega (arith, f.0)) (omega (arith, f.1)))
+    let at : get_or rest n 0 ≡ q = c.closes in
+    let low = quote_ascii q e in
+    let P : ℕ → Type 0 = λ i. IsCharBoundary (q ∷ rest) i in
+    subst P two (IsCharBoundary-after_ascii (q ∷ rest) (suc n) u (omega (arith, c.within)) (omega arith))
+lexeme_cut _ _ _ (uses b rest n e l) u =
+    let past = IsUtf8-drop (36 ∷ b ∷ rest) 1 u (after_one 36 (b ∷ rest) (omega arith) u) in
+    IsCharBoundary-from_rest (36 ∷ b ∷ rest) 1 n (omega arith)
+    (run_end continues_name name_ascii (b ∷ rest) past n (longest_once continues_name (b ∷ rest) n _ l (prefix_longest continues_name (b ∷ rest))))
+lexeme_cut _ _ _ (sign s rest what h) u =
+    by_sign (λ s what. IsUtf8 (s ++ rest) → IsCharBoundary (s ++ rest) (length s)) (after_one 123 rest (omega arith)) (after_one 125 rest (omega arith))
+    (after_one 40 rest (omega arith)) (after_one 41 rest (omega arith)) (after_one 46 rest (omega arith)) (after_one 61 rest (omega arith))
+    (after_one 33 rest (omega arith)) (after_two 38 rest (omega arith)) (after_two 124 rest (omega arith)) s what h u
 
--- Each lexeme ends where a text may be cut.
+-- A text may be cut after a lexeme.
 pub lexeme_ends : (bs : List ℕ) → IsUtf8 bs → IsCharBoundary bs (lexeme_here bs).len
-unfolding lexeme_here
-lexeme_ends [] u = IsCharBoundary-start _ u
-lexeme_ends (b ∷ rest) u =
-    let E = Ends (b ∷ rest) in
-    pick E (begins_word b) _ _ (λ _. run_end continues_word word_ascii (b ∷ rest) u _ refl) (λ _.
-    pick E (is_quote b) _ _ (λ e. quoted_ends b rest u (quote_ascii b e) _ refl) (λ _.
-    pick E (eqb b 36) _ _ (λ e. use_ends b rest u e) (λ _. sign_ends b rest u)))
+lexeme_ends bs u = by_reads (lexeme_here bs) (reads bs)
+  where
+    at_start : (n : ℕ) → n ≡ 0 → IsCharBoundary bs n
+    at_start n e = let P : ℕ → Type 0 = λ i. IsCharBoundary bs i in subst P (sym e) (IsCharBoundary-start bs u)
+    by_reads : (s : Scan) → Reads bs s → IsCharBoundary bs s.len
+    by_reads s (at_end none lexeme len) = at_start s.len len
+    by_reads s (an_lexeme i) = lexeme_cut bs s.lexeme s.len i u
+    by_reads s (no_lexeme none last len unclosed) = at_start s.len len
 
 -- After a lexeme.
 pub lexeme_boundary : (text : List ℕ) (n : ℕ) → IsUtf8 text → n ≡ (lexeme_here text).len → IsCharBoundary text n

@@ -1,26 +1,24 @@
 -- The tokens of a text end once.
-use Rattle.std.proofs.Common.{◌≡◌, ℕ, zero, suc, ◌+◌, ◌<◌, Bool, true, false, cond, ltb}
-use Rattle.std.proofs.Common.{◌||◌, List, [], ◌∷◌, ◌++◌, length, map, Option, Some, None}
-use Rattle.std.proofs.Common.{option_map, Result, Ok, Err, refl, sym, ◌∙◌, ap, subst, arith}
+use Rattle.std.proofs.Common.{◌≡◌, ℕ, ◌+◌, Bool, true, false, cond, ltb, ◌||◌, List, [], ◌∷◌, ◌++◌, length, map}
+use Rattle.std.proofs.Common.{Option, Some, None, option_map, Result, Ok, Err, refl, sym, ◌∙◌, ap, subst}
 use Rattle.std.specs.Prelude.{is_some}
 use Rattle.std.specs.Option.{option_map_or}
 use Rattle.std.specs.Str.{bytes_eq}
 use Rattle.ifs_base.specs.declared.span.Span.{Span}
 use Rattle.ifs_base.specs.Results.{◌>>=◌}
 use Rattle.ifs_lex.specs.declared.token.What.{What}
-use Rattle.ifs_lex.specs.declared.token.What.TheVariants.{Word, Quoted, BraceOpen, BraceClose, ParenOpen}
-use Rattle.ifs_lex.specs.declared.token.What.TheVariants.{ParenClose, Dot, Equals, Bang, And, Or, End}
+use Rattle.ifs_lex.specs.declared.token.What.TheVariants.{Word, Equals, End}
 use Rattle.ifs_lex.specs.declared.token.Token.{Token}
 use Rattle.ifs_lex.specs.declared.fault.LexFault.{LexFault}
 use Rattle.ifs_lex.specs.declared.fault.LexFault.TheVariants.{OverLimit, BadMacro}
-use Rattle.ifs_lex.specs.Lexemes.{Lexeme, One, Uses, Stray, Unclosed, TextCursor, Spanned, lexeme_at}
-use Rattle.ifs_lex.specs.Lexemes.{after_lexeme, is_last, lexemes_at, lexemes_of, start}
-use Rattle.ifs_lex.specs.Expansion.{Macro, Macros, no_macros, with_macro, whats_of, joined, value_from}
-use Rattle.ifs_lex.specs.Expansion.{value_of, is_given, known_as, defined, macro_name_of, Expanded, expanded, token}
-use Rattle.ifs_lex.specs.Expansion.{with_whats, with_use, with_lexeme, tokens_after, segments_from, given_one}
-use Rattle.ifs_lex.specs.Expansion.{given_from, tokens_of, is_end, Endless, EndsOnce, HasTokens}
-use Rattle.ifs_lex.specs.inner.Turns.{text_here, definition_here, after_definition, with_turn}
-use Rattle.ifs_lex.proofs.Segments.{turn_is, ending, turn_smaller}
+use Rattle.ifs_lex.specs.Lexemes.{Lexeme, One, Uses, TextCursor, Spanned, lexeme_at, after_lexeme, is_last}
+use Rattle.ifs_lex.specs.Lexemes.{lexemes_of}
+use Rattle.ifs_lex.specs.Expansion.{Macro, Macros, no_macros, with_macro, whats_of, joined, value_from, value_of}
+use Rattle.ifs_lex.specs.Expansion.{is_given, known_as, defined, macro_name_of, Expanded, expanded, token, with_whats}
+use Rattle.ifs_lex.specs.Expansion.{with_use, with_lexeme, given_one, given_from, tokens_of, is_end, Endless}
+use Rattle.ifs_lex.specs.Expansion.{EndsOnce, HasTokens}
+use Rattle.ifs_lex.specs.inner.Turns.{text_here, with_turn}
+use Rattle.ifs_lex.proofs.Walks.{definition_next, spelled_walked}
 
 -- A result without a fault.
 abbrev fine : {A : Type 0} → A → Result A LexFault
@@ -66,19 +64,9 @@ known_value (Some known) ws f h =
 lexeme_value : (m : Macros) (i : Lexeme) (ws : List What) → Sound m → whats_of m i ≡ Some ws → Values ws
 lexeme_value m (One Equals) ws g h = absurd (cc)
 lexeme_value m (One End) ws g h = no_value ws h
-lexeme_value m (One (Word text)) ws g h = one_value _ ws refl h
-lexeme_value m (One (Quoted text)) ws g h = one_value _ ws refl h
-lexeme_value m (One BraceOpen) ws g h = one_value _ ws refl h
-lexeme_value m (One BraceClose) ws g h = one_value _ ws refl h
-lexeme_value m (One ParenOpen) ws g h = one_value _ ws refl h
-lexeme_value m (One ParenClose) ws g h = one_value _ ws refl h
-lexeme_value m (One Dot) ws g h = one_value _ ws refl h
-lexeme_value m (One Bang) ws g h = one_value _ ws refl h
-lexeme_value m (One And) ws g h = one_value _ ws refl h
-lexeme_value m (One Or) ws g h = one_value _ ws refl h
+lexeme_value m (One _) ws g h = one_value _ ws refl h
 lexeme_value m (Uses name) ws g h = known_value (m.known name) ws (g.values name) h
-lexeme_value m Stray ws g h = absurd (cc)
-lexeme_value m Unclosed ws g h = absurd (cc)
+lexeme_value m _ ws g h = absurd (cc)
 
 cut_value : (t : Bool) (whole ws : List What) → Values whole → cond t None (Some whole) ≡ Some ws → Values ws
 cut_value true whole ws v h = absurd (cc)
@@ -160,20 +148,9 @@ one_going span what s next g e h = whats_going span (what ∷ []) s next g (one_
 
 lexeme_going : (span : Span) (i : Lexeme) (s next : Expanded) → Going s → is_last i ≡ false → with_lexeme span i s ≡ Ok next → Going next
 lexeme_going span (One End) s next g l h = absurd (cc)
-lexeme_going span (One (Word text)) s next g l h = one_going span _ s next g refl h
-lexeme_going span (One (Quoted text)) s next g l h = one_going span _ s next g refl h
-lexeme_going span (One BraceOpen) s next g l h = one_going span _ s next g refl h
-lexeme_going span (One BraceClose) s next g l h = one_going span _ s next g refl h
-lexeme_going span (One ParenOpen) s next g l h = one_going span _ s next g refl h
-lexeme_going span (One ParenClose) s next g l h = one_going span _ s next g refl h
-lexeme_going span (One Dot) s next g l h = one_going span _ s next g refl h
-lexeme_going span (One Equals) s next g l h = one_going span _ s next g refl h
-lexeme_going span (One Bang) s next g l h = one_going span _ s next g refl h
-lexeme_going span (One And) s next g l h = one_going span _ s next g refl h
-lexeme_going span (One Or) s next g l h = one_going span _ s next g refl h
+lexeme_going span (One _) s next g l h = one_going span _ s next g refl h
 lexeme_going span (Uses name) s next g l h = use_going span (s.macros.known name) s next g (g.macros.values name) h
-lexeme_going span Stray s next g l h = absurd (cc)
-lexeme_going span Unclosed s next g l h = absurd (cc)
+lexeme_going span _ s next g l h = absurd (cc)
 
 macros_going : (s next : Expanded) (r : Result Macros LexFault) → Going s → ((m : Macros) → r ≡ Ok m → Sound m) → (r >>= λ m. Ok (expanded s.tokens m)) ≡ Ok next → Going next
 macros_going s next (Err fault) g f h = absurd (cc)
@@ -200,46 +177,22 @@ end_once span s next ts g h k =
     }
 
 pub no_definition : (i : Lexeme) → is_last i ≡ true → macro_name_of i ≡ None
-no_definition (One End) l = refl
-no_definition (One _) l = absurd (cc)
-no_definition (Uses _) l = absurd (cc)
-no_definition Stray l = refl
-no_definition Unclosed l = refl
+no_definition (One (Word _)) l = absurd (cc)
+no_definition _ l = refl
 
 last_once : (span : Span) (i : Lexeme) (s next : Expanded) (ts : List Token) → Going s → is_last i ≡ true → with_lexeme span i s ≡ Ok next → fine next.tokens ≡ Ok ts → EndsOnce ts
 last_once span (One End) s next ts g l h k = end_once span s next ts g h k
-last_once span (One _) s next ts g l h k = absurd (cc)
-last_once span (Uses _) s next ts g l h k = absurd (cc)
-last_once span Stray s next ts g l h k = absurd (cc)
-last_once span Unclosed s next ts g l h k = absurd (cc)
+last_once span _ s next ts g l h k = absurd (cc)
 
--- The cursor after the next segment.
-next_place : TextCursor → TextCursor
-next_place p = after_definition (after_lexeme p) (is_some (definition_here (after_lexeme p) (lexeme_at p).lexeme))
-
-ends_here : (s next : Expanded) (p : TextCursor) (ts : List Token) → Going s → is_last (lexeme_at p).lexeme ≡ true → with_turn (lexeme_at p) (definition_here (after_lexeme p) (lexeme_at p).lexeme) s ≡ Ok next → fine next.tokens ≡ Ok ts → EndsOnce ts
-ends_here s next p ts g l e k =
+ends_here : (s next : Expanded) (p : TextCursor) → Going s → is_last (lexeme_at p).lexeme ≡ true → with_turn (lexeme_at p) (definition_next p) s ≡ Ok next → EndsOnce next.tokens
+ends_here s next p g l e =
     let none = no_definition (lexeme_at p).lexeme l in
     let found : Option (List ℕ) → Option (List ℕ × List ℕ) = λ o. option_map_or (λ name. option_map (λ text. (name, text)) (text_here (after_lexeme p))) o None in
-    last_once (lexeme_at p).span (lexeme_at p).lexeme s next ts g l (sym (ap (λ o. with_turn (lexeme_at p) (found o) s) none) ∙ e) k
+    last_once (lexeme_at p).span (lexeme_at p).lexeme s next next.tokens g l (sym (ap (λ o. with_turn (lexeme_at p) (found o) s) none) ∙ e) refl
 
-goes_here : (last : Bool) (s next : Expanded) (p : TextCursor) (ts : List Token) → Going s → is_last (lexeme_at p).lexeme ≡ last → with_turn (lexeme_at p) (definition_here (after_lexeme p) (lexeme_at p).lexeme) s ≡ Ok next → ending last (next_place p) next ≡ Ok ts → (is_last (lexeme_at p).lexeme ≡ false → Going next → tokens_after next (segments_from 0 (lexemes_at (next_place p))) ≡ Ok ts → EndsOnce ts) → EndsOnce ts
-unfolding ending
-goes_here true s next p ts g l e k rest = ends_here s next p ts g l e k
-goes_here false s next p ts g l e k rest = rest l (turn_going (lexeme_at p) _ s next g l e) k
-
-by_turn : (w : Result Expanded LexFault) (s : Expanded) (p : TextCursor) (ts : List Token) → Going s → with_turn (lexeme_at p) (definition_here (after_lexeme p) (lexeme_at p).lexeme) s ≡ w → (w >>= ending (is_last (lexeme_at p).lexeme) (next_place p)) ≡ Ok ts → ((next : Expanded) → is_last (lexeme_at p).lexeme ≡ false → Going next → tokens_after next (segments_from 0 (lexemes_at (next_place p))) ≡ Ok ts → EndsOnce ts) → EndsOnce ts
-by_turn (Err fault) s p ts g e k rest = absurd (cc)
-by_turn (Ok next) s p ts g e k rest = goes_here _ s next p ts g refl e k (rest next)
-
-ends_from : (n : ℕ) (s : Expanded) (p : TextCursor) (ts : List Token) → length p.left < n → Going s → tokens_after s (segments_from 0 (lexemes_at p)) ≡ Ok ts → EndsOnce ts
-unfolding next_place
-ends_from zero s p ts l g h = absurd (omega arith)
-ends_from (suc n) s p ts l g h =
-    by_turn _ s p ts g refl (sym (turn_is s p) ∙ h)
-    (λ next last going k.
-    let less = turn_smaller p (after_lexeme p) (next_place p) (lexeme_at p).lexeme _ refl refl refl last in
-    ends_from n next (next_place p) ts (omega arith) going k)
+goes_here : (s next : Expanded) (p : TextCursor) (ts : List Token) → Going s → is_last (lexeme_at p).lexeme ≡ false → with_turn (lexeme_at p) (definition_next p) s ≡ Ok next
+    → (Going next → EndsOnce ts) → EndsOnce ts
+goes_here s next p ts g l e rest = rest (turn_going (lexeme_at p) _ s next g l e)
 
 given_case : (t : Bool) (name value : List ℕ) (m n : Macros) → Sound m → cond t (defined 0 true name value m) (Err (BadMacro 0)) ≡ Ok n → Sound n
 given_case true name value m n g h = defined_sound 0 true name value m n g h
@@ -257,19 +210,10 @@ given_sound (def ∷ rest) m n g h =
 none_sound : Sound no_macros
 none_sound = record { values = λ name known h. absurd (cc) }
 
-text_ends : (t : Bool) (m : Macros) (text : List ℕ) (ts : List Token) → Sound m → cond t (Err (OverLimit 1)) (tokens_after (expanded [] m) (segments_from 0 (lexemes_of text))) ≡ Ok ts → EndsOnce ts
-text_ends true m text ts g h = absurd (cc)
-text_ends false m text ts g h =
-    ends_from (suc (length text)) (expanded [] m) (start text) ts (omega arith) (record { tokens = tt; macros = g }) h
-
-all_end : (r : Result Macros LexFault) (text : List ℕ) (ts : List Token) → ((m : Macros) → r ≡ Ok m → Sound m) → (r >>= λ m. cond (ltb 1048576 (length text)) (Err (OverLimit 1)) (tokens_after (expanded [] m) (segments_from 0 (lexemes_of text)))) ≡ Ok ts → EndsOnce ts
-all_end (Err fault) text ts f h = absurd (cc)
-all_end (Ok m) text ts f h = text_ends _ m text ts (f m refl) h
-
 -- The tokens of a text end once.
 pub spelled_ends_once : (text : List ℕ) (defs : List (List ℕ × List ℕ)) (ts : List Token) → HasTokens text defs ts → EndsOnce ts
-unfolding tokens_of
-spelled_ends_once text defs ts h = all_end _ text ts (λ m e. given_sound defs no_macros m none_sound e) h
+spelled_ends_once text defs ts h =
+    spelled_walked Going (λ p ts. EndsOnce ts) ends_here goes_here text defs ts (λ m e. record { tokens = tt; macros = given_sound defs no_macros m none_sound e }) h
 
 -- A text spells one list of tokens.
 pub spelled_once : (text : List ℕ) (defs : List (List ℕ × List ℕ)) (ts us : List Token) → HasTokens text defs ts → HasTokens text defs us → ts ≡ us

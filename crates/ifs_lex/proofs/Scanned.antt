@@ -1,6 +1,7 @@
 -- The lexeme that the lexer reads is the one of the relation.
-use Rattle.std.proofs.Common.{◌≡◌, ℕ, ◌+◌, ◌≤◌, Bool, true, false, cond, eqb, ◌&&◌, List, [], ◌∷◌, ◌++◌, length}
+use Rattle.std.proofs.Common.{◌≡◌, ℕ, zero, suc, ◌+◌, ◌<◌, ◌≤◌, Bool, true, false, cond, eqb, ◌&&◌, List, [], ◌∷◌, ◌++◌, length}
 use Rattle.std.proofs.Common.{take, Option, Some, None, refl, sym, ◌∙◌, ap, subst, arith, length-append}
+use Rattle.std.specs.Prelude.{codes}
 use Rattle.std.specs.List.{prefix_len}
 use Rattle.std.specs.Option.{option_map_or}
 use Rattle.std.proofs.lemmas.Bool.{eqb-true}
@@ -14,50 +15,46 @@ use Rattle.ifs_lex.specs.Lexemes.{Lexeme, One, Uses, Stray, Unclosed, Scan, scan
 use Rattle.ifs_lex.specs.Lexemes.{inside_len}
 use Rattle.ifs_lex.specs.Lexemes.{quoted_value, word_here, quoted_here, use_here, twice, sign_here, lexeme_here}
 use Rattle.ifs_lex.specs.Spelling.{IsSign, brace_open, brace_close, paren_open, paren_close, point, equals}
-use Rattle.ifs_lex.specs.Spelling.{bang, conjunction, disjunction, IsLexeme, word, quoted, uses, sign}
-use Rattle.ifs_lex.proofs.Spelt.{prefix_longest, longest_once, says, said, closes, closed}
+use Rattle.ifs_lex.specs.Spelling.{bang, conjunction, disjunction, Longest, Closes, IsLexeme, word, quoted, uses, sign}
+use Rattle.ifs_lex.specs.Stuck.{IsUnclosed}
+use Rattle.ifs_lex.proofs.Spelt.{true_false, prefix_longest, longest_once, says, said, closes, closed}
 use Rattle.ifs_lex.proofs.Gaps.{no_gap}
 
-word_not_hash : (b : ℕ) → begins_word b ≡ true → eqb b 35 ≡ false
-word_not_hash b h = grind (arith, nat_tests)
+-- A byte that begins neither a comment, nor a blank, nor a joined line.
+abbrev BeginsNoGap : ℕ → Type 0
+BeginsNoGap b = (eqb b 35 ≡ false) × (is_blank b ≡ false) × (eqb b 92 ≡ false)
 
-word_not_blank : (b : ℕ) → begins_word b ≡ true → is_blank b ≡ false
-word_not_blank b h = grind (arith, nat_tests)
+word_apart : (b : ℕ) → begins_word b ≡ true → BeginsNoGap b
+word_apart b h = (grind (arith, nat_tests), grind (arith, nat_tests), grind (arith, nat_tests))
 
-word_not_backslash : (b : ℕ) → begins_word b ≡ true → eqb b 92 ≡ false
-word_not_backslash b h = grind (arith, nat_tests)
+quote_apart : (b : ℕ) → is_quote b ≡ true → BeginsNoGap b
+quote_apart b h = (grind (arith, nat_tests), grind (arith, nat_tests), grind (arith, nat_tests))
+
+no_gap_at : (b : ℕ) (rest : List ℕ) → BeginsNoGap b → gap_len Blanks (b ∷ rest) ≡ 0
+no_gap_at b rest h = no_gap b rest h.0 h.1 (ap (λ t. t && begins_with 10 rest) h.2)
 
 quote_not_word : (b : ℕ) → is_quote b ≡ true → begins_word b ≡ false
 quote_not_word b h = grind (arith, nat_tests)
 
-quote_not_hash : (b : ℕ) → is_quote b ≡ true → eqb b 35 ≡ false
-quote_not_hash b h = grind (arith, nat_tests)
-
-quote_not_blank : (b : ℕ) → is_quote b ≡ true → is_blank b ≡ false
-quote_not_blank b h = grind (arith, nat_tests)
-
-quote_not_backslash : (b : ℕ) → is_quote b ≡ true → eqb b 92 ≡ false
-quote_not_backslash b h = grind (arith, nat_tests)
-
-sign_no_gap : (s rest : List ℕ) (what : What) → IsSign s what → gap_len Blanks (s ++ rest) ≡ 0
-sign_no_gap _ rest _ brace_open = refl
-sign_no_gap _ rest _ brace_close = refl
-sign_no_gap _ rest _ paren_open = refl
-sign_no_gap _ rest _ paren_close = refl
-sign_no_gap _ rest _ point = refl
-sign_no_gap _ rest _ equals = refl
-sign_no_gap _ rest _ bang = refl
-sign_no_gap _ rest _ conjunction = refl
-sign_no_gap _ rest _ disjunction = refl
+-- What holds of each sign holds of signs.
+pub by_sign : (P : List ℕ → What → Type 0) → P (codes "{") BraceOpen → P (codes "}") BraceClose → P (codes "(") ParenOpen → P (codes ")") ParenClose → P (codes ".") Dot
+    → P (codes "=") Equals → P (codes "!") Bang → P (codes "&&") And → P (codes "||") Or → (s : List ℕ) (what : What) → IsSign s what → P s what
+by_sign P a b c d e f g h i _ _ brace_open = a
+by_sign P a b c d e f g h i _ _ brace_close = b
+by_sign P a b c d e f g h i _ _ paren_open = c
+by_sign P a b c d e f g h i _ _ paren_close = d
+by_sign P a b c d e f g h i _ _ point = e
+by_sign P a b c d e f g h i _ _ equals = f
+by_sign P a b c d e f g h i _ _ bang = g
+by_sign P a b c d e f g h i _ _ conjunction = h
+by_sign P a b c d e f g h i _ _ disjunction = i
 
 -- No gap comes before a lexeme.
 pub lexeme_no_gap : (bs : List ℕ) (lexeme : Lexeme) (n : ℕ) → IsLexeme bs lexeme n → gap_len Blanks bs ≡ 0
-lexeme_no_gap _ _ _ (word b rest n e l) =
-    no_gap b rest (word_not_hash b e) (word_not_blank b e) (ap (λ t. t && begins_with 10 rest) (word_not_backslash b e))
-lexeme_no_gap _ _ _ (quoted q rest value n e c s) =
-    no_gap q rest (quote_not_hash q e) (quote_not_blank q e) (ap (λ t. t && begins_with 10 rest) (quote_not_backslash q e))
+lexeme_no_gap _ _ _ (word b rest n e l) = no_gap_at b rest (word_apart b e)
+lexeme_no_gap _ _ _ (quoted q rest value n e c s) = no_gap_at q rest (quote_apart q e)
 lexeme_no_gap _ _ _ (uses b rest n e l) = refl
-lexeme_no_gap _ _ _ (sign s rest what h) = sign_no_gap s rest what h
+lexeme_no_gap _ _ _ (sign s rest what h) = by_sign (λ s what. gap_len Blanks (s ++ rest) ≡ 0) refl refl refl refl refl refl refl refl refl s what h
 
 -- A lexeme is within its bytes.
 pub lexeme_within : (bs : List ℕ) (lexeme : Lexeme) (n : ℕ) → IsLexeme bs lexeme n → n ≤ length bs
@@ -66,23 +63,27 @@ lexeme_within _ _ _ (quoted q rest value n e c s) = omega (arith, c.within)
 lexeme_within _ _ _ (uses b rest n e l) = omega (arith, l.within)
 lexeme_within _ _ _ (sign s rest what h) = let l = length-append s rest in omega arith
 
-sign_not_last : (s : List ℕ) (what : What) → IsSign s what → is_last (One what) ≡ false
-sign_not_last _ _ brace_open = refl
-sign_not_last _ _ brace_close = refl
-sign_not_last _ _ paren_open = refl
-sign_not_last _ _ paren_close = refl
-sign_not_last _ _ point = refl
-sign_not_last _ _ equals = refl
-sign_not_last _ _ bang = refl
-sign_not_last _ _ conjunction = refl
-sign_not_last _ _ disjunction = refl
+word_goes_on : (b : ℕ) → begins_word b ≡ true → continues_word b ≡ true
+word_goes_on b e = rw e refl
+
+longest_some : (p : ℕ → Bool) (b : ℕ) (rest : List ℕ) (n : ℕ) → p b ≡ true → Longest p (b ∷ rest) n → 0 < n
+longest_some p b rest zero e l = absurd (true_false _ _ e (l.stops (omega arith)) refl)
+longest_some p b rest (suc n) e l = omega arith
+
+-- A lexeme has a byte.
+pub lexeme_some : (bs : List ℕ) (lexeme : Lexeme) (n : ℕ) → IsLexeme bs lexeme n → 0 < n
+lexeme_some _ _ _ (word b rest n e l) = longest_some continues_word b rest n (word_goes_on b e) l
+lexeme_some _ _ _ (quoted q rest value n e c s) = omega arith
+lexeme_some _ _ _ (uses b rest n e l) = omega arith
+lexeme_some _ _ _ (sign s rest what h) =
+    by_sign (λ s what. 0 < length s) (omega arith) (omega arith) (omega arith) (omega arith) (omega arith) (omega arith) (omega arith) (omega arith) (omega arith) s what h
 
 -- A lexeme of the relation is not the last one.
 pub lexeme_not_last : (bs : List ℕ) (lexeme : Lexeme) (n : ℕ) → IsLexeme bs lexeme n → is_last lexeme ≡ false
 lexeme_not_last _ _ _ (word b rest n e l) = refl
 lexeme_not_last _ _ _ (quoted q rest value n e c s) = refl
 lexeme_not_last _ _ _ (uses b rest n e l) = refl
-lexeme_not_last _ _ _ (sign s rest what h) = sign_not_last s what h
+lexeme_not_last _ _ _ (sign s rest what h) = by_sign (λ s what. is_last (One what) ≡ false) refl refl refl refl refl refl refl refl refl s what h
 
 here_word : (b : ℕ) (rest : List ℕ) → begins_word b ≡ true → lexeme_here (b ∷ rest) ≡ word_here (b ∷ rest)
 unfolding lexeme_here
@@ -102,15 +103,7 @@ here_use b rest e =
 
 here_sign : (s rest : List ℕ) (what : What) → IsSign s what → lexeme_here (s ++ rest) ≡ scan (One what) (length s)
 unfolding lexeme_here
-here_sign _ rest _ brace_open = refl
-here_sign _ rest _ brace_close = refl
-here_sign _ rest _ paren_open = refl
-here_sign _ rest _ paren_close = refl
-here_sign _ rest _ point = refl
-here_sign _ rest _ equals = refl
-here_sign _ rest _ bang = refl
-here_sign _ rest _ conjunction = refl
-here_sign _ rest _ disjunction = refl
+here_sign s rest what h = by_sign (λ s what. lexeme_here (s ++ rest) ≡ scan (One what) (length s)) refl refl refl refl refl refl refl refl refl s what h
 
 -- The lexer reads the lexeme that comes first.
 pub lexeme_only : (bs : List ℕ) (lexeme : Lexeme) (n : ℕ) → IsLexeme bs lexeme n → lexeme_here bs ≡ scan lexeme n
@@ -130,17 +123,21 @@ lexeme_only _ _ _ (sign s rest what h) = here_sign s rest what h
 pub data Reads (bytes : List ℕ) (s : Scan) : Type 0 where
   at_end : bytes ≡ [] → s.lexeme ≡ One End → s.len ≡ 0 → Reads bytes s
   an_lexeme : IsLexeme bytes s.lexeme s.len → Reads bytes s
-  no_lexeme : (s.lexeme ≡ One End → ⊥) → is_last s.lexeme ≡ true → Reads bytes s
+  no_lexeme : (s.lexeme ≡ One End → ⊥) → is_last s.lexeme ≡ true → s.len ≡ 0 → (s.lexeme ≡ Unclosed → IsUnclosed bytes) → Reads bytes s
 
 pick : (P : Scan → Type 0) (t : Bool) (x y : Scan) → (t ≡ true → P x) → (t ≡ false → P y) → P (cond t x y)
 pick P true x y first second = first refl
 pick P false x y first second = second refl
 
 stray : (bs : List ℕ) → Reads bs (scan Stray 0)
-stray bs = no_lexeme (λ h. cc) refl
+stray bs = no_lexeme (λ h. cc) refl refl (λ h. absurd (cc))
+
+none_closes : (q : ℕ) (rest : List ℕ) → inside_len q false rest ≡ None → (n : ℕ) → ¬ Closes q false rest n
+none_closes q rest e n c = let h = sym e ∙ closed q false rest n c in absurd (cc)
 
 quoted_reads : (q : ℕ) (rest : List ℕ) → is_quote q ≡ true → (m : Option ℕ) → inside_len q false rest ≡ m → Reads (q ∷ rest) (option_map_or (λ n. scan (One (Quoted (quoted_value q (take n rest)))) (n + 2)) m (scan Unclosed 0))
-quoted_reads q rest u None e = no_lexeme (λ h. cc) refl
+quoted_reads q rest u None e =
+    no_lexeme (λ h. cc) refl refl (λ h. record { quote = q; rest = rest; begins = refl; opens = u; unclosed = none_closes q rest e })
 quoted_reads q rest u (Some n) e =
     an_lexeme (quoted q rest (quoted_value q (take n rest)) n u (closes q false rest n e) (says q (take n rest) u))
 

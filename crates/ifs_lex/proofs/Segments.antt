@@ -4,11 +4,10 @@ use Rattle.std.proofs.Common.{option_map, Result, Ok, Err, refl, sym, ◌∙◌,
 use Rattle.std.specs.Prelude.{is_some}
 use Rattle.std.specs.Option.{option_map_or}
 use Rattle.ifs_base.specs.Results.{◌>>=◌}
-use Rattle.ifs_lex.specs.declared.token.What.TheVariants.{End}
+use Rattle.ifs_lex.specs.declared.token.What.TheVariants.{Word, Quoted, Equals}
 use Rattle.ifs_lex.specs.declared.token.Token.{Token}
 use Rattle.ifs_lex.specs.declared.fault.LexFault.{LexFault}
-use Rattle.ifs_lex.specs.Lexemes.{Lexeme, One, Uses, Stray, Unclosed, TextCursor, Spanned, lexeme_at, after_lexeme}
-use Rattle.ifs_lex.specs.Lexemes.{is_last, lexemes_at}
+use Rattle.ifs_lex.specs.Lexemes.{Lexeme, One, TextCursor, Spanned, lexeme_at, after_lexeme, is_last, lexemes_at}
 use Rattle.ifs_lex.specs.Expansion.{Segment, Defines, Stands, Expanded, macro_name_of, is_equals, macro_text_of}
 use Rattle.ifs_lex.specs.Expansion.{given_text, segments_from, with_lexeme, with_segment, tokens_after}
 use Rattle.ifs_lex.specs.inner.Turns.{text_here, definition_here, after_definition, with_turn}
@@ -19,25 +18,17 @@ some_same f None = refl
 some_same f (Some x) = refl
 
 name_last : (i : Lexeme) (n : List ℕ) → macro_name_of i ≡ Some n → is_last i ≡ false
-name_last (One End) n h = absurd (cc)
-name_last (One _) n h = refl
-name_last (Uses _) n h = refl
-name_last Stray n h = absurd (cc)
-name_last Unclosed n h = absurd (cc)
+name_last (One (Word _)) n h = refl
+name_last _ n h = absurd (cc)
 
 pub equals_last : (i : Lexeme) → is_equals i ≡ true → is_last i ≡ false
-equals_last (One End) h = absurd (cc)
-equals_last (One _) h = refl
-equals_last (Uses _) h = refl
-equals_last Stray h = absurd (cc)
-equals_last Unclosed h = absurd (cc)
+equals_last (One Equals) h = refl
+equals_last _ h = absurd (cc)
 
 pub text_last : (i : Lexeme) (t : List ℕ) → macro_text_of i ≡ Some t → is_last i ≡ false
-text_last (One End) t h = absurd (cc)
-text_last (One _) t h = refl
-text_last (Uses _) t h = refl
-text_last Stray t h = absurd (cc)
-text_last Unclosed t h = absurd (cc)
+text_last (One (Word _)) t h = refl
+text_last (One (Quoted _)) t h = refl
+text_last _ t h = absurd (cc)
 
 -- The lexemes after the next one, if it is not the last.
 after : TextCursor → List Spanned

@@ -74,8 +74,8 @@ found_turn text more at gap s true g l (at_end none lexeme len) e ih h = found_e
 found_turn text more at gap s false g l (at_end none lexeme len) e ih h = absurd (true_false _ _ (ap is_last lexeme) e refl)
 found_turn text more at gap s true g l (an_lexeme i) e ih h = absurd (true_false _ _ e (lexeme_not_last _ _ _ i) refl)
 found_turn text more at gap s false g l (an_lexeme i) e ih h = found_lexeme text more at gap s g l i e ih h
-found_turn text more at gap s true g l (no_lexeme none last) e ih h = absurd (none h)
-found_turn text more at gap s false g l (no_lexeme none last) e ih h = absurd (true_false _ _ last e refl)
+found_turn text more at gap s true g l (no_lexeme none last len unclosed) e ih h = absurd (none h)
+found_turn text more at gap s false g l (no_lexeme none last len unclosed) e ih h = absurd (true_false _ _ last e refl)
 
 pub found_from : (text : List ℕ) (most at : ℕ) → at ≤ length text → Ended (lexemes_from most (cursor text at)) → Spelling text at (lexemes_from most (cursor text at))
 found_from text zero at l h = absurd h

@@ -2,19 +2,14 @@
 use Rattle.std.proofs.Common.{◌≡◌, ℕ, zero, suc, ◌+◌, Bool, true, false, cond, eqb, ◌&&◌, not}
 use Rattle.std.proofs.Common.{List, [], ◌∷◌, ◌++◌, length, take, drop, Option, Some, None}
 use Rattle.std.proofs.Common.{refl, sym, ◌∙◌, ap, subst, arith, drop-drop, ◌⊎◌, inl, inr}
-use Rattle.std.specs.List.{prefix_len}
 use Rattle.std.specs.Option.{option_map_or}
-use Rattle.ifs_lex.specs.declared.token.What.{What}
-use Rattle.ifs_lex.specs.declared.token.What.TheVariants.{Word, Quoted, BraceOpen, BraceClose, ParenOpen}
-use Rattle.ifs_lex.specs.declared.token.What.TheVariants.{ParenClose, Dot, Equals, Bang, And, Or, End}
+use Rattle.ifs_lex.specs.declared.token.What.TheVariants.{Quoted, End}
 use Rattle.ifs_lex.specs.Lexemes.{Gap}
 use Rattle.ifs_lex.specs.Lexemes.{Blanks, Comment}
 use Rattle.ifs_lex.specs.declared.fault.LexFault.{LexFault}
 use Rattle.ifs_lex.specs.declared.fault.LexFault.TheVariants as lexing
-use Rattle.ifs_lex.specs.Characters.{is_quote, begins_word, continues_word, continues_name}
-use Rattle.ifs_lex.specs.Lexemes.{One, Uses, Stray, Unclosed, Scan, scan, is_last, begins_with}
-use Rattle.ifs_lex.specs.Lexemes.{begins_macro, gap_after, gap_len, inside_len, quoted_value, use_here}
-use Rattle.ifs_lex.specs.Lexemes.{twice, sign_here, lexeme_here, Spanned, lexemes_from, lexemes_at, lexemes_of}
+use Rattle.ifs_lex.specs.Lexemes.{One, Stray, Unclosed, Scan, scan, is_last, gap_after, gap_len, inside_len}
+use Rattle.ifs_lex.specs.Lexemes.{quoted_value, lexeme_here, Spanned, lexemes_from, lexemes_at, lexemes_of}
 use Rattle.ifs_lex.specs.Spelling.{Closes, IsGap, empty, blank, joined, comment}
 use Rattle.ifs_lex.specs.Spelling.{last_comment, IsLexeme, stands, Spelling, Ended}
 use Rattle.ifs_lex.specs.Stuck.{UpTo, gap_to, lexeme_to, IsUnclosed, FitsNothing, IsFaultAt, IsStuck, StuckWith}
@@ -66,60 +61,14 @@ open_read bytes h =
     ap lexeme_here h.begins ∙ here_quoted h.quote h.rest h.opens ∙
     ap (λ m. option_map_or (λ n. scan (One (Quoted (quoted_value h.quote (take n h.rest)))) (n + 2)) m (scan Unclosed 0)) (not_closed h.quote h.rest h.unclosed _ refl)
 
--- And nowhere else.
-abbrev Opens : List ℕ → Scan → Type 0
-Opens bytes s = s.lexeme ≡ Unclosed → IsUnclosed bytes
-
-pick : (P : Scan → Type 0) (t : Bool) (x y : Scan) → (t ≡ true → P x) → (t ≡ false → P y) → P (cond t x y)
-pick P true x y first second = first refl
-pick P false x y first second = second refl
-
-stray_opens : (bytes : List ℕ) → Opens bytes (scan Stray 0)
-stray_opens bytes e = absurd (cc)
-
-one_opens : (bytes : List ℕ) (what : What) (n : ℕ) → Opens bytes (scan (One what) n)
-one_opens bytes what n e = absurd (cc)
-
-uses_opens : (bytes name : List ℕ) (n : ℕ) → Opens bytes (scan (Uses name) n)
-uses_opens bytes name n e = absurd (cc)
-
-none_closes : (q : ℕ) (rest : List ℕ) → inside_len q false rest ≡ None → (n : ℕ) → ¬ Closes q false rest n
-none_closes q rest e n c = let h = sym e ∙ closed q false rest n c in absurd (cc)
-
-quoted_opens : (q : ℕ) (rest : List ℕ) → is_quote q ≡ true → (m : Option ℕ) → inside_len q false rest ≡ m
-    → Opens (q ∷ rest) (option_map_or (λ n. scan (One (Quoted (quoted_value q (take n rest)))) (n + 2)) m (scan Unclosed 0))
-quoted_opens q rest u None e h = record { quote = q; rest = rest; begins = refl; opens = u; unclosed = none_closes q rest e }
-quoted_opens q rest u (Some n) e h = absurd (cc)
-
-use_opens : (bytes rest : List ℕ) → Opens bytes (use_here rest)
-use_opens bytes rest =
-    let n = prefix_len continues_name rest in
-    pick (Opens bytes) (begins_macro rest) (scan (Uses (take n rest)) (1 + n)) (scan Stray 0) (λ _. uses_opens bytes (take n rest) (1 + n)) (λ _. stray_opens bytes)
-
-twice_opens : (bytes : List ℕ) (k : ℕ) (what : What) (rest : List ℕ) → Opens bytes (twice k what rest)
-twice_opens bytes k what rest = pick (Opens bytes) (begins_with k rest) _ _ (λ _. one_opens bytes what 2) (λ _. stray_opens bytes)
-
-sign_opens : (bytes : List ℕ) (b : ℕ) (rest : List ℕ) → Opens bytes (sign_here b rest)
-sign_opens bytes b rest =
-    let O = Opens bytes in
-    pick O (eqb b 123) _ _ (λ _. one_opens bytes BraceOpen 1) (λ _.
-    pick O (eqb b 125) _ _ (λ _. one_opens bytes BraceClose 1) (λ _.
-    pick O (eqb b 40) _ _ (λ _. one_opens bytes ParenOpen 1) (λ _.
-    pick O (eqb b 41) _ _ (λ _. one_opens bytes ParenClose 1) (λ _.
-    pick O (eqb b 46) _ _ (λ _. one_opens bytes Dot 1) (λ _.
-    pick O (eqb b 61) _ _ (λ _. one_opens bytes Equals 1) (λ _.
-    pick O (eqb b 33) _ _ (λ _. one_opens bytes Bang 1) (λ _.
-    pick O (eqb b 38) _ _ (λ _. twice_opens bytes 38 And rest) (λ _.
-    pick O (eqb b 124) _ _ (λ _. twice_opens bytes 124 Or rest) (λ _. stray_opens bytes)))))))))
-
-pub read_open : (bytes : List ℕ) → Opens bytes (lexeme_here bytes)
-unfolding lexeme_here
-read_open [] = one_opens [] End 0
-read_open (b ∷ rest) =
-    let O = Opens (b ∷ rest) in
-    pick O (begins_word b) _ _ (λ _. one_opens (b ∷ rest) (Word (take (prefix_len continues_word (b ∷ rest)) (b ∷ rest))) (prefix_len continues_word (b ∷ rest))) (λ _.
-    pick O (is_quote b) _ _ (λ e. quoted_opens b rest e _ refl) (λ _.
-    pick O (eqb b 36) _ _ (λ _. use_opens (b ∷ rest) rest) (λ _. sign_opens (b ∷ rest) b rest)))
+-- A quote is not closed if the lexer says so.
+pub read_open : (bytes : List ℕ) → (lexeme_here bytes).lexeme ≡ Unclosed → IsUnclosed bytes
+read_open bytes e = by_reads (reads bytes)
+  where
+    by_reads : Reads bytes (lexeme_here bytes) → IsUnclosed bytes
+    by_reads (at_end none lexeme len) = let clash : One End ≡ Unclosed = sym lexeme ∙ e in absurd (cc)
+    by_reads (an_lexeme i) = absurd (true_false _ _ (ap is_last e) (lexeme_not_last _ _ _ i) refl)
+    by_reads (no_lexeme none last len unclosed) = unclosed e
 
 -- Nothing fits where the lexer reads no lexeme.
 pub fits_nothing : (bytes : List ℕ) → gap_len Blanks bytes ≡ 0 → ((lexeme_here bytes).lexeme ≡ One End → ⊥) → is_last (lexeme_here bytes).lexeme ≡ true → FitsNothing bytes
@@ -136,7 +85,7 @@ nothing_read bytes h = by_reads (reads bytes)
     by_reads : Reads bytes (lexeme_here bytes) → (is_last (lexeme_here bytes).lexeme ≡ true) × ((lexeme_here bytes).lexeme ≡ One End → ⊥)
     by_reads (at_end none lexeme len) = absurd (h.goes_on none)
     by_reads (an_lexeme i) = absurd (h.no_lexeme _ _ i)
-    by_reads (no_lexeme none last) = (last, none)
+    by_reads (no_lexeme none last len unclosed) = (last, none)
 
 module _ (text : List ℕ) where
   -- The lexer reads the lexemes up to a place where nothing fits, and one that is none.
@@ -244,7 +193,7 @@ module _ (text : List ℕ) (fault : LexFault) where
       by_reads : Reads (drop (at + gap) text) s → IsLexeme (drop (at + gap) text) s.lexeme s.len
       by_reads (at_end k lexeme len) = absurd (true_false _ _ (ap is_last lexeme) l refl)
       by_reads (an_lexeme i) = i
-      by_reads (no_lexeme k last) = absurd (true_false _ _ last l refl)
+      by_reads (no_lexeme k last len unclosed) = absurd (true_false _ _ last l refl)
 
   stuck_from : (most at : ℕ) → ((end : ℕ) → Reaches text at end → Reaches text 0 end) → Tells fault (lexemes_from most (cursor text at)) → StuckWith text fault
   stuck_from zero at reach h = absurd h

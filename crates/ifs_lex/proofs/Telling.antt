@@ -7,8 +7,7 @@ use Rattle.std.specs.Option.{option_map_or}
 use Rattle.ifs_base.specs.declared.span.Span.{Span}
 use Rattle.ifs_base.specs.Results.{◌>>=◌}
 use Rattle.ifs_lex.specs.declared.token.What.{What}
-use Rattle.ifs_lex.specs.declared.token.What.TheVariants.{Word, Quoted, BraceOpen, BraceClose, ParenOpen}
-use Rattle.ifs_lex.specs.declared.token.What.TheVariants.{ParenClose, Dot, Equals, Bang, And, Or, End}
+use Rattle.ifs_lex.specs.declared.token.What.TheVariants.{End}
 use Rattle.ifs_lex.specs.declared.fault.LexFault.{LexFault}
 use Rattle.ifs_lex.specs.declared.fault.LexFault.TheVariants as lexing
 use Rattle.ifs_lex.specs.declared.fault.LexFault.TheVariants.{UnknownMacro}
@@ -63,17 +62,7 @@ ToldAs span i fault = ((i ≡ Stray) × (fault ≡ lexing.Stray span.line)) ⊎ 
 
 lexeme_fault : (span : Span) (i : Lexeme) (s : Expanded) (fault : LexFault) → OfLexemes fault → with_lexeme span i s ≡ Err fault → ToldAs span i fault
 lexeme_fault span (One End) s fault h e = absurd (cc)
-lexeme_fault span (One (Word text)) s fault h e = whats_fault span (Word text ∷ []) s fault h e
-lexeme_fault span (One (Quoted text)) s fault h e = whats_fault span (Quoted text ∷ []) s fault h e
-lexeme_fault span (One BraceOpen) s fault h e = whats_fault span (BraceOpen ∷ []) s fault h e
-lexeme_fault span (One BraceClose) s fault h e = whats_fault span (BraceClose ∷ []) s fault h e
-lexeme_fault span (One ParenOpen) s fault h e = whats_fault span (ParenOpen ∷ []) s fault h e
-lexeme_fault span (One ParenClose) s fault h e = whats_fault span (ParenClose ∷ []) s fault h e
-lexeme_fault span (One Dot) s fault h e = whats_fault span (Dot ∷ []) s fault h e
-lexeme_fault span (One Equals) s fault h e = whats_fault span (Equals ∷ []) s fault h e
-lexeme_fault span (One Bang) s fault h e = whats_fault span (Bang ∷ []) s fault h e
-lexeme_fault span (One And) s fault h e = whats_fault span (And ∷ []) s fault h e
-lexeme_fault span (One Or) s fault h e = whats_fault span (Or ∷ []) s fault h e
+lexeme_fault span (One what) s fault h e = whats_fault span (what ∷ []) s fault h e
 lexeme_fault span (Uses name) s fault h e = use_fault span (s.macros.known name) s fault h e
 lexeme_fault span Stray s fault h e = inl (refl, sym (inside_err (lexing.Stray span.line) fault e))
 lexeme_fault span Unclosed s fault h e = inr (refl, sym (inside_err (lexing.Unclosed span.line) fault e))
@@ -165,10 +154,9 @@ Known lexemes = Ended lexemes ⊎ ((fault : LexFault) × Tells fault lexemes)
 
 last_known : (p : Spanned) (i : Lexeme) → p.lexeme ≡ i → is_last i ≡ true → Known (p ∷ [])
 last_known p (One End) e l = inl e
-last_known p (One _) e l = absurd (cc)
-last_known p (Uses name) e l = absurd (cc)
 last_known p Stray e l = inr (lexing.Stray p.span.line, inl (told_stray e))
 last_known p Unclosed e l = inr (lexing.Unclosed p.span.line, inl (told_open e))
+last_known p _ e l = absurd (cc)
 
 more_known : (p : Spanned) (rest : List Spanned) → Known rest → Known (p ∷ rest)
 more_known p rest (inl h) = inl (ended_more p rest h)

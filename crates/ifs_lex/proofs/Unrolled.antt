@@ -1,80 +1,28 @@
 -- The lexemes from a cursor on: the next one, and those after it.
-use Rattle.std.proofs.Common.{◌≡◌, ℕ, zero, suc, ◌+◌, ◌<◌, ◌≤◌, Bool, true, false, cond, eqb, ltb, List, [], ◌∷◌}
-use Rattle.std.proofs.Common.{length, take, Option, Some, None, refl, sym, ◌∙◌, ap, arith, length-drop, rules, tests}
-use Rattle.std.specs.List.{prefix_len}
-use Rattle.std.specs.Option.{option_map_or}
+use Rattle.std.proofs.Common.{◌≡◌, ℕ, zero, suc, ◌+◌, ◌<◌, ◌≤◌, Bool, true, false, cond, ltb, List, [], ◌∷◌, length}
+use Rattle.std.proofs.Common.{Option, Some, None, refl, sym, ◌∙◌, ap, arith, length-drop, rules, tests}
 use Rattle.ifs_lex.specs.declared.token.What.{What}
-use Rattle.ifs_lex.specs.declared.token.What.TheVariants.{Quoted, And, Or, End}
-use Rattle.ifs_lex.specs.Lexemes.{Blanks}
-use Rattle.ifs_lex.specs.Characters.{begins_word, continues_word, is_quote}
-use Rattle.ifs_lex.specs.Lexemes.{Lexeme, One, Stray, Unclosed, Scan, scan, begins_with, begins_macro}
-use Rattle.ifs_lex.specs.Lexemes.{gap_len, quoted_value, twice, sign_here, lexeme_here, TextCursor, Spanned}
+use Rattle.ifs_lex.specs.Lexemes.{Blanks, Lexeme, Scan, gap_len, lexeme_here, TextCursor, Spanned}
 use Rattle.ifs_lex.specs.Lexemes.{past_gap, lexeme_at, after_lexeme, is_last, lexemes_from, lexemes_at, lexemes_of}
 use Rattle.ifs_lex.specs.Expansion.{Macros, whats_of, joined, value_from, value_of}
+use Rattle.ifs_lex.proofs.Spelt.{true_false}
+use Rattle.ifs_lex.proofs.Scanned.{Reads, at_end, an_lexeme, no_lexeme, reads, lexeme_some, lexeme_within}
 
--- A scan that goes on has a byte at least.
-abbrev Moves : Scan → Type 0
-Moves s = is_last s.lexeme ≡ false → 0 < s.len
-
-pick : (P : Scan → Type 0) (t : Bool) (x y : Scan) → (t ≡ true → P x) → (t ≡ false → P y) → P (cond t x y)
-pick P true x y first second = first refl
-pick P false x y first second = second refl
-
-stays : (s : Scan) → is_last s.lexeme ≡ true → Moves s
-stays s e = λ f. absurd (cc)
-
-some_bytes : (t : Bool) (n : ℕ) → t ≡ true → 0 < cond t (1 + n) 0
-some_bytes true n e = omega arith
-some_bytes false n e = absurd (cc)
-
-goes_on : (b : ℕ) → begins_word b ≡ true → continues_word b ≡ true
-goes_on b e = rw e refl
-
-word_moves : (b : ℕ) (rest : List ℕ) → begins_word b ≡ true → 0 < prefix_len continues_word (b ∷ rest)
-word_moves b rest e = some_bytes (continues_word b) (prefix_len continues_word rest) (goes_on b e)
-
-twice_moves : (b : ℕ) (what : What) (rest : List ℕ) → Moves (twice b what rest)
-twice_moves b what rest = pick Moves (begins_with b rest) _ _ (λ _ _. omega arith) (λ _. stays (scan Stray 0) refl)
-
-sign_moves : (b : ℕ) (rest : List ℕ) → Moves (sign_here b rest)
-sign_moves b rest =
-    pick Moves (eqb b 123) _ _ (λ _ _. omega arith) (λ _.
-    pick Moves (eqb b 125) _ _ (λ _ _. omega arith) (λ _.
-    pick Moves (eqb b 40) _ _ (λ _ _. omega arith) (λ _.
-    pick Moves (eqb b 41) _ _ (λ _ _. omega arith) (λ _.
-    pick Moves (eqb b 46) _ _ (λ _ _. omega arith) (λ _.
-    pick Moves (eqb b 61) _ _ (λ _ _. omega arith) (λ _.
-    pick Moves (eqb b 33) _ _ (λ _ _. omega arith) (λ _.
-    pick Moves (eqb b 38) _ _ (λ _. twice_moves 38 And rest) (λ _.
-    pick Moves (eqb b 124) _ _ (λ _. twice_moves 124 Or rest) (λ _. stays (scan Stray 0) refl)))))))))
-
-quoted_moves : (q : ℕ) (rest : List ℕ) (m : Option ℕ) → Moves (option_map_or (λ n. scan (One (Quoted (quoted_value q (take n rest)))) (n + 2)) m (scan Unclosed 0))
-quoted_moves q rest None = stays (scan Unclosed 0) refl
-quoted_moves q rest (Some n) = λ _. omega arith
-
-lexeme_moves : (bs : List ℕ) → Moves (lexeme_here bs)
-unfolding lexeme_here
-lexeme_moves [] = stays (scan (One End) 0) refl
-lexeme_moves (b ∷ rest) =
-    pick Moves (begins_word b) _ _ (λ e _. word_moves b rest e) (λ _.
-    pick Moves (is_quote b) _ _ (λ _. quoted_moves b rest _) (λ _.
-    pick Moves (eqb b 36) _ _ (λ _. pick Moves (begins_macro rest) _ _ (λ _ _. omega arith) (λ _. stays (scan Stray 0) refl)) (λ _. sign_moves b rest)))
-
-lexeme_some : (bs : List ℕ) → is_last (lexeme_here bs).lexeme ≡ false → 0 < length bs
-unfolding lexeme_here
-lexeme_some [] e = absurd (cc)
-lexeme_some (b ∷ rest) e = omega arith
+-- A lexeme that is not the last has a byte, and is within its bytes.
+moves : (bs : List ℕ) (s : Scan) → Reads bs s → is_last s.lexeme ≡ false → (0 < s.len) × (s.len ≤ length bs)
+moves bs s (at_end none lexeme len) e = absurd (true_false _ _ (ap is_last lexeme) e refl)
+moves bs s (an_lexeme i) e = (lexeme_some bs s.lexeme s.len i, lexeme_within bs s.lexeme s.len i)
+moves bs s (no_lexeme none last len unclosed) e = absurd (true_false _ _ last e refl)
 
 -- Fewer bytes are left after a lexeme.
 pub fewer_left : (p : TextCursor) → is_last (lexeme_at p).lexeme ≡ false → length (after_lexeme p).left < length p.left
 fewer_left p e =
     let q = past_gap p in
     let len = (lexeme_here q.left).len in
-    let moved = lexeme_moves q.left e in
-    let some = lexeme_some q.left e in
+    let some = moves q.left (lexeme_here q.left) (reads q.left) e in
     let first = length-drop (gap_len Blanks p.left) p.left in
     let second = length-drop len q.left in
-    omega arith
+    omega (arith, some.0, some.1)
 
 pub no_more_left : (p : TextCursor) → length (after_lexeme p).left ≤ length p.left
 no_more_left p =

@@ -1,24 +1,21 @@
 -- The lexer reads a text to its end if the text has tokens or is a value.
-use Rattle.std.proofs.Common.{◌≡◌, ℕ, zero, suc, ◌<◌, Bool, true, false, cond, ltb, List, [], ◌∷◌, length}
-use Rattle.std.proofs.Common.{Option, Some, None, option_map, Result, Ok, Err, refl, sym, ◌∙◌, ap, subst, arith}
+use Rattle.std.proofs.Common.{◌≡◌, ℕ, zero, suc, ◌<◌, Bool, true, false, cond, ltb, List, [], ◌∷◌, length, Option}
+use Rattle.std.proofs.Common.{Some, None, option_map, Ok, refl, sym, ◌∙◌, ap, subst, arith}
 use Rattle.std.specs.Prelude.{is_some}
 use Rattle.std.specs.Option.{option_map_or}
 use Rattle.ifs_base.specs.declared.span.Span.{Span}
-use Rattle.ifs_base.specs.Results.{◌>>=◌}
 use Rattle.ifs_lex.specs.declared.token.What.{What}
 use Rattle.ifs_lex.specs.declared.token.What.TheVariants.{End}
 use Rattle.ifs_lex.specs.declared.token.Token.{Token}
-use Rattle.ifs_lex.specs.declared.fault.LexFault.{LexFault}
-use Rattle.ifs_lex.specs.declared.fault.LexFault.TheVariants.{OverLimit}
-use Rattle.ifs_lex.specs.Lexemes.{Lexeme, One, Uses, Stray, Unclosed, TextCursor, Spanned, lexeme_at}
-use Rattle.ifs_lex.specs.Lexemes.{after_lexeme, is_last, lexemes_at, lexemes_of, start}
-use Rattle.ifs_lex.specs.Expansion.{Macros, no_macros, whats_of, joined, value_from, value_of}
-use Rattle.ifs_lex.specs.Expansion.{macro_name_of, is_equals, macro_text_of, Expanded, expanded, with_lexeme}
-use Rattle.ifs_lex.specs.Expansion.{tokens_after, segments_from, given_from, tokens_of, HasTokens}
+use Rattle.ifs_lex.specs.Lexemes.{Lexeme, One, TextCursor, Spanned, lexeme_at, after_lexeme, is_last, lexemes_at}
+use Rattle.ifs_lex.specs.Lexemes.{lexemes_of, start}
+use Rattle.ifs_lex.specs.Expansion.{Macros, whats_of, joined, value_from, value_of, macro_name_of, is_equals}
+use Rattle.ifs_lex.specs.Expansion.{macro_text_of, Expanded, with_lexeme, HasTokens}
 use Rattle.ifs_lex.specs.Spelling.{Spelling, Ended}
 use Rattle.ifs_lex.specs.inner.Turns.{text_here, definition_here, after_definition, with_turn}
 use Rattle.ifs_lex.proofs.Unrolled.{lexemes_unroll, fewer_left, value_none, value_turn}
-use Rattle.ifs_lex.proofs.Segments.{equals_last, text_last, turn_is, ending, turn_smaller}
+use Rattle.ifs_lex.proofs.Segments.{equals_last, text_last}
+use Rattle.ifs_lex.proofs.Walks.{definition_next, spelled_walked}
 use Rattle.ifs_lex.proofs.Endings.{no_definition}
 use Rattle.ifs_lex.proofs.Spellings.{ended_more, spelling_found}
 
@@ -50,57 +47,24 @@ after_part q i true e h =
 
 lexeme_end : (span : Span) (i : Lexeme) (s next : Expanded) → is_last i ≡ true → with_lexeme span i s ≡ Ok next → i ≡ One End
 lexeme_end span (One End) s next l h = refl
-lexeme_end span (One _) s next l h = absurd (cc)
-lexeme_end span (Uses _) s next l h = absurd (cc)
-lexeme_end span Stray s next l h = absurd (cc)
-lexeme_end span Unclosed s next l h = absurd (cc)
+lexeme_end span _ s next l h = absurd (cc)
 
-turn_end : (p : TextCursor) (s next : Expanded) → is_last (lexeme_at p).lexeme ≡ true → with_turn (lexeme_at p) (definition_here (after_lexeme p) (lexeme_at p).lexeme) s ≡ Ok next → (lexeme_at p).lexeme ≡ One End
+turn_end : (p : TextCursor) (s next : Expanded) → is_last (lexeme_at p).lexeme ≡ true → with_turn (lexeme_at p) (definition_next p) s ≡ Ok next → (lexeme_at p).lexeme ≡ One End
 turn_end p s next l e =
     let none = no_definition (lexeme_at p).lexeme l in
     lexeme_end (lexeme_at p).span (lexeme_at p).lexeme s next l
     (sym (ap (λ o. with_turn (lexeme_at p) (given o (text_here (after_lexeme p))) s) none) ∙ e)
 
--- The cursor after the next segment.
-abbrev next_place : TextCursor → TextCursor
-next_place p = after_definition (after_lexeme p) (is_some (definition_here (after_lexeme p) (lexeme_at p).lexeme))
-
-by_last : (last : Bool) (s next : Expanded) (p : TextCursor) (ts : List Token) → is_last (lexeme_at p).lexeme ≡ last → with_turn (lexeme_at p) (definition_here (after_lexeme p) (lexeme_at p).lexeme) s ≡ Ok next → ending last (next_place p) next ≡ Ok ts → (is_last (lexeme_at p).lexeme ≡ false → tokens_after next (segments_from 0 (lexemes_at (next_place p))) ≡ Ok ts → Ended (lexemes_at (next_place p))) → Ended (lexemes_at p)
-unfolding ending
-by_last true s next p ts l e k rest = ended_here p l (turn_end p s next l e)
-by_last false s next p ts l e k rest = ended_before p l (after_part (after_lexeme p) (lexeme_at p).lexeme _ refl (rest l k))
-
-by_turn : (w : Result Expanded LexFault) (s : Expanded) (p : TextCursor) (ts : List Token) → with_turn (lexeme_at p) (definition_here (after_lexeme p) (lexeme_at p).lexeme) s ≡ w → (w >>= ending (is_last (lexeme_at p).lexeme) (next_place p)) ≡ Ok ts → ((next : Expanded) → is_last (lexeme_at p).lexeme ≡ false → tokens_after next (segments_from 0 (lexemes_at (next_place p))) ≡ Ok ts → Ended (lexemes_at (next_place p))) → Ended (lexemes_at p)
-by_turn (Err fault) s p ts e k rest = absurd (cc)
-by_turn (Ok next) s p ts e k rest = by_last _ s next p ts refl e k (rest next)
-
-ended_from : (n : ℕ) (s : Expanded) (p : TextCursor) (ts : List Token) → length p.left < n → tokens_after s (segments_from 0 (lexemes_at p)) ≡ Ok ts → Ended (lexemes_at p)
-ended_from zero s p ts l h = absurd (omega arith)
-ended_from (suc n) s p ts l h =
-    by_turn _ s p ts refl (sym (turn_is s p) ∙ h)
-    (λ next last k.
-    let less = turn_smaller p (after_lexeme p) (next_place p) (lexeme_at p).lexeme _ refl refl refl last in
-    ended_from n next (next_place p) ts (omega arith) k)
-
-text_case : (t : Bool) (m : Macros) (text : List ℕ) (ts : List Token) → cond t (Err (OverLimit 1)) (tokens_after (expanded [] m) (segments_from 0 (lexemes_of text))) ≡ Ok ts → Ended (lexemes_of text)
-text_case true m text ts h = absurd (cc)
-text_case false m text ts h = ended_from (suc (length text)) (expanded [] m) (start text) ts (omega arith) h
-
-macros_case : (r : Result Macros LexFault) (text : List ℕ) (ts : List Token) → (r >>= λ m. cond (ltb 1048576 (length text)) (Err (OverLimit 1)) (tokens_after (expanded [] m) (segments_from 0 (lexemes_of text)))) ≡ Ok ts → Ended (lexemes_of text)
-macros_case (Err fault) text ts h = absurd (cc)
-macros_case (Ok m) text ts h = text_case _ m text ts h
-
 -- A text that spells tokens has a list of lexemes.
 pub spelled_lexemes : (text : List ℕ) (defs : List (List ℕ × List ℕ)) (ts : List Token) → HasTokens text defs ts → Spelling text 0 (lexemes_of text)
-unfolding tokens_of
-spelled_lexemes text defs ts h = spelling_found text (lexemes_of text) refl (macros_case (given_from no_macros defs) text ts h)
+spelled_lexemes text defs ts h =
+    spelling_found text (lexemes_of text) refl
+    (spelled_walked (λ s. Unit {0}) (λ p ts. Ended (lexemes_at p)) (λ s next p g l e. ended_here p l (turn_end p s next l e))
+    (λ s next p ts g l e rest. ended_before p l (after_part (after_lexeme p) (lexeme_at p).lexeme _ refl (rest tt))) text defs ts (λ m e. tt) h)
 
 value_end : (m : Macros) (before more : List What) (i : Lexeme) → is_last i ≡ true → joined before (whats_of m i) ≡ Some more → i ≡ One End
 value_end m before more (One End) l h = refl
-value_end m before more (One _) l h = absurd (cc)
-value_end m before more (Uses _) l h = absurd (cc)
-value_end m before more Stray l h = absurd (cc)
-value_end m before more Unclosed l h = absurd (cc)
+value_end m before more _ l h = absurd (cc)
 
 value_last : (m : Macros) (before more ws : List What) (p : TextCursor) (last : Bool) → is_last (lexeme_at p).lexeme ≡ last → joined before (whats_of m (lexeme_at p).lexeme) ≡ Some more → value_from m (Some more) (cond last [] (lexemes_at (after_lexeme p))) ≡ Some ws → (is_last (lexeme_at p).lexeme ≡ false → value_from m (Some more) (lexemes_at (after_lexeme p)) ≡ Some ws → Ended (lexemes_at (after_lexeme p))) → Ended (lexemes_at p)
 value_last m before more ws p true l e h rest = ended_here p l (value_end m before more (lexeme_at p).lexeme l e)

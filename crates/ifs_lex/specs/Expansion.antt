@@ -87,27 +87,18 @@ pub data Segment : Type 0 where
 -- The name that a lexeme can give to a macro.
 abbrev pub macro_name_of : Lexeme → Option (List ℕ)
 macro_name_of (One (Word name)) = if is_macro_name name && not (is_reserved name) then Some name else None
-macro_name_of (One _) = None
-macro_name_of (Uses _) = None
-macro_name_of Stray = None
-macro_name_of Unclosed = None
+macro_name_of _ = None
 
 -- The sign `=`.
 abbrev pub is_equals : Lexeme → Bool
 is_equals (One Equals) = true
-is_equals (One _) = false
-is_equals (Uses _) = false
-is_equals Stray = false
-is_equals Unclosed = false
+is_equals _ = false
 
 -- The text that a lexeme can give to a macro: a word that is not reserved, or a quoted text.
 abbrev pub macro_text_of : Lexeme → Option (List ℕ)
 macro_text_of (One (Word word)) = if is_reserved word then None else Some word
 macro_text_of (One (Quoted text)) = Some text
-macro_text_of (One _) = None
-macro_text_of (Uses _) = None
-macro_text_of Stray = None
-macro_text_of Unclosed = None
+macro_text_of _ = None
 
 -- The text that the next two lexemes give to a name: they are the sign `=` and a string.
 abbrev pub given_text : List Spanned → Option (List ℕ)

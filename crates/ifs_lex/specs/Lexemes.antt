@@ -144,10 +144,9 @@ after_lexeme p = let q = past_gap p in past (lexeme_here q.left).len q
 -- The lexer stops after the end of the text, and after what is no token and no use.
 abbrev pub is_last : Lexeme → Bool
 is_last (One End) = true
-is_last (One _) = false
-is_last (Uses _) = false
 is_last Stray = true
 is_last Unclosed = true
+is_last _ = false
 
 -- The lexemes from a cursor on, at most `most`.
 abbrev pub lexemes_from : ℕ → TextCursor → List Spanned

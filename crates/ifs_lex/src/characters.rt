@@ -94,11 +94,8 @@ pub fn is_macro_name(text: &str) -> bool
 pub fn is_reserved(word: &str) -> bool
     ensures { result ≡ characters.is_reserved word.now }
 {
-    word == "state"
-        || word == "init-state"
-        || word == "init"
-        || word == "if"
-        || word == "run"
-        || word == "set-state"
-        || word == "every"
+    matches!(
+        word,
+        "state" | "init-state" | "init" | "if" | "run" | "set-state" | "every"
+    )
 }

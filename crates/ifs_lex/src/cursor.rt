@@ -50,7 +50,7 @@ impl<'a> Model for Cursor<'a> {
 impl<'a> Cursor<'a> {
     ghost use Rattle.ifs_lex.specs.Lexemes as lexemes;
 
-    /// Makes a cursor at the begin of a text.
+    /// Makes a cursor at the start of a text.
     pub fn start(text: &'a str) -> Self
         requires { length text.now ≤ 1048576 }
         ensures { result ≡ lexemes.start text.now }

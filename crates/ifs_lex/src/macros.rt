@@ -107,24 +107,24 @@ impl<'a> MacroTable<'a> {
         ensures same { macros_of self.new ≡ macros_of self.old }
     {
         match piece {
-            Piece::Bare(word) => {
+            Piece::Word(word) => {
                 let rope = self.leaf(What::Word(text_from(alloc, word)?))?;
                 Ok(Some(rope))
             }
-            Piece::Between(quote, inside) => {
+            Piece::Quoted(quote, inside) => {
                 let rope = self.leaf(What::Quoted(quoted_value(alloc, quote, inside)?))?;
                 Ok(Some(rope))
             }
-            Piece::Named(name) => match self.get(name) {
+            Piece::Use(name) => match self.get(name) {
                 Some(entry) => Ok(Some(entry.rope)),
                 None => Ok(None),
             },
-            Piece::Equal => Ok(None),
-            Piece::Plain(sign) => {
+            Piece::Equals => Ok(None),
+            Piece::Sign(sign) => {
                 let rope = self.leaf(what_of(sign))?;
                 Ok(Some(rope))
             }
-            Piece::Last => Ok(Some(Rope::EMPTY)),
+            Piece::End => Ok(Some(Rope::EMPTY)),
             Piece::Stray => Ok(None),
             Piece::Unclosed => Ok(None),
         }

@@ -16,31 +16,31 @@ use std::alloc::{AllocError, Global};
 /// A sign other than `=`.
 #[derive(Clone, Copy)]
 pub enum Sign {
-    OpenBrace,
-    CloseBrace,
-    OpenParen,
-    CloseParen,
-    Point,
-    Not,
-    Both,
-    Either,
+    BraceOpen,
+    BraceClose,
+    ParenOpen,
+    ParenClose,
+    Dot,
+    Bang,
+    And,
+    Or,
 }
 
 /// A piece of a text, borrowed from it.
 #[derive(Clone, Copy)]
 pub enum Piece<'a> {
     /// A word.
-    Bare(&'a str),
+    Word(&'a str),
     /// A quoted text: its quote, and the text between the quotes.
-    Between(u8, &'a str),
+    Quoted(u8, &'a str),
     /// A use of the macro of this name.
-    Named(&'a str),
+    Use(&'a str),
     /// `=`
-    Equal,
+    Equals,
     /// Another sign.
-    Plain(Sign),
+    Sign(Sign),
     /// The end of the text.
-    Last,
+    End,
     /// A character that begins no lexeme.
     Stray,
     /// A quote that no other quote closes.
@@ -52,14 +52,14 @@ pub fn what_of(sign: Sign) -> What
     ensures { result ≡ what_of sign }
 {
     match sign {
-        Sign::OpenBrace => What::BraceOpen,
-        Sign::CloseBrace => What::BraceClose,
-        Sign::OpenParen => What::ParenOpen,
-        Sign::CloseParen => What::ParenClose,
-        Sign::Point => What::Dot,
-        Sign::Not => What::Bang,
-        Sign::Both => What::And,
-        Sign::Either => What::Or,
+        Sign::BraceOpen => What::BraceOpen,
+        Sign::BraceClose => What::BraceClose,
+        Sign::ParenOpen => What::ParenOpen,
+        Sign::ParenClose => What::ParenClose,
+        Sign::Dot => What::Dot,
+        Sign::Bang => What::Bang,
+        Sign::And => What::And,
+        Sign::Or => What::Or,
     }
 }
 
@@ -80,19 +80,13 @@ impl<'a> Piece<'a> {
         ensures { option_map (λ name. name.now) result ≡ expansion.macro_name_of (lexeme_of self.now) }
     {
         match *self {
-            Piece::Bare(word) => {
+            Piece::Word(word) => {
                 if is_macro_name(word) && !is_reserved(word) {
                     return Some(word);
                 }
                 None
             }
-            Piece::Between(_, _) => None,
-            Piece::Named(_) => None,
-            Piece::Equal => None,
-            Piece::Plain(_) => None,
-            Piece::Last => None,
-            Piece::Stray => None,
-            Piece::Unclosed => None,
+            _ => None,
         }
     }
 
@@ -101,16 +95,7 @@ impl<'a> Piece<'a> {
     pub fn is_equals(&self) -> bool
         ensures { result ≡ expansion.is_equals (lexeme_of self.now) }
     {
-        match *self {
-            Piece::Bare(_) => false,
-            Piece::Between(_, _) => false,
-            Piece::Named(_) => false,
-            Piece::Equal => true,
-            Piece::Plain(_) => false,
-            Piece::Last => false,
-            Piece::Stray => false,
-            Piece::Unclosed => false,
-        }
+        matches!(*self, Piece::Equals)
     }
 
     /// Returns whether the lexer stops after the piece.
@@ -118,16 +103,7 @@ impl<'a> Piece<'a> {
     pub fn is_last(&self) -> bool
         ensures { result ≡ lexemes.is_last (lexeme_of self.now) }
     {
-        match *self {
-            Piece::Bare(_) => false,
-            Piece::Between(_, _) => false,
-            Piece::Named(_) => false,
-            Piece::Equal => false,
-            Piece::Plain(_) => false,
-            Piece::Last => true,
-            Piece::Stray => true,
-            Piece::Unclosed => true,
-        }
+        matches!(*self, Piece::End | Piece::Stray | Piece::Unclosed)
     }
 
     /// Returns the text that the piece can give to a macro.
@@ -136,19 +112,14 @@ impl<'a> Piece<'a> {
         ensures { IfOk result (λ text. text ≡ expansion.macro_text_of (lexeme_of self.now)) }
     {
         match *self {
-            Piece::Bare(word) => {
+            Piece::Word(word) => {
                 if is_reserved(word) {
                     return Ok(None);
                 }
                 Ok(Some(text_from(alloc, word)?))
             }
-            Piece::Between(quote, inside) => Ok(Some(quoted_value(alloc, quote, inside)?)),
-            Piece::Named(_) => Ok(None),
-            Piece::Equal => Ok(None),
-            Piece::Plain(_) => Ok(None),
-            Piece::Last => Ok(None),
-            Piece::Stray => Ok(None),
-            Piece::Unclosed => Ok(None),
+            Piece::Quoted(quote, inside) => Ok(Some(quoted_value(alloc, quote, inside)?)),
+            _ => Ok(None),
         }
     }
 }
@@ -204,7 +175,7 @@ fn word_here(text: &str) -> (Piece<'_>, usize)
     ensures len { result.1 ≡ (lexemes.word_here text.now).len }
 {
     let len = word_run(text.as_bytes());
-    (Piece::Bare(text.split_at(len).0), len)
+    (Piece::Word(text.split_at(len).0), len)
 }
 
 fn quoted_here(quote: u8, rest: &str) -> (Piece<'_>, usize)
@@ -213,7 +184,7 @@ fn quoted_here(quote: u8, rest: &str) -> (Piece<'_>, usize)
     ensures len { result.1 ≡ (lexemes.quoted_here quote rest.now).len }
 {
     match inside_len(quote, rest.as_bytes()) {
-        Some(len) => (Piece::Between(quote, rest.split_at(len).0), len + 2),
+        Some(len) => (Piece::Quoted(quote, rest.split_at(len).0), len + 2),
         None => (Piece::Unclosed, 0),
     }
 }
@@ -225,7 +196,7 @@ fn use_here(rest: &str) -> (Piece<'_>, usize)
     match rest.as_bytes() {
         [first, ..] if begins_name(*first) => {
             let len = name_run(rest.as_bytes());
-            (Piece::Named(rest.split_at(len).0), 1 + len)
+            (Piece::Use(rest.split_at(len).0), 1 + len)
         }
         _ => (Piece::Stray, 0),
     }
@@ -236,7 +207,7 @@ fn twice(byte: u8, sign: Sign, rest: &[u8]) -> (Piece<'static>, usize)
     ensures len { result.1 ≡ (lexemes.twice byte (what_of sign) rest.now).len }
 {
     if begins_with(byte, rest) {
-        (Piece::Plain(sign), 2)
+        (Piece::Sign(sign), 2)
     } else {
         (Piece::Stray, 0)
     }
@@ -247,15 +218,15 @@ fn sign_here(byte: u8, rest: &[u8]) -> (Piece<'static>, usize)
     ensures len { result.1 ≡ (lexemes.sign_here byte rest.now).len }
 {
     match byte {
-        b'{' => (Piece::Plain(Sign::OpenBrace), 1),
-        b'}' => (Piece::Plain(Sign::CloseBrace), 1),
-        b'(' => (Piece::Plain(Sign::OpenParen), 1),
-        b')' => (Piece::Plain(Sign::CloseParen), 1),
-        b'.' => (Piece::Plain(Sign::Point), 1),
-        b'=' => (Piece::Equal, 1),
-        b'!' => (Piece::Plain(Sign::Not), 1),
-        b'&' => twice(b'&', Sign::Both, rest),
-        b'|' => twice(b'|', Sign::Either, rest),
+        b'{' => (Piece::Sign(Sign::BraceOpen), 1),
+        b'}' => (Piece::Sign(Sign::BraceClose), 1),
+        b'(' => (Piece::Sign(Sign::ParenOpen), 1),
+        b')' => (Piece::Sign(Sign::ParenClose), 1),
+        b'.' => (Piece::Sign(Sign::Dot), 1),
+        b'=' => (Piece::Equals, 1),
+        b'!' => (Piece::Sign(Sign::Bang), 1),
+        b'&' => twice(b'&', Sign::And, rest),
+        b'|' => twice(b'|', Sign::Or, rest),
         _ => (Piece::Stray, 0),
     }
 }
@@ -267,7 +238,7 @@ pub fn piece_here(text: &str) -> (Piece<'_>, usize)
     ensures len { result.1 ≡ (lexemes.lexeme_here text.now).len }
 {
     match text.as_bytes() {
-        [] => (Piece::Last, 0),
+        [] => (Piece::End, 0),
         [first, ..] if begins_word(*first) => word_here(text),
         [first, ..] if is_quote(*first) => quoted_here(*first, text.split_at(1).1),
         [b'$', ..] => use_here(text.split_at(1).1),

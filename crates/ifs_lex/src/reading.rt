@@ -104,18 +104,18 @@ impl<'a> Reading<'a> {
     {
         let span = found.span;
         match found.piece {
-            Piece::Bare(word) => {
+            Piece::Word(word) => {
                 let text = text_from(alloc, word)?;
                 self.put(span, What::Word(text))
             }
-            Piece::Between(quote, inside) => {
+            Piece::Quoted(quote, inside) => {
                 let value = quoted_value(alloc, quote, inside)?;
                 self.put(span, What::Quoted(value))
             }
-            Piece::Named(name) => self.use_macro(alloc, span, name),
-            Piece::Equal => self.put(span, What::Equals),
-            Piece::Plain(sign) => self.put(span, what_of(sign)),
-            Piece::Last => {
+            Piece::Use(name) => self.use_macro(alloc, span, name),
+            Piece::Equals => self.put(span, What::Equals),
+            Piece::Sign(sign) => self.put(span, what_of(sign)),
+            Piece::End => {
                 self.tokens.push(Token {
                     what: What::End,
                     span,
@@ -213,14 +213,10 @@ fn fault_without_macros(found: Found<'_>) -> Option<LexFault>
 {
     let line = found.span.line;
     match found.piece {
-        Piece::Bare(_) => None,
-        Piece::Between(_, _) => None,
-        Piece::Named(_) => Some(LexFault::UnknownMacro { line }),
-        Piece::Equal => None,
-        Piece::Plain(_) => None,
-        Piece::Last => None,
+        Piece::Use(_) => Some(LexFault::UnknownMacro { line }),
         Piece::Stray => Some(LexFault::Stray { line }),
         Piece::Unclosed => Some(LexFault::Unclosed { line }),
+        _ => None,
     }
 }
 

@@ -4,10 +4,8 @@ use Rattle.ifs_lex.specs.declared.token.What.TheVariants.{Word, Quoted, BraceOpe
 use Rattle.ifs_lex.specs.declared.token.What.TheVariants.{ParenClose, Dot, Equals, Bang, And, Or, End}
 use Rattle.ifs_lex.specs.declared.pieces.Piece.{Piece}
 use Rattle.ifs_lex.specs.declared.pieces.Piece.TheVariants as piece
-use Rattle.ifs_lex.specs.declared.pieces.Piece.TheVariants.{Bare, Between, Named, Equal, Plain, Last}
 use Rattle.ifs_lex.specs.declared.pieces.Sign.{Sign}
-use Rattle.ifs_lex.specs.declared.pieces.Sign.TheVariants.{OpenBrace, CloseBrace, OpenParen}
-use Rattle.ifs_lex.specs.declared.pieces.Sign.TheVariants.{CloseParen, Point, Not, Both, Either}
+use Rattle.ifs_lex.specs.declared.pieces.Sign.TheVariants as signs
 use Rattle.ifs_lex.specs.declared.token.What.{What}
 use Rattle.ifs_lex.specs.declared.cursor.Found.{Found}
 use Rattle.ifs_lex.specs.Lexemes.{Lexeme, Spanned, One, Uses, Stray, Unclosed, is_dropped, quoted_value}
@@ -19,23 +17,23 @@ kept_len quote (b ∷ rest) = if is_dropped quote b rest then Some 0 else option
 
 -- The token of a sign.
 abbrev pub what_of : Sign → What
-what_of OpenBrace = BraceOpen
-what_of CloseBrace = BraceClose
-what_of OpenParen = ParenOpen
-what_of CloseParen = ParenClose
-what_of Point = Dot
-what_of Not = Bang
-what_of Both = And
-what_of Either = Or
+what_of signs.BraceOpen = BraceOpen
+what_of signs.BraceClose = BraceClose
+what_of signs.ParenOpen = ParenOpen
+what_of signs.ParenClose = ParenClose
+what_of signs.Dot = Dot
+what_of signs.Bang = Bang
+what_of signs.And = And
+what_of signs.Or = Or
 
 -- The lexeme of a piece.
 abbrev pub lexeme_of : Piece → Lexeme
-lexeme_of (Bare word) = One (Word word.now)
-lexeme_of (Between quote inside) = One (Quoted (quoted_value quote inside.now))
-lexeme_of (Named name) = Uses name.now
-lexeme_of Equal = One Equals
-lexeme_of (Plain sign) = One (what_of sign)
-lexeme_of Last = One End
+lexeme_of (piece.Word word) = One (Word word.now)
+lexeme_of (piece.Quoted quote inside) = One (Quoted (quoted_value quote inside.now))
+lexeme_of (piece.Use name) = Uses name.now
+lexeme_of piece.Equals = One Equals
+lexeme_of (piece.Sign sign) = One (what_of sign)
+lexeme_of piece.End = One End
 lexeme_of piece.Stray = Stray
 lexeme_of piece.Unclosed = Unclosed
 

@@ -1,6 +1,4 @@
-use Rattle.std.specs.HashMap as hash
-use Rattle.std.specs.Str.{bytes_eq}
-use Rattle.ifs_lex.proofs.Tables.{value_keeps, macros_keep}
+use Rattle.ifs_lex.proofs.Tables.{found, value_keeps, macros_keep}
 use Rattle.ifs_lex.proofs.macros.MacroTable.both.Goals as goal
 
 pub invariant_of-self : goal.invariant_of-self
@@ -11,8 +9,8 @@ invariant_of-self c = record {
 
 pub returns-in_err-rope-clause-same : goal.returns-in_err-rope-clause-same
 returns-in_err-rope-clause-same c =
-    macros_keep _ _ (λ name. hash.get_by (λ k. bytes_eq name k.now) c.args.self.now.table) _ c.both.ensures.keeps c.args.self.now.values
+    macros_keep _ _ (found c.args.self.now.table) _ c.both.ensures.keeps c.args.self.now.values
 
 pub returns-clause-same : goal.returns-clause-same
 returns-clause-same c =
-    macros_keep _ _ (λ name. hash.get_by (λ k. bytes_eq name k.now) c.args.self.now.table) _ c.both.ensures.keeps c.args.self.now.values
+    macros_keep _ _ (found c.args.self.now.table) _ c.both.ensures.keeps c.args.self.now.values

@@ -8,18 +8,10 @@ invariant_of-self-2 c =
     let r = cells_within c.self.inside.cells.items _ _ c.self.view_is c.requires.right_holds.0 in
     earlier_push _ _ _ c.self.invariant c.in_ok-push.ensures.items (l, r)
 
-pub returns-clause-made : goal.returns-clause-made
-returns-clause-made c =
-    let f = pushed c.self.inside.cells.items _ _ _ _ c.self.view_is c.in_ok-push.ensures.items (omega (arith, c.self.inside.cells.ok.0)) in
-    (f.within, counted _ _ _ _ _ f.whats c.requires.left_holds.1 c.requires.right_holds.1)
-
-pub returns-clause-whats : goal.returns-clause-whats
-returns-clause-whats c =
-    (pushed c.self.inside.cells.items _ _ _ _ c.self.view_is c.in_ok-push.ensures.items (omega (arith, c.self.inside.cells.ok.0))).whats
-
-pub returns-clause-keeps : goal.returns-clause-keeps
-returns-clause-keeps c =
-    (pushed c.self.inside.cells.items _ _ c.len-root.result _ c.self.view_is c.in_ok-push.ensures.items (omega (arith, c.self.inside.cells.ok.0))).keeps
+pub returns : goal.returns
+returns c =
+    let f = pushed c.self.inside.cells.items _ _ c.len-root.result _ c.self.view_is c.in_ok-push.ensures.items (omega (arith, c.self.inside.cells.ok.0)) in
+    record { made = (f.within, counted _ _ _ _ _ f.whats c.requires.left_holds.1 c.requires.right_holds.1); whats = f.whats; keeps = f.keeps }
 
 pub returns-in_err-push-clause-keeps : goal.returns-in_err-push-clause-keeps
 returns-in_err-push-clause-keeps c =
