@@ -1,10 +1,12 @@
 -- Tokens stop with the fault that is certain at once.
-use Rattle.std.proofs.Common.{◌≡◌, ℕ, zero, suc, Bool, true, false, ◌||◌, cond, List, [], ◌∷◌, length}
-use Rattle.std.proofs.Common.{Option, Some, None, Result, Ok, Err, refl, ap, ◌∙◌, option_map}
+use Rattle.std.proofs.Common.{◌≡◌, ℕ, zero, suc, Bool, true, false, cond, List, [], ◌∷◌, length}
+use Rattle.std.proofs.Common.{Option, Some, None, Result, Ok, Err, refl, sym, ap, ◌∙◌, option_map}
 use Rattle.std.specs.Option.{option_map_or}
+use denote.Enum.Bare.{false_same}
 use Rattle.ifs_base.specs.declared.span.Span.{Span}
 use Rattle.ifs_base.specs.Results.{◌>>=◌}
 use Rattle.ifs_lex.specs.declared.token.Token.{Token}
+use Rattle.ifs_parse.specs.contracts.mark.Mark.{the_type}
 use Rattle.ifs_parse.specs.declared.mark.Mark.{Mark}
 use Rattle.ifs_parse.specs.declared.mark.Mark.TheVariants as mark
 use Rattle.ifs_parse.specs.declared.fault.ParseFault.{ParseFault}
@@ -41,31 +43,21 @@ record NoneFirst (ts : List Token) : Type 0 where
   pub set_state : accepted mark.SetState ts ≡ None
   pub end : accepted mark.End ts ≡ None
 
-first_not : (a b : Bool) → (a || b) ≡ false → (a ≡ false) × (b ≡ false)
-first_not true b e = absurd (cc)
-first_not false b e = (refl, e)
-
-not_marked : (t : Token) (rest : List Token) (m : Mark) → is (mark_of t.what) m ≡ false → accepted m (t ∷ rest) ≡ None
-not_marked t rest m e = ap (λ b. cond b (Some t.span) None) e
+not_first : (t : Token) (rest : List Token) (m : Mark) → may_come_first (mark_of t.what) ≡ false → may_come_first m ≡ true → accepted m (t ∷ rest) ≡ None
+unfolding is
+not_first t rest m h k =
+    ap (λ b. cond b (Some t.span) None) (false_same the_type tt (mark_of t.what) m (λ e. let clash = sym h ∙ ap may_come_first e ∙ k in absurd (cc)))
 
 none_first : (t : Token) (rest : List Token) → may_come_first (mark_of t.what) ≡ false → NoneFirst (t ∷ rest)
-none_first t rest h =
-    let m = mark_of t.what in
-    let a = first_not (is m mark.InitState) (is m mark.State || (is m mark.Init || (is m mark.If || (is m mark.Run || (is m mark.SetState || is m mark.End))))) h in
-    let b = first_not (is m mark.State) (is m mark.Init || (is m mark.If || (is m mark.Run || (is m mark.SetState || is m mark.End)))) a.1 in
-    let c = first_not (is m mark.Init) (is m mark.If || (is m mark.Run || (is m mark.SetState || is m mark.End))) b.1 in
-    let d = first_not (is m mark.If) (is m mark.Run || (is m mark.SetState || is m mark.End)) c.1 in
-    let e = first_not (is m mark.Run) (is m mark.SetState || is m mark.End) d.1 in
-    let f = first_not (is m mark.SetState) (is m mark.End) e.1 in
-    record {
-      init_state = not_marked t rest mark.InitState a.0;
-      state_word = not_marked t rest mark.State b.0;
-      init = not_marked t rest mark.Init c.0;
-      conditional = not_marked t rest mark.If d.0;
-      run = not_marked t rest mark.Run e.0;
-      set_state = not_marked t rest mark.SetState f.0;
-      end = not_marked t rest mark.End f.1;
-    }
+none_first t rest h = record {
+  init_state = not_first t rest mark.InitState h refl;
+  state_word = not_first t rest mark.State h refl;
+  init = not_first t rest mark.Init h refl;
+  conditional = not_first t rest mark.If h refl;
+  run = not_first t rest mark.Run h refl;
+  set_state = not_first t rest mark.SetState h refl;
+  end = not_first t rest mark.End h refl;
+}
 
 -- The same of `begins`.
 passed_optional : {X : Type 0} (m : Mark) (yes_then : Span → Parse X) (else_then : Parse (Option X)) (s : Progress) → accepted m s.left ≡ None → begins m yes_then else_then s ≡ else_then s

@@ -1,10 +1,13 @@
 -- No token inside a rule is the end, so tokens that say a file end once.
-use Rattle.std.proofs.Common.{◌≡◌, ℕ, zero, suc, inl, inr, refl, sym, ap, subst, ◌∙◌, Bool}
+use Rattle.std.proofs.Common.{◌≡◌, ◌≢◌, ℕ, zero, suc, inl, inr, refl, sym, ap, subst, ◌∙◌, Bool}
 use Rattle.std.proofs.Common.{false, Option, Some, None, List, [], ◌∷◌, ◌++◌, append_assoc}
+use denote.Enum.Bare.{same_true}
+use Rattle.ifs_base.specs.declared.span.Span.{Span}
 use Rattle.ifs_lex.specs.declared.token.Token.{Token}
 use Rattle.ifs_lex.specs.declared.token.What.{What}
 use Rattle.ifs_lex.specs.declared.token.What.TheVariants as what
 use Rattle.ifs_lex.specs.Expansion.{EndsOnce, Endless, is_end}
+use Rattle.ifs_parse.specs.contracts.mark.Mark.{the_type}
 use Rattle.ifs_parse.specs.declared.mark.Mark.{Mark}
 use Rattle.ifs_parse.specs.declared.mark.Mark.TheVariants as mark
 use Rattle.ifs_parse.specs.Marks.{mark_of, is}
@@ -15,7 +18,6 @@ use Rattle.ifs_parse.specs.declared.block.Statement.{Statement}
 use Rattle.ifs_parse.specs.Trees as tree
 use Rattle.ifs_parse.specs.Files.{File}
 use Rattle.ifs_parse.specs.Rules.{Rule, GivesValue, OneToken, TheMark, ◌⨟◌, ◌or◌, Never, Many, Enough, More}
-use Rattle.ifs_parse.specs.inner.Combined.{}
 use Rattle.ifs_parse.specs.Words.{marked}
 use Rattle.ifs_parse.specs.Words as words
 use Rattle.ifs_parse.specs.Rules as rules
@@ -57,95 +59,27 @@ free_many P add free_p a b p ns (More {x = x} {front = front} {back = back} {bef
     endless_both front back (free_p front x before h) (free_many P add free_p (add a x) b back after rest)
 
 by_what : (w : What) → (w ≡ what.End → ⊥) → is_end w ≡ false
-by_what (what.Word t) h = refl
-by_what (what.Quoted t) h = refl
-by_what what.BraceOpen h = refl
-by_what what.BraceClose h = refl
-by_what what.ParenOpen h = refl
-by_what what.ParenClose h = refl
-by_what what.Dot h = refl
-by_what what.Equals h = refl
-by_what what.Bang h = refl
-by_what what.And h = refl
-by_what what.Or h = refl
 by_what what.End h = absurd (h refl)
+by_what _ h = refl
 
 -- A token that stands for something is not the end if the end stands for nothing.
 by_end : {X : Type 0} (of : What → Option X) → of what.End ≡ None → (w : What) (x : X) → of w ≡ Some x → is_end w ≡ false
 by_end of none w x h = by_what w (λ e. let k = sym none ∙ ap of (sym e) ∙ h in absurd (cc))
 
-free_mark : (m : Mark) → is mark.End m ≡ false → Free (TheMark m)
-free_mark m differ = free_token (marked m) (λ t span h. by_what t.what (λ e. let k = sym differ ∙ ap (λ w. is (mark_of w) m) (sym e) ∙ taken (is (mark_of t.what) m) t.span span h in absurd (cc)))
+free_mark : (m : Mark) → mark.End ≢ m → Free (TheMark m)
+unfolding is
+free_mark m differ =
+    free_token (marked m) (λ t span h. by_what t.what (λ e. differ (same_true the_type tt mark.End m (ap (λ w. is (mark_of w) m) (sym e) ∙ taken (is (mark_of t.what) m) t.span span h))))
+
+-- A mark and what comes after it.
+free_after : {X : Type 0} (m : Mark) → mark.End ≢ m → (Q : Span → Rule X) → ((span : Span) → Free (Q span)) → Free (TheMark m ⨟ Q)
+free_after m differ Q free_q = free_then (TheMark m) Q (free_mark m differ) free_q
 
 free_string : Free grammar.IsString
 free_string = free_token words.name_of (λ t x h. by_what t.what (λ e. let k = sym h ∙ ap (λ w. words.name_of (record { what = w; span = t.span })) e in absurd (cc)))
 
 free_link_state : Free grammar.IsLinkState
 free_link_state = free_token (λ t. words.link_state_of (mark_of t.what)) (λ t. by_end (λ w. words.link_state_of (mark_of w)) refl t.what)
-
-free_bang : Free (TheMark mark.Bang)
-unfolding is
-free_bang = free_mark mark.Bang refl
-
-free_and : Free (TheMark mark.And)
-unfolding is
-free_and = free_mark mark.And refl
-
-free_or_mark : Free (TheMark mark.Or)
-unfolding is
-free_or_mark = free_mark mark.Or refl
-
-free_dot : Free (TheMark mark.Dot)
-unfolding is
-free_dot = free_mark mark.Dot refl
-
-free_link : Free (TheMark mark.Link)
-unfolding is
-free_link = free_mark mark.Link refl
-
-free_every : Free (TheMark mark.Every)
-unfolding is
-free_every = free_mark mark.Every refl
-
-free_paren_open : Free (TheMark mark.ParenOpen)
-unfolding is
-free_paren_open = free_mark mark.ParenOpen refl
-
-free_paren_close : Free (TheMark mark.ParenClose)
-unfolding is
-free_paren_close = free_mark mark.ParenClose refl
-
-free_brace_open : Free (TheMark mark.BraceOpen)
-unfolding is
-free_brace_open = free_mark mark.BraceOpen refl
-
-free_brace_close : Free (TheMark mark.BraceClose)
-unfolding is
-free_brace_close = free_mark mark.BraceClose refl
-
-free_if : Free (TheMark mark.If)
-unfolding is
-free_if = free_mark mark.If refl
-
-free_run : Free (TheMark mark.Run)
-unfolding is
-free_run = free_mark mark.Run refl
-
-free_set_state : Free (TheMark mark.SetState)
-unfolding is
-free_set_state = free_mark mark.SetState refl
-
-free_init : Free (TheMark mark.Init)
-unfolding is
-free_init = free_mark mark.Init refl
-
-free_init_state : Free (TheMark mark.InitState)
-unfolding is
-free_init_state = free_mark mark.InitState refl
-
-free_state : Free (TheMark mark.State)
-unfolding is
-free_state = free_mark mark.State refl
 
 module _ (fits : ℕ → Bool) where
   free_period : Free (grammar.IsPeriod fits)
@@ -155,31 +89,30 @@ module _ (fits : ℕ → Bool) where
   free_test =
       free_then grammar.IsString _ free_string
       (λ name. free_or _ _
-      (free_then (TheMark mark.Dot) _ free_dot (λ _. free_then (TheMark mark.Link) _ free_link (λ _. free_then (TheMark mark.Dot) _ free_dot (λ _. free_then grammar.IsLinkState _ free_link_state (λ l. free_gives _)))))
-      (free_then (TheMark mark.Every) _ free_every (λ _. free_then (grammar.IsPeriod fits) _ free_period (λ n. free_gives _))))
+      (free_after mark.Dot (λ e. cc) _ (λ _. free_after mark.Link (λ e. cc) _ (λ _. free_after mark.Dot (λ e. cc) _ (λ _. free_then grammar.IsLinkState _ free_link_state (λ l. free_gives _)))))
+      (free_after mark.Every (λ e. cc) _ (λ _. free_then (grammar.IsPeriod fits) _ free_period (λ n. free_gives _))))
 
-  module _ {X : Type 0} (sign : Mark) (one : Rule X) (free_sign : Free (TheMark sign)) (free_one : Free one) where
-    free_joined : Free (grammar.Joined sign one)
-    free_joined =
-        free_then one _ free_one
-        (λ first. free_then (Many (TheMark sign ⨟ λ _. one) rules.with_last []) _
-        (λ p x ns h. free_many (TheMark sign ⨟ λ _. one) rules.with_last (free_then (TheMark sign) (λ _. one) free_sign (λ _. free_one)) [] x p ns h) (λ others. free_gives _))
+  free_joined : {X : Type 0} (sign : Mark) → mark.End ≢ sign → (one : Rule X) → Free one → Free (grammar.Joined sign one)
+  free_joined sign differ one free_one =
+      free_then one _ free_one
+      (λ first. free_then (Many (TheMark sign ⨟ λ _. one) rules.with_last []) _
+      (λ p x ns h. free_many (TheMark sign ⨟ λ _. one) rules.with_last (free_after sign differ (λ _. one) (λ _. free_one)) [] x p ns h) (λ others. free_gives _))
 
   free_all : (one : Rule (tree.Condition Test)) → Free one → Free (grammar.IsAll one)
-  free_all one free_one = free_joined mark.And one free_and free_one
+  free_all = free_joined mark.And (λ e. cc)
 
   free_any : (all : Rule (Operands (tree.Condition Test))) → Free all → Free (grammar.IsAny all)
   free_any all free_a =
       free_then all _ free_a
       (λ first. free_or _ _
-      (free_then (TheMark mark.Or) _ free_or_mark
-      (λ span p x ns h. free_then (grammar.Joined mark.Or all) _ (free_joined mark.Or all free_or_mark free_a) (λ more. free_gives _) p (x, h.is_noted) h.within h.said))
+      (free_after mark.Or (λ e. cc) _
+      (λ span p x ns h. free_then (grammar.Joined mark.Or all) _ (free_joined mark.Or (λ e. cc) all free_a) (λ more. free_gives _) p (x, h.is_noted) h.within h.said))
       (free_gives _))
 
   free_over : (p q : Rule (tree.Condition Test)) → Free p → Free q → Free (grammar.IsOneOver p q (grammar.IsTest fits))
   free_over p q free_p free_q =
-      free_or _ _ (free_then (TheMark mark.Bang) _ free_bang (λ _. free_map p tree.NotSo free_p))
-      (free_or _ _ (free_then (TheMark mark.ParenOpen) _ free_paren_open (λ _. free_then q _ free_q (λ c. free_then (TheMark mark.ParenClose) _ free_paren_close (λ _. free_gives _))))
+      free_or _ _ (free_after mark.Bang (λ e. cc) _ (λ _. free_map p tree.NotSo free_p))
+      (free_or _ _ (free_after mark.ParenOpen (λ e. cc) _ (λ _. free_then q _ free_q (λ c. free_after mark.ParenClose (λ e. cc) _ (λ _. free_gives _))))
       (free_map (grammar.IsTest fits) tree.Leaf free_test))
 
   free_one : (room : ℕ) → Free (grammar.IsOne fits room)
@@ -191,18 +124,18 @@ module _ (fits : ℕ → Bool) where
 
   free_braced : {X : Type 0} (part : Rule X) → Free part → Free (grammar.AreBraced part)
   free_braced part free_p =
-      free_then (Many part rules.with_last []) _ (λ p x ns h. free_many part rules.with_last free_p [] x p ns h) (λ xs. free_then (TheMark mark.BraceClose) _ free_brace_close (λ _. free_gives _))
+      free_then (Many part rules.with_last []) _ (λ p x ns h. free_many part rules.with_last free_p [] x p ns h) (λ xs. free_after mark.BraceClose (λ e. cc) _ (λ _. free_gives _))
 
   free_block : (statement : Rule (Statement Test Name Wish)) → Free statement → Free (grammar.IsBlock statement)
   free_block statement free_s =
-      free_or _ _ (free_then (TheMark mark.BraceOpen) _ free_brace_open (λ _. free_then (grammar.AreBraced statement) _ (free_braced statement free_s) (λ xs. free_gives _)))
+      free_or _ _ (free_after mark.BraceOpen (λ e. cc) _ (λ _. free_then (grammar.AreBraced statement) _ (free_braced statement free_s) (λ xs. free_gives _)))
       (free_then statement _ free_s (λ x. free_gives _))
 
   free_statement_over : (conditional : Rule (Statement Test Name Wish)) → Free conditional → Free (grammar.IsStatementOver conditional)
   free_statement_over conditional free_c =
-      free_or _ _ (free_then (TheMark mark.If) _ free_if (λ _. free_c))
-      (free_or _ _ (free_then (TheMark mark.Run) _ free_run (λ _. free_then grammar.IsString _ free_string (λ c. free_gives _)))
-      (free_then (TheMark mark.SetState) _ free_set_state (λ span. free_then grammar.IsString _ free_string (λ name. free_gives _))))
+      free_or _ _ (free_after mark.If (λ e. cc) _ (λ _. free_c))
+      (free_or _ _ (free_after mark.Run (λ e. cc) _ (λ _. free_then grammar.IsString _ free_string (λ c. free_gives _)))
+      (free_after mark.SetState (λ e. cc) _ (λ span. free_then grammar.IsString _ free_string (λ name. free_gives _))))
 
   free_statement : (room : ℕ) → Free (grammar.IsStatement fits room)
   free_statement zero = free_statement_over Never free_never
@@ -213,13 +146,13 @@ module _ (fits : ℕ → Bool) where
   module _ (S : Rule (Statement Test Name Wish)) (free_s : Free S) where
     free_part : Free (grammar.IsPart S)
     free_part =
-        free_or _ _ (free_then (TheMark mark.Init) _ free_init (λ span. free_then (grammar.IsBlock S) _ (free_block S free_s) (λ inner. free_gives _))) (free_then S _ free_s (λ s. free_gives _))
+        free_or _ _ (free_after mark.Init (λ e. cc) _ (λ span. free_then (grammar.IsBlock S) _ (free_block S free_s) (λ inner. free_gives _))) (free_then S _ free_s (λ s. free_gives _))
 
     free_item : Free (grammar.IsItem (grammar.IsPart S))
     free_item =
-        free_or _ _ (free_then (TheMark mark.InitState) _ free_init_state (λ span. free_then grammar.IsString _ free_string (λ name. free_gives _)))
+        free_or _ _ (free_after mark.InitState (λ e. cc) _ (λ span. free_then grammar.IsString _ free_string (λ name. free_gives _)))
         (free_or _ _
-        (free_then (TheMark mark.State) _ free_state (λ _. free_then grammar.IsString _ free_string (λ name. free_then (TheMark mark.BraceOpen) _ free_brace_open
+        (free_after mark.State (λ e. cc) _ (λ _. free_then grammar.IsString _ free_string (λ name. free_after mark.BraceOpen (λ e. cc) _
         (λ _. free_then (grammar.AreBraced (grammar.IsPart S)) _ (free_braced (grammar.IsPart S) free_part) (λ parts. free_gives _)))))
         (free_then (grammar.IsPart S) _ free_part (λ p. free_gives _)))
 

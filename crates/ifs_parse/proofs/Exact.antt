@@ -16,6 +16,7 @@ use Rattle.ifs_parse.specs.inner.Combined.{either, expected, unexpected, begins,
 use Rattle.ifs_parse.specs.Words.{marked}
 use Rattle.ifs_parse.specs.Rules.{Rule, GivesValue, OneToken, TheMark, ◌⨟◌, ◌or◌, Never, Optional, Noted, Many}
 use Rattle.ifs_parse.specs.Rules.{Enough, More}
+use Rattle.ifs_parse.proofs.RuleLaws.{Within, optional_within, in_turn}
 
 -- What may be next after a value.
 abbrev pub Stop : Type 0 → Type 1
@@ -64,11 +65,16 @@ inside other (Err fault) = other
 abbrev good : {A : Type 0} → A → Result A ParseFault
 good a = Ok a
 
--- What is found of a value is found of what equals it.
+-- The same tokens and notes by another rule.
+pub found_as : {X Y : Type 0} {P : Rule X} {Q : Rule Y} {stop : Stop X} {after : Stop Y} {s t : Progress} {x : X} {y : Y} (f : Found P stop s x t)
+    → Q f.tokens y f.notes → after y t.left → Found Q after s y t
+found_as f said stops = record { tokens = f.tokens; notes = f.notes; taken = f.taken; noted = f.noted; said = said; stops = stops }
+
+-- What was found of a value was found of an equal one.
 pub told : {X : Type 0} (rule : Rule X) (stop : Stop X) (s : Progress) (a b : X × Progress) → good a ≡ good b → Found rule stop s a.0 a.1 → Found rule stop s b.0 b.1
 told rule stop s a b e h = subst (λ (p : _ × Progress). Found rule stop s p.0 p.1) (ap (inside a) e) h
 
--- Takes no token and gives a value.
+-- A value and no token.
 pub exact_pure : {X : Type 0} (v : X) → Exact (pure v) (GivesValue v) Always
 exact_pure v = record {
   again = λ p x ns q m h stop. rw (h.none, h.is_value, h.unnoted, append-nil m);
@@ -138,6 +144,18 @@ exact_then p q P Q stop exact_p exact_q =
 pub exact_map : {X Y : Type 0} (p : Parse X) (f : X → Y) (P : Rule X) → Exact p P Always → Exact (p ▸ λ x. pure (f x)) (P ⨟ λ x. GivesValue (f x)) Always
 exact_map p f P exact_p = exact_then p (λ x. pure (f x)) P (λ x. GivesValue (f x)) Always exact_p (λ x. exact_pure (f x))
 
+-- A mark, and what was found after it.
+found_marked : {X : Type 0} (mark : Mark) (Q : Span → Rule X) (stop : Stop X) (u : Token) (ts : List Token) (m : List ℕ) (span : Span) {x : X} {t : Progress} → marked mark u ≡ Some span
+    → Found (Q span) stop (progress ts m) x t → Found (TheMark mark ⨟ Q) stop (progress (u ∷ ts) m) x t
+found_marked mark Q stop u ts m span h a = record {
+  tokens = u ∷ a.tokens;
+  notes = a.notes;
+  taken = ap (λ l. u ∷ l) a.taken;
+  noted = a.noted;
+  said = in_turn (u ∷ []) a.tokens [] a.notes span _ (record { token = u; only = refl; stands = h; unnoted = refl }) a.said;
+  stops = a.stops;
+}
+
 module _ {X : Type 0} (start : List Token → Type 0) (mark : Mark) (q : Span → Parse X) (r : Parse X) (Q : Span → Rule X) (R : Rule X) (stop_q stop_r stop : Stop X)
     (exact_q : (span : Span) → Exact (q span) (Q span) stop_q) (exact_r : Exact r R stop_r)
     (q_before : (x : X) (next : List Token) → stop x next → stop_q x next)
@@ -161,35 +179,11 @@ module _ {X : Type 0} (start : List Token → Type 0) (mark : Mark) (q : Span �
       → option_map_or (λ span. q span (after_token (progress ts m))) o (r (progress ts m)) ≡ Ok (x, t) → Found ((TheMark mark ⨟ Q) or R) stop (progress ts m) x t
   either_found ts m begun None h x t e =
       let a = exact_r.reads (progress ts m) x t tt e in
-      record {
-        tokens = a.tokens;
-        notes = a.notes;
-        taken = a.taken;
-        noted = a.noted;
-        said = inr a.said;
-        stops = r_after x a.tokens a.notes t.left a.said (subst start a.taken begun) (ap (accepted mark) (sym a.taken) ∙ h) a.stops;
-      }
+      found_as a (inr a.said) (r_after x a.tokens a.notes t.left a.said (subst start a.taken begun) (ap (accepted mark) (sym a.taken) ∙ h) a.stops)
   either_found [] m begun (Some span) h x t e = absurd (cc)
   either_found (u ∷ ts) m begun (Some span) h x t e =
-      let a = (exact_q span).reads (progress ts m) x t tt e in
-      record {
-        tokens = u ∷ a.tokens;
-        notes = a.notes;
-        taken = ap (λ l. u ∷ l) a.taken;
-        noted = a.noted;
-        said = inl (record {
-          x = span;
-          front = u ∷ [];
-          back = a.tokens;
-          before = [];
-          after = a.notes;
-          tokens_are = refl;
-          notes_are = refl;
-          first = record { token = u; only = refl; stands = h; unnoted = refl };
-          second = a.said;
-        });
-        stops = q_after x t.left a.stops;
-      }
+      let a = found_marked mark Q stop_q u ts m span h ((exact_q span).reads (progress ts m) x t tt e) in
+      found_as a (inl a.said) (q_after x t.left a.stops)
 
   -- A mark and what comes after it, or something else.
   pub reads_either : Reads start (either mark q r) ((TheMark mark ⨟ Q) or R) stop
@@ -226,21 +220,14 @@ exact_no_more some = record {
 }
 
 -- The same tokens by another rule.
-pub exact_as : {X : Type 0} (read : Parse X) (P Q : Rule X) (stop : Stop X) → ((p : List Token) (x : X) (ns : List ℕ) → P p x ns → Q p x ns)
-    → ((p : List Token) (x : X) (ns : List ℕ) → Q p x ns → P p x ns) → Exact read P stop → Exact read Q stop
+pub exact_as : {X : Type 0} (read : Parse X) (P Q : Rule X) (stop : Stop X) → Within P Q → Within Q P → Exact read P stop → Exact read Q stop
 exact_as read P Q stop to back exact = record {
   again = λ p x ns q m h stops. exact.again p x ns q m (back p x ns h) stops;
-  reads = λ s x t a e. let f = exact.reads s x t a e in
-      record { tokens = f.tokens; notes = f.notes; taken = f.taken; noted = f.noted; said = to f.tokens x f.notes f.said; stops = f.stops };
+  reads = λ s x t a e. let f = exact.reads s x t a e in found_as f (to f.tokens x f.notes f.said) f.stops;
 }
 
-optional_to : {X : Type 0} (P Q : Rule X) → ((p : List Token) (x : X) (ns : List ℕ) → P p x ns → Q p x ns) → (p : List Token) (o : Option X) (ns : List ℕ) → Optional P p o ns → Optional Q p o ns
-optional_to P Q to p None ns h = h
-optional_to P Q to p (Some x) ns h = to p x ns h
-
-pub exact_optional_as : {X : Type 0} (read : Parse (Option X)) (P Q : Rule X) (stop : Stop (Option X)) → ((p : List Token) (x : X) (ns : List ℕ) → P p x ns → Q p x ns)
-    → ((p : List Token) (x : X) (ns : List ℕ) → Q p x ns → P p x ns) → Exact read (Optional P) stop → Exact read (Optional Q) stop
-exact_optional_as read P Q stop to back exact = exact_as read (Optional P) (Optional Q) stop (optional_to P Q to) (optional_to Q P back) exact
+pub exact_optional_as : {X : Type 0} (read : Parse (Option X)) (P Q : Rule X) (stop : Stop (Option X)) → Within P Q → Within Q P → Exact read (Optional P) stop → Exact read (Optional Q) stop
+exact_optional_as read P Q stop to back exact = exact_as read (Optional P) (Optional Q) stop (optional_within P Q to) (optional_within Q P back) exact
 
 module _ {X : Type 0} (mark : Mark) (q : Span → Parse X) (r : Parse (Option X)) (Q : Span → Rule X) (R : Rule X) (none some : List Token → Type 0)
     (exact_q : (span : Span) → Exact (q span) (Q span) (λ x. some)) (exact_r : Exact r (Optional R) (Until none some))
@@ -266,42 +253,15 @@ module _ {X : Type 0} (mark : Mark) (q : Span → Parse X) (r : Parse (Option X)
       rw (apart x p ns next h, exact_r.again p (Some x) ns next m h stops)
 
   rest_found : (s : Progress) (o : Option X) (t : Progress) → accepted mark s.left ≡ None → Found (Optional R) (Until none some) s o t → Found (Optional ((TheMark mark ⨟ Q) or R)) (Until begun some) s o t
-  rest_found s None t h a =
-      record {
-        tokens = a.tokens;
-        notes = a.notes;
-        taken = a.taken;
-        noted = a.noted;
-        said = a.said;
-        stops = (ap (accepted mark) (sym (a.taken ∙ ap (λ (l : List Token). l ++ t.left) a.said.0)) ∙ h, a.stops);
-      }
-  rest_found s (Some x) t h a =
-      record { tokens = a.tokens; notes = a.notes; taken = a.taken; noted = a.noted; said = inr a.said; stops = a.stops }
+  rest_found s None t h a = found_as a a.said (ap (accepted mark) (sym (a.taken ∙ ap (λ (l : List Token). l ++ t.left) a.said.0)) ∙ h, a.stops)
+  rest_found s (Some x) t h a = found_as a (inr a.said) a.stops
 
   some_found : (u : Token) (ts : List Token) (m : List ℕ) (span : Span) (h : marked mark u ≡ Some span) (o : Option X) (t : Progress)
       → (q span ▸ λ x. pure (Some x)) (progress ts m) ≡ Ok (o, t) → Found (Optional ((TheMark mark ⨟ Q) or R)) (Until begun some) (progress (u ∷ ts) m) o t
   some_found u ts m span h o t e =
       let w = went (q span (progress ts m)) (λ r. Ok (Some r.0, r.1)) (o, t) e in
-      let a = (exact_q span).reads (progress ts m) w.on.0 w.on.1 tt w.was in
-      told (Optional ((TheMark mark ⨟ Q) or R)) (Until begun some) (progress (u ∷ ts) m) (Some w.on.0, w.on.1) (o, t) w.then_is
-      (record {
-        tokens = u ∷ a.tokens;
-        notes = a.notes;
-        taken = ap (λ l. u ∷ l) a.taken;
-        noted = a.noted;
-        said = inl (record {
-          x = span;
-          front = u ∷ [];
-          back = a.tokens;
-          before = [];
-          after = a.notes;
-          tokens_are = refl;
-          notes_are = refl;
-          first = record { token = u; only = refl; stands = h; unnoted = refl };
-          second = a.said;
-        });
-        stops = a.stops;
-      })
+      let a = found_marked mark Q (λ x. some) u ts m span h ((exact_q span).reads (progress ts m) w.on.0 w.on.1 tt w.was) in
+      told (Optional ((TheMark mark ⨟ Q) or R)) (Until begun some) (progress (u ∷ ts) m) (Some w.on.0, w.on.1) (o, t) w.then_is (found_as a (inl a.said) a.stops)
 
   begins_found : (ts : List Token) (m : List ℕ) (c : Option Span) → accepted mark ts ≡ c → (o : Option X) (t : Progress)
       → option_map_or (λ span. (q span ▸ λ x. pure (Some x)) (after_token (progress ts m))) c (r (progress ts m)) ≡ Ok (o, t)
@@ -322,7 +282,7 @@ module _ {X : Type 0} (p : Parse (Option X)) (P : Rule X) (none some : List Toke
       → option_map_or pure o unexpected u ≡ Ok (x, t) → Found P (λ x. some) s x t
   required_found s None u a x t e = absurd (cc)
   required_found s (Some y) u a x t e =
-      told P (λ x. some) s (y, u) (x, t) e (record { tokens = a.tokens; notes = a.notes; taken = a.taken; noted = a.noted; said = a.said; stops = a.stops })
+      told P (λ x. some) s (y, u) (x, t) e (found_as a a.said a.stops)
 
   -- Something that must come.
   pub exact_required : Exact (required p) P (λ x. some)
@@ -408,8 +368,7 @@ exact_many part add P none exact_part consumes ended a =
     let r = reads_many part add P none Any exact_part (λ x p ns next h. tt) consumes ended a in
     record {
       again = λ p b ns q m h stop. r.again p b ns q m h (stop, tt);
-      reads = λ s b t begun e. let f = r.reads s b t begun e in
-          record { tokens = f.tokens; notes = f.notes; taken = f.taken; noted = f.noted; said = f.said; stops = f.stops.0 };
+      reads = λ s b t begun e. let f = r.reads s b t begun e in found_as f f.said f.stops.0;
     }
 
 insert_after : (m w : List ℕ) (line : ℕ) → insert (m ++ w) (length m) line ≡ m ++ line ∷ w

@@ -1,13 +1,15 @@
 -- Where each parser of the grammar fails.
-use Rattle.std.proofs.Common.{◌≡◌, inl, inr, ℕ, zero, suc, ◌≤◌, refl, sym, ap, subst, append_assoc, append-nil, ◌∙◌}
+use Rattle.std.proofs.Common.{◌≡◌, inl, inr, ℕ, zero, suc, ◌≤◌, refl, sym, ap, subst, append_assoc, append-nil, ◌∙◌, cond}
 use Rattle.std.proofs.Common.{Bool, true, false, ◌||◌, Option, Some, None, Ok, Err, List, [], ◌∷◌, ◌++◌, length}
 use Rattle.std.specs.Prelude.{Result, if◌then◌else◌, option_map}
 use Rattle.std.specs.Option.{option_map_or}
 use Rattle.ifs_base.specs.declared.span.Span.{Span}
+use denote.Enum.Bare.{true_same}
 use Rattle.ifs_lex.specs.declared.token.Token.{Token}
 use Rattle.ifs_lex.specs.declared.token.What.{What}
 use Rattle.ifs_lex.specs.declared.token.What.TheVariants as what
 use Rattle.ifs_parse.specs.declared.fault.ParseFault.{ParseFault}
+use Rattle.ifs_parse.specs.contracts.mark.Mark.{the_type}
 use Rattle.ifs_parse.specs.declared.mark.Mark.{Mark}
 use Rattle.ifs_parse.specs.declared.mark.Mark.TheVariants as mark
 use Rattle.ifs_parse.specs.Marks.{mark_of, is}
@@ -40,16 +42,18 @@ use Rattle.ifs_parse.specs.Rules.{Enough, OneToken}
 use Rattle.ifs_parse.specs.declared.fault.ParseFault.TheVariants.{Unexpected, Nesting, Memory}
 use Rattle.ifs_parse.proofs.Read.{exact_string, exact_period, exact_test, exact_next, exact_all, exact_one}
 use Rattle.ifs_parse.proofs.Read.{exact_condition, reads_more, begins_longer, exact_braced, exact_part}
-use Rattle.ifs_parse.proofs.Read.{exact_item, part_longer, item_longer, closes_part, not_statement, close_if}
-use Rattle.ifs_parse.proofs.Read.{close_run, close_set, No, Over, NoStatement, NoPart, NoItem, known, Known}
+use Rattle.ifs_parse.proofs.Read.{exact_item, part_longer, item_longer, closes_part, not_statement}
+use Rattle.ifs_parse.proofs.Read.{RunRule, SetRule, never_to, No, Over, NoStatement, NoPart, NoItem, known, Known}
 use Rattle.ifs_parse.proofs.Operands as operands
 use Rattle.ifs_parse.proofs.Operands.{condition_kept, kept_condition}
 use Rattle.ifs_parse.proofs.Stuck.{next_token, found_by_next, line_by_next, ByNext, Limit, Periods, Depth, OfPeriods}
-use Rattle.ifs_parse.proofs.Stuck.{OfDepth, IsOf, Fails, fails_as, fails_here, Goes, Sample, Within, Stuck}
-use Rattle.ifs_parse.proofs.Stuck.{begins_first, begins_left, begins_right, same_within, then_within, marked_within}
-use Rattle.ifs_parse.proofs.Stuck.{optional_within, stuck_pure, stuck_token, stuck_then_at, stuck_then, stuck_either}
+use Rattle.ifs_parse.proofs.Stuck.{OfDepth, IsOf, Fails, fails_as, fails_here, Goes, Sample, Stuck}
+use Rattle.ifs_parse.proofs.RuleLaws.{rejoined, made_of, Within, same_within, then_within, marked_within, or_never}
+use Rattle.ifs_parse.proofs.RuleLaws.{optional_within, optional_or}
+use Rattle.ifs_parse.proofs.Stuck.{begins_first, begins_left, begins_right}
+use Rattle.ifs_parse.proofs.Stuck.{stuck_pure, stuck_token, stuck_then_at, stuck_then, stuck_either}
 use Rattle.ifs_parse.proofs.Stuck.{stuck_deep, stuck_begins, stuck_no_more, stuck_as, stuck_required, stuck_option}
-use Rattle.ifs_parse.proofs.Stuck.{stuck_noted, stuck_many, optional_or, Broke, Before, After, broke}
+use Rattle.ifs_parse.proofs.Stuck.{stuck_noted, stuck_many, Broke, Before, After, broke}
 use Rattle.ifs_parse.proofs.Whole.{says_no_fault}
 use Rattle.ifs_parse.proofs.Limits.{no_help_at}
 use Rattle.ifs_parse.proofs.Ends.{ends_there}
@@ -84,43 +88,27 @@ sample_many P add a = record { tail = []; x = a; notes = []; said = Enough }
 sample_string : Sample grammar.IsString
 sample_string = sample_token words.name_of (token_of (what.Quoted [])) (record { text = []; span = nowhere }) refl
 
-sample_dot : Sample (TheMark mark.Dot)
-unfolding is
-sample_dot = sample_token (marked mark.Dot) (token_of what.Dot) nowhere refl
+-- A token with this mark, for the marks that samples need.
+abbrev spelled : Mark → What
+spelled mark.Link = what.Word (codes "link")
+spelled mark.Every = what.Word (codes "every")
+spelled mark.Run = what.Word (codes "run")
+spelled mark.ParenClose = what.ParenClose
+spelled mark.BraceOpen = what.BraceOpen
+spelled mark.BraceClose = what.BraceClose
+spelled mark.End = what.End
+spelled _ = what.Dot
 
-sample_link : Sample (TheMark mark.Link)
+sample_mark : (m : Mark) → mark_of (spelled m) ≡ m → Sample (TheMark m)
 unfolding is
-sample_link = sample_token (marked mark.Link) (token_of (what.Word (codes "link"))) nowhere refl
-
-sample_every : Sample (TheMark mark.Every)
-unfolding is
-sample_every = sample_token (marked mark.Every) (token_of (what.Word (codes "every"))) nowhere refl
-
-sample_close : Sample (TheMark mark.ParenClose)
-unfolding is
-sample_close = sample_token (marked mark.ParenClose) (token_of what.ParenClose) nowhere refl
-
-sample_open_brace : Sample (TheMark mark.BraceOpen)
-unfolding is
-sample_open_brace = sample_token (marked mark.BraceOpen) (token_of what.BraceOpen) nowhere refl
-
-sample_close_brace : Sample (TheMark mark.BraceClose)
-unfolding is
-sample_close_brace = sample_token (marked mark.BraceClose) (token_of what.BraceClose) nowhere refl
-
-sample_end : Sample (TheMark mark.End)
-unfolding is
-sample_end = sample_token (marked mark.End) (token_of what.End) nowhere refl
-
-sample_run : Sample (TheMark mark.Run)
-unfolding is
-sample_run = sample_token (marked mark.Run) (token_of (what.Word (codes "run"))) nowhere refl
+sample_mark m e =
+    sample_token (marked m) (token_of (spelled m)) nowhere (ap (λ b. cond b (Some nowhere) None) (true_same the_type (mark_of (spelled m)) m e))
 
 sample_link_state : Sample grammar.IsLinkState
 sample_link_state = sample_token (λ t. words.link_state_of (mark_of t.what)) (token_of (what.Word (codes "up"))) link.Up refl
 
-stuck_mark : {limit : Limit} (m : Mark) → Sample (TheMark m) → Stuck limit Any (expected m) (TheMark m) (TheMark m)
-stuck_mark m s = stuck_token (marked m) s
+stuck_mark : {limit : Limit} (m : Mark) → mark_of (spelled m) ≡ m → Stuck limit Any (expected m) (TheMark m) (TheMark m)
+stuck_mark m e = stuck_token (marked m) (sample_mark m e)
 
 stuck_map : {limit : Limit} {X Y : Type 0} {W : Rule X} (p : Parse X) (f : X → Y) (P : Rule X) → Exact p P Always → Stuck limit Any p P W
     → Stuck limit Any (p ▸ λ x. pure (f x)) (P ⨟ λ x. GivesValue (f x)) (W ⨟ λ x. GivesValue (f x))
@@ -216,39 +204,34 @@ abbrev LinkRule : Name → Rule Test
 LinkRule name = TheMark mark.Dot ⨟ λ _. grammar.IsLinkTest name
 
 sample_link_test : (name : Name) → Sample (grammar.IsLinkTest name)
-sample_link_test name = sample_then _ _ sample_link (λ _. sample_then _ _ sample_dot (λ _. sample_then _ _ sample_link_state (λ l. sample_gives _)))
+sample_link_test name = sample_then _ _ (sample_mark mark.Link refl) (λ _. sample_then _ _ (sample_mark mark.Dot refl) (λ _. sample_then _ _ sample_link_state (λ l. sample_gives _)))
 
 sample_test : Sample (grammar.IsTest fits)
-sample_test = sample_then _ _ sample_string (λ name. sample_left _ _ (sample_then _ _ sample_dot (λ _. sample_link_test name)))
+sample_test = sample_then _ _ sample_string (λ name. sample_left _ _ (sample_then _ _ (sample_mark mark.Dot refl) (λ _. sample_link_test name)))
 
 stuck_link_test : {limit : Limit} (name : Name) → Stuck limit Any (reading.link_test name) (grammar.IsLinkTest name) (grammar.IsLinkTest name)
 stuck_link_test name =
-    stuck_then (expected mark.Link) _ (TheMark mark.Link) _ (exact_mark mark.Link) (stuck_mark mark.Link sample_link)
-    (λ _. stuck_then (expected mark.Dot) _ (TheMark mark.Dot) _ (exact_mark mark.Dot) (stuck_mark mark.Dot sample_dot)
+    stuck_then (expected mark.Link) _ (TheMark mark.Link) _ (exact_mark mark.Link) (stuck_mark mark.Link refl)
+    (λ _. stuck_then (expected mark.Dot) _ (TheMark mark.Dot) _ (exact_mark mark.Dot) (stuck_mark mark.Dot refl)
     (λ _. stuck_map reading.link_state _ grammar.IsLinkState (exact_token (λ t. words.link_state_of (mark_of t.what))) (stuck_token (λ t. words.link_state_of (mark_of t.what)) sample_link_state))
     (λ _. sample_then _ _ sample_link_state (λ l. sample_gives _)))
-    (λ _. sample_then _ _ sample_dot (λ _. sample_then _ _ sample_link_state (λ l. sample_gives _)))
+    (λ _. sample_then _ _ (sample_mark mark.Dot refl) (λ _. sample_then _ _ sample_link_state (λ l. sample_gives _)))
 
 stuck_test : (limit : Limit) → Stuck limit Any (reading.test fits) (grammar.IsTest fits) (grammar.IsTest (wide limit))
 stuck_test limit =
     stuck_then reading.string _ grammar.IsString _ exact_string stuck_string
     (λ name. stuck_either Any mark.Dot (λ _. reading.link_test name) (expected mark.Every ▸ λ _. reading.external_test fits name) (λ _. grammar.IsLinkTest name) _
     (λ _. stuck_link_test name)
-    (stuck_then (expected mark.Every) _ (TheMark mark.Every) _ (exact_mark mark.Every) (stuck_mark mark.Every sample_every)
+    (stuck_then (expected mark.Every) _ (TheMark mark.Every) _ (exact_mark mark.Every) (stuck_mark mark.Every refl)
     (λ _. stuck_map (reading.period fits) _ (grammar.IsPeriod fits) (exact_period fits) (stuck_period limit))
     (λ _. sample_then _ _ sample_period (λ n. sample_gives _))))
-    (λ name. sample_left _ _ (sample_then _ _ sample_dot (λ _. sample_link_test name)))
-
-never_drops : {X : Type 0} (m : Mark) (O : Rule X) (p : List Token) (o : Option X) (ns : List ℕ) → Optional ((TheMark m ⨟ λ _. O) or Never) p o ns → Optional (TheMark m ⨟ λ _. O) p o ns
-never_drops m O p None ns h = h
-never_drops m O p (Some x) ns (inl h) = h
-never_drops m O p (Some x) ns (inr h) = absurd h
+    (λ name. sample_left _ _ (sample_then _ _ (sample_mark mark.Dot refl) (λ _. sample_link_test name)))
 
 stuck_next : {limit : Limit} {X : Type 0} (m : Mark) (operand : Parse X) (O W : Rule X) → Stuck limit Any operand O W
     → Stuck limit Any (reading.next_operand m operand) (Optional (TheMark m ⨟ λ _. O)) (Optional (TheMark m ⨟ λ _. W))
 stuck_next m operand O W stuck_o =
     stuck_as Any (reading.next_operand m operand) (Optional ((TheMark m ⨟ λ _. O) or Never)) (Optional ((TheMark m ⨟ λ _. W) or Never))
-    (Optional (TheMark m ⨟ λ _. O)) (Optional (TheMark m ⨟ λ _. W)) (never_drops m O) (never_drops m W)
+    (Optional (TheMark m ⨟ λ _. O)) (Optional (TheMark m ⨟ λ _. W)) (optional_within _ _ (or_never (TheMark m ⨟ λ _. O))) (optional_within _ _ (or_never (TheMark m ⨟ λ _. W)))
     (optional_within (TheMark m ⨟ λ _. O) (TheMark m ⨟ λ _. W) (then_within (TheMark m) (TheMark m) (λ _. O) (λ _. W) (same_within (TheMark m)) (λ _. stuck_o.within)))
     (stuck_begins m (λ _. operand) no_more (λ _. O) Never (λ _. stuck_o) stuck_no_more)
 
@@ -336,8 +319,8 @@ module _ (limit : Limit) (room wide_room : ℕ) (stuck_o : Stuck limit Any (read
       (grammar.IsCondition (wide limit) wide_room ⨟ λ c. TheMark mark.ParenClose ⨟ λ _. GivesValue c)
   stuck_group =
       stuck_then_at Any (reading.condition fits room) _ (grammar.IsCondition fits room) _ (λ c. Over) (λ c. Any) (exact_condition fits room) stuck_any_over
-      (λ c. stuck_map (expected mark.ParenClose) (λ _. c) (TheMark mark.ParenClose) (exact_mark mark.ParenClose) (stuck_mark mark.ParenClose sample_close))
-      (λ c next s. tt) (λ c. over_by_next) (λ c. sample_then _ _ sample_close (λ _. sample_gives _))
+      (λ c. stuck_map (expected mark.ParenClose) (λ _. c) (TheMark mark.ParenClose) (exact_mark mark.ParenClose) (stuck_mark mark.ParenClose refl))
+      (λ c next s. tt) (λ c. over_by_next) (λ c. sample_then _ _ (sample_mark mark.ParenClose refl) (λ _. sample_gives _))
 
 -- The parser fails at `!` and `(` if nothing may be open.
 stuck_one_deep : (limit : Limit) (Negated Grouped : Rule (tree.Condition Test)) → (OfDepth limit → Sample Negated) → (OfDepth limit → Sample Grouped)
@@ -345,7 +328,7 @@ stuck_one_deep : (limit : Limit) (Negated Grouped : Rule (tree.Condition Test)) 
 stuck_one_deep limit Negated Grouped negated grouped =
     stuck_deep mark.Bang (λ span. reading.deep span ▸ λ c. pure (tree.NotSo c)) _ (λ _. Never ⨟ λ c. GivesValue (tree.NotSo c)) _ (λ span s. refl)
     (stuck_deep mark.ParenOpen (λ span. reading.deep span ▸ λ c. expected mark.ParenClose ▸ λ _. pure c) _ (λ _. Never ⨟ λ c. TheMark mark.ParenClose ⨟ λ _. GivesValue c) _ (λ span s. refl)
-    (stuck_leaf limit) sample_leaf (λ span p x ns h. absurd h.first) (λ k span. sample_then _ _ (grouped k) (λ c. sample_then _ _ sample_close (λ _. sample_gives _))))
+    (stuck_leaf limit) sample_leaf (λ span p x ns h. absurd h.first) (λ k span. sample_then _ _ (grouped k) (λ c. sample_then _ _ (sample_mark mark.ParenClose refl) (λ _. sample_gives _))))
     (sample_right _ _ sample_leaf) (λ span p x ns h. absurd h.first) (λ k span. sample_then _ _ (negated k) (λ c. sample_gives _))
 
 pub stuck_one : (limit : Limit) (room : ℕ) → Stuck limit Any (reading.one fits room) (grammar.IsOne fits room) (grammar.IsOne (wide limit) (more room limit))
@@ -361,14 +344,8 @@ stuck_one limit (suc room) =
 pub stuck_condition : (limit : Limit) (room : ℕ) → Stuck limit Any (reading.condition fits room) (grammar.IsCondition fits room) (grammar.IsCondition (wide limit) (more room limit))
 stuck_condition limit room = stuck_any_over limit room (more room limit) (stuck_one limit room)
 
-abbrev RunRule : Rule (Statement Test Name Wish)
-RunRule = TheMark mark.Run ⨟ λ _. grammar.IsString ⨟ λ command. GivesValue (Run command)
-
-abbrev SetRule : Rule (Statement Test Name Wish)
-SetRule = TheMark mark.SetState ⨟ λ span. grammar.IsString ⨟ λ name. GivesValue (SetState (record { span = span; state = name }))
-
 sample_statement_over : (Cond : Rule (Statement Test Name Wish)) → Sample (grammar.IsStatementOver Cond)
-sample_statement_over Cond = sample_right _ _ (sample_left _ _ (sample_then _ _ sample_run (λ _. sample_then _ _ sample_string (λ command. sample_gives _))))
+sample_statement_over Cond = sample_right _ _ (sample_left _ _ (sample_then _ _ (sample_mark mark.Run refl) (λ _. sample_then _ _ sample_string (λ command. sample_gives _))))
 
 -- Statements without `if`.
 stuck_simple : {limit : Limit} → Stuck limit Any (begins mark.Run (λ _. reading.run) (begins mark.SetState reading.set_state no_more)) (Optional (RunRule or (SetRule or Never))) (Optional (RunRule or (SetRule or Never)))
@@ -378,13 +355,8 @@ stuck_simple =
     (stuck_begins mark.SetState reading.set_state no_more (λ span. grammar.IsString ⨟ λ name. GivesValue (SetState (record { span = span; state = name }))) Never
     (λ span. stuck_map reading.string (λ name. SetState (record { span = span; state = name })) grammar.IsString exact_string stuck_string) stuck_no_more)
 
-without_never : (Cond : Rule (Statement Test Name Wish)) (p : List Token) (o : Option (Statement Test Name Wish)) (ns : List ℕ) → Optional ((TheMark mark.If ⨟ λ _. Cond) or (RunRule or (SetRule or Never))) p o ns
-    → Optional (grammar.IsStatementOver Cond) p o ns
-without_never Cond p None ns h = h
-without_never Cond p (Some x) ns (inl h) = inl h
-without_never Cond p (Some x) ns (inr (inl h)) = inr (inl h)
-without_never Cond p (Some x) ns (inr (inr (inl h))) = inr (inr h)
-without_never Cond p (Some x) ns (inr (inr (inr h))) = absurd h
+without_never : (Cond : Rule (Statement Test Name Wish)) → Within (Optional ((TheMark mark.If ⨟ λ _. Cond) or (RunRule or (SetRule or Never)))) (Optional (grammar.IsStatementOver Cond))
+without_never Cond = optional_within _ _ (never_to Cond)
 
 statement_within : (Cond W : Rule (Statement Test Name Wish)) → Within Cond W → Within (Optional (grammar.IsStatementOver Cond)) (Optional (grammar.IsStatementOver W))
 statement_within Cond W h =
@@ -405,18 +377,8 @@ module _ (W : Rule (Statement Test Name Wish)) where
   deep_to : (p : List Token) (o : Option (Statement Test Name Wish)) (ns : List ℕ) → IfOr p o ns → Optional (grammar.IsStatementOver W) p o ns
   deep_to p o ns (inr h) = without_never W p o ns (optional_or (TheMark mark.If ⨟ λ _. W) (RunRule or (SetRule or Never)) p o ns h)
   deep_to p o ns (inl h) =
-      subst (λ (o : Option (Statement Test Name Wish)). Optional (grammar.IsStatementOver W) p o ns) (sym h.second.second.is_value)
-      (inl (record {
-        x = h.x;
-        front = h.front;
-        back = h.second.front;
-        before = h.before;
-        after = h.second.before;
-        first = h.first;
-        second = h.second.first;
-        tokens_are = h.tokens_are ∙ ap (λ (l : List Token). h.front ++ l) (h.second.tokens_are ∙ ap (λ (l : List Token). h.second.front ++ l) h.second.second.none ∙ append-nil h.second.front);
-        notes_are = h.notes_are ∙ ap (λ (l : List ℕ). h.before ++ l) (h.second.notes_are ∙ ap (λ (l : List ℕ). h.second.before ++ l) h.second.second.unnoted ∙ append-nil h.second.before);
-      }))
+      let m = made_of h.second in
+      subst (λ (o : Option (Statement Test Name Wish)). Optional (grammar.IsStatementOver W) p o ns) (sym m.made) (inl (rejoined h h.x m.x h.first m.said))
 
 -- The parser fails at `if` if nothing may be open.
 stuck_statement_deep : (limit : Limit) (W : Rule (Statement Test Name Wish)) → (OfDepth limit → Sample W)
@@ -438,11 +400,11 @@ stuck_braced : {limit : Limit} {X : Type 0} (part : Parse (Option X)) (P W : Rul
 stuck_braced part P W none exact_p stuck_p by_next longer ended =
     stuck_then_at Any (many part rules.with_last []) _ (Many P rules.with_last []) _ (λ xs. none) (λ xs. Any)
     (exact_many part rules.with_last P none exact_p longer ended []) (stuck_many {W = W} part rules.with_last P none Any exact_p stuck_p any_by_next longer ended [])
-    (λ xs. stuck_map (expected mark.BraceClose) (λ _. xs) (TheMark mark.BraceClose) (exact_mark mark.BraceClose) (stuck_mark mark.BraceClose sample_close_brace))
-    (λ xs next s. tt) (λ xs. by_next) (λ xs. sample_then _ _ sample_close_brace (λ _. sample_gives _))
+    (λ xs. stuck_map (expected mark.BraceClose) (λ _. xs) (TheMark mark.BraceClose) (exact_mark mark.BraceClose) (stuck_mark mark.BraceClose refl))
+    (λ xs next s. tt) (λ xs. by_next) (λ xs. sample_then _ _ (sample_mark mark.BraceClose refl) (λ _. sample_gives _))
 
 sample_braced : {X : Type 0} (P : Rule X) → Sample (grammar.AreBraced P)
-sample_braced P = sample_then _ _ (sample_many _ _ _) (λ xs. sample_then _ _ sample_close_brace (λ _. sample_gives _))
+sample_braced P = sample_then _ _ (sample_many _ _ _) (λ xs. sample_then _ _ (sample_mark mark.BraceClose refl) (λ _. sample_gives _))
 
 -- Where the parsers of statements and of blocks fail.
 record Fallible (limit : Limit) (statement : Parse (Option (Statement Test Name Wish))) (S W : Rule (Statement Test Name Wish)) : Type 0 where
@@ -458,7 +420,7 @@ fallible_over limit statement S W k stuck_s sample_s =
       sample = sample_s;
       block = stuck_either Any mark.BraceOpen (λ _. reading.braced statement ▸ λ xs. pure (block_of xs)) (required statement ▸ λ x. pure (block_of (x ∷ [])))
           (λ _. grammar.AreBraced S ⨟ λ xs. GivesValue (block_of xs)) (S ⨟ λ x. GivesValue (block_of (x ∷ [])))
-          (λ _. stuck_map (reading.braced statement) block_of (grammar.AreBraced S) (exact_braced statement S NoStatement k.exact k.longer (refl, (refl, (refl, tt))) (not_statement mark.BraceClose close_if close_run close_set))
+          (λ _. stuck_map (reading.braced statement) block_of (grammar.AreBraced S) (exact_braced statement S NoStatement k.exact k.longer (refl, (refl, (refl, tt))) (not_statement mark.BraceClose (λ e. cc) (λ e. cc) (λ e. cc)))
           (stuck_braced statement S W NoStatement k.exact stuck_s statement_by_next k.longer (refl, (refl, (refl, tt)))))
           (stuck_map {W = W} (required statement) (λ x. block_of (x ∷ [])) S (exact_required statement S NoStatement Any k.exact)
           (stuck_required {W = W} statement S NoStatement Any k.exact stuck_s statement_by_next sample_s));
@@ -508,12 +470,12 @@ module _ (limit : Limit) (statement : Parse (Option (Statement Test Name Wish)))
       (grammar.IsString ⨟ λ name. TheMark mark.BraceOpen ⨟ λ _. grammar.AreBraced (grammar.IsPart W) ⨟ λ parts. GivesValue (StateItem name parts))
   stuck_state =
       stuck_then reading.string _ grammar.IsString _ exact_string stuck_string
-      (λ name. stuck_then (expected mark.BraceOpen) _ (TheMark mark.BraceOpen) _ (exact_mark mark.BraceOpen) (stuck_mark mark.BraceOpen sample_open_brace)
+      (λ name. stuck_then (expected mark.BraceOpen) _ (TheMark mark.BraceOpen) _ (exact_mark mark.BraceOpen) (stuck_mark mark.BraceOpen refl)
       (λ _. stuck_map (reading.braced (reading.part statement)) (λ parts. StateItem name parts) (grammar.AreBraced (grammar.IsPart S))
       (exact_braced (reading.part statement) (grammar.IsPart S) NoPart (exact_part statement S k) (part_longer statement S k) (refl, (refl, (refl, (refl, tt)))) (closes_part statement S k))
       (stuck_braced (reading.part statement) (grammar.IsPart S) (grammar.IsPart W) NoPart (exact_part statement S k) stuck_part part_by_next (part_longer statement S k) (refl, (refl, (refl, (refl, tt))))))
       (λ _. sample_then _ _ (sample_braced _) (λ parts. sample_gives _)))
-      (λ name. sample_then _ _ sample_open_brace (λ _. sample_then _ _ (sample_braced _) (λ parts. sample_gives _)))
+      (λ name. sample_then _ _ (sample_mark mark.BraceOpen refl) (λ _. sample_then _ _ (sample_braced _) (λ parts. sample_gives _)))
 
   stuck_item : Stuck limit Any (reading.item (reading.part statement)) (Optional (grammar.IsItem (grammar.IsPart S))) (Optional (grammar.IsItem (grammar.IsPart W)))
   stuck_item =
@@ -530,8 +492,8 @@ module _ (limit : Limit) (statement : Parse (Option (Statement Test Name Wish)))
       (exact_many (reading.item (reading.part statement)) rules.with_last (grammar.IsItem (grammar.IsPart S)) NoItem (exact_item statement S k) (item_longer statement S k) (refl, (refl, (refl, (refl, (refl, (refl, tt)))))) [])
       (stuck_many {W = grammar.IsItem (grammar.IsPart W)} (reading.item (reading.part statement)) rules.with_last (grammar.IsItem (grammar.IsPart S)) NoItem Any (exact_item statement S k) stuck_item any_by_next (item_longer statement S k)
       (refl, (refl, (refl, (refl, (refl, (refl, tt)))))) [])
-      (λ all. stuck_map (expected mark.End) (λ _. all) (TheMark mark.End) (exact_mark mark.End) (stuck_mark mark.End sample_end))
-      (λ all next s. tt) (λ all. item_by_next) (λ all. sample_then _ _ sample_end (λ _. sample_gives _))
+      (λ all. stuck_map (expected mark.End) (λ _. all) (TheMark mark.End) (exact_mark mark.End) (stuck_mark mark.End refl))
+      (λ all next s. tt) (λ all. item_by_next) (λ all. sample_then _ _ (sample_mark mark.End refl) (λ _. sample_gives _))
 
 abbrev read_all : Parse (List Item)
 read_all = reading.items (reading.item (reading.part (reading.statement fits 32)))

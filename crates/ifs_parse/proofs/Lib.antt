@@ -1,5 +1,6 @@
 pub mod Turns
 pub mod Alternatives
+pub mod RuleLaws
 pub mod Operands
 pub mod Exact
 pub mod Read

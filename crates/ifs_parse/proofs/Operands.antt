@@ -1,6 +1,6 @@
 -- Operands that the parser puts together while it reads them say what the whole list of them says.
-use Rattle.std.proofs.Common.{◌≡◌, inl, inr, ℕ, ◌≤◌, refl, sym, ap, subst, ◌∙◌, Bool, true, false, ◌&&◌}
-use Rattle.std.proofs.Common.{◌||◌, List, [], ◌∷◌, ◌++◌, length, map, append_assoc, append-nil, arith}
+use Rattle.std.proofs.Common.{◌≡◌, inl, inr, ℕ, ◌≤◌, refl, sym, ap, subst, ◌∙◌, Bool, true, false, ◌&&◌, ◌||◌, List}
+use Rattle.std.proofs.Common.{[], ◌∷◌, ◌++◌, length, map, append_assoc, arith}
 use Rattle.std.specs.List.{Any, list_any}
 use Rattle.std.proofs.lemmas.List.{map-append}
 use Rattle.std.proofs.lemmas.List.Folds.{list_any-append, Any-from_list_any, list_any-from_Any}
@@ -13,7 +13,8 @@ use Rattle.ifs_parse.specs.Views.{all_of, any_of}
 use Rattle.ifs_parse.specs.inner.Reading.{Others, others, operand, with_operand}
 use Rattle.ifs_parse.specs.Rules.{Rule, GivesValue, TheMark, ◌⨟◌, ◌or◌, Noted, Many, Enough, More, with_last}
 use Rattle.ifs_parse.specs.Grammar as grammar
-use Rattle.ifs_parse.specs.Grammar.{Operands, operands, whole, is_chain, conjunction, disjunction}
+use Rattle.ifs_parse.specs.Grammar.{Operands, operands, whole, is_chain, conjunction}
+use Rattle.ifs_parse.proofs.RuleLaws.{in_turn, rejoined, moved, Made, made_of, gives_made, same_within, marked_within, noted_within}
 
 -- The rules over what the parser keeps of operands: the condition so far, and whether one of them is a chain.
 abbrev pub IsChain : Rule (tree.Condition Test) → tree.Condition Test → Rule Operand
@@ -33,43 +34,6 @@ IsAny all = all ⨟ λ first. (TheMark mark.Or ⨟ λ span. Noted span.line (Are
 -- What the parser keeps of the operands of `&&`.
 abbrev pub kept : Operands (tree.Condition Test) → Operand
 kept o = operand (conjunction o) (is_chain o)
-
--- One rule after another, in a row.
-in_turn : {X Y : Type 0} {P : Rule X} {Q : X → Rule Y} (f k : List Token) (b a : List ℕ) (x : X) (y : Y) → P f x b → Q x k y a → (P ⨟ Q) (f ++ k) y (b ++ a)
-in_turn f k b a x y h g = record { x = x; front = f; back = k; before = b; after = a; tokens_are = refl; notes_are = refl; first = h; second = g }
-
--- What is made of a value.
-pub record Made {X Y : Type 0} (P : Rule X) (f : X → Y) (p : List Token) (y : Y) (ns : List ℕ) : Type 0 where
-  pub x : X
-  pub said : P p x ns
-  pub made : y ≡ f x
-
-made_of : {X Y : Type 0} {P : Rule X} {f : X → Y} {p : List Token} {y : Y} {ns : List ℕ} → (P ⨟ λ x. GivesValue (f x)) p y ns → Made P f p y ns
-made_of {P = P} {p = p} {ns = ns} h = record {
-  x = h.x;
-  said =
-      let t : h.front ≡ p = sym (h.tokens_are ∙ ap (λ (l : List Token). h.front ++ l) h.second.none ∙ append-nil h.front) in
-      let n : h.before ≡ ns = sym (h.notes_are ∙ ap (λ (l : List ℕ). h.before ++ l) h.second.unnoted ∙ append-nil h.before) in
-      subst (λ (l : List Token). P l h.x ns) t (subst (λ (l : List ℕ). P h.front h.x l) n h.first);
-  made = h.second.is_value;
-}
-
-gives_made : {X Y : Type 0} {P : Rule X} {f : X → Y} {p : List Token} {y : Y} {ns : List ℕ} (x : X) → P p x ns → y ≡ f x → (P ⨟ λ x. GivesValue (f x)) p y ns
-gives_made {p = p} {ns = ns} x h e = record {
-  x = x;
-  front = p;
-  back = [];
-  before = ns;
-  after = [];
-  tokens_are = sym (append-nil p);
-  notes_are = sym (append-nil ns);
-  first = h;
-  second = record { none = refl; is_value = e; unnoted = refl };
-}
-
--- A rule at equal tokens and notes.
-moved : {X : Type 0} (P : Rule X) {p q : List Token} {x : X} {n m : List ℕ} → p ≡ q → n ≡ m → P p x n → P q x m
-moved P {p = p} {q = q} {x = x} {n = n} {m = m} t e h = subst (λ (l : List Token). P l x m) t (subst (λ (l : List ℕ). P p x l) e h)
 
 -- A repetition that has some values goes on from those values.
 begun : {X : Type 0} {P : Rule X} (c a : List X) {b : List X} {p : List Token} {ns : List ℕ} → Many P with_last a p b ns → Many P with_last (c ++ a) p (c ++ b) ns
@@ -111,17 +75,7 @@ module _ (one : Rule (tree.Condition Test)) where
   pub kept_all : (p : List Token) (o : Operands (tree.Condition Test)) (ns : List ℕ) → grammar.IsAll one p o ns → IsAll one p (kept o) ns
   kept_all p o ns h =
       let m = made_of h.second in
-      record {
-        x = h.x;
-        front = h.front;
-        back = h.back;
-        before = h.before;
-        after = h.after;
-        tokens_are = h.tokens_are;
-        notes_are = h.notes_are;
-        first = h.first;
-        second = subst (λ (k : Operands (tree.Condition Test)). Conjoined h.x h.back (kept k) h.after) (sym m.made) (kept_chain h.x m.said);
-      }
+      rejoined h h.x (kept o) h.first (subst (λ (k : Operands (tree.Condition Test)). Conjoined h.x h.back (kept k) h.after) (sym m.made) (kept_chain h.x m.said))
 
   chain_kept : (first : tree.Condition Test) (p : List Token) (k : Operand) (ns : List ℕ) → Conjoined first p k ns → Made (Many AndOne with_last []) (λ c. kept (operands first c)) p k ns
   chain_kept first p k ns (inr h) = record { x = []; said = moved (λ l c n. Many AndOne with_last [] l c n) (sym h.none) (sym h.unnoted) Enough; made = h.is_value }
@@ -143,7 +97,7 @@ module _ (one : Rule (tree.Condition Test)) where
       let m = chain_kept h.x h.back k h.after h.second in
       record {
         x = operands h.x m.x;
-        said = moved (grammar.IsAll one) (sym h.tokens_are) (sym h.notes_are) (in_turn _ _ _ _ h.x (operands h.x m.x) h.first (gives_made m.x m.said refl));
+        said = rejoined h h.x (operands h.x m.x) h.first (gives_made m.x m.said refl);
         made = m.made;
       }
 
@@ -175,22 +129,12 @@ module _ (all : Rule (Operands (tree.Condition Test))) (All : Rule Operand)
   OrWhole = TheMark mark.Or ⨟ λ _. all
 
   or_kept : (p : List Token) (o : Operands (tree.Condition Test)) (ns : List ℕ) → OrWhole p o ns → OrAll p (kept o) ns
-  or_kept p o ns h = record {
-    x = h.x;
-    front = h.front;
-    back = h.back;
-    before = h.before;
-    after = h.after;
-    tokens_are = h.tokens_are;
-    notes_are = h.notes_are;
-    first = h.first;
-    second = to h.back o h.after h.second;
-  }
+  or_kept p o ns h = rejoined h h.x (kept o) h.first (to h.back o h.after h.second)
 
   kept_or : (p : List Token) (k : Operand) (ns : List ℕ) → OrAll p k ns → Made OrWhole kept p k ns
   kept_or p k ns h =
       let m = back h.back k h.after h.second in
-      record { x = m.x; said = moved OrWhole (sym h.tokens_are) (sym h.notes_are) (in_turn _ _ _ _ h.x m.x h.first m.said); made = m.made }
+      record { x = m.x; said = rejoined h h.x m.x h.first m.said; made = m.made }
 
   many_kept : (b : Bool) (xs : List (Operands (tree.Condition Test))) (o : Others) {ys : List (Operands (tree.Condition Test))} {p : List Token} {ns : List ℕ} → o ≡ gathered b xs
       → Many OrWhole with_last xs p ys ns → Many OrAll with_operand o p (gathered b ys) ns
@@ -221,10 +165,9 @@ module _ (all : Rule (Operands (tree.Condition Test))) (All : Rule Operand)
       let j = m.said in
       let g = made_of j.second in
       let b : Bool = is_chain first || is_chain j.x in
-      moved (AreAlternatives All (kept first)) (sym j.tokens_are) (sym j.notes_are)
-      (in_turn _ _ _ _ (kept j.x) r (to j.front j.x j.before j.first)
+      rejoined j (kept j.x) r (to j.front j.x j.before j.first)
       (gives_made (gathered b g.x) (many_kept b [] (others [] b) (ap (others []) (or_none b)) g.said)
-      (m.made ∙ ap (λ (o : Operands (Operands (tree.Condition Test))). grammar.said_by o) (ap (λ (o : Operands (Operands (tree.Condition Test))). operands first (whole o)) g.made) ∙ sym (same_said first j.x g.x))))
+      (m.made ∙ ap (λ (o : Operands (Operands (tree.Condition Test))). grammar.said_by o) (ap (λ (o : Operands (Operands (tree.Condition Test))). operands first (whole o)) g.made) ∙ sym (same_said first j.x g.x)))
 
   kept_alternatives : (first : Operands (tree.Condition Test)) (p : List Token) (r : tree.Condition Test × Bool) (ns : List ℕ) → AreAlternatives All (kept first) p r ns → Whole first p r ns
   kept_alternatives first p r ns h =
@@ -235,8 +178,7 @@ module _ (all : Rule (Operands (tree.Condition Test))) (All : Rule Operand)
       let g = kept_many b [] begins m.said in
       let value : r ≡ grammar.said_by (operands first (s.x ∷ g.x)) =
       m.made ∙ (λ i. (any_of (tree.Or (conjunction first) (s.made i).condition) (g.made i).rest, (g.made i).is_mixed)) ∙ same_said first s.x g.x in
-      moved (Whole first) (sym h.tokens_are) (sym h.notes_are)
-      (gives_made (operands s.x g.x) (in_turn _ _ _ _ s.x (operands s.x g.x) s.said (gives_made g.x g.said refl)) value)
+      gives_made (operands s.x g.x) (rejoined h s.x (operands s.x g.x) s.said (gives_made g.x g.said refl)) value
 
   abbrev Disjoined : Operands (tree.Condition Test) → Rule (tree.Condition Test)
   Disjoined first = (TheMark mark.Or ⨟ λ span. Noted span.line (Whole first)) or GivesValue (conjunction first)
@@ -245,46 +187,20 @@ module _ (all : Rule (Operands (tree.Condition Test))) (All : Rule Operand)
   KeptDisjoined first = (TheMark mark.Or ⨟ λ span. Noted span.line (AreAlternatives All first)) or GivesValue first.condition
 
   rest_kept : (first : Operands (tree.Condition Test)) (p : List Token) (c : tree.Condition Test) (ns : List ℕ) → Disjoined first p c ns → KeptDisjoined (kept first) p c ns
-  rest_kept first p c ns (inr h) = inr h
-  rest_kept first p c ns (inl h) =
-      let n = h.second in
-      inl (record {
-        x = h.x;
-        front = h.front;
-        back = h.back;
-        before = h.before;
-        after = h.after;
-        tokens_are = h.tokens_are;
-        notes_are = h.notes_are;
-        first = h.first;
-        second = record { is_noted = n.is_noted; within = n.within; notes_are = n.notes_are; said = alternatives_kept first h.back (c, n.is_noted) n.within n.said };
-      })
+  rest_kept first =
+      marked_within mark.Or _ _ _ _ (λ span. noted_within span.line (Whole first) (AreAlternatives All (kept first)) (alternatives_kept first)) (same_within (GivesValue (conjunction first)))
 
   kept_rest : (first : Operands (tree.Condition Test)) (p : List Token) (c : tree.Condition Test) (ns : List ℕ) → KeptDisjoined (kept first) p c ns → Disjoined first p c ns
-  kept_rest first p c ns (inr h) = inr h
-  kept_rest first p c ns (inl h) =
-      let n = h.second in
-      inl (record {
-        x = h.x;
-        front = h.front;
-        back = h.back;
-        before = h.before;
-        after = h.after;
-        tokens_are = h.tokens_are;
-        notes_are = h.notes_are;
-        first = h.first;
-        second = record { is_noted = n.is_noted; within = n.within; notes_are = n.notes_are; said = kept_alternatives first h.back (c, n.is_noted) n.within n.said };
-      })
+  kept_rest first =
+      marked_within mark.Or _ _ _ _ (λ span. noted_within span.line (AreAlternatives All (kept first)) (Whole first) (kept_alternatives first)) (same_within (GivesValue (conjunction first)))
 
   any_to : (p : List Token) (c : tree.Condition Test) (ns : List ℕ) → grammar.IsAny all p c ns → IsAny All p c ns
-  any_to p c ns h =
-      moved (IsAny All) (sym h.tokens_are) (sym h.notes_are) (in_turn _ _ _ _ (kept h.x) c (to h.front h.x h.before h.first) (rest_kept h.x h.back c h.after h.second))
+  any_to p c ns h = rejoined h (kept h.x) c (to h.front h.x h.before h.first) (rest_kept h.x h.back c h.after h.second)
 
   any_back : (p : List Token) (c : tree.Condition Test) (ns : List ℕ) → IsAny All p c ns → grammar.IsAny all p c ns
   any_back p c ns h =
       let s = back h.front h.x h.before h.first in
-      moved (grammar.IsAny all) (sym h.tokens_are) (sym h.notes_are)
-      (in_turn _ _ _ _ s.x c s.said (kept_rest s.x h.back c h.after (subst (λ (k : Operand). KeptDisjoined k h.back c h.after) s.made h.second)))
+      rejoined h s.x c s.said (kept_rest s.x h.back c h.after (subst (λ (k : Operand). KeptDisjoined k h.back c h.after) s.made h.second))
 
 -- A condition by the whole lists of its operands is one by what the parser keeps of them.
 pub condition_kept : (one : Rule (tree.Condition Test)) (p : List Token) (c : tree.Condition Test) (ns : List ℕ) → grammar.IsAny (grammar.IsAll one) p c ns → IsAny (IsAll one) p c ns

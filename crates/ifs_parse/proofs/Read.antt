@@ -1,10 +1,10 @@
 -- Each parser reads its rule of the grammar.
-use Rattle.std.proofs.Common.{◌≡◌, inl, inr, ℕ, zero, suc, ◌≤◌, refl, sym, ap, subst, ◌∙◌, cond}
+use Rattle.std.proofs.Common.{◌≡◌, ◌≢◌, inl, inr, ℕ, zero, suc, ◌≤◌, refl, sym, ap, subst, ◌∙◌, cond}
 use Rattle.std.proofs.Common.{Bool, true, false, ◌||◌, Option, Some, None, Ok, Err, List, []}
 use Rattle.std.proofs.Common.{◌∷◌, ◌++◌, length, append_assoc, append-nil, length-append, arith}
 use Rattle.std.specs.Prelude.{Result, if◌then◌else◌, option_map}
 use Rattle.std.specs.Option.{option_map_or}
-use denote.Enum.Bare.{same_true}
+use denote.Enum.Bare.{same_true, false_same}
 use Rattle.ifs_base.specs.declared.span.Span.{Span}
 use Rattle.ifs_lex.specs.declared.token.Token.{Token}
 use Rattle.ifs_lex.specs.declared.token.What.{What}
@@ -36,27 +36,28 @@ use Rattle.ifs_parse.specs.inner.Reading as reading
 use Rattle.ifs_parse.specs.Words as words
 use Rattle.ifs_parse.specs.Rules as rules
 use Rattle.ifs_parse.specs.Grammar as grammar
+use Rattle.ifs_parse.proofs.RuleLaws.{gives_made, Within, or_never}
 use Rattle.ifs_parse.proofs.Operands as operands
 use Rattle.ifs_parse.proofs.Operands.{condition_kept, kept_condition}
-use Rattle.ifs_parse.proofs.Exact.{exact_as, Stop, Always, Any, Until, Found, Reads, Exact, exact_pure}
+use Rattle.ifs_parse.proofs.Exact.{exact_as, Stop, Always, Any, Until, Found, Reads, Exact, found_as, exact_pure}
 use Rattle.ifs_parse.proofs.Exact.{exact_token, exact_mark, reads_then, exact_then, exact_map, exact_either}
 use Rattle.ifs_parse.proofs.Exact.{reads_either, many_next, exact_no_more, exact_optional_as, exact_begins}
 use Rattle.ifs_parse.proofs.Exact.{exact_required, reads_many, exact_many, exact_noted, went, told}
 
--- A token that is one mark is not another.
-is_at : (k m n : Mark) → is k m ≡ true → is m n ≡ false → is k n ≡ false
+-- A token that is one mark is no other.
+is_at : (k m n : Mark) → is k m ≡ true → m ≢ n → is k n ≡ false
 unfolding is
-is_at k m n p q = subst (λ (x : Mark). is x n ≡ false) (sym (same_true the_type tt k m p)) q
+is_at k m n p differ = false_same the_type tt k n (λ e. differ (sym (same_true the_type tt k m p) ∙ e))
 
 pub taken : {A : Type 0} (b : Bool) (a c : A) → cond b (Some a) None ≡ Some c → b ≡ true
 taken true a c e = refl
 taken false a c e = absurd (cc)
 
-pub mark_apart : (m n : Mark) → is m n ≡ false → (t : Token) (span : Span) → marked m t ≡ Some span → marked n t ≡ None
+pub mark_apart : (m n : Mark) → m ≢ n → (t : Token) (span : Span) → marked m t ≡ Some span → marked n t ≡ None
 mark_apart m n differ t span h = rw (is_at (mark_of t.what) m n (taken (is (mark_of t.what) m) t.span span h) differ)
 
 -- What begins with one mark begins with no other mark.
-pub begins_apart : {X : Type 0} (m n : Mark) (Q : Span → Rule X) → is m n ≡ false → (x : X) (p : List Token) (ns : List ℕ) (next : List Token)
+pub begins_apart : {X : Type 0} (m n : Mark) (Q : Span → Rule X) → m ≢ n → (x : X) (p : List Token) (ns : List ℕ) (next : List Token)
     → (TheMark m ⨟ Q) p x ns → accepted n (p ++ next) ≡ None
 begins_apart m n Q differ x p ns next h =
     ap (λ (l : List Token). accepted n (l ++ next)) (h.tokens_are ∙ ap (λ (l : List Token). l ++ h.back) h.first.only) ∙ mark_apart m n differ h.first.token h.x h.first.stands
@@ -81,31 +82,13 @@ string_is_no_bang : (w : What) (text : List ℕ) → words.text_of w ≡ Some te
 unfolding is
 string_is_no_bang (what.Word word) text h = of_words (λ k. is k mark.Bang ≡ false) refl refl refl refl refl refl refl refl refl refl refl refl word
 string_is_no_bang (what.Quoted t) text h = refl
-string_is_no_bang what.BraceOpen text h = absurd (cc)
-string_is_no_bang what.BraceClose text h = absurd (cc)
-string_is_no_bang what.ParenOpen text h = absurd (cc)
-string_is_no_bang what.ParenClose text h = absurd (cc)
-string_is_no_bang what.Dot text h = absurd (cc)
-string_is_no_bang what.Equals text h = absurd (cc)
-string_is_no_bang what.Bang text h = absurd (cc)
-string_is_no_bang what.And text h = absurd (cc)
-string_is_no_bang what.Or text h = absurd (cc)
-string_is_no_bang what.End text h = absurd (cc)
+string_is_no_bang _ text h = absurd (cc)
 
 string_is_no_paren : (w : What) (text : List ℕ) → words.text_of w ≡ Some text → is (mark_of w) mark.ParenOpen ≡ false
 unfolding is
 string_is_no_paren (what.Word word) text h = of_words (λ k. is k mark.ParenOpen ≡ false) refl refl refl refl refl refl refl refl refl refl refl refl word
 string_is_no_paren (what.Quoted t) text h = refl
-string_is_no_paren what.BraceOpen text h = absurd (cc)
-string_is_no_paren what.BraceClose text h = absurd (cc)
-string_is_no_paren what.ParenOpen text h = absurd (cc)
-string_is_no_paren what.ParenClose text h = absurd (cc)
-string_is_no_paren what.Dot text h = absurd (cc)
-string_is_no_paren what.Equals text h = absurd (cc)
-string_is_no_paren what.Bang text h = absurd (cc)
-string_is_no_paren what.And text h = absurd (cc)
-string_is_no_paren what.Or text h = absurd (cc)
-string_is_no_paren what.End text h = absurd (cc)
+string_is_no_paren _ text h = absurd (cc)
 
 mapped : {A B : Type 0} (f : A → B) (o : Option A) (b : B) → option_map f o ≡ Some b → (a : A) × (o ≡ Some a)
 mapped f None b h = absurd (cc)
@@ -167,16 +150,12 @@ module _ (fits : ℕ → Bool) where
       exact_then _ _ _ _ _ (exact_mark mark.Link) (λ _. exact_then _ _ _ _ _ (exact_mark mark.Dot) (λ _.
       exact_map _ _ _ (exact_token (λ t. words.link_state_of (mark_of t.what)))))
 
-  dot_every : is mark.Every mark.Dot ≡ false
-  unfolding is
-  dot_every = refl
-
   pub exact_test : Exact (reading.test fits) (grammar.IsTest fits) Always
   exact_test =
       exact_then _ _ _ _ _ exact_string (λ name.
       exact_either mark.Dot (λ _. reading.link_test name) (expected mark.Every ▸ λ _. reading.external_test fits name) _ _
       (λ _. link_test_exact name) (exact_then _ _ _ _ _ (exact_mark mark.Every) (λ _. exact_map _ _ _ exact_period))
-      (begins_apart mark.Every mark.Dot _ dot_every))
+      (begins_apart mark.Every mark.Dot _ (λ e. cc)))
 
 -- This mark is not next.
 abbrev pub No : Mark → List Token → Type 0
@@ -190,15 +169,11 @@ reads_map start stop p f P exact_p =
     (λ x y back ns next h s. (subst (λ (l : List Token). stop (l ++ next)) (sym h.none) s, tt))
     (λ x y back ns next h a b. subst (λ (l : List Token). stop (l ++ next)) h.none a)
 
-either_never : {X : Type 0} (m : Mark) (Q : Span → Rule X) (p : List Token) (x : X) (ns : List ℕ) → ((TheMark m ⨟ Q) or Never) p x ns → (TheMark m ⨟ Q) p x ns
-either_never m Q p x ns (inl h) = h
-either_never m Q p x ns (inr h) = absurd h
-
 pub exact_next : {X : Type 0} (m : Mark) (operand : Parse X) (O : Rule X) (some : List Token → Type 0) → Exact operand O (λ x. some)
     → Exact (reading.next_operand m operand) (Optional (TheMark m ⨟ λ _. O)) (Until (No m) some)
 exact_next m operand O some exact_o =
     exact_optional_as (reading.next_operand m operand) ((TheMark m ⨟ λ _. O) or Never) (TheMark m ⨟ λ _. O) (Until (No m) some)
-    (either_never m (λ _. O)) (λ p x ns h. inl h)
+    (or_never (TheMark m ⨟ λ _. O)) (λ p x ns h. inl h)
     (exact_begins m (λ _. operand) no_more (λ _. O) Never Any some (λ _. exact_o) (exact_no_more some) (λ x p ns next h. absurd h))
 
 module _ (one : Parse (tree.Condition Test)) (One : Rule (tree.Condition Test)) (exact_o : Exact one One Always) where
@@ -223,13 +198,9 @@ module _ (one : Parse (tree.Condition Test)) (One : Rule (tree.Condition Test)) 
 abbrev pub Over : List Token → Type 0
 Over next = No mark.Or next × No mark.And next
 
-and_or : is mark.Or mark.And ≡ false
-unfolding is
-and_or = refl
-
 module _ (all : Parse Operand) (All : Rule Operand) (exact_a : Exact all All (λ o. No mark.And)) where
   no_and : {X : Type 0} (Q : Span → Rule X) (x : X) (p : List Token) (ns : List ℕ) (next : List Token) → (TheMark mark.Or ⨟ Q) p x ns → No mark.And (p ++ next)
-  no_and Q x p ns next h = (begins_apart mark.Or mark.And Q and_or x p ns next h, tt)
+  no_and Q x p ns next h = (begins_apart mark.Or mark.And Q (λ e. cc) x p ns next h, tt)
 
   pub reads_more : (begun : reading.Others) → Reads (No mark.And) (many (reading.next_operand mark.Or all) reading.with_operand begun)
       (Many (TheMark mark.Or ⨟ λ _. All) reading.with_operand begun) (λ b. Over)
@@ -283,22 +254,10 @@ exact_operands one One exact_o =
 exact_deep : {X : Type 0} (span : Span) (stop : Stop X) → Exact (reading.deep span) Never stop
 exact_deep span stop = record { again = λ p x ns q m h s. absurd h; reads = λ s x t a e. absurd (cc) }
 
-paren_bang : is mark.ParenOpen mark.Bang ≡ false
-unfolding is
-paren_bang = refl
-
-close_or : is mark.ParenClose mark.Or ≡ false
-unfolding is
-close_or = refl
-
-close_and : is mark.ParenClose mark.And ≡ false
-unfolding is
-close_and = refl
-
 -- A closing parenthesis ends a condition.
 close_ends : {X : Type 0} (Q : Span → Rule X) (x : X) (p : List Token) (ns : List ℕ) (next : List Token) → (TheMark mark.ParenClose ⨟ Q) p x ns → Over (p ++ next)
 close_ends Q x p ns next h =
-    ((begins_apart mark.ParenClose mark.Or Q close_or x p ns next h, tt), (begins_apart mark.ParenClose mark.And Q close_and x p ns next h, tt))
+    ((begins_apart mark.ParenClose mark.Or Q (λ e. cc) x p ns next h, tt), (begins_apart mark.ParenClose mark.And Q (λ e. cc) x p ns next h, tt))
 
 -- A sequence does not begin with this mark if its first rule does not.
 then_apart : {X Y : Type 0} (m : Mark) (P : Rule X) (Q : X → Rule Y) → ((x : X) (p : List Token) (ns : List ℕ) (next : List Token) → P p x ns → accepted m (p ++ next) ≡ None)
@@ -335,7 +294,7 @@ module _ (fits : ℕ → Bool) (negated grouped : Span → Parse (tree.Condition
       (exact_either mark.ParenOpen (λ span. grouped span ▸ λ c. expected mark.ParenClose ▸ λ _. pure c) (reading.test fits ▸ λ t. pure (tree.Leaf t))
       (λ _. Grouped ⨟ λ c. TheMark mark.ParenClose ⨟ λ _. GivesValue c) (grammar.IsTest fits ⨟ λ t. GivesValue (tree.Leaf t))
       exact_group (exact_map (reading.test fits) tree.Leaf (grammar.IsTest fits) (exact_test fits)) (test_apart mark.ParenOpen string_is_no_paren))
-      (or_apart mark.Bang _ _ (begins_apart mark.ParenOpen mark.Bang _ paren_bang) (test_apart mark.Bang string_is_no_bang))
+      (or_apart mark.Bang _ _ (begins_apart mark.ParenOpen mark.Bang _ (λ e. cc)) (test_apart mark.Bang string_is_no_bang))
 
 pub exact_one : (fits : ℕ → Bool) (room : ℕ) → Exact (reading.one fits room) (grammar.IsOne fits room) Always
 exact_one fits zero = exact_one_over fits reading.deep reading.deep Never Never (λ span. exact_deep span Always) (λ span. exact_deep span (λ c. Over))
@@ -361,56 +320,44 @@ notes_stay fits room begun more second s t u reads goes =
 abbrev pub NoStatement : List Token → Type 0
 NoStatement next = (accepted mark.If next ≡ None) × ((accepted mark.Run next ≡ None) × ((accepted mark.SetState next ≡ None) × Unit {0}))
 
-differ_run_if : is mark.Run mark.If ≡ false
-unfolding is
-differ_run_if = refl
-
-differ_set_if : is mark.SetState mark.If ≡ false
-unfolding is
-differ_set_if = refl
-
-differ_set_run : is mark.SetState mark.Run ≡ false
-unfolding is
-differ_set_run = refl
-
 -- A mark of no statement begins none.
-pub not_statement : (m : Mark) → is m mark.If ≡ false → is m mark.Run ≡ false → is m mark.SetState ≡ false → {X : Type 0} (Q : Span → Rule X) (x : X) (p : List Token) (ns : List ℕ) (next : List Token)
+pub not_statement : (m : Mark) → m ≢ mark.If → m ≢ mark.Run → m ≢ mark.SetState → {X : Type 0} (Q : Span → Rule X) (x : X) (p : List Token) (ns : List ℕ) (next : List Token)
     → (TheMark m ⨟ Q) p x ns → NoStatement (p ++ next)
 not_statement m a b c Q x p ns next h =
     (begins_apart m mark.If Q a x p ns next h, (begins_apart m mark.Run Q b x p ns next h, (begins_apart m mark.SetState Q c x p ns next h, tt)))
 
+abbrev pub RunRule : Rule (Statement Test Name Wish)
+RunRule = TheMark mark.Run ⨟ λ _. grammar.IsString ⨟ λ command. GivesValue (Run command)
+
+abbrev pub SetRule : Rule (Statement Test Name Wish)
+SetRule = TheMark mark.SetState ⨟ λ span. grammar.IsString ⨟ λ name. GivesValue (SetState (record { span = span; state = name }))
+
+-- The parser of statements ends its choices with one that has nothing.
+pub never_to : (Cond : Rule (Statement Test Name Wish)) → Within ((TheMark mark.If ⨟ λ _. Cond) or (RunRule or (SetRule or Never))) (grammar.IsStatementOver Cond)
+never_to Cond p x ns (inl h) = inl h
+never_to Cond p x ns (inr (inl h)) = inr (inl h)
+never_to Cond p x ns (inr (inr h)) = inr (inr (or_never SetRule p x ns h))
+
+never_from : (Cond : Rule (Statement Test Name Wish)) → Within (grammar.IsStatementOver Cond) ((TheMark mark.If ⨟ λ _. Cond) or (RunRule or (SetRule or Never)))
+never_from Cond p x ns (inl h) = inl h
+never_from Cond p x ns (inr (inl h)) = inr (inl h)
+never_from Cond p x ns (inr (inr h)) = inr (inr (inl h))
+
 module _ (conditional : Span → Parse (Statement Test Name Wish)) (Cond : Rule (Statement Test Name Wish)) (exact_c : (span : Span) → Exact (conditional span) Cond Always) where
-  abbrev RunRule : Rule (Statement Test Name Wish)
-  RunRule = TheMark mark.Run ⨟ λ _. grammar.IsString ⨟ λ command. GivesValue (Run command)
-
-  abbrev SetRule : Rule (Statement Test Name Wish)
-  SetRule = TheMark mark.SetState ⨟ λ span. grammar.IsString ⨟ λ name. GivesValue (SetState (record { span = span; state = name }))
-
-  never_to : (p : List Token) (x : Statement Test Name Wish) (ns : List ℕ) → ((TheMark mark.If ⨟ λ _. Cond) or (RunRule or (SetRule or Never))) p x ns → grammar.IsStatementOver Cond p x ns
-  never_to p x ns (inl h) = inl h
-  never_to p x ns (inr (inl h)) = inr (inl h)
-  never_to p x ns (inr (inr (inl h))) = inr (inr h)
-  never_to p x ns (inr (inr (inr h))) = absurd h
-
-  never_from : (p : List Token) (x : Statement Test Name Wish) (ns : List ℕ) → grammar.IsStatementOver Cond p x ns → ((TheMark mark.If ⨟ λ _. Cond) or (RunRule or (SetRule or Never))) p x ns
-  never_from p x ns (inl h) = inl h
-  never_from p x ns (inr (inl h)) = inr (inl h)
-  never_from p x ns (inr (inr h)) = inr (inr (inl h))
-
   never_apart : (m : Mark) (x : Statement Test Name Wish) (p : List Token) (ns : List ℕ) (next : List Token) → Never {X = Statement Test Name Wish} p x ns → accepted m (p ++ next) ≡ None
   never_apart m x p ns next h = absurd h
 
   pub exact_statement_over : Exact (reading.statement_over conditional) (Optional (grammar.IsStatementOver Cond)) (Until NoStatement Any)
   exact_statement_over =
-      exact_optional_as (reading.statement_over conditional) ((TheMark mark.If ⨟ λ _. Cond) or (RunRule or (SetRule or Never))) (grammar.IsStatementOver Cond) (Until NoStatement Any) never_to never_from
+      exact_optional_as (reading.statement_over conditional) ((TheMark mark.If ⨟ λ _. Cond) or (RunRule or (SetRule or Never))) (grammar.IsStatementOver Cond) (Until NoStatement Any) (never_to Cond) (never_from Cond)
       (exact_begins mark.If conditional (begins mark.Run (λ _. reading.run) (begins mark.SetState reading.set_state no_more)) (λ _. Cond) (RunRule or (SetRule or Never)) _ Any exact_c
       (exact_begins mark.Run (λ _. reading.run) (begins mark.SetState reading.set_state no_more) (λ _. grammar.IsString ⨟ λ command. GivesValue (Run command)) (SetRule or Never) _ Any
       (λ _. exact_map reading.string Run grammar.IsString exact_string)
       (exact_begins mark.SetState reading.set_state no_more (λ span. grammar.IsString ⨟ λ name. GivesValue (SetState (record { span = span; state = name }))) Never Any Any
       (λ span. exact_map reading.string (λ name. SetState (record { span = span; state = name })) grammar.IsString exact_string) (exact_no_more Any) (never_apart mark.SetState))
-      (or_apart mark.Run SetRule Never (begins_apart mark.SetState mark.Run _ differ_set_run) (never_apart mark.Run)))
-      (or_apart mark.If RunRule (SetRule or Never) (begins_apart mark.Run mark.If _ differ_run_if)
-      (or_apart mark.If SetRule Never (begins_apart mark.SetState mark.If _ differ_set_if) (never_apart mark.If))))
+      (or_apart mark.Run SetRule Never (begins_apart mark.SetState mark.Run _ (λ e. cc)) (never_apart mark.Run)))
+      (or_apart mark.If RunRule (SetRule or Never) (begins_apart mark.Run mark.If _ (λ e. cc))
+      (or_apart mark.If SetRule Never (begins_apart mark.SetState mark.If _ (λ e. cc)) (never_apart mark.If))))
 
   -- A statement has a token.
   pub statement_longer : (x : Statement Test Name Wish) (p : List Token) (ns : List ℕ) → grammar.IsStatementOver Cond p x ns → 1 ≤ length p
@@ -419,7 +366,7 @@ module _ (conditional : Span → Parse (Statement Test Name Wish)) (Cond : Rule 
   statement_longer x p ns (inr (inr h)) = begins_longer mark.SetState _ p x ns h
 
   -- A statement begins only with one of its marks.
-  pub statement_apart : (m : Mark) → is mark.If m ≡ false → is mark.Run m ≡ false → is mark.SetState m ≡ false → (x : Statement Test Name Wish) (p : List Token) (ns : List ℕ) (next : List Token)
+  pub statement_apart : (m : Mark) → mark.If ≢ m → mark.Run ≢ m → mark.SetState ≢ m → (x : Statement Test Name Wish) (p : List Token) (ns : List ℕ) (next : List Token)
       → grammar.IsStatementOver Cond p x ns → accepted m (p ++ next) ≡ None
   statement_apart m a b c =
       or_apart m (TheMark mark.If ⨟ λ _. Cond) (RunRule or SetRule) (begins_apart mark.If m _ a) (or_apart m RunRule SetRule (begins_apart mark.Run m _ b) (begins_apart mark.SetState m _ c))
@@ -435,30 +382,6 @@ exact_braced part P none exact_p longer ended closes =
     (λ xs. exact_map (expected mark.BraceClose) (λ _. xs) (TheMark mark.BraceClose) (exact_mark mark.BraceClose)) (λ xs next s. tt)
     (λ xs x back ns next h s. (closes (λ _. GivesValue xs) x back ns next h, tt)) (λ xs x back ns next h a b. tt)
 
-pub close_if : is mark.BraceClose mark.If ≡ false
-unfolding is
-close_if = refl
-
-pub close_run : is mark.BraceClose mark.Run ≡ false
-unfolding is
-close_run = refl
-
-pub close_set : is mark.BraceClose mark.SetState ≡ false
-unfolding is
-close_set = refl
-
-if_open : is mark.If mark.BraceOpen ≡ false
-unfolding is
-if_open = refl
-
-run_open : is mark.Run mark.BraceOpen ≡ false
-unfolding is
-run_open = refl
-
-set_open : is mark.SetState mark.BraceOpen ≡ false
-unfolding is
-set_open = refl
-
 module _ (statement : Parse (Option (Statement Test Name Wish))) (Cond : Rule (Statement Test Name Wish))
     (exact_s : Exact statement (Optional (grammar.IsStatementOver Cond)) (Until NoStatement Any)) (conditional : Span → Parse (Statement Test Name Wish))
     (exact_c : (span : Span) → Exact (conditional span) Cond Always) where
@@ -468,44 +391,12 @@ module _ (statement : Parse (Option (Statement Test Name Wish))) (Cond : Rule (S
       (λ _. grammar.AreBraced (grammar.IsStatementOver Cond) ⨟ λ xs. GivesValue (block_of xs)) (grammar.IsStatementOver Cond ⨟ λ x. GivesValue (block_of (x ∷ [])))
       (λ _. exact_map (reading.braced statement) block_of (grammar.AreBraced (grammar.IsStatementOver Cond))
       (exact_braced statement (grammar.IsStatementOver Cond) NoStatement exact_s (statement_longer conditional Cond exact_c) (refl, (refl, (refl, tt)))
-      (not_statement mark.BraceClose close_if close_run close_set)))
+      (not_statement mark.BraceClose (λ e. cc) (λ e. cc) (λ e. cc))))
       (exact_map (required statement) (λ x. block_of (x ∷ [])) (grammar.IsStatementOver Cond) (exact_required statement (grammar.IsStatementOver Cond) NoStatement Any exact_s))
-      (then_apart mark.BraceOpen (grammar.IsStatementOver Cond) (λ x. GivesValue (block_of (x ∷ []))) (statement_apart conditional Cond exact_c mark.BraceOpen if_open run_open set_open))
-
-open_or : is mark.BraceOpen mark.Or ≡ false
-unfolding is
-open_or = refl
-
-open_and : is mark.BraceOpen mark.And ≡ false
-unfolding is
-open_and = refl
-
-if_or : is mark.If mark.Or ≡ false
-unfolding is
-if_or = refl
-
-if_and : is mark.If mark.And ≡ false
-unfolding is
-if_and = refl
-
-run_or : is mark.Run mark.Or ≡ false
-unfolding is
-run_or = refl
-
-run_and : is mark.Run mark.And ≡ false
-unfolding is
-run_and = refl
-
-set_or : is mark.SetState mark.Or ≡ false
-unfolding is
-set_or = refl
-
-set_and : is mark.SetState mark.And ≡ false
-unfolding is
-set_and = refl
+      (then_apart mark.BraceOpen (grammar.IsStatementOver Cond) (λ x. GivesValue (block_of (x ∷ []))) (statement_apart conditional Cond exact_c mark.BraceOpen (λ e. cc) (λ e. cc) (λ e. cc)))
 
 module _ (Cond : Rule (Statement Test Name Wish)) (conditional : Span → Parse (Statement Test Name Wish)) (exact_c : (span : Span) → Exact (conditional span) Cond Always) where
-  block_apart : (m : Mark) → is mark.BraceOpen m ≡ false → is mark.If m ≡ false → is mark.Run m ≡ false → is mark.SetState m ≡ false → (x : tree.Block Test Name Wish) (p : List Token) (ns : List ℕ) (next : List Token)
+  block_apart : (m : Mark) → mark.BraceOpen ≢ m → mark.If ≢ m → mark.Run ≢ m → mark.SetState ≢ m → (x : tree.Block Test Name Wish) (p : List Token) (ns : List ℕ) (next : List Token)
       → grammar.IsBlock (grammar.IsStatementOver Cond) p x ns → accepted m (p ++ next) ≡ None
   block_apart m a b c d =
       or_apart m (TheMark mark.BraceOpen ⨟ λ _. grammar.AreBraced (grammar.IsStatementOver Cond) ⨟ λ xs. GivesValue (block_of xs)) (grammar.IsStatementOver Cond ⨟ λ x. GivesValue (block_of (x ∷ [])))
@@ -515,8 +406,8 @@ module _ (Cond : Rule (Statement Test Name Wish)) (conditional : Span → Parse 
   block_over : (f : tree.Block Test Name Wish → Statement Test Name Wish) (x : Statement Test Name Wish) (p : List Token) (ns : List ℕ) (next : List Token)
       → (grammar.IsBlock (grammar.IsStatementOver Cond) ⨟ λ inner. GivesValue (f inner)) p x ns → Over (p ++ next)
   block_over f x p ns next h = (
-    (then_apart mark.Or (grammar.IsBlock (grammar.IsStatementOver Cond)) (λ inner. GivesValue (f inner)) (block_apart mark.Or open_or if_or run_or set_or) x p ns next h, tt),
-    (then_apart mark.And (grammar.IsBlock (grammar.IsStatementOver Cond)) (λ inner. GivesValue (f inner)) (block_apart mark.And open_and if_and run_and set_and) x p ns next h, tt),
+    (then_apart mark.Or (grammar.IsBlock (grammar.IsStatementOver Cond)) (λ inner. GivesValue (f inner)) (block_apart mark.Or (λ e. cc) (λ e. cc) (λ e. cc) (λ e. cc)) x p ns next h, tt),
+    (then_apart mark.And (grammar.IsBlock (grammar.IsStatementOver Cond)) (λ inner. GivesValue (f inner)) (block_apart mark.And (λ e. cc) (λ e. cc) (λ e. cc) (λ e. cc)) x p ns next h, tt),
   )
 
   exact_conditional : (condition : Parse (tree.Condition Test)) (C : Rule (tree.Condition Test)) → Exact condition C (λ c. Over)
@@ -541,7 +432,7 @@ exact_if fits (suc room) span =
 pub record Known (statement : Parse (Option (Statement Test Name Wish))) (S : Rule (Statement Test Name Wish)) : Type 0 where
   pub exact : Exact statement (Optional S) (Until NoStatement Any)
   pub longer : (x : Statement Test Name Wish) (p : List Token) (ns : List ℕ) → S p x ns → 1 ≤ length p
-  pub apart : (m : Mark) → is mark.If m ≡ false → is mark.Run m ≡ false → is mark.SetState m ≡ false → (x : Statement Test Name Wish) (p : List Token) (ns : List ℕ) (next : List Token) → S p x ns → accepted m (p ++ next) ≡ None
+  pub apart : (m : Mark) → mark.If ≢ m → mark.Run ≢ m → mark.SetState ≢ m → (x : Statement Test Name Wish) (p : List Token) (ns : List ℕ) (next : List Token) → S p x ns → accepted m (p ++ next) ≡ None
   pub block : Exact (reading.block statement) (grammar.IsBlock S) Always
 
 known_over : (conditional : Span → Parse (Statement Test Name Wish)) (Cond : Rule (Statement Test Name Wish)) → ((span : Span) → Exact (conditional span) Cond Always)
@@ -563,26 +454,8 @@ module _ {X Y : Type 0} (p : Parse (Option X)) (f : X → Y) (P : Rule X) (none 
       rw (h.tokens_are, h.notes_are, h.second.none, h.second.unnoted, h.second.is_value, append-nil h.front, append-nil h.before, e)
 
   option_found : (s : Progress) (o : Option X) (u : Progress) → Found (Optional P) (Until none Any) s o u → Found (Optional (P ⨟ λ x. GivesValue (f x))) (Until none Any) s (option_map f o) u
-  option_found s None u a = record { tokens = a.tokens; notes = a.notes; taken = a.taken; noted = a.noted; said = a.said; stops = a.stops }
-  option_found s (Some x) u a =
-      record {
-        tokens = a.tokens;
-        notes = a.notes;
-        taken = a.taken;
-        noted = a.noted;
-        stops = tt;
-        said = record {
-          x = x;
-          front = a.tokens;
-          back = [];
-          before = a.notes;
-          after = [];
-          tokens_are = sym (append-nil a.tokens);
-          notes_are = sym (append-nil a.notes);
-          first = a.said;
-          second = record { none = refl; is_value = refl; unnoted = refl };
-        };
-      }
+  option_found s None u a = found_as a a.said a.stops
+  option_found s (Some x) u a = found_as a (gives_made x a.said refl) tt
 
   -- What is made of a thing that may be missing.
   pub exact_option : Exact (p ▸ λ o. pure (option_map f o)) (Optional (P ⨟ λ x. GivesValue (f x))) (Until none Any)
@@ -601,26 +474,6 @@ NoPart next = (accepted mark.Init next ≡ None) × NoStatement next
 abbrev pub NoItem : List Token → Type 0
 NoItem next = (accepted mark.InitState next ≡ None) × ((accepted mark.State next ≡ None) × NoPart next)
 
-apart_if_init : (is mark.If mark.Init ≡ false) × (is mark.Run mark.Init ≡ false) × (is mark.SetState mark.Init ≡ false)
-unfolding is
-apart_if_init = (refl, refl, refl)
-
-apart_init_state : (is mark.Init mark.InitState ≡ false) × (is mark.If mark.InitState ≡ false) × (is mark.Run mark.InitState ≡ false) × (is mark.SetState mark.InitState ≡ false) × (is mark.State mark.InitState ≡ false)
-unfolding is
-apart_init_state = (refl, refl, refl, refl, refl)
-
-apart_state : (is mark.Init mark.State ≡ false) × (is mark.If mark.State ≡ false) × (is mark.Run mark.State ≡ false) × (is mark.SetState mark.State ≡ false)
-unfolding is
-apart_state = (refl, refl, refl, refl)
-
-apart_close : is mark.BraceClose mark.Init ≡ false
-unfolding is
-apart_close = refl
-
-apart_end : (is mark.End mark.InitState ≡ false) × (is mark.End mark.State ≡ false) × (is mark.End mark.Init ≡ false) × (is mark.End mark.If ≡ false) × (is mark.End mark.Run ≡ false) × (is mark.End mark.SetState ≡ false)
-unfolding is
-apart_end = (refl, refl, refl, refl, refl, refl)
-
 module _ (statement : Parse (Option (Statement Test Name Wish))) (S : Rule (Statement Test Name Wish)) (k : Known statement S) where
   abbrev InitRule : Span → Rule Part
   InitRule span = grammar.IsBlock S ⨟ λ inner. GivesValue (Init span inner)
@@ -633,18 +486,18 @@ module _ (statement : Parse (Option (Statement Test Name Wish))) (S : Rule (Stat
       exact_begins mark.Init (λ span. reading.block statement ▸ λ inner. pure (Init span inner)) (statement ▸ λ s. pure (option_map Do s)) InitRule DoRule NoStatement Any
       (λ span. exact_map (reading.block statement) (λ inner. Init span inner) (grammar.IsBlock S) k.block)
       (exact_option statement Do S NoStatement k.exact)
-      (then_apart mark.Init S (λ s. GivesValue (Do s)) (k.apart mark.Init apart_if_init.0 apart_if_init.1 apart_if_init.2))
+      (then_apart mark.Init S (λ s. GivesValue (Do s)) (k.apart mark.Init (λ e. cc) (λ e. cc) (λ e. cc)))
 
   pub part_longer : (x : Part) (p : List Token) (ns : List ℕ) → grammar.IsPart S p x ns → 1 ≤ length p
   part_longer x p ns (inl h) = begins_longer mark.Init InitRule p x ns h
   part_longer x p ns (inr h) = let l : 1 ≤ length h.front = k.longer h.x h.front h.before h.first in rw h.tokens_are (omega (arith, length-append h.front h.back))
 
-  part_apart : (m : Mark) → is mark.Init m ≡ false → is mark.If m ≡ false → is mark.Run m ≡ false → is mark.SetState m ≡ false → (x : Part) (p : List Token) (ns : List ℕ) (next : List Token)
+  part_apart : (m : Mark) → mark.Init ≢ m → mark.If ≢ m → mark.Run ≢ m → mark.SetState ≢ m → (x : Part) (p : List Token) (ns : List ℕ) (next : List Token)
       → grammar.IsPart S p x ns → accepted m (p ++ next) ≡ None
   part_apart m a b c d = or_apart m (TheMark mark.Init ⨟ InitRule) DoRule (begins_apart mark.Init m InitRule a) (then_apart m S (λ s. GivesValue (Do s)) (k.apart m b c d))
 
   pub closes_part : {X : Type 0} (Q : Span → Rule X) (x : X) (p : List Token) (ns : List ℕ) (next : List Token) → (TheMark mark.BraceClose ⨟ Q) p x ns → NoPart (p ++ next)
-  closes_part Q x p ns next h = (begins_apart mark.BraceClose mark.Init Q apart_close x p ns next h, not_statement mark.BraceClose close_if close_run close_set Q x p ns next h)
+  closes_part Q x p ns next h = (begins_apart mark.BraceClose mark.Init Q (λ e. cc) x p ns next h, not_statement mark.BraceClose (λ e. cc) (λ e. cc) (λ e. cc) Q x p ns next h)
 
   abbrev InitStateRule : Span → Rule Item
   InitStateRule span = grammar.IsString ⨟ λ name. GivesValue (InitState span name)
@@ -669,9 +522,9 @@ module _ (statement : Parse (Option (Statement Test Name Wish))) (S : Rule (Stat
       (λ span. exact_map reading.string (λ name. InitState span name) grammar.IsString exact_string)
       (exact_begins mark.State (λ _. reading.state_item (reading.part statement)) (reading.part statement ▸ λ p. pure (option_map AlwaysItem p)) (λ _. StateRule) AlwaysRule NoPart Any
       (λ _. exact_state) (exact_option (reading.part statement) AlwaysItem (grammar.IsPart S) NoPart exact_part)
-      (then_apart mark.State (grammar.IsPart S) (λ p. GivesValue (AlwaysItem p)) (part_apart mark.State apart_state.0 apart_state.1 apart_state.2 apart_state.3)))
-      (or_apart mark.InitState (TheMark mark.State ⨟ λ _. StateRule) AlwaysRule (begins_apart mark.State mark.InitState (λ _. StateRule) apart_init_state.4)
-      (then_apart mark.InitState (grammar.IsPart S) (λ p. GivesValue (AlwaysItem p)) (part_apart mark.InitState apart_init_state.0 apart_init_state.1 apart_init_state.2 apart_init_state.3)))
+      (then_apart mark.State (grammar.IsPart S) (λ p. GivesValue (AlwaysItem p)) (part_apart mark.State (λ e. cc) (λ e. cc) (λ e. cc) (λ e. cc))))
+      (or_apart mark.InitState (TheMark mark.State ⨟ λ _. StateRule) AlwaysRule (begins_apart mark.State mark.InitState (λ _. StateRule) (λ e. cc))
+      (then_apart mark.InitState (grammar.IsPart S) (λ p. GivesValue (AlwaysItem p)) (part_apart mark.InitState (λ e. cc) (λ e. cc) (λ e. cc) (λ e. cc))))
 
   pub item_longer : (x : Item) (p : List Token) (ns : List ℕ) → grammar.IsItem (grammar.IsPart S) p x ns → 1 ≤ length p
   item_longer x p ns (inl h) = begins_longer mark.InitState InitStateRule p x ns h
@@ -680,10 +533,10 @@ module _ (statement : Parse (Option (Statement Test Name Wish))) (S : Rule (Stat
 
   ends_items : {X : Type 0} (Q : Span → Rule X) (x : X) (p : List Token) (ns : List ℕ) (next : List Token) → (TheMark mark.End ⨟ Q) p x ns → NoItem (p ++ next)
   ends_items Q x p ns next h = (
-    begins_apart mark.End mark.InitState Q apart_end.0 x p ns next h,
+    begins_apart mark.End mark.InitState Q (λ e. cc) x p ns next h,
     (
-      begins_apart mark.End mark.State Q apart_end.1 x p ns next h,
-      (begins_apart mark.End mark.Init Q apart_end.2 x p ns next h, not_statement mark.End apart_end.3 apart_end.4 apart_end.5 Q x p ns next h),
+      begins_apart mark.End mark.State Q (λ e. cc) x p ns next h,
+      (begins_apart mark.End mark.Init Q (λ e. cc) x p ns next h, not_statement mark.End (λ e. cc) (λ e. cc) (λ e. cc) Q x p ns next h),
     ),
   )
 

@@ -20,6 +20,8 @@ use Rattle.ifs_parse.specs.Words.{marked}
 use Rattle.ifs_parse.specs.Rules.{Rule, GivesValue, OneToken, TheMark, ◌⨟◌, ◌or◌, Never, Optional, Noted, Many}
 use Rattle.ifs_parse.specs.Rules.{Enough, More}
 use Rattle.ifs_parse.proofs.Exact.{Always, Any, Until, Found, Reads, Exact}
+use Rattle.ifs_parse.proofs.RuleLaws.{in_turn, moved, gives_made, Within, same_within, then_within, marked_within}
+use Rattle.ifs_parse.proofs.RuleLaws.{optional_within, some_within, optional_or, noted_within, many_within}
 
 -- The next token, if there is one.
 abbrev pub next_token : List Token → Option Token
@@ -62,6 +64,7 @@ pub record Goes {X : Type 0} (rule : Rule X) (front left : List Token) : Type 0 
   pub next : next_token left ≡ Some token
   pub begun : Begins rule (front ++ token ∷ [])
 
+-- A parser fails after `front`, and what is left there decides the fault.
 pub record Fails (limit : Limit) {X : Type 0} (read : Parse X) (rule wide : Rule X) (s : Progress) (fault : ParseFault) : Type 0 where
   pub front : List Token
   pub left : List Token
@@ -70,10 +73,6 @@ pub record Fails (limit : Limit) {X : Type 0} (read : Parse X) (rule wide : Rule
   pub helped : IsOf limit fault → Goes wide front left
   pub same : (w : List Token) (m : List ℕ) → next_token w ≡ next_token left → read (progress (front ++ w) m) ≡ Err fault
   pub line : IsAt fault (line_of_first left)
-
--- What a rule has, another has.
-abbrev pub Within : {X : Type 0} → Rule X → Rule X → Type 0
-Within {X = X} P W = (p : List Token) (x : X) (ns : List ℕ) → P p x ns → W p x ns
 
 -- Each fault of a parser is such a failure, and the wider rule has what the rule has.
 pub record Stuck (limit : Limit) {X : Type 0} (start : List Token → Type 0) (read : Parse X) (rule wide : Rule X) : Type 0 where
@@ -112,40 +111,6 @@ bad fault = Err fault
 pub fails_as : {limit : Limit} {X : Type 0} (read : Parse X) (P W : Rule X) (s : Progress) (f g : ParseFault) → bad {A = X × Progress} f ≡ bad g → Fails limit read P W s f → Fails limit read P W s g
 fails_as {limit = limit} read P W s f g e h = subst (Fails limit read P W s) (ap (failed f) e) h
 
--- What the rules that are made of wider ones have.
-pub same_within : {X : Type 0} (P : Rule X) → Within P P
-same_within P p x ns h = h
-
-pub then_within : {X Y : Type 0} (P W : Rule X) (Q V : X → Rule Y) → Within P W → ((x : X) → Within (Q x) (V x)) → Within (P ⨟ Q) (W ⨟ V)
-then_within P W Q V a b p y ns h =
-    record {
-      x = h.x;
-      front = h.front;
-      back = h.back;
-      before = h.before;
-      after = h.after;
-      tokens_are = h.tokens_are;
-      notes_are = h.notes_are;
-      first = a h.front h.x h.before h.first;
-      second = b h.x h.back y h.after h.second;
-    }
-
-pub or_within : {X : Type 0} (P W Q V : Rule X) → Within P W → Within Q V → Within (P or Q) (W or V)
-or_within P W Q V a b p x ns (inl h) = inl (a p x ns h)
-or_within P W Q V a b p x ns (inr h) = inr (b p x ns h)
-
--- A mark and what comes after it, or something else.
-pub marked_within : {X : Type 0} (mark : Mark) (Q V : Span → Rule X) (R U : Rule X) → ((span : Span) → Within (Q span) (V span)) → Within R U → Within ((TheMark mark ⨟ Q) or R) ((TheMark mark ⨟ V) or U)
-marked_within mark Q V R U a b = or_within (TheMark mark ⨟ Q) (TheMark mark ⨟ V) R U (then_within (TheMark mark) (TheMark mark) Q V (same_within (TheMark mark)) a) b
-
-pub optional_within : {X : Type 0} (P W : Rule X) → Within P W → Within (Optional P) (Optional W)
-optional_within P W a p None ns h = h
-optional_within P W a p (Some x) ns h = a p x ns h
-
-many_within : {A X : Type 0} (P W : Rule X) (add : A → X → A) → Within P W → {a b : A} {p : List Token} {ns : List ℕ} → Many P add a p b ns → Many W add a p b ns
-many_within P W add h Enough = Enough
-many_within P W add h (More {x = x} {front = front} {before = before} one rest) = More (h front x before one) (many_within P W add h rest)
-
 -- Beginnings of combined rules.
 pub begins_as : {X : Type 0} (P W : Rule X) → Within P W → (front : List Token) → Begins P front → Begins W front
 begins_as P W within front b = record { tail = b.tail; x = b.x; notes = b.notes; said = within (front ++ b.tail) b.x b.notes b.said }
@@ -153,41 +118,11 @@ begins_as P W within front b = record { tail = b.tail; x = b.x; notes = b.notes;
 pub begins_first : {X Y : Type 0} (P : Rule X) (Q : X → Rule Y) → ((x : X) → Sample (Q x)) → (front : List Token) → Begins P front → Begins (P ⨟ Q) front
 begins_first P Q sample front b =
     let g = sample b.x in
-    record {
-      tail = b.tail ++ g.tail;
-      x = g.x;
-      notes = b.notes ++ g.notes;
-      said = record {
-        x = b.x;
-        front = front ++ b.tail;
-        back = g.tail;
-        before = b.notes;
-        after = g.notes;
-        tokens_are = sym (append_assoc front b.tail g.tail);
-        notes_are = refl;
-        first = b.said;
-        second = g.said;
-      };
-    }
+    record { tail = b.tail ++ g.tail; x = g.x; notes = b.notes ++ g.notes; said = moved (P ⨟ Q) (append_assoc front b.tail g.tail) refl (in_turn _ _ _ _ b.x g.x b.said g.said) }
 
 begins_second : {X Y : Type 0} (P : Rule X) (Q : X → Rule Y) (before : List Token) (x : X) (ns : List ℕ) → P before x ns → (front : List Token) → Begins (Q x) front → Begins (P ⨟ Q) (before ++ front)
 begins_second P Q before x ns h front b =
-    record {
-      tail = b.tail;
-      x = b.x;
-      notes = ns ++ b.notes;
-      said = record {
-        x = x;
-        front = before;
-        back = front ++ b.tail;
-        before = ns;
-        after = b.notes;
-        tokens_are = append_assoc before front b.tail;
-        notes_are = refl;
-        first = h;
-        second = b.said;
-      };
-    }
+    record { tail = b.tail; x = b.x; notes = ns ++ b.notes; said = moved (P ⨟ Q) (sym (append_assoc before front b.tail)) refl (in_turn _ _ _ _ x b.x h b.said) }
 
 pub begins_left : {X : Type 0} (P Q : Rule X) (front : List Token) → Begins P front → Begins (P or Q) front
 begins_left P Q front b = record { tail = b.tail; x = b.x; notes = b.notes; said = inl b.said }
@@ -202,10 +137,6 @@ begins_marked mark Q R u span h front b =
 
 begins_some : {X : Type 0} (P : Rule X) (front : List Token) → Begins P front → Begins (Optional P) front
 begins_some P front b = record { tail = b.tail; x = Some b.x; notes = b.notes; said = b.said }
-
-pub optional_or : {X : Type 0} (P R : Rule X) (ts : List Token) (o : Option X) (ns : List ℕ) → Optional R ts o ns → Optional (P or R) ts o ns
-optional_or P R ts None ns h = h
-optional_or P R ts (Some x) ns h = inr h
 
 begins_noted : {X : Type 0} (line : ℕ) (P : Rule (X × Bool)) (front : List Token) → Begins P front → Begins (Noted line P) front
 begins_noted line P front b =
@@ -295,16 +226,21 @@ pub stuck_then : {limit : Limit} {X Y : Type 0} {W : Rule X} {V : X → Rule Y} 
 stuck_then p q P Q exact_p stuck_p stuck_q sample_q =
     stuck_then_at Any p q P Q Always (λ x. Any) exact_p stuck_p stuck_q (λ x next a. tt) (λ x a b h k. tt) sample_q
 
+-- A parser whose mark is not next fails as its other part does.
+passed_over : {limit : Limit} {X : Type 0} (mark : Mark) (q : Span → Parse X) (r : Parse X) (R U P W : Rule X) (ts : List Token) (m : List ℕ) → accepted mark ts ≡ None
+    → ((front : List Token) → Begins R front → Begins P front) → ((front : List Token) → Begins U front → Begins W front) → (fault : ParseFault)
+    → Fails limit r R U (progress ts m) fault → Fails limit (either mark q r) P W (progress ts m) fault
+passed_over mark q r R U P W ts m h to wide_to fault f =
+    fails_after r R U (progress ts m) fault f (either mark q r) P W [] (progress ts m) refl to wide_to
+    (λ w n k. rw (found_by_next (marked mark) (f.front ++ w) (f.front ++ f.left) (next_append f.front w f.left k) ∙ ap (accepted mark) (sym f.whole) ∙ h, f.same w n k))
+
 module _ {limit : Limit} {X : Type 0} {V : Span → Rule X} {U : Rule X} (start : List Token → Type 0) (mark : Mark) (q : Span → Parse X) (r : Parse X) (Q : Span → Rule X) (R : Rule X)
     (stuck_q : (span : Span) → Stuck limit Any (q span) (Q span) (V span)) (stuck_r : Stuck limit start r R U) where
   either_stuck : (ts : List Token) (m : List ℕ) → start ts → (o : Option Span) → accepted mark ts ≡ o → (fault : ParseFault)
       → option_map_or (λ span. q span (after_token (progress ts m))) o (r (progress ts m)) ≡ Err fault
       → Fails limit (either mark q r) ((TheMark mark ⨟ Q) or R) ((TheMark mark ⨟ V) or U) (progress ts m) fault
   either_stuck ts m begun None h fault e =
-      let f = stuck_r.fails (progress ts m) fault begun e in
-      fails_after r R U (progress ts m) fault f (either mark q r) ((TheMark mark ⨟ Q) or R) ((TheMark mark ⨟ V) or U) [] (progress ts m) refl
-      (begins_right (TheMark mark ⨟ Q) R) (begins_right (TheMark mark ⨟ V) U)
-      (λ w n k. rw (found_by_next (marked mark) (f.front ++ w) (f.front ++ f.left) (next_append f.front w f.left k) ∙ ap (accepted mark) (sym f.whole) ∙ h, f.same w n k))
+      passed_over mark q r R U _ _ ts m h (begins_right (TheMark mark ⨟ Q) R) (begins_right (TheMark mark ⨟ V) U) fault (stuck_r.fails (progress ts m) fault begun e)
   either_stuck [] m begun (Some span) h fault e = absurd (cc)
   either_stuck (u ∷ ts) m begun (Some span) h fault e =
       let f = (stuck_q span).fails (progress ts m) fault tt e in
@@ -328,10 +264,7 @@ module _ {limit : Limit} {X : Type 0} {V : Span → Rule X} {U : Rule X} (mark :
       → option_map_or (λ span. q span (after_token (progress ts m))) o (r (progress ts m)) ≡ Err fault
       → Fails limit (either mark q r) ((TheMark mark ⨟ Q) or R) ((TheMark mark ⨟ V) or U) (progress ts m) fault
   deep_stuck ts m None h fault e =
-      let f = stuck_r.fails (progress ts m) fault tt e in
-      fails_after r R U (progress ts m) fault f (either mark q r) ((TheMark mark ⨟ Q) or R) ((TheMark mark ⨟ V) or U) [] (progress ts m) refl
-      (begins_right (TheMark mark ⨟ Q) R) (begins_right (TheMark mark ⨟ V) U)
-      (λ w n k. rw (found_by_next (marked mark) (f.front ++ w) (f.front ++ f.left) (next_append f.front w f.left k) ∙ ap (accepted mark) (sym f.whole) ∙ h, f.same w n k))
+      passed_over mark q r R U _ _ ts m h (begins_right (TheMark mark ⨟ Q) R) (begins_right (TheMark mark ⨟ V) U) fault (stuck_r.fails (progress ts m) fault tt e)
   deep_stuck [] m (Some span) h fault e = absurd (cc)
   deep_stuck (u ∷ ts) m (Some span) h fault e =
       fails_as (either mark q r) ((TheMark mark ⨟ Q) or R) ((TheMark mark ⨟ V) or U) (progress (u ∷ ts) m) (Nesting span.line) fault (sym (deep span (progress ts m)) ∙ e)
@@ -356,13 +289,6 @@ module _ {limit : Limit} {X : Type 0} {V : Span → Rule X} {U : Rule X} (mark :
   abbrev Wider : Rule (Option X)
   Wider = Optional ((TheMark mark ⨟ V) or U)
 
-  rest_stuck : (ts : List Token) (m : List ℕ) → accepted mark ts ≡ None → (fault : ParseFault) → Fails limit r (Optional R) (Optional U) (progress ts m) fault
-      → Fails limit (begins mark q r) Narrow Wider (progress ts m) fault
-  rest_stuck ts m h fault f =
-      fails_after r (Optional R) (Optional U) (progress ts m) fault f (begins mark q r) Narrow Wider [] (progress ts m) refl
-      (begins_as (Optional R) Narrow (optional_or (TheMark mark ⨟ Q) R)) (begins_as (Optional U) Wider (optional_or (TheMark mark ⨟ V) U))
-      (λ w n k. rw (found_by_next (marked mark) (f.front ++ w) (f.front ++ f.left) (next_append f.front w f.left k) ∙ ap (accepted mark) (sym f.whole) ∙ h, f.same w n k))
-
   some_stuck : (u : Token) (ts : List Token) (m : List ℕ) (span : Span) → marked mark u ≡ Some span → (fault : ParseFault)
       → Broke {B = Option X × Progress} (q span (progress ts m)) (λ r. Ok (Some r.0, r.1)) fault → Fails limit (begins mark q r) Narrow Wider (progress (u ∷ ts) m) fault
   some_stuck u ts m span h fault (After a e k) = absurd (cc)
@@ -374,7 +300,9 @@ module _ {limit : Limit} {X : Type 0} {V : Span → Rule X} {U : Rule X} (mark :
 
   begins_stuck : (ts : List Token) (m : List ℕ) (c : Option Span) → accepted mark ts ≡ c → (fault : ParseFault)
       → option_map_or (λ span. (q span ▸ λ x. pure (Some x)) (after_token (progress ts m))) c (r (progress ts m)) ≡ Err fault → Fails limit (begins mark q r) Narrow Wider (progress ts m) fault
-  begins_stuck ts m None h fault e = rest_stuck ts m h fault (stuck_r.fails (progress ts m) fault tt e)
+  begins_stuck ts m None h fault e =
+      passed_over mark (λ span. q span ▸ λ x. pure (Some x)) r (Optional R) (Optional U) Narrow Wider ts m h
+      (begins_as (Optional R) Narrow (optional_or (TheMark mark ⨟ Q) R)) (begins_as (Optional U) Wider (optional_or (TheMark mark ⨟ V) U)) fault (stuck_r.fails (progress ts m) fault tt e)
   begins_stuck [] m (Some span) h fault e = absurd (cc)
   begins_stuck (u ∷ ts) m (Some span) h fault e = some_stuck u ts m span h fault (broke (q span (progress ts m)) (λ r. Ok (Some r.0, r.1)) fault e)
 
@@ -382,7 +310,7 @@ module _ {limit : Limit} {X : Type 0} {V : Span → Rule X} {U : Rule X} (mark :
   stuck_begins = record {
     fails = λ s fault a e. begins_stuck s.left s.notes (accepted mark s.left) refl fault e;
     within = optional_within ((TheMark mark ⨟ Q) or R) ((TheMark mark ⨟ V) or U)
-        (marked_within mark Q V R U (λ span. (stuck_q span).within) (λ p x ns h. stuck_r.within p (Some x) ns h));
+        (marked_within mark Q V R U (λ span. (stuck_q span).within) (some_within R U stuck_r.within));
   }
 
 pub stuck_no_more : {limit : Limit} {X : Type 0} → Stuck limit Any (no_more {X = X}) (Optional Never) (Optional Never)
@@ -412,9 +340,6 @@ begins_required P sample front b = required_can P sample front b.tail b.x b.note
 
 module _ {limit : Limit} {X : Type 0} {W : Rule X} (p : Parse (Option X)) (P : Rule X) (none some : List Token → Type 0) (exact_p : Exact p (Optional P) (Until none some))
     (stuck_p : Stuck limit Any p (Optional P) (Optional W)) (by_next : ByNext none) (sample : Sample P) where
-  required_within : Within P W
-  required_within ts x ns h = stuck_p.within ts (Some x) ns h
-
   none_stuck : (s : Progress) (o : Option X) (u : Progress) → p s ≡ Ok (o, u) → (fault : ParseFault) → option_map_or pure o unexpected u ≡ Err fault → Fails limit (required p) P W s fault
   none_stuck s (Some x) u e fault k = absurd (cc)
   none_stuck s None u e fault k =
@@ -429,27 +354,16 @@ module _ {limit : Limit} {X : Type 0} {W : Rule X} (p : Parse (Option X)) (P : R
   required_broke s fault (After r e k) = none_stuck s r.0 r.1 e fault k
   required_broke s fault (Before e) =
       let f = stuck_p.fails s fault tt e in
-      fails_after p (Optional P) (Optional W) s fault f (required p) P W [] s refl (begins_required P sample) (begins_required W (begins_as P W required_within [] sample))
+      fails_after p (Optional P) (Optional W) s fault f (required p) P W [] s refl (begins_required P sample) (begins_required W (begins_as P W (some_within P W stuck_p.within) [] sample))
       (λ w n k. rw (f.same w n k))
 
   pub stuck_required : Stuck limit Any (required p) P W
-  stuck_required = record { fails = λ s fault a e. required_broke s fault (broke (p s) (λ r. option_map_or pure r.0 unexpected r.1) fault e); within = required_within }
+  stuck_required = record { fails = λ s fault a e. required_broke s fault (broke (p s) (λ r. option_map_or pure r.0 unexpected r.1) fault e); within = some_within P W stuck_p.within }
 
 -- What is made of a thing that may be missing.
 option_can : {X Y : Type 0} (f : X → Y) (P : Rule X) (ts : List Token) (o : Option X) (ns : List ℕ) → Optional P ts o ns → Optional (P ⨟ λ x. GivesValue (f x)) ts (option_map f o) ns
 option_can f P ts None ns h = h
-option_can f P ts (Some x) ns h =
-    record {
-      x = x;
-      front = ts;
-      back = [];
-      before = ns;
-      after = [];
-      tokens_are = sym (append-nil ts);
-      notes_are = sym (append-nil ns);
-      first = h;
-      second = record { none = refl; is_value = refl; unnoted = refl };
-    }
+option_can f P ts (Some x) ns h = gives_made x h refl
 
 begins_option : {X Y : Type 0} (f : X → Y) (P : Rule X) (front : List Token) → Begins (Optional P) front → Begins (Optional (P ⨟ λ x. GivesValue (f x))) front
 begins_option f P front b = record { tail = b.tail; x = option_map f b.x; notes = b.notes; said = option_can f P (front ++ b.tail) b.x b.notes b.said }
@@ -467,7 +381,7 @@ module _ {limit : Limit} {X Y : Type 0} {W : Rule X} (p : Parse (Option X)) (f :
   stuck_option = record {
     fails = λ s fault a e. option_broke s fault (broke (p s) (λ r. Ok (option_map f r.0, r.1)) fault e);
     within = optional_within (P ⨟ λ x. GivesValue (f x)) (W ⨟ λ x. GivesValue (f x))
-        (then_within P W (λ x. GivesValue (f x)) (λ x. GivesValue (f x)) (λ ts x ns h. stuck_p.within ts (Some x) ns h) (λ x. same_within (GivesValue (f x))));
+        (then_within P W (λ x. GivesValue (f x)) (λ x. GivesValue (f x)) (some_within P W stuck_p.within) (λ x. same_within (GivesValue (f x))));
   }
 
 module _ {limit : Limit} {X : Type 0} {W : Rule (X × Bool)} (line : ℕ) (p : Parse (X × Bool)) (P : Rule (X × Bool)) (stuck_p : Stuck limit Any p P W) where
@@ -478,11 +392,8 @@ module _ {limit : Limit} {X : Type 0} {W : Rule (X × Bool)} (line : ℕ) (p : P
       let h = stuck_p.fails s fault tt e in
       fails_after p P W s fault h (reading.with_note line p) (Noted line P) (Noted line W) [] s refl (begins_noted line P) (begins_noted line W) (λ w n k. rw (h.same w n k))
 
-  noted_within : Within (Noted line P) (Noted line W)
-  noted_within ts x ns h = record { is_noted = h.is_noted; within = h.within; notes_are = h.notes_are; said = stuck_p.within ts (x, h.is_noted) h.within h.said }
-
   pub stuck_noted : Stuck limit Any (reading.with_note line p) (Noted line P) (Noted line W)
-  stuck_noted = record { fails = λ s fault a e. note_broke s fault (broke (p s) (λ r. Ok (r.0.0, reading.noted (length s.notes) line r.0.1 r.1)) fault e); within = noted_within }
+  stuck_noted = record { fails = λ s fault a e. note_broke s fault (broke (p s) (λ r. Ok (r.0.0, reading.noted (length s.notes) line r.0.1 r.1)) fault e); within = noted_within line P W stuck_p.within }
 
 -- A beginning of one part begins a repetition.
 many_can : {A X : Type 0} (P : Rule X) (add : A → X → A) (a : A) (front tail : List Token) (o : Option X) (ns : List ℕ) → Optional P (front ++ tail) o ns → Begins (Many P add a) front
@@ -496,12 +407,7 @@ begins_many P add a front b = many_can P add a front b.tail b.x b.notes b.said
 begins_more : {A X : Type 0} (P : Rule X) (add : A → X → A) (a : A) (before : List Token) (x : X) (ns : List ℕ) → P before x ns → (front : List Token) → Begins (Many P add (add a x)) front
     → Begins (Many P add a) (before ++ front)
 begins_more P add a before x ns h front b =
-    record {
-      tail = b.tail;
-      x = b.x;
-      notes = ns ++ b.notes;
-      said = subst (λ (l : List Token). Many P add a l b.x (ns ++ b.notes)) (sym (append_assoc before front b.tail)) (More h b.said);
-    }
+    record { tail = b.tail; x = b.x; notes = ns ++ b.notes; said = subst (λ (l : List Token). Many P add a l b.x (ns ++ b.notes)) (sym (append_assoc before front b.tail)) (More h b.said) }
 
 module _ {limit : Limit} {A X : Type 0} {W : Rule X} (part : Parse (Option X)) (add : A → X → A) (P : Rule X) (none some : List Token → Type 0)
     (exact_part : Exact part (Optional P) (Until none some)) (stuck_part : Stuck limit Any part (Optional P) (Optional W)) (by_next : ByNext some)
@@ -514,9 +420,6 @@ module _ {limit : Limit} {A X : Type 0} {W : Rule X} (part : Parse (Option X)) (
     helped : IsOf limit fault → Goes (Many W add a) front left
     same : (k : ℕ) (w : List Token) (m : List ℕ) (c : A) → length (front ++ w) ≤ k → next_token w ≡ next_token left → many_from part add k c (progress (front ++ w) m) ≡ Err fault
     line : IsAt fault (line_of_first left)
-
-  part_within : Within P W
-  part_within ts x ns h = stuck_part.within ts (Some x) ns h
 
   same_at : (k : ℕ) (ts : List Token) (m : List ℕ) (c : A) (fault : ParseFault) → length ts ≤ k → part (progress ts m) ≡ Err fault → many_from part add k c (progress ts m) ≡ Err fault
   same_at zero [] m c fault less e = let g = sym (exact_part.again [] None [] [] m (refl, refl) ended) ∙ e in absurd (cc)
@@ -546,7 +449,7 @@ module _ {limit : Limit} {A X : Type 0} {W : Rule X} (part : Parse (Option X)) (
         whole = f.taken ∙ ap (λ l. f.tokens ++ l) g.whole ∙ sym (append_assoc f.tokens g.front g.left);
         line = g.line;
         can = begins_more P add a f.tokens x f.notes f.said g.front g.can;
-        helped = λ k. goes (Many W add (add a x)) (Many W add a) f.tokens (begins_more W add a f.tokens x f.notes (part_within f.tokens x f.notes f.said)) g.front g.left (g.helped k);
+        helped = λ k. goes (Many W add (add a x)) (Many W add a) f.tokens (begins_more W add a f.tokens x f.notes (stuck_part.within f.tokens (Some x) f.notes f.said)) g.front g.left (g.helped k);
         same = λ k w m c less h.
             subst (λ (l : List Token). many_from part add k c (progress l m) ≡ Err fault) (sym (append_assoc f.tokens g.front w))
             (same_more k f.tokens (g.front ++ w) x f.notes m c fault f.said
@@ -579,7 +482,7 @@ module _ {limit : Limit} {A X : Type 0} {W : Rule X} (part : Parse (Option X)) (
 
   pub stuck_many : (a : A) → Stuck limit some (many part add a) (Many P add a) (Many W add a)
   stuck_many a = record {
-    within = λ p b ns h. many_within P W add part_within h;
+    within = λ p b ns h. many_within P W add (some_within P W stuck_part.within) h;
     fails = λ s fault begun e.
         let h = many_halts (length s.left) a s.left s.notes fault (omega arith) e in
         record {

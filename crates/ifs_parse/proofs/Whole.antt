@@ -16,7 +16,7 @@ use Rattle.ifs_parse.specs.inner.Combined.{Progress, progress, Parse}
 use Rattle.ifs_parse.specs.inner.Reading as reading
 use Rattle.ifs_parse.specs.inner.Reading.{read_within}
 use Rattle.ifs_parse.specs.Grammar as grammar
-use Rattle.ifs_parse.specs.Grammar.{SaysWithin, Says}
+use Rattle.ifs_parse.specs.Grammar.{SaysWithin}
 use Rattle.ifs_parse.proofs.Exact.{went, inside}
 use Rattle.ifs_parse.proofs.Read.{of_words, taken, known, exact_items}
 
@@ -31,17 +31,8 @@ not_nil (x ∷ before) e left h = absurd (cc)
 pub end_is_end : (w : What) → is (mark_of w) mark.End ≡ true → is_end w ≡ true
 unfolding is
 end_is_end (what.Word word) h = absurd (differs (of_words (λ k. is k mark.End ≡ false) refl refl refl refl refl refl refl refl refl refl refl refl word) h)
-end_is_end (what.Quoted t) h = absurd (cc)
-end_is_end what.BraceOpen h = absurd (cc)
-end_is_end what.BraceClose h = absurd (cc)
-end_is_end what.ParenOpen h = absurd (cc)
-end_is_end what.ParenClose h = absurd (cc)
-end_is_end what.Dot h = absurd (cc)
-end_is_end what.Equals h = absurd (cc)
-end_is_end what.Bang h = absurd (cc)
-end_is_end what.And h = absurd (cc)
-end_is_end what.Or h = absurd (cc)
 end_is_end what.End h = refl
+end_is_end _ h = absurd (cc)
 
 -- Nothing comes after the end.
 pub end_is_last : (before : List Token) (e : Token) (left : List Token) (front : List Token) (last : Token) → before ++ e ∷ left ≡ front ++ last ∷ []

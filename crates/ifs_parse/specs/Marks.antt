@@ -10,16 +10,7 @@ use Rattle.ifs_parse.specs.declared.mark.Mark.TheVariants.{Bang, And, Or, End, S
 use Rattle.ifs_parse.specs.declared.mark.Mark.TheVariants.{SetState, Every, Link, Up, Down, Unknown, Other}
 use Rattle.ifs_parse.specs.contracts.mark.Mark.{the_type}
 
--- What a word of a test is: one that the grammar names, or another.
-abbrev pub mark_of_test_word : List ℕ → Mark
-mark_of_test_word word =
-    if bytes_eq word (codes "every") then Every else
-    if bytes_eq word (codes "link") then Link else
-    if bytes_eq word (codes "up") then Up else
-    if bytes_eq word (codes "down") then Down else
-    if bytes_eq word (codes "unknown") then Unknown else Other
-
--- What a word is: one that the grammar names, or another.
+-- The mark of a word: a word of the grammar has its own.
 abbrev pub mark_of_word : List ℕ → Mark
 mark_of_word word =
     if bytes_eq word (codes "state") then State else
@@ -27,7 +18,12 @@ mark_of_word word =
     if bytes_eq word (codes "init") then Init else
     if bytes_eq word (codes "if") then If else
     if bytes_eq word (codes "run") then Run else
-    if bytes_eq word (codes "set-state") then SetState else mark_of_test_word word
+    if bytes_eq word (codes "set-state") then SetState else
+    if bytes_eq word (codes "every") then Every else
+    if bytes_eq word (codes "link") then Link else
+    if bytes_eq word (codes "up") then Up else
+    if bytes_eq word (codes "down") then Down else
+    if bytes_eq word (codes "unknown") then Unknown else Other
 
 -- The mark of a token. A quoted text is no word of the grammar.
 abbrev pub mark_of : What → Mark

@@ -7,15 +7,18 @@ use Rattle.ifs_parse.specs.declared.condition.Node.TheVariants.{Leaf, Not, All, 
 use Rattle.ifs_parse.specs.declared.block.Statement.{Statement}
 use Rattle.ifs_parse.specs.declared.block.Statement.TheVariants.{Run, SetState, If}
 
--- A chain of operands joined by `&&`, from the left.
-abbrev pub all_of : {L : Type 0} → tree.Condition L → List (tree.Condition L) → tree.Condition L
-all_of first [] = first
-all_of first (next ∷ rest) = all_of (tree.And first next) rest
+-- Operands joined from the left by one operator.
+abbrev pub joined_of : {L : Type 0} → (tree.Condition L → tree.Condition L → tree.Condition L) → tree.Condition L → List (tree.Condition L) → tree.Condition L
+joined_of join first [] = first
+joined_of join first (next ∷ rest) = joined_of join (join first next) rest
 
--- A chain of operands joined by `||`, from the left.
+-- Operands joined by `&&`.
+abbrev pub all_of : {L : Type 0} → tree.Condition L → List (tree.Condition L) → tree.Condition L
+all_of first rest = joined_of tree.And first rest
+
+-- Operands joined by `||`.
 abbrev pub any_of : {L : Type 0} → tree.Condition L → List (tree.Condition L) → tree.Condition L
-any_of first [] = first
-any_of first (next ∷ rest) = any_of (tree.Or first next) rest
+any_of first rest = joined_of tree.Or first rest
 
 -- The condition of a node.
 abbrev pub condition_of : {L : Type 0} → Node L → tree.Condition L
@@ -35,14 +38,16 @@ abbrev pub block_of : {L R S : Type 0} → List (Statement L R S) → tree.Block
 block_of [] = tree.Done
 block_of (statement ∷ rest) = statement_then statement (block_of rest)
 
+-- Each operand of a chain is smaller than this.
+abbrev pub AreBelow : {L : Type 0} → ℕ → tree.Condition L → tree.Condition L → List (tree.Condition L) → Type 0
+AreBelow size first second rest = (tree.condition_size first < size) × (tree.condition_size second < size) × AllByRecursion (λ c. tree.condition_size c < size) rest
+
 -- Each operand of a node is smaller than this.
 abbrev pub OperandsBelow : {L : Type 0} → ℕ → Node L → Type 0
 OperandsBelow size (Leaf l) = Unit {0}
 OperandsBelow size (Not inner) = tree.condition_size inner.value < size
-OperandsBelow size (All first second rest) =
-    (tree.condition_size first.value < size) × (tree.condition_size second.value < size) × AllByRecursion (λ c. tree.condition_size c < size) rest.items
-OperandsBelow size (Any first second rest) =
-    (tree.condition_size first.value < size) × (tree.condition_size second.value < size) × AllByRecursion (λ c. tree.condition_size c < size) rest.items
+OperandsBelow size (All first second rest) = AreBelow size first.value second.value rest.items
+OperandsBelow size (Any first second rest) = AreBelow size first.value second.value rest.items
 
 -- The block of a statement is smaller than this.
 abbrev pub InnerBelow : {L R S : Type 0} → ℕ → Statement L R S → Type 0

@@ -33,51 +33,24 @@ pub enum Mark {
     Other,
 }
 
-/// What a word of a test is in the grammar.
-fn mark_of_test_word(word: &str) -> Mark
-    ensures { result ≡ marks.mark_of_test_word word.now }
-{
-    if word == "every" {
-        return Mark::Every;
-    }
-    if word == "link" {
-        return Mark::Link;
-    }
-    if word == "up" {
-        return Mark::Up;
-    }
-    if word == "down" {
-        return Mark::Down;
-    }
-    if word == "unknown" {
-        return Mark::Unknown;
-    }
-    Mark::Other
-}
-
-/// What a word is in the grammar.
+/// Returns the mark of a word.
 fn mark_of_word(word: &str) -> Mark
     ensures { result ≡ marks.mark_of_word word.now }
 {
-    if word == "state" {
-        return Mark::State;
+    match word {
+        "state" => Mark::State,
+        "init-state" => Mark::InitState,
+        "init" => Mark::Init,
+        "if" => Mark::If,
+        "run" => Mark::Run,
+        "set-state" => Mark::SetState,
+        "every" => Mark::Every,
+        "link" => Mark::Link,
+        "up" => Mark::Up,
+        "down" => Mark::Down,
+        "unknown" => Mark::Unknown,
+        _ => Mark::Other,
     }
-    if word == "init-state" {
-        return Mark::InitState;
-    }
-    if word == "init" {
-        return Mark::Init;
-    }
-    if word == "if" {
-        return Mark::If;
-    }
-    if word == "run" {
-        return Mark::Run;
-    }
-    if word == "set-state" {
-        return Mark::SetState;
-    }
-    mark_of_test_word(word)
 }
 
 /// Returns the mark of a token.
@@ -113,12 +86,15 @@ impl Mark {
     pub fn may_come_first(self) -> bool
         ensures { result ≡ at_once.may_come_first self }
     {
-        self.is(Mark::InitState)
-            || self.is(Mark::State)
-            || self.is(Mark::Init)
-            || self.is(Mark::If)
-            || self.is(Mark::Run)
-            || self.is(Mark::SetState)
-            || self.is(Mark::End)
+        matches!(
+            self,
+            Mark::InitState
+                | Mark::State
+                | Mark::Init
+                | Mark::If
+                | Mark::Run
+                | Mark::SetState
+                | Mark::End
+        )
     }
 }

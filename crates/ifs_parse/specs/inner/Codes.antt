@@ -1,31 +1,8 @@
--- What a proof tells trees apart by.
-use Rattle.std.specs.Prelude.{◌≡◌, ℕ, refl}
+-- Codes of trees: trees with equal codes are equal.
+use Rattle.std.specs.Prelude.{◌≡◌, refl}
 use Rattle.std.specs.Coded.{Coded}
-use Rattle.std.proofs.Common.{arith, ap}
 use base.Stored.{Gv, gnil, gnum, gcons}
 use Rattle.ifs_parse.specs.Trees.{Condition, Leaf, NotSo, And, Or, Block, Done, RunThen, WantThen, IfThen}
-
-abbrev number : Gv → ℕ
-number gnil = 0
-number (gnum n) = n
-number (gcons a b) = 0
-
-abbrev first : Gv → Gv
-first gnil = gnil
-first (gnum n) = gnil
-first (gcons a b) = a
-
-abbrev second : Gv → Gv
-second gnil = gnil
-second (gnum n) = gnil
-second (gcons a b) = b
-
--- Which kind of node it is.
-abbrev tag : Gv → ℕ
-tag g = number (first g)
-
-apart : {A : Type 0} (m n : ℕ) → (m ≡ n → ⊥) → m ≡ n → A
-apart m n differ same = absurd (differ same)
 
 module _ {L : Type 0} (leaf : Coded L) where
   abbrev pub code_condition : Condition L → Gv
@@ -35,22 +12,11 @@ module _ {L : Type 0} (leaf : Coded L) where
   code_condition (Or a b) = gcons (gnum 3) (gcons (code_condition a) (code_condition b))
 
   pub same_condition : (c d : Condition L) → code_condition c ≡ code_condition d → c ≡ d
-  same_condition (Leaf l) (Leaf m) p = ap Leaf (leaf.inj l m (ap second p))
-  same_condition (Leaf l) (NotSo d) p = apart 0 1 (λ e. omega (arith, e)) (ap tag p)
-  same_condition (Leaf l) (And d e) p = apart 0 2 (λ e. omega (arith, e)) (ap tag p)
-  same_condition (Leaf l) (Or d e) p = apart 0 3 (λ e. omega (arith, e)) (ap tag p)
-  same_condition (NotSo c) (Leaf m) p = apart 1 0 (λ e. omega (arith, e)) (ap tag p)
-  same_condition (NotSo c) (NotSo d) p = ap NotSo (same_condition c d (ap second p))
-  same_condition (NotSo c) (And d e) p = apart 1 2 (λ e. omega (arith, e)) (ap tag p)
-  same_condition (NotSo c) (Or d e) p = apart 1 3 (λ e. omega (arith, e)) (ap tag p)
-  same_condition (And a b) (Leaf m) p = apart 2 0 (λ e. omega (arith, e)) (ap tag p)
-  same_condition (And a b) (NotSo d) p = apart 2 1 (λ e. omega (arith, e)) (ap tag p)
-  same_condition (And a b) (And d e) p = λ i. And (same_condition a d (ap (λ g. first (second g)) p) i) (same_condition b e (ap (λ g. second (second g)) p) i)
-  same_condition (And a b) (Or d e) p = apart 2 3 (λ e. omega (arith, e)) (ap tag p)
-  same_condition (Or a b) (Leaf m) p = apart 3 0 (λ e. omega (arith, e)) (ap tag p)
-  same_condition (Or a b) (NotSo d) p = apart 3 1 (λ e. omega (arith, e)) (ap tag p)
-  same_condition (Or a b) (And d e) p = apart 3 2 (λ e. omega (arith, e)) (ap tag p)
-  same_condition (Or a b) (Or d e) p = λ i. Or (same_condition a d (ap (λ g. first (second g)) p) i) (same_condition b e (ap (λ g. second (second g)) p) i)
+  same_condition (Leaf l) (Leaf m) p = let same = leaf.inj l m (cc) in cc
+  same_condition (NotSo c) (NotSo d) p = let same = same_condition c d (cc) in cc
+  same_condition (And a b) (And d e) p = let left = same_condition a d (cc) in let right = same_condition b e (cc) in cc
+  same_condition (Or a b) (Or d e) p = let left = same_condition a d (cc) in let right = same_condition b e (cc) in cc
+  same_condition _ _ p = cc
 
   abbrev pub condition_code : Coded (Condition L)
   condition_code = record { code = code_condition; inj = same_condition }
@@ -64,25 +30,11 @@ module _ {L R S : Type 0} (leaf : Coded L) (command : Coded R) (state : Coded S)
 
   pub same_block : (a b : Block L R S) → code_block a ≡ code_block b → a ≡ b
   same_block Done Done p = refl
-  same_block Done (RunThen r rest) p = apart 0 1 (λ e. omega (arith, e)) (ap tag p)
-  same_block Done (WantThen s rest) p = apart 0 2 (λ e. omega (arith, e)) (ap tag p)
-  same_block Done (IfThen c inner rest) p = apart 0 3 (λ e. omega (arith, e)) (ap tag p)
-  same_block (RunThen r rest) Done p = apart 1 0 (λ e. omega (arith, e)) (ap tag p)
-  same_block (RunThen r rest) (RunThen q more) p = λ i. RunThen (command.inj r q (ap (λ g. first (second g)) p) i) (same_block rest more (ap (λ g. second (second g)) p) i)
-  same_block (RunThen r rest) (WantThen s more) p = apart 1 2 (λ e. omega (arith, e)) (ap tag p)
-  same_block (RunThen r rest) (IfThen c inner more) p = apart 1 3 (λ e. omega (arith, e)) (ap tag p)
-  same_block (WantThen s rest) Done p = apart 2 0 (λ e. omega (arith, e)) (ap tag p)
-  same_block (WantThen s rest) (RunThen q more) p = apart 2 1 (λ e. omega (arith, e)) (ap tag p)
-  same_block (WantThen s rest) (WantThen t more) p = λ i. WantThen (state.inj s t (ap (λ g. first (second g)) p) i) (same_block rest more (ap (λ g. second (second g)) p) i)
-  same_block (WantThen s rest) (IfThen c inner more) p = apart 2 3 (λ e. omega (arith, e)) (ap tag p)
-  same_block (IfThen c inner rest) Done p = apart 3 0 (λ e. omega (arith, e)) (ap tag p)
-  same_block (IfThen c inner rest) (RunThen q more) p = apart 3 1 (λ e. omega (arith, e)) (ap tag p)
-  same_block (IfThen c inner rest) (WantThen t more) p = apart 3 2 (λ e. omega (arith, e)) (ap tag p)
+  same_block (RunThen r rest) (RunThen q more) p = let first = command.inj r q (cc) in let others = same_block rest more (cc) in cc
+  same_block (WantThen s rest) (WantThen t more) p = let first = state.inj s t (cc) in let others = same_block rest more (cc) in cc
   same_block (IfThen c inner rest) (IfThen d within more) p =
-      λ i. IfThen
-      (same_condition leaf c d (ap (λ g. first (second g)) p) i)
-      (same_block inner within (ap (λ g. first (second (second g))) p) i)
-      (same_block rest more (ap (λ g. second (second (second g))) p) i)
+      let test = same_condition leaf c d (cc) in let body = same_block inner within (cc) in let others = same_block rest more (cc) in cc
+  same_block _ _ p = cc
 
   abbrev pub block_code : Coded (Block L R S)
   block_code = record { code = code_block; inj = same_block }

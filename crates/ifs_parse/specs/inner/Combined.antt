@@ -53,7 +53,7 @@ infixr 5 ◌▸◌
 abbrev pub ◌▸◌ : {X Y : Type 0} → Parse X → (X → Parse Y) → Parse Y
 (p ▸ q) s = p s >>= λ r. q r.0 r.1
 
--- One token says a value.
+-- Takes one token that says a value.
 abbrev pub one_token : {X : Type 0} → (Token → Option X) → Parse X
 one_token what s = option_map_or (λ x. Ok (x, after_token s)) (found what s.left) (unexpected s)
 
@@ -65,7 +65,7 @@ either mark yes_then else_then s = option_map_or (λ span. yes_then span (after_
 abbrev pub begins : {X : Type 0} → Mark → (Span → Parse X) → Parse (Option X) → Parse (Option X)
 begins mark yes_then else_then = either mark (λ span. yes_then span ▸ λ x. pure (Some x)) else_then
 
--- Nothing.
+-- Takes nothing.
 abbrev pub no_more : {X : Type 0} → Parse (Option X)
 no_more = pure None
 

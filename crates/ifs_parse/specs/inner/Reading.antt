@@ -29,8 +29,7 @@ use Rattle.ifs_parse.specs.Words.{name_of, link_state_of, number_of_what}
 use Rattle.ifs_parse.specs.Rules.{with_last}
 use Rattle.ifs_parse.specs.inner.Combined as combined
 use Rattle.ifs_parse.specs.inner.Combined.{Parse, progress, ◌▸◌, pure, after_token, one_token, either, begins}
-use Rattle.ifs_parse.specs.inner.Combined.{no_more, required, expected, unexpected, accepted, found, many}
-use Rattle.ifs_parse.specs.inner.Combined.{line_of_first}
+use Rattle.ifs_parse.specs.inner.Combined.{no_more, required, expected, unexpected, found, many, line_of_first}
 
 -- string : a word that is not reserved | a quoted text
 abbrev pub string : Parse Name
@@ -106,7 +105,7 @@ noted_alternatives all first span = with_note span.line (alternatives all first)
 abbrev pub any : Parse Operand → Parse (tree.Condition Test)
 any all = all ▸ λ first. either mark.Or (noted_alternatives all first) (pure first.condition)
 
--- Nothing may be open.
+-- Nothing may be open: P8.
 abbrev pub deep : {X : Type 0} → Span → Parse X
 deep span s = Err (Nesting span.line)
 
