@@ -162,6 +162,7 @@ lexeme_ends bs u = by_reads (lexeme_here bs) (reads bs)
   where
     at_start : (n : ℕ) → n ≡ 0 → IsCharBoundary bs n
     at_start n e = let P : ℕ → Type 0 = λ i. IsCharBoundary bs i in subst P (sym e) (IsCharBoundary-start bs u)
+
     by_reads : (s : Scan) → Reads bs s → IsCharBoundary bs s.len
     by_reads s (at_end none lexeme len) = at_start s.len len
     by_reads s (an_lexeme i) = lexeme_cut bs s.lexeme s.len i u

@@ -24,7 +24,7 @@ next_place p = after_definition (after_lexeme p) (is_some (definition_next p))
 module _ (Going : Expanded → Type 0) (Done : TextCursor → List Token → Type 0)
     (ends : (s next : Expanded) (p : TextCursor) → Going s → is_last (lexeme_at p).lexeme ≡ true → with_turn (lexeme_at p) (definition_next p) s ≡ Ok next → Done p next.tokens)
     (goes : (s next : Expanded) (p : TextCursor) (ts : List Token) → Going s → is_last (lexeme_at p).lexeme ≡ false → with_turn (lexeme_at p) (definition_next p) s ≡ Ok next
-      → (Going next → Done (next_place p) ts) → Done p ts) where
+    → (Going next → Done (next_place p) ts) → Done p ts) where
   by_last : (last : Bool) (s next : Expanded) (p : TextCursor) (ts : List Token) → Going s → is_last (lexeme_at p).lexeme ≡ last → with_turn (lexeme_at p) (definition_next p) s ≡ Ok next
       → ending last (next_place p) next ≡ Ok ts
       → (is_last (lexeme_at p).lexeme ≡ false → Going next → tokens_after next (segments_from 0 (lexemes_at (next_place p))) ≡ Ok ts → Done (next_place p) ts) → Done p ts
