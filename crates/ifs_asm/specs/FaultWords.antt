@@ -1,4 +1,4 @@
--- The faults of an assembly text as lines print them.
+-- How the faults of an assembly text are printed.
 use Rattle.std.specs.Prelude.{ℕ, List, ◌++◌, codes, decimal}
 use Rattle.ifs_asm.specs.declared.fault.AsmFault.{AsmFault}
 use Rattle.ifs_asm.specs.declared.fault.AsmFault.TheVariants.{Unknown, OutOfRange, OutOfOrder, Memory}

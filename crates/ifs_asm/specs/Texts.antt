@@ -1,4 +1,4 @@
--- The text of an image: the lines that it has, in their order, and the words of each.
+-- The text of an image: its lines in their order, and the words of each.
 use Rattle.std.specs.Prelude.{ℕ, zero, suc, ◌+◌, ◌==◌, if◌then◌else◌, Bool, true, false, List, [], ◌∷◌, ◌++◌, map, codes, decimal}
 use Rattle.std.specs.List.{flat_map}
 use Rattle.std.specs.Int.{bit_at}
@@ -19,7 +19,7 @@ use Rattle.ifs_asm.specs.declared.line.Head.TheVariants.{Plain, Signature}
 use Rattle.ifs_asm.specs.declared.line.Line.{Line}
 use Rattle.ifs_asm.specs.declared.line.Line.TheVariants as lines
 
--- The tests of a mask that it names from a test on, so many of them looked at, ascending: its bit of weight 2 ^ t is test t.
+-- The tests of a mask among the first n from test t on, ascending. A mask has test t if its bit of weight 2 ^ t is set.
 unfoldable pub tests_from : ℕ → ℕ → ℕ → List ℕ
 tests_from zero t mask = []
 tests_from (suc n) t mask = if bit_at mask t == 1 then t ∷ tests_from n (t + 1) mask else tests_from n (t + 1) mask
@@ -28,21 +28,21 @@ tests_from (suc n) t mask = if bit_at mask t == 1 then t ∷ tests_from n (t + 1
 unfoldable pub tests_of : ℕ → List ℕ
 tests_of mask = tests_from 64 0 mask
 
--- A word of a line, by what it says: a word that stands as it is, a number, a text in quotes, or the tests of a mask.
+-- A word of a line: a fixed word, a number, a quoted text, or the tests of a mask.
 pub data Word : Type 0 where
   Key : (text : List ℕ) → Word
   Number : (n : ℕ) → Word
   Quoted : (text : List ℕ) → Word
   Tests : (mask : ℕ) → Word
 
--- A word as it is written: a number in decimal digits, the tests of a mask with commas between them.
+-- A word as it is written: a number in decimal digits, tests with commas between them.
 abbrev pub written : Word → List ℕ
 written (Key text) = text
 written (Number n) = decimal n
 written (Quoted text) = quoted text
 written (Tests mask) = listed (map decimal (tests_of mask))
 
--- The words of an instruction: its name, and its operand where it has one.
+-- The words of an instruction: its name, and its operands if it has any.
 abbrev pub op_words : Op → List Word
 op_words Ret = Key (codes "ret") ∷ []
 op_words Yes = Key (codes "true") ∷ []
@@ -80,16 +80,16 @@ kind_word kinds.Truth = codes "truth"
 kind_word kinds.Command = codes "command"
 kind_word kinds.StateName = codes "state"
 
--- Kinds with commas between them, the topmost last; a dash where there is none.
+-- Kinds with commas between them, the topmost last, or a dash if there is none.
 abbrev pub kinds_word : List Kind → List ℕ
 kinds_word list = listed (map kind_word list)
 
--- How many truths a routine of version 1 leaves.
+-- The number of truths that a routine of version 1 leaves.
 abbrev pub truths : Bool → ℕ
 truths true = 1
 truths false = 0
 
--- The words behind the one that begins a routine.
+-- The words after the first word of a line that begins a routine.
 abbrev pub head_words : Head → List Word
 head_words (Plain truth) = Key (codes "results") ∷ Number (truths truth) ∷ []
 head_words (Signature params results) =
@@ -116,7 +116,7 @@ abbrev pub spaced : List (List ℕ) → List ℕ
 spaced [] = []
 spaced (word ∷ words) = word ++ flat_map (λ other. codes " " ++ other) words
 
--- The text of a line, and its newline.
+-- The text of a line with its newline.
 abbrev pub line_text : Line → List ℕ
 line_text line = spaced (map written (words_of line)) ++ codes "\n"
 
@@ -125,7 +125,7 @@ abbrev pub version_number : Version → ℕ
 version_number One = 1
 version_number Two = 2
 
--- The version of an image, by its number.
+-- The version with a number.
 abbrev pub version_in : ℕ → Version
 version_in n = if n == 1 then One else Two
 
@@ -134,7 +134,7 @@ abbrev pub is_some_kind : List Kind → Bool
 is_some_kind [] = false
 is_some_kind (kind ∷ more) = true
 
--- How a routine begins that takes and leaves these kinds, by the version of its image.
+-- How a routine that takes and leaves these kinds begins in a version.
 abbrev pub head_with : Version → List Kind → List Kind → Head
 head_with One params results = Plain (is_some_kind results)
 head_with Two params results = Signature (record { items = params }) (record { items = results })
@@ -159,6 +159,6 @@ lines_of p =
     front_lines p ++ map lines.Interface p.interfaces ++ map lines.Test p.tests ++ map lines.Command p.commands
     ++ map lines.State p.states ++ flat_map (routine_lines (version_in p.version)) p.routines
 
--- The one text of an image that is written for it.
+-- The canonical text of an image, which `disassemble` writes.
 unfoldable pub canonical : ImageParts → List ℕ
 canonical p = flat_map line_text (lines_of p)

@@ -1,4 +1,4 @@
-//! An image that is built line by line.
+//! Builds an image line by line.
 
 ghost use Rattle.std.specs.Prelude.{◌≡◌, ◌≢◌, ◌++◌, ◌∷◌, [], false, Some, None};
 ghost use Rattle.std.specs.Prelude.{MatchResult, OnOk, IfErr, IfOk, option_and_then};
@@ -25,7 +25,7 @@ use ifs_image::{
 use std::alloc::{AllocError, Global};
 use std::marker::Model;
 
-/// The lines before the tables.
+/// The number of lines before the tables.
 const FRONT: u8 = 7;
 
 /// What a routine takes and leaves, the topmost last.
@@ -35,12 +35,12 @@ pub(crate) struct Begun {
     results: Kinds,
 }
 
-/// What lines have said so far.
+/// What the lines so far say.
 pub(crate) struct Building {
     alloc: Global,
-    /// How many of the lines before the tables were read.
+    /// How many lines before the tables were read.
     front: u8,
-    /// The version, the first where none was read.
+    /// The version, or version 1 if none was read.
     version: Version,
     budgets: Budgets,
     initial: StateId,
@@ -49,12 +49,12 @@ pub(crate) struct Building {
     tests: Vec<TestSpec>,
     commands: Vec<Text>,
     states: Vec<StateSpec>,
-    /// Those that are whole.
+    /// The complete routines.
     routines: Vec<Routine>,
-    /// How the routine begins that instructions go to, and they.
+    /// How the current routine begins, if there is one. `code` has its instructions.
     current: Option<Begun>,
     code: Vec<Op>,
-    /// How many instructions all routines have, up to 65,535.
+    /// The number of instructions in all routines, up to 65,535.
     count: u16,
 }
 
@@ -102,7 +102,7 @@ impl Model for Building {
 }
 
 impl Building {
-    /// Nothing was said yet.
+    /// The state before the first line.
     pub(crate) fn new(alloc: Global) -> Self
         ensures { result ≡ nothing }
     {
@@ -133,7 +133,7 @@ impl Building {
         }
     }
 
-    /// Takes a line that fits a form.
+    /// Adds a line that has a form.
     pub(crate) fn take(&mut self, form: Formed) -> Result<(), LineFault>
         ensures taken { MatchResult result
             (λ _. option_and_then (one_line_more self.old) (formed (Some form)) ≡ Some self.new)
@@ -145,7 +145,7 @@ impl Building {
         Ok(())
     }
 
-    /// Whether a line may be said now: its name is new, it is in its range, its table has room, and it is in order.
+    /// Checks that a line may come next: its name is new, it is in its range, its table has room, and it is in order.
     fn check(&self, form: &Formed) -> Result<(), LineFault>
         ensures taken { MatchResult result
             (λ _. option_and_then (one_line_more self.now) (formed (Some form.now)) ≡ Some (with_line self.now form.now.line))
@@ -164,8 +164,7 @@ impl Building {
         Ok(())
     }
 
-    /// Whether the name of an interface or a state stands before in its table, or a routine begins in the form of the
-    /// other version than was read.
+    /// Whether a line repeats the name of an interface or a state, or begins a routine in the form of the other version.
     fn has_no_form(&self, line: &Line) -> bool
         ensures { result ≡ has_no_form self.now line.now }
     {
@@ -177,7 +176,7 @@ impl Building {
         }
     }
 
-    /// Whether a table has no room for a line.
+    /// Whether the table of a line is full.
     fn is_full(&self, line: &Line) -> bool
         ensures { result ≡ is_full self.now line.now }
     {
@@ -192,7 +191,7 @@ impl Building {
         }
     }
 
-    /// Whether there are as many routines as there may be.
+    /// Whether there is the greatest number of routines.
     fn has_routines(&self) -> bool
         ensures { result ≡ is_full self.now (lines.Routine (Plain false)) }
     {
@@ -200,7 +199,7 @@ impl Building {
         self.routines.len().saturating_add(one) >= usize::from(limits::ROUTINES)
     }
 
-    /// Whether no instruction has room in the routine that they go to, or in the image.
+    /// Whether the current routine or the image has no room for an instruction.
     fn has_code(&self) -> bool
         ensures { result ≡ is_full self.now (lines.Instruction Ret) }
     {
@@ -213,7 +212,7 @@ impl Building {
             || self.count >= limits::code_of_image(self.version.number())
     }
 
-    /// Whether a line may stand here: no later line was read, and each line before the tables stands once.
+    /// Whether a line may come next: no later line was read, and each line before the tables comes once.
     fn is_in_order(&self, line: &Line) -> bool
         ensures { result ≡ is_in_order self.now line.now }
     {
@@ -317,7 +316,7 @@ impl Building {
         Ok(())
     }
 
-    /// Begins a routine. The one before is whole.
+    /// Begins a routine, and so completes the one before.
     fn add_routine(&mut self, head: Head) -> Result<(), AllocError>
         ensures { OnOk result (self.new ≡ with_line self.old (lines.Routine head)) }
     {
@@ -341,7 +340,7 @@ impl Building {
         Ok(())
     }
 
-    /// The parts that were said.
+    /// The parts that the lines say.
     pub(crate) fn finish(self) -> Result<ImageParts, AllocError>
         ensures { IfOk result (λ parts. parts ≡ parts_said self) }
     {
@@ -383,7 +382,7 @@ impl Building {
     }
 }
 
-/// What a routine takes and leaves, by how it begins.
+/// The beginning of a routine, from its first line.
 fn start_of(head: Head) -> Begun
     ensures { current_routine (Some result) [] ≡ Some (begun head) }
 {
@@ -414,7 +413,7 @@ fn is_of_other(version: Version, head: &Head) -> bool
     }
 }
 
-/// Whether a name stands in a table.
+/// Whether a table has a name.
 fn is_among(names: &[Text], name: &[u8]) -> bool
     ensures { result ≡ stands_in name.now names.now }
 {
@@ -436,7 +435,7 @@ fn have_name(states: &[StateSpec], name: &[u8]) -> bool
         .any(|other| is_same(other.name.as_bytes(), name))
 }
 
-/// Whether two names are the same. Most that are as long differ near the front.
+/// Whether two names are the same. Most names of the same length differ near the front.
 #[inline(always)]
 fn is_same(one: &[u8], other: &[u8]) -> bool
     ensures { result ≡ bytes_eq one.now other.now }
@@ -444,7 +443,7 @@ fn is_same(one: &[u8], other: &[u8]) -> bool
     one.len() == other.len() && begin_alike(one, other) && one == other
 }
 
-/// Whether the first bytes of two names are the same, where both have so many.
+/// Whether two names begin alike. Returns `true` if one of them is short.
 #[inline(always)]
 fn begin_alike(one: &[u8], other: &[u8]) -> bool
     ensures { result ≡ false → bytes_eq one.now other.now ≡ false }

@@ -12,24 +12,24 @@ use std::alloc::{AllocError, AllocFailed};
 use std::fmt::{self, Debug, Display, Formatter, Write};
 use thiserror::Error;
 
-/// The first line with a fault, by its number from 1. On one line A1 is to come before A2, and A2 before
-/// A3; `assemble` says which of this is proved.
+/// The first line with a fault. Lines are counted from 1. On one line A1 is to come before A2, and A2 before A3;
+/// the contract of `assemble` says what of this is proved.
 #[derive(Clone, Copy, PartialEq, Eq, Error)]
 pub enum AsmFault {
-    /// A1: the line has no form that is known, has a name that stood before in its table, or begins a routine in the form
-    /// of the other version than the first line says.
+    /// A1: the line has no known form, repeats a name of its table, or begins a routine in the form of the other version.
     Unknown { line: u64 },
-    /// A2: a number out of its range, a list that does not ascend, a text of 0 or over 1,024 bytes, more than four kinds that
-    /// a routine takes or leaves, or one entry too many.
+    /// A2: a number is out of its range, a list does not ascend, a text has 0 or over 1,024 bytes, a routine takes or leaves
+    /// over four kinds, or there is one entry too many.
     OutOfRange { line: u64 },
-    /// A3: a line out of its order; or a part that is missing at the end, at the number of lines plus 1.
+    /// A3: the line is out of its order, or a part is missing at the end. In the second case `line` is the number of lines
+    /// plus 1.
     OutOfOrder { line: u64 },
-    /// A0: no memory was found for what the text spells.
+    /// A0: an allocation failed.
     Memory,
 }
 
 impl AsmFault {
-    /// What is printed of the fault.
+    /// The text that is printed for the fault.
     pub fn text(self) -> FaultText
         ensures { fault_words result ≡ asm_fault_words self }
     {
@@ -59,7 +59,7 @@ impl Display for AsmFault {
     }
 }
 
-/// As the fault is printed.
+/// Prints the same text as `Display`.
 impl Debug for AsmFault {
     fn fmt<W: Write>(&self, f: &mut Formatter<W>) -> fmt::Result {
         Display::fmt(self, f)
@@ -84,7 +84,7 @@ pub(crate) enum LineFault {
 }
 
 impl LineFault {
-    /// The fault at a line.
+    /// This fault at a line.
     pub(crate) fn at(self, line: u64) -> AsmFault
         ensures { result ≡ fault_at self line }
     {

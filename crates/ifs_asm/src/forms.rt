@@ -1,4 +1,4 @@
-//! The forms of lines: what their words are, and whether their numbers and texts are in their ranges.
+//! The forms of lines: their words, and whether their numbers and texts are in range.
 
 ghost use Rattle.std.specs.Prelude.{◌≡◌, ◌≤◌, ◌&&◌, ℕ, IfOk, IfSome, length, map, nat_lt, option_map};
 ghost use Rattle.ifs_asm.specs.declared.line.Line.TheVariants as lines;
@@ -24,16 +24,16 @@ const INDEX: u32 = 65_535;
 /// A line that fits a form.
 #[derive(Drop)]
 pub(crate) struct Formed {
-    /// The line; in place of a number out of its range it has another.
+    /// The line. A number out of its range is replaced by another one.
     pub line: Line,
-    /// Whether all its numbers and texts are in their ranges.
+    /// Whether all numbers and texts are in range.
     pub fits: bool,
 }
 
 /// A number.
 #[derive(Clone, Copy)]
 pub(crate) struct Bounded {
-    /// Its value; 0 where it is out of its range.
+    /// Its value, or 0 if it is out of its range.
     value: u32,
     fits: bool,
 }
@@ -53,7 +53,7 @@ pub(crate) struct HandlersForm {
     fits: bool,
 }
 
-/// The line that words say; `None` where they have no form.
+/// The line that words say, and `None` if they have no form.
 #[tactic(auto, using(crate::proofs::Shapes::none_short, crate::proofs::Shapes::none_four, crate::proofs::Shapes::none_six, crate::proofs::Shapes::none_long, crate::proofs::Shapes::eight))]
 pub(crate) fn form_of(alloc: Global, words: &[&[u8]]) -> Result<Option<Formed>, AllocError>
     ensures { IfOk result (λ form. formed form ≡ line_of (map (λ word. word.now) words.now)) }
@@ -154,7 +154,7 @@ fn indexed_op(name: &[u8], operand: u16) -> Option<Op>
     }
 }
 
-/// A number up to a limit; `None` where a word is no number.
+/// Reads a number up to a limit. Returns `None` if the word is no number.
 fn number_up_to(word: &[u8], most: u32) -> Option<Bounded>
     ensures value { bounded result ≡ number_up_to most word.now }
     ensures within { IfSome result (λ b. b.value ≤ most) }
@@ -171,7 +171,7 @@ fn number_up_to(word: &[u8], most: u32) -> Option<Bounded>
     }
 }
 
-/// A period.
+/// Reads a period.
 fn period_in(word: &[u8]) -> Option<Bounded>
     ensures { bounded result ≡ period_in word.now }
 {
@@ -182,7 +182,7 @@ fn period_in(word: &[u8]) -> Option<Bounded>
     })
 }
 
-/// A text in quotes.
+/// Reads a quoted text.
 fn sized_text(alloc: Global, word: &[u8]) -> Result<Option<SizedText>, AllocError>
     ensures { IfOk result (λ text. sized_by text ≡ sized_text word.now) }
 {
@@ -227,7 +227,7 @@ fn indexed_line(name: &[u8], word: &[u8]) -> Option<Formed>
     })
 }
 
-/// A name and a number.
+/// A line of a name and a number.
 fn number_line(name: &[u8], word: &[u8]) -> Option<Formed>
     ensures { formed result ≡ number_line name.now word.now }
 {
@@ -264,7 +264,7 @@ impl Bounded {
     }
 }
 
-/// A name and a word.
+/// A line of a name and a word.
 fn two_words(alloc: Global, name: &[u8], word: &[u8]) -> Result<Option<Formed>, AllocError>
     ensures { IfOk result (λ form. formed form ≡ two_words name.now word.now) }
 {
@@ -299,7 +299,7 @@ fn command_line(alloc: Global, word: &[u8]) -> Result<Option<Formed>, AllocError
     Ok(Some(Formed { line, fits }))
 }
 
-/// A name and two words.
+/// A line of a name and two words.
 fn three_words(
     alloc: Global,
     name: &[u8],
@@ -341,7 +341,7 @@ fn signature_line(name: &[u8], a: &[u8], params: &[u8], b: &[u8], results: &[u8]
     }
 }
 
-/// The same, by its two lists of kinds.
+/// The same, given its two lists of kinds.
 fn signed_line(params: &[u8], results: &[u8]) -> Option<Formed>
     ensures { formed result ≡ signed_line params.now results.now }
 {
@@ -355,7 +355,7 @@ fn signed_line(params: &[u8], results: &[u8]) -> Option<Formed>
     Some(Formed { line, fits })
 }
 
-/// The instruction on a link.
+/// The line of the instruction on a link.
 fn link_line(number: &[u8], state: &[u8]) -> Option<Formed>
     ensures { formed result ≡ link_line number.now state.now }
 {
@@ -378,7 +378,7 @@ fn link_state(word: &[u8]) -> Option<LinkState>
     }
 }
 
-/// An external test.
+/// The line of an external test.
 fn test_line(alloc: Global, number: &[u8], text: &[u8]) -> Result<Option<Formed>, AllocError>
     ensures { IfOk result (λ form. formed form ≡ test_line number.now text.now) }
 {
@@ -396,7 +396,7 @@ fn test_line(alloc: Global, number: &[u8], text: &[u8]) -> Result<Option<Formed>
     Ok(Some(Formed { line, fits }))
 }
 
-/// The words of handlers, of which every other stands as it is.
+/// The words of handlers. `a`, `b` and `c` are fixed words.
 #[derive(Clone, Copy)]
 struct HandlersWords<'a> {
     a: &'a [u8],
@@ -407,7 +407,7 @@ struct HandlersWords<'a> {
     tests: &'a [u8],
 }
 
-/// Handlers, by their words.
+/// Reads handlers.
 fn handlers_in(words: HandlersWords<'_>) -> Option<HandlersForm>
     ensures { handlers_by result ≡ handlers_in words.entry.a.now words.entry.init.now words.entry.b.now words.entry.body.now words.entry.c.now words.entry.tests.now }
 {
@@ -421,7 +421,7 @@ fn handlers_in(words: HandlersWords<'_>) -> Option<HandlersForm>
     }
 }
 
-/// Handlers, by two numbers and a list.
+/// Reads handlers from two numbers and a list.
 fn handlers_of(init: &[u8], body: &[u8], tests: &[u8]) -> Option<HandlersForm>
     ensures { handlers_by result ≡ numbered_handlers init.now body.now tests.now }
 {

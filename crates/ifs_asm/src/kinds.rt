@@ -12,13 +12,13 @@ use ifs_image::Kinds;
 /// A list of kinds.
 #[derive(Drop)]
 pub(crate) struct KindsForm {
-    /// The kinds, the topmost last; the first four where there are more.
+    /// The kinds, the topmost last. If there are more than four, the first four.
     pub kinds: Kinds,
-    /// Whether there are at most four.
+    /// Whether there are four kinds at most.
     pub fits: bool,
 }
 
-/// The list that a word is: a dash, or kinds with commas between them; `None` where it is none.
+/// Reads a list: a dash, or kinds with commas between them. Returns `None` if the word is no list.
 pub(crate) fn kinds_of(word: &[u8]) -> Option<KindsForm>
     ensures { kinds_by result ≡ kinds_in word.now }
 {
@@ -28,7 +28,7 @@ pub(crate) fn kinds_of(word: &[u8]) -> Option<KindsForm>
     each_of(word)
 }
 
-/// The list that kinds with commas between them are.
+/// Reads kinds with commas between them.
 fn each_of(word: &[u8]) -> Option<KindsForm>
     ensures { kinds_by result ≡ kinds_from [] (slice_split (λ byte. byte == 44) word.now) }
 {
@@ -42,7 +42,7 @@ fn each_of(word: &[u8]) -> Option<KindsForm>
     Some(list)
 }
 
-/// The kind of a word.
+/// The kind that a word names.
 fn kind_of(word: &[u8]) -> Option<Kind>
     ensures { result ≡ kind_in word.now }
 {
@@ -62,7 +62,7 @@ impl KindsForm {
     ghost use Rattle.ifs_asm.specs.inner.Words.{with_kind};
     ghost use Rattle.ifs_asm.specs.inner.Forms.{kinds_by};
 
-    /// No kind yet.
+    /// The empty list.
     fn new() -> Self
         ensures { kinds_by (Some result) ≡ Some [] }
     {
@@ -72,7 +72,7 @@ impl KindsForm {
         }
     }
 
-    /// Adds a kind on top, where there is room.
+    /// Adds a kind on top if there is room.
     fn add(&mut self, kind: Kind)
         ensures { kinds_by (Some self.new) ≡ option_and_then (λ kinds. with_kind kinds kind) (kinds_by (Some self.old)) }
     {

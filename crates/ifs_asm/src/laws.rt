@@ -1,4 +1,4 @@
-//! Laws of the assembly text, each the contract of a function: of its definitions alone, where the function does nothing.
+//! Laws of the assembly text. Each is the contract of a function; an empty function has a law of definitions alone.
 
 ghost use Rattle.std.specs.Prelude.{◌≡◌, List, ℕ, IfOk, IfErr};
 ghost use Rattle.ifs_asm.specs.declared.fault.AsmFault.TheVariants.{Memory};
@@ -23,7 +23,7 @@ pub fn one_image()
     ensures { (text : List ℕ) (image other : ImageParts) → TextSpells text image → TextSpells text other → image ≡ other }
 {}
 
-/// What is written for an image is read back as that image; only want of memory, A0, can come between.
+/// Writes an image and reads it back. The result is the same image, or A0 if an allocation fails.
 pub fn reads_back(alloc: Global, image: &Image) -> Result<Image, AsmFault>
     ensures same { IfOk result (λ again. again ≡ image.now) }
     ensures only { IfErr result (λ fault. fault ≡ Memory) }

@@ -1,7 +1,7 @@
-//! Assembly text: what is in an image, as lines that people read and write.
+//! Assembly text: the contents of an image, as lines that people read and write.
 //!
-//! Each image has one canonical text, which [`disassemble`] gives. [`assemble`] takes it, and texts that
-//! differ from it in blanks, comments, leading zeros and escapes alone.
+//! [`disassemble`] returns the one canonical text of an image. [`assemble`] also reads texts that differ from it
+//! only in blanks, comments, leading zeros and escapes.
 #![tactic(auto)]
 
 mod building;

@@ -14,7 +14,7 @@ pub enum Version {
 }
 
 impl Version {
-    /// The version of an image, by its number.
+    /// The version with a number. Every number other than 1 gives version 2.
     pub(crate) fn of(number: u8) -> Version
         ensures { result ≡ version_in number }
     {
@@ -36,12 +36,12 @@ impl Version {
     }
 }
 
-/// How a routine begins, by the form of its version.
+/// How a routine begins, in the form of its version.
 #[derive(Drop)]
 pub enum Head {
-    /// In version 1, where it takes nothing: whether it leaves a truth.
+    /// In version 1, where a routine takes nothing: whether it leaves a truth.
     Plain(bool),
-    /// In version 2: the kinds that it takes, and those that it leaves, the topmost last.
+    /// In version 2: the kinds that it takes and leaves, the topmost last.
     Signature { params: Kinds, results: Kinds },
 }
 
@@ -58,7 +58,7 @@ pub enum Line {
     Cost(u32),
     /// The stated commands of an event.
     Commands(u16),
-    /// The state that a policy starts in.
+    /// The state in which a policy starts.
     Start(StateId),
     /// The handlers of the always part.
     Always(Handlers),

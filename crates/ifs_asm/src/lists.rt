@@ -10,13 +10,13 @@ use ifs_base::{Number, parse_number};
 /// A list of tests.
 #[derive(Clone, Copy)]
 pub(crate) enum ListForm {
-    /// Tests that ascend, all below 64: the bit of weight 2^t stands for test t.
+    /// Ascending tests below 64, as a mask: the bit of weight 2^t is set if test t is listed.
     Mask(u64),
-    /// A test over 63, or one that is not over the one before it.
+    /// A test is over 63, or not greater than the one before it.
     OutOfRange,
 }
 
-/// The list that a word is: a dash, or numbers with commas between them; `None` where it is none.
+/// Reads a list: a dash, or numbers with commas between them. Returns `None` if the word is no list.
 pub(crate) fn list_of(word: &[u8]) -> Option<ListForm>
     ensures { listed_by result ≡ mask_in word.now }
 {
@@ -26,7 +26,7 @@ pub(crate) fn list_of(word: &[u8]) -> Option<ListForm>
     numbers_of(word)
 }
 
-/// The list that numbers with commas between them are.
+/// Reads numbers with commas between them.
 fn numbers_of(word: &[u8]) -> Option<ListForm>
     ensures { listed_by result ≡ masked 0 (slice_split (λ byte. byte == 44) word.now) }
 {
@@ -40,7 +40,7 @@ fn numbers_of(word: &[u8]) -> Option<ListForm>
     Some(list)
 }
 
-/// What stands before the first comma, and what stands after it where there is one.
+/// The bytes before the first comma, and those after it if there is a comma.
 pub(crate) fn cut_at_comma(text: &[u8]) -> (&[u8], Option<&[u8]>)
     ensures parts { slice_split (λ byte. byte == 44) text.now ≡ result.0.now ∷ parts_left (option_map (λ rest. rest.now) result.1) }
     ensures shorter { IfSome result.1 (λ rest. length rest.now < length text.now) }
@@ -63,7 +63,7 @@ impl ListForm {
     ghost use Rattle.ifs_asm.specs.inner.Words.{with_test};
     ghost use Rattle.ifs_base.specs.Numbers.{sized};
 
-    /// The list with one test more.
+    /// The list with one more test.
     fn with(self, test: Number) -> ListForm
         ensures { (n : ℕ) → test ≡ sized n → mask_by result ≡ option_and_then (λ mask. with_test mask n) (mask_by self) }
     {
@@ -74,7 +74,7 @@ impl ListForm {
     }
 }
 
-/// A mask with one test more, which is over all that it has.
+/// A mask with one more test. The test has to be greater than all tests of the mask.
 fn with_test(mask: u64, test: u64) -> ListForm
     ensures { mask_by result ≡ with_test mask test }
 {

@@ -1,4 +1,4 @@
-//! Runs of bytes that are written in quotes as they are.
+//! Runs of plain bytes. A byte is plain if it needs no escape in quotes.
 
 ghost use Rattle.std.specs.Prelude.{◌≡◌, ◌≤◌, not, IfSome, length, map, nat_lt};
 ghost use lib.Lanes.{mask_l};
@@ -9,12 +9,13 @@ ghost use Rattle.ifs_asm.specs.inner.Words.{goes_on};
 use memchr::memchr2;
 use std::simd::prelude::*;
 
-/// So many bytes are compared at once at the front, where most runs end, and so many behind it.
+/// The number of bytes that are compared at once at the front, where most runs end.
 const BLOCK: usize = 16;
 
+/// The number of bytes that are compared at once after the front.
 const LARGE: usize = 32;
 
-/// How many bytes at the front are neither a quote nor a backslash.
+/// The number of bytes before the first quote or backslash.
 #[inline(always)]
 pub(crate) fn run_in_quotes(bytes: &[u8]) -> usize
     ensures value { result ≡ prefix_len goes_on bytes.now }
@@ -29,7 +30,7 @@ pub(crate) fn run_in_quotes(bytes: &[u8]) -> usize
     far_run(bytes)
 }
 
-/// The same where the run may be long: by a large block, and else by a search.
+/// The same for a run that may be long: compares a large block, and then searches.
 #[inline(never)]
 fn far_run(bytes: &[u8]) -> usize
     ensures value { result ≡ prefix_len goes_on bytes.now }
@@ -44,7 +45,7 @@ fn far_run(bytes: &[u8]) -> usize
     memchr2(b'"', b'\\', bytes).unwrap_or(bytes.len())
 }
 
-/// The quotes and backslashes of a block, one bit a byte.
+/// The quotes and backslashes of a block, one bit for each byte.
 #[inline(always)]
 fn quotes_in_block(block: &[u8; BLOCK]) -> u64
     ensures { result ≡ mask_l (map (λ byte. not (goes_on byte)) block.now) }
@@ -54,7 +55,7 @@ fn quotes_in_block(block: &[u8; BLOCK]) -> u64
     ends.to_bitmask()
 }
 
-/// The quotes and backslashes of a large block, one bit a byte.
+/// The quotes and backslashes of a large block, one bit for each byte.
 #[inline(always)]
 fn quotes_in_large(block: &[u8; LARGE]) -> u64
     ensures { result ≡ mask_l (map (λ byte. not (goes_on byte)) block.now) }
@@ -64,7 +65,7 @@ fn quotes_in_large(block: &[u8; LARGE]) -> u64
     ends.to_bitmask()
 }
 
-/// How many bytes at the front of a text are written in quotes as they are.
+/// The number of plain bytes at the front of a text.
 #[inline(always)]
 pub(crate) fn plain_run(bytes: &[u8]) -> usize
     ensures value { result ≡ prefix_len is_plain bytes.now }
@@ -79,7 +80,7 @@ pub(crate) fn plain_run(bytes: &[u8]) -> usize
     }
 }
 
-/// The same if the run ends in the first block.
+/// The same if the run ends in the first block, and `None` otherwise.
 #[inline(always)]
 pub(crate) fn near_end(bytes: &[u8]) -> Option<usize>
     ensures value { IfSome result (λ run. run ≡ prefix_len is_plain bytes.now) }
@@ -94,7 +95,7 @@ pub(crate) fn near_end(bytes: &[u8]) -> Option<usize>
     }
 }
 
-/// The same where the run may be long.
+/// The same for a run that may be long.
 #[inline(always)]
 pub(crate) fn far_plain(bytes: &[u8]) -> usize
     ensures value { result ≡ prefix_len is_plain bytes.now }
@@ -122,7 +123,7 @@ fn last_plain(bytes: &[u8]) -> usize
     }
 }
 
-/// The bytes of a block that are not written in quotes as they are, one bit a byte.
+/// The bytes of a block that are not plain, one bit for each byte.
 #[inline(always)]
 fn others_in_block(block: &[u8; BLOCK]) -> u64
     ensures { result ≡ mask_l (map (λ byte. not (is_plain byte)) block.now) }
@@ -135,7 +136,7 @@ fn others_in_block(block: &[u8; BLOCK]) -> u64
     ends.to_bitmask()
 }
 
-/// The bytes of a large block that are not written in quotes as they are, one bit a byte.
+/// The bytes of a large block that are not plain, one bit for each byte.
 #[inline(always)]
 fn others_in_large(block: &[u8; LARGE]) -> u64
     ensures { result ≡ mask_l (map (λ byte. not (is_plain byte)) block.now) }
@@ -148,7 +149,7 @@ fn others_in_large(block: &[u8; LARGE]) -> u64
     ends.to_bitmask()
 }
 
-/// Whether the first byte is written in quotes as it is. After an escape often comes another one.
+/// Whether the first byte is plain. Often it is not, since escapes follow one another.
 fn begins_plain(bytes: &[u8]) -> bool
     ensures { result ≡ nat_lt 0 (prefix_len is_plain bytes.now) }
 {
@@ -158,7 +159,7 @@ fn begins_plain(bytes: &[u8]) -> bool
     }
 }
 
-/// Whether a byte is written in quotes as it is.
+/// Whether a byte is plain.
 fn is_plain(byte: u8) -> bool
     ensures { result ≡ is_plain byte }
 {

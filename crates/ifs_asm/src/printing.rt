@@ -23,7 +23,8 @@ use ifs_image::{Handlers, Image, ImageParts, Routine, StateSpec, TestSpec};
 use itoa::Buffer;
 use std::alloc::{AllocError, Global};
 
-/// The canonical text of an image: a line for each part, one space between words, decimal numbers. It spells the image.
+/// Returns the canonical text of an image: a line for each part, one space between words, decimal numbers. It spells
+/// the image.
 pub fn disassemble(alloc: Global, image: &Image) -> Result<String, AllocError>
     ensures canonical { IfOk result (λ text. string_bytes text ≡ canonical image.now) }
     ensures spelled { IfOk result (λ text. TextSpells (string_bytes text) image.now) }
@@ -52,7 +53,7 @@ fn put_number(out: &mut String, words: &str, number: u64) -> Result<(), AllocErr
     put_decimal(out, number)
 }
 
-/// Writes a number, which often is a single digit.
+/// Writes a number. Most are a single digit.
 #[inline(never)]
 fn put_decimal(out: &mut String, number: u64) -> Result<(), AllocError>
     ensures { OnOk result (string_bytes out.new ≡ string_bytes out.old ++ decimal number) }
@@ -121,7 +122,7 @@ fn put_always(out: &mut String, handlers: Handlers) -> Result<(), AllocError>
     Ok(())
 }
 
-/// Writes the words of handlers, each after a space, and ends the line.
+/// Writes the words of handlers, each after a space, and the end of the line.
 fn put_handlers(out: &mut String, handlers: Handlers) -> Result<(), AllocError>
     ensures bytes { OnOk result (string_bytes out.new ≡ string_bytes out.old ++ flat_map (λ word. codes " " ++ word) (map written (handlers_words handlers)) ++ codes "\n") }
     ensures in_range { HandlersInRange handlers }
@@ -134,7 +135,7 @@ fn put_handlers(out: &mut String, handlers: Handlers) -> Result<(), AllocError>
     Ok(())
 }
 
-/// Writes the tests of a mask, ascending, with commas between them; a dash where there is none.
+/// Writes the tests of a mask in ascending order, with commas between them, or a dash if there is none.
 fn put_list(out: &mut String, mask: u64) -> Result<(), AllocError>
     ensures { OnOk result (string_bytes out.new ≡ string_bytes out.old ++ listed (map decimal (tests_of mask))) }
 {
@@ -148,7 +149,7 @@ fn put_list(out: &mut String, mask: u64) -> Result<(), AllocError>
     Ok(())
 }
 
-/// Writes a test where a mask has it; whether the next item is still the first.
+/// Writes a test if the mask has it. Returns whether the next item is still the first.
 fn put_test_in(out: &mut String, is_first: bool, mask: u64, test: u8) -> Result<bool, AllocError>
     requires { test < 64 }
     ensures { IfOk result (λ next. string_bytes out.new ++ left_at next mask (test + 1) ≡ string_bytes out.old ++ left_at is_first mask test) }
@@ -168,7 +169,7 @@ fn has_test(mask: u64, test: u8) -> bool
     mask >> test & 1 == 1
 }
 
-/// Writes an item of a list, after a comma unless it is the first.
+/// Writes a number of a list, after a comma unless it is the first.
 fn put_item(out: &mut String, is_first: bool, number: u8) -> Result<(), AllocError>
     ensures { OnOk result (string_bytes out.new ≡ string_bytes out.old ++ (before_item is_first ++ decimal number)) }
 {
@@ -176,7 +177,7 @@ fn put_item(out: &mut String, is_first: bool, number: u8) -> Result<(), AllocErr
     put_number(out, "", u64::from(number))
 }
 
-/// Writes what stands before an item of a list: a comma, unless it is the first.
+/// Writes a comma before an item of a list, unless the item is the first.
 fn put_comma(out: &mut String, is_first: bool) -> Result<(), AllocError>
     ensures { OnOk result (string_bytes out.new ≡ string_bytes out.old ++ before_item is_first) }
 {
@@ -204,7 +205,7 @@ fn put_interface(out: &mut String, name: &Text) -> Result<(), AllocError>
     Ok(())
 }
 
-/// Writes words, a text in quotes, and ends the line.
+/// Writes words, a quoted text, and the end of the line.
 fn put_named(out: &mut String, words: &str, text: &Text) -> Result<(), AllocError>
     ensures bytes { OnOk result (string_bytes out.new ≡ string_bytes out.old ++ words.now ++ quoted text.now ++ codes "\n") }
     ensures in_range { OnOk result (IsUtf8 text.now) }
@@ -330,7 +331,7 @@ fn put_plain(out: &mut String, truth: bool) -> Result<(), AllocError>
     Ok(())
 }
 
-/// How many truths a routine of version 1 leaves.
+/// The number of truths that a routine of version 1 leaves.
 fn truths(truth: bool) -> u64
     ensures { result ≡ truths truth }
 {
@@ -349,7 +350,7 @@ fn put_signature(out: &mut String, params: &[Kind], results: &[Kind]) -> Result<
     Ok(())
 }
 
-/// Writes kinds with commas between them; a dash where there is none.
+/// Writes kinds with commas between them, or a dash if there is none.
 fn put_kinds(out: &mut String, kinds: &[Kind]) -> Result<(), AllocError>
     ensures { OnOk result (string_bytes out.new ≡ string_bytes out.old ++ kinds_word kinds.now) }
 {
@@ -422,7 +423,7 @@ fn put_op(out: &mut String, op: Op) -> Result<(), AllocError>
     }
 }
 
-/// Writes the line of an instruction with an operand, of which the words before it are given.
+/// Writes the line of an instruction: the words before its operand, and the operand.
 fn put_operand(out: &mut String, words: &str, operand: u16) -> Result<(), AllocError>
     ensures { OnOk result (string_bytes out.new ≡ string_bytes out.old ++ (words.now ++ decimal operand ++ codes "\n")) }
 {
@@ -438,7 +439,7 @@ fn put_link(out: &mut String, iface: IfaceId, state: LinkState) -> Result<(), Al
     out.push_str(link_ending(state))
 }
 
-/// The word of a link state between a space and the end of the line.
+/// A space, the word of a link state, and the end of the line.
 fn link_ending(state: LinkState) -> &'static str
     ensures { result.now ≡ codes " " ++ link_word state ++ codes "\n" }
 {

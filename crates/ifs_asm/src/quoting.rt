@@ -1,4 +1,4 @@
-//! Texts in quotes.
+//! Quoted texts.
 
 ghost use Rattle.std.specs.Prelude.{◌≡◌, ◌++◌, ◌<◌, ◌≤◌, ◌∷◌, List, ℕ, None, length, take};
 ghost use Rattle.std.specs.Prelude.{string_bytes, MatchOption, IfSome, IfOk, IsTrue, IsUtf8, OnOk};
@@ -24,7 +24,7 @@ pub(crate) fn put_quoted(out: &mut String, text: &Text) -> Result<(), AllocError
     Ok(())
 }
 
-/// Writes what stands between the quotes: bytes that stand there as they are in runs, the others one by one.
+/// Writes the text between the quotes: plain bytes in runs, the others one by one.
 fn put_inside(out: &mut String, text: &str) -> Result<(), AllocError>
     ensures { OnOk result (string_bytes out.new ≡ string_bytes out.old ++ flat_map quoted_byte text.now) }
 {
@@ -37,7 +37,7 @@ fn put_inside(out: &mut String, text: &str) -> Result<(), AllocError>
     put_run(out, left)
 }
 
-/// Writes bytes that stand in quotes as they are, of which there are often none between two others.
+/// Writes a run of plain bytes. It is often empty.
 #[inline(always)]
 fn put_run(out: &mut String, run: &str) -> Result<(), AllocError>
     ensures { OnOk result (string_bytes out.new ≡ string_bytes out.old ++ run.now) }
@@ -48,7 +48,7 @@ fn put_run(out: &mut String, run: &str) -> Result<(), AllocError>
     out.push_str(run)
 }
 
-/// Writes a byte as it stands in quotes.
+/// Writes a byte as it is quoted.
 fn put_escape(out: &mut String, byte: u8) -> Result<(), AllocError>
     requires { byte < 128 }
     ensures { OnOk result (string_bytes out.new ≡ string_bytes out.old ++ quoted_byte byte) }
@@ -68,7 +68,7 @@ fn put_escape(out: &mut String, byte: u8) -> Result<(), AllocError>
     Ok(())
 }
 
-/// A text up to the first byte that is written otherwise in quotes, that byte, and what follows.
+/// A text up to its first byte that is not plain, that byte, and the rest.
 #[derive(Clone, Copy)]
 struct Parts<'a> {
     run: &'a str,
@@ -76,7 +76,7 @@ struct Parts<'a> {
     rest: &'a str,
 }
 
-/// A text parted at the first byte that is written otherwise in quotes, where there is one.
+/// Splits a text at its first byte that is not plain. Returns `None` if all bytes are plain.
 fn split_plain(text: &str) -> Option<Parts<'_>>
     ensures value { MatchOption
         result
@@ -99,7 +99,7 @@ fn split_plain(text: &str) -> Option<Parts<'_>>
     })
 }
 
-/// The text that a word in quotes stands for; `None` where the word is none.
+/// Reads a quoted text. Returns `None` if the word is not one.
 pub(crate) fn text_of(alloc: Global, word: &[u8]) -> Result<Option<Text>, AllocError>
     ensures { IfOk result (λ text. text ≡ text_in word.now) }
 {
@@ -109,7 +109,7 @@ pub(crate) fn text_of(alloc: Global, word: &[u8]) -> Result<Option<Text>, AllocE
     Ok(in_utf8(bytes))
 }
 
-/// The text of bytes; `None` where they are no UTF-8.
+/// The text of bytes, and `None` if they are not in UTF-8.
 fn in_utf8(bytes: Vec<u8>) -> Option<Text>
     ensures { result ≡ in_utf8 bytes.items }
 {
@@ -119,7 +119,7 @@ fn in_utf8(bytes: Vec<u8>) -> Option<Text>
     }
 }
 
-/// The bytes that a word in quotes stands for.
+/// The bytes of a quoted text, and `None` if the word is not one.
 fn unquoted(alloc: Global, word: &[u8]) -> Result<Option<Vec<u8>>, AllocError>
     ensures { IfOk result (λ bytes. option_map (λ vec. vec.items) bytes ≡ text_from word.now Start) }
 {
@@ -129,7 +129,7 @@ fn unquoted(alloc: Global, word: &[u8]) -> Result<Option<Vec<u8>>, AllocError>
     }
 }
 
-/// The bytes that what follows the first quote stands for.
+/// The bytes of a quoted text, from the byte after its first quote on.
 fn unquoted_inside(alloc: Global, inside: &[u8]) -> Result<Option<Vec<u8>>, AllocError>
     ensures { IfOk result (λ bytes. option_map (λ vec. vec.items) bytes ≡ text_from inside.now Within) }
 {
@@ -147,7 +147,7 @@ fn unquoted_inside(alloc: Global, inside: &[u8]) -> Result<Option<Vec<u8>>, Allo
     }
 }
 
-/// Takes the bytes between quotes that stand there as they are, and gives what follows.
+/// Takes the plain bytes at the front, and returns the rest.
 #[inline(always)]
 fn take_run<'a>(bytes: &mut Vec<u8>, left: &'a [u8]) -> Result<&'a [u8], AllocError>
     ensures text { IfOk result (λ rest. option_map (λ text. bytes.new.items ++ text) (text_from rest.now Within)
@@ -164,7 +164,7 @@ fn take_run<'a>(bytes: &mut Vec<u8>, left: &'a [u8]) -> Result<&'a [u8], AllocEr
     }
 }
 
-/// Whether a backslash stands at the front.
+/// Whether the first byte is a backslash.
 fn begins_escape(bytes: &[u8]) -> bool
     ensures { IsTrue result → prefix_len is_plain bytes.now ≡ 0 }
 {
@@ -174,7 +174,7 @@ fn begins_escape(bytes: &[u8]) -> bool
     }
 }
 
-/// The same where no escape is near, or few bytes are left.
+/// Takes the plain bytes if no escape is near, or if few bytes are left.
 #[inline(never)]
 fn take_some<'a>(bytes: &mut Vec<u8>, left: &'a [u8]) -> Result<&'a [u8], AllocError>
     ensures text { IfOk result (λ rest. option_map (λ text. bytes.new.items ++ text) (text_from rest.now Within)
@@ -185,7 +185,7 @@ fn take_some<'a>(bytes: &mut Vec<u8>, left: &'a [u8]) -> Result<&'a [u8], AllocE
     take_front::<32>(bytes, left, far_plain(left))
 }
 
-/// Takes so many bytes at the front, which are written there as they are.
+/// Takes the plain bytes at the front, given their number, and returns the rest.
 #[inline(always)]
 fn take_front<'a, const N: usize>(
     bytes: &mut Vec<u8>,
@@ -204,7 +204,8 @@ fn take_front<'a, const N: usize>(
     Ok(left.split_at(run).1)
 }
 
-/// Adds so many bytes of the front. A whole block is added and cut if there is room, which costs less than a copy of a few bytes.
+/// Adds this number of bytes from the front. If there is room it adds a whole block and cuts it, which is faster than
+/// a copy of a few bytes.
 #[inline(always)]
 fn put_front<const N: usize>(bytes: &mut Vec<u8>, left: &[u8], run: usize) -> Result<(), AllocError>
     requires few { N ≤ 32 }
@@ -222,14 +223,14 @@ fn put_front<const N: usize>(bytes: &mut Vec<u8>, left: &[u8], run: usize) -> Re
     }
 }
 
-/// The byte that an escape stands for, and what follows the escape.
+/// The byte that an escape means, and the bytes after the escape.
 #[derive(Clone, Copy)]
 struct Escape<'a> {
     byte: u8,
     rest: &'a [u8],
 }
 
-/// The escape at the front; `None` where none stands there.
+/// The escape at the front, and `None` if there is none.
 fn escape_at(bytes: &[u8]) -> Option<Escape<'_>>
     ensures text { prefix_len is_plain bytes.now ≡ 0 → MatchOption
         result
@@ -247,7 +248,7 @@ fn escape_at(bytes: &[u8]) -> Option<Escape<'_>>
     }
 }
 
-/// The escape that a byte and what follows it make after a backslash; `None` where they make none.
+/// The escape that a byte and those after it make after a backslash, and `None` if they make none.
 fn escape_by(kind: u8, rest: &[u8]) -> Option<Escape<'_>>
     ensures text { MatchOption
         result
@@ -264,7 +265,7 @@ fn escape_by(kind: u8, rest: &[u8]) -> Option<Escape<'_>>
     }
 }
 
-/// The escape by two hexadecimal digits at the front; `None` where they say no character from 1 to 127.
+/// The escape that two hexadecimal digits at the front make, and `None` if they are not a character from 1 to 127.
 fn hexadecimal(bytes: &[u8]) -> Option<Escape<'_>>
     ensures text { MatchOption
         result
@@ -281,7 +282,7 @@ fn hexadecimal(bytes: &[u8]) -> Option<Escape<'_>>
     }
 }
 
-/// The character from 1 to 127 that two hexadecimal digits in lower case say.
+/// The character from 1 to 127 with these two hexadecimal digits in lower case.
 fn character(high: u8, low: u8) -> Option<u8>
     ensures { (rest : List ℕ) → text_from (high ∷ low ∷ rest) High ≡ after_turn (text_from rest) (given result) }
 {

@@ -18,10 +18,10 @@ use ifs_image::Image;
 use memchr::memchr;
 use std::alloc::Global;
 
-/// The image that a text spells. After a refusal nothing is kept.
+/// Returns the image that a text spells. It keeps nothing after a fault.
 ///
-/// A1 to A3 name the first line with a fault, counted from 1; a part that is missing at the end is told at
-/// the number of lines plus 1. A0, for want of memory, may come in place of another answer.
+/// A1 to A3 name the first line with a fault. Lines are counted from 1. If a part is missing at the end, the fault names
+/// the number of lines plus 1. A0 means that an allocation failed, and may replace any other result.
 pub fn assemble(alloc: Global, text: &str) -> Result<Image, AsmFault>
     ensures spelled { IfOk result (λ image. TextSpells text.now image) }
     ensures refused { IfErr result (λ fault. fault ≢ Memory → (image : ImageParts) → TextSpells text.now image → ⊥) }
@@ -46,7 +46,7 @@ pub fn assemble(alloc: Global, text: &str) -> Result<Image, AsmFault>
     }
 }
 
-/// A line without its newline, and what follows it.
+/// Splits a text into its first line, without the newline, and the rest.
 fn split_line(text: &[u8]) -> (&[u8], &[u8])
     requires { 0 < length text.now }
     ensures cut { text_lines text.now ≡ result.0.now ∷ text_lines result.1.now }
@@ -65,7 +65,7 @@ fn newline(text: &[u8]) -> Option<usize>
     memchr(b'\n', text)
 }
 
-/// Takes a line, unless it is empty or a comment.
+/// Reads a line. An empty line or a comment changes nothing.
 fn take_line(alloc: Global, building: &mut Building, line: &[u8]) -> Result<(), LineFault>
     ensures taken { MatchResult result
         (λ _. built_by building.old (spoken_line line.now) ≡ Some building.new)

@@ -8,10 +8,10 @@ ghost use Rattle.ifs_asm.specs.inner.Words.{Bare, Inside, mode_after, goes_on, w
 use crate::plain::run_in_quotes;
 use arrayvec::ArrayVec;
 
-/// One word more than the longest form of a line has.
+/// One more word than the longest form of a line has.
 const WORDS: usize = 9;
 
-/// The words of a line, of which no more than nine are kept.
+/// The first words of a line, nine at most.
 pub(crate) type Words<'a> = ArrayVec<&'a [u8], WORDS>;
 
 /// Whether a line is empty or a comment.
@@ -26,7 +26,7 @@ pub(crate) fn is_silent(line: &[u8]) -> bool
     true
 }
 
-/// The words of a line, which blanks part outside of quotes.
+/// Splits a line into words at the blanks outside quotes.
 pub(crate) fn words_of(line: &[u8]) -> Words<'_>
     ensures { map (λ word. word.now) result.items ≡ words_up_to 9 line.now }
 {
@@ -44,14 +44,14 @@ pub(crate) fn words_of(line: &[u8]) -> Words<'_>
     words
 }
 
-/// What stands after blanks.
+/// The bytes after the blanks at the front.
 fn after_blanks(bytes: &[u8]) -> &[u8]
     ensures { result.now ≡ after_blanks bytes.now }
 {
     &bytes[blanks(bytes)..]
 }
 
-/// How many blanks stand at the front.
+/// The number of blanks at the front.
 fn blanks(bytes: &[u8]) -> usize
     ensures value { result ≡ prefix_len is_space_or_tab bytes.now }
     ensures within { result ≤ length bytes.now }
@@ -65,7 +65,7 @@ fn is_blank(byte: u8) -> bool
     byte == b' ' || byte == b'\t'
 }
 
-/// How many bytes stand before the first blank outside of quotes.
+/// The number of bytes before the first blank outside quotes.
 fn word_len(bytes: &[u8]) -> usize
     ensures value { result ≡ word_len Bare bytes.now }
     ensures within { result ≤ length bytes.now }
@@ -80,7 +80,7 @@ fn word_len(bytes: &[u8]) -> usize
     bytes.len()
 }
 
-/// What stands behind a byte outside of quotes, and behind the text in quotes that it begins.
+/// The bytes after a byte outside quotes. If it is a quote, they follow the quoted text that it begins.
 fn behind(byte: u8, rest: &[u8]) -> &[u8]
     ensures value { length rest.now + word_len Bare result.now ≡ length result.now + word_len (mode_after Bare byte) rest.now }
     ensures within { length result.now ≤ length rest.now }
@@ -92,7 +92,7 @@ fn behind(byte: u8, rest: &[u8]) -> &[u8]
     }
 }
 
-/// What stands behind the quote that ends a text; nothing where none does.
+/// The bytes after the quote that ends a text. There are none if no quote ends it.
 fn behind_quotes(bytes: &[u8]) -> &[u8]
     ensures value { length bytes.now + word_len Bare result.now ≡ length result.now + word_len Inside bytes.now }
     ensures within { length result.now ≤ length bytes.now }
@@ -107,7 +107,7 @@ fn behind_quotes(bytes: &[u8]) -> &[u8]
     }
 }
 
-/// What stands behind the bytes inside quotes that are neither a quote nor a backslash.
+/// The bytes inside quotes from the first quote or backslash on.
 fn behind_run(bytes: &[u8]) -> &[u8]
     ensures value { length bytes.now + word_len Inside result.now ≡ length result.now + word_len Inside bytes.now }
     ensures within { length result.now ≤ length bytes.now }

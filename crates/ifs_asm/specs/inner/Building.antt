@@ -1,4 +1,4 @@
--- What lines have said so far, and how one more changes it.
+-- What lines so far say, and how one more line changes it.
 use Rattle.std.specs.Prelude.{ℕ, ◌+◌, ◌==◌, ◌&&◌, ◌||◌, not, nat_lt, Bool, true, false, if◌then◌else◌, List, []}
 use Rattle.std.specs.Prelude.{◌∷◌, ◌++◌, length, Option, Some, None, option_and_then, is_some, take, map, min}
 use Rattle.std.specs.List.{flat_map}
@@ -25,8 +25,8 @@ use Rattle.ifs_asm.specs.Spellings.{is_silent}
 use Rattle.ifs_asm.specs.inner.Words.{words_up_to}
 use Rattle.ifs_asm.specs.inner.Forms.{line_of}
 
--- What was said: how many of the lines before the tables, what they say (version 1 where none was said), the tables, the routines that are whole and
--- the one that instructions go to, and how many instructions all have, up to 65,535.
+-- What lines say: the number of lines before the tables and their values (version 1 if there is no line yet), the tables, the
+-- complete routines, the current routine, and the number of all instructions, up to 65,535.
 pub record Built : Type 0 where
   pub front : ℕ
   pub version : Version
@@ -41,42 +41,43 @@ pub record Built : Type 0 where
   pub current : Option Routine
   pub count : ℕ
 
--- The current routine, where there is one.
+-- The current routine, if there is one, as a list.
 abbrev pub listed_routine : Option Routine → List Routine
 listed_routine None = []
 listed_routine (Some r) = r ∷ []
 
--- The current routine, by how it begins and its instructions.
+-- The current routine, from its beginning and its instructions.
 abbrev pub current_routine : Option Begun → List Op → Option Routine
 current_routine None code = None
 current_routine (Some begun) code = Some (record { params = begun.params; results = begun.results; code = code })
 
--- A routine without instructions, by how it begins.
+-- A routine without instructions, from its first line.
 abbrev pub begun : Head → Routine
 begun (Plain true) = record { params = record { items = [] }; results = record { items = Truth ∷ [] }; code = [] }
 begun (Plain false) = record { params = record { items = [] }; results = record { items = [] }; code = [] }
 begun (Signature params results) = record { params = params; results = results; code = [] }
 
--- The parts of what was said.
+-- The parts of an image that lines say.
 abbrev pub parts_said : Built → ImageParts
 parts_said b = record { version = version_number b.version; budgets = b.budgets; initial = b.initial; always = b.always; interfaces = b.interfaces; tests = b.tests; commands = b.commands; states = b.states; routines = b.routines ++ listed_routine b.current }
 
--- The lines that were said.
+-- The lines themselves.
 abbrev pub lines_said : Built → List Line
 lines_said b =
     take b.front (front_lines (parts_said b)) ++ map lines.Interface b.interfaces ++ map lines.Test b.tests ++ map lines.Command b.commands
     ++ map lines.State b.states ++ flat_map (routine_lines b.version) (b.routines ++ listed_routine b.current)
 
+-- Whether a list is empty.
 abbrev pub is_none : {A : Type 0} → List A → Bool
 is_none [] = true
 is_none (x ∷ xs) = false
 
--- How many instructions the current routine has.
+-- The number of instructions in the current routine.
 abbrev pub current_len : Option Routine → ℕ
 current_len None = 0
 current_len (Some r) = length r.code
 
--- How many routines there are.
+-- The number of routines.
 abbrev pub routine_count : Built → ℕ
 routine_count b = length (b.routines ++ listed_routine b.current)
 
@@ -86,14 +87,14 @@ is_of_other One (Signature params results) = true
 is_of_other Two (Plain truth) = true
 is_of_other _ _ = false
 
--- No form fits a line: the name of an interface or a state stands before in its table, or a routine begins in the form of the other version than was said.
+-- A line has no form: it repeats the name of an interface or a state, or begins a routine in the form of the other version.
 abbrev pub has_no_form : Built → Line → Bool
 has_no_form b (lines.Interface name) = stands_in name b.interfaces
 has_no_form b (lines.State s) = stands_in s.name (names_of b.states)
 has_no_form b (lines.Routine head) = nat_lt 0 b.front && is_of_other b.version head
 has_no_form b _ = false
 
--- A table has no room for a line.
+-- There is no room for a line.
 abbrev pub is_full : Built → Line → Bool
 is_full b (lines.Interface name) = not (nat_lt (length b.interfaces) 64)
 is_full b (lines.Test t) = not (nat_lt (length b.tests) 64)
@@ -103,7 +104,7 @@ is_full b (lines.Routine head) = not (nat_lt (routine_count b) 1024)
 is_full b (lines.Instruction op) = not (nat_lt (current_len b.current) 1024) || not (nat_lt b.count (code_limit (version_number b.version)))
 is_full b _ = false
 
--- A line may stand here: no later line was said, and each line before the tables stands once.
+-- A line may come next: no later line came before, and each line before the tables comes once.
 abbrev pub is_in_order : Built → Line → Bool
 is_in_order b (lines.Version version) = b.front == 0
 is_in_order b (lines.Stack n) = b.front == 1
@@ -119,12 +120,12 @@ is_in_order b (lines.State s) = (b.front == 7) && not (is_some b.current)
 is_in_order b (lines.Routine head) = not (is_none b.states)
 is_in_order b (lines.Instruction op) = is_some b.current
 
--- A routine with one instruction more.
+-- A routine with one more instruction.
 abbrev pub with_op : Op → Option Routine → Option Routine
 with_op op None = None
 with_op op (Some r) = Some (record r { code = r.code ++ op ∷ [] })
 
--- What was said, with a line more.
+-- What lines say with one more line.
 abbrev pub with_line : Built → Line → Built
 with_line b (lines.Version version) = record b { front = 1; version = version }
 with_line b (lines.Stack n) = record b { front = 2; budgets = record b.budgets { stack = n } }
@@ -140,29 +141,29 @@ with_line b (lines.State s) = record b { states = b.states ++ s ∷ [] }
 with_line b (lines.Routine head) = record b { routines = b.routines ++ listed_routine b.current; current = Some (begun head) }
 with_line b (lines.Instruction op) = record b { current = with_op op b.current; count = min (b.count + 1) 65535 }
 
--- One line more, where it may stand here.
+-- The same, if that line may come next.
 abbrev pub one_line_more : Built → Line → Option Built
 one_line_more b line = if has_no_form b line || (is_full b line || not (is_in_order b line)) then None else Some (with_line b line)
 
--- The line of bytes without newline.
+-- The line that bytes without a newline say.
 unfoldable pub line_in : List ℕ → Option Line
 line_in bytes = line_of (words_up_to 9 bytes)
 
--- What is said after lines, each by its bytes.
+-- What lines say after more lines, given as bytes.
 abbrev pub built_by : Built → List (List ℕ) → Option Built
 built_by b [] = Some b
 built_by b (bytes ∷ others) = option_and_then (λ line. option_and_then (λ next. built_by next others) (one_line_more b line)) (line_in bytes)
 
--- What is said after lines.
+-- What lines say after more lines.
 abbrev pub built_of : Built → List Line → Option Built
 built_of b [] = Some b
 built_of b (line ∷ others) = option_and_then (λ next. built_of next others) (one_line_more b line)
 
--- What a line adds to the lines that say something.
+-- A line as a list; the empty list if the line is empty or a comment.
 abbrev pub spoken_line : List ℕ → List (List ℕ)
 spoken_line bytes = if is_silent bytes then [] else bytes ∷ []
 
--- Nothing was said.
+-- The state before the first line.
 abbrev pub nothing : Built
 nothing = record {
   front = 0;

@@ -1,4 +1,4 @@
--- Which line words say, by the first word and how many there are.
+-- Which line words say: the first word and the number of words decide.
 use Rattle.std.specs.Prelude.{ℕ, ◌+◌, ◌==◌, ◌&&◌, nat_lt, if◌then◌else◌, List, [], ◌∷◌}
 use Rattle.std.specs.Prelude.{codes, length, Option, Some, None, option_and_then, option_map}
 use Rattle.std.specs.List.{slice_split}
@@ -51,45 +51,48 @@ indexed_op name n =
     if bytes_eq name (codes "jt") then Some (JumpTrue n) else
     if bytes_eq name (codes "call") then Some (Call (record { 0 = n })) else None
 
--- The link state of a word.
+-- The link state that a word names.
 abbrev pub link_state_in : List ℕ → Option LinkState
 link_state_in word =
     if bytes_eq word (codes "unknown") then Some Unknown else
     if bytes_eq word (codes "down") then Some Down else
     if bytes_eq word (codes "up") then Some Up else None
 
--- A number up to a limit.
+-- A number, if it is at most a limit.
 abbrev pub up_to : ℕ → ℕ → Option ℕ
 up_to most n = if nat_lt most n then None else Some n
 
+-- The number that a word spells, if it is at most a limit.
 abbrev pub number_up_to : ℕ → List ℕ → Option ℕ
 number_up_to most word = option_and_then (up_to most) (number_of word)
 
--- A text of 1 to 1,024 bytes.
+-- A text, if it has 1 to 1,024 bytes.
 abbrev pub text_within : List ℕ → Option (List ℕ)
 text_within text = if nat_lt 0 (length text) && nat_lt (length text) 1025 then Some text else None
 
+-- The text that a word quotes, if it has 1 to 1,024 bytes.
 abbrev pub sized_text : List ℕ → Option (List ℕ)
 sized_text word = option_and_then text_within (text_in word)
 
--- A period.
+-- A number, if it is a period.
 abbrev pub period_within : ℕ → Option ℕ
 period_within n = if nat_lt 0 n && nat_lt n 604801 then Some n else None
 
+-- The period that a word spells.
 abbrev pub period_in : List ℕ → Option ℕ
 period_in word = option_and_then period_within (number_of word)
 
--- The version, each written in one way.
+-- The line of the version. Each version has one spelling.
 abbrev pub version : List ℕ → Option Line
 version word =
     if bytes_eq word (codes "1") then Some (lines.Version One) else
     if bytes_eq word (codes "2") then Some (lines.Version Two) else None
 
--- An instruction with an operand that fits.
+-- The line of an instruction with an operand.
 abbrev pub indexed_line : List ℕ → List ℕ → Option Line
 indexed_line name word = option_and_then (λ n. option_map lines.Instruction (indexed_op name n)) (number_up_to 65535 word)
 
--- A name and a number.
+-- A line of a name and a number.
 abbrev pub number_line : List ℕ → List ℕ → Option Line
 number_line name word =
     if bytes_eq name (codes "stack") then option_map lines.Stack (number_up_to 32 word) else
@@ -99,7 +102,7 @@ number_line name word =
     if bytes_eq name (codes "start") then option_map (λ n. lines.Start (record { 0 = n })) (number_up_to 65535 word) else
     indexed_line name word
 
--- A name and a word.
+-- A line of a name and a word.
 abbrev pub two_words : List ℕ → List ℕ → Option Line
 two_words name word =
     if bytes_eq name (codes "ifsv") then version word else
@@ -111,51 +114,51 @@ two_words name word =
 abbrev pub routine_line : List ℕ → List ℕ → Option Line
 routine_line word number = if bytes_eq word (codes "results") then option_map (λ n. lines.Routine (Plain (n == 1))) (number_up_to 1 number) else None
 
--- The same in version 2, by two lists of kinds.
+-- The same in version 2, given two lists of kinds.
 abbrev pub signed_line : List ℕ → List ℕ → Option Line
 signed_line params results =
     option_and_then (λ p. option_map (λ r. lines.Routine (Signature (record { items = p }) (record { items = r }))) (kinds_in results)) (kinds_in params)
 
--- The words that begin a routine in version 2.
+-- The line that begins a routine in version 2.
 abbrev pub signature_line : List ℕ → List ℕ → List ℕ → List ℕ → List ℕ → Option Line
 signature_line name a params b results =
     if bytes_eq name (codes "routine") && (bytes_eq a (codes "params") && bytes_eq b (codes "results")) then signed_line params results else None
 
--- The instruction on a link.
+-- The line of the instruction on a link.
 abbrev pub link_line : List ℕ → List ℕ → Option Line
 link_line number state = option_and_then (λ n. option_map (λ s. lines.Instruction (Link (record { 0 = n }) s)) (link_state_in state)) (number_up_to 65535 number)
 
--- An external test.
+-- The line of an external test.
 abbrev pub test_line : List ℕ → List ℕ → Option Line
 test_line number text = option_and_then (λ n. option_map (λ t. lines.Test (record { period = n; text = t })) (sized_text text)) (period_in number)
 
--- A name and two words.
+-- A line of a name and two words.
 abbrev pub three_words : List ℕ → List ℕ → List ℕ → Option Line
 three_words name first second =
     if bytes_eq name (codes "routine") then routine_line first second else
     if bytes_eq name (codes "link") then link_line first second else
     if bytes_eq name (codes "test") then test_line first second else None
 
--- Handlers, by two numbers and a list.
+-- Handlers, from two numbers and a list.
 abbrev pub numbered_handlers : List ℕ → List ℕ → List ℕ → Option Handlers
 numbered_handlers init body tests =
     option_and_then (λ i. option_and_then (λ b. option_map (λ m. record { init = record { 0 = i }; body = record { 0 = b }; mask = m }) (mask_in tests)) (number_up_to 65535 body)) (number_up_to 65535 init)
 
--- The words of handlers, of which every other stands as it is.
+-- Handlers, from their words. `a`, `b` and `c` are fixed words.
 abbrev pub handlers_in : List ℕ → List ℕ → List ℕ → List ℕ → List ℕ → List ℕ → Option Handlers
 handlers_in a init b body c tests =
     if bytes_eq a (codes "init") && (bytes_eq b (codes "body") && bytes_eq c (codes "tests")) then numbered_handlers init body tests else None
 
--- The always part.
+-- The line of the always part.
 abbrev pub always_line : List ℕ → Option Handlers → Option Line
 always_line name handlers = if bytes_eq name (codes "always") then option_map lines.Always handlers else None
 
--- A state.
+-- The line of a state.
 abbrev pub state_line : List ℕ → List ℕ → Option Handlers → Option Line
 state_line name text handlers =
     if bytes_eq name (codes "state") then option_and_then (λ h. option_map (λ t. lines.State (record { name = t; handlers = h })) (sized_text text)) handlers else None
 
--- The line that words say; none where they have no form, or a number or a text is out of its range.
+-- The line that words say; none if they have no form, or if a number or a text is out of its range.
 abbrev pub line_of : List (List ℕ) → Option Line
 line_of (name ∷ []) = option_map lines.Instruction (plain_op name)
 line_of (name ∷ word ∷ []) = two_words name word
@@ -186,7 +189,7 @@ abbrev pub kinds_by : Option KindsForm → Option (List Kind)
 kinds_by None = None
 kinds_by (Some k) = if k.fits then Some k.kinds.items else None
 
--- The kinds after parts that are left.
+-- The kinds after the parts that are left.
 abbrev pub kinds_on : Option (List Kind) → List (List ℕ) → Option (List Kind)
 kinds_on None parts = None
 kinds_on (Some kinds) parts = kinds_from kinds parts
@@ -199,17 +202,17 @@ abbrev pub listed_by : Option ListForm → Option ℕ
 listed_by None = None
 listed_by (Some list) = mask_by list
 
--- The parts that are left of a list, where some are.
+-- The parts of a list that are left.
 abbrev pub parts_left : Option (List ℕ) → List (List ℕ)
 parts_left None = []
 parts_left (Some text) = slice_split (λ byte. byte == 44) text
 
--- The mask after parts that are left.
+-- The mask after the parts that are left.
 abbrev pub masked_on : Option ℕ → List (List ℕ) → Option ℕ
 masked_on None parts = None
 masked_on (Some mask) parts = masked mask parts
 
--- How much is left of a list: one more than its bytes, and nothing where no part is.
+-- The size of what is left of a list: one more than its bytes, or 0 if no part is left.
 abbrev pub len_left : Option (List ℕ) → ℕ
 len_left None = 0
 len_left (Some text) = length text + 1

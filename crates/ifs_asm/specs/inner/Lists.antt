@@ -5,20 +5,20 @@ use Rattle.ifs_base.specs.Words.{listed}
 use Rattle.ifs_base.specs.declared.op.Kind.{Kind}
 use Rattle.ifs_asm.specs.Texts.{tests_from, kind_word}
 
--- What stands before an item: a comma, unless it is the first.
+-- The text before an item: a comma, unless the item is the first.
 abbrev pub before_item : Bool → List ℕ
 before_item true = []
 before_item false = codes ","
 
--- What is left to write of a list, where these items are left and it may be that none was written yet.
+-- The text of the items that are left of a list. The flag says whether none was written yet.
 abbrev pub left_of_list : Bool → List (List ℕ) → List ℕ
 left_of_list true items = listed items
 left_of_list false items = flat_map (λ other. codes "," ++ other) items
 
--- What is left to write of the tests of a mask before a test.
+-- The text of the tests of a mask from a test on.
 abbrev pub left_at : Bool → ℕ → ℕ → List ℕ
 left_at is_first mask t = left_of_list is_first (map decimal (tests_from (64 - t) t mask))
 
--- What is left to write of kinds before one of them.
+-- The text of kinds from one of them on.
 abbrev pub kinds_left : Bool → ℕ → List Kind → List ℕ
 kinds_left is_first index kinds = left_of_list is_first (map kind_word (drop index kinds))
