@@ -113,10 +113,6 @@ no_current : (o : Option Routine) → not (is_some o) ≡ true → o ≡ None
 no_current None e = refl
 no_current (Some r) e = absurd cc
 
-never : {X : Type 0} (xs : List X) (x : X) → xs ++ x ∷ [] ≡ [] → ⊥
-never [] x e = absurd cc
-never (y ∷ ys) x e = absurd cc
-
 nonempty : {X : Type 0} (xs : List X) → is_none xs ≡ false → xs ≡ [] → ⊥
 nonempty [] e h = absurd cc
 nonempty (x ∷ xs) e h = absurd cc

@@ -49,19 +49,6 @@ pub line_case : (line : List ℕ) (others : List (List ℕ)) (b : Bool) → cond
 line_case line others true = refl
 line_case line others false = refl
 
-spoken_cut : (text line rest : List ℕ) → slice_split (λ byte. byte == 10) text ≡ line ∷ slice_split (λ byte. byte == 10) rest → spoken text ≡ spoken_line line ++ spoken rest
-unfolding spoken
-spoken_cut text line rest e =
-    ap (filter (λ bytes. not (is_silent bytes))) e ∙ line_case line (filter (λ bytes. not (is_silent bytes)) (slice_split (λ byte. byte == 10) rest)) (is_silent line)
-
-pub spoken_some : (text : List ℕ) (i : ℕ) → position (λ byte. byte == 10) text ≡ Some i → spoken text ≡ spoken_line (take i text) ++ spoken (take (length text - (i + 1)) (drop (i + 1) text))
-spoken_some text i e = spoken_cut text (take i text) (take (length text - (i + 1)) (drop (i + 1) text)) (cut_some (λ byte. byte == 10) text i e)
-
-pub spoken_last : (text : List ℕ) → position (λ byte. byte == 10) text ≡ None → spoken text ≡ spoken_line text ++ spoken []
-unfolding spoken
-spoken_last text e =
-    ap (filter (λ bytes. not (is_silent bytes))) (cut_none (λ byte. byte == 10) text e) ∙ line_case text [] (is_silent text)
-
 -- ---- names and digits
 
 list_any-map : {X Y : Type 0} (p : Y → Bool) (f : X → Y) (xs : List X) → list_any p (map f xs) ≡ list_any (λ x. p (f x)) xs

@@ -271,12 +271,6 @@ read_found text b h f =
     let s = image_said b (spoken text) h f.counts.some_state in
     record { fits = f; in_range = range_of (parts_said b) f s.fit; says = s.says }
 
--- Nothing is spelled where nothing is built, nor where what is built does not fit.
-pub read_none : (text : List ℕ) (p : ImageParts) → built_by nothing (spoken text) ≡ None → TextSpells text p → ⊥
-read_none text p h s =
-    let r = read_again text p s in
-    none-some r.after (sym h ∙ r.built)
-
 pub read_unfit : (text : List ℕ) (b : Built) (p : ImageParts) → built_by nothing (spoken text) ≡ Some b → (Fits (parts_said b) → ⊥) → TextSpells text p → ⊥
 read_unfit text b p h unfit s =
     let r = read_again text p s in

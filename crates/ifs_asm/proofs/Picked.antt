@@ -61,11 +61,6 @@ abbrev op_of : Line → List Op
 op_of (lines.Instruction op) = op ∷ []
 op_of line = []
 
-picked_all : {X A : Type 0} (pick : Line → List A) (line : X → Line) (value : X → A) → ((x : X) → pick (line x) ≡ value x ∷ []) → (xs : List X) → flat_map pick (map line xs) ≡ map value xs
-picked_all pick line value one [] = refl
-picked_all {X} {A} pick line value one (x ∷ xs) =
-    ap (λ (zs : List A). zs ++ flat_map pick (map line xs)) (one x) ∙ ap (λ (zs : List A). value x ∷ zs) (picked_all pick line value one xs)
-
 picked_same : {X : Type 0} (pick : Line → List X) (line : X → Line) → ((x : X) → pick (line x) ≡ x ∷ []) → (xs : List X) → flat_map pick (map line xs) ≡ xs
 picked_same pick line one [] = refl
 picked_same {X} pick line one (x ∷ xs) =

@@ -28,9 +28,6 @@ digit_inside d h = (grind (arith, nat_tests), grind (arith, nat_tests))
 plain_parts : (b : ℕ) → is_plain b ≡ true → ((b == 34) ≡ false) × ((b == 92) ≡ false)
 plain_parts b e = (grind (arith, nat_tests), grind (arith, nat_tests))
 
-quote_parts : (b : ℕ) → ((b == 34) || (b == 92)) ≡ true → b < 128
-quote_parts b e = grind (arith, nat_tests)
-
 pub read_plain : (b : ℕ) (rest : List ℕ) → is_plain b ≡ true → text_from (b ∷ rest) Within ≡ onto b (text_from rest Within)
 read_plain b rest e =
     let p = plain_parts b e in

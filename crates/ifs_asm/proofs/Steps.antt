@@ -22,22 +22,7 @@ pub by_append : (xs ys : List (List ℕ)) (b : Built) → built_by b (xs ++ ys) 
 by_append [] ys b = refl
 by_append (x ∷ xs) ys b = line_case (line_in x) b xs ys (λ next. by_append xs ys next)
 
-pub goes_on : (b c : Built) (left line rest : List ℕ) (total : Option Built) → spoken left ≡ spoken_line line ++ spoken rest → built_by b (spoken_line line) ≡ Some c → built_by b (spoken left) ≡ total → built_by c (spoken rest) ≡ total
-goes_on b c left line rest total cut one so_far =
-    sym (ap (built_by b) cut ∙ by_append (spoken_line line) (spoken rest) b ∙ ap (option_and_then (λ next. built_by next (spoken rest))) one) ∙ so_far
-
-pub stops : (b : Built) (left line rest : List ℕ) (total : Option Built) → spoken left ≡ spoken_line line ++ spoken rest → built_by b (spoken_line line) ≡ None → built_by b (spoken left) ≡ total → total ≡ None
-stops b left line rest total cut one so_far =
-    sym so_far ∙ ap (built_by b) cut ∙ by_append (spoken_line line) (spoken rest) b ∙ ap (option_and_then (λ next. built_by next (spoken rest))) one
-
-pub ends : (b : Built) (left : List ℕ) (total : Option Built) → left ≡ [] → built_by b (spoken left) ≡ total → total ≡ Some b
-unfolding spoken
-ends b left total empty so_far = sym so_far ∙ ap (λ (t : List ℕ). built_by b (spoken t)) empty
-
 -- ---- one line
-
-pub silent_line : (b : Built) (line : List ℕ) → is_silent line ≡ true → built_by b (spoken_line line) ≡ Some b
-silent_line b line e = rw e refl
 
 same_option : (o : Option Built) → option_and_then (λ next. built_by next []) o ≡ o
 same_option None = refl
