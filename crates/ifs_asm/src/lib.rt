@@ -15,6 +15,7 @@ mod plain;
 mod printing;
 mod quoting;
 mod reading;
+mod tables;
 mod words;
 
 pub use fault::AsmFault;

@@ -18,6 +18,7 @@ ghost use Rattle.ifs_asm.specs.Texts.{version_word, kind_word, kinds_word};
 
 use crate::line::Version;
 use crate::quoting::put_quoted;
+use crate::tables::{Table, put_each};
 use ifs_base::{IfaceId, Kind, LinkState, Op, StateId, Text};
 use ifs_image::{Handlers, Image, ImageParts, Routine, StateSpec, TestSpec};
 use itoa::Buffer;
@@ -32,15 +33,12 @@ pub fn disassemble(alloc: Global, image: &Image) -> Result<String, AllocError>
     let parts = image.parts();
     let mut out = String::new(alloc);
     put_front(&mut out, parts)?;
-    put_interfaces(&mut out, parts.interfaces.as_slice())?;
-    put_tests(&mut out, parts.tests.as_slice())?;
-    put_commands(&mut out, parts.commands.as_slice())?;
-    put_states(&mut out, parts.states.as_slice())?;
-    put_routines(
-        &mut out,
-        Version::of(parts.version),
-        parts.routines.as_slice(),
-    )?;
+    put_each(&mut out, &Interfaces, parts.interfaces.as_slice())?;
+    put_each(&mut out, &Tests, parts.tests.as_slice())?;
+    put_each(&mut out, &Commands, parts.commands.as_slice())?;
+    put_each(&mut out, &States, parts.states.as_slice())?;
+    let version = Version::of(parts.version);
+    put_each(&mut out, &Routines(version), parts.routines.as_slice())?;
     Ok(out)
 }
 
@@ -187,22 +185,19 @@ fn put_comma(out: &mut String, is_first: bool) -> Result<(), AllocError>
     Ok(())
 }
 
-fn put_interfaces(out: &mut String, names: &[Text]) -> Result<(), AllocError>
-    ensures bytes { OnOk result (string_bytes out.new ≡ string_bytes out.old ++ flat_map (λ name. line_text (lines.Interface name)) names.now) }
-    ensures in_range { OnOk result (All IsUtf8 names.now) }
-{
-    for name in names {
-        put_interface(out, name)?;
-    }
-    Ok(())
-}
+/// The table of interfaces.
+#[derive(Clone, Copy)]
+struct Interfaces;
 
-fn put_interface(out: &mut String, name: &Text) -> Result<(), AllocError>
-    ensures bytes { OnOk result (string_bytes out.new ≡ string_bytes out.old ++ line_text (lines.Interface name.now)) }
-    ensures in_range { OnOk result (IsUtf8 name.now) }
-{
-    put_named(out, "iface ", name)?;
-    Ok(())
+impl Table<Text> for Interfaces {
+    ghost text = { λ _ name. line_text (lines.Interface name) };
+
+    ghost InRange = { IsUtf8 };
+
+    fn put(&self, out: &mut String, name: &Text) -> Result<(), AllocError> {
+        put_named(out, "iface ", name)?;
+        Ok(())
+    }
 }
 
 /// Writes words, a quoted text, and the end of the line.
@@ -216,71 +211,66 @@ fn put_named(out: &mut String, words: &str, text: &Text) -> Result<(), AllocErro
     Ok(())
 }
 
-fn put_commands(out: &mut String, commands: &[Text]) -> Result<(), AllocError>
-    ensures bytes { OnOk result (string_bytes out.new ≡ string_bytes out.old ++ flat_map (λ text. line_text (lines.Command text)) commands.now) }
-    ensures in_range { OnOk result (All IsUtf8 commands.now) }
-{
-    for command in commands {
-        put_command(out, command)?;
+/// The table of commands.
+#[derive(Clone, Copy)]
+struct Commands;
+
+impl Table<Text> for Commands {
+    ghost text = { λ _ text. line_text (lines.Command text) };
+
+    ghost InRange = { IsUtf8 };
+
+    fn put(&self, out: &mut String, text: &Text) -> Result<(), AllocError> {
+        put_named(out, "command ", text)?;
+        Ok(())
     }
-    Ok(())
 }
 
-fn put_command(out: &mut String, command: &Text) -> Result<(), AllocError>
-    ensures bytes { OnOk result (string_bytes out.new ≡ string_bytes out.old ++ line_text (lines.Command command.now)) }
-    ensures in_range { OnOk result (IsUtf8 command.now) }
-{
-    put_named(out, "command ", command)?;
-    Ok(())
-}
+/// The table of tests.
+#[derive(Clone, Copy)]
+struct Tests;
 
-fn put_tests(out: &mut String, tests: &[TestSpec]) -> Result<(), AllocError>
-    ensures bytes { OnOk result (string_bytes out.new ≡ string_bytes out.old ++ flat_map (λ test. line_text (lines.Test test)) tests.now) }
-    ensures in_range { OnOk result (All (λ t. IsUtf8 t.text) tests.now) }
-{
-    for test in tests {
-        put_test(out, test)?;
+impl Table<TestSpec> for Tests {
+    ghost text = { λ _ test. line_text (lines.Test test) };
+
+    ghost InRange = { λ test. IsUtf8 test.text };
+
+    fn put(&self, out: &mut String, test: &TestSpec) -> Result<(), AllocError> {
+        put_number(out, "test ", u64::from(test.period))?;
+        put_named(out, " ", &test.text)?;
+        Ok(())
     }
-    Ok(())
 }
 
-fn put_test(out: &mut String, test: &TestSpec) -> Result<(), AllocError>
-    ensures bytes { OnOk result (string_bytes out.new ≡ string_bytes out.old ++ line_text (lines.Test test.now)) }
-    ensures in_range { OnOk result (IsUtf8 test.now.text) }
-{
-    put_number(out, "test ", u64::from(test.period))?;
-    put_named(out, " ", &test.text)?;
-    Ok(())
-}
+/// The table of states.
+#[derive(Clone, Copy)]
+struct States;
 
-fn put_states(out: &mut String, states: &[StateSpec]) -> Result<(), AllocError>
-    ensures bytes { OnOk result (string_bytes out.new ≡ string_bytes out.old ++ flat_map (λ state. line_text (lines.State state)) states.now) }
-    ensures in_range { OnOk result (All StateInRange states.now) }
-{
-    for state in states {
-        put_state(out, state)?;
+impl Table<StateSpec> for States {
+    ghost text = { λ _ state. line_text (lines.State state) };
+
+    ghost InRange = { StateInRange };
+
+    fn put(&self, out: &mut String, state: &StateSpec) -> Result<(), AllocError> {
+        out.push_str("state ")?;
+        put_quoted(out, &state.name)?;
+        put_handlers(out, state.handlers)?;
+        Ok(())
     }
-    Ok(())
 }
 
-fn put_state(out: &mut String, state: &StateSpec) -> Result<(), AllocError>
-    ensures bytes { OnOk result (string_bytes out.new ≡ string_bytes out.old ++ line_text (lines.State state.now)) }
-    ensures in_range { OnOk result (StateInRange state.now) }
-{
-    out.push_str("state ")?;
-    put_quoted(out, &state.name)?;
-    put_handlers(out, state.handlers)?;
-    Ok(())
-}
+/// The table of routines of a version.
+#[derive(Clone, Copy)]
+struct Routines(Version);
 
-fn put_routines(out: &mut String, version: Version, routines: &[Routine]) -> Result<(), AllocError>
-    ensures bytes { OnOk result (string_bytes out.new ≡ string_bytes out.old ++ flat_map (λ routine. flat_map line_text (routine_lines version routine)) routines.now) }
-    ensures in_range { OnOk result (All RoutineInRange routines.now) }
-{
-    for routine in routines {
-        put_routine(out, version, routine)?;
+impl Table<Routine> for Routines {
+    ghost text = { λ table routine. flat_map line_text (routine_lines table.0 routine) };
+
+    ghost InRange = { RoutineInRange };
+
+    fn put(&self, out: &mut String, routine: &Routine) -> Result<(), AllocError> {
+        put_routine(out, self.0, routine)
     }
-    Ok(())
 }
 
 fn put_routine(out: &mut String, version: Version, routine: &Routine) -> Result<(), AllocError>
@@ -293,7 +283,7 @@ fn put_routine(out: &mut String, version: Version, routine: &Routine) -> Result<
         routine.params.as_slice(),
         routine.results.as_slice(),
     )?;
-    put_code(out, routine.code.as_slice())?;
+    put_each(out, &Code, routine.code.as_slice())?;
     Ok(())
 }
 
@@ -385,14 +375,18 @@ fn kind_word(kind: Kind) -> &'static str
     }
 }
 
-fn put_code(out: &mut String, code: &[Op]) -> Result<(), AllocError>
-    ensures bytes { OnOk result (string_bytes out.new ≡ string_bytes out.old ++ flat_map (λ op. line_text (lines.Instruction op)) code.now) }
-    ensures in_range { OnOk result (All HasSpelling code.now) }
-{
-    for op in code {
-        put_op(out, *op)?;
+/// The instructions of a routine.
+#[derive(Clone, Copy)]
+struct Code;
+
+impl Table<Op> for Code {
+    ghost text = { λ _ op. line_text (lines.Instruction op) };
+
+    ghost InRange = { HasSpelling };
+
+    fn put(&self, out: &mut String, op: &Op) -> Result<(), AllocError> {
+        put_op(out, *op)
     }
-    Ok(())
 }
 
 /// Writes the line of an instruction.

@@ -10,20 +10,20 @@ returns c =
     let is_canonical =
     whole_text c.args.image.now _ _ _ _ _ _ _ c.new-out.ensures.bytes
     (rw same at c.in_ok-put_front.ensures.bytes)
-    (rw (c.as_slice.ensures, same) at c.in_ok-put_interfaces.ensures.bytes)
-    (rw (c.as_slice-2.ensures, same) at c.in_ok-put_tests.ensures.bytes)
-    (rw (c.as_slice-3.ensures, same) at c.in_ok-put_commands.ensures.bytes)
-    (rw (c.as_slice-4.ensures, same) at c.in_ok-put_states.ensures.bytes)
-    (rw (c.of.ensures, c.as_slice-5.ensures, same) at c.in_ok-put_routines.ensures.bytes) in
+    (rw (c.as_slice.ensures, same) at c.in_ok-put_each.ensures.bytes)
+    (rw (c.as_slice-2.ensures, same) at c.in_ok-put_each-2.ensures.bytes)
+    (rw (c.as_slice-3.ensures, same) at c.in_ok-put_each-3.ensures.bytes)
+    (rw (c.as_slice-4.ensures, same) at c.in_ok-put_each-4.ensures.bytes)
+    (rw (c.of-version.ensures, c.as_slice-5.ensures, same) at c.in_ok-put_each-5.ensures.bytes) in
     record {
       canonical = is_canonical;
       spelled = subst (λ text. TextSpells text c.args.image.now) (sym is_canonical) (canonical_spells c.args.image.now c.parts-parts.ensures.fits (record {
         initial = rw same at c.in_ok-put_front.ensures.initial;
         always = rw same at c.in_ok-put_front.ensures.always;
-        interfaces = rw (c.as_slice.ensures, same) at c.in_ok-put_interfaces.ensures.in_range;
-        tests = rw (c.as_slice-2.ensures, same) at c.in_ok-put_tests.ensures.in_range;
-        commands = rw (c.as_slice-3.ensures, same) at c.in_ok-put_commands.ensures.in_range;
-        states = rw (c.as_slice-4.ensures, same) at c.in_ok-put_states.ensures.in_range;
-        routines = rw (c.as_slice-5.ensures, same) at c.in_ok-put_routines.ensures.in_range;
+        interfaces = rw (c.as_slice.ensures, same) at c.in_ok-put_each.ensures.in_range;
+        tests = rw (c.as_slice-2.ensures, same) at c.in_ok-put_each-2.ensures.in_range;
+        commands = rw (c.as_slice-3.ensures, same) at c.in_ok-put_each-3.ensures.in_range;
+        states = rw (c.as_slice-4.ensures, same) at c.in_ok-put_each-4.ensures.in_range;
+        routines = rw (c.as_slice-5.ensures, same) at c.in_ok-put_each-5.ensures.in_range;
       }));
     }
