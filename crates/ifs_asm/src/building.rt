@@ -244,10 +244,10 @@ impl Building {
         ensures { OnOk result (self.new ≡ with_line self.old line) }
     {
         match line {
-            Line::Interface(name) => self.add_interface(name),
-            Line::Test(test) => self.add_test(test),
-            Line::Command(text) => self.add_command(text),
-            Line::State(state) => self.add_state(state),
+            Line::Interface(name) => add_to(&mut self.interfaces, name),
+            Line::Test(test) => add_to(&mut self.tests, test),
+            Line::Command(text) => add_to(&mut self.commands, text),
+            Line::State(state) => add_to(&mut self.states, state),
             Line::Routine(head) => self.add_routine(head),
             Line::Instruction(op) => self.add_instruction(op),
             Line::Version(version) => {
@@ -286,34 +286,6 @@ impl Building {
                 Ok(())
             }
         }
-    }
-
-    fn add_interface(&mut self, name: Text) -> Result<(), AllocError>
-        ensures { OnOk result (self.new ≡ with_line self.old (lines.Interface name)) }
-    {
-        self.interfaces.push(name)?;
-        Ok(())
-    }
-
-    fn add_test(&mut self, test: TestSpec) -> Result<(), AllocError>
-        ensures { OnOk result (self.new ≡ with_line self.old (lines.Test test)) }
-    {
-        self.tests.push(test)?;
-        Ok(())
-    }
-
-    fn add_command(&mut self, text: Text) -> Result<(), AllocError>
-        ensures { OnOk result (self.new ≡ with_line self.old (lines.Command text)) }
-    {
-        self.commands.push(text)?;
-        Ok(())
-    }
-
-    fn add_state(&mut self, state: StateSpec) -> Result<(), AllocError>
-        ensures { OnOk result (self.new ≡ with_line self.old (lines.State state)) }
-    {
-        self.states.push(state)?;
-        Ok(())
     }
 
     /// Begins a routine, and so completes the one before.
@@ -380,6 +352,14 @@ impl Building {
             routines: Items::new(routines),
         })
     }
+}
+
+/// Adds an entry to a table.
+fn add_to<T: Drop>(table: &mut Vec<T>, entry: T) -> Result<(), AllocError>
+    ensures { OnOk result (table.new.items ≡ table.old.items ++ entry ∷ []) }
+{
+    table.push(entry)?;
+    Ok(())
 }
 
 /// The beginning of a routine, from its first line.
