@@ -1,4 +1,4 @@
--- What words say: the line that is read of them has those words, and fits.
+-- What words say: the line that is read from them has those words, and fits.
 use Rattle.std.proofs.Common.{◌≡◌, ℕ, zero, suc, ◌∙◌, ap, ◌^◌, ◌<◌, ◌≤◌, cond, List, [], ◌∷◌, length}
 use Rattle.std.proofs.Common.{Option, Some, None, refl, subst, arith, codes}
 use Rattle.std.specs.Prelude.{◌==◌, ◌&&◌, nat_lt, IfSome, option_and_then, option_map}
@@ -26,7 +26,7 @@ use Rattle.ifs_asm.specs.inner.Words.{Start, text_from, in_utf8, mask_in, kinds_
 use Rattle.ifs_asm.specs.inner.Forms.{plain_op, indexed_op, link_state_in, up_to, number_up_to, text_within, sized_text}
 use Rattle.ifs_asm.specs.inner.Forms.{period_within, period_in, number_line, two_words, routine_line, signed_line, signature_line, link_line}
 use Rattle.ifs_asm.specs.inner.Forms.{test_line}
-use Rattle.ifs_asm.specs.inner.Forms.{three_words, numbered_handlers, handlers_in, always_line, state_line, line_of}
+use Rattle.ifs_asm.specs.inner.Forms.{three_words, numbered_handlers, handlers_in, state_line, long_line, line_of}
 use Rattle.ifs_asm.proofs.Bytes.{same_word}
 use Rattle.ifs_asm.proofs.Quotes.{text_found, no_nul}
 use Rattle.ifs_asm.proofs.MaskLists.{mask_found, mask_small}
@@ -66,9 +66,14 @@ text_cases word H none some = cases_of (text_from word Start) (λ o. H (option_a
     (λ _. none))
     (λ _. none))
 
-handlers_cases : (a init b body c tests : List ℕ) (H : Option Handlers → Type 0) → H None
-    → ((h : Handlers) → AllZip Spelled (a ∷ init ∷ b ∷ body ∷ c ∷ tests ∷ []) (handlers_words h) → HandlersInRange h → H (Some h)) → H (handlers_in a init b body c tests)
-handlers_cases a init b body c tests H none some =
+handlers_cases : (words : List (List ℕ)) (H : Option Handlers → Type 0) → H None → ((h : Handlers) → AllZip Spelled words (handlers_words h) → HandlersInRange h → H (Some h)) → H (handlers_in words)
+handlers_cases [] H none some = none
+handlers_cases (a ∷ []) H none some = none
+handlers_cases (a ∷ init ∷ []) H none some = none
+handlers_cases (a ∷ init ∷ b ∷ []) H none some = none
+handlers_cases (a ∷ init ∷ b ∷ body ∷ []) H none some = none
+handlers_cases (a ∷ init ∷ b ∷ body ∷ c ∷ []) H none some = none
+handlers_cases (a ∷ init ∷ b ∷ body ∷ c ∷ tests ∷ []) H none some =
     cond_both (bytes_eq a (codes "init") && (bytes_eq b (codes "body") && bytes_eq c (codes "tests"))) (numbered_handlers init body tests) None H
     (λ t.
     let p = and_parts (bytes_eq a (codes "init")) (bytes_eq b (codes "body") && bytes_eq c (codes "tests")) t in
@@ -80,10 +85,11 @@ handlers_cases a init b body c tests H none some =
     (same_word a (codes "init") p.0, (is_i, (same_word b (codes "body") q.0, (is_n, (same_word c (codes "tests") q.1, (mask_found tests m is_m, tt))))))
     (record { init = omega (arith, small_i); body = omega (arith, small_n); mask = mask_small tests m is_m })))))
     (λ _. none)
+handlers_cases (a ∷ init ∷ b ∷ body ∷ c ∷ tests ∷ d ∷ more) H none some = none
 
 -- ---- the lines
 
--- A line that is read has the words, and fits.
+-- A line has these words, and fits.
 abbrev Has : List (List ℕ) → Line → Type 0
 Has words line = AllZip Spelled words (words_of line) × LineFits line
 
@@ -121,7 +127,7 @@ indexed_found name word n is small =
     pick_op (name ∷ word ∷ []) name (codes "jt") _ _ (λ e. ((e, (is, tt)), small)) (
     pick_op (name ∷ word ∷ []) name (codes "call") _ _ (λ e. ((e, (is, tt)), small)) tt)))))))
 
--- A word and a number up to a limit.
+-- A fixed word and a number up to a limit.
 numbered : (name key word : List ℕ) (most : ℕ) (f : ℕ → Line) → ((n : ℕ) → name ≡ key → number_of word ≡ Some n → n ≤ most → Has (name ∷ word ∷ []) (f n)) → name ≡ key → Gives (name ∷ word ∷ []) (option_map f (number_up_to most word))
 numbered name key word most f h e = up_cases most word (λ o. Gives (name ∷ word ∷ []) (option_map f o)) tt (λ n is le. h n e is le)
 
@@ -179,42 +185,43 @@ three_found name first second =
 kinds_cases : (word : List ℕ) (H : Option (List Kind) → Type 0) → H None → ((kinds : List Kind) → word ≡ kinds_word kinds → length kinds ≤ 4 → H (Some kinds)) → H (kinds_in word)
 kinds_cases word H none some = cases_of (kinds_in word) H none (λ kinds e. let f = kinds_found word kinds e in some kinds f.0 f.1)
 
-five_found : (name a params b results : List ℕ) → Gives (name ∷ a ∷ params ∷ b ∷ results ∷ []) (signature_line name a params b results)
-five_found name a params b results =
+signature_found : (name : List ℕ) (words : List (List ℕ)) → name ≡ codes "routine" → Gives (name ∷ words) (signature_line words)
+signature_found name [] e = tt
+signature_found name (a ∷ []) e = tt
+signature_found name (a ∷ params ∷ []) e = tt
+signature_found name (a ∷ params ∷ b ∷ []) e = tt
+signature_found name (a ∷ params ∷ b ∷ results ∷ []) e =
     let words = name ∷ a ∷ params ∷ b ∷ results ∷ [] in
-    cond_both (bytes_eq name (codes "routine") && (bytes_eq a (codes "params") && bytes_eq b (codes "results"))) (signed_line params results) None (Gives words)
+    cond_both (bytes_eq a (codes "params") && bytes_eq b (codes "results")) (signed_line params results) None (Gives words)
     (λ t.
-    let p = and_parts (bytes_eq name (codes "routine")) (bytes_eq a (codes "params") && bytes_eq b (codes "results")) t in
-    let q = and_parts (bytes_eq a (codes "params")) (bytes_eq b (codes "results")) p.1 in
+    let p = and_parts (bytes_eq a (codes "params")) (bytes_eq b (codes "results")) t in
     kinds_cases params (λ o. Gives words (option_and_then (λ p. option_map (λ r. lines.Routine (Signature (record { items = p }) (record { items = r }))) (kinds_in results)) o)) tt (λ ps is_params few_params.
     kinds_cases results (λ o. Gives words (option_map (λ r. lines.Routine (Signature (record { items = ps }) (record { items = r }))) o)) tt (λ rs is_results few_results.
-    ((same_word name (codes "routine") p.0, (same_word a (codes "params") q.0, (is_params, (same_word b (codes "results") q.1, (is_results, tt))))), (few_params, few_results)))))
+    ((e, (same_word a (codes "params") p.0, (is_params, (same_word b (codes "results") p.1, (is_results, tt))))), (few_params, few_results)))))
     (λ _. tt)
+signature_found name (a ∷ params ∷ b ∷ results ∷ c ∷ more) e = tt
 
-seven_found : (name a init b body c tests : List ℕ) → Gives (name ∷ a ∷ init ∷ b ∷ body ∷ c ∷ tests ∷ []) (always_line name (handlers_in a init b body c tests))
-seven_found name a init b body c tests =
-    let words = name ∷ a ∷ init ∷ b ∷ body ∷ c ∷ tests ∷ [] in
-    handlers_cases a init b body c tests (λ o. Gives words (always_line name o)) (pick words name (codes "always") None None (λ _. tt) tt) (λ h are small.
-    pick words name (codes "always") (Some (lines.Always h)) None (λ e. ((e, are), small)) tt)
+always_found : (name : List ℕ) (words : List (List ℕ)) → name ≡ codes "always" → Gives (name ∷ words) (option_map lines.Always (handlers_in words))
+always_found name words e = handlers_cases words (λ o. Gives (name ∷ words) (option_map lines.Always o)) tt (λ h are small. ((e, are), small))
 
-eight_found : (name text a init b body c tests : List ℕ) → Gives (name ∷ text ∷ a ∷ init ∷ b ∷ body ∷ c ∷ tests ∷ []) (state_line name text (handlers_in a init b body c tests))
-eight_found name text a init b body c tests =
-    let words = name ∷ text ∷ a ∷ init ∷ b ∷ body ∷ c ∷ tests ∷ [] in
-    handlers_cases a init b body c tests (λ o. Gives words (state_line name text o)) (pick words name (codes "state") None None (λ _. tt) tt) (λ h are small.
-    pick words name (codes "state") (option_map (λ t. lines.State (record { name = t; handlers = h })) (sized_text text)) None (λ e.
-    text_cases text (λ o. Gives words (option_map (λ t. lines.State (record { name = t; handlers = h })) o)) tt (λ t at good. ((e, (at, are)), (good, small)))) tt)
+state_found : (name : List ℕ) (words : List (List ℕ)) → name ≡ codes "state" → Gives (name ∷ words) (state_line words)
+state_found name [] e = tt
+state_found name (text ∷ words) e =
+    handlers_cases words (λ o. Gives (name ∷ text ∷ words) (option_and_then (λ h. option_map (λ t. lines.State (record { name = t; handlers = h })) (sized_text text)) o)) tt (λ h are small.
+    text_cases text (λ o. Gives (name ∷ text ∷ words) (option_map (λ t. lines.State (record { name = t; handlers = h })) o)) tt (λ t at good. ((e, (at, are)), (good, small))))
+
+long_found : (name : List ℕ) (words : List (List ℕ)) → Gives (name ∷ words) (long_line name words)
+long_found name words =
+    pick (name ∷ words) name (codes "routine") _ _ (signature_found name words) (
+    pick (name ∷ words) name (codes "always") _ _ (always_found name words) (
+    pick (name ∷ words) name (codes "state") _ _ (state_found name words) tt))
 
 gives : (words : List (List ℕ)) → Gives words (line_of words)
 gives [] = tt
 gives (a ∷ []) = one_found a
 gives (a ∷ b ∷ []) = two_found a b
 gives (a ∷ b ∷ c ∷ []) = three_found a b c
-gives (a ∷ b ∷ c ∷ d ∷ []) = tt
-gives (a ∷ b ∷ c ∷ d ∷ e ∷ []) = five_found a b c d e
-gives (a ∷ b ∷ c ∷ d ∷ e ∷ f ∷ []) = tt
-gives (a ∷ b ∷ c ∷ d ∷ e ∷ f ∷ g ∷ []) = seven_found a b c d e f g
-gives (a ∷ b ∷ c ∷ d ∷ e ∷ f ∷ g ∷ h ∷ []) = eight_found a b c d e f g h
-gives (a ∷ b ∷ c ∷ d ∷ e ∷ f ∷ g ∷ h ∷ i ∷ more) = tt
+gives (a ∷ b ∷ c ∷ d ∷ more) = long_found a (b ∷ c ∷ d ∷ more)
 
 pub line_found : (words : List (List ℕ)) (line : Line) → line_of words ≡ Some line → AllZip Spelled words (words_of line) × LineFits line
 line_found words line h = subst (Gives words) h (gives words)

@@ -1,11 +1,12 @@
 //! The forms of lines: their words, and whether their numbers and texts are in range.
 
-ghost use Rattle.std.specs.Prelude.{◌≡◌, ◌≤◌, ◌&&◌, ℕ, IfOk, IfSome, length, map, nat_lt, option_map};
+ghost use Rattle.std.specs.Prelude.{◌≡◌, ◌≤◌, ◌&&◌, ℕ, IfOk, IfSome, codes, length, map, nat_lt, option_map};
+ghost use Rattle.std.specs.Str.{bytes_eq};
 ghost use Rattle.ifs_asm.specs.declared.line.Line.TheVariants as lines;
 ghost use Rattle.ifs_asm.specs.inner.Forms.{plain_op, indexed_op, link_state_in, number_up_to, sized_text, period_in};
 ghost use Rattle.ifs_asm.specs.inner.Forms.{version, indexed_line, number_line, two_words, routine_line, link_line};
 ghost use Rattle.ifs_asm.specs.inner.Forms.{signed_line, signature_line};
-ghost use Rattle.ifs_asm.specs.inner.Forms.{test_line, three_words, handlers_in, numbered_handlers, always_line};
+ghost use Rattle.ifs_asm.specs.inner.Forms.{test_line, three_words, handlers_in, numbered_handlers, long_line};
 ghost use Rattle.ifs_asm.specs.inner.Forms.{state_line, line_of, formed, bounded, sized_by, handlers_by};
 
 use crate::kinds::{KindsForm, kinds_of};
@@ -54,7 +55,6 @@ pub(crate) struct HandlersForm {
 }
 
 /// The line that words say, and `None` if they have no form.
-#[tactic(auto, using(crate::proofs::Shapes::none_short, crate::proofs::Shapes::none_four, crate::proofs::Shapes::none_six, crate::proofs::Shapes::none_long, crate::proofs::Shapes::eight))]
 pub(crate) fn form_of(alloc: Global, words: &[&[u8]]) -> Result<Option<Formed>, AllocError>
     ensures { IfOk result (λ form. formed form ≡ line_of (map (λ word. word.now) words.now)) }
 {
@@ -63,33 +63,7 @@ pub(crate) fn form_of(alloc: Global, words: &[&[u8]]) -> Result<Option<Formed>, 
         [name] => Ok(one_word(name)),
         [name, word] => two_words(alloc, name, word),
         [name, first, second] => three_words(alloc, name, first, second),
-        [_, _, _, _] => Ok(None),
-        [name, a, params, b, results] => Ok(signature_line(name, a, params, b, results)),
-        [_, _, _, _, _, _] => Ok(None),
-        [name, a, init, b, body, c, tests] => {
-            let words = HandlersWords {
-                a,
-                init,
-                b,
-                body,
-                c,
-                tests,
-            };
-            Ok(always_line(name, words))
-        }
-        [name, text, a, init, b, body, c, tests] => {
-            let words = HandlersWords {
-                a,
-                init,
-                b,
-                body,
-                c,
-                tests,
-            };
-            let form = state_line(alloc, name, text, words)?;
-            Ok(form)
-        }
-        _ => Ok(None),
+        _ => long_line(alloc, words[0], &words[1..]),
     }
 }
 
@@ -330,15 +304,35 @@ fn routine_line(word: &[u8], results: &[u8]) -> Option<Formed>
     Some(number.says(Line::Routine(Head::Plain(number.value == 1))))
 }
 
-/// The line that begins a routine in version 2.
-fn signature_line(name: &[u8], a: &[u8], params: &[u8], b: &[u8], results: &[u8]) -> Option<Formed>
-    ensures { formed result ≡ signature_line name.now a.now params.now b.now results.now }
+/// A line of a name and more than two words.
+fn long_line(alloc: Global, name: &[u8], words: &[&[u8]]) -> Result<Option<Formed>, AllocError>
+    ensures { IfOk result (λ form. formed form ≡ long_line name.now (map (λ word. word.now) words.now)) }
 {
-    if name == b"routine".as_slice() && a == b"params".as_slice() && b == b"results".as_slice() {
-        signed_line(params, results)
+    if name == b"routine".as_slice() {
+        Ok(signature_line(words))
+    } else if name == b"always".as_slice() {
+        Ok(always_line(words))
+    } else if name == b"state".as_slice() {
+        state_line(alloc, words)
     } else {
-        None
+        Ok(None)
     }
+}
+
+/// The line that begins a routine in version 2, from the words after its name.
+fn signature_line(words: &[&[u8]]) -> Option<Formed>
+    ensures { formed result ≡ signature_line (map (λ word. word.now) words.now) }
+{
+    let [a, params, b, results] = words else {
+        return None;
+    };
+    if *a != b"params".as_slice() {
+        return None;
+    }
+    if *b != b"results".as_slice() {
+        return None;
+    }
+    signed_line(params, results)
 }
 
 /// The same, given its two lists of kinds.
@@ -396,29 +390,25 @@ fn test_line(alloc: Global, number: &[u8], text: &[u8]) -> Result<Option<Formed>
     Ok(Some(Formed { line, fits }))
 }
 
-/// The words of handlers. `a`, `b` and `c` are fixed words.
-#[derive(Clone, Copy)]
-struct HandlersWords<'a> {
-    a: &'a [u8],
-    init: &'a [u8],
-    b: &'a [u8],
-    body: &'a [u8],
-    c: &'a [u8],
-    tests: &'a [u8],
-}
-
-/// Reads handlers.
-fn handlers_in(words: HandlersWords<'_>) -> Option<HandlersForm>
-    ensures { handlers_by result ≡ handlers_in words.entry.a.now words.entry.init.now words.entry.b.now words.entry.body.now words.entry.c.now words.entry.tests.now }
+/// Reads handlers from their words.
+fn handlers_in(words: &[&[u8]]) -> Option<HandlersForm>
+    ensures { handlers_by result ≡ handlers_in (map (λ word. word.now) words.now) }
 {
-    if words.a == b"init".as_slice()
-        && words.b == b"body".as_slice()
-        && words.c == b"tests".as_slice()
-    {
-        handlers_of(words.init, words.body, words.tests)
+    let [a, init, b, body, c, tests] = words else {
+        return None;
+    };
+    if are_keys(a, b, c) {
+        handlers_of(init, body, tests)
     } else {
         None
     }
+}
+
+/// Whether these are the fixed words of handlers.
+fn are_keys(a: &[u8], b: &[u8], c: &[u8]) -> bool
+    ensures { result ≡ (bytes_eq a.now (codes "init") && (bytes_eq b.now (codes "body") && bytes_eq c.now (codes "tests"))) }
+{
+    a == b"init".as_slice() && b == b"body".as_slice() && c == b"tests".as_slice()
 }
 
 /// Reads handlers from two numbers and a list.
@@ -441,31 +431,23 @@ fn handlers_of(init: &[u8], body: &[u8], tests: &[u8]) -> Option<HandlersForm>
     })
 }
 
-/// The line of the always part.
-fn always_line(name: &[u8], words: HandlersWords<'_>) -> Option<Formed>
-    ensures { formed result ≡ always_line name.now (handlers_in words.entry.a.now words.entry.init.now words.entry.b.now words.entry.body.now words.entry.c.now words.entry.tests.now) }
+/// The line of the always part, from the words after its name.
+fn always_line(words: &[&[u8]]) -> Option<Formed>
+    ensures { formed result ≡ option_map lines.Always (handlers_in (map (λ word. word.now) words.now)) }
 {
-    if name != b"always".as_slice() {
-        return None;
-    }
     let HandlersForm { handlers, fits } = handlers_in(words)?;
     let line = Line::Always(handlers);
     Some(Formed { line, fits })
 }
 
-/// The line of a state.
-fn state_line(
-    alloc: Global,
-    name: &[u8],
-    text: &[u8],
-    words: HandlersWords<'_>,
-) -> Result<Option<Formed>, AllocError>
-    ensures { IfOk result (λ form. formed form ≡ state_line name.now text.now (handlers_in words.entry.a.now words.entry.init.now words.entry.b.now words.entry.body.now words.entry.c.now words.entry.tests.now)) }
+/// The line of a state, from the words after its name.
+fn state_line(alloc: Global, words: &[&[u8]]) -> Result<Option<Formed>, AllocError>
+    ensures { IfOk result (λ form. formed form ≡ state_line (map (λ word. word.now) words.now)) }
 {
-    if name != b"state".as_slice() {
+    let [text, others @ ..] = words else {
         return Ok(None);
-    }
-    let Some(form) = handlers_in(words) else {
+    };
+    let Some(form) = handlers_in(others) else {
         return Ok(None);
     };
     let Some(SizedText { text: name, fits }) = sized_text(alloc, text)? else {

@@ -1,5 +1,5 @@
 -- Which line words say: the first word and the number of words decide.
-use Rattle.std.specs.Prelude.{ℕ, ◌+◌, ◌==◌, ◌&&◌, nat_lt, if◌then◌else◌, List, [], ◌∷◌}
+use Rattle.std.specs.Prelude.{ℕ, ◌+◌, ◌==◌, ◌&&◌, nat_lt, if◌then◌else◌, Bool, List, [], ◌∷◌}
 use Rattle.std.specs.Prelude.{codes, length, Option, Some, None, option_and_then, option_map}
 use Rattle.std.specs.List.{slice_split}
 use Rattle.std.specs.Str.{bytes_eq}
@@ -119,10 +119,10 @@ abbrev pub signed_line : List ℕ → List ℕ → Option Line
 signed_line params results =
     option_and_then (λ p. option_map (λ r. lines.Routine (Signature (record { items = p }) (record { items = r }))) (kinds_in results)) (kinds_in params)
 
--- The line that begins a routine in version 2.
-abbrev pub signature_line : List ℕ → List ℕ → List ℕ → List ℕ → List ℕ → Option Line
-signature_line name a params b results =
-    if bytes_eq name (codes "routine") && (bytes_eq a (codes "params") && bytes_eq b (codes "results")) then signed_line params results else None
+-- The words after `routine` in version 2.
+abbrev pub signature_line : List (List ℕ) → Option Line
+signature_line (a ∷ params ∷ b ∷ results ∷ []) = if bytes_eq a (codes "params") && bytes_eq b (codes "results") then signed_line params results else None
+signature_line words = None
 
 -- The line of the instruction on a link.
 abbrev pub link_line : List ℕ → List ℕ → Option Line
@@ -144,50 +144,51 @@ abbrev pub numbered_handlers : List ℕ → List ℕ → List ℕ → Option Han
 numbered_handlers init body tests =
     option_and_then (λ i. option_and_then (λ b. option_map (λ m. record { init = record { 0 = i }; body = record { 0 = b }; mask = m }) (mask_in tests)) (number_up_to 65535 body)) (number_up_to 65535 init)
 
--- Handlers, from their words. `a`, `b` and `c` are fixed words.
-abbrev pub handlers_in : List ℕ → List ℕ → List ℕ → List ℕ → List ℕ → List ℕ → Option Handlers
-handlers_in a init b body c tests =
+-- Handlers, from their words.
+abbrev pub handlers_in : List (List ℕ) → Option Handlers
+handlers_in (a ∷ init ∷ b ∷ body ∷ c ∷ tests ∷ []) =
     if bytes_eq a (codes "init") && (bytes_eq b (codes "body") && bytes_eq c (codes "tests")) then numbered_handlers init body tests else None
+handlers_in words = None
 
--- The line of the always part.
-abbrev pub always_line : List ℕ → Option Handlers → Option Line
-always_line name handlers = if bytes_eq name (codes "always") then option_map lines.Always handlers else None
+-- The words after `state`.
+abbrev pub state_line : List (List ℕ) → Option Line
+state_line [] = None
+state_line (text ∷ words) = option_and_then (λ h. option_map (λ t. lines.State (record { name = t; handlers = h })) (sized_text text)) (handlers_in words)
 
--- The line of a state.
-abbrev pub state_line : List ℕ → List ℕ → Option Handlers → Option Line
-state_line name text handlers =
-    if bytes_eq name (codes "state") then option_and_then (λ h. option_map (λ t. lines.State (record { name = t; handlers = h })) (sized_text text)) handlers else None
+-- A line of a name and more than two words.
+abbrev pub long_line : List ℕ → List (List ℕ) → Option Line
+long_line name words =
+    if bytes_eq name (codes "routine") then signature_line words else
+    if bytes_eq name (codes "always") then option_map lines.Always (handlers_in words) else
+    if bytes_eq name (codes "state") then state_line words else None
 
 -- The line that words say; none if they have no form, or if a number or a text is out of its range.
 abbrev pub line_of : List (List ℕ) → Option Line
+line_of [] = None
 line_of (name ∷ []) = option_map lines.Instruction (plain_op name)
 line_of (name ∷ word ∷ []) = two_words name word
 line_of (name ∷ first ∷ second ∷ []) = three_words name first second
-line_of (name ∷ a ∷ params ∷ b ∷ results ∷ []) = signature_line name a params b results
-line_of (name ∷ a ∷ init ∷ b ∷ body ∷ c ∷ tests ∷ []) = always_line name (handlers_in a init b body c tests)
-line_of (name ∷ text ∷ a ∷ init ∷ b ∷ body ∷ c ∷ tests ∷ []) = state_line name text (handlers_in a init b body c tests)
-line_of words = None
+line_of (name ∷ words) = long_line name words
 
--- What the functions that take words apart answer: the line of a form whose numbers are in their ranges.
+-- What a form gives if its numbers and texts are in range: its line, its number, its text, its handlers or its kinds.
+abbrev fitting : {F A : Type 0} → (F → Bool) → (F → A) → Option F → Option A
+fitting fits value None = None
+fitting fits value (Some form) = if fits form then Some (value form) else None
+
 abbrev pub formed : Option Formed → Option Line
-formed None = None
-formed (Some f) = if f.fits then Some f.line else None
+formed form = fitting (λ f. f.fits) (λ f. f.line) form
 
 abbrev pub bounded : Option Bounded → Option ℕ
-bounded None = None
-bounded (Some b) = if b.fits then Some b.value else None
+bounded form = fitting (λ f. f.fits) (λ f. f.value) form
 
 abbrev pub sized_by : Option SizedText → Option (List ℕ)
-sized_by None = None
-sized_by (Some s) = if s.fits then Some s.text else None
+sized_by form = fitting (λ f. f.fits) (λ f. f.text) form
 
 abbrev pub handlers_by : Option HandlersForm → Option Handlers
-handlers_by None = None
-handlers_by (Some h) = if h.fits then Some h.handlers else None
+handlers_by form = fitting (λ f. f.fits) (λ f. f.handlers) form
 
 abbrev pub kinds_by : Option KindsForm → Option (List Kind)
-kinds_by None = None
-kinds_by (Some k) = if k.fits then Some k.kinds.items else None
+kinds_by form = fitting (λ f. f.fits) (λ f. f.kinds.items) form
 
 -- The kinds after the parts that are left.
 abbrev pub kinds_on : Option (List Kind) → List (List ℕ) → Option (List Kind)
