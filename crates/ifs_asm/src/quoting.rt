@@ -6,7 +6,7 @@ ghost use Rattle.std.specs.Option.{option_map};
 ghost use Rattle.std.specs.List.{flat_map, prefix_len};
 ghost use Rattle.ifs_asm.specs.Spellings.{is_plain};
 ghost use Rattle.ifs_asm.specs.inner.Words.{Start, Within, Backslash, High, text_in, text_from};
-ghost use Rattle.ifs_asm.specs.inner.Words.{in_utf8, quote_turn, after_turn, given, hex_value, onto, ending};
+ghost use Rattle.ifs_asm.specs.inner.Words.{in_utf8, quote_turn, after_turn, given, hex_value, onto, ending, TakesRun};
 ghost use Rattle.ifs_base.specs.Words.{quoted_byte, quoted};
 
 use crate::plain::{far_plain, near_end, plain_run};
@@ -150,10 +150,7 @@ fn unquoted_inside(alloc: Global, inside: &[u8]) -> Result<Option<Vec<u8>>, Allo
 /// Takes the plain bytes at the front, and returns the rest.
 #[inline(always)]
 fn take_run<'a>(bytes: &mut Vec<u8>, left: &'a [u8]) -> Result<&'a [u8], AllocError>
-    ensures text { IfOk result (λ rest. option_map (λ text. bytes.new.items ++ text) (text_from rest.now Within)
-        ≡ option_map (λ text. bytes.old.items ++ text) (text_from left.now Within)) }
-    ensures shorter { IfOk result (λ rest. length rest.now ≤ length left.now) }
-    ensures whole { IfOk result (λ rest. prefix_len is_plain rest.now ≡ 0) }
+    ensures { IfOk result (λ rest. TakesRun bytes.old.items bytes.new.items left.now rest.now) }
 {
     if begins_escape(left) {
         return Ok(left);
@@ -177,10 +174,7 @@ fn begins_escape(bytes: &[u8]) -> bool
 /// Takes the plain bytes if no escape is near, or if few bytes are left.
 #[inline(never)]
 fn take_some<'a>(bytes: &mut Vec<u8>, left: &'a [u8]) -> Result<&'a [u8], AllocError>
-    ensures text { IfOk result (λ rest. option_map (λ text. bytes.new.items ++ text) (text_from rest.now Within)
-        ≡ option_map (λ text. bytes.old.items ++ text) (text_from left.now Within)) }
-    ensures shorter { IfOk result (λ rest. length rest.now ≤ length left.now) }
-    ensures whole { IfOk result (λ rest. prefix_len is_plain rest.now ≡ 0) }
+    ensures { IfOk result (λ rest. TakesRun bytes.old.items bytes.new.items left.now rest.now) }
 {
     take_front::<32>(bytes, left, far_plain(left))
 }
@@ -195,10 +189,7 @@ fn take_front<'a, const N: usize>(
     requires few { N ≤ 32 }
     requires within { run ≤ length left.now }
     requires plain { run ≡ prefix_len is_plain left.now }
-    ensures text { IfOk result (λ rest. option_map (λ text. bytes.new.items ++ text) (text_from rest.now Within)
-        ≡ option_map (λ text. bytes.old.items ++ text) (text_from left.now Within)) }
-    ensures shorter { IfOk result (λ rest. length rest.now ≤ length left.now) }
-    ensures whole { IfOk result (λ rest. prefix_len is_plain rest.now ≡ 0) }
+    ensures { IfOk result (λ rest. TakesRun bytes.old.items bytes.new.items left.now rest.now) }
 {
     put_front::<N>(bytes, left, run)?;
     Ok(left.split_at(run).1)

@@ -1,6 +1,6 @@
 -- Reading words: where a word ends, the words of a line, and what quoted texts, lists of tests and lists of kinds say.
-use Rattle.std.specs.Prelude.{ℕ, zero, suc, ◌+◌, ◌-◌, ◌*◌, ◌^◌, ◌==◌, ◌&&◌, ◌||◌, not, nat_lt, Bool, false}
-use Rattle.std.specs.Prelude.{if◌then◌else◌, List, [], ◌∷◌, ◌++◌, length, codes, take, drop, Option, Some, None, option_and_then}
+use Rattle.std.specs.Prelude.{ℕ, zero, suc, ◌≡◌, ◌≤◌, ◌+◌, ◌-◌, ◌*◌, ◌^◌, ◌==◌, ◌&&◌, ◌||◌, not, nat_lt, Bool, false}
+use Rattle.std.specs.Prelude.{if◌then◌else◌, List, [], ◌∷◌, ◌++◌, length, codes, take, drop, Option, Some, None, option_and_then, option_map}
 use Rattle.std.specs.List.{slice_split, prefix_len}
 use Rattle.std.specs.Str.{bytes_eq, is_utf8}
 use Rattle.ifs_base.specs.declared.op.Kind.{Kind}
@@ -146,6 +146,12 @@ in_utf8 text = if is_utf8 text then Some text else None
 -- The text that a word quotes.
 abbrev pub text_in : List ℕ → Option (List ℕ)
 text_in word = option_and_then in_utf8 (text_from word Start)
+
+-- The plain bytes at the front of bytes inside quotes were moved to the end of a text.
+pub record TakesRun (old new left rest : List ℕ) : Type 0 where
+  pub text : option_map (λ text. new ++ text) (text_from rest Within) ≡ option_map (λ text. old ++ text) (text_from left Within)
+  pub shorter : length rest ≤ length left
+  pub whole : prefix_len is_plain rest ≡ 0
 
 -- ---- lists of tests
 
