@@ -1,4 +1,4 @@
--- What a refused line did: it repeats a name, passes a count, or cannot follow.
+-- What a rejected line does: it repeats a name, exceeds a limit, or comes out of order.
 use Rattle.std.proofs.Common.{◌≡◌, ℕ, zero, suc, ◌<◌, ◌≤◌, Bool, true, false, List, [], ◌∷◌, ◌++◌, length, map, take}
 use Rattle.std.proofs.Common.{Option, Some, None, refl, sym, ap, subst, ◌∙◌, arith, append_assoc, inl, inr}
 use Rattle.std.specs.Prelude.{◌||◌, ◌⊎◌, not, nat_lt}
@@ -23,7 +23,7 @@ use Rattle.ifs_asm.specs.declared.line.Head.TheVariants.{Plain, Signature}
 use Rattle.ifs_asm.specs.declared.line.Line.{Line}
 use Rattle.ifs_asm.specs.declared.line.Line.TheVariants as lines
 use Rattle.ifs_asm.specs.Texts.{version_number, version_in, head_of, front_lines, routine_lines}
-use Rattle.ifs_asm.specs.Refused.{EachBreaks, IsAmong, IsOfOther, HasNoForm, IsLong, IsOver, IsOneTooMany, IsOutOfPlace}
+use Rattle.ifs_asm.specs.Refused.{EachBreaks, IsAmong, IsOfOther, HasNoForm, HasMany, IsLong, IsOver, IsOneTooMany, IsOutOfPlace}
 use Rattle.ifs_asm.specs.inner.Forms.{formed}
 use Rattle.ifs_asm.specs.inner.Building.{Built, listed_routine, current_len, parts_said}
 use Rattle.ifs_asm.specs.inner.Building.{lines_said, has_no_form, is_of_other, is_full, line_in}
@@ -37,11 +37,42 @@ use Rattle.ifs_asm.proofs.TextLaws.{line_in_found, line_in_again}
 
 -- ---- a line among others
 
-in_left : (xs ys : List Line) (l : Line) → IsAmong xs l → IsAmong (xs ++ ys) l
-in_left xs ys l s = record { before = s.before; after = s.after ++ ys; whole = ap (λ (ls : List Line). ls ++ ys) s.whole ∙ append_assoc s.before (l ∷ s.after) ys }
+-- Lines are a part of others.
+record IsPart (part said : List Line) : Type 0 where
+  before : List Line
+  after : List Line
+  whole : said ≡ before ++ (part ++ after)
 
-in_right : (xs ys : List Line) (l : Line) → IsAmong ys l → IsAmong (xs ++ ys) l
-in_right xs ys l s = record { before = xs ++ s.before; after = s.after; whole = ap (λ (ls : List Line). xs ++ ls) s.whole ∙ sym (append_assoc xs s.before (l ∷ s.after)) }
+in_part : (part said : List Line) (l : Line) → IsAmong part l → IsPart part said → IsAmong said l
+in_part part said l s p = record {
+  before = p.before ++ s.before;
+  after = s.after ++ p.after;
+  whole =
+      p.whole ∙ ap (λ (ls : List Line). p.before ++ (ls ++ p.after)) s.whole ∙ ap (λ (ls : List Line). p.before ++ ls) (append_assoc s.before (l ∷ s.after) p.after)
+      ∙ sym (append_assoc p.before s.before (l ∷ (s.after ++ p.after)));
+}
+
+-- The lines before the tables and each table are a part of all lines.
+record Parts (f i t c s r : List Line) : Type 0 where
+  front : IsPart f (f ++ i ++ t ++ c ++ s ++ r)
+  interfaces : IsPart i (f ++ i ++ t ++ c ++ s ++ r)
+  tests : IsPart t (f ++ i ++ t ++ c ++ s ++ r)
+  commands : IsPart c (f ++ i ++ t ++ c ++ s ++ r)
+  states : IsPart s (f ++ i ++ t ++ c ++ s ++ r)
+
+parts : (f i t c s r : List Line) → Parts f i t c s r
+parts f i t c s r = record {
+  front = record { before = []; after = i ++ (t ++ (c ++ (s ++ r))); whole = simp append_assoc };
+  interfaces = record { before = f; after = t ++ (c ++ (s ++ r)); whole = simp append_assoc };
+  tests = record { before = f ++ i; after = c ++ (s ++ r); whole = simp append_assoc };
+  commands = record { before = f ++ i ++ t; after = s ++ r; whole = simp append_assoc };
+  states = record { before = f ++ i ++ t ++ c; after = r; whole = simp append_assoc };
+}
+
+parts_of : (b : Built)
+    → Parts (take b.front (front_lines (parts_said b))) (map lines.Interface b.interfaces) (map lines.Test b.tests) (map lines.Command b.commands) (map lines.State b.states)
+    (flat_map (routine_lines b.version) (b.routines ++ listed_routine b.current))
+parts_of b = parts _ _ _ _ _ _
 
 in_more : (x : Line) (xs : List Line) (l : Line) → IsAmong xs l → IsAmong (x ∷ xs) l
 in_more x xs l s = record { before = x ∷ s.before; after = s.after; whole = ap (λ (ls : List Line). x ∷ ls) s.whole }
@@ -68,7 +99,7 @@ other_form One (Signature params results) h = tt
 other_form Two (Plain truth) h = tt
 other_form Two (Signature params results) h = absurd cc
 
--- A state of a name.
+-- A state with a name.
 record Named (xs : List StateSpec) (name : List ℕ) : Type 0 where
   handlers : Handlers
   stands : IsAmong (map lines.State xs) (lines.State (record { name = name; handlers = handlers }))
@@ -86,34 +117,15 @@ state_in : (name : List ℕ) (xs : List StateSpec) → stands_in name (names_of 
 state_in name [] h = absurd cc
 state_in name (x ∷ xs) h = state_case name x xs (bytes_eq x.name name) refl h (state_in name xs)
 
--- The version that was read stands among what was said.
+-- The version that was read is among the lines.
 version_said : (b : Built) → 0 < b.front → IsAmong (lines_said b) (lines.Version b.version)
-version_said b lt =
-    let f = take b.front (front_lines (parts_said b)) in
-    let i = f ++ map lines.Interface b.interfaces in
-    let t = i ++ map lines.Test b.tests in
-    let c = t ++ map lines.Command b.commands in
-    let s = c ++ map lines.State b.states in
-    let l = lines.Version b.version in
-    in_left s (flat_map (routine_lines b.version) (b.routines ++ listed_routine b.current)) l (in_left c (map lines.State b.states) l (in_left t (map lines.Command b.commands) l
-    (in_left i (map lines.Test b.tests) l (in_left f (map lines.Interface b.interfaces) l (version_first b.front (parts_said b) b.version lt (version_back b.version))))))
+version_said b lt = in_part (take b.front (front_lines (parts_said b))) (lines_said b) (lines.Version b.version) (version_first b.front (parts_said b) b.version lt (version_back b.version)) (parts_of b).front
 
 repeats : (b : Built) (l : Line) → has_no_form b l ≡ true → HasNoForm (lines_said b) l
-repeats b (lines.Interface name) h =
-    let f = take b.front (front_lines (parts_said b)) in
-    let i = f ++ map lines.Interface b.interfaces in
-    let t = i ++ map lines.Test b.tests in
-    let c = t ++ map lines.Command b.commands in
-    let s = c ++ map lines.State b.states in
-    let l = lines.Interface name in
-    in_left s (flat_map (routine_lines b.version) (b.routines ++ listed_routine b.current)) l (in_left c (map lines.State b.states) l (in_left t (map lines.Command b.commands) l
-    (in_left i (map lines.Test b.tests) l (in_right f (map lines.Interface b.interfaces) l (interface_in name b.interfaces h)))))
+repeats b (lines.Interface name) h = in_part (map lines.Interface b.interfaces) (lines_said b) (lines.Interface name) (interface_in name b.interfaces h) (parts_of b).interfaces
 repeats b (lines.State x) h =
-    let f = take b.front (front_lines (parts_said b)) in
-    let c = f ++ map lines.Interface b.interfaces ++ map lines.Test b.tests ++ map lines.Command b.commands in
     let n = state_in x.name b.states h in
-    let l = lines.State (record { name = x.name; handlers = n.handlers }) in
-    (n.handlers, in_left (c ++ map lines.State b.states) (flat_map (routine_lines b.version) (b.routines ++ listed_routine b.current)) l (in_right c (map lines.State b.states) l n.stands))
+    (n.handlers, in_part (map lines.State b.states) (lines_said b) (lines.State (record { name = x.name; handlers = n.handlers })) n.stands (parts_of b).states)
 repeats b (lines.Version v) h = absurd cc
 repeats b (lines.Stack n) h = absurd cc
 repeats b (lines.Frames n) h = absurd cc
@@ -133,17 +145,9 @@ repeats b (lines.Instruction op) h = absurd cc
 no_room : (n most : ℕ) → not (nat_lt n most) ≡ true → most ≤ n
 no_room n most e = grind (arith, nat_tests)
 
-parted_two : (f i t c s r : List Line) → f ++ i ++ t ++ c ++ s ++ r ≡ f ++ (i ++ (t ++ (c ++ (s ++ r))))
-parted_two f i t c s r = simp append_assoc
-
-parted_three : (f i t c s r : List Line) → f ++ i ++ t ++ c ++ s ++ r ≡ (f ++ i) ++ (t ++ (c ++ (s ++ r)))
-parted_three f i t c s r = simp append_assoc
-
-parted_four : (f i t c s r : List Line) → f ++ i ++ t ++ c ++ s ++ r ≡ (f ++ i ++ t) ++ (c ++ (s ++ r))
-parted_four f i t c s r = simp append_assoc
-
-parted_five : (f i t c s r : List Line) → f ++ i ++ t ++ c ++ s ++ r ≡ (f ++ i ++ t ++ c) ++ (s ++ r)
-parted_five f i t c s r = simp append_assoc
+-- A full table has as many lines as it may have.
+full_table : {X : Type 0} (line : X → Line) (most : ℕ) (xs : List X) (said : List Line) → not (nat_lt (length xs) most) ≡ true → IsPart (map line xs) said → HasMany line most said
+full_table line most xs said h p = record { before = p.before; entries = xs; after = p.after; whole = p.whole; enough = no_room (length xs) most h }
 
 either_true : (x y : Bool) → (x || y) ≡ true → (x ≡ true) ⊎ (y ≡ true)
 either_true true y h = inl refl
@@ -168,7 +172,7 @@ is_long v before rs (Some r) h =
       enough = no_room (length r.code) 1024 h;
     }
 
--- Where a routine was said, a version was.
+-- If there is a routine, the version was read.
 routines_front : (b : Built) → Sound b → 0 < length (b.routines ++ listed_routine b.current) → 0 < b.front
 routines_front b s some = elim (cases_lt 0 b.front) [
   | inl lt ↦ lt
@@ -184,34 +188,10 @@ some_codes One = omega arith
 some_codes Two = omega arith
 
 over : (b : Built) (l : Line) → IsWithin b → Sound b → is_full b l ≡ true → IsOver (lines_said b) l
-over b (lines.Interface name) w snd h = record {
-  before = take b.front (front_lines (parts_said b));
-  entries = b.interfaces;
-  after = map lines.Test b.tests ++ (map lines.Command b.commands ++ (map lines.State b.states ++ flat_map (routine_lines b.version) (b.routines ++ listed_routine b.current)));
-  whole = parted_two (take b.front (front_lines (parts_said b))) (map lines.Interface b.interfaces) (map lines.Test b.tests) (map lines.Command b.commands) (map lines.State b.states) (flat_map (routine_lines b.version) (b.routines ++ listed_routine b.current));
-  enough = no_room (length b.interfaces) 64 h;
-}
-over b (lines.Test t) w snd h = record {
-  before = take b.front (front_lines (parts_said b)) ++ map lines.Interface b.interfaces;
-  entries = b.tests;
-  after = map lines.Command b.commands ++ (map lines.State b.states ++ flat_map (routine_lines b.version) (b.routines ++ listed_routine b.current));
-  whole = parted_three (take b.front (front_lines (parts_said b))) (map lines.Interface b.interfaces) (map lines.Test b.tests) (map lines.Command b.commands) (map lines.State b.states) (flat_map (routine_lines b.version) (b.routines ++ listed_routine b.current));
-  enough = no_room (length b.tests) 64 h;
-}
-over b (lines.Command text) w snd h = record {
-  before = take b.front (front_lines (parts_said b)) ++ map lines.Interface b.interfaces ++ map lines.Test b.tests;
-  entries = b.commands;
-  after = map lines.State b.states ++ flat_map (routine_lines b.version) (b.routines ++ listed_routine b.current);
-  whole = parted_four (take b.front (front_lines (parts_said b))) (map lines.Interface b.interfaces) (map lines.Test b.tests) (map lines.Command b.commands) (map lines.State b.states) (flat_map (routine_lines b.version) (b.routines ++ listed_routine b.current));
-  enough = no_room (length b.commands) 1024 h;
-}
-over b (lines.State x) w snd h = record {
-  before = take b.front (front_lines (parts_said b)) ++ map lines.Interface b.interfaces ++ map lines.Test b.tests ++ map lines.Command b.commands;
-  entries = b.states;
-  after = flat_map (routine_lines b.version) (b.routines ++ listed_routine b.current);
-  whole = parted_five (take b.front (front_lines (parts_said b))) (map lines.Interface b.interfaces) (map lines.Test b.tests) (map lines.Command b.commands) (map lines.State b.states) (flat_map (routine_lines b.version) (b.routines ++ listed_routine b.current));
-  enough = no_room (length b.states) 256 h;
-}
+over b (lines.Interface name) w snd h = full_table lines.Interface 64 b.interfaces (lines_said b) h (parts_of b).interfaces
+over b (lines.Test t) w snd h = full_table lines.Test 64 b.tests (lines_said b) h (parts_of b).tests
+over b (lines.Command text) w snd h = full_table lines.Command 1024 b.commands (lines_said b) h (parts_of b).commands
+over b (lines.State x) w snd h = full_table lines.State 256 b.states (lines_said b) h (parts_of b).states
 over b (lines.Routine head) w snd h =
     let many = no_room (length (b.routines ++ listed_routine b.current)) 1024 h in (
       b.version,
@@ -229,7 +209,7 @@ over b (lines.Instruction op) w snd h =
     elim (either_true (not (nat_lt (current_len b.current) 1024)) (not (nat_lt b.count most)) h) [
       | inl p ↦ inl (is_long b.version front b.routines b.current p)
       | inr p ↦
-          let all : most ≤ instructions (b.routines ++ listed_routine b.current) = omega (arith, no_room b.count most p, w.together) in
+          let all : most ≤ instructions (b.routines ++ listed_routine b.current) = omega (arith, no_room b.count most p, w.1.together) in
           inr (
             b.version,
             version_said b (routines_front b snd (coded (b.routines ++ listed_routine b.current) (omega (arith, all, some_codes b.version)))),

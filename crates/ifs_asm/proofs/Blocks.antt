@@ -1,4 +1,4 @@
--- Blocks of bytes: the marks of some of them, how many come before the first mark, and what a block says of the bytes that it begins.
+-- Blocks of bytes: masks of some of their bytes, how many come before the first set bit, and what follows for longer bytes.
 use Rattle.std.proofs.Common.{◌≡◌, ℕ, zero, suc, ◌+◌, ◌*◌, ◌%◌, ◌^◌, ◌<◌, ◌≤◌, Bool, true, false, not, cond, List, [], ◌∷◌, ◌++◌, map}
 use Rattle.std.proofs.Common.{length, take, drop, bit_or, refl, sym, ap, ◌∙◌, arith}
 use Rattle.std.specs.Prelude.{◌==◌, ◌&&◌, ◌||◌}
@@ -6,7 +6,7 @@ use Rattle.std.specs.Int.{w64, trailing_zeros}
 use Rattle.std.specs.List.{prefix_len}
 use Rattle.std.proofs.Math.Seq.{take-append-add}
 use Rattle.std.proofs.lemmas.Bool.{ne_eqb, cond-false}
-use Rattle.std.proofs.lemmas.List.{length-map, length-take-le}
+use Rattle.std.proofs.lemmas.List.{length-map, length-take-le, take-take}
 use Rattle.std.proofs.lemmas.List.Sums.{prefix_len-le-length}
 use Rattle.std.proofs.lemmas.Simd.{map-map, mask_l-mod, first_set_mask_l, leading_from_mask_l}
 use lib.Lanes.{mask_l, top}
@@ -17,7 +17,7 @@ same_marks : (p q : ℕ → Bool) → ((x : ℕ) → p x ≡ q x) → (v : List 
 same_marks p q all [] = refl
 same_marks p q all (x ∷ v) = rw (all x, same_marks p q all v) refl
 
--- The lanes that are set are those of the bytes that pass the test.
+-- The lanes that are set are those of the bytes that pass a test.
 pub marks_are : (test : ℕ → Bool) (v z : List ℕ) (f : ℕ → ℕ) → length v ≤ 64 → z ≡ map f v → ((x : ℕ) → top 7 (f x) ≡ test x)
     → mask_l (map (top 7) z) % 2 ^ 64 ≡ mask_l (map test v)
 marks_are test v z f few lanes all =
@@ -25,7 +25,7 @@ marks_are test v z f few lanes all =
     ap (λ l. mask_l l % 2 ^ 64) (ap (map (top 7)) lanes ∙ map-map (top 7) f v) ∙ mask_l-mod (map set v) 64 (omega (arith, length-map v set, few))
     ∙ ap mask_l (same_marks set test all v)
 
--- A lane of several comparisons is set where one of them holds.
+-- A lane of several comparisons is set if one of them holds.
 pub one_of_two : (a b : Bool) → top 7 (bit_or (cond a 255 0) (cond b 255 0)) ≡ not (not (a || b))
 one_of_two true true = refl
 one_of_two true false = refl
@@ -69,7 +69,7 @@ no_mark : (test : ℕ → Bool) (v : List ℕ) → prefix_len test v ≡ length 
 no_mark test [] whole = refl
 no_mark test (x ∷ v) whole = whole_case (test x) (prefix_len test v) (length v) (mask_l (map (λ y. not (test y)) v)) (no_mark test v) whole
 
--- So many bytes pass the test before the first mark of one that fails it.
+-- This many bytes pass the test before the first bit of one that fails it.
 pub before_mark : (test : ℕ → Bool) (v : List ℕ) (marks n : ℕ) → length v ≡ n → n ≤ 64 → marks ≡ mask_l (map (λ x. not (test x)) v) → (marks ≡ 0 → ⊥)
     → (trailing_zeros w64 marks ≡ prefix_len test v) × (prefix_len test v < n)
 before_mark test v marks n long few is some =
@@ -77,7 +77,7 @@ before_mark test v marks n long few is some =
     let inside : (prefix_len test v ≡ length v) → ⊥ = λ whole. some (is ∙ no_mark test v whole) in
     (sym (cond-false _ _ _ (ne_eqb _ _ some)) ∙ first, omega (arith, prefix_len-le-length test v, inside, long))
 
--- Without a mark all bytes pass it.
+-- If no bit is set, all bytes pass it.
 pub unmarked : (test : ℕ → Bool) (v : List ℕ) (marks : ℕ) → marks ≡ mask_l (map (λ x. not (test x)) v) → marks ≡ 0 → prefix_len test v ≡ length v
 unmarked test v marks is none = sym (twice test v) ∙ leading_from_mask_l (λ x. not (test x)) v (sym is ∙ none)
 
@@ -106,16 +106,22 @@ over_front test (suc n) (b ∷ bs) whole le =
 block_long : (n : ℕ) (bytes block rest : List ℕ) → block ≡ take n bytes → length rest + n ≡ length bytes → length block ≡ n
 block_long n bytes block rest front len = ap length front ∙ length-take-le n bytes (omega (arith, len))
 
--- A run that ends within the block at the front ends at its first mark.
+-- This many bytes at the front pass the test.
+pub record IsRun (test : ℕ → Bool) (run : ℕ) (bytes : List ℕ) : Type 0 where
+  pub value : run ≡ prefix_len test bytes
+  pub within : run ≤ length bytes
+
+-- A run that ends in the first block ends at the first set bit.
 pub ends_within : (test : ℕ → Bool) (n marks : ℕ) (bytes block rest : List ℕ) → n ≤ 64 → block ≡ take n bytes → length rest + n ≡ length bytes
-    → marks ≡ mask_l (map (λ x. not (test x)) block) → (marks ≡ 0 → ⊥) → trailing_zeros w64 marks ≡ prefix_len test bytes
+    → marks ≡ mask_l (map (λ x. not (test x)) block) → (marks ≡ 0 → ⊥) → IsRun test (trailing_zeros w64 marks) bytes
 ends_within test n marks bytes block rest few front len is some =
     let long = block_long n bytes block rest front len in
     let first = before_mark test block marks n long few is some in
     let same : prefix_len test block ≡ prefix_len test (take n bytes) = ap (prefix_len test) front in
-    first.0 ∙ same ∙ sym (within_front test n bytes (omega (arith, same, first.1)) (omega (arith, len)))
+    let value = first.0 ∙ same ∙ sym (within_front test n bytes (omega (arith, same, first.1)) (omega (arith, len))) in
+    record { value = value; within = omega (arith, value, prefix_len-le-length test bytes) }
 
--- Without a mark it goes on behind the block.
+-- If no bit is set, the run goes on after the block.
 pub goes_behind : (test : ℕ → Bool) (n marks : ℕ) (bytes block rest : List ℕ) → block ≡ take n bytes → rest ≡ drop n bytes → length rest + n ≡ length bytes
     → marks ≡ mask_l (map (λ x. not (test x)) block) → marks ≡ 0 → prefix_len test bytes ≡ n + prefix_len test rest
 goes_behind test n marks bytes block rest front back len is none =
@@ -125,15 +131,9 @@ goes_behind test n marks bytes block rest front back len is none =
 
 -- ---- a block that is added and cut
 
-front_of_front : (m n : ℕ) (bs : List ℕ) → m ≤ n → take m (take n bs) ≡ take m bs
-front_of_front zero n bs le = refl
-front_of_front (suc m) zero bs le = absurd (omega (arith, le))
-front_of_front (suc m) (suc n) [] le = refl
-front_of_front (suc m) (suc n) (b ∷ bs) le = ap (λ (xs : List ℕ). b ∷ xs) (front_of_front m n bs (omega (arith, le)))
-
--- What is left of a block that is added, where it is cut behind its first bytes, are these.
+-- A block is added and cut, so that its first bytes are left.
 pub cut_behind : (n run len : ℕ) (before block slice bytes added kept : List ℕ) → block ≡ take n bytes → run ≤ n → slice ≡ block → added ≡ before ++ slice → len ≡ length before
     → kept ≡ take (len + run) added → kept ≡ before ++ take run bytes
 cut_behind n run len before block slice bytes added kept front le same is long cut =
     cut ∙ ap (λ m. take (m + run) added) long ∙ ap (λ (xs : List ℕ). take (length before + run) xs) (is ∙ ap (λ (xs : List ℕ). before ++ xs) (same ∙ front))
-    ∙ take-append-add before (take n bytes) run ∙ ap (λ (xs : List ℕ). before ++ xs) (front_of_front run n bytes le)
+    ∙ take-append-add before (take n bytes) run ∙ ap (λ (xs : List ℕ). before ++ xs) (take-take run n bytes le)

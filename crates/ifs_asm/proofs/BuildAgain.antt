@@ -51,57 +51,48 @@ has_room n most lt = rw (lt-ltb n most lt) refl
 
 -- ---- the tables
 
--- What was said behind the lines before the tables.
+-- What lines say once all lines before the tables were read.
 abbrev mk : ImageParts → List (List ℕ) → List TestSpec → List (List ℕ) → List StateSpec → List Routine → Option Routine → ℕ → Built
 mk p i t c s r current n = record { front = 7; version = version_in p.version; budgets = p.budgets; initial = p.initial; always = p.always; interfaces = i; tests = t; commands = c; states = s; routines = r; current = current; count = n }
 
 front_built : (p : ImageParts) → built_of nothing (front_lines p) ≡ Some (mk p [] [] [] [] [] None 0)
 front_built p = refl
 
-interfaces_built : (p : ImageParts) (xs ys : List (List ℕ)) → AreDistinct (ys ++ xs) → length (ys ++ xs) ≤ 64
-    → built_of (mk p ys [] [] [] [] None 0) (map lines.Interface xs) ≡ Some (mk p (ys ++ xs) [] [] [] [] None 0)
-interfaces_built p [] ys apart few = ap (λ (i : List (List ℕ)). Some (mk p i [] [] [] [] None 0)) (sym (append-nil ys))
-interfaces_built p (x ∷ xs) ys apart few =
-    let b = mk p ys [] [] [] [] None 0 in
+-- Lines of one kind fill their table if each of them may come next.
+table_built : {X : Type 0} (line : X → Line) (table : List X → Built) (Apart : List X → Type 0) (most : ℕ)
+    → ((ys : List X) (x : X) (xs : List X) → Apart (ys ++ x ∷ xs) → has_no_form (table ys) (line x) ≡ false)
+    → ((ys : List X) (x : X) → is_full (table ys) (line x) ≡ not (nat_lt (length ys) most))
+    → ((ys : List X) (x : X) → is_in_order (table ys) (line x) ≡ true)
+    → ((ys : List X) (x : X) → with_line (table ys) (line x) ≡ table (ys ++ x ∷ []))
+    → (xs ys : List X) → Apart (ys ++ xs) → length (ys ++ xs) ≤ most → built_of (table ys) (map line xs) ≡ Some (table (ys ++ xs))
+table_built {X} line table Apart most new full order next [] ys apart few = ap (λ (zs : List X). Some (table zs)) (sym (append-nil ys))
+table_built {X} line table Apart most new full order next (x ∷ xs) ys apart few =
     let same = append_assoc ys (x ∷ []) xs in
-    let s = step_taken b (lines.Interface x) (absent ys x xs apart) (has_room (length ys) 64 (omega (arith, few, length-append ys (x ∷ xs)))) refl in
-    let ih = interfaces_built p xs (ys ++ x ∷ []) (subst AreDistinct (sym same) apart) (subst (λ (zs : List (List ℕ)). length zs ≤ 64) (sym same) few) in
-    ap (option_and_then (λ next. built_of next (map lines.Interface xs))) s ∙ ih ∙ ap (λ (i : List (List ℕ)). Some (mk p i [] [] [] [] None 0)) same
+    let room = full ys x ∙ has_room (length ys) most (omega (arith, few, length-append ys (x ∷ xs))) in
+    let one = step_taken (table ys) (line x) (new ys x xs apart) room (order ys x) ∙ ap Some (next ys x) in
+    let ih = table_built line table Apart most new full order next xs (ys ++ x ∷ []) (subst Apart (sym same) apart) (subst (λ (zs : List X). length zs ≤ most) (sym same) few) in
+    ap (option_and_then (λ next. built_of next (map line xs))) one ∙ ih ∙ ap (λ (zs : List X). Some (table zs)) same
 
-tests_built : (p : ImageParts) (i : List (List ℕ)) (xs ys : List TestSpec) → length (ys ++ xs) ≤ 64
-    → built_of (mk p i ys [] [] [] None 0) (map lines.Test xs) ≡ Some (mk p i (ys ++ xs) [] [] [] None 0)
-tests_built p i [] ys few = ap (λ (t : List TestSpec). Some (mk p i t [] [] [] None 0)) (sym (append-nil ys))
-tests_built p i (x ∷ xs) ys few =
-    let b = mk p i ys [] [] [] None 0 in
-    let same = append_assoc ys (x ∷ []) xs in
-    let s = step_taken b (lines.Test x) refl (has_room (length ys) 64 (omega (arith, few, length-append ys (x ∷ xs)))) refl in
-    let ih = tests_built p i xs (ys ++ x ∷ []) (subst (λ (zs : List TestSpec). length zs ≤ 64) (sym same) few) in
-    ap (option_and_then (λ next. built_of next (map lines.Test xs))) s ∙ ih ∙ ap (λ (t : List TestSpec). Some (mk p i t [] [] [] None 0)) same
+interfaces_built : (p : ImageParts) (xs : List (List ℕ)) → AreDistinct xs → length xs ≤ 64 → built_of (mk p [] [] [] [] [] None 0) (map lines.Interface xs) ≡ Some (mk p xs [] [] [] [] None 0)
+interfaces_built p xs apart few =
+    table_built lines.Interface (λ ys. mk p ys [] [] [] [] None 0) AreDistinct 64 (λ ys x zs. absent ys x zs) (λ _ _. refl) (λ _ _. refl) (λ _ _. refl) xs [] apart few
 
-commands_built : (p : ImageParts) (i : List (List ℕ)) (t : List TestSpec) (xs ys : List (List ℕ)) → length (ys ++ xs) ≤ 1024
-    → built_of (mk p i t ys [] [] None 0) (map lines.Command xs) ≡ Some (mk p i t (ys ++ xs) [] [] None 0)
-commands_built p i t [] ys few = ap (λ (c : List (List ℕ)). Some (mk p i t c [] [] None 0)) (sym (append-nil ys))
-commands_built p i t (x ∷ xs) ys few =
-    let b = mk p i t ys [] [] None 0 in
-    let same = append_assoc ys (x ∷ []) xs in
-    let s = step_taken b (lines.Command x) refl (has_room (length ys) 1024 (omega (arith, few, length-append ys (x ∷ xs)))) refl in
-    let ih = commands_built p i t xs (ys ++ x ∷ []) (subst (λ (zs : List (List ℕ)). length zs ≤ 1024) (sym same) few) in
-    ap (option_and_then (λ next. built_of next (map lines.Command xs))) s ∙ ih ∙ ap (λ (c : List (List ℕ)). Some (mk p i t c [] [] None 0)) same
+tests_built : (p : ImageParts) (i : List (List ℕ)) (xs : List TestSpec) → length xs ≤ 64 → built_of (mk p i [] [] [] [] None 0) (map lines.Test xs) ≡ Some (mk p i xs [] [] [] None 0)
+tests_built p i xs few = table_built lines.Test (λ ys. mk p i ys [] [] [] None 0) (λ _. Unit {0}) 64 (λ _ _ _ _. refl) (λ _ _. refl) (λ _ _. refl) (λ _ _. refl) xs [] tt few
 
-states_built : (p : ImageParts) (i : List (List ℕ)) (t : List TestSpec) (c : List (List ℕ)) (xs ys : List StateSpec) → AreDistinct (names_of (ys ++ xs)) → length (ys ++ xs) ≤ 256
-    → built_of (mk p i t c ys [] None 0) (map lines.State xs) ≡ Some (mk p i t c (ys ++ xs) [] None 0)
-states_built p i t c [] ys apart few = ap (λ (s : List StateSpec). Some (mk p i t c s [] None 0)) (sym (append-nil ys))
-states_built p i t c (x ∷ xs) ys apart few =
-    let b = mk p i t c ys [] None 0 in
-    let same = append_assoc ys (x ∷ []) xs in
-    let new = absent (names_of ys) x.name (names_of xs) (subst AreDistinct (map-append (λ (s : StateSpec). s.name) ys (x ∷ xs)) apart) in
-    let s = step_taken b (lines.State x) new (has_room (length ys) 256 (omega (arith, few, length-append ys (x ∷ xs)))) refl in
-    let ih = states_built p i t c xs (ys ++ x ∷ []) (subst (λ (zs : List StateSpec). AreDistinct (names_of zs)) (sym same) apart) (subst (λ (zs : List StateSpec). length zs ≤ 256) (sym same) few) in
-    ap (option_and_then (λ next. built_of next (map lines.State xs))) s ∙ ih ∙ ap (λ (s : List StateSpec). Some (mk p i t c s [] None 0)) same
+commands_built : (p : ImageParts) (i : List (List ℕ)) (t : List TestSpec) (xs : List (List ℕ)) → length xs ≤ 1024 → built_of (mk p i t [] [] [] None 0) (map lines.Command xs) ≡ Some (mk p i t xs [] [] None 0)
+commands_built p i t xs few = table_built lines.Command (λ ys. mk p i t ys [] [] None 0) (λ _. Unit {0}) 1024 (λ _ _ _ _. refl) (λ _ _. refl) (λ _ _. refl) (λ _ _. refl) xs [] tt few
+
+states_built : (p : ImageParts) (i : List (List ℕ)) (t : List TestSpec) (c : List (List ℕ)) (xs : List StateSpec) → AreDistinct (names_of xs) → length xs ≤ 256
+    → built_of (mk p i t c [] [] None 0) (map lines.State xs) ≡ Some (mk p i t c xs [] None 0)
+states_built p i t c xs apart few =
+    table_built lines.State (λ ys. mk p i t c ys [] None 0) (λ ys. AreDistinct (names_of ys)) 256
+    (λ ys x zs names. absent (names_of ys) x.name (names_of zs) (subst AreDistinct (map-append (λ (s : StateSpec). s.name) ys (x ∷ zs)) names))
+    (λ _ _. refl) (λ _ _. refl) (λ _ _. refl) xs [] apart few
 
 -- ---- routines
 
--- How many instructions there may be in all.
+-- The greatest number of instructions.
 abbrev limit : ImageParts → ℕ
 limit p = code_limit (version_number (version_in p.version))
 
@@ -140,7 +131,7 @@ built_append b (x ∷ xs) ys = append_case (one_line_more b x) xs ys (λ next. b
 pub built_then : (b c : Built) (d : Option Built) (xs ys : List Line) → built_of b xs ≡ Some c → built_of c ys ≡ d → built_of b (xs ++ ys) ≡ d
 built_then b c d xs ys first second = built_append b xs ys ∙ ap (option_and_then (λ next. built_of next ys)) first ∙ second
 
--- What routines build.
+-- What the lines of routines build.
 record Routed (p : ImageParts) (i : List (List ℕ)) (t : List TestSpec) (c : List (List ℕ)) (s : List StateSpec) (b : Built) (more all : List Routine) : Type 0 where
   routines : List Routine
   current : Option Routine
@@ -175,7 +166,7 @@ routines_built p i t c s some most (r ∷ more) rs current n fit few room =
 
 -- ---- an image
 
--- What the lines of an image build is its parts.
+-- The lines of an image build its parts.
 pub record IsBuilt (p : ImageParts) : Type 0 where
   pub after : Built
   pub built : built_of nothing (lines_of p) ≡ Some after
@@ -202,10 +193,10 @@ image_built p f =
     let b2 = mk p p.interfaces p.tests [] [] [] None 0 in
     let b3 = mk p p.interfaces p.tests p.commands [] [] None 0 in
     let b4 = mk p p.interfaces p.tests p.commands p.states [] None 0 in
-    let i = interfaces_built p p.interfaces [] f.interfaces.distinct f.counts.interfaces in
-    let t = tests_built p p.interfaces p.tests [] f.counts.tests in
-    let c = commands_built p p.interfaces p.tests p.commands [] f.counts.commands in
-    let s = states_built p p.interfaces p.tests p.commands p.states [] f.states.distinct f.counts.states in
+    let i = interfaces_built p p.interfaces f.interfaces.distinct f.counts.interfaces in
+    let t = tests_built p p.interfaces p.tests f.counts.tests in
+    let c = commands_built p p.interfaces p.tests p.commands f.counts.commands in
+    let s = states_built p p.interfaces p.tests p.commands p.states f.states.distinct f.counts.states in
     let r = routines_built p p.interfaces p.tests p.commands p.states (some_states p.states f.counts.some_state) most p.routines [] None 0 each f.counts.routines (omega (arith, f.routines.together, same_limit)) in
     let l1 = front_lines p ++ map lines.Interface p.interfaces in
     let l2 = l1 ++ map lines.Test p.tests in

@@ -1,4 +1,4 @@
--- What was built is said by the lines that built it.
+-- What lines build has just these lines.
 use Rattle.std.proofs.Common.{◌≡◌, ℕ, suc, ◌<◌, ◌≤◌, Bool, true, false, cond, List, [], ◌∷◌, ◌++◌, length, map}
 use Rattle.std.proofs.Common.{take, Option, Some, None, refl, sym, ap, subst, ◌∙◌, arith, append_assoc, inl, inr}
 use Rattle.std.specs.Prelude.{◌==◌, ◌&&◌, ◌||◌, not, nat_lt, option_and_then, is_some}
@@ -66,7 +66,7 @@ pub record Sound (b : Built) : Type 0 where
 pub nothing_sound : Sound nothing
 nothing_sound = record { front = omega arith; interfaces = λ _. refl; tests = λ _. refl; commands = λ _. refl; states = λ _. refl; current = λ _. refl; routines = λ _. refl }
 
--- A line was said.
+-- A line was added.
 pub record IsSaid (b c : Built) (l : Line) : Type 0 where
   pub sound : Sound c
   pub lines : lines_said c ≡ lines_said b ++ l ∷ []
@@ -78,13 +78,13 @@ none_listed (Some r) e = absurd cc
 no_routines : (rs : List Routine) (o : Option Routine) → rs ≡ [] → o ≡ None → rs ++ listed_routine o ≡ []
 no_routines rs o er eo = rw (er, none_listed o eo) refl
 
--- Before the tables.
+-- The lines before the tables are the only ones.
 before_tables : (b : Built) → Sound b → b.front < 7 → lines_said b ≡ take b.front (front_lines (parts_said b))
 before_tables b s lt =
     let none = s.current (s.states lt) in
     said_front b.version (take b.front (front_lines (parts_said b))) b.interfaces b.tests b.commands b.states (b.routines ++ listed_routine b.current) (s.interfaces lt) (s.tests lt) (s.commands lt) (s.states lt) (no_routines b.routines b.current (s.routines none) none)
 
--- A line before the tables, of what was said and what is said with it.
+-- Adds a line before the tables.
 front_said : (b c : Built) (l : Line) (k : ℕ) → Sound b → b.front ≡ k → k < 7 → c.front ≡ suc k → c.interfaces ≡ b.interfaces → c.tests ≡ b.tests → c.commands ≡ b.commands → c.states ≡ b.states → c.routines ≡ b.routines → c.current ≡ b.current
     → take (suc k) (front_lines (parts_said c)) ≡ take k (front_lines (parts_said b)) ++ l ∷ [] → IsSaid b c l
 front_said b c l k s at lt next ei et ec es er eo more =
@@ -152,7 +152,7 @@ op_said b op (Some r) e s h =
           ∙ ap (λ (o : Option Routine). said b.version front b.interfaces b.tests b.commands b.states (b.routines ++ listed_routine o) ++ lines.Instruction op ∷ []) (sym e);
     }
 
--- Where a routine may begin, a version was said, and the routine begins in its form.
+-- If a routine may begin, the version was read, and the routine begins in its form.
 pub own_form : (b : Built) (head : Head) → Sound b → has_no_form b (lines.Routine head) ≡ false → is_in_order b (lines.Routine head) ≡ true → is_of_other b.version head ≡ false
 own_form b head s new o = elim (cases_lt b.front 7) [
   | inl lt ↦ absurd (nonempty b.states (not-true (is_none b.states) o) (s.states lt))
@@ -228,7 +228,7 @@ step_said b c l s h =
     let t = taken_case (has_no_form b l) (is_full b l) (is_in_order b l) (with_line b l) c h in
     subst (λ (d : Built). IsSaid b d l) t.1.1 (line_said b l s t.0 t.1.0)
 
--- What lines said.
+-- What lines say and build.
 pub record AreSaid (b c : Built) (spoken : List (List ℕ)) : Type 0 where
   pub more : List Line
   pub says : AllZip SaysLine spoken more
@@ -252,7 +252,7 @@ built_said b c (bytes ∷ others) s h =
       lines = all.lines ∙ ap (λ (ls : List Line). ls ++ all.more) one.lines ∙ append_assoc (lines_said b) (line ∷ []) all.more;
     }))
 
--- An image that was built.
+-- Lines say the lines of an image.
 pub record IsSpoken (p : ImageParts) (spoken : List (List ℕ)) : Type 0 where
   pub says : AllZip SaysLine spoken (lines_of p)
   pub fit : AllByRecursion LineFits (lines_of p)

@@ -1,5 +1,5 @@
--- What lines built goes on to an image: the lines that are missing can be said.
-use Rattle.std.proofs.Common.{◌≡◌, ◌≢◌, ℕ, zero, suc, ◌<◌, ◌≤◌, List, [], ◌∷◌, ◌++◌, length, map}
+-- What lines build can be completed to an image: the missing lines exist.
+use Rattle.std.proofs.Common.{◌≡◌, ◌≢◌, ℕ, zero, suc, ◌+◌, ◌-◌, ◌<◌, ◌≤◌, List, [], ◌∷◌, ◌++◌, length, map}
 use Rattle.std.proofs.Common.{Option, Some, None, refl, sym, ap, subst, ◌∙◌, arith, append_assoc}
 use Rattle.std.specs.Prelude.{option_and_then, slice_index}
 use Rattle.std.specs.List.{AllByRecursion}
@@ -26,7 +26,7 @@ use Rattle.ifs_asm.proofs.Steps.{by_append}
 
 -- ---- the lines that are missing
 
--- Lines that can be written, and bring what was built to where a state is.
+-- Further lines can be written, and build a state.
 record Completes (b : Built) : Type 0 where
   others : List Line
   after : Built
@@ -72,45 +72,39 @@ from_seven b at none closed =
     let s = step_taken b (lines.State one_state) (rw none refl) (rw none refl) (rw (at, closed) refl) in
     first_line b (lines.State one_state) s (state_good, no_tests_small) (tt, ((omega arith, tt), (tt, (omega arith, (tt, (omega arith, (tt, (tt, tt)))))))) (with_state b none)
 
-from_six : (b : Built) → b.front ≡ 6 → b.states ≡ [] → b.current ≡ None → Completes b
-from_six b at none closed = first_line b (lines.Always no_tests) (step_taken b (lines.Always no_tests) refl refl (rw at refl)) no_tests_small (tt, (tt, (omega arith, (tt, (omega arith, (tt, (tt, tt))))))) (from_seven (with_line b (lines.Always no_tests)) refl none closed)
-
-from_five : (b : Built) → b.front ≡ 5 → b.states ≡ [] → b.current ≡ None → Completes b
-from_five b at none closed = first_line b (lines.Start (record { 0 = 0 })) (step_taken b (lines.Start (record { 0 = 0 })) refl refl (rw at refl)) (omega arith) (tt, (omega arith, tt)) (from_six (with_line b (lines.Start (record { 0 = 0 }))) refl none closed)
-
-from_four : (b : Built) → b.front ≡ 4 → b.states ≡ [] → b.current ≡ None → Completes b
-from_four b at none closed = first_line b (lines.Commands 0) (step_taken b (lines.Commands 0) refl refl (rw at refl)) (omega arith) (tt, (omega arith, tt)) (from_five (with_line b (lines.Commands 0)) refl none closed)
-
-from_three : (b : Built) → b.front ≡ 3 → b.states ≡ [] → b.current ≡ None → Completes b
-from_three b at none closed = first_line b (lines.Cost 0) (step_taken b (lines.Cost 0) refl refl (rw at refl)) (omega arith) (tt, (omega arith, tt)) (from_four (with_line b (lines.Cost 0)) refl none closed)
-
-from_two : (b : Built) → b.front ≡ 2 → b.states ≡ [] → b.current ≡ None → Completes b
-from_two b at none closed = first_line b (lines.Frames 0) (step_taken b (lines.Frames 0) refl refl (rw at refl)) (omega arith) (tt, (omega arith, tt)) (from_three (with_line b (lines.Frames 0)) refl none closed)
-
-from_one : (b : Built) → b.front ≡ 1 → b.states ≡ [] → b.current ≡ None → Completes b
-from_one b at none closed = first_line b (lines.Stack 0) (step_taken b (lines.Stack 0) refl refl (rw at refl)) (omega arith) (tt, (omega arith, tt)) (from_two (with_line b (lines.Stack 0)) refl none closed)
-
-from_zero : (b : Built) → b.front ≡ 0 → b.states ≡ [] → b.current ≡ None → Completes b
-from_zero b at none closed = first_line b (lines.Version One) (step_taken b (lines.Version One) refl refl (rw at refl)) tt (tt, (tt, tt)) (from_one (with_line b (lines.Version One)) refl none closed)
-
-from_front : (n : ℕ) (b : Built) → b.front ≡ n → n ≤ 7 → b.states ≡ [] → b.current ≡ None → Completes b
-from_front zero b at most none closed = from_zero b at none closed
-from_front (suc zero) b at most none closed = from_one b at none closed
-from_front (suc (suc zero)) b at most none closed = from_two b at none closed
-from_front (suc (suc (suc zero))) b at most none closed = from_three b at none closed
-from_front (suc (suc (suc (suc zero)))) b at most none closed = from_four b at none closed
-from_front (suc (suc (suc (suc (suc zero))))) b at most none closed = from_five b at none closed
-from_front (suc (suc (suc (suc (suc (suc zero)))))) b at most none closed = from_six b at none closed
-from_front (suc (suc (suc (suc (suc (suc (suc zero))))))) b at most none closed = from_seven b at none closed
-from_front (suc (suc (suc (suc (suc (suc (suc (suc n)))))))) b at most none closed = absurd (omega (arith, most))
+-- This many lines before the tables are missing, and come one after the other.
+from_front : (left n : ℕ) (b : Built) → left + n ≡ 7 → b.front ≡ n → b.states ≡ [] → b.current ≡ None → Completes b
+from_front zero n b all at none closed = from_seven b (omega (arith, at, all)) none closed
+from_front (suc left) zero b all at none closed =
+    let l = lines.Version One in
+    first_line b l (step_taken b l refl refl (rw at refl)) tt (tt, (tt, tt)) (from_front left 1 (with_line b l) (omega (arith, all)) refl none closed)
+from_front (suc left) (suc zero) b all at none closed =
+    let l = lines.Stack 0 in
+    first_line b l (step_taken b l refl refl (rw at refl)) (omega arith) (tt, (omega arith, tt)) (from_front left 2 (with_line b l) (omega (arith, all)) refl none closed)
+from_front (suc left) (suc (suc zero)) b all at none closed =
+    let l = lines.Frames 0 in
+    first_line b l (step_taken b l refl refl (rw at refl)) (omega arith) (tt, (omega arith, tt)) (from_front left 3 (with_line b l) (omega (arith, all)) refl none closed)
+from_front (suc left) (suc (suc (suc zero))) b all at none closed =
+    let l = lines.Cost 0 in
+    first_line b l (step_taken b l refl refl (rw at refl)) (omega arith) (tt, (omega arith, tt)) (from_front left 4 (with_line b l) (omega (arith, all)) refl none closed)
+from_front (suc left) (suc (suc (suc (suc zero)))) b all at none closed =
+    let l = lines.Commands 0 in
+    first_line b l (step_taken b l refl refl (rw at refl)) (omega arith) (tt, (omega arith, tt)) (from_front left 5 (with_line b l) (omega (arith, all)) refl none closed)
+from_front (suc left) (suc (suc (suc (suc (suc zero))))) b all at none closed =
+    let l = lines.Start (record { 0 = 0 }) in
+    first_line b l (step_taken b l refl refl (rw at refl)) (omega arith) (tt, (omega arith, tt)) (from_front left 6 (with_line b l) (omega (arith, all)) refl none closed)
+from_front (suc left) (suc (suc (suc (suc (suc (suc zero)))))) b all at none closed =
+    let l = lines.Always no_tests in
+    first_line b l (step_taken b l refl refl (rw at refl)) no_tests_small (tt, (tt, (omega arith, (tt, (omega arith, (tt, (tt, tt))))))) (from_front left 7 (with_line b l) (omega (arith, all)) refl none closed)
+from_front (suc left) (suc (suc (suc (suc (suc (suc (suc n))))))) b all at none closed = absurd (omega (arith, all))
 
 from_states : (s : List StateSpec) (b : Built) → b.states ≡ s → Sound b → Completes b
-from_states [] b none sound = from_front b.front b refl sound.front none (sound.current none)
+from_states [] b none sound = from_front (7 - b.front) b.front b (omega (arith, sound.front)) refl none (sound.current none)
 from_states (x ∷ xs) b some sound = record { others = []; after = b; fit = tt; written = tt; built = refl; some = rw some (omega arith) }
 
 -- ---- lines that go on
 
--- What was said, after further lines.
+-- What lines say after further lines.
 record MoreSaid (b c : Built) (ls : List Line) : Type 0 where
   sound : Sound c
   lines : lines_said c ≡ lines_said b ++ ls
@@ -123,7 +117,7 @@ more_said b c (l ∷ ls) s h =
     let all = more_said next c ls one.sound rest in
     record { sound = all.sound; lines = all.lines ∙ ap (λ (k : List Line). k ++ ls) one.lines ∙ append_assoc (lines_said b) (l ∷ []) ls })
 
--- Lines go on from what they built.
+-- Lines go on from what they build.
 pub record GoesOn (done : List (List ℕ)) (b : Built) : Type 0 where
   pub go_on : LinesGoOn done
   pub said_is : lines_said b ≡ go_on.said

@@ -1,9 +1,10 @@
--- Bytes that are cut at the first byte that passes a test, and the rest at the others.
-use Rattle.std.proofs.Common.{◌≡◌, ℕ, suc, ◌+◌, ◌-◌, ◌<◌, ◌≤◌, Bool, true, false, cond, List, [], ◌∷◌}
+-- Bytes that are split at the first byte that passes a test, and then at the others.
+use Rattle.std.proofs.Common.{◌≡◌, ℕ, ◌+◌, ◌-◌, ◌<◌, ◌≤◌, Bool, true, false, cond, List, [], ◌∷◌}
 use Rattle.std.proofs.Common.{◌++◌, length, map, take, drop, Option, Some, None, refl, sym, ap, ◌∙◌, arith}
-use Rattle.std.specs.Prelude.{◌==◌, ◌||◌, not, nat_lt, filter, MatchOption}
+use Rattle.std.specs.Prelude.{◌||◌, not, nat_lt, MatchOption}
 use Rattle.std.specs.List.{slice_split, onto_first, prefix_len, position, position_or_len, list_any}
 use Rattle.std.specs.Str.{bytes_eq}
+use Rattle.std.proofs.lemmas.Bool.{not-true}
 use Rattle.std.proofs.lemmas.Bool.Decides.{nat_tests}
 use Rattle.std.proofs.lemmas.List.{take_rest}
 use Rattle.std.proofs.lemmas.List.Sums.{prefix_len-le-length}
@@ -12,9 +13,8 @@ use Rattle.ifs_base.specs.Words.{hex_digit, IsNoDigit}
 use Rattle.ifs_image.specs.declared.parts.StateSpec.{StateSpec}
 use Rattle.ifs_image.specs.Limits.{names_of}
 use Rattle.ifs_image.specs.Reading.{stands_in}
-use Rattle.ifs_asm.specs.Spellings.{is_silent, spoken}
 use Rattle.ifs_asm.specs.inner.Words.{hex_value}
-use Rattle.ifs_asm.specs.inner.Building.{spoken_line}
+use Rattle.ifs_asm.proofs.Bytes.{by_prefix}
 use Rattle.ifs_asm.proofs.Quotes.{digit_value_is, value_digit}
 
 place_some : (n m i : ℕ) → cond (nat_lt n m) (Some n) None ≡ Some i → (n ≡ i) × (n < m)
@@ -29,14 +29,9 @@ cut_some p xs i e =
     slice_split_first p xs 0 s.1 ∙ ap (λ (n : ℕ). take n xs ∷ slice_split p (drop (n + 1) xs)) s.0
     ∙ ap (λ (rest : List ℕ). take i xs ∷ slice_split p rest) (sym (take_rest xs (i + 1)))
 
-none_case : (p : ℕ → Bool) (x : ℕ) (xs : List ℕ) (b : Bool) → p x ≡ b → (length xs ≤ prefix_len (λ y. not (p y)) xs → slice_split p xs ≡ xs ∷ [])
-    → suc (length xs) ≤ cond (not b) (1 + prefix_len (λ y. not (p y)) xs) 0 → cond b ([] ∷ slice_split p xs) (onto_first x (slice_split p xs)) ≡ (x ∷ xs) ∷ []
-none_case p x xs true e ih h = absurd (omega (arith, h))
-none_case p x xs false e ih h = ap (onto_first x) (ih (omega (arith, h)))
-
 none_split : (p : ℕ → Bool) (xs : List ℕ) → length xs ≤ prefix_len (λ y. not (p y)) xs → slice_split p xs ≡ xs ∷ []
-none_split p [] h = refl
-none_split p (x ∷ xs) h = none_case p x xs (p x) refl (none_split p xs) h
+none_split p xs = by_prefix (λ y. not (p y)) (λ n ys. length ys ≤ n → slice_split p ys ≡ ys ∷ []) (λ h. refl) (λ b bs e h. absurd (omega (arith, h)))
+    (λ b n bs e ih h. rw (not-true (p b) e) (ap (onto_first b) (ih (omega (arith, h))))) xs
 
 pub cut_none : (p : ℕ → Bool) (xs : List ℕ) → position p xs ≡ None → slice_split p xs ≡ xs ∷ []
 cut_none p xs e =

@@ -1,4 +1,4 @@
--- The words of a line are cut as it has them.
+-- A line is split into the words that it has.
 use Rattle.std.proofs.Common.{◌≡◌, ℕ, zero, suc, ◌+◌, ◌-◌, ◌<◌, Bool, true, false, cond, List, [], ◌∷◌}
 use Rattle.std.proofs.Common.{◌++◌, length, map, take, drop, refl, sym, ap, subst, ◌∙◌, arith, append_assoc}
 use Rattle.std.specs.Prelude.{◌==◌, ◌&&◌, not}
@@ -9,8 +9,9 @@ use Rattle.ifs_asm.specs.Texts.{Word}
 use Rattle.ifs_asm.specs.Spellings.{is_space_or_tab, IsSpelling, EndsWord, HaveWords}
 use Rattle.ifs_asm.specs.inner.Words.{Mode, Bare, Inside, Escaped, mode_after, ends_at, word_len}
 use Rattle.ifs_asm.specs.inner.Words.{after_blanks, word_of, after_word, first_then, words_up_to}
+use Rattle.ifs_asm.proofs.Bytes.{by_prefix}
 
--- A word is spelled by bytes.
+-- Bytes spell a word.
 abbrev pub Spelled : List ℕ → Word → Type 0
 Spelled bytes word = IsSpelling word bytes
 
@@ -39,7 +40,7 @@ word_len_is mode (b ∷ bs) rest r ends =
     let more = word_len_is (mode_after mode b) bs rest parts.1 ends in
     rw on (omega (arith, more))
 
--- Behind a word stands nothing, or a blank.
+-- After a word comes nothing or a blank.
 ends_case : (mode : Mode) (b : ℕ) (bs : List ℕ) (t : Bool) → ends_at mode b ≡ t → EndsWord (drop (word_len (mode_after mode b) bs) bs) → EndsWord (drop (cond t 0 (1 + word_len (mode_after mode b) bs)) (b ∷ bs))
 ends_case Bare b bs true e ih = e
 ends_case Inside b bs true e ih = absurd cc
@@ -75,15 +76,8 @@ pub after_gap : (gap rest : List ℕ) → AreBlank gap → IsTight rest → afte
 after_gap [] rest blank e = tight rest e
 after_gap (b ∷ gap) rest blank e = after_blank b (gap ++ rest) blank.0 ∙ after_gap gap rest blank.1 e
 
-gap_case : (b : ℕ) (bs : List ℕ) (t : Bool) → is_space_or_tab b ≡ t → AreBlank (take (prefix_len is_space_or_tab bs) bs) → AreBlank (take (cond t (1 + prefix_len is_space_or_tab bs) 0) (b ∷ bs))
-gap_case b bs true e ih =
-    let k : 1 + prefix_len is_space_or_tab bs ≡ suc (prefix_len is_space_or_tab bs) = omega arith in
-    subst (λ (n : ℕ). AreBlank (take n (b ∷ bs))) (sym k) (e, ih)
-gap_case b bs false e ih = tt
-
 gap_is : (bytes : List ℕ) → AreBlank (take (prefix_len is_space_or_tab bytes) bytes)
-gap_is [] = tt
-gap_is (b ∷ bs) = gap_case b bs (is_space_or_tab b) refl (gap_is bs)
+gap_is bytes = by_prefix is_space_or_tab (λ n bs. AreBlank (take n bs)) tt (λ b bs e. tt) (λ b n bs e ih. (e, ih)) bytes
 
 -- ---- what is cut has these words
 
@@ -110,7 +104,7 @@ cut_found (suc n) words bytes lt z =
 
 -- ---- what has these words is cut so
 
--- Bytes that are one word, with at least one.
+-- Bytes are one word, which is not empty.
 pub record IsOneWord (bytes : List ℕ) : Type 0 where
   pub runs_on : runs Bare bytes ≡ true
   pub some : 0 < length bytes
@@ -146,7 +140,7 @@ first_cut : (others : List ℕ → List (List ℕ)) (rest : List ℕ) → (rest 
 first_cut others [] some = absurd (some refl)
 first_cut others (b ∷ bs) some = refl
 
--- One word more of those that are cut.
+-- One more word is split off.
 pub one_more_word : {X : Type 0} (view : X → List ℕ) (n : ℕ) (items items' : List X) (x : X) (left rest others : List ℕ) (total : List (List ℕ)) → n < 9 → rest ≡ after_blanks left → (rest ≡ [] → ⊥) → view x ≡ word_of rest → others ≡ after_word rest
     → items' ≡ items ++ x ∷ [] → map view items ++ words_up_to (9 - n) left ≡ total → map view items' ++ words_up_to (9 - (n + 1)) others ≡ total
 one_more_word {X = X} view n items items' x left rest others total lt at some word back pushed so_far =

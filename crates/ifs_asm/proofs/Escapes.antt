@@ -1,4 +1,4 @@
--- Escapes in quotes, and what stands where there is none.
+-- Escapes in quotes, and what follows if there is none.
 use Rattle.std.proofs.Common.{◌≡◌, ℕ, ◌+◌, ◌<◌, Bool, true, false, cond, List}
 use Rattle.std.proofs.Common.{[], ◌∷◌, length, Option, Some, None, refl, arith}
 use Rattle.std.specs.Prelude.{◌==◌}

@@ -1,5 +1,5 @@
--- What a search for a byte finds, and what stands before it.
-use Rattle.std.proofs.Common.{◌≡◌, ℕ, suc, ◌+◌, ◌-◌, ◌<◌, Bool, true, false, cond, List}
+-- What a search for a byte finds, and the bytes before it.
+use Rattle.std.proofs.Common.{◌≡◌, ℕ, suc, ◌+◌, ◌-◌, ◌<◌, Bool, true, false, List}
 use Rattle.std.proofs.Common.{[], ◌∷◌, ◌++◌, length, length-drop, take, drop, Option}
 use Rattle.std.proofs.Common.{Some, None, refl, sym, ap, subst, ◌∙◌, arith, append_assoc}
 use Rattle.std.specs.Prelude.{◌==◌, not, nat_lt}
@@ -12,6 +12,7 @@ use Rattle.std.proofs.lemmas.List.Sums.{prefix_len_is, prefix_len-le-length}
 use Rattle.memchr.specs.Find.{IsFirstByte}
 use Rattle.ifs_asm.specs.Spellings.{is_plain}
 use Rattle.ifs_asm.specs.inner.Words.{Within, Inside, mode_after, word_len, goes_on, onto, text_from}
+use Rattle.ifs_asm.proofs.Bytes.{by_prefix}
 use Rattle.ifs_asm.proofs.Quotes.{read_plain}
 
 -- ---- searches
@@ -28,7 +29,7 @@ found_len test bs k h =
     let first = h.0 in
     (first.high, prefix_len_is (others test) bs k 0 (omega (arith, first.high)) (λ i lt. not_from_false _ (false_from_ne_true _ (first.before i (omega arith) lt))) (λ lt. not_from_true _ h.1))
 
--- What is found is the first place.
+-- A search finds the first place.
 pub found_place : (test : ℕ → Bool) (bs : List ℕ) (r : Option ℕ) → IsFirstByte test bs r → r ≡ position test bs
 found_place test bs None h =
     let n = nowhere_len test bs h in
@@ -39,7 +40,7 @@ found_place test bs (Some k) h =
     let below : nat_lt (prefix_len (others test) bs) (length bs) ≡ true = grind (arith, nat_tests) in
     rw below (ap Some (sym f.1))
 
--- So many bytes stand before it.
+-- The number of bytes before it.
 pub found_before : (test : ℕ → Bool) (bs : List ℕ) (r : Option ℕ) → IsFirstByte test bs r → unwrap_or r (length bs) ≡ prefix_len (others test) bs
 found_before test bs None h = sym (nowhere_len test bs h)
 found_before test bs (Some k) h = sym (found_len test bs k h).1
@@ -49,19 +50,14 @@ found_before test bs (Some k) h = sym (found_len test bs k h).1
 goes_parts : (b : ℕ) → goes_on b ≡ true → ((b == 34) ≡ false) × ((b == 92) ≡ false)
 goes_parts b e = (grind (arith, nat_tests), grind (arith, nat_tests))
 
-skip_case : (b n : ℕ) (bs : List ℕ) (t : Bool) → goes_on b ≡ t → word_len Inside bs ≡ n + word_len Inside (drop n bs)
-    → 1 + word_len (mode_after Inside b) bs ≡ cond t (1 + n) 0 + word_len Inside (drop (cond t (1 + n) 0) (b ∷ bs))
-skip_case b n bs true e ih =
+-- Inside quotes a word goes on after a run as it did before it.
+skips : (bs : List ℕ) → word_len Inside bs ≡ prefix_len goes_on bs + word_len Inside (drop (prefix_len goes_on bs) bs)
+skips bs = by_prefix goes_on (λ n xs. word_len Inside xs ≡ n + word_len Inside (drop n xs)) (omega arith) (λ b xs e. omega arith)
+    (λ b n xs e ih.
     let p = goes_parts b e in
-    let k : 1 + n ≡ suc n = omega arith in
-    let one_more : 1 + word_len Inside bs ≡ suc n + word_len Inside (drop n bs) = omega (arith, ih) in
-    subst (λ (m : ℕ). 1 + word_len (mode_after Inside b) bs ≡ m + word_len Inside (drop m (b ∷ bs))) (sym k) (rw (p.0, p.1) one_more)
-skip_case b n bs false e ih = omega arith
-
--- Inside quotes a word goes on behind a run as it did before it.
-pub skips : (bs : List ℕ) → word_len Inside bs ≡ prefix_len goes_on bs + word_len Inside (drop (prefix_len goes_on bs) bs)
-skips [] = omega arith
-skips (b ∷ bs) = skip_case b (prefix_len goes_on bs) bs (goes_on b) refl (skips bs)
+    let one_more : 1 + word_len Inside xs ≡ suc n + word_len Inside (drop n xs) = omega (arith, ih) in
+    let whole : 1 + word_len (mode_after Inside b) xs ≡ suc n + word_len Inside (drop n xs) = rw (p.0, p.1) one_more in
+    whole) bs
 
 -- ---- texts
 
@@ -80,19 +76,11 @@ before_both : (first second : List ℕ) (o : Option (List ℕ)) → before (firs
 before_both first second None = refl
 before_both first second (Some text) = ap Some (append_assoc first second text)
 
-run_case : (b n : ℕ) (bs : List ℕ) (t : Bool) → is_plain b ≡ t → text_from bs Within ≡ before (take n bs) (text_from (drop n bs) Within)
-    → text_from (b ∷ bs) Within ≡ before (take (cond t (1 + n) 0) (b ∷ bs)) (text_from (drop (cond t (1 + n) 0) (b ∷ bs)) Within)
-run_case b n bs true e ih =
-    let k : 1 + n ≡ suc n = omega arith in
-    subst (λ (m : ℕ). text_from (b ∷ bs) Within ≡ before (take m (b ∷ bs)) (text_from (drop m (b ∷ bs)) Within)) (sym k)
-    (read_plain b bs e ∙ ap (onto b) ih ∙ before_onto b (take n bs) (text_from (drop n bs) Within))
-run_case b n bs false e ih = before_none (text_from (b ∷ bs) Within)
-
 run_text : (bs : List ℕ) → text_from bs Within ≡ before (take (prefix_len is_plain bs) bs) (text_from (drop (prefix_len is_plain bs) bs) Within)
-run_text [] = refl
-run_text (b ∷ bs) = run_case b (prefix_len is_plain bs) bs (is_plain b) refl (run_text bs)
+run_text bs = by_prefix is_plain (λ n xs. text_from xs Within ≡ before (take n xs) (text_from (drop n xs) Within)) refl (λ b xs e. before_none (text_from (b ∷ xs) Within))
+    (λ b n xs e ih. read_plain b xs e ∙ ap (onto b) ih ∙ before_onto b (take n xs) (text_from (drop n xs) Within)) bs
 
--- A run of plain bytes is taken as it stands.
+-- A run of plain bytes is taken unchanged.
 pub takes : (bs front front' rest run : List ℕ) (n : ℕ) → n ≡ prefix_len is_plain bs → run ≡ take n bs → rest ≡ drop n bs → front' ≡ front ++ run
     → option_map (λ text. front' ++ text) (text_from rest Within) ≡ option_map (λ text. front ++ text) (text_from bs Within)
 takes bs front front' rest run n len is others pushed =
@@ -102,7 +90,7 @@ takes bs front front' rest run n len is others pushed =
     ∙ ap (λ (r : List ℕ). before front (before r (text_from rest Within))) is ∙ ap (λ (r : List ℕ). before front (before (take n bs) (text_from r Within))) others
     ∙ ap (before front) (sym split)
 
--- Behind a run inside quotes as many bytes of the word are left as before it, but for the run.
+-- After a run inside quotes, the bytes of the word that are left are fewer by that run.
 pub skipped : (bytes rest : List ℕ) (n : ℕ) → n ≡ prefix_len goes_on bytes → rest ≡ take (length bytes - n) (drop n bytes)
     → length bytes + word_len Inside rest ≡ length rest + word_len Inside bytes
 skipped bytes rest n len back =
@@ -113,16 +101,9 @@ skipped bytes rest n len back =
 
 -- ---- what stands behind a run
 
-behind_case : (test : ℕ → Bool) (b n : ℕ) (bs : List ℕ) (t : Bool) → test b ≡ t → prefix_len test (drop n bs) ≡ 0 → prefix_len test (drop (cond t (1 + n) 0) (b ∷ bs)) ≡ 0
-behind_case test b n bs true e ih =
-    let k : 1 + n ≡ suc n = omega arith in
-    subst (λ (m : ℕ). prefix_len test (drop m (b ∷ bs)) ≡ 0) (sym k) ih
-behind_case test b n bs false e ih = rw e refl
-
 behind_run : (test : ℕ → Bool) (bs : List ℕ) → prefix_len test (drop (prefix_len test bs) bs) ≡ 0
-behind_run test [] = refl
-behind_run test (b ∷ bs) = behind_case test b (prefix_len test bs) bs (test b) refl (behind_run test bs)
+behind_run test bs = by_prefix test (λ n xs. prefix_len test (drop n xs) ≡ 0) refl (λ b xs e. rw e refl) (λ b n xs e ih. ih) bs
 
--- A run goes on no further behind its end.
+-- A run does not go on after its end.
 pub run_ends : (test : ℕ → Bool) (bytes rest : List ℕ) (n : ℕ) → n ≡ prefix_len test bytes → rest ≡ drop n bytes → prefix_len test rest ≡ 0
 run_ends test bytes rest n len back = ap (prefix_len test) (back ∙ ap (λ (m : ℕ). drop m bytes) len) ∙ behind_run test bytes

@@ -3,7 +3,7 @@ use Rattle.std.proofs.Common.{◌≡◌, ◌≢◌, ℕ, ◌<◌, ◌≤◌, ◌
 use Rattle.std.proofs.Common.{Some, None, refl, sym, ap, subst, ◌∙◌, arith}
 use Rattle.std.specs.Prelude.{◌⊎◌, option_and_then, All, IsUtf8, Result, Ok, Err, IfOk, IfErr}
 use Rattle.std.specs.List.{flat_map, AllByRecursion, AllZip}
-use Rattle.std.proofs.lemmas.Option.{same_Some, none-some}
+use Rattle.std.proofs.lemmas.Option.{same_Some}
 use Rattle.std.proofs.lemmas.List.Elements.{All-from_recursion, recursion_from_All}
 use Rattle.ifs_base.specs.Sizes.{TextFits}
 use Rattle.ifs_base.specs.Spelling.{HasSpelling}
@@ -195,7 +195,7 @@ routine_range : (v : Version) (r : Routine) → FitsVersion v r → AllByRecursi
 routine_range One r fits a = record { params = none_few r.params.items fits.params; results = truths_few r.results.items fits.results; code = All-from_recursion HasSpelling r.code (each_unmap LineFits lines.Instruction r.code a.1) }
 routine_range Two r fits a = record { params = a.0.0; results = a.0.1; code = All-from_recursion HasSpelling r.code (each_unmap LineFits lines.Instruction r.code a.1) }
 
--- The lines of an image that fit, by what they say.
+-- The lines of an image fit, table by table.
 pub record Parted (p : ImageParts) : Type 0 where
   pub front : AllByRecursion LineFits (front_lines p)
   pub interfaces : AllByRecursion TextGood p.interfaces
@@ -265,7 +265,7 @@ read_again text p s =
     let b = image_built p s.fits in
     record { after = b.after; built = built_same (spoken text) (lines_of p) nothing s.says (lines_fit p s.fits s.in_range) ∙ b.built; parts = b.parts }
 
--- What is built of a text, and fits, is spelled by it.
+-- A text spells what it builds, if that fits.
 pub read_found : (text : List ℕ) (b : Built) → built_by nothing (spoken text) ≡ Some b → Fits (parts_said b) → TextSpells text (parts_said b)
 read_found text b h f =
     let s = image_said b (spoken text) h f.counts.some_state in
@@ -291,7 +291,7 @@ canonical_spells p f r =
     let w = lines_written p f r in
     record { fits = f; in_range = r; says = subst (λ (t : List (List ℕ)). AllZip SaysLine t (lines_of p)) (sym (spoken_lines (lines_of p) w)) (lines_say (lines_of p) w) }
 
--- What is read of a text that spells an image is that image, or there is no memory.
+-- Reading a text that spells an image gives that image, or an allocation fails.
 pub same_again : (r : Result ImageParts AsmFault) (text : List ℕ) (p : ImageParts) → TextSpells text p → IfOk r (λ image. TextSpells text image) → IfOk r (λ again. again ≡ p)
 same_again (Ok q) text p s h = one_image text q p h s
 same_again (Err fault) text p s h = tt

@@ -1,10 +1,10 @@
--- Lists of kinds: what is read of one is the kinds that it lists.
-use Rattle.std.proofs.Common.{◌≡◌, ℕ, ◌+◌, ◌<◌, ◌≤◌, Bool, true, false, cond, List, [], ◌∷◌, ◌++◌, length, map}
-use Rattle.std.proofs.Common.{Option, Some, None, refl, sym, ap, subst, ◌∙◌, arith, codes, append_assoc, length-append, inl, inr}
-use Rattle.std.specs.Prelude.{◌==◌, ◌⊎◌, nat_lt, option_and_then}
+-- Lists of kinds: reading one gives the kinds that it lists.
+use Rattle.std.proofs.Common.{◌≡◌, ℕ, ◌+◌, ◌<◌, ◌≤◌, true, false, List, [], ◌∷◌, ◌++◌, length, map}
+use Rattle.std.proofs.Common.{Option, Some, None, refl, sym, ap, subst, ◌∙◌, arith, codes, append_assoc, length-append}
+use Rattle.std.specs.Prelude.{◌==◌, nat_lt, option_and_then}
 use Rattle.std.specs.List.{flat_map, slice_split, AllByRecursion}
 use Rattle.std.specs.Str.{bytes_eq}
-use Rattle.std.proofs.lemmas.Bool.{cond_both, cond-false, ltb-true, lt-ltb}
+use Rattle.std.proofs.lemmas.Bool.{cond_both, cond-false, ltb-true, lt-ltb, ne_eqb, or_from}
 use Rattle.std.proofs.lemmas.List.{append-nil}
 use Rattle.std.proofs.lemmas.List.Elements.{All-from_recursion}
 use Rattle.std.proofs.lemmas.List.Splits.{slice_split_none, slice_split_at}
@@ -14,36 +14,21 @@ use Rattle.ifs_base.specs.declared.op.Kind.{Kind}
 use Rattle.ifs_base.specs.declared.op.Kind.TheVariants.{Truth, Command, StateName}
 use Rattle.ifs_asm.specs.Texts.{kind_word, kinds_word}
 use Rattle.ifs_asm.specs.inner.Words.{Bare, kind_in, with_kind, kinds_from, kinds_in}
-use Rattle.ifs_asm.proofs.Bytes.{each_append, same_word}
+use Rattle.ifs_asm.proofs.Bytes.{each_weaker, each_listed, same_word}
 use Rattle.ifs_asm.proofs.MaskLists.{IsSolid, joined, runs_solid}
 use Rattle.ifs_asm.proofs.Cutting.{runs}
 
 -- ---- one kind
 
-one_kind : (kind other : Kind) → Some kind ≡ Some other → kind ≡ other
-one_kind kind other e = cc
-
-picked : (b : Bool) (first : Kind) (others : Option Kind) (kind : Kind) → cond b (Some first) others ≡ Some kind → ((b ≡ true) × (first ≡ kind)) ⊎ (others ≡ Some kind)
-picked true first others kind e = inl (refl, one_kind first kind e)
-picked false first others kind e = inr e
-
-no_kind : (kind : Kind) → None ≡ Some kind → ⊥
-no_kind kind e = absurd cc
+-- A fact on the kind that a word names, by cases.
+kind_cases : (word : List ℕ) (H : Option Kind → Type 0) → H None → ((kind : Kind) → word ≡ kind_word kind → H (Some kind)) → H (kind_in word)
+kind_cases word H none some =
+    cond_both (bytes_eq word (codes "truth")) _ _ H (λ e. some Truth (same_word word (codes "truth") e)) (λ _.
+    cond_both (bytes_eq word (codes "command")) _ _ H (λ e. some Command (same_word word (codes "command") e)) (λ _.
+    cond_both (bytes_eq word (codes "state")) _ _ H (λ e. some StateName (same_word word (codes "state") e)) (λ _. none)))
 
 kind_found : (word : List ℕ) (kind : Kind) → kind_in word ≡ Some kind → word ≡ kind_word kind
-kind_found word kind e =
-    let third : Option Kind = cond (bytes_eq word (codes "state")) (Some StateName) None in
-    let second : Option Kind = cond (bytes_eq word (codes "command")) (Some Command) third in
-    elim (picked (bytes_eq word (codes "truth")) Truth second kind e) [
-      | inl is ↦ same_word word (codes "truth") is.0 ∙ ap kind_word is.1
-      | inr more ↦ elim (picked (bytes_eq word (codes "command")) Command third kind more) [
-        | inl is ↦ same_word word (codes "command") is.0 ∙ ap kind_word is.1
-        | inr last ↦ elim (picked (bytes_eq word (codes "state")) StateName None kind last) [
-          | inl is ↦ same_word word (codes "state") is.0 ∙ ap kind_word is.1
-          | inr none ↦ absurd (no_kind kind none)
-        ]
-      ]
-    ]
+kind_found word kind = kind_cases word (λ o. o ≡ Some kind → word ≡ kind_word kind) (λ h. absurd cc) (λ other is h. is ∙ ap kind_word (same_Some other kind h))
 
 kind_again : (kind : Kind) → kind_in (kind_word kind) ≡ Some kind
 kind_again Truth = refl
@@ -57,7 +42,7 @@ kind_some kinds more kind h =
     let c = cond_some (nat_lt (length kinds) 4) (kinds ++ kind ∷ []) more h in
     (ltb-true _ _ c.0, c.1)
 
--- The kinds of parts that were read after some.
+-- The kinds that were read from parts, after some kinds.
 record Found (before : List Kind) (parts : List (List ℕ)) (all : List Kind) : Type 0 where
   more : List Kind
   words : map kind_word more ≡ parts
@@ -99,10 +84,30 @@ again_from (kind ∷ kinds) before few =
     let one : kinds_from before (kind_word kind ∷ map kind_word kinds) ≡ kinds_from (before ++ kind ∷ []) (map kind_word kinds) = rw (kind_again kind, room) refl in
     one ∙ again_from kinds (before ++ kind ∷ []) (omega (arith, few, length-append before (kind ∷ []))) ∙ ap Some (append_assoc before (kind ∷ []) kinds)
 
+-- Each byte of the word of a kind is above 96.
+abbrev IsHigh : ℕ → Type 0
+IsHigh byte = nat_lt 96 byte ≡ true
+
+high : (kind : Kind) → AllByRecursion IsHigh (kind_word kind)
+high Truth = (refl, (refl, (refl, (refl, (refl, tt)))))
+high Command = (refl, (refl, (refl, (refl, (refl, (refl, (refl, tt)))))))
+high StateName = (refl, (refl, (refl, (refl, (refl, tt)))))
+
+high_is_not : (b c : ℕ) → IsHigh b → c ≤ 96 → (b == c) ≡ false
+high_is_not b c e le =
+    let above : 96 < b = ltb-true 96 b e in
+    ne_eqb b c (λ same. omega (arith, above))
+
 no_comma : (kind : Kind) → AllByRecursion (λ byte. (byte == 44) ≡ false) (kind_word kind)
-no_comma Truth = (refl, (refl, (refl, (refl, (refl, tt)))))
-no_comma Command = (refl, (refl, (refl, (refl, (refl, (refl, (refl, tt)))))))
-no_comma StateName = (refl, (refl, (refl, (refl, (refl, tt)))))
+no_comma kind = each_weaker IsHigh (λ byte. (byte == 44) ≡ false) (λ b h. high_is_not b 44 h (omega arith)) (kind_word kind) (high kind)
+
+-- Each byte of a list of kinds is above 96, a comma or a dash.
+words_each : (P : ℕ → Type 0) (kinds : List Kind) → ((b : ℕ) → IsHigh b → P b) → AllByRecursion (AllByRecursion P) (map kind_word kinds)
+words_each P [] letter = tt
+words_each P (kind ∷ kinds) letter = (each_weaker IsHigh P letter (kind_word kind) (high kind), words_each P kinds letter)
+
+kinds_each : (P : ℕ → Type 0) (kinds : List Kind) → ((b : ℕ) → IsHigh b → P b) → P 44 → P 45 → AllByRecursion P (kinds_word kinds)
+kinds_each P kinds letter comma dash = each_listed P (map kind_word kinds) comma dash (words_each P kinds letter)
 
 cut_kinds : (kind : Kind) (kinds : List Kind) → slice_split (λ byte. byte == 44) (kinds_word (kind ∷ kinds)) ≡ map kind_word (kind ∷ kinds)
 cut_kinds kind [] =
@@ -127,21 +132,11 @@ kinds_again (kind ∷ kinds) few =
 
 -- ---- a list is one word without blanks and quotes
 
-solid_word : (kind : Kind) → AllByRecursion IsSolid (kind_word kind)
-solid_word Truth = ((refl, refl), ((refl, refl), ((refl, refl), ((refl, refl), ((refl, refl), tt)))))
-solid_word Command = ((refl, refl), ((refl, refl), ((refl, refl), ((refl, refl), ((refl, refl), ((refl, refl), ((refl, refl), tt)))))))
-solid_word StateName = ((refl, refl), ((refl, refl), ((refl, refl), ((refl, refl), ((refl, refl), tt)))))
-
-solid_others : (kinds : List Kind) → AllByRecursion IsSolid (flat_map (λ other. codes "," ++ other) (map kind_word kinds))
-solid_others [] = tt
-solid_others (kind ∷ kinds) = ((refl, refl), each_append IsSolid (kind_word kind) (flat_map (λ other. codes "," ++ other) (map kind_word kinds)) (solid_word kind) (solid_others kinds))
-
-solid : (kinds : List Kind) → AllByRecursion IsSolid (kinds_word kinds)
-solid [] = ((refl, refl), tt)
-solid (kind ∷ kinds) = each_append IsSolid (kind_word kind) (flat_map (λ other. codes "," ++ other) (map kind_word kinds)) (solid_word kind) (solid_others kinds)
+high_solid : (b : ℕ) → IsHigh b → IsSolid b
+high_solid b h = (or_from (b == 32) (b == 9) (high_is_not b 32 h (omega arith)) (high_is_not b 9 h (omega arith)), high_is_not b 34 h (omega arith))
 
 pub kinds_run : (kinds : List Kind) → runs Bare (kinds_word kinds) ≡ true
-kinds_run kinds = runs_solid (kinds_word kinds) (solid kinds)
+kinds_run kinds = runs_solid (kinds_word kinds) (kinds_each IsSolid kinds high_solid (refl, refl) (refl, refl))
 
 pub kinds_some : (kinds : List Kind) → nat_lt 0 (length (kinds_word kinds)) ≡ true
 kinds_some [] = refl
@@ -150,18 +145,5 @@ kinds_some (Command ∷ kinds) = lt-ltb 0 (length (kinds_word (Command ∷ kinds
 kinds_some (StateName ∷ kinds) = lt-ltb 0 (length (kinds_word (StateName ∷ kinds))) (omega arith)
 
 -- No byte of a list is a newline.
-abbrev IsNoLine : ℕ → Type 0
-IsNoLine byte = (byte == 10) ≡ false
-
-word_in_line : (kind : Kind) → AllByRecursion IsNoLine (kind_word kind)
-word_in_line Truth = (refl, (refl, (refl, (refl, (refl, tt)))))
-word_in_line Command = (refl, (refl, (refl, (refl, (refl, (refl, (refl, tt)))))))
-word_in_line StateName = (refl, (refl, (refl, (refl, (refl, tt)))))
-
-others_in_line : (kinds : List Kind) → AllByRecursion IsNoLine (flat_map (λ other. codes "," ++ other) (map kind_word kinds))
-others_in_line [] = tt
-others_in_line (kind ∷ kinds) = (refl, each_append IsNoLine (kind_word kind) (flat_map (λ other. codes "," ++ other) (map kind_word kinds)) (word_in_line kind) (others_in_line kinds))
-
 pub kinds_in_line : (kinds : List Kind) → AllByRecursion (λ byte. (byte == 10) ≡ false) (kinds_word kinds)
-kinds_in_line [] = (refl, tt)
-kinds_in_line (kind ∷ kinds) = each_append IsNoLine (kind_word kind) (flat_map (λ other. codes "," ++ other) (map kind_word kinds)) (word_in_line kind) (others_in_line kinds)
+kinds_in_line kinds = kinds_each (λ byte. (byte == 10) ≡ false) kinds (λ b h. high_is_not b 10 h (omega arith)) refl refl

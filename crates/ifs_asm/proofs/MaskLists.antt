@@ -1,4 +1,4 @@
--- Lists of tests: what is read of one is the mask whose tests it lists.
+-- Lists of tests: reading one gives the mask whose tests it lists.
 use Rattle.std.proofs.Common.{◌≡◌, ℕ, zero, suc, ◌+◌, ◌-◌, ◌*◌, ◌%◌, ◌^◌, ◌<◌, ◌≤◌, Bool, true, false, cond}
 use Rattle.std.proofs.Common.{List, [], ◌∷◌, ◌++◌, length, map, Option, Some, refl, sym, ap, subst, ◌∙◌}
 use Rattle.std.proofs.Common.{arith, codes, decimal, append_assoc, pow-suc, mod-lt, length-append, inl, inr}
@@ -21,7 +21,7 @@ use Rattle.ifs_asm.specs.Texts.{tests_from, tests_of}
 use Rattle.ifs_asm.specs.Spellings.{is_space_or_tab, IsList}
 use Rattle.ifs_asm.specs.inner.Words.{Bare, with_test, masked, mask_in}
 use Rattle.ifs_asm.proofs.Bytes.{IsDigit, number_digits, number_nonempty, number_decimal}
-use Rattle.ifs_asm.proofs.Bytes.{digit_is_not, each_append, each_weaker, same_word}
+use Rattle.ifs_asm.proofs.Bytes.{digit_is_not, each_weaker, each_listed, same_word}
 use Rattle.ifs_asm.proofs.Cutting.{runs, IsOneWord}
 
 abbrev pub IsNumber : List ℕ → ℕ → Type 0
@@ -49,7 +49,7 @@ cond_case : (s : ℕ) (xs ys zs : List ℕ) (b : Bool) → xs ≡ ys ++ zs → c
 cond_case s xs ys zs true e = ap (λ (t : List ℕ). s ∷ t) e
 cond_case s xs ys zs false e = e
 
--- Nothing is listed of bits that are 0.
+-- Bits that are 0 list no test.
 none_from : (n t mask : ℕ) → ((i : ℕ) → t ≤ i → bit_at mask i ≡ 0) → tests_from n t mask ≡ []
 unfolding tests_from
 none_from zero t mask zeros = refl
@@ -57,7 +57,7 @@ none_from (suc n) t mask zeros =
     let none : (bit_at mask t == 1) ≡ false = rw (zeros t (omega arith)) refl in
     rw none (none_from n (t + 1) mask (λ i le. zeros i (omega arith)))
 
--- A mask with one test more lists it last.
+-- A mask with one more test lists that test last.
 more_from : (n s t mask : ℕ) → mask < 2 ^ t → t < s + n → s ≤ t → tests_from n s (2 ^ t + mask) ≡ tests_from n s mask ++ t ∷ []
 unfolding tests_from
 more_from zero s t mask lt inside le = absurd (omega arith)
@@ -89,7 +89,7 @@ test_some mask test more h =
     let p = and_parts (nat_lt test 64) (nat_lt mask (2 ^ test)) c.0 in
     (ltb-true _ _ p.0, ltb-true _ _ p.1, sym c.1)
 
--- The numbers of parts that were read after a mask.
+-- The numbers that were read from parts, after a mask.
 pub record Listed (mask : ℕ) (parts : List (List ℕ)) (all : ℕ) : Type 0 where
   pub numbers : List ℕ
   pub each : AllZip IsNumber parts numbers
@@ -112,12 +112,12 @@ listed_found (part ∷ parts) mask all h =
           ∙ append_assoc (tests_of mask) (test ∷ []) f.numbers;
     }))
 
--- Parts that were cut at commas, joined again.
+-- Parts that were split at commas, joined again.
 joined_first : (b : ℕ) (parts : List (List ℕ)) → 0 < length parts → listed (onto_first b parts) ≡ b ∷ listed parts
 joined_first b [] some = absurd (omega arith)
 joined_first b (part ∷ parts) some = refl
 
-split_some : (p : ℕ → Bool) (w : List ℕ) → 0 < length (slice_split p w)
+pub split_some : (p : ℕ → Bool) (w : List ℕ) → 0 < length (slice_split p w)
 split_some p w = omega (arith, length-slice_split p w)
 
 joined_empty : (parts : List (List ℕ)) → 0 < length parts → listed ([] ∷ parts) ≡ 44 ∷ listed parts
@@ -254,17 +254,21 @@ runs_solid (b ∷ bs) a = rw (a.0.0, a.0.1) (runs_solid bs a.1)
 pub number_single : (word : List ℕ) (n : ℕ) → IsNumber word n → IsOneWord word
 number_single word n h = record { runs_on = runs_solid word (each_weaker IsDigit IsSolid digit_solid word (number_digits word n h)); some = number_nonempty word n h }
 
-others_solid : (parts : List (List ℕ)) (ns : List ℕ) → AllZip IsNumber parts ns → AllByRecursion IsSolid (flat_map (λ other. codes "," ++ other) parts)
-others_solid [] ns z = tt
-others_solid (part ∷ parts) [] z = absurd z
-others_solid (part ∷ parts) (n ∷ ns) z = ((refl, refl), each_append IsSolid part (flat_map (λ other. codes "," ++ other) parts) (each_weaker IsDigit IsSolid digit_solid part (number_digits part n z.0)) (others_solid parts ns z.1))
+-- Each byte of a list of numbers is a digit, a comma or a dash.
+parts_each : (P : ℕ → Type 0) (parts : List (List ℕ)) (ns : List ℕ) → ((b : ℕ) → IsDigit b → P b) → AllZip IsNumber parts ns → AllByRecursion (AllByRecursion P) parts
+parts_each P [] ns digit z = tt
+parts_each P (part ∷ parts) [] digit z = absurd z
+parts_each P (part ∷ parts) (n ∷ ns) digit z = (each_weaker IsDigit P digit part (number_digits part n z.0), parts_each P parts ns digit z.1)
+
+pub list_each : (P : ℕ → Type 0) (parts : List (List ℕ)) (ns : List ℕ) → ((b : ℕ) → IsDigit b → P b) → P 44 → P 45 → AllZip IsNumber parts ns → AllByRecursion P (listed parts)
+list_each P parts ns digit comma dash z = each_listed P parts comma dash (parts_each P parts ns digit z)
 
 pub list_single : (word : List ℕ) (ns : List ℕ) (parts : List (List ℕ)) → AllZip IsNumber parts ns → word ≡ listed parts → IsOneWord word
 list_single word ns [] z whole = subst IsOneWord (sym whole) (record { runs_on = refl; some = omega arith })
 list_single word [] (part ∷ parts) z whole = absurd z
 list_single word (n ∷ ns) (part ∷ parts) z whole =
     let one = number_single part n z.0 in
-    let solid = each_append IsSolid part (flat_map (λ other. codes "," ++ other) parts) (each_weaker IsDigit IsSolid digit_solid part (number_digits part n z.0)) (others_solid parts ns z.1) in
+    let solid = list_each IsSolid (part ∷ parts) (n ∷ ns) digit_solid (refl, refl) (refl, refl) z in
     subst IsOneWord (sym whole) (record { runs_on = runs_solid (listed (part ∷ parts)) solid; some = omega (arith, one.some, length-append part (flat_map (λ other. codes "," ++ other) parts)) })
 
 -- ---- a list as it is written

@@ -1,4 +1,4 @@
--- Writing the tests of a mask, one after the other.
+-- Writes the tests of a mask one after the other.
 use Rattle.std.proofs.Common.{◌≡◌, ℕ, suc, ◌+◌, ◌-◌, ◌<◌, ◌≤◌, ◌==◌, Bool, true, false, List, []}
 use Rattle.std.proofs.Common.{◌++◌, refl, sym, ap, ◌∙◌, append_assoc, arith, decimal, map, codes}
 use Rattle.std.proofs.lemmas.List.{append-nil}

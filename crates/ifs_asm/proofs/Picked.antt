@@ -1,4 +1,4 @@
--- A line that the code finds new and finds room for repeats no name and passes no count.
+-- A line that the code accepts as new and as within the limits repeats no name and exceeds no limit.
 use Rattle.std.proofs.Common.{◌≡◌, ℕ, zero, suc, ◌+◌, ◌<◌, ◌≤◌, Bool, true, false, List, [], ◌∷◌, ◌++◌}
 use Rattle.std.proofs.Common.{length, map, take, Option, Some, None, refl, sym, ap, ◌∙◌, arith}
 use Rattle.std.proofs.Common.{length-append, inl, inr}
@@ -87,7 +87,7 @@ picked_routines {A} pick v head op (r ∷ rs) =
 picked_parts : {A : Type 0} (pick : Line → List A) (f i t c s r : List Line) → flat_map pick (f ++ i ++ t ++ c ++ s ++ r) ≡ flat_map pick f ++ flat_map pick i ++ flat_map pick t ++ flat_map pick c ++ flat_map pick s ++ flat_map pick r
 picked_parts pick f i t c s r = simp flat_map-append
 
--- What is picked of all that was said, table by table.
+-- What is picked from all lines, table by table.
 picked_said : {A : Type 0} (pick : Line → List A) (b : Built) (i t c s r : List A)
     → AllByRecursion (λ l. pick l ≡ []) (front_lines (parts_said b)) → flat_map pick (map lines.Interface b.interfaces) ≡ i → flat_map pick (map lines.Test b.tests) ≡ t → flat_map pick (map lines.Command b.commands) ≡ c
     → flat_map pick (map lines.State b.states) ≡ s → flat_map pick (flat_map (routine_lines b.version) (b.routines ++ listed_routine b.current)) ≡ r → flat_map pick (lines_said b) ≡ i ++ t ++ c ++ s ++ r
@@ -175,7 +175,7 @@ there : (name : List ℕ) (xs ys : List (List ℕ)) → stands_in name (xs ++ na
 there name [] ys = rw (same_itself name) refl
 there name (x ∷ xs) ys = there_case (bytes_eq x name) (stands_in name (xs ++ name ∷ ys)) (there name xs ys)
 
--- What is picked of a line that stands among others.
+-- What is picked from lines with a line among them.
 stands_picked : {A : Type 0} (pick : Line → List A) (said : List Line) (line : Line) (x : A) → pick line ≡ x ∷ [] → (s : IsAmong said line) → flat_map pick said ≡ flat_map pick s.before ++ x ∷ flat_map pick s.after
 stands_picked {A} pick said line x one s =
     ap (flat_map pick) s.whole ∙ flat_map-append pick s.before (line ∷ s.after)
@@ -212,7 +212,7 @@ one_in : (xs ys : List Version) (v w : Version) → xs ++ v ∷ ys ≡ w ∷ [] 
 one_in [] ys v w e = cc
 one_in (x ∷ xs) ys v w e = absurd (none_in xs ys v cc)
 
--- The version that stands among what was said is the one that was read.
+-- A version among the lines is the one that was read.
 pub said_version : (b : Built) (v : Version) → IsAmong (lines_said b) (lines.Version v) → (0 < b.front) × (v ≡ b.version)
 said_version b v s =
     let there : flat_map version_of s.before ++ v ∷ flat_map version_of s.after ≡ flat_map version_of (take b.front (front_lines (parts_said b))) = sym (stands_picked version_of (lines_said b) (lines.Version v) v refl s) ∙ versions_said b in
@@ -267,18 +267,18 @@ many_listed pick line many said xs one same h =
     let entries = picked_same pick line one h.entries in
     omega (arith, h.enough, ap length same, ap length whole, ap length back, ap length entries, length-append (flat_map pick h.before) (flat_map pick (map line h.entries ++ h.after)), length-append (flat_map pick (map line h.entries)) (flat_map pick h.after))
 
--- What is picked of routines at the end is not more than of all.
+-- What is picked from the routines at the end is not longer than what is picked from all lines.
 end_listed : {A : Type 0} (pick : Line → List A) (v : Version) (Enough : List Routine → Type 0) (said : List Line) (e : EndsWith v Enough said) → length (flat_map pick (flat_map (routine_lines v) e.routines)) ≤ length (flat_map pick said)
 end_listed pick v Enough said e =
     let whole = ap (flat_map pick) e.whole ∙ flat_map-append pick e.before (flat_map (routine_lines v) e.routines) in
     omega (arith, ap length whole, length-append (flat_map pick e.before) (flat_map pick (flat_map (routine_lines v) e.routines)))
 
--- How many instructions stand in a row after a line, when so many stood before it.
+-- The number of successive instructions after a line, given the number before it.
 abbrev run_on : ℕ → Line → ℕ
 run_on n (lines.Instruction op) = n + 1
 run_on n line = 0
 
--- How many instructions stand in a row at the end.
+-- The number of successive instructions at the end.
 abbrev run : ℕ → List Line → ℕ
 run n [] = n
 run n (l ∷ ls) = run (run_on n l) ls
@@ -300,7 +300,7 @@ run_routines v before rs r =
     ap (λ (ls : List Line). run 0 (before ++ ls)) more ∙ run_append 0 before (flat_map (routine_lines v) rs ++ routine_lines v r)
     ∙ run_append (run 0 before) (flat_map (routine_lines v) rs) (routine_lines v r) ∙ run_code 0 r.code ∙ none_more (length r.code)
 
--- Those at the end that a text ends with.
+-- A long routine at the end has this many.
 run_long : (said : List Line) → IsLong said → 1024 ≤ run 0 said
 run_long said long =
     omega (arith, long.enough, ap (run 0) long.whole, run_append 0 long.before (map lines.Instruction long.code), run_code (run 0 long.before) long.code)
@@ -311,7 +311,7 @@ long_listed said long =
     let code = picked_same op_of lines.Instruction (λ x. refl) long.code in
     omega (arith, long.enough, ap length whole, ap length code, length-append (flat_map op_of long.before) (flat_map op_of (map lines.Instruction long.code)))
 
--- Where the last routine has room, it is not long: with none open there is no instruction.
+-- If the last routine has room, it is not long. If there is no current routine, there is no instruction.
 long_none : (v : Version) (before : List Line) (rs : List Routine) (o : Option Routine) → (o ≡ None → rs ≡ []) → length (flat_map op_of (before ++ flat_map (routine_lines v) (rs ++ listed_routine o))) ≡ instructions (rs ++ listed_routine o) → current_len o < 1024
     → IsLong (before ++ flat_map (routine_lines v) (rs ++ listed_routine o)) → ⊥
 long_none v before rs None closed ops short long =
@@ -337,7 +337,7 @@ over_none b (lines.Instruction op) w s free h =
       | inr e ↦
           let v = said_version b e.0 e.1 in
           let same : code_limit (version_number e.0) ≡ most = ap (λ (w : Version). code_limit (version_number w)) v.1 in
-          absurd (omega (arith, has_room b.count most p.1, w.together, e.2.enough, same, ops_listed e.0 e.2.routines, ops_said b, end_listed op_of e.0 (λ routines. code_limit (version_number e.0) ≤ instructions routines) (lines_said b) e.2))
+          absurd (omega (arith, has_room b.count most p.1, w.1.together, e.2.enough, same, ops_listed e.0 e.2.routines, ops_said b, end_listed op_of e.0 (λ routines. code_limit (version_number e.0) ≤ instructions routines) (lines_said b) e.2))
     ]
 over_none b (lines.Version v) w s free h = h
 over_none b (lines.Stack n) w s free h = h

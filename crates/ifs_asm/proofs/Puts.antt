@@ -1,8 +1,9 @@
--- Writing the lines of a table one after the other.
+-- Writes the lines of tables one after the other.
 use Rattle.std.proofs.Common.{◌≡◌, ℕ, Bool, codes, decimal, List, [], ◌∷◌, ◌++◌, map, refl, sym, ap, ◌∙◌, append_assoc}
 use Rattle.std.specs.List.{flat_map}
 use Rattle.std.proofs.lemmas.List.{append-nil}
 use Rattle.std.proofs.lemmas.List.Concat.{flat_map-append}
+use Rattle.std.proofs.lemmas.List.Folds.{flat_map-map}
 use Rattle.ifs_image.specs.declared.parts.Routine.{Routine}
 use Rattle.ifs_image.specs.declared.parts.ImageParts.{ImageParts}
 use Rattle.ifs_base.specs.declared.op.Kind.{Kind}
@@ -12,16 +13,11 @@ use Rattle.ifs_asm.specs.declared.line.Line.{Line}
 use Rattle.ifs_asm.specs.declared.line.Line.TheVariants as lines
 use Rattle.ifs_asm.specs.Texts.{line_text, spaced, truths, version_in, head_with, head_of, routine_lines, front_lines, canonical}
 
--- The texts of what a function gives.
-pub flat_map-map : {X Y A : Type 0} (f : Y → List A) (g : X → Y) (xs : List X) → flat_map f (map g xs) ≡ flat_map (λ x. f (g x)) xs
-flat_map-map f g [] = refl
-flat_map-map f g (x ∷ xs) = ap (λ ys. f (g x) ++ ys) (flat_map-map f g xs)
-
-pub flat_map-flat_map : {X Y A : Type 0} (f : Y → List A) (g : X → List Y) (xs : List X) → flat_map f (flat_map g xs) ≡ flat_map (λ x. flat_map f (g x)) xs
+flat_map-flat_map : {X Y A : Type 0} (f : Y → List A) (g : X → List Y) (xs : List X) → flat_map f (flat_map g xs) ≡ flat_map (λ x. flat_map f (g x)) xs
 flat_map-flat_map f g [] = refl
 flat_map-flat_map f g (x ∷ xs) = flat_map-append f (g x) (flat_map g xs) ∙ ap (λ ys. flat_map f (g x) ++ ys) (flat_map-flat_map f g xs)
 
--- The text of a routine: its line, then those of its instructions.
+-- The text of a routine: its first line, and those of its instructions.
 pub routine_text : (v : Version) (old now new : List ℕ) (r : Routine) (params results : List Kind) → params ≡ r.params.items → results ≡ r.results.items → now ≡ old ++ line_text (lines.Routine (head_with v params results)) → new ≡ now ++ flat_map (λ op. line_text (lines.Instruction op)) r.code → new ≡ old ++ flat_map line_text (routine_lines v r)
 routine_text v old now new r params results taken left first rest =
     let head : now ≡ old ++ line_text (lines.Routine (head_of v r)) = first ∙ ap (λ (p : List Kind). old ++ line_text (lines.Routine (head_with v p results))) taken ∙ ap (λ (q : List Kind). old ++ line_text (lines.Routine (head_with v r.params.items q))) left in

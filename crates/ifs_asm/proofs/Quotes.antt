@@ -1,4 +1,4 @@
--- Texts in quotes: what is read of one is the text that its bytes stand for.
+-- Quoted texts: reading one gives the text that its bytes spell.
 use Rattle.std.proofs.Common.{◌≡◌, ◌≢◌, ℕ, ◌+◌, ◌*◌, ◌/◌, ◌%◌, ◌<◌, true, false, cond, List, [], ◌∷◌}
 use Rattle.std.proofs.Common.{◌++◌, Option, Some, None, refl, sym, ap, subst, ◌∙◌, arith, append_assoc}
 use Rattle.std.specs.Prelude.{◌==◌, ◌&&◌, ◌||◌, nat_lt, All}
@@ -63,7 +63,7 @@ text_again text word q = rw q.whole (read_inside text q.inside q.stand)
 
 -- ---- what is read is what the bytes stand for
 
--- What is left of a word from inside its quotes.
+-- The rest of a word from inside its quotes.
 pub record Ended (text bytes : List ℕ) : Type 0 where
   pub inside : List ℕ
   pub stand : StandFor text inside
@@ -84,7 +84,7 @@ done_is : (bytes text : List ℕ) → text_from bytes Done ≡ Some text → (by
 done_is [] text h = (refl, grind arith)
 done_is (b ∷ bs) text h = absurd cc
 
--- What was read from a place on says of the bytes there.
+-- What reading from a place on says of the bytes there.
 abbrev FoundAt : Quote → List ℕ → List ℕ → Type 0
 FoundAt Start bytes text = IsQuoted text bytes
 FoundAt Within bytes text = Ended text bytes
@@ -96,7 +96,7 @@ FoundAt Done bytes text = (bytes ≡ []) × (text ≡ [])
 abbrev FoundFrom : List ℕ → Type 0
 FoundFrom bytes = (quote : Quote) (text : List ℕ) → text_from bytes quote ≡ Some text → FoundAt quote bytes text
 
--- A turn where an answer says what P says.
+-- If the text after a turn is this one, then P.
 abbrev After : List ℕ → List ℕ → Type 0 → QuoteTurn → Type 0
 After bytes text P t = after_turn (text_from bytes) t ≡ Some text → P
 

@@ -1,5 +1,5 @@
--- Bytes that stand in quotes as they are.
-use Rattle.std.proofs.Common.{◌≡◌, ℕ, suc, ◌+◌, ◌<◌, Bool, true, false, cond, subst, drop-cons, append_assoc}
+-- Runs of plain bytes.
+use Rattle.std.proofs.Common.{◌≡◌, ℕ, ◌<◌, true, false, subst, drop-cons, append_assoc}
 use Rattle.std.proofs.Common.{length-drop, List, [], ◌∷◌, ◌++◌, length, take, drop, get_or, refl, sym, ap, ◌∙◌, arith}
 use Rattle.std.specs.List.{flat_map, prefix_len}
 use Rattle.std.specs.Str.{IsUtf8, IsCharBoundary}
@@ -9,27 +9,20 @@ use Rattle.std.proofs.lemmas.List.Sums.{prefix_len-le-length, prefix_len_stops}
 use Rattle.std.proofs.lemmas.Bool.Decides.{nat_tests}
 use Rattle.ifs_base.specs.Words.{quoted_byte}
 use Rattle.ifs_asm.specs.Spellings.{is_plain}
+use Rattle.ifs_asm.proofs.Bytes.{by_prefix}
 
 plain_byte : (b : ℕ) → is_plain b ≡ true → quoted_byte b ≡ b ∷ []
 plain_byte b h = grind (arith, nat_tests)
 
--- What is not plain is of ASCII.
+-- A byte that is not plain is in ASCII.
 pub other_ascii : (b : ℕ) → is_plain b ≡ false → b < 128
 other_ascii b h = grind (arith, nat_tests)
 
-run_case : (b n : ℕ) (rest : List ℕ) (t : Bool) → is_plain b ≡ t → flat_map quoted_byte rest ≡ take n rest ++ flat_map quoted_byte (drop n rest)
-    → quoted_byte b ++ flat_map quoted_byte rest ≡ take (cond t (1 + n) 0) (b ∷ rest) ++ flat_map quoted_byte (drop (cond t (1 + n) 0) (b ∷ rest))
-run_case b n rest true e ih =
-    let k : 1 + n ≡ suc n = omega arith in
-    let P : ℕ → Type 0 = λ m. quoted_byte b ++ flat_map quoted_byte rest ≡ take m (b ∷ rest) ++ flat_map quoted_byte (drop m (b ∷ rest)) in
-    subst P (sym k) (ap (λ (q : List ℕ). q ++ flat_map quoted_byte rest) (plain_byte b e) ∙ ap (λ (xs : List ℕ). b ∷ xs) ih)
-run_case b n rest false e ih = refl
+run_is : (bs : List ℕ) → flat_map quoted_byte bs ≡ take (prefix_len is_plain bs) bs ++ flat_map quoted_byte (drop (prefix_len is_plain bs) bs)
+run_is bs = by_prefix is_plain (λ n xs. flat_map quoted_byte xs ≡ take n xs ++ flat_map quoted_byte (drop n xs)) refl (λ b xs e. refl)
+    (λ b n xs e ih. ap (λ (q : List ℕ). q ++ flat_map quoted_byte xs) (plain_byte b e) ∙ ap (λ (ys : List ℕ). b ∷ ys) ih) bs
 
-pub run_is : (bs : List ℕ) → flat_map quoted_byte bs ≡ take (prefix_len is_plain bs) bs ++ flat_map quoted_byte (drop (prefix_len is_plain bs) bs)
-run_is [] = refl
-run_is (b ∷ rest) = run_case b (prefix_len is_plain rest) rest (is_plain b) refl (run_is rest)
-
--- A text up to its first byte that is not plain, and what follows that byte.
+-- A text up to its first byte that is not plain, and the bytes after that one.
 pub record SplitAt (bs : List ℕ) (n : ℕ) : Type 0 where
   pub within : n < length bs
   pub ascii : get_or bs n 0 < 128

@@ -1,9 +1,9 @@
--- Reading a text line by line.
-use Rattle.std.proofs.Common.{◌≡◌, ℕ, true, false, List, [], ◌∷◌, ◌++◌, Option, Some, None, refl, sym, ap, ◌∙◌}
+-- Reads a text line by line.
+use Rattle.std.proofs.Common.{◌≡◌, ℕ, false, List, [], ◌∷◌, ◌++◌, Option, Some, None, refl, sym, ap, ◌∙◌}
 use Rattle.std.specs.Prelude.{option_and_then}
 use Rattle.ifs_asm.specs.declared.forms.Formed.{Formed}
 use Rattle.ifs_asm.specs.declared.line.Line.{Line}
-use Rattle.ifs_asm.specs.Spellings.{is_silent, spoken}
+use Rattle.ifs_asm.specs.Spellings.{is_silent}
 use Rattle.ifs_asm.specs.inner.Words.{words_up_to}
 use Rattle.ifs_asm.specs.inner.Forms.{line_of, formed}
 use Rattle.ifs_asm.specs.inner.Building.{Built, one_line_more, line_in, built_by, spoken_line}
@@ -37,7 +37,4 @@ unfolding line_in
 read_form line words form cut says = sym (says ∙ ap line_of cut)
 
 pub one_line : (b : Built) (line : List ℕ) (words : List (List ℕ)) (form : Option Formed) → is_silent line ≡ false → words ≡ words_up_to 9 line → formed form ≡ line_of words → built_by b (spoken_line line) ≡ option_and_then (one_line_more b) (formed form)
-unfolding line_in
-one_line b line words form e cut says =
-    let whole : line_in line ≡ formed form = sym (says ∙ ap line_of cut) in
-    rw (e, whole) (formed_case b (formed form))
+one_line b line words form e cut says = rw (e, read_form line words form cut says) (formed_case b (formed form))

@@ -7,7 +7,7 @@ use Rattle.std.proofs.lemmas.Bool.{and_parts, ltb-true, not-true}
 use Rattle.std.proofs.lemmas.Bool.Decides.{nat_tests}
 use Rattle.std.proofs.lemmas.List.Elements.{All-from_recursion}
 use Rattle.std.proofs.lemmas.List.Splits.{slice_split_at}
-use Rattle.ifs_base.specs.Words.{listed, hex_digit}
+use Rattle.ifs_base.specs.Words.{hex_digit}
 use Rattle.ifs_base.specs.declared.op.LinkState.TheVariants.{Unknown, Down, Up}
 use Rattle.ifs_base.specs.declared.op.Op.{Op}
 use Rattle.ifs_base.specs.declared.op.Op.TheVariants.{Ret, Yes, No, Link, Test, Known, Negate, Both}
@@ -27,7 +27,7 @@ use Rattle.ifs_asm.specs.inner.Building.{line_in}
 use Rattle.ifs_asm.proofs.Bytes.{IsDigit, number_digits, number_decimal, digit_is_not, each_append, each_weaker}
 use Rattle.ifs_asm.proofs.Cutting.{runs, IsOneWord, IsSingle, cut_found, cut_again}
 use Rattle.ifs_asm.proofs.Quotes.{quoted_single, quoted_is}
-use Rattle.ifs_asm.proofs.MaskLists.{IsNumber, number_single, list_single, list_written}
+use Rattle.ifs_asm.proofs.MaskLists.{number_single, list_each, list_single, list_written}
 use Rattle.ifs_asm.specs.Refused.{LineFits}
 use Rattle.ifs_asm.proofs.KindLists.{kinds_run, kinds_some, kinds_in_line}
 use Rattle.ifs_asm.proofs.FormLaws.{line_again}
@@ -52,7 +52,7 @@ abbrev all_good : List Word → Bool
 all_good [] = true
 all_good (w ∷ ws) = good_word w && all_good ws
 
--- The first word stands as it is, and begins no comment.
+-- The first word is fixed, and begins no comment.
 abbrev good_start : List Word → Bool
 good_start [] = false
 good_start (Key [] ∷ ws) = false
@@ -111,14 +111,17 @@ table_good (lines.Routine (Plain truth)) = refl
 table_good (lines.Routine (Signature params results)) = rw (kinds_good params.items, kinds_good results.items) refl
 table_good (lines.Instruction op) = op_good op
 
-few : (line : Line) → length (words_of line) < 9
-few line = ltb-true (length (words_of line)) 9 (and_parts (nat_lt (length (words_of line)) 9) (good_start (words_of line) && all_good (words_of line)) (table_good line)).0
+-- A line has few words, its first word is fixed, and each word is good.
+record IsGood (line : Line) : Type 0 where
+  few : length (words_of line) < 9
+  start : good_start (words_of line) ≡ true
+  words : all_good (words_of line) ≡ true
 
-starts : (line : Line) → good_start (words_of line) ≡ true
-starts line = (and_parts (good_start (words_of line)) (all_good (words_of line)) (and_parts (nat_lt (length (words_of line)) 9) (good_start (words_of line) && all_good (words_of line)) (table_good line)).1).0
-
-all_are_good : (line : Line) → all_good (words_of line) ≡ true
-all_are_good line = (and_parts (good_start (words_of line)) (all_good (words_of line)) (and_parts (nat_lt (length (words_of line)) 9) (good_start (words_of line) && all_good (words_of line)) (table_good line)).1).1
+good : (line : Line) → IsGood line
+good line =
+    let p = and_parts (nat_lt (length (words_of line)) 9) (good_start (words_of line) && all_good (words_of line)) (table_good line) in
+    let q = and_parts (good_start (words_of line)) (all_good (words_of line)) p.1 in
+    record { few = ltb-true (length (words_of line)) 9 p.0; start = q.0; words = q.1 }
 
 -- ---- each word is one word
 
@@ -143,12 +146,12 @@ pub line_in_found : (bytes : List ℕ) (line : Line) → line_in bytes ≡ Some 
 unfolding line_in
 line_in_found bytes line h =
     let f = line_found (words_up_to 9 bytes) line h in
-    (cut_found 9 (words_of line) bytes (few line) f.0, f.1)
+    (cut_found 9 (words_of line) bytes (good line).few f.0, f.1)
 
 pub line_in_again : (bytes : List ℕ) (line : Line) → SaysLine bytes line → LineFits line → line_in bytes ≡ Some line
 unfolding line_in
 line_in_again bytes line says fits =
-    line_again line (words_up_to 9 bytes) fits (cut_again 9 (words_of line) bytes (singles (words_of line) (all_are_good line)) (few line) says)
+    line_again line (words_up_to 9 bytes) fits (cut_again 9 (words_of line) bytes (singles (words_of line) (good line).words) (good line).few says)
 
 -- ---- words as they are written
 
@@ -171,31 +174,26 @@ tail_ends : (texts : List (List ℕ)) → EndsWord (tail_text texts)
 tail_ends [] = tt
 tail_ends (text ∷ texts) = refl
 
-tail_says : (ws : List Word) → AllByRecursion WordFits ws → HaveWords ws (tail_text (map written ws))
-tail_says [] fits = tt
-tail_says (w ∷ ws) fits = record {
-  gap = codes " ";
+first_says : (gap : List ℕ) (w : Word) (ws : List Word) → AllByRecursion (λ byte. is_space_or_tab byte ≡ true) gap → WordFits w → HaveWords ws (tail_text (map written ws))
+    → HaveWords (w ∷ ws) (gap ++ (written w ++ tail_text (map written ws)))
+first_says gap w ws blank fits others = record {
+  gap = gap;
   first = written w;
   rest = tail_text (map written ws);
-  blank = (refl, tt);
-  spelling = written_is w fits.0;
+  blank = blank;
+  spelling = written_is w fits;
   ends = tail_ends (map written ws);
-  others = tail_says ws fits.1;
+  others = others;
   whole = refl;
 }
 
+tail_says : (ws : List Word) → AllByRecursion WordFits ws → HaveWords ws (tail_text (map written ws))
+tail_says [] fits = tt
+tail_says (w ∷ ws) fits = first_says (codes " ") w ws (refl, tt) fits.0 (tail_says ws fits.1)
+
 spaced_says : (ws : List Word) → AllByRecursion WordFits ws → HaveWords ws (spaced (map written ws))
 spaced_says [] fits = tt
-spaced_says (w ∷ ws) fits = record {
-  gap = [];
-  first = written w;
-  rest = tail_text (map written ws);
-  blank = tt;
-  spelling = written_is w fits.0;
-  ends = tail_ends (map written ws);
-  others = tail_says ws fits.1;
-  whole = refl;
-}
+spaced_says (w ∷ ws) fits = first_says [] w ws tt fits.0 (tail_says ws fits.1)
 
 -- ---- they have no newline
 
@@ -208,8 +206,8 @@ key_lines (b ∷ bs) good =
     let p = and_parts (not (b == 10)) (no_newlines bs) good in
     (not-true (b == 10) p.0, key_lines bs p.1)
 
-digits_lines : (part : List ℕ) (n : ℕ) → IsNumber part n → AllByRecursion IsNoNewline part
-digits_lines part n h = each_weaker IsDigit IsNoNewline (λ b d. digit_is_not b 10 d (inl (omega arith))) part (number_digits part n h)
+digit_lines : (b : ℕ) → IsDigit b → IsNoNewline b
+digit_lines b d = digit_is_not b 10 d (inl (omega arith))
 
 plain_lines : (b : ℕ) → is_plain b ≡ true → IsNoNewline b
 plain_lines b e = grind (arith, nat_tests)
@@ -230,24 +228,14 @@ inside_lines : (text inside : List ℕ) → StandFor text inside → AllByRecurs
 inside_lines [] inside s = subst (AllByRecursion IsNoNewline) (sym s) tt
 inside_lines (b ∷ text) inside s = subst (AllByRecursion IsNoNewline) (sym s.whole) (each_append IsNoNewline s.front s.rest (byte_lines b s.front s.stands) (inside_lines text s.rest s.others))
 
-others_lines : (parts : List (List ℕ)) (ns : List ℕ) → AllZip IsNumber parts ns → AllByRecursion IsNoNewline (flat_map (λ other. codes "," ++ other) parts)
-others_lines [] ns z = tt
-others_lines (part ∷ parts) [] z = absurd z
-others_lines (part ∷ parts) (n ∷ ns) z = (refl, each_append IsNoNewline part (flat_map (λ other. codes "," ++ other) parts) (digits_lines part n z.0) (others_lines parts ns z.1))
-
-list_lines : (parts : List (List ℕ)) (ns : List ℕ) → AllZip IsNumber parts ns → AllByRecursion IsNoNewline (listed parts)
-list_lines [] ns z = (refl, tt)
-list_lines (part ∷ parts) [] z = absurd z
-list_lines (part ∷ parts) (n ∷ ns) z = each_append IsNoNewline part (flat_map (λ other. codes "," ++ other) parts) (digits_lines part n z.0) (others_lines parts ns z.1)
-
 word_lines : (w : Word) (bytes : List ℕ) → good_word w ≡ true → IsSpelling w bytes → AllByRecursion IsNoNewline bytes
 word_lines (Key k) bytes good s =
     let p = and_parts (runs Bare k) (nat_lt 0 (length k) && no_newlines k) good in
     let q = and_parts (nat_lt 0 (length k)) (no_newlines k) p.1 in
     subst (AllByRecursion IsNoNewline) (sym s) (key_lines k q.1)
-word_lines (Number n) bytes good s = digits_lines bytes n s
+word_lines (Number n) bytes good s = each_weaker IsDigit IsNoNewline digit_lines bytes (number_digits bytes n s)
 word_lines (Quoted text) bytes good s = subst (AllByRecursion IsNoNewline) (sym s.whole) (refl, each_append IsNoNewline s.inside (codes "\"") (inside_lines text s.inside s.stand) (refl, tt))
-word_lines (Tests mask) bytes good s = subst (AllByRecursion IsNoNewline) (sym s.whole) (list_lines s.parts (tests_of mask) s.each)
+word_lines (Tests mask) bytes good s = subst (AllByRecursion IsNoNewline) (sym s.whole) (list_each IsNoNewline s.parts (tests_of mask) digit_lines refl refl s.each)
 
 tail_lines : (ws : List Word) → all_good ws ≡ true → AllByRecursion WordFits ws → AllByRecursion IsNoNewline (tail_text (map written ws))
 tail_lines [] good fits = tt
@@ -287,9 +275,9 @@ LineWritten line = AllByRecursion WordFits (words_of line)
 spoken_line : (line : Line) (rest : List ℕ) → LineWritten line → spoken (line_text line ++ rest) ≡ bare line ∷ spoken rest
 unfolding spoken
 spoken_line line rest fits =
-    let clean = All-from_recursion IsNoNewline (bare line) (spaced_lines (words_of line) (all_are_good line) fits) in
+    let clean = All-from_recursion IsNoNewline (bare line) (spaced_lines (words_of line) (good line).words fits) in
     let cut = slice_split_at (λ byte. byte == 10) (bare line) 10 rest clean refl in
-    let speaks = start_speaks (words_of line) (starts line) in
+    let speaks = start_speaks (words_of line) (good line).start in
     ap (λ (t : List ℕ). filter (λ bytes. not (is_silent bytes)) (slice_split (λ byte. byte == 10) t)) (append_assoc (bare line) (codes "\n") rest)
     ∙ ap (filter (λ bytes. not (is_silent bytes))) cut ∙ rw speaks refl
 

@@ -1,9 +1,9 @@
--- The line that is told, while a text is read.
-use Rattle.std.proofs.Common.{◌≡◌, ◌≢◌, ℕ, ◌+◌, ◌-◌, ◌<◌, Bool, true, false, cond, List}
+-- The line that a fault names.
+use Rattle.std.proofs.Common.{◌≡◌, ◌≢◌, ℕ, ◌+◌, ◌-◌, ◌<◌, cond, List}
 use Rattle.std.proofs.Common.{[], ◌∷◌, ◌++◌, length, take, drop, Option, Some, None, refl}
 use Rattle.std.proofs.Common.{sym, ap, subst, ◌∙◌, arith, append_assoc, length-append, inl}
 use Rattle.std.specs.Prelude.{◌==◌, not, option_and_then}
-use Rattle.std.specs.List.{slice_split, onto_first, position, AllZip}
+use Rattle.std.specs.List.{slice_split, position, AllZip}
 use Rattle.std.proofs.lemmas.List.{append-nil}
 use Rattle.ifs_image.specs.declared.parts.ImageParts.{ImageParts}
 use Rattle.ifs_asm.specs.declared.fault.AsmFault.TheVariants.{Memory}
@@ -16,6 +16,7 @@ use Rattle.ifs_asm.specs.Refused.{without_empty_last, text_lines, speaking, Line
 use Rattle.ifs_asm.specs.Refused.{HasNoForm, IsOneTooMany, IsOutOfPlace, StopsAtLine, EndsEarly, IsAssemblyRefused}
 use Rattle.ifs_asm.specs.inner.Building.{Built, line_in, built_by, nothing, spoken_line}
 use Rattle.ifs_asm.specs.inner.Reading.{AreRead, Blames, fault_at}
+use Rattle.ifs_asm.proofs.MaskLists.{split_some}
 use Rattle.ifs_asm.proofs.Cuts.{cut_some, cut_none, line_case}
 use Rattle.ifs_asm.proofs.Completed.{GoesOn, goes_on, never_goes_on}
 use Rattle.ifs_asm.proofs.BuildFits.{IsWithin, nothing_within, built_within}
@@ -25,36 +26,19 @@ use Rattle.ifs_asm.proofs.Steps.{by_append}
 
 -- ---- the lines of a text
 
--- A list that is not empty.
-record IsSome (xs : List (List ℕ)) : Type 0 where
-  first : List ℕ
-  others : List (List ℕ)
-  whole : xs ≡ first ∷ others
-
-onto_some : (byte : ℕ) (xs : List (List ℕ)) → IsSome xs → IsSome (onto_first byte xs)
-onto_some byte [] s = absurd cc
-onto_some byte (x ∷ xs) s = record { first = byte ∷ x; others = xs; whole = refl }
-
-split_case : (byte : ℕ) (b : Bool) (xs : List (List ℕ)) → IsSome xs → IsSome (cond b ([] ∷ xs) (onto_first byte xs))
-split_case byte true xs s = record { first = []; others = xs; whole = refl }
-split_case byte false xs s = onto_some byte xs s
-
-split_some : (text : List ℕ) → IsSome (slice_split (λ byte. byte == 10) text)
-split_some [] = record { first = []; others = []; whole = refl }
-split_some (byte ∷ text) = split_case byte (byte == 10) (slice_split (λ byte. byte == 10) text) (split_some text)
-
 without_cons : (line first : List ℕ) (others : List (List ℕ)) → without_empty_last (line ∷ (first ∷ others)) ≡ line ∷ without_empty_last (first ∷ others)
 without_cons [] first others = refl
 without_cons (byte ∷ line) first others = refl
 
-without_more : (line : List ℕ) (xs : List (List ℕ)) → IsSome xs → without_empty_last (line ∷ xs) ≡ line ∷ without_empty_last xs
-without_more line xs s = rw s.whole (without_cons line s.first s.others)
+without_more : (line : List ℕ) (xs : List (List ℕ)) → 0 < length xs → without_empty_last (line ∷ xs) ≡ line ∷ without_empty_last xs
+without_more line [] some = absurd (omega arith)
+without_more line (first ∷ others) some = without_cons line first others
 
 pub lines_some : (text : List ℕ) (i : ℕ) → position (λ byte. byte == 10) text ≡ Some i → text_lines text ≡ take i text ∷ text_lines (take (length text - (i + 1)) (drop (i + 1) text))
 unfolding text_lines
 lines_some text i e =
     let rest = take (length text - (i + 1)) (drop (i + 1) text) in
-    ap without_empty_last (cut_some (λ byte. byte == 10) text i e) ∙ without_more (take i text) (slice_split (λ byte. byte == 10) rest) (split_some rest)
+    ap without_empty_last (cut_some (λ byte. byte == 10) text i e) ∙ without_more (take i text) (slice_split (λ byte. byte == 10) rest) (split_some (λ byte. byte == 10) rest)
 
 last_line : (text : List ℕ) → 0 < length text → without_empty_last (text ∷ []) ≡ text ∷ []
 last_line [] lt = absurd (omega (arith, lt))
@@ -109,7 +93,7 @@ reads_on text left line rest b c n m r cut shorter one next = record {
   built = with_last r.done line b (Some c) r.built one;
 }
 
--- A line at which reading stops, after what was built.
+-- A line at which reading stops, after those that built something.
 pub record Stopped (text : List ℕ) (n : ℕ) (b : Built) (line : List ℕ) : Type 0 where
   pub before : List (List ℕ)
   pub after : List (List ℕ)
@@ -154,7 +138,7 @@ ends_early text left b n r empty missing =
 
 -- ---- a text that spells an image does not stop
 
--- The lines that the first lines of a text say.
+-- The first lines of a text say the first of some lines.
 record FrontSaid (xs : List (List ℕ)) (ls : List Line) : Type 0 where
   said : List Line
   others : List Line

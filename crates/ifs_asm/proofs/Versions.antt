@@ -1,4 +1,4 @@
--- Versions, and how routines begin in each.
+-- Versions, and how a routine begins in each.
 use Rattle.std.proofs.Common.{◌≡◌, ℕ, zero, suc, true, false, List, [], ◌∷◌, refl, arith, inl, inr}
 use Rattle.std.specs.Prelude.{◌⊎◌}
 use Rattle.ifs_base.specs.declared.op.Kind.{Kind}
@@ -26,7 +26,7 @@ version_forth (suc zero) is = refl
 version_forth (suc (suc zero)) is = refl
 version_forth (suc (suc (suc n))) is = absurd (omega (arith, is.1))
 
--- What a version can say of a routine.
+-- The kinds of a routine can be given in a version.
 abbrev pub FitsVersion : Version → Routine → Type 0
 FitsVersion One r = IsPlain r
 FitsVersion Two r = Unit {0}
@@ -44,7 +44,7 @@ version_fits (suc zero) r is fits = elim fits.kinds [
 version_fits (suc (suc zero)) r is fits = tt
 version_fits (suc (suc (suc n))) r is fits = absurd (omega (arith, is.1))
 
--- A routine that begins in the form of its version begins as it was said.
+-- A routine that begins in the form of its version begins with the line that was read.
 pub head_back : (v : Version) (head : Head) → is_of_other v head ≡ false → head_of v (begun head) ≡ head
 head_back One (Plain true) own = refl
 head_back One (Plain false) own = refl
@@ -59,7 +59,7 @@ begun_fits One (Signature params results) own = absurd cc
 begun_fits Two (Plain truth) own = absurd cc
 begun_fits Two (Signature params results) own = tt
 
--- The routine that begins as one of a version, without its instructions.
+-- A routine without its instructions.
 abbrev pub emptied : Routine → Routine
 emptied r = record { params = r.params; results = r.results; code = [] }
 

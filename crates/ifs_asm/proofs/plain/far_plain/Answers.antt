@@ -1,20 +1,16 @@
 use Rattle.std.proofs.Common.{arith}
-use Rattle.std.proofs.lemmas.List.Sums.{prefix_len-le-length}
 use Rattle.ifs_asm.specs.Spellings.{is_plain}
 use Rattle.ifs_asm.proofs.Blocks.{ends_within, goes_behind}
 use Rattle.ifs_asm.proofs.plain.far_plain.Goals as goal
 
-pub returns-then-ends-ne0-clause-value : goal.returns-then-ends-ne0-clause-value
-returns-then-ends-ne0-clause-value c =
+pub returns-then-ends-ne0 : goal.returns-then-ends-ne0
+returns-then-ends-ne0 c =
     let cut = c.in-Some.ensures.cases in
-    let ends = ends_within is_plain 32 c.others_in_large-ends.result c.loop-block.left.now c.in-Some.block.now c.in-Some.rest.now (omega arith) cut.0 cut.2 c.others_in_large-ends.ensures c.if-ends-ne0.true in
-    omega (arith, c.loop-block.invariant.0, c.loop-block.invariant.1, ends)
-
-pub returns-then-ends-ne0-clause-within : goal.returns-then-ends-ne0-clause-within
-returns-then-ends-ne0-clause-within c =
-    let cut = c.in-Some.ensures.cases in
-    let ends = ends_within is_plain 32 c.others_in_large-ends.result c.loop-block.left.now c.in-Some.block.now c.in-Some.rest.now (omega arith) cut.0 cut.2 c.others_in_large-ends.ensures c.if-ends-ne0.true in
-    omega (arith, c.loop-block.invariant.1, ends, prefix_len-le-length is_plain c.loop-block.left.now)
+    let run = ends_within is_plain 32 c.others_in_large-ends.result c.loop-block.left.now c.in-Some.block.now c.in-Some.rest.now (omega arith) cut.0 cut.2 c.others_in_large-ends.ensures c.if-ends-ne0.true in
+    record {
+      value = omega (arith, c.loop-block.invariant.0, c.loop-block.invariant.1, run.value);
+      within = omega (arith, c.loop-block.invariant.1, run.within);
+    }
 
 pub loop-block-preserved : goal.loop-block-preserved
 loop-block-preserved c =

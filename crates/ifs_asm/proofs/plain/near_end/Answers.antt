@@ -1,17 +1,10 @@
 use Rattle.std.proofs.Common.{arith}
-use Rattle.std.proofs.lemmas.List.Sums.{prefix_len-le-length}
 use Rattle.ifs_asm.specs.Spellings.{is_plain}
 use Rattle.ifs_asm.proofs.Blocks.{ends_within}
 use Rattle.ifs_asm.proofs.plain.near_end.Goals as goal
 
-pub returns-else-ends-eq0-clause-value : goal.returns-else-ends-eq0-clause-value
-returns-else-ends-eq0-clause-value c =
+pub returns-else-ends-eq0 : goal.returns-else-ends-eq0
+returns-else-ends-eq0 c =
     let cut = c.in_ok-block.ensures.cases in
-    let ends = ends_within is_plain 16 c.others_in_block-ends.result c.args.bytes.now c.in_ok-block.block.now c.in_ok-block.field-0-1.now (omega arith) cut.0 cut.2 c.others_in_block-ends.ensures c.if-ends-eq0.false in
-    ends
-
-pub returns-else-ends-eq0-clause-within : goal.returns-else-ends-eq0-clause-within
-returns-else-ends-eq0-clause-within c =
-    let cut = c.in_ok-block.ensures.cases in
-    let ends = ends_within is_plain 16 c.others_in_block-ends.result c.args.bytes.now c.in_ok-block.block.now c.in_ok-block.field-0-1.now (omega arith) cut.0 cut.2 c.others_in_block-ends.ensures c.if-ends-eq0.false in
-    omega (arith, ends, prefix_len-le-length is_plain c.args.bytes.now)
+    let run = ends_within is_plain 16 c.others_in_block-ends.result c.args.bytes.now c.in_ok-block.block.now c.in_ok-block.field-0-1.now (omega arith) cut.0 cut.2 c.others_in_block-ends.ensures c.if-ends-eq0.false in
+    record { value = run.value; within = run.within }
