@@ -28,7 +28,7 @@ use Rattle.ifs_core.proofs.Places.{link_stays, value_stays, run_over_stays, ente
 use Rattle.ifs_core.proofs.Evaluating.{wish_alone, first_at, opening_holds, entered_within}
 use Rattle.ifs_core.proofs.Turning.{step_holds}
 
--- What a handler brings about, and what that costs.
+-- The effects of a handler, and its cost.
 record Paid : Type 0 where
   effects : Effects
   cost : ℕ
@@ -42,7 +42,7 @@ same_effects x y e f = ap (λ commands. let made : Effects = record { commands =
 same_paid : (x y : Paid) → x.effects ≡ y.effects → x.cost ≡ y.cost → x ≡ y
 same_paid x y e f = ap (λ effects. let made : Paid = record { effects = effects; cost = x.cost } in made) e ∙ ap (λ cost. let made : Paid = record { effects = y.effects; cost = cost } in made) f
 
--- An entry by the sets of active tests.
+-- An entry, by the masks of active tests.
 abbrev entry_by : ℕ → ℕ → StateId → Position → Position
 entry_by always active next p = record {
   facts = record { links = p.facts.links; tests = kept_values always p.facts.tests };
@@ -52,7 +52,7 @@ entry_by always active next p = record {
 }
 
 module _ (ends : HandlersEnd) (unique : RunsAreUnique) (image : ImageParts) (accepted : IsAccepted image) (a b : Behaviour) (is_a : IsBehaviour image a) (is_b : IsBehaviour image b) where
-  -- handlers answer alike
+  -- Handlers agree.
   answers : (handler : Handler) (routine : ℕ) (facts : Facts) → routine_of image handler ≡ Some routine → AreFactsOf image facts → paid a handler facts ≡ paid b handler facts
   answers handler routine facts is given =
       let room = room_from_nothing image handler routine accepted is in
@@ -141,7 +141,7 @@ module _ (ends : HandlersEnd) (unique : RunsAreUnique) (image : ImageParts) (acc
     turn_alike (Tick now) = tick_alike now
     turn_alike Take = refl
 
-  -- one step more
+  -- One more step.
   next_is : (step : Step) (s : CoreState) → IsStateOf image s → IsStateOf image (turn b image.budgets.commands step s).next
   next_is step s is = (step_holds ends unique image accepted b is_b s is step).turn.state
 
@@ -157,7 +157,7 @@ module _ (ends : HandlersEnd) (unique : RunsAreUnique) (image : ImageParts) (acc
       ap (λ (t : Turn). after_steps a image.budgets.commands steps t.next) (turn_alike s is step)
       ∙ states_alike steps (turn b image.budgets.commands step s).next (next_is step s is)
 
-  -- the opening
+  -- The opening.
   module _ (known : Known) (links : IsKnownOf image known) where
     abbrev opened_at : ℕ → ℕ → Position
     opened_at always active = record {

@@ -1,4 +1,4 @@
--- What a behaviour's events do: their handlers run to their ends, and they keep the image's budgets.
+-- The events of a behaviour: their handlers run to their ends, and they keep the image's budgets.
 use Rattle.std.proofs.Common.{◌≡◌, ℕ, ◌+◌, ◌≤◌, ◌<◌, Bool, true, false, [], ◌++◌}
 use Rattle.std.proofs.Common.{length, Option, Some, None, refl, ap, subst, ◌∙◌, arith}
 use Rattle.std.specs.Prelude.{IfSome, slice_get, ◌==◌, if◌then◌else◌}
@@ -25,12 +25,12 @@ use Rattle.ifs_core.proofs.Exists.{handles, state_at, room_from_nothing}
 use Rattle.ifs_core.proofs.Opening.{length-no_values, length-all_off}
 use Rattle.ifs_core.proofs.Places.{length-entered, entering_stays, paid_stays}
 
--- the wish of one handler alone is its own
+-- The wish of one handler alone is its own.
 pub wish_alone : (wish : Option StateId) → later_wish None wish ≡ wish
 wish_alone None = refl
 wish_alone (Some next) = refl
 
--- a state that a wish leads to is one of the list
+-- A state that a wish leads to is in the list.
 change_if : (image : ImageParts) (same : Bool) (wished next : StateId) → wished.0 < length image.states → (if same then None else Some wished) ≡ Some next → next.0 < length image.states
 change_if image true wished next within e = absurd (none-some next e)
 change_if image false wished next within e = subst (λ (s : StateId). s.0 < length image.states) (same_Some wished next e) within
@@ -47,7 +47,7 @@ pub record OpeningHolds (image : ImageParts) (known : Known) (b : Behaviour) : T
   pub state : IsStateOf image (opened b image known)
 
 module _ (ends : HandlersEnd) (unique : RunsAreUnique) (image : ImageParts) (accepted : IsAccepted image) (b : Behaviour) (is : IsBehaviour image b) where
-  -- A handler ran: what it costs and brings about is bounded.
+  -- A handler ran: its cost and effects are bounded.
   record Ran (handler : Handler) (routine : ℕ) (facts : Facts) (before : Effects) : Type 0 where
     run : IsRun image b handler facts before
     within : IsCostOf image routine (b.cost handler facts)
@@ -139,7 +139,7 @@ module _ (ends : HandlersEnd) (unique : RunsAreUnique) (image : ImageParts) (acc
         let wished = ap (λ (w : Option StateId). change_of p.current (later_wish w own_yield.wish)) (wish_alone always_yield.wish) in
         change_holds (change_of p.current (later_wish always_yield.wish own_yield.wish)) wished
 
-    -- the state that an evaluation enters is one of the list
+    -- The state that an evaluation enters is in the list.
     pub entered_within : IfSome (change_of p.current (later_wish always_yield.wish own_yield.wish)) (λ next. next.0 < length image.states)
     entered_within =
         let wished = ap (λ (w : Option StateId). change_of p.current (later_wish w own_yield.wish)) (wish_alone always_yield.wish) in
@@ -149,7 +149,7 @@ module _ (ends : HandlersEnd) (unique : RunsAreUnique) (image : ImageParts) (acc
         entered_if None e = tt
         entered_if (Some next) e = entered next e
 
-  -- the opening
+  -- The opening.
   module _ (known : Known) (links : IsKnownOf image known) where
     abbrev first : Position
     first = (opening_of b image known).position

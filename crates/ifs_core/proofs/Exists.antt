@@ -13,24 +13,24 @@ use Rattle.ifs_machine.specs.Run.{RunsTo, AreFactsOf, HasRoom, IsHandler, Handle
 use Rattle.ifs_core.specs.Event.{Handler, AlwaysInit, AlwaysBody, Init, Body, Behaviour}
 use Rattle.ifs_core.specs.Machine.{routine_of, IsBehaviour}
 
--- a state whose routine an option has
+-- A state whose routine an option has.
 mapped : (o : Option StateSpec) (f : StateSpec → ℕ) (routine : ℕ) → option_map f o ≡ Some routine → (s : StateSpec) × (o ≡ Some s) × (routine ≡ f s)
 mapped None f routine e = absurd (none-some routine e)
 mapped (Some s) f routine e = (s, refl, sym (same_Some (f s) routine e))
 
--- a routine that answers a handler is one of the image's handlers
+-- The routine of a handler is one of the image's handlers.
 pub handles : (image : ImageParts) (handler : Handler) (routine : ℕ) → routine_of image handler ≡ Some routine → IsHandler image routine
 handles image AlwaysInit routine e = inl (inl (sym (same_Some _ routine e)))
 handles image AlwaysBody routine e = inl (inr (sym (same_Some _ routine e)))
 handles image (Init k) routine e = let m = mapped (slice_get image.states k) (λ s. s.handlers.init.0) routine e in inr (k, m.0, m.1, inl m.2)
 handles image (Body k) routine e = let m = mapped (slice_get image.states k) (λ s. s.handlers.body.0) routine e in inr (k, m.0, m.1, inr m.2)
 
--- a state of the list
+-- A state of the list.
 pub state_at : (image : ImageParts) (k : ℕ) → k < length image.states → (s : StateSpec) × (slice_get image.states k ≡ Some s)
 state_at image k within =
     ⊎_elim (λ there. (there.0, there.2)) (λ past. absurd (omega (arith, within, past.0))) (slice_get_cases image.states k).1
 
--- an event that has brought about nothing has room for each handler
+-- An event without commands has room for each handler.
 pub room_from_nothing : (image : ImageParts) (handler : Handler) (routine : ℕ) → IsAccepted image → routine_of image handler ≡ Some routine → HasRoom image routine 0
 room_from_nothing image AlwaysInit routine accepted e =
     let fit = accepted.commands in
@@ -83,7 +83,7 @@ answers_as image handler facts (Some routine) e (inr never) = inr (λ (a : Answe
 answers : (image : ImageParts) (handler : Handler) (facts : Facts) → Answers image handler facts ⊎ (Answers image handler facts → ⊥)
 answers image handler facts = answers_as image handler facts (routine_of image handler) refl (facts_fit image facts)
 
--- the mask of a state, where there is one
+-- The mask of a state, if it exists.
 abbrev mask_in : Option StateSpec → ℕ
 mask_in None = 0
 mask_in (Some state) = state.handlers.mask
@@ -93,7 +93,7 @@ module _ (ends : HandlersEnd) (follow : RunsFollow) (image : ImageParts) (accept
   found : (handler : Handler) (facts : Facts) → (a : Answers image handler facts) → RunEnds image facts a.routine nothing_yet
   found handler facts a = ends image facts a.routine nothing_yet accepted (handles image handler a.routine a.is) a.given (room_from_nothing image handler a.routine accepted a.is)
 
-  -- What the run from nothing does; nothing where there is none.
+  -- The effects of the run from nothing, or none.
   abbrev yield_of : (handler : Handler) (facts : Facts) → Answers image handler facts ⊎ (Answers image handler facts → ⊥) → Effects
   yield_of handler facts (inl a) = (found handler facts a).end
   yield_of handler facts (inr never) = nothing_yet

@@ -1,4 +1,4 @@
--- What is promised is kept: by each step from a state of an image's run, by the opening, and so by each run.
+-- The headline is kept by each step, by the opening, and so by each run.
 use Rattle.std.proofs.Common.{◌≡◌, List, [], ◌∷◌, length, sym, ap, ◌∙◌, subst, arith}
 use Rattle.ifs_base.specs.Facts.{Facts}
 use Rattle.ifs_image.specs.declared.parts.ImageParts.{ImageParts}
@@ -96,7 +96,7 @@ module _ (ends : HandlersEnd) (unique : RunsAreUnique) (follow : RunsFollow) (st
     anywhere = λ b is s at step. step_keeps b is s at step;
   }
 
--- what was answered to a step in a state of an image's run, and the state after it, keep what is promised
+-- A turn from a state of an image's run keeps the headline.
 pub answer_keeps : (image : ImageParts) (s next : CoreState) (step : Step) (reply : Reply) → IsKept image → IsStateOf image s
     → ((b : Behaviour) → IsBehaviour image b → Makes (turn b image.budgets.commands step s) reply next)
     → StepKeeps image s step (record { reply = reply; next = next })
@@ -108,7 +108,7 @@ answer_keeps image s next step reply kept is makes =
     sym (ap (λ (r : Reply). record { reply = r; next = next }) made.replied ∙ ap (λ (n : CoreState). record { reply = t.reply; next = n }) made.came_to) in
     subst (StepKeeps image s step) same (kept.anywhere b kept.behaviour.1 s is step)
 
--- what was opened keeps what is promised
+-- The opening keeps the headline.
 pub opened_keeps : (image : ImageParts) (known : Known) (s : CoreState) → IsKept image → IsKnownOf image known
     → ((b : Behaviour) → IsBehaviour image b → s ≡ opened b image known) → OpeningKeeps image known s
 opened_keeps image known s kept links is =

@@ -9,4 +9,4 @@ pub mod Alike
 pub mod Keeping
 pub mod Tables
 pub mod Upgrades
-pub mod Handing
+pub mod KnownLinks

@@ -8,9 +8,6 @@ use Rattle.ifs_sched.specs.Timer.{inactive}
 use Rattle.ifs_sched.specs.Schedule.{all_off}
 use Rattle.ifs_core.specs.Machine.{all_unknown, periods_in}
 
-pub length-all_unknown : (image : ImageParts) → length (all_unknown image) ≡ length image.interfaces
-length-all_unknown image = length-map image.interfaces (λ _. Unknown)
-
 pub length-periods_in : (image : ImageParts) → length (periods_in image) ≡ length image.tests
 length-periods_in image = length-map image.tests (λ test. test.period)
 

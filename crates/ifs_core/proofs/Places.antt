@@ -1,4 +1,4 @@
--- What is done to a position or a state of an image's run leaves one.
+-- Changes of a position or a state of an image's run leave one.
 use Rattle.std.proofs.Common.{◌≡◌, ℕ, ◌+◌, ◌-◌, ◌≤◌, ◌<◌, Bool, false, List, [], ◌∷◌}
 use Rattle.std.proofs.Common.{◌++◌, Some, length, ◌∙◌, arith, length-append, length-set}
 use Rattle.std.specs.Prelude.{All}
@@ -67,13 +67,13 @@ module _ (image : ImageParts) where
   pub ticked_stays : (now : ℕ) (p : Position) → IsPositionOf image p → IsPositionOf image (record p { schedule = ticked now p.schedule })
   ticked_stays now p is = record { facts = is.facts; current = is.current; tests = length-ticked now p.schedule ∙ is.tests }
 
-  -- one more record tells a state of the list
+  -- One more record has a state of the list.
   traced_stays : (r : Record) (trace : List Record) → IsListed image r.state → All (λ r. IsListed image r.state) trace → All (λ r. IsListed image r.state) (traced r trace)
   traced_stays r trace here before =
       let P : Record → Type 0 = λ r. IsListed image r.state in
       All-drop P (length (trace ++ r ∷ []) - 256) (trace ++ r ∷ []) (All-push P trace r before here)
 
-  -- commands of the table go to a queue that has room for them
+  -- Commands of the table are appended to a queue that has room for them.
   pub settled_stays : (step : Step) (answer : Answer) (commands : List CommandId) (cost : ℕ) (p : Position) (s : CoreState) → IsStateOf image s → IsPositionOf image p
       → length s.queue + length commands ≤ 64 → All (IsCommand image) commands → IsStateOf image (settled step answer commands cost (at_position p s))
   settled_stays step answer commands cost p s is at room known = record {

@@ -1,8 +1,9 @@
--- One handler after another: room for its commands, and what a behaviour says of it.
+-- Handlers one after the other: their room for commands, and their behaviour.
 use Rattle.std.proofs.Common.{◌≡◌, ℕ, ◌+◌, ◌≤◌, ◌<◌, List, [], ◌++◌, length, Option, Some, slice_get}
 use Rattle.std.proofs.Common.{sym, ap, subst, ◌∙◌, arith, length-append, option_map, inl, inr}
 use Rattle.std.specs.Prelude.{All, IfSome}
 use Rattle.std.proofs.lemmas.List.Elements.{All-append, All-nil}
+use Rattle.std.proofs.lemmas.Option.{same_Some}
 use Rattle.ifs_base.specs.Facts.{Facts}
 use Rattle.ifs_base.specs.declared.ids.CommandId.{CommandId}
 use Rattle.ifs_base.specs.declared.ids.StateId.{StateId}
@@ -16,11 +17,7 @@ use Rattle.ifs_core.specs.Event.{Handler, Init, Body, Behaviour}
 use Rattle.ifs_core.specs.Machine.{routine_of, IsBehaviour, KeepsBudgets}
 use Rattle.ifs_core.specs.inner.Within.{AreEffectsOf, RanBodies, RanInit}
 
--- two values that an option has are one
-some_is : {A : Type 0} {x y : A} → Some x ≡ Some y → x ≡ y
-some_is e = cc
-
--- what a run of a handler did is what a behaviour of the image says
+-- The run of a handler is that of each behaviour of the image.
 pub one_run : (image : ImageParts) (b : Behaviour) (handler : Handler) (routine : ℕ) (facts : Facts) (before : Effects) (cost : ℕ) (end : Effects)
     → IsBehaviour image b → routine_of image handler ≡ Some routine → AreFactsOf image facts → HasRoom image routine (length before.commands)
     → ((paid : ℕ) (other : Effects) → RunsTo image facts routine before paid other → (paid ≡ cost) × (other ≡ end))
@@ -29,14 +26,14 @@ one_run image b handler routine facts before cost end is at facts_fit room only 
     let found = only (b.cost handler facts) (followed before (b.answer handler facts)) (is.runs handler routine facts before at facts_fit room) in
     (sym found.1, sym found.0)
 
--- room for the always body, which comes first
+-- Room for the always body, which comes first.
 pub room_for_always_body : (image : ImageParts) (k : ℕ) (state : StateSpec) (queued : ℕ) → IsAccepted image → slice_get image.states k ≡ Some state
     → queued ≡ 0 → HasRoom image image.always.body.0 queued
 room_for_always_body image k state queued accepted at none =
     let fit = accepted.commands in
     (fit.0, fit.1, omega (arith, fit.3.evaluation k k state state at at))
 
--- room for a state's body, after the always body
+-- Room for a state's body after the always body.
 pub room_for_body : (image : ImageParts) (k : ℕ) (state : StateSpec) (before mid : List CommandId) → IsAccepted image → slice_get image.states k ≡ Some state
     → length before ≡ 0 → Appends image image.always.body.0 before mid → HasRoom image state.handlers.body.0 (length mid)
 room_for_body image k state before mid accepted at none appends =
@@ -45,14 +42,14 @@ room_for_body image k state before mid accepted at none appends =
     let long : length mid ≡ length before + length appends.some = ap length appends.appended ∙ length-append before appends.some in
     (fit.0, fit.1, omega (arith, fit.3.evaluation k k state state at at))
 
--- the routine of a state's body, and of its init
+-- The routines of a state's body and init.
 pub body_of : (image : ImageParts) (k : ℕ) (state : StateSpec) → slice_get image.states k ≡ Some state → routine_of image (Body k) ≡ Some state.handlers.body.0
 body_of image k state at = ap (option_map (λ (s : StateSpec). s.handlers.body.0)) at
 
 pub init_of : (image : ImageParts) (k : ℕ) (state : StateSpec) → slice_get image.states k ≡ Some state → routine_of image (Init k) ≡ Some state.handlers.init.0
 init_of image k state at = ap (option_map (λ (s : StateSpec). s.handlers.init.0)) at
 
--- two handlers, one after the other
+-- Two handlers, one after the other.
 pub two_runs : (image : ImageParts) (b : Behaviour) (h g : Handler) (facts : Facts) (r q : ℕ) (before mid end : Effects) (first second : ℕ)
     → IsBehaviour image b → routine_of image h ≡ Some r → routine_of image g ≡ Some q → AreFactsOf image facts
     → HasRoom image r (length before.commands) → HasRoom image q (length mid.commands)
@@ -66,7 +63,7 @@ two_runs image b h g facts r q before mid end first second is at_r at_q fit room
     let middle : mid ≡ followed nothing_yet (b.answer h facts) = one.0 ∙ ap (λ (e : Effects). followed e (b.answer h facts)) start in
     (two.0 ∙ ap (λ (e : Effects). followed e (b.answer g facts)) middle, omega (arith, one.1, two.1))
 
--- a wish stays one for a state of the list
+-- A wish stays one for a state of the list.
 wish_after : (image : ImageParts) (before end : Option StateId) → IfSome before (λ state. state.0 < length image.states) → IsWish image before end → IfSome end (λ state. state.0 < length image.states)
 wish_after image before end known wish =
     elim wish [
@@ -74,7 +71,7 @@ wish_after image before end known wish =
       | inr set ↦ subst (λ (w : Option StateId). IfSome w (λ state. state.0 < length image.states)) (sym set.1) set.2
     ]
 
--- what a handler brought about stays the image's
+-- The effects of a handler are those of the image.
 pub effects_after : (image : ImageParts) (routine : ℕ) (before end : Effects) → AreEffectsOf image before → Appends image routine before.commands end.commands
     → IsWish image before.wish end.wish → AreEffectsOf image end
 effects_after image routine before end are appends wish = record {
@@ -85,7 +82,7 @@ effects_after image routine before end are appends wish = record {
 nothing_known : (image : ImageParts) → AreEffectsOf image nothing_yet
 nothing_known image = record { commands = All-nil (IsCommand image); wish = tt }
 
--- how many commands there are after a handler, by a bound of its routine
+-- The number of commands after a handler, by a bound of its routine.
 pub count_after : (image : ImageParts) (routine : ℕ) (before end : List CommandId) (bound : ℕ → ℕ → ℕ) → AreAmounts commands_of image bound → Appends image routine before end
     → length end ≤ length before + bound routine 0
 count_after image routine before end bound are appends =
@@ -103,25 +100,25 @@ ran_bodies image k state before mid end first second at start cost_first cost_se
       let known = subst (AreEffectsOf image) (sym start) (nothing_known image) in
       effects_after image state.handlers.body.0 mid end (effects_after image image.always.body.0 before mid known appends_first wish_first) appends_second wish_second;
   count = λ bound other are at_other.
-      let same : state ≡ other = some_is (sym at ∙ at_other) in
+      let same : state ≡ other = same_Some state other (sym at ∙ at_other) in
       let none : length before.commands ≡ 0 = ap (λ (e : Effects). length e.commands) start in
       let total : length end.commands ≤ bound image.always.body.0 0 + bound state.handlers.body.0 0 =
       omega (arith, count_after image image.always.body.0 before.commands mid.commands bound are appends_first, count_after image state.handlers.body.0 mid.commands end.commands bound are appends_second, none) in
       subst (λ (s : StateSpec). length end.commands ≤ bound image.always.body.0 0 + bound s.handlers.body.0 0) same total;
   within = λ bound other are at_other.
-      let same : state ≡ other = some_is (sym at ∙ at_other) in
+      let same : state ≡ other = same_Some state other (sym at ∙ at_other) in
       let total : first + second ≤ bound image.always.body.0 0 + bound state.handlers.body.0 0 = omega (arith, cost_first bound are, cost_second bound are) in
       subst (λ (s : StateSpec). first + second ≤ bound image.always.body.0 0 + bound s.handlers.body.0 0) same total;
 }
 
--- room for the init of a state that is entered, after both bodies
+-- Room for the init of an entered state after both bodies.
 pub room_for_init : (image : ImageParts) (k j : ℕ) (next : StateSpec) (end : Effects) (cost : ℕ) → IsAccepted image → RanBodies image k end cost
     → slice_get image.states j ≡ Some next → HasRoom image next.handlers.init.0 (length end.commands)
 room_for_init image k j next end cost accepted ran at =
     let fit = accepted.commands in
     (fit.0, fit.1, omega (arith, fit.3.evaluation k j ran.own next ran.at at, ran.count fit.0 ran.own fit.1 ran.at))
 
--- the bodies alone keep the budgets
+-- The bodies alone keep the budgets.
 pub bodies_keep : (image : ImageParts) (k : ℕ) (end : Effects) (cost : ℕ) → IsAccepted image → RanBodies image k end cost → KeepsBudgets image end.commands cost
 bodies_keep image k end cost accepted ran =
     let few = accepted.commands in
@@ -132,7 +129,7 @@ bodies_keep image k end cost accepted ran =
       known = ran.effects.commands;
     }
 
--- the bodies and the init of the state that is entered keep the budgets
+-- The bodies and the init of an entered state keep the budgets.
 pub change_keeps : (image : ImageParts) (k j : ℕ) (mid end : Effects) (first second : ℕ) → IsAccepted image → RanBodies image k mid first
     → RanInit image j mid end second → KeepsBudgets image end.commands (first + second)
 change_keeps image k j mid end first second accepted ran init =
@@ -144,7 +141,7 @@ change_keeps image k j mid end first second accepted ran init =
       known = init.known ran.effects.commands;
     }
 
--- a state's init ran
+-- A state's init ran.
 pub ran_init : (image : ImageParts) (k : ℕ) (state : StateSpec) (before end : Effects) (cost : ℕ) → slice_get image.states k ≡ Some state
     → IsCostOf image state.handlers.init.0 cost → Appends image state.handlers.init.0 before.commands end.commands → RanInit image k before end cost
 ran_init image k state before end cost at within appends = record {
@@ -152,14 +149,14 @@ ran_init image k state before end cost at within appends = record {
   at = at;
   known = λ known. subst (All (IsCommand image)) (sym appends.appended) (All-append (IsCommand image) before.commands appends.some known appends.known);
   count = λ bound other are at_other.
-      let same : state ≡ other = some_is (sym at ∙ at_other) in
+      let same : state ≡ other = same_Some state other (sym at ∙ at_other) in
       subst (λ (s : StateSpec). length end.commands ≤ length before.commands + bound s.handlers.init.0 0) same (count_after image state.handlers.init.0 before.commands end.commands bound are appends);
   within = λ bound other are at_other.
-      let same : state ≡ other = some_is (sym at ∙ at_other) in
+      let same : state ≡ other = same_Some state other (sym at ∙ at_other) in
       subst (λ (s : StateSpec). cost ≤ bound s.handlers.init.0 0) same (within bound are);
 }
 
--- room for the always init at the opening
+-- Room for the always init at the opening.
 pub room_for_always_init : (image : ImageParts) (k : ℕ) (state : StateSpec) (queued : ℕ) → IsAccepted image → k ≡ image.initial.0
     → slice_get image.states k ≡ Some state → queued ≡ 0 → HasRoom image image.always.init.0 queued
 room_for_always_init image k state queued accepted first at none =
@@ -167,7 +164,7 @@ room_for_always_init image k state queued accepted first at none =
     let opening = fit.3.opening state (subst (λ (n : ℕ). slice_get image.states n ≡ Some state) first at) in
     (fit.0, fit.1, omega (arith, opening, none))
 
--- room for the initial state's init, after the always init
+-- Room for the initial state's init after the always init.
 pub room_for_first_init : (image : ImageParts) (k : ℕ) (state : StateSpec) (before mid : List CommandId) → IsAccepted image → k ≡ image.initial.0
     → slice_get image.states k ≡ Some state → length before ≡ 0 → Appends image image.always.init.0 before mid → HasRoom image state.handlers.init.0 (length mid)
 room_for_first_init image k state before mid accepted first at none appends =
@@ -175,7 +172,7 @@ room_for_first_init image k state before mid accepted first at none appends =
     let opening = fit.3.opening state (subst (λ (n : ℕ). slice_get image.states n ≡ Some state) first at) in
     (fit.0, fit.1, omega (arith, opening, count_after image image.always.init.0 before mid fit.0 fit.1 appends, none))
 
--- the commands of two handlers are of the table
+-- The commands of two handlers are in the table.
 pub two_known : (image : ImageParts) (r q : ℕ) (before mid end : List CommandId) → before ≡ [] → Appends image r before mid → Appends image q mid end → All (IsCommand image) end
 two_known image r q before mid end none first second =
     let mid_known : All (IsCommand image) mid =

@@ -1,9 +1,9 @@
--- What is taken of a table, one entry after the other.
+-- The first entries of a table, with one more.
 use Rattle.std.proofs.Common.{◌≡◌, ℕ, zero, suc, ◌+◌, ◌<◌, List, [], ◌∷◌, ◌++◌, Some, length, map, take, ap, ◌∙◌, refl, arith}
 use Rattle.std.specs.Prelude.{slice_get, option_map}
 
--- the index after one, as loops write it
-after_suc : (i : ℕ) → suc i + 1 ≡ suc (i + 1)
+-- The next index, as loops write it.
+pub after_suc : (i : ℕ) → suc i + 1 ≡ suc (i + 1)
 after_suc i = omega arith
 
 pub entry_more : {X Y : Type 0} (f : X → Y) (xs : List X) (i : ℕ) (y : Y) → option_map f (slice_get xs i) ≡ Some y → map f (take (i + 1) xs) ≡ map f (take i xs) ++ y ∷ []

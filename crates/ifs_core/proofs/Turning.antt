@@ -1,4 +1,4 @@
--- What holds of each step of a run.
+-- Facts of each step of a run.
 use Rattle.std.proofs.Common.{◌≡◌, ℕ, ◌+◌, ◌-◌, ◌≤◌, ◌<◌, Bool, true, false, not, List}
 use Rattle.std.proofs.Common.{[], ◌∷◌, length, Option, Some, None, refl, ap, subst, arith}
 use Rattle.std.specs.Prelude.{All, IfSome, slice_get, nat_lt, if◌then◌else◌}
@@ -26,7 +26,7 @@ use Rattle.ifs_core.specs.HeadlineParts.{IsRun, EachRun, changed_by}
 use Rattle.ifs_core.proofs.Places.{link_stays, value_stays, run_over_stays, ticked_stays, settled_stays}
 use Rattle.ifs_core.proofs.Evaluating.{evaluation_keeps, evaluation_runs}
 
--- What holds of the reply to a step made in a state, and of the state after it.
+-- The facts of a turn from a state.
 pub record TurnHolds (image : ImageParts) (s : CoreState) (t : Turn) : Type 0 where
   pub budgets : KeepsBudgets image (commands_told t.reply) (cost_told t.reply)
   pub told : IfSome (state_told t.reply) (λ state. state ≡ t.next.position.current)
@@ -35,16 +35,16 @@ pub record TurnHolds (image : ImageParts) (s : CoreState) (t : Turn) : Type 0 wh
   pub busy : t.reply ≡ Busy → 64 - length s.queue < image.budgets.commands
   pub nothing : ChangesNothing t.reply → t.next ≡ s
 
--- The same, and that whatever the step evaluates runs to its end without a trap.
+-- The same, and each handler that the step evaluates ends without a trap.
 pub record StepHolds (image : ImageParts) (b : Behaviour) (step : Step) (s : CoreState) : Type 0 where
   pub runs : EachRun (IsRun image b) b (changed_by step s.position)
   pub turn : TurnHolds image s (turn b image.budgets.commands step s)
 
--- nothing keeps every budget
+-- No commands keep every budget.
 none : (image : ImageParts) → KeepsBudgets image [] 0
 none image = record { cost = omega arith; count = omega arith; known = All-nil (IsCommand image) }
 
--- One of two turns, by a test.
+-- A choice of one of two turns.
 by_test : (image : ImageParts) (s : CoreState) (test : Bool) (t u : Turn) → (test ≡ true → TurnHolds image s t) → (test ≡ false → TurnHolds image s u)
     → TurnHolds image s (if test then t else u)
 by_test image s true t u first second = first refl

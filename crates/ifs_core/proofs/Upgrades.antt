@@ -49,9 +49,7 @@ upgraded_in_range image in_range = record {
 
 routine_same : (image : ImageParts) (handler : Handler) → routine_of (upgraded image) handler ≡ routine_of image handler
 routine_same image AlwaysInit = refl
-routine_same image AlwaysBody = refl
-routine_same image (Init state) = refl
-routine_same image (Body state) = refl
+routine_same image handler = refl
 
 module _ (alike : UpgradeKeepsAcceptance) (same : UpgradeKeepsRuns) (image : ImageParts) where
   behaviour_after : (b : Behaviour) → IsBehaviour image b → IsBehaviour (upgraded image) b

@@ -1,4 +1,4 @@
--- Taking over: what a core hands on to the one that takes its place.
+-- Reload: what `carry` keeps of a core, and what `open_with` makes of it.
 use Rattle.std.specs.Prelude.{ℕ, ◌≡◌, ◌≢◌, if◌then◌else◌, List, [], ◌∷◌, ◌++◌, map, length, All, Some, slice_get}
 use Rattle.std.specs.Str.{bytes_eq}
 use Rattle.ifs_base.specs.declared.ids.CommandId.{CommandId}
@@ -12,45 +12,45 @@ use Rattle.ifs_core.specs.declared.carried.CarryCause.TheVariants as causes
 use Rattle.ifs_core.specs.declared.carried.NamedLink.{NamedLink}
 use Rattle.ifs_core.specs.Gateway.{OpenCore, Known}
 
--- What is handed on: the link states that are known, by the names of their interfaces, and the number of the next run, which is 0 where none is left.
+-- What is carried: the known link states by the names of their interfaces, and the number of the next run, 0 if none is left.
 pub record Carrying : Type 0 where
   pub links : List NamedLink
   pub next_run : ℕ
 
--- What is known of an interface: nothing where its link state is unknown.
+-- The link state of an interface under its name, or nothing if it is unknown.
 abbrev pub known_link : List ℕ → LinkState → List NamedLink
 known_link name Unknown = []
 known_link name link = record { name = name; link = link } ∷ []
 
--- What is known of interfaces and their link states, one after the other.
+-- The known link states of interfaces, under their names.
 abbrev pub known_links : List (List ℕ) → List LinkState → List NamedLink
 known_links (name ∷ names) (link ∷ links) = known_link name link ++ known_links names links
 known_links names links = []
 
--- This is handed on by a core.
+-- What is carried is that of a core.
 pub record IsCarriedFrom (core : OpenCore) (carried : Carrying) : Type 0 where
   pub links : carried.links ≡ known_links core.image.interfaces core.state.position.facts.links
   pub next_run : run_from carried.next_run ≡ core.state.position.schedule.next_run
 
--- Why a core with this queue hands on nothing: a command waits; or none does, and no memory was found.
+-- A core with this queue cannot be carried for a cause: a command waits, or none does and an allocation fails.
 abbrev pub CannotCarry : List CommandId → CarryCause → Type 0
 CannotCarry queue causes.Queued = queue ≢ []
 CannotCarry queue causes.Memory = queue ≡ []
 
--- The link state that is known of the interface of a name; unknown where none is.
+-- The known link state of the interface of a name, or unknown.
 abbrev pub link_named : List NamedLink → List ℕ → LinkState
 link_named [] name = Unknown
 link_named (known ∷ links) name = if bytes_eq known.name name then known.link else link_named links name
 
--- What is known where an image is opened with what was handed on: of each interface what was handed on under its name, and nothing else.
+-- What is known when an image is opened with what was carried: of each interface the link state under its name.
 abbrev pub known_by : Carrying → ImageParts → Known
 known_by carried image = record { links = map (link_named carried.links) image.interfaces; first_run = carried.next_run }
 
--- Among these interfaces of distinct names, each one's link state is found by its name, and under any other name none is known.
+-- The link state of each interface is found by its name, and that of any other name is unknown.
 pub record AreFoundByName (names : List (List ℕ)) (links : List LinkState) : Type 0 where
   pub each : (k : ℕ) (name : List ℕ) → slice_get names k ≡ Some name → slice_get links k ≡ Some (link_named (known_links names links) name)
   pub others : (name : List ℕ) → All (λ other. other ≢ name) names → link_named (known_links names links) name ≡ Unknown
 
--- What is handed on of an image's links is found again by the names of its interfaces.
+-- The carried link states of an image are found by the names of its interfaces.
 abbrev pub LinksStand : Type 0
 LinksStand = (image : ImageParts) (links : List LinkState) → Fits image → length links ≡ length image.interfaces → AreFoundByName image.interfaces links

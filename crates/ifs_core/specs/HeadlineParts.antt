@@ -1,4 +1,4 @@
--- What the headline speaks of beside runs: the handler runs of an event, and behaviours that answer alike.
+-- Parts of the headline: the handler runs of an event, and behaviours that agree.
 use Rattle.std.specs.Prelude.{ℕ, ◌≡◌, List, Some}
 use Rattle.ifs_base.specs.Facts.{Facts}
 use Rattle.ifs_base.specs.declared.ids.StateId.{StateId}
@@ -12,43 +12,42 @@ use Rattle.ifs_core.specs.Machine.{routine_of}
 use Rattle.ifs_core.specs.Gateway.{Known, opening_of, opened}
 use Rattle.ifs_core.specs.Steps.{with_link, with_value, with_run_over, replies, after_steps}
 
--- A handler's run on the machine ends without a trap, and what it costs and brings about is what the behaviour answers.
+-- A handler's run on the machine ends without a trap, with the cost and the effects of the behaviour.
 pub record IsRun (image : ImageParts) (b : Behaviour) (handler : Handler) (facts : Facts) (before : Effects) : Type 0 where
   pub routine : ℕ
   pub is : routine_of image handler ≡ Some routine
   pub ends : RunsTo image facts routine before (b.cost handler facts) (followed before (b.answer handler facts))
 
--- A handler's run is within the stated stack and frames at each of its rows.
+-- A handler's run is within the stated stack and frames after each row.
 abbrev pub IsWithinBudgets : ImageParts → Handler → Facts → Effects → Type 0
 IsWithinBudgets image handler facts before = (routine : ℕ) → routine_of image handler ≡ Some routine → StaysWithin image facts routine before
 
--- What an evaluation has brought about after the always body.
+-- The effects of an evaluation after the always body.
 abbrev pub after_always : Behaviour → Position → Effects
 after_always b p = followed nothing_yet (b.answer AlwaysBody p.facts)
 
--- What an evaluation has brought about after both bodies.
+-- The effects of an evaluation after both bodies.
 abbrev pub after_bodies : Behaviour → Position → Effects
 after_bodies b p = followed (after_always b p) (b.answer (Body p.current.0) p.facts)
 
--- It holds of each handler run of an evaluation: of the always body, then of the current state's body, and then of the init of the state that is entered, where one is.
+-- A fact of each handler run of an evaluation: of the always body, of the current state's body, and of the init of an entered state.
 pub record EachRun (Holds : Handler → Facts → Effects → Type 0) (b : Behaviour) (p : Position) : Type 0 where
   pub always : Holds AlwaysBody p.facts nothing_yet
   pub body : Holds (Body p.current.0) p.facts (after_always b p)
   pub init : (next : StateId) → change_of p.current (after_bodies b p).wish ≡ Some next → Holds (Init next.0) (entering b next p).facts (after_bodies b p)
 
--- It holds of both handler runs of the opening: of the always init, and then of the initial state's.
+-- A fact of both handler runs of the opening: of the always init and of the initial state's init.
 pub record BothRuns (Holds : Handler → Facts → Effects → Type 0) (b : Behaviour) (image : ImageParts) (known : Known) : Type 0 where
   pub always : Holds AlwaysInit (opening_of b image known).position.facts nothing_yet
   pub init : Holds (Init image.initial.0) (opening_of b image known).position.facts (followed nothing_yet (b.answer AlwaysInit (opening_of b image known).position.facts))
 
--- Where a step evaluates, if it does: after the change that it tells of.
+-- The position from which a step evaluates, if it does: after the change of its fact.
 abbrev pub changed_by : Step → Position → Position
 changed_by (Link interface link) p = with_link interface.0 link p
 changed_by (Finished test run value) p = with_value test.0 value (with_run_over test.0 run p)
-changed_by (Tick now) p = p
-changed_by Take p = p
+changed_by _ p = p
 
--- Two behaviours have one opening, and for a list of steps the same replies and the same state after it.
+-- Two behaviours have the same opening, and for a list of steps the same replies and the same state afterwards.
 pub record RunAlike (image : ImageParts) (known : Known) (a b : Behaviour) (steps : List Step) : Type 0 where
   pub opening : opening_of a image known ≡ opening_of b image known
   pub replies : replies a image.budgets.commands steps (opened a image known) ≡ replies b image.budgets.commands steps (opened b image known)

@@ -1,4 +1,4 @@
--- Steps: for each one reply, and one next state of the core.
+-- Steps: each has one reply and one next state of the core.
 use Rattle.std.specs.Prelude.{ℕ, ◌≡◌, ◌-◌, Bool, true, false, not, nat_lt, if◌then◌else◌, List}
 use Rattle.std.specs.Prelude.{[], ◌∷◌, ◌++◌, length, slice_get, slice_set, Option, Some, None}
 use Rattle.circular_buffer.specs.Buffer.{keep_last}
@@ -22,46 +22,46 @@ use Rattle.ifs_core.specs.declared.step.Answer.TheVariants as answers
 use Rattle.ifs_core.specs.declared.step.Record.{Record}
 use Rattle.ifs_core.specs.Event.{Behaviour, Position, Event, evaluation}
 
--- The state of a core: where it stands, its queue of commands, and the records of its last steps.
+-- The state of a core: its position, its queue of commands, and the records of its last steps.
 pub record CoreState : Type 0 where
   pub position : Position
   pub queue : List CommandId
   pub trace : List Record
 
--- A step made: the reply, and the state after it.
+-- A turn: the reply to a step, and the state afterwards.
 pub record Turn : Type 0 where
   pub reply : Reply
   pub next : CoreState
 
--- This reply and this state are those of a step.
+-- A reply and a state are those of a turn.
 pub record Makes (t : Turn) (reply : Reply) (state : CoreState) : Type 0 where
   pub replied : reply ≡ t.reply
   pub came_to : state ≡ t.next
 
--- How many instructions a reply says that its step executed; none where it tells of no evaluation.
+-- The number of executed instructions in a reply; 0 if it reports no evaluation.
 abbrev pub cost_told : Reply → ℕ
 cost_told (Done state queued cost) = cost
 cost_told (Ticked evaluated state queued cost starts exhausted) = cost
 cost_told _ = 0
 
--- The commands that a reply says were queued, in order.
+-- The queued commands in a reply, in order.
 abbrev pub commands_told : Reply → List CommandId
 commands_told (Done state queued cost) = queued.items
 commands_told (Ticked evaluated state queued cost starts exhausted) = queued.items
 commands_told _ = []
 
--- The state that a reply says is the current one.
+-- The current state in a reply.
 abbrev pub state_told : Reply → Option StateId
 state_told (Done state queued cost) = Some state
 state_told (Ticked evaluated state queued cost starts exhausted) = Some state
 state_told _ = None
 
--- The command that a reply hands out.
+-- The taken command in a reply.
 abbrev pub command_taken : Reply → Option CommandId
 command_taken (Taken command) = Some command
 command_taken _ = None
 
--- The replies that change nothing.
+-- A reply changes nothing.
 abbrev pub ChangesNothing : Reply → Type 0
 ChangesNothing Empty = Unit {0}
 ChangesNothing Busy = Unit {0}
@@ -70,11 +70,11 @@ ChangesNothing Backwards = Unit {0}
 ChangesNothing NoSuch = Unit {0}
 ChangesNothing _ = ⊥
 
--- The trace is the last 256 records.
+-- The trace with one more record: it keeps the last 256.
 abbrev pub traced : Record → List Record → List Record
 traced r trace = keep_last 256 (trace ++ r ∷ [])
 
--- The commands of a step go to the queue's end, and the trace records the step, its answer, the state after it, how many commands it queued and what it cost.
+-- The state after the commands of a step are appended to the queue and the step is recorded in the trace.
 abbrev pub settled : Step → Answer → List CommandId → ℕ → CoreState → CoreState
 settled step answer commands cost s = record {
   position = s.position;
@@ -86,58 +86,58 @@ settled step answer commands cost s = record {
 abbrev pub at_position : Position → CoreState → CoreState
 at_position p s = record { position = p; queue = s.queue; trace = s.trace }
 
--- A reply that changes nothing.
+-- A turn that changes nothing.
 abbrev pub unchanged : Reply → CoreState → Turn
 unchanged reply s = record { reply = reply; next = s }
 
--- A step by which no fact changes.
+-- A turn that changes no fact.
 abbrev pub same : Step → CoreState → Turn
 same step s = record { reply = Same; next = settled step answers.Same [] 0 s }
 
--- A step that came to an event.
+-- A turn with an event.
 abbrev pub done : Step → Event → CoreState → Turn
 done step e s = record {
   reply = Done e.position.current (record { items = e.commands }) e.cost;
   next = settled step answers.Done e.commands e.cost (at_position e.position s);
 }
 
--- A tick: an event where one was owed, and then the schedule's tick at that moment.
+-- A turn of a tick: an event if one was owed, and then the tick of the schedule.
 abbrev pub ticked_after : ℕ → Bool → Event → CoreState → Turn
 ticked_after now evaluated e s = record {
   reply = Ticked evaluated e.position.current (record { items = e.commands }) e.cost (record { items = starts now e.position.schedule }) (is_exhausted now e.position.schedule);
   next = settled (Tick now) answers.Ticked e.commands e.cost (at_position (record e.position { schedule = ticked now e.position.schedule }) s);
 }
 
--- What a tick does where no evaluation is owed: nothing.
+-- The event of a tick that evaluates nothing.
 abbrev pub no_event : Position → Event
 no_event p = record { position = p; commands = []; cost = 0 }
 
--- The queue lacks room: its free places, of 64, are fewer than the stated commands of an event.
+-- Whether the queue lacks room: of its 64 places fewer are free than the stated commands of an event.
 abbrev pub lacks_room : ℕ → CoreState → Bool
 lacks_room room s = nat_lt (64 - length s.queue) room
 
--- An interface has another link state.
+-- The position with another link state of an interface.
 abbrev pub with_link : ℕ → LinkState → Position → Position
 with_link interface link p = record p { facts = record { links = slice_set p.facts.links interface link; tests = p.facts.tests } }
 
--- A test has a value.
+-- The position with a value of a test.
 abbrev pub with_value : ℕ → Bool → Position → Position
 with_value test value p = record p { facts = record { links = p.facts.links; tests = slice_set p.facts.tests test (Some value) } }
 
--- The run of a test is over.
+-- The position after the end of a test's run.
 abbrev pub with_run_over : ℕ → ℕ → Position → Position
 with_run_over test run p = record p { schedule = finished test run p.schedule }
 
--- A step that changes a fact, so that the position is this one: it evaluates, where the queue has room.
+-- A turn that changes a fact: it evaluates from this position, if the queue has room.
 abbrev pub changing : Behaviour → ℕ → Step → Position → CoreState → Turn
 changing b room step p s = if lacks_room room s then unchanged Busy s else done step (evaluation b p) s
 
--- An interface that has a link state.
+-- The step `Link`: an interface and its link state.
 pub record LinkSeen : Type 0 where
   pub interface : IfaceId
   pub link : LinkState
 
--- That step, by what the table has of the interface.
+-- The turn of `Link`, by the present link state of the interface.
 abbrev pub link_turn : Behaviour → ℕ → LinkSeen → Option LinkState → CoreState → Turn
 link_turn b room seen None s = unchanged NoSuch s
 link_turn b room seen (Some before) s =
@@ -151,13 +151,13 @@ has_value value None = false
 has_value true (Some before) = before
 has_value false (Some before) = not before
 
--- A test's run that has ended, and the value that it found.
+-- The step `Finished`: a test, the number of its run, and the value.
 pub record RunEnded : Type 0 where
   pub test : TestId
   pub run : ℕ
   pub value : Bool
 
--- That step, by what the table has of the test. The run is over, unless the reply changes nothing.
+-- The turn of `Finished`, by the present value of the test. The run is over, unless the reply changes nothing.
 abbrev pub finished_turn : Behaviour → ℕ → RunEnded → Option (Option Bool) → CoreState → Turn
 finished_turn b room ended None s = unchanged NoSuch s
 finished_turn b room ended (Some before) s =
@@ -167,7 +167,7 @@ finished_turn b room ended (Some before) s =
     if has_value ended.value before then same step (at_position over s) else
     changing b room step (with_value ended.test.0 ended.value over) s
 
--- A tick: the owed evaluation comes before the starts.
+-- The turn of `Tick`: an owed evaluation comes before the starts.
 abbrev pub tick_turn : Behaviour → ℕ → ℕ → CoreState → Turn
 tick_turn b room now s =
     let p = s.position in
@@ -175,7 +175,7 @@ tick_turn b room now s =
     if p.owed then (if lacks_room room s then unchanged Busy s else ticked_after now true (evaluation b p) s) else
     ticked_after now false (no_event p) s
 
--- The taking of a command, by the queue.
+-- The turn of `Take`, by the queue.
 abbrev pub take_turn : List CommandId → CoreState → Turn
 take_turn [] s = unchanged Empty s
 take_turn (command ∷ commands) s = record {
@@ -183,7 +183,7 @@ take_turn (command ∷ commands) s = record {
   next = settled Take answers.Taken [] 0 (record { position = s.position; queue = commands; trace = s.trace });
 }
 
--- The reply to a step and the state after it, where one event may queue so many commands.
+-- The turn of a step, if one event may queue `room` commands.
 abbrev pub turn : Behaviour → ℕ → Step → CoreState → Turn
 turn b room (Link interface link) s = link_turn b room (record { interface = interface; link = link }) (slice_get s.position.facts.links interface.0) s
 turn b room (Finished test run value) s = finished_turn b room (record { test = test; run = run; value = value }) (slice_get s.position.facts.tests test.0) s
@@ -200,7 +200,7 @@ abbrev pub after_steps : Behaviour → ℕ → List Step → CoreState → CoreS
 after_steps b room [] s = s
 after_steps b room (step ∷ steps) s = after_steps b room steps (turn b room step s).next
 
--- The reply that an outcome makes with the lists that were lent to its step.
+-- The reply of an outcome and the lists of its step.
 abbrev pub reply_of : Outcome → Lists → Reply
 reply_of (outcomes.Done state cost) lists = Done state lists.effects.queued cost
 reply_of outcomes.Same lists = Same
@@ -212,7 +212,7 @@ reply_of outcomes.Stale lists = Stale
 reply_of outcomes.Backwards lists = Backwards
 reply_of outcomes.NoSuch lists = NoSuch
 
--- The reply to the taking of a command, by the command that is answered.
+-- The reply to `Take`, by the returned command.
 abbrev pub taken_reply : Option CommandId → Reply
 taken_reply None = Empty
 taken_reply (Some command) = Taken command

@@ -1,4 +1,4 @@
--- Upgrade keeps: an image of version 1 and its upgrade are accepted alike and mean the same, over the definitions alone.
+-- Upgrade: an image of version 1 and its upgrade are accepted alike and mean the same.
 use Rattle.std.specs.Prelude.{ℕ, ◌≡◌, ◌↔◌, List}
 use Rattle.ifs_image.specs.declared.parts.Budgets.{Budgets}
 use Rattle.ifs_image.specs.declared.parts.ImageParts.{ImageParts}
@@ -15,30 +15,30 @@ use Rattle.ifs_core.specs.Headline.{IsVerified}
 abbrev pub with_budgets : ImageParts → Budgets → ImageParts
 with_budgets image budgets = record image { budgets = budgets }
 
--- Two images mean the same: what is accepted of one and what its events are is so of the other.
+-- Two images mean the same: they are accepted alike, and have the same events and budgets.
 pub record MeansTheSame (image other : ImageParts) : Type 0 where
-  -- one is accepted exactly where the other is
+  -- one is accepted if and only if the other is
   pub accepted : IsAccepted image ↔ IsAccepted other
-  -- they have the same behaviours, and an event is made of these alone,
+  -- they have the same behaviours, which determine each event except the opening
   pub behaviours : (b : Behaviour) → IsBehaviour image b ↔ IsBehaviour other b
-  -- but for the opening, which is the same too
+  -- they have the same opening
   pub opening : (b : Behaviour) (known : Known) → opening_of b other known ≡ opening_of b image known
-  -- they state the same budgets,
+  -- they state the same budgets
   pub budgets : other.budgets ≡ image.budgets
-  -- and any budgets would be enough for one exactly where they would be for the other, so the least are the same
+  -- any budgets are enough for one if and only if they are for the other, so the least are the same
   pub enough : (budgets : Budgets) → IsAccepted (with_budgets image budgets) ↔ IsAccepted (with_budgets other budgets)
 
--- The upgrade of an image of version 1 keeps to the limits, and means the same.
+-- The upgrade of an image of version 1 fits the limits, and means the same.
 abbrev pub UpgradeKeeps : Type 0
 UpgradeKeeps = (image : ImageParts) → Fits image → image.version ≡ 1 → Fits (upgraded image) × MeansTheSame image (upgraded image)
 
--- What bytes that spell an image say of those that spell its upgrade.
+-- The bytes of an image and those of its upgrade.
 pub record UpgradedBytes (bytes : List ℕ) (image : ImageParts) : Type 0 where
-  -- there are such bytes
+  -- there are bytes of the upgrade
   pub spelled : Spells (image_bytes (upgraded image)) (upgraded image)
-  -- whichever they are, `verify` accepts them exactly where it accepts the image's
+  -- `verify` accepts them if and only if it accepts those of the image
   pub verified : (other : List ℕ) → Spells other (upgraded image) → IsVerified bytes image ↔ IsVerified other (upgraded image)
-  -- and the images that it answers with mean the same
+  -- both images mean the same
   pub means : MeansTheSame image (upgraded image)
 
 -- The same of bytes that spell an image of version 1.

@@ -1,3 +1,3 @@
--- What private functions keep to, and the fields of a core, for proofs alone.
+-- Definitions for private functions and for proofs.
 pub mod Within
 pub mod Opened

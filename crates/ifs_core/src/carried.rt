@@ -1,4 +1,4 @@
-//! What a core hands on to the one that takes its place.
+//! What a reload carries from one core to the next.
 
 ghost use Rattle.std.specs.Prelude.{◌≡◌, ◌++◌, ◌≤◌, ◌<◌, [], IfOk, OnOk, Some, length, map, slice_get};
 ghost use Rattle.ifs_core.specs.Carrying.{known_link, known_links as all_known, link_named as named_by};
@@ -20,8 +20,8 @@ pub struct NamedLink {
     pub link: LinkState,
 }
 
-/// What a core hands on: the link states that it knows, the number of its next run, and the room of its trace, in
-/// which no record is left.
+/// What `carry` keeps of a core: the known link states, the number of the next run, and the memory of the trace,
+/// which is empty.
 #[derive(Debug)]
 pub struct Carried {
     links: Items<NamedLink>,
@@ -51,10 +51,10 @@ impl Model for Carried {
     ghost invariant = { λ a. a.trace ≡ buffer [] 256 };
 }
 
-/// Why a core cannot hand on what it knows.
+/// Why a core cannot be carried.
 #[derive(Clone, Copy, Debug, PartialEq, Eq, Error)]
 pub enum CarryCause {
-    /// L0: no memory was found.
+    /// L0: an allocation fails.
     #[error("L0")]
     Memory,
     /// L1: commands wait in the queue, and would be lost.
@@ -62,7 +62,7 @@ pub enum CarryCause {
     Queued,
 }
 
-/// A core that could not hand on what it knows, which is as it was, and why.
+/// A core that cannot be carried, unchanged, and the cause.
 #[derive(Debug, Drop, Error)]
 #[error("{cause}")]
 pub struct CarryFault<'a> {
@@ -74,7 +74,7 @@ impl Carried {
     ghost use Rattle.std.specs.Prelude.{◌≡◌, []};
     ghost use Rattle.circular_buffer.specs.Buffer.{buffer};
 
-    /// These link states, this number of the next run, and the room of this trace, whose records are dropped.
+    /// These link states, this number of the next run, and the memory of this trace. Its records are dropped.
     pub(crate) fn new(
         links: Items<NamedLink>,
         next_run: u64,
@@ -91,21 +91,21 @@ impl Carried {
         }
     }
 
-    /// The link states that are known.
+    /// The known link states.
     pub(crate) fn links(&self) -> &[NamedLink]
         ensures { result.now ≡ self.now.links }
     {
         self.links.as_slice()
     }
 
-    /// The number of the next run; 0 where none is left.
+    /// The number of the next run; 0 if none is left.
     pub(crate) fn next_run(&self) -> u64
         ensures { result ≡ self.now.next_run }
     {
         self.next_run
     }
 
-    /// The room of the trace.
+    /// The memory of the trace, which is empty.
     pub(crate) fn into_trace(self) -> HeapCircularBuffer<Record>
         ensures { result ≡ buffer [] 256 }
     {
@@ -118,7 +118,7 @@ impl Carried {
     }
 }
 
-/// Adds what is known of an interface of this name: nothing where its link state is unknown.
+/// Adds the link state of an interface of this name, unless it is unknown.
 fn add_known(
     alloc: Global,
     known: &mut Vec<NamedLink>,
@@ -135,7 +135,7 @@ fn add_known(
     Ok(())
 }
 
-/// The link states that are known, of the interfaces of an image.
+/// The known link states of the interfaces of an image.
 pub fn known_links(
     alloc: Global,
     image: &ImageView<'_>,
@@ -156,7 +156,7 @@ pub fn known_links(
     Ok(Items::new(known))
 }
 
-/// The link state that is known of the interface of a name; unknown where none is.
+/// The known link state of the interface of a name, or unknown.
 fn link_named(links: &[NamedLink], name: &str) -> LinkState
     ensures { result ≡ named_by links.now name.now }
 {
@@ -168,7 +168,7 @@ fn link_named(links: &[NamedLink], name: &str) -> LinkState
     LinkState::Unknown
 }
 
-/// The link states of an image's interfaces, as far as they are known by their names.
+/// The link states of an image's interfaces: those that are known under their names, or unknown.
 pub fn links_by_name(image: &ImageView<'_>, known: &[NamedLink]) -> ArrayVec<LinkState, 64>
     requires { length image.now.interfaces ≤ 64 }
     ensures value { result.items ≡ map (named_by known.now) image.now.interfaces }

@@ -1,4 +1,4 @@
-//! Events: what the handlers of an image make of a position.
+//! Events: what the handlers of an image do to a position.
 
 ghost use Rattle.std.specs.Prelude.{◌≡◌, ◌+◌, ◌<◌, ◌≤◌, ◌++◌, All, None, Some, length, map, slice_get};
 ghost use Rattle.ifs_image.specs.declared.parts.StateSpec.{StateSpec};
@@ -35,7 +35,7 @@ fn always_of(verified: &Verified<'_>) -> Handlers
     verified.image().always()
 }
 
-/// Runs the always body and then the current state's, and answers what both cost.
+/// Runs the always body and then the current state's, and returns the cost of both.
 fn run_bodies(verified: &Verified<'_>, position: &Position, effects: &mut Effects) -> u32
     requires position { IsPositionOf verified.now (position_of position.now) }
     requires first { effects_of effects.old ≡ nothing_yet }
@@ -56,7 +56,7 @@ fn run_bodies(verified: &Verified<'_>, position: &Position, effects: &mut Effect
     always + body
 }
 
-/// The state that a wish leads to, where it names another than the current one.
+/// The state that a wish leads to, if it is not the current one.
 fn change_of(current: StateId, wish: Option<StateId>) -> Option<StateId>
     ensures { result ≡ change_by current wish }
 {
@@ -68,7 +68,7 @@ fn change_of(current: StateId, wish: Option<StateId>) -> Option<StateId>
     }
 }
 
-/// The value of a test after an entry.
+/// The value of a test after an entry: it is lost if the test is outside the always set.
 fn value_after_entry(value: Option<bool>, always: u64, test: usize) -> Option<bool>
     requires { test < 64 }
     ensures { result ≡ kept_value always test value }
@@ -76,7 +76,7 @@ fn value_after_entry(value: Option<bool>, always: u64, test: usize) -> Option<bo
     if always >> test & 1 == 1 { value } else { None }
 }
 
-/// The values of tests after an entry: those outside the always set are lost.
+/// The values of all tests after an entry.
 fn values_after_entry(values: &[Option<bool>], always: u64) -> ArrayVec<Option<bool>, 64>
     requires { length values.now ≤ 64 }
     ensures { result.items ≡ kept_values always values.now }
@@ -120,16 +120,15 @@ fn run_init(verified: &Verified<'_>, position: &Position, effects: &mut Effects)
     run_handler(verified, own.init, &position.facts, effects)
 }
 
-/// Runs the always body and the current state's, and enters the state that the last wish of both
-/// leads to, whose init follows. What they bring about stands in the effects, and nothing else; it
-/// answers how many instructions they executed.
+/// Runs the always body and the current state's body. Enters the state that the last wish of both leads to, and
+/// runs its init. The effects are those of these handlers alone. Returns the number of executed instructions.
 pub fn evaluate(verified: &Verified<'_>, position: &mut Position, effects: &mut Effects) -> u32
     requires { IsPositionOf verified.now (position_of position.old) }
     ensures exact { (b : Behaviour) → IsBehaviour verified.now b
         → IsEvent (evaluation b (position_of position.old)) (position_of position.new) effects.new.queued.items result }
     ensures position { IsPositionOf verified.now (position_of position.new) }
     ensures moment { position.new.schedule.present ≡ position.old.schedule.present }
-    // What it queues and costs is within the stated budgets.
+    // Its commands and its cost are within the stated budgets.
     ensures budgets { KeepsBudgets verified.now effects.new.queued.items result }
 {
     effects.queued.clear();
@@ -146,7 +145,7 @@ pub fn evaluate(verified: &Verified<'_>, position: &mut Position, effects: &mut 
     }
 }
 
-/// Nothing is known of the links of an image's interfaces.
+/// Unknown link states for the interfaces of an image.
 pub fn unknown_links(image: &ImageView<'_>) -> ArrayVec<LinkState, 64>
     requires { length image.now.interfaces ≤ 64 }
     ensures value { result.items ≡ all_unknown image.now }
@@ -159,7 +158,7 @@ pub fn unknown_links(image: &ImageView<'_>) -> ArrayVec<LinkState, 64>
     links
 }
 
-/// No test of an image has a value.
+/// No values for the tests of an image.
 fn no_values(image: &ImageView<'_>) -> ArrayVec<Option<bool>, 64>
     requires { length image.now.tests ≤ 64 }
     ensures { result.items ≡ map (λ _. None) (periods_in image.now) }
@@ -183,8 +182,8 @@ fn periods_of(image: &ImageView<'_>) -> ArrayVec<u32, 64>
     periods
 }
 
-/// The position before the inits: the initial state is entered at moment 0, with these link states of the
-/// interfaces, and the first run has this number; 0 says that no number is left.
+/// The position before the inits: the initial state is entered at moment 0, with these link states. The first run
+/// has the number `first_run`; 0 says that no number is left.
 pub fn open_position(
     verified: &Verified<'_>,
     links: ArrayVec<LinkState, 64>,

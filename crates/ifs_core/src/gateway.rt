@@ -12,10 +12,10 @@ use std::alloc::{AllocError, Global};
 use std::marker::Model;
 use thiserror::Error;
 
-/// How many records the trace keeps.
+/// The number of records that the trace keeps.
 pub const TRACE: usize = 256;
 
-/// A gateway at work: an accepted image, and where its run stands.
+/// A gateway: an accepted image, and the state of its run.
 #[derive(Debug)]
 pub struct Core<'a> {
     pub(crate) verified: Verified<'a>,
@@ -47,7 +47,7 @@ impl<'a> Model for Core<'a> {
     ghost invariant = { IsConsistent };
 }
 
-/// No memory was found for the trace. The image is handed back.
+/// The allocation of the trace failed. The image is returned.
 #[derive(Debug, Drop, Error)]
 #[error("V0")]
 pub struct OpenFault<'a> {
@@ -63,10 +63,10 @@ impl<'a> Core<'a> {
     ghost use Rattle.ifs_core.specs.Gateway.{nothing_known, opened};
     ghost use Rattle.ifs_core.specs.Headline.{OpeningKeeps};
 
-    /// Opens an image at moment 0: all links are unknown and no test has a value. The always init
-    /// and the initial state's init run and their commands are queued; their wishes are dropped.
+    /// Opens an image at moment 0: all links are unknown, and no test has a value. The always init and the initial
+    /// state's init run. Their commands are queued, and their wishes are dropped.
     ///
-    /// Only the trace takes memory; where none is found, the image comes back.
+    /// Only the trace is allocated. `OpenFault` has the image if that fails.
     pub fn open(alloc: Global, verified: Verified<'a>) -> Result<Core<'a>, OpenFault<'a>>
         ensures image { IfOk result (λ core. core.image ≡ verified.entry) }
         ensures state { IfOk result (λ core. (b : Behaviour) → IsBehaviour verified.entry b → core.state ≡ opened b verified.entry (nothing_known verified.entry)) }
@@ -78,19 +78,19 @@ impl<'a> Core<'a> {
             Ok(trace) => {
                 let links = unknown_links(verified.image());
                 let core = Core::started(verified, links, 1, trace);
-                // The image, which is accepted, keeps what is promised of its opening.
+                // The image is accepted, so its opening keeps the headline.
                 core.image();
                 Ok(core)
             }
         }
     }
 
-    /// Opens an image in the place of a core that handed on what it knows. An interface has the link state that
-    /// was handed on under its name, and is unknown where none was; what was handed on under other names is
-    /// dropped. Run numbers go on. All else is as `open` has it: it is moment 0, no test has a value, the inits
-    /// run and their commands are queued, and the trace is empty.
+    /// Opens an image with what `carry` kept of another core. An interface has the link state that was carried under
+    /// its name, and is unknown if none was; link states of other names are dropped. Run numbers go on. All else is as
+    /// in `open`: it is moment 0, no test has a value, the inits run and their commands are queued, and the trace is
+    /// empty.
     ///
-    /// It takes no memory and always answers.
+    /// It allocates nothing, and cannot fail.
     pub fn open_with(next: Verified<'a>, carried: Carried) -> Core<'a>
         ensures image { result.image ≡ next.entry }
         ensures state { (b : Behaviour) → IsBehaviour next.entry b → result.state ≡ opened b next.entry (known_by carried next.entry) }
@@ -99,16 +99,16 @@ impl<'a> Core<'a> {
         let links = links_by_name(next.image(), carried.links());
         let first_run = carried.next_run();
         let core = Core::started(next, links, first_run, carried.into_trace());
-        // The image, which is accepted, keeps what is promised of its opening.
+        // The image is accepted, so its opening keeps the headline.
         core.image();
         core
     }
 
-    /// Ends the core, and hands on what the one that takes its place goes on with: the link states that are known,
-    /// by the names of their interfaces, the number of the next run, and the room of the trace.
+    /// Ends the core, and keeps what the next one needs: the known link states by the names of their interfaces, the
+    /// number of the next run, and the memory of the trace.
     ///
-    /// L1 where a command waits in the queue, which is looked at first; L0 where no memory is found for the names.
-    /// The core is then handed back as it was.
+    /// L1 if a command waits in the queue, which is checked first; L0 if the allocation of the names fails. The fault
+    /// has the core, unchanged.
     pub fn carry(self, alloc: Global) -> Result<Carried, CarryFault<'a>>
         ensures carried { IfOk result (λ carried. IsCarriedFrom self.entry carried) }
         ensures queue { OnOk result (self.entry.state.queue ≡ []) }
@@ -143,8 +143,7 @@ impl<'a> Core<'a> {
         }
     }
 
-    /// A core whose image was opened with these link states and this first run number, and with this trace, which
-    /// is empty.
+    /// Opens an image with these link states, this first run number and this empty trace.
     fn started(
         verified: Verified<'a>,
         links: ArrayVec<LinkState, 64>,

@@ -1,4 +1,4 @@
-//! What holds of every run, whoever makes it.
+//! Laws of runs.
 
 ghost use Rattle.std.specs.Prelude.{◌≡◌, ◌≤◌};
 ghost use Rattle.ifs_core.specs.Event.{Behaviour};
@@ -16,18 +16,18 @@ use ifs_machine::laws::{
 };
 use ifs_verify::laws::upgrade_keeps_acceptance;
 
-/// The headline. For every byte string that `verify` accepts and every list of steps, with any values
-/// in them, no step traps; each runs at most the image's stated instructions, within its stated stack
-/// and frames, queues at most its stated number of commands, all from its table, and leaves a state of
-/// its list; states and replies are those of the machine's table; `Busy` comes only where the queue
-/// lacks that stated room, and changes nothing. Opening is included.
+/// The headline, for every byte string that `verify` accepts and every list of steps with any values. No step
+/// traps. Each step runs at most the image's stated instructions, within its stated stack and frames. It queues at
+/// most its stated number of commands, all from its table, and leaves a state of its list. States and replies are
+/// those of the machine's table. `Busy` comes only if the queue lacks that stated room, and changes nothing. The
+/// opening is included.
 pub fn headline()
     ensures { Headline }
 {
     accepted_is_kept();
 }
 
-/// The same of every accepted image within its limits, whichever bytes spell it.
+/// The headline of every accepted image within its limits, whatever bytes spell it.
 pub fn accepted_is_kept()
     ensures { AcceptedIsKept }
 {
@@ -37,8 +37,8 @@ pub fn accepted_is_kept()
     runs_stay_within();
 }
 
-/// Upgrade keeps. An image of version 1 within its limits has an upgrade within them, which is accepted
-/// exactly where it is, with the same events and the same budgets, stated and least.
+/// The upgrade of an image of version 1 within its limits is within them too. Both are accepted alike, and have the
+/// same events and the same budgets, stated and least.
 pub fn upgrade_keeps()
     ensures { UpgradeKeeps }
 {
@@ -46,7 +46,7 @@ pub fn upgrade_keeps()
     upgrade_keeps_runs();
 }
 
-/// The same of bytes that spell an image of version 1, and of those that spell its upgrade, which there are.
+/// The same of bytes that spell an image of version 1 and of those that spell its upgrade, which exist.
 pub fn upgrade_keeps_bytes()
     ensures { UpgradeKeepsBytes }
 {
@@ -54,18 +54,17 @@ pub fn upgrade_keeps_bytes()
     upgrade_keeps();
 }
 
-/// What a core hands on of its links is found again by the names of their interfaces: an image with the same
-/// interfaces, in whatever order, begins with each link state as it was, and any other interface with none.
+/// Carried link states are found by the names of their interfaces. So an image with the same interfaces, in any
+/// order, begins with the same link states, and any other interface begins as unknown.
 pub fn links_stand()
     ensures { LinksStand }
 {}
 
-/// Makes a step of a core that was lent, and tells how many instructions it executed: at most what the
-/// core's image states, whoever lent it and whatever was done with it before. An example of a caller
-/// that has nothing but the core.
+/// Makes a step of a borrowed core, and returns the number of executed instructions. It is at most the stated cost,
+/// whatever was done with the core before. This is an example of a caller that has only the core.
 pub fn cost_of_step(core: &mut Core<'_>, step: Step) -> u32
     ensures cost { result ≤ core.old.image.budgets.cost }
-    // It is the cost that the run's reply tells.
+    // It is the cost of the reply of the run.
     ensures told { (b : Behaviour) → IsBehaviour core.old.image b
         → result ≡ cost_told (turn b core.old.image.budgets.commands step core.old.state).reply }
     ensures image { core.new.image ≡ core.old.image }

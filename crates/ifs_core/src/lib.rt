@@ -1,15 +1,14 @@
 //! The core: steps in, replies out.
 //!
-//! A core keeps what is known of links and tests, the current state, whether an evaluation is owed,
-//! the schedule of tests, the queue of commands and a trace. A step is a change of a link, the end
-//! of a test's run, a tick, or the taking of a command. An evaluation runs the always body and then
-//! the current state's body; the last wish of both leads to another state, whose init then runs in
-//! the same event.
+//! A core has the known facts of links and tests, the current state, whether an evaluation is owed, the
+//! schedule of tests, the queue of commands and a trace. A step is a change of a link, the end of a test's
+//! run, a tick, or the taking of a command. An evaluation runs the always body and then the current state's
+//! body. The last wish of both leads to another state, and its init then runs in the same event.
 //!
-//! A core ends by `carry`, and what it knew of links and run numbers goes on in the one that `open_with` makes.
+//! `carry` ends a core, and `open_with` makes the next one with its link states and run numbers.
 //!
-//! Contract: the opening, each reply and each next state are exactly those of the run, whose handlers
-//! do what the machine's table says; `laws::headline` says what holds of every such run.
+//! The opening, each reply and each next state are exactly those of the run, whose handlers run by the machine's
+//! table. `laws::headline` is the law of every such run.
 #![tactic(auto)]
 
 mod carried;

@@ -1,10 +1,10 @@
-//! Where a core stands.
+//! The position of a core.
 
 use ifs_base::StateId;
 use ifs_machine::Facts;
 use ifs_sched::Schedule;
 
-/// What a core knows, the current state, whether an evaluation is owed, and the schedule of tests.
+/// The known facts, the current state, whether an evaluation is owed, and the schedule of tests.
 #[derive(Debug)]
 pub struct Position {
     pub facts: Facts,

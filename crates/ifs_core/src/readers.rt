@@ -1,4 +1,4 @@
-//! What a core says of itself.
+//! Readers of a core.
 
 use crate::gateway::Core;
 use crate::laws::accepted_is_kept;
@@ -16,8 +16,8 @@ impl<'a> Core<'a> {
     ghost use Rattle.ifs_core.specs.Gateway.{IsListed, IsStateOf, interface_of};
     ghost use Rattle.ifs_core.specs.Headline.{IsKept};
 
-    /// The image that runs. It is accepted and keeps to its limits, and so it keeps what the headline
-    /// promises; the state of the core is one of its run.
+    /// The running image. It is accepted and within its limits, so it keeps the headline. The state of the core is one
+    /// of its run.
     pub fn image(&self) -> &ImageView<'a>
         ensures value { result.now ≡ self.now.image }
         ensures accepted { IsAccepted self.now.image }
@@ -44,14 +44,14 @@ impl<'a> Core<'a> {
         self.position.owed
     }
 
-    /// How many commands wait in the queue, from 0 to 64.
+    /// The number of commands in the queue, from 0 to 64.
     pub fn queue_len(&self) -> usize
         ensures { result ≡ length self.now.state.queue }
     {
         self.queue.len()
     }
 
-    /// How many tests run, from 0 to 64.
+    /// The number of running tests, from 0 to 64.
     pub fn running(&self) -> u16
         ensures { result ≡ running_count self.now.state.position.schedule }
     {
@@ -65,15 +65,15 @@ impl<'a> Core<'a> {
         self.position.schedule.now()
     }
 
-    /// The least due moment of the idle tests, in seconds: the first moment at which a tick may start a test.
-    /// `None` where no test is idle.
+    /// The least due moment of the idle tests, in seconds; `None` if no test is idle. It may be before the present
+    /// moment, as after the late end of a run.
     pub fn next_due(&self) -> Option<u64>
         ensures { IsNextDue self.now.state.position.schedule.tests result }
     {
         self.position.schedule.next_due()
     }
 
-    /// The link state of an interface; `None` where it is not in the table.
+    /// The link state of an interface; `None` if it is not in the table.
     pub fn link(&self, interface: IfaceId) -> Option<LinkState>
         ensures value { result ≡ slice_get self.now.state.position.facts.links interface.0 }
         ensures known { IsSome result ↔ (interface.0 < length self.now.image.interfaces) }
@@ -85,7 +85,7 @@ impl<'a> Core<'a> {
             .copied()
     }
 
-    /// The value of a test, where it has one; `None` where it is not in the table.
+    /// The value of a test, if it has one; `None` if it is not in the table.
     pub fn test_value(&self, test: TestId) -> Option<Option<bool>>
         ensures value { result ≡ slice_get self.now.state.position.facts.tests test.0 }
         ensures known { IsSome result ↔ (test.0 < length self.now.image.tests) }
@@ -93,7 +93,7 @@ impl<'a> Core<'a> {
         self.position.facts.tests.get(usize::from(test.0)).copied()
     }
 
-    /// The name of a state; `None` where it is not in the table.
+    /// The name of a state; `None` if it is not in the table.
     pub fn state_name(&self, state: StateId) -> Option<&'a str>
         ensures value { option_map (λ name. name.now) result ≡ option_map (λ s. s.name) (slice_get self.now.image.states state.0) }
         ensures known { IsSome result ↔ IsListed self.now.image state }
@@ -107,7 +107,7 @@ impl<'a> Core<'a> {
         }
     }
 
-    /// The text of a command; `None` where it is not in the table.
+    /// The text of a command; `None` if it is not in the table.
     pub fn command_text(&self, command: CommandId) -> Option<&'a str>
         ensures value { option_map (λ text. text.now) result ≡ slice_get self.now.image.commands command.0 }
         ensures known { IsSome result ↔ IsCommand self.now.image command }
@@ -121,7 +121,7 @@ impl<'a> Core<'a> {
         }
     }
 
-    /// The command of a test; `None` where it is not in the table.
+    /// The command of a test; `None` if it is not in the table.
     pub fn test_text(&self, test: TestId) -> Option<&'a str>
         ensures value { option_map (λ text. text.now) result ≡ option_map (λ t. t.text) (slice_get self.now.image.tests test.0) }
         ensures known { IsSome result ↔ (test.0 < length self.now.image.tests) }
@@ -135,7 +135,7 @@ impl<'a> Core<'a> {
         }
     }
 
-    /// The interface of a name, compared byte by byte; `None` where it is not in the table.
+    /// The interface of a name, compared byte by byte; `None` if it is not in the table.
     pub fn iface_of(&self, name: &[u8]) -> Option<IfaceId>
         ensures { result ≡ interface_of self.now.image.interfaces name.now }
     {
@@ -145,14 +145,14 @@ impl<'a> Core<'a> {
         }
     }
 
-    /// How many records the trace has, from 0 to 256.
+    /// The number of records of the trace, from 0 to 256.
     pub fn trace_len(&self) -> usize
         ensures { result ≡ length self.now.state.trace }
     {
         self.trace.len()
     }
 
-    /// A record of the trace, the oldest at 0; `None` where there is none.
+    /// A record of the trace, the oldest at 0; `None` if there is none.
     pub fn trace_at(&self, index: usize) -> Option<Record>
         ensures value { result ≡ slice_get self.now.state.trace index }
         ensures known { IsSome result ↔ (index < length self.now.state.trace) }

@@ -1,4 +1,4 @@
-//! What a core is asked and what it answers.
+//! Steps and replies.
 
 ghost use Rattle.std.specs.Prelude.{◌≡◌, [], None};
 ghost use Rattle.ifs_core.specs.Steps.{reply_of};
@@ -8,7 +8,7 @@ use ifs_base::{CommandId, IfaceId, LinkState, StateId, TestId};
 use ifs_machine::Effects;
 use ifs_sched::{MAX_TESTS, Start};
 
-/// One event from outside.
+/// A step: one event from outside.
 #[derive(Clone, Copy, Debug, PartialEq, Eq)]
 pub enum Step {
     /// An interface has a link state.
@@ -21,7 +21,7 @@ pub enum Step {
     Take,
 }
 
-/// What an unused place of a list holds.
+/// The item of an unused place of a list.
 impl Default for Step {
     ghost use Rattle.ifs_core.specs.declared.step.Step.TheVariants.{Take};
 
@@ -32,36 +32,36 @@ impl Default for Step {
     }
 }
 
-/// What a step made of the core. The last five change nothing.
+/// The reply to a step. The last five change nothing.
 #[derive(Debug, Drop)]
 pub enum Reply {
-    /// A fact changed and an evaluation was made: the state after it, the commands that it queued,
-    /// and how many instructions it executed.
+    /// A fact changed and was evaluated: the state afterwards, the queued commands, and the number of executed
+    /// instructions.
     Done {
         state: StateId,
         queued: ArrayVec<CommandId, 64>,
         cost: u32,
     },
-    /// No fact changed. A run that finished is over all the same.
+    /// No fact changed. A run that finished is over nevertheless.
     Same,
-    /// The moment is the present one now. Where an evaluation was owed it was made before the due
-    /// tests were started; else `queued` is empty and `cost` is 0.
+    /// The moment is now the present one. An owed evaluation was made before the due tests started; if none was owed,
+    /// `queued` is empty and `cost` is 0.
     Ticked {
         evaluated: bool,
         state: StateId,
         queued: ArrayVec<CommandId, 64>,
         cost: u32,
         starts: ArrayVec<Start, 64>,
-        /// Whether a due test was left for want of a run number.
+        /// Whether a due test was left because no run number was.
         exhausted: bool,
     },
     /// This command has left the queue.
     Taken(CommandId),
     /// There is no command to take.
     Empty,
-    /// The step would evaluate while the queue lacks the image's stated number of free places.
+    /// The step would evaluate, and the queue has fewer free places than the image's stated commands.
     Busy,
-    /// That run of the test is not the one that runs.
+    /// The test does not run under that number.
     Stale,
     /// The moment is before the present one.
     Backwards,
@@ -69,7 +69,7 @@ pub enum Reply {
     NoSuch,
 }
 
-/// A reply without its lists, which stand in the `Lists` that were lent to the step.
+/// A reply without its lists, which are in the borrowed `Lists` of the step.
 #[derive(Clone, Copy, Debug, PartialEq, Eq)]
 pub enum Outcome {
     /// As `Reply::Done`; the lists have the queued commands.
@@ -100,18 +100,18 @@ pub enum Outcome {
     NoSuch,
 }
 
-/// The lists of a reply, in a place that one step after the other is lent. What a step leaves in a list
-/// that its reply does not have says nothing.
+/// The lists of a reply, in a place that the caller lends to each step. A list that the reply does not have is
+/// unspecified.
 #[derive(Debug, Drop)]
 pub struct Lists {
-    /// What the handlers of an event brought about: the queued commands, and the last wish.
+    /// The effects of the handlers of an event: the queued commands, and the last wish.
     pub effects: Effects,
     /// The tests that a tick starts, by index.
     pub starts: ArrayVec<Start, MAX_TESTS>,
 }
 
 impl Lists {
-    /// A place for lists, which are empty.
+    /// Empty lists.
     pub fn new() -> Lists
         ensures queued { result.effects.queued.items ≡ [] }
         ensures want { result.effects.want ≡ None }
@@ -128,7 +128,7 @@ impl Lists {
 }
 
 impl Outcome {
-    /// The reply that an outcome and its lists make together.
+    /// The reply of an outcome and its lists.
     pub fn with_lists(self, lists: Lists) -> Reply
         ensures { result ≡ reply_of self lists }
     {
@@ -162,7 +162,7 @@ impl Outcome {
     }
 }
 
-/// The name of an answer that the trace keeps.
+/// The name of a reply in the trace.
 #[derive(Clone, Copy, Debug, PartialEq, Eq)]
 pub enum Answer {
     Done,
@@ -171,17 +171,17 @@ pub enum Answer {
     Taken,
 }
 
-/// A step that was made, as the trace keeps it.
+/// A step in the trace.
 #[derive(Clone, Copy, Debug, PartialEq, Eq)]
 pub struct Record {
     /// The step.
     pub step: Step,
-    /// What it was answered.
+    /// The name of its reply.
     pub answer: Answer,
-    /// The state after it.
+    /// The state afterwards.
     pub state: StateId,
-    /// How many commands it queued; 0 where nothing was evaluated.
+    /// The number of commands that it queued; 0 if it evaluated nothing.
     pub queued: u16,
-    /// How many instructions it executed; 0 where nothing was evaluated.
+    /// The number of instructions that it executed; 0 if it evaluated nothing.
     pub cost: u32,
 }

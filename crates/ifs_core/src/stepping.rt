@@ -22,19 +22,18 @@ impl<'a> Core<'a> {
     ghost use Rattle.ifs_core.specs.Steps.{same as nothing_new, at_position, with_link, with_value};
     ghost use Rattle.ifs_core.specs.Steps.{with_run_over, lacks_room as is_without_room, done as comes_to};
 
-    /// Makes a step. It takes no memory and always answers.
+    /// Makes a step. It allocates nothing, and cannot fail.
     ///
-    /// The first that fits of these is answered: `NoSuch` for an index that is not in its table;
-    /// `Stale` for a run that is not the one running; `Backwards` for a moment before the present;
-    /// `Empty` where there is no command to take, else `Taken`; `Same` where no fact would change;
-    /// `Busy` where an evaluation is due while the free places of the queue are fewer than the
-    /// image's stated commands; and else `Done` or `Ticked`.
+    /// The reply is the first of these that applies: `NoSuch` for an index that is not in its table; `Stale` for a run
+    /// under whose number the test does not run; `Backwards` for a moment before the present one; `Empty` or `Taken`
+    /// for the taking of a command; `Same` if no fact would change; `Busy` if an evaluation is due and the queue has
+    /// fewer free places than the image's stated commands; otherwise `Done` or `Ticked`.
     pub fn step(&mut self, step: Step) -> Reply
         ensures image { self.new.image ≡ self.old.image }
-        // The reply and the next state are those of the run, whose handlers do what their runs on the machine do.
+        // The reply and the next state are those of the run, whose handlers run on the machine.
         ensures run { (b : Behaviour) → IsBehaviour self.old.image b
             → Makes (turn b self.old.image.budgets.commands step self.old.state) result self.new.state }
-        // They keep what the headline promises of each step.
+        // They keep the headline.
         ensures kept { StepKeeps self.old.image self.old.state step (record { reply = result; next = self.new.state }) }
     {
         let mut lists = Lists::new();
@@ -42,8 +41,8 @@ impl<'a> Core<'a> {
         outcome.with_lists(lists)
     }
 
-    /// The same step, whose reply comes in two parts: its lists stand in a place that is lent, and the
-    /// rest is answered. A caller that makes many steps lends one place to all of them, and moves no list.
+    /// Makes the same step, with a reply in two parts: it puts the lists into a borrowed place, and returns the rest.
+    /// A caller that makes many steps lends one place to all of them, and moves no list.
     pub fn step_into(&mut self, step: Step, lists: &mut Lists) -> Outcome
         ensures image { self.new.image ≡ self.old.image }
         ensures run { (b : Behaviour) → IsBehaviour self.old.image b
@@ -62,7 +61,7 @@ impl<'a> Core<'a> {
         }
     }
 
-    /// The step `Take`: the first command leaves the queue, and is answered; `None` where there is none.
+    /// The step `Take`: removes and returns the first command of the queue; `None` if there is none.
     pub fn take(&mut self) -> Option<CommandId>
         ensures image { self.new.image ≡ self.old.image }
         ensures run { Makes (take_turn self.old.state.queue self.old.state) (taken_reply result) self.new.state }
@@ -72,7 +71,7 @@ impl<'a> Core<'a> {
         self.first_taken()
     }
 
-    /// The first command leaves the queue.
+    /// Removes and returns the first command of the queue.
     fn first_taken(&mut self) -> Option<CommandId>
         ensures image { self.new.image ≡ self.old.image }
         ensures run { Makes (take_turn self.old.state.queue self.old.state) (taken_reply result) self.new.state }
@@ -85,7 +84,7 @@ impl<'a> Core<'a> {
         Some(command)
     }
 
-    /// The link of an interface has this state.
+    /// The step `Link`.
     fn link_changes(&mut self, interface: IfaceId, link: LinkState, lists: &mut Lists) -> Outcome
         ensures image { self.new.image ≡ self.old.image }
         ensures run { (b : Behaviour) → IsBehaviour self.old.image b
@@ -105,7 +104,7 @@ impl<'a> Core<'a> {
         self.done(step, lists)
     }
 
-    /// The run of a test has ended with this value.
+    /// The step `Finished`.
     fn test_finishes(&mut self, test: TestId, run: u64, value: bool, lists: &mut Lists) -> Outcome
         ensures image { self.new.image ≡ self.old.image }
         ensures run { (b : Behaviour) → IsBehaviour self.old.image b
@@ -130,7 +129,7 @@ impl<'a> Core<'a> {
         self.done(step, lists)
     }
 
-    /// It is this moment.
+    /// The step `Tick`.
     fn tick(&mut self, now: u64, lists: &mut Lists) -> Outcome
         ensures image { self.new.image ≡ self.old.image }
         ensures run { (b : Behaviour) → IsBehaviour self.old.image b
@@ -151,7 +150,7 @@ impl<'a> Core<'a> {
         self.ticked(now, true, cost, lists)
     }
 
-    /// No fact changed.
+    /// A step without a change of a fact.
     fn same(&mut self, step: Step) -> Outcome
         ensures outcome { result ≡ Outcome.Same }
         ensures image { self.new.image ≡ self.old.image }
@@ -161,7 +160,7 @@ impl<'a> Core<'a> {
         Outcome::Same
     }
 
-    /// A fact changed: the evaluation and its reply.
+    /// A step after a change of a fact: the evaluation and its reply.
     fn done(&mut self, step: Step, lists: &mut Lists) -> Outcome
         requires { is_without_room self.old.image.budgets.commands self.old.state ≡ false }
         ensures image { self.new.image ≡ self.old.image }
@@ -176,8 +175,8 @@ impl<'a> Core<'a> {
         }
     }
 
-    /// Evaluates, and answers the cost. The commands stand in the effects, and not yet in the queue,
-    /// which has room for them.
+    /// Evaluates, and returns the cost. The commands are in the effects, and not yet in the queue, which has room for
+    /// them.
     fn evaluated(&mut self, effects: &mut Effects) -> u32
         requires { is_without_room self.old.image.budgets.commands self.old.state ≡ false }
         ensures image { self.new.image ≡ self.old.image }
@@ -250,7 +249,7 @@ impl<'a> Core<'a> {
         self.position.schedule.is_running(test, run)
     }
 
-    /// The trace records a step that queues nothing.
+    /// Records a step that queues nothing in the trace.
     fn settle_alone(&mut self, step: Step, answer: Answer)
         ensures image { self.new.image ≡ self.old.image }
         ensures state { self.new.state ≡ settled step answer [] 0 self.old.state }
@@ -259,7 +258,7 @@ impl<'a> Core<'a> {
         self.settle(step, answer, &[], 0);
     }
 
-    /// The commands of a step go to the queue's end, and the trace records the step.
+    /// Appends the commands of a step to the queue, and records the step in the trace.
     fn settle(&mut self, step: Step, answer: Answer, commands: &[CommandId], cost: u32)
         requires room { length self.old.state.queue + length commands.now ≤ 64 }
         requires known { All (IsCommand self.old.image) commands.now }
@@ -276,7 +275,7 @@ impl<'a> Core<'a> {
         });
     }
 
-    /// Whether the free places of the queue are fewer than the stated commands of an event.
+    /// Whether the queue has fewer free places than the stated commands of an event.
     fn lacks_room(&self) -> bool
         ensures { result ≡ is_without_room self.now.image.budgets.commands self.now.state }
     {
@@ -294,7 +293,7 @@ fn append(queue: &mut ArrayVec<CommandId, 64>, commands: &[CommandId])
     }
 }
 
-/// Whether two link states are one.
+/// Whether two link states are the same.
 fn is_same_link(before: LinkState, link: LinkState) -> bool
     ensures { result ≡ is_link before link }
 {

@@ -1,4 +1,4 @@
--- A field that is read is the one that was spelled, and what was spelled is read again, at any place.
+-- Laws of fields: reading a field is the inverse of spelling it, at any place.
 use Rattle.std.proofs.Common.{◌≡◌, ℕ, zero, suc, ◌+◌, ◌^◌, ◌<◌, ◌≤◌, Bool, true, false, cond, ltb}
 use Rattle.std.proofs.Common.{List, [], ◌∷◌, ◌++◌, length, get_or, take, drop, Result, Ok, Err}
 use Rattle.std.proofs.Common.{refl, sym, ap, subst, ◌∙◌, append_assoc, add-zero, arith, inl, inr}
@@ -15,7 +15,7 @@ use Rattle.ifs_image.specs.declared.fault.ImageFault.{ImageFault}
 use Rattle.ifs_image.specs.declared.fault.ImageFault.TheVariants.{Truncated, OutOfLimit}
 use Rattle.ifs_image.specs.Reading.{Cursor, cursor, Read, bytes_at, byte_at, number_at, number_within, items_at}
 
--- numbers that are bytes
+-- Each number of a list is a byte.
 abbrev pub IsBytes : List ℕ → Type 0
 IsBytes bytes = (i : ℕ) → get_or bytes i 0 < 256
 
@@ -29,7 +29,7 @@ IsBytes-take n bytes h i =
       | inr le ↦ rw (get_or_past (take n bytes) i 0 (omega (arith, length-take n bytes))) (omega arith)
     ]
 
--- ---- steps that may fail
+-- ---- readers that may fail
 
 pub bind_ok : {A B : Type 0} (r : Result A ImageFault) (f : A → Result B ImageFault) (y : B) → (r >>= f) ≡ Ok y → (x : A) × (r ≡ Ok x) × (f x ≡ Ok y)
 bind_ok (Ok x) f y e = (x, refl, e)
@@ -38,12 +38,12 @@ bind_ok (Err d) f y e = absurd cc
 pub again_bind : {A B : Type 0} (r : Result A ImageFault) (f : A → Result B ImageFault) (x : A) (y : Result B ImageFault) → r ≡ Ok x → f x ≡ y → (r >>= f) ≡ y
 again_bind r f x y e g = ap (λ (s : Result _ ImageFault). s >>= f) e ∙ g
 
--- a test that did not fail
+-- A test that fails with an error did not fail.
 pub guard_ok : {A : Type 0} (b : Bool) (d : ImageFault) (x y : A) → cond b (Err d) (Ok x) ≡ Ok y → (b ≡ false) × (x ≡ y)
 guard_ok true d x y e = absurd cc
 guard_ok false d x y e = (refl, cc)
 
--- a test that passed
+-- A test that passes without an error passed.
 pub passed_ok : {A : Type 0} (b : Bool) (d : ImageFault) (x y : A) → cond b (Ok x) (Err d) ≡ Ok y → (b ≡ true) × (x ≡ y)
 passed_ok true d x y e = (refl, cc)
 passed_ok false d x y e = absurd cc
@@ -58,7 +58,7 @@ pub or_false : (a b : Bool) → (a || b) ≡ false → (a ≡ false) × (b ≡ f
 or_false true b e = absurd cc
 or_false false b e = (refl, e)
 
--- ---- what was taken from the front
+-- ---- bytes taken from the front
 
 pub record Took (bytes text rest : List ℕ) : Type 0 where
   pub parts : bytes ≡ text ++ rest
@@ -67,7 +67,7 @@ pub record Took (bytes text rest : List ℕ) : Type 0 where
 pub Took-then : {a x b y c : List ℕ} → Took a x b → Took b y c → Took a (x ++ y) c
 Took-then {a} {x} {b} {y} {c} p q = record { parts = p.parts ∙ ap (λ (t : List ℕ). x ++ t) q.parts ∙ sym (append_assoc x y c); rest_fits = q.rest_fits }
 
--- A reader of a field: what fits is read again wherever it is spelled; what is read fits, and was spelled.
+-- A reader of a field is the inverse of its spelling, at any place, on the values that are good.
 pub record IsField {X : Type 0} (read : Cursor → Read X) (text : X → List ℕ) (Good : X → Type 0) : Type 0 where
   pub again : (x : X) (at : ℕ) (rest : List ℕ) → Good x → read (cursor at (text x ++ rest)) ≡ Ok (x, cursor (at + length (text x)) rest)
   pub taken : (p : Cursor) (y : X × Cursor) → IsBytes p.left → read p ≡ Ok y → Took p.left (text y.0) y.1.left × Good y.0
@@ -178,7 +178,7 @@ byte_taken p y fits e =
 
 -- ---- the entries of a table
 
--- each entry is good after those before it
+-- Each entry is good after the entries before it.
 abbrev pub AllAfter : {X : Type 0} → (List X → X → Type 0) → List X → List X → Type 0
 AllAfter Good before [] = Unit {0}
 AllAfter Good before (x ∷ xs) = Good before x × AllAfter Good (before ++ x ∷ []) xs
@@ -198,7 +198,7 @@ items_again {X} entry text Good field (x ∷ xs) before at rest fits =
     ∙ ap (λ (all : List X). Ok (all, cursor (at + length (text x) + length (flat_map text xs)) rest)) (append_assoc before (x ∷ []) xs)
     ∙ ap (λ (k : ℕ). Ok (before ++ x ∷ xs, cursor k rest)) sums
 
--- what was read of a table
+-- The entries that were read of a table.
 pub record TookItems {X : Type 0} (text : X → List ℕ) (Good : List X → X → Type 0) (n : ℕ) (before : List X) (bytes : List ℕ) (all : List X) (rest : List ℕ) : Type 0 where
   pub xs : List X
   pub all_are : all ≡ before ++ xs
@@ -224,7 +224,7 @@ items_taken {X} entry text Good field (suc n) before p y fits e =
       good = (first.1, others.good);
     }
 
--- a whole table
+-- A table is a field.
 pub table_field : {X : Type 0} (entry : List X → Cursor → Read X) (text : X → List ℕ) (Good : List X → X → Type 0) → ((before : List X) → IsField (entry before) text (Good before)) → (n : ℕ)
     → IsField (items_at entry n []) (flat_map text) (λ xs. (length xs ≡ n) × AllAfter Good [] xs)
 table_field {X} entry text Good field n = record {

@@ -1,4 +1,4 @@
--- An image that is read is the one that the bytes spell, and what spells an image is read.
+-- Laws of images: reading an image is the inverse of spelling it.
 use Rattle.std.proofs.Common.{◌≡◌, ◌≢◌, ℕ, ◌+◌, ◌-◌, ◌^◌, ◌<◌, ◌≤◌, Bool, true, false, cond, inl, inr, List, [], ◌∷◌, ◌++◌, length}
 use Rattle.std.proofs.Common.{get_or, take, Result, Ok, Err, refl, sym, ap, subst, ◌∙◌, append_assoc, arith, All}
 use Rattle.std.specs.Prelude.{◌==◌, ◌||◌, ◌⊎◌, codes, IsUtf8, IfOk}
@@ -106,7 +106,7 @@ budgets_field = record {
       (Took-then (Took-then (Took-then t1.0 t2.0) t3.0) t4.0, record { stack = t1.1.1; frames = t2.1.1; cost = t3.1.1; commands = t4.1.1 });
 }
 
--- counts within their limits
+-- Counts within their limits.
 pub record CountsGood (c : Counts) : Type 0 where
   pub interfaces : c.interfaces ≤ 64
   pub tests : c.tests ≤ 64
@@ -141,7 +141,7 @@ counts_field = record {
       (Took-then (Took-then (Took-then (Took-then t1.0 t2.0) t3.0) t4.0) t5.0, record { interfaces = t1.1.1; tests = t2.1.1; commands = t3.1.1; some_state = t4.1.0; states = t4.1.1; routines = t5.1.1 });
 }
 
--- ---- tables: what each entry has, and what holds after those before it
+-- ---- tables: facts of each entry, and facts of an entry after earlier ones
 
 pub AllAfter-weaker : {X : Type 0} (G H : List X → X → Type 0) → ((before : List X) (x : X) → G before x → H before x) → (xs before : List X) → AllAfter G before xs → AllAfter H before xs
 AllAfter-weaker {X} G H f [] before all = tt
@@ -151,7 +151,7 @@ pub all_after : {X : Type 0} (G : List X → X → Type 0) (P : X → Type 0) �
 all_after {X} G P f [] before all = All-nil P
 all_after {X} G P f (x ∷ xs) before all = All-cons P x xs (f before x all.0) (all_after G P f xs (before ++ x ∷ []) all.1)
 
--- what each entry has, and what it has after those before it
+-- A fact of each entry and a fact of it after earlier ones, joined.
 pub after_all : {X : Type 0} (H : List X → X → Type 0) (P : X → Type 0) (G : List X → X → Type 0) → ((before : List X) (x : X) → P x → H before x → G before x) → (xs before : List X) → All P xs → AllAfter H before xs → AllAfter G before xs
 after_all {X} H P G f [] before each all = tt
 after_all {X} H P G f (x ∷ xs) before each all = (f before x (All-head P x xs each) all.0, after_all H P G f xs (before ++ x ∷ []) (All-tail P x xs each) all.1)
@@ -160,10 +160,7 @@ pub each_after : {X : Type 0} (P : X → Type 0) (xs before : List X) → All P 
 each_after {X} P [] before each = tt
 each_after {X} P (x ∷ xs) before each = (All-head P x xs each, each_after P xs (before ++ x ∷ []) (All-tail P x xs each))
 
-All-both : {X : Type 0} (P Q : X → Type 0) (xs : List X) → All P xs → All Q xs → All (λ x. P x × Q x) xs
-All-both P Q xs p q k d lt = (p k d lt, q k d lt)
-
--- a name does not stand before
+-- No earlier entry has the name.
 abbrev pub IsFirst : List (List ℕ) → List ℕ → Type 0
 IsFirst before name = stands_in name before ≡ false
 
@@ -184,7 +181,7 @@ names_first (x ∷ xs) before apart =
       names_first xs (before ++ x ∷ []) (subst AreDistinct (sym (append_assoc before (x ∷ []) xs)) apart),
     )
 
--- the same of states
+-- No earlier state has the name of a state.
 abbrev pub IsFirstState : List StateSpec → StateSpec → Type 0
 IsFirstState before s = IsFirst (names_of before) s.name
 
@@ -196,7 +193,7 @@ states_of_names : (xs before : List StateSpec) → AllAfter IsFirst (names_of be
 states_of_names [] before all = tt
 states_of_names (x ∷ xs) before all = (all.0, states_of_names xs (before ++ x ∷ []) (subst (λ (b : List (List ℕ)). AllAfter IsFirst b (names_of xs)) (sym (map_push (λ (s : StateSpec). s.name) before x)) all.1))
 
--- the room for routines
+-- ---- the room for routines
 instructions-append : (xs ys : List Routine) → instructions (xs ++ ys) ≡ instructions xs + instructions ys
 instructions-append xs ys = sum_by-append (λ (r : Routine). length r.code) xs ys
 
@@ -220,7 +217,7 @@ routines_room version (x ∷ xs) before few = (
   routines_room version xs (before ++ x ∷ []) (subst (λ (b : List Routine). instructions b ≤ code_limit version) (sym (append_assoc before (x ∷ []) xs)) few),
 )
 
--- a routine fits after those before it
+-- A routine is good after earlier ones.
 abbrev pub IsGood : ℕ → List Routine → Routine → Type 0
 IsGood version before r = RoutineGood version (room_after version before) r
 
@@ -241,7 +238,7 @@ states_table n = table_field state_at state_bytes StateGood state_field n
 routines_table : (version n : ℕ) → IsVersion version → IsField (items_at (routine_after version) n []) (flat_map (routine_bytes version)) (λ xs. (length xs ≡ n) × AllAfter (IsGood version) [] xs)
 routines_table version n is = table_field (routine_after version) (routine_bytes version) (IsGood version) (λ before. routine_field version (room_after version before) is) n
 
--- what the tables of an image have, as reading sees it
+-- The tables of an image are good, entry by entry.
 pub record TablesGood (p : ImageParts) : Type 0 where
   pub interfaces : AllAfter (λ before t. TextGood t × (stands_in t before ≡ false)) [] p.interfaces
   pub tests : AllAfter (λ _. TestGood) [] p.tests
@@ -305,13 +302,13 @@ bind_elim (Err d) f y P e go = absurd cc
 counts_same : (c : Counts) (p : ImageParts) → c.interfaces ≡ length p.interfaces → c.tests ≡ length p.tests → c.commands ≡ length p.commands → c.states ≡ length p.states → c.routines ≡ length p.routines → c ≡ counts p
 counts_same c p a b d s r = rw (← a, ← b, ← d, ← s, ← r) refl
 
--- what was read of an image
+-- An image that was read: its bytes were taken, and it fits.
 pub record TookImage (bytes : List ℕ) (parts : ImageParts) (rest : List ℕ) : Type 0 where
   pub took : Took bytes (image_bytes parts) rest
   pub fits : Fits parts
   pub in_range : InRange parts
 
--- what the fields of an image were read as, one after the other
+-- The fields of an image as they were read, one after the other.
 pub record Steps (p : Cursor) (y : ImageParts × Cursor) : Type 0 where
   pub magic : Unit {0} × Cursor
   pub is_magic : magic_at p ≡ Ok magic
@@ -381,7 +378,7 @@ steps_taken p y fits s =
 pub parts_taken : (p : Cursor) (y : ImageParts × Cursor) → IsBytes p.left → parts_at p ≡ Ok y → TookImage p.left y.0 y.1.left
 parts_taken p y fits e = steps_taken p y fits (steps_of p y e)
 
--- what spells an image is read at any place, whatever follows
+-- The spelling of an image is read as that image, at any place, whatever follows.
 pub parts_again : (p : ImageParts) (at : ℕ) (rest : List ℕ) → Fits p → InRange p → (after : ℕ) × (parts_at (cursor at (image_bytes p ++ rest)) ≡ Ok (p, cursor after rest))
 unfolding parts_at image_bytes front_bytes
 parts_again p at rest f r =
@@ -442,7 +439,7 @@ image_again bytes p s =
     let e : bytes ≡ image_bytes p ++ [] = s.bytes_are ∙ sym (append-nil (image_bytes p)) in
     again_bind _ _ _ _ (ap (λ (b : List ℕ). parts_at (cursor 0 b)) e ∙ a.1) refl
 
--- ---- what a call answers, when it answers what reading gives
+-- ---- results of the functions that read
 
 pub is_found : (bytes : List ℕ) (r : Result ImageParts ImageFault) → IsBytes bytes → Answers r (image_of bytes) → IfOk r (Spells bytes)
 is_found bytes (Ok p) fits given = image_found bytes p fits given
@@ -457,11 +454,11 @@ only_it bytes (Err fault) given p s found =
     let e : image_of bytes ≡ missed fault = given (λ same. found (ap missed same)) in
     sym e ∙ image_again bytes p s
 
--- bytes spell one image at most
+-- Bytes spell at most one image.
 pub Spells-unique : (bytes : List ℕ) (p q : ImageParts) → Spells bytes p → Spells bytes q → p ≡ q
 Spells-unique bytes p q a b = ok_is p q (sym (image_again bytes p a) ∙ image_again bytes q b)
 
--- no spelling goes on as another
+-- No spelling is a prefix of another.
 pub Spells-prefix : (bytes more : List ℕ) (p q : ImageParts) → Spells bytes p → Spells (bytes ++ more) q → more ≡ []
 Spells-prefix bytes more p q a b =
     let first = parts_again p 0 more a.fits a.in_range in

@@ -1,10 +1,11 @@
--- Kinds of values, and the lists of them that a routine takes and leaves, each read as it is spelled.
+-- Laws of kinds: reading parameters and results is the inverse of spelling them.
 use Rattle.std.proofs.Common.{◌≡◌, ℕ, zero, suc, ◌+◌, ◌≤◌, Bool, true, false, cond, ltb, List, [], ◌∷◌, ◌++◌, length, map, replicate}
 use Rattle.std.proofs.Common.{Option, Some, None, Ok, Err, refl, sym, ap, subst, ◌∙◌, arith, inl, inr}
 use Rattle.std.specs.Prelude.{◌⊎◌, ◌==◌}
 use Rattle.std.specs.List.{flat_map}
 use Rattle.std.specs.Option.{ok_or}
 use Rattle.std.proofs.lemmas.Bool.{eqb-true, ltb-false, le-ltb}
+use Rattle.std.proofs.lemmas.Option.{none-some, same_Some}
 use Rattle.ifs_base.specs.declared.op.Kind.{Kind}
 use Rattle.ifs_base.specs.declared.op.Kind.TheVariants.{Truth, Command, StateName}
 use Rattle.ifs_base.specs.Spelling.{code_of_kind, kind_of_code}
@@ -37,19 +38,12 @@ byte_field most = record {
 
 pub kind_again : (kind : Kind) → kind_of_code (code_of_kind kind) ≡ Some kind
 kind_again Truth = refl
-kind_again Command = refl
-kind_again StateName = refl
+kind_again kind = refl
 
-one_kind : (kind other : Kind) → Some kind ≡ Some other → kind ≡ other
-one_kind kind other e = cc
-
--- a choice by a test gave its first answer, or went on
+-- A choice by a test took its first value, or the other one.
 picked : (b : Bool) (first : Kind) (others : Option Kind) (kind : Kind) → cond b (Some first) others ≡ Some kind → ((b ≡ true) × (first ≡ kind)) ⊎ (others ≡ Some kind)
-picked true first others kind e = inl (refl, one_kind first kind e)
+picked true first others kind e = inl (refl, same_Some first kind e)
 picked false first others kind e = inr e
-
-no_kind : (kind : Kind) → None ≡ Some kind → ⊥
-no_kind kind e = absurd cc
 
 pub kind_taken : (code : ℕ) (kind : Kind) → kind_of_code code ≡ Some kind → code ≡ code_of_kind kind
 kind_taken code kind e =
@@ -61,7 +55,7 @@ kind_taken code kind e =
         | inl is ↦ eqb-true code 1 is.0 ∙ ap code_of_kind is.1
         | inr last ↦ elim (picked (code == 2) StateName None kind last) [
           | inl is ↦ eqb-true code 2 is.0 ∙ ap code_of_kind is.1
-          | inr none ↦ absurd (no_kind kind none)
+          | inr none ↦ absurd (none-some kind none)
         ]
       ]
     ]
@@ -149,7 +143,7 @@ truths_field = record {
       (subst (λ (n : ℕ). Took p.left (n ∷ []) b.0.1.left) (sym t.0) tb.0, t.1);
 }
 
--- ---- what a routine takes and leaves, by the version
+-- ---- parameters and results, by the version
 
 pub version_cases : (version : ℕ) → IsVersion version → (version ≡ 1) ⊎ (version ≡ 2)
 version_cases zero is = absurd (omega (arith, is.0))
@@ -157,11 +151,11 @@ version_cases (suc zero) is = inl refl
 version_cases (suc (suc zero)) is = inr refl
 version_cases (suc (suc (suc version))) is = absurd (omega (arith, is.1))
 
--- a list of kinds is short, and in version 1 of a certain form
+-- A list of kinds is short, and in version 1 it has a certain form.
 abbrev AreBy : (List Kind → Type 0) → ℕ → List Kind → Type 0
 AreBy Form version kinds = AreFew kinds × ((version ≡ 2) ⊎ Form kinds)
 
--- in version 1 the form holds
+-- In version 1 the form holds.
 form_of : {P : Type 0} → (◌≡◌ {A = ℕ} 1 2) ⊎ P → P
 form_of (inl e) = absurd (omega (arith, e))
 form_of (inr p) = p

@@ -1,4 +1,4 @@
--- Reading the entries of a table one after the other, as a loop does.
+-- A loop that reads the entries of a table.
 use Rattle.std.proofs.Common.{◌≡◌, ◌≢◌, ℕ, suc, ◌+◌, ◌-◌, ◌≤◌, ◌<◌, List, []}
 use Rattle.std.proofs.Common.{◌∷◌, ◌++◌, Ok, Err, refl, sym, ◌∙◌, length, arith}
 use Rattle.std.proofs.lemmas.List.Sums.{sum_by-append}
@@ -33,7 +33,7 @@ is_done entry count i before all p total le same so_far =
     let one : items_at entry (count - i) before p ≡ Ok (before, p) = rw k refl in
     rw same (sym so_far ∙ one)
 
--- ---- routines, and the room for them
+-- ---- the room for routines
 
 pub instructions-push : (before : List Routine) (r : Routine) → instructions (before ++ r ∷ []) ≡ instructions before + length r.code
 instructions-push before r = omega (arith, sum_by-append (λ (x : Routine). length x.code) before (r ∷ []))

@@ -1,4 +1,4 @@
--- An instruction that is read from four bytes is the one that they spell.
+-- Decoding four bytes is the inverse of spelling an instruction.
 use Rattle.std.proofs.Common.{◌≡◌, ℕ, ◌+◌, ◌*◌, ◌/◌, ◌%◌, ◌^◌, ◌<◌, Bool, true, false, cond, List}
 use Rattle.std.proofs.Common.{[], ◌∷◌, length, get_or, Option, Some, None, refl, sym, subst, arith}
 use Rattle.std.specs.Prelude.{◌&&◌, ◌==◌}
@@ -14,34 +14,25 @@ two_bytes : (n : ℕ) → 256 * (n / 256) + n % 256 ≡ n
 two_bytes n = omega arith
 
 pub op_of-spelling : (op : Op) → HasSpelling op → op_of (spelling op) ≡ Some op
-op_of-spelling Ret fits = refl
-op_of-spelling Yes fits = refl
-op_of-spelling No fits = refl
 op_of-spelling (Link n Unknown) fits = rw (two_bytes n.0) refl
 op_of-spelling (Link n Down) fits = rw (two_bytes n.0) refl
 op_of-spelling (Link n Up) fits = rw (two_bytes n.0) refl
 op_of-spelling (Test n) fits = rw (two_bytes n.0) refl
 op_of-spelling (Known n) fits = rw (two_bytes n.0) refl
-op_of-spelling Negate fits = refl
-op_of-spelling Both fits = refl
-op_of-spelling Either fits = refl
 op_of-spelling (PushCommand n) fits = rw (two_bytes n.0) refl
 op_of-spelling (PushState n) fits = rw (two_bytes n.0) refl
-op_of-spelling Queue fits = refl
-op_of-spelling Want fits = refl
 op_of-spelling (Jump n) fits = rw (two_bytes n) refl
 op_of-spelling (JumpFalse n) fits = rw (two_bytes n) refl
 op_of-spelling (JumpTrue n) fits = rw (two_bytes n) refl
 op_of-spelling (Call n) fits = rw (two_bytes n.0) refl
-op_of-spelling Pop fits = refl
-op_of-spelling Dup fits = refl
+op_of-spelling op fits = refl
 
 -- An instruction of four bytes is spelled by them.
 pub record IsSpelled (code state n : ℕ) (op : Op) : Type 0 where
   pub bytes : spelling op ≡ four_bytes code state n
   pub fits : HasSpelling op
 
--- which way a test went
+-- A choice by a test, in two cases.
 chosen : (b : Bool) (x y : Option Op) (op : Op) (P : Type 0) → cond b x y ≡ Some op → (b ≡ true → x ≡ Some op → P) → (b ≡ false → y ≡ Some op → P) → P
 chosen true x y op P e first second = first refl e
 chosen false x y op P e first second = second refl e
@@ -115,7 +106,7 @@ op_with-spelled code state n op fits e0 =
     chosen (code == 18) _ _ op (IsSpelled code state n op) e18 (λ t f. IsSpelled-plain code state n 18 Dup op (eqb-true code 18 t) refl tt f) (λ _ e19.
     absurd cc)))))))))))))))))))
 
--- the bytes that were read
+-- The four bytes of an instruction.
 pub op_of-spelled : (bytes : List ℕ) (op : Op) → length bytes ≡ 4 → ((i : ℕ) → get_or bytes i 0 < 256) → op_of bytes ≡ Some op → (bytes ≡ spelling op) × HasSpelling op
 op_of-spelled (code ∷ state ∷ high ∷ low ∷ []) op len fits e =
     let s = op_with-spelled code state (256 * high + low) op (omega (arith, fits 2, fits 3)) e in

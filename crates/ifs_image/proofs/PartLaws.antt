@@ -1,4 +1,4 @@
--- The parts of an image, each read as it is spelled.
+-- Laws of the parts of an image: reading a part is the inverse of spelling it.
 use Rattle.std.proofs.Common.{◌≡◌, ◌≢◌, ℕ, ◌+◌, ◌^◌, ◌≤◌, Bool, true, false, cond, eqb}
 use Rattle.std.proofs.Common.{ltb, List, [], ◌++◌, length, get_or, inl, inr}
 use Rattle.std.proofs.Common.{Ok, Err, refl, sym, ap, subst, ◌∙◌, append_assoc, arith, All}
@@ -38,7 +38,7 @@ use Rattle.ifs_image.proofs.Ops.{op_of-spelling, op_of-spelled}
 
 -- ---- texts
 
--- a text that fits, in UTF-8
+-- A text fits, and is UTF-8.
 pub record TextGood (t : List ℕ) : Type 0 where
   pub fits : TextFits t
   pub utf8 : IsUtf8 t
@@ -99,7 +99,7 @@ text_of_taken n p y fits e =
     let g = passed_ok (is_text b.0.0) (BadText p.at) b.0 y b.2 in
     subst (λ (z : List ℕ × Cursor). Took p.left z.0 z.1.left × (length z.0 ≡ n) × (is_text z.0 ≡ true)) g.1 (t.0, t.1, g.0)
 
--- a length and the text behind it
+-- A length and the text after it, read together.
 length_then_text : (p : Cursor) (n : ℕ × Cursor) (t : List ℕ × Cursor) → IsBytes p.left → length_at p ≡ Ok n → text_sized n.0 n.1 ≡ Ok t → Took p.left (text_bytes t.0) t.1.left × TextGood t.0
 unfolding text_bytes
 length_then_text p n t fits first second =
@@ -167,7 +167,7 @@ handlers_field = record {
       (Took-then (Took-then ta.0 tb.0) tm.0, record { init = ta.1; body = tb.1; mask = tm.1 });
 }
 
--- a test that fits, its command in UTF-8
+-- A test fits, and its command is UTF-8.
 pub record TestGood (t : TestSpec) : Type 0 where
   pub fits : TestFits t
   pub utf8 : IsUtf8 t.text
@@ -191,7 +191,7 @@ test_field = record {
       (Took-then ta.0 tb.0, record { fits = record { period = record { not_zero = ta.1.0; within = ta.1.1 }; text = tb.1.fits }; utf8 = tb.1.utf8 });
 }
 
--- a state that fits, with a name that stands not before
+-- A state fits, and no earlier state has its name.
 pub record StateGood (before : List StateSpec) (s : StateSpec) : Type 0 where
   pub fits : TextFits s.name
   pub in_range : StateInRange s
@@ -220,24 +220,7 @@ state_field before = record {
 
 length-spelling : (op : Op) → length (spelling op) ≡ 4
 length-spelling Ret = refl
-length-spelling Yes = refl
-length-spelling No = refl
-length-spelling (Link n s) = refl
-length-spelling (Test n) = refl
-length-spelling (Known n) = refl
-length-spelling Negate = refl
-length-spelling Both = refl
-length-spelling Either = refl
-length-spelling (PushCommand n) = refl
-length-spelling (PushState n) = refl
-length-spelling Queue = refl
-length-spelling Want = refl
-length-spelling (Jump n) = refl
-length-spelling (JumpFalse n) = refl
-length-spelling (JumpTrue n) = refl
-length-spelling (Call n) = refl
-length-spelling Pop = refl
-length-spelling Dup = refl
+length-spelling op = refl
 
 pub op_field : IsField instruction_at spelling HasSpelling
 unfolding instruction_at
@@ -254,7 +237,7 @@ op_field = record {
       (subst (λ (text : List ℕ). Took p.left text b.0.1.left) s.0 t.0, s.1);
 }
 
--- a routine that fits into the room that is left
+-- A routine fits, and fits into the room that is left.
 pub record RoutineGood (version room : ℕ) (r : Routine) : Type 0 where
   pub fits : RoutineFits version r
   pub within : length r.code ≤ room
@@ -265,7 +248,7 @@ pub record RoutineGood (version room : ℕ) (r : Routine) : Type 0 where
 pub code_field : (n : ℕ) → IsField (items_at (λ _. instruction_at) n []) (flat_map spelling) (λ code. (length code ≡ n) × AllAfter (λ _. HasSpelling) [] code)
 code_field n = table_field (λ _. instruction_at) spelling (λ _. HasSpelling) (λ _. op_field) n
 
--- what version 1 can say of a routine, from its two lists
+-- A routine is plain or of version 2, by its two lists.
 plain_or : (version : ℕ) (r : Routine) → (version ≡ 2) ⊎ (r.params.items ≡ []) → (version ≡ 2) ⊎ AreTruths r.results.items → (version ≡ 2) ⊎ IsPlain r
 plain_or version r (inl two) b = inl two
 plain_or version r (inr none) (inl two) = inl two

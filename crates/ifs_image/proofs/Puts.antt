@@ -1,4 +1,4 @@
--- Writing the entries of a table one after the other.
+-- A loop that writes the entries of a table.
 use Rattle.std.proofs.Common.{◌≡◌, ℕ, ◌+◌, ◌<◌, ◌≤◌, List, [], ◌∷◌, ◌++◌, length}
 use Rattle.std.proofs.Common.{get_or, take, sym, ap, subst, ◌∙◌, append_assoc, All}
 use Rattle.std.specs.List.{flat_map}

@@ -1,4 +1,4 @@
--- The test of a text, by its parts.
+-- The test of a text, in two parts.
 use Rattle.std.proofs.Common.{◌≡◌, ℕ, Bool, true, false, List, refl}
 use Rattle.std.specs.Prelude.{◌==◌, IsUtf8}
 use Rattle.std.specs.List.{list_any}

@@ -1,4 +1,4 @@
--- Instructions that lie in bytes by fours, read one after the other.
+-- A loop that reads words of four bytes.
 use Rattle.std.proofs.Common.{◌≡◌, ℕ, zero, suc, ◌+◌, ◌*◌, ◌/◌, ◌≤◌, List, [], ◌∷◌, ◌++◌, length, take, drop, ltb}
 use Rattle.std.proofs.Common.{Option, Ok, Some, refl, sym, ap, subst, ◌∙◌, arith, All}
 use Rattle.std.specs.Prelude.{unwrap_or}
@@ -39,7 +39,7 @@ bytes_are n p y e =
     let g = guard_ok (ltb (length p.left) n) (Truncated p.at) (take n p.left, cursor (p.at + n) (drop n p.left)) y e in
     (ltb-false _ _ g.0, g.1)
 
--- an instruction that was read is that of the next four bytes
+-- An instruction was read from the next four bytes.
 record OneWord (p : Cursor) (op : Op) (after : Cursor) : Type 0 where
   room : 4 ≤ length p.left
   word : op_of (take 4 p.left) ≡ Some op
@@ -58,7 +58,7 @@ one_word p op after e =
       rest = ap (λ (z : Op × Cursor). z.1.left) (sym same) ∙ ap (λ (z : List ℕ × Cursor). z.1.left) (sym t.1);
     }
 
--- so many instructions were read of these bytes
+-- `k` instructions were read from these bytes.
 pub record WordsRead (k : ℕ) (bytes : List ℕ) (p : Cursor) : Type 0 where
   pub inside : 4 * k ≤ length bytes
   pub left : p.left ≡ drop (4 * k) bytes
@@ -67,7 +67,7 @@ pub record WordsRead (k : ℕ) (bytes : List ℕ) (p : Cursor) : Type 0 where
 pub none_read : (p : Cursor) → WordsRead 0 p.left p
 none_read p = record { inside = omega arith; left = refl; good = λ k d lt. absurd (omega (arith, lt)) }
 
--- one more was read
+-- One more instruction was read.
 pub record OneMore (k : ℕ) (bytes : List ℕ) (op : Op) (after : Cursor) : Type 0 where
   pub read : WordsRead (k + 1) bytes after
   pub ops : ops_in (first_chunks 4 (k + 1) bytes) ≡ ops_in (first_chunks 4 k bytes) ++ op ∷ []
@@ -90,7 +90,7 @@ one_more k bytes p after op so_far e =
       ops = ap ops_in push ∙ map-append op_in before (next ∷ []) ∙ ap (λ (o : Op). ops_in before ++ o ∷ []) is;
     }
 
--- the words that were read are the first of all
+-- The words that were read are the first ones.
 pub words_are : (k : ℕ) (bytes : List ℕ) (p : Cursor) (words : List (List ℕ)) → WordsRead k bytes p → words ≡ first_chunks 4 (length bytes / 4) bytes → take k words ≡ first_chunks 4 k bytes
 words_are k bytes p words read at = ap (take k) at ∙ take-first_chunks k (length bytes / 4) bytes (omega (arith, read.inside))
 

@@ -1,9 +1,9 @@
--- The faults of an image's bytes as lines print them.
+-- The printed words of the faults of an image's bytes.
 use Rattle.std.specs.Prelude.{ℕ, List, ◌++◌, codes, decimal}
 use Rattle.ifs_image.specs.declared.fault.ImageFault.{ImageFault}
 use Rattle.ifs_image.specs.declared.fault.ImageFault.TheVariants.{Truncated, WrongMagic, WrongVersion, OutOfLimit, BadText, RepeatedName, Trailing, NoInstruction, Memory}
 
--- A fault's code, and the offset of the field in question.
+-- A fault's code, and the offset of its field.
 abbrev pub image_fault_words : ImageFault → List ℕ
 image_fault_words (Truncated at) = codes "I1 byte " ++ decimal at
 image_fault_words (WrongMagic at) = codes "I2 byte " ++ decimal at

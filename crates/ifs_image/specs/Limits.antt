@@ -1,4 +1,4 @@
--- What an image keeps to: numbers, counts and texts within their limits, names that stand once, and what its version can say.
+-- The limits of an image: of its numbers, counts and texts, of its names, and of what its version can say.
 use Rattle.std.specs.Prelude.{ℕ, ◌≡◌, ◌≢◌, ◌<◌, ◌≤◌, ◌^◌, ◌⊎◌, ◌==◌, if◌then◌else◌}
 use Rattle.std.specs.Prelude.{List, [], ◌∷◌, length, map, All, AllPairs, sum_by, IsUtf8}
 use Rattle.ifs_base.specs.declared.op.Kind.TheVariants.{Truth}
@@ -11,14 +11,14 @@ use Rattle.ifs_image.specs.declared.parts.StateSpec.{StateSpec}
 use Rattle.ifs_image.specs.declared.parts.Routine.{Routine}
 use Rattle.ifs_image.specs.declared.parts.ImageParts.{ImageParts}
 
--- What one event may use at most.
+-- The stated limits of one event fit their own limits.
 pub record BudgetsFit (b : Budgets) : Type 0 where
   pub stack : b.stack ≤ 32
   pub frames : b.frames ≤ 32
   pub cost : b.cost ≤ 300000
   pub commands : b.commands ≤ 64
 
--- How many entries each table has.
+-- Each table has at most its number of entries, and there is a state.
 pub record CountsFit (p : ImageParts) : Type 0 where
   pub interfaces : length p.interfaces ≤ 64
   pub tests : length p.tests ≤ 64
@@ -27,7 +27,7 @@ pub record CountsFit (p : ImageParts) : Type 0 where
   pub states : length p.states ≤ 256
   pub routines : length p.routines ≤ 1024
 
--- A test's period and its command.
+-- A test's period and command fit.
 pub record TestFits (t : TestSpec) : Type 0 where
   pub period : PeriodFits t.period
   pub text : TextFits t.text
@@ -36,7 +36,7 @@ pub record TestFits (t : TestSpec) : Type 0 where
 abbrev pub IsVersion : ℕ → Type 0
 IsVersion version = (1 ≤ version) × (version ≤ 2)
 
--- A routine that takes nothing, and leaves nothing or one truth.
+-- A routine has no parameters, and no result or one truth.
 pub record IsPlain (r : Routine) : Type 0 where
   pub params : r.params.items ≡ []
   pub results : (r.results.items ≡ []) ⊎ (r.results.items ≡ Truth ∷ [])
@@ -46,11 +46,11 @@ pub record RoutineFits (version : ℕ) (r : Routine) : Type 0 where
   pub kinds : (version ≡ 2) ⊎ IsPlain r
   pub code : length r.code ≤ 1024
 
--- No name stands twice.
+-- All names are different.
 abbrev pub AreDistinct : List (List ℕ) → Type 0
 AreDistinct names = AllPairs (λ name other. name ≢ other) names
 
--- Each name of a table is a text, and stands once.
+-- The names of a table are texts, and all different.
 pub record NamesFit (names : List (List ℕ)) : Type 0 where
   pub texts : All TextFits names
   pub distinct : AreDistinct names
@@ -59,25 +59,25 @@ pub record NamesFit (names : List (List ℕ)) : Type 0 where
 abbrev pub names_of : List StateSpec → List (List ℕ)
 names_of states = map (λ s. s.name) states
 
--- Each state's name is a text, and no other state has it.
+-- The names of the states are texts, and all different.
 pub record StatesFit (states : List StateSpec) : Type 0 where
   pub texts : All (λ s. TextFits s.name) states
   pub distinct : AreDistinct (names_of states)
 
--- How many instructions all routines have together.
+-- The number of instructions of all routines together.
 abbrev pub instructions : List Routine → ℕ
 instructions routines = sum_by (λ r. length r.code) routines
 
--- How many instructions all routines may have together.
+-- The greatest number of instructions of all routines together, by the version.
 abbrev pub code_limit : ℕ → ℕ
 code_limit version = if version == 1 then 8192 else 65535
 
--- Each routine keeps to its limits, and so do all together.
+-- Each routine fits its limits, and so do all together.
 pub record RoutinesFit (version : ℕ) (routines : List Routine) : Type 0 where
   pub each : All (RoutineFits version) routines
   pub together : instructions routines ≤ code_limit version
 
--- The limits of an image, and its distinct names.
+-- An image fits all limits, and its names are distinct.
 pub record Fits (p : ImageParts) : Type 0 where
   pub version : IsVersion p.version
   pub budgets : BudgetsFit p.budgets
@@ -99,13 +99,13 @@ pub record StateInRange (s : StateSpec) : Type 0 where
   pub name : IsUtf8 s.name
   pub handlers : HandlersInRange s.handlers
 
--- At most four kinds are taken and left, and each operand fits its field.
+-- A routine has at most four parameters and four results, and each operand fits its field.
 pub record RoutineInRange (r : Routine) : Type 0 where
   pub params : length r.params.items ≤ 4
   pub results : length r.results.items ≤ 4
   pub code : All HasSpelling r.code
 
--- What the types of the parts give for nothing, beyond the limits: numbers and lists of kinds fit their fields, texts are UTF-8.
+-- What the types of the parts ensure: numbers and lists of kinds fit their fields, and texts are UTF-8.
 pub record InRange (p : ImageParts) : Type 0 where
   pub initial : p.initial.0 < 2 ^ 16
   pub always : HandlersInRange p.always

@@ -1,4 +1,4 @@
--- Reading an image from the left, field by field down its table: to the image, or to the first fault.
+-- Reading an image from the first byte on, field by field: the result is the image, or the first fault.
 use Rattle.std.specs.Prelude.{ℕ, zero, suc, ◌+◌, ◌-◌, min, Bool, ◌&&◌, ◌||◌, not, ◌==◌, nat_lt, if◌then◌else◌}
 use Rattle.std.specs.Prelude.{List, [], ◌∷◌, ◌++◌, length, take, drop, replicate, slice_index, Result, Ok, Err, codes}
 use Rattle.std.specs.Int.{Width, w16, w32, w64, byte_len, from_be_bytes}
@@ -22,19 +22,20 @@ use Rattle.ifs_image.specs.declared.parts.Routine.{Routine}
 use Rattle.ifs_image.specs.declared.parts.ImageParts.{ImageParts}
 use Rattle.ifs_image.specs.Limits.{names_of, instructions, code_limit}
 
--- A place in the bytes: how many stand before it, and those that are left.
+-- A place in the bytes: its offset, and the bytes from there on.
 pub record Cursor : Type 0 where
   pub at : ℕ
   pub left : List ℕ
 
+-- The place with an offset and the bytes from there on.
 abbrev pub cursor : ℕ → List ℕ → Cursor
 cursor at left = record { at = at; left = left }
 
--- Reading at a place gives a value and the place after it, or the first fault.
+-- Reading at a place: the result is a value and the place after it, or the first fault.
 abbrev pub Read : Type 0 → Type 0
 Read X = Result (X × Cursor) ImageFault
 
--- The next bytes, so many.
+-- The next `n` bytes.
 unfoldable pub bytes_at : ℕ → Cursor → Read (List ℕ)
 bytes_at n p = if nat_lt (length p.left) n then Err (Truncated p.at) else Ok (take n p.left, cursor (p.at + n) (drop n p.left))
 
@@ -50,13 +51,13 @@ number_at w p = do
   bytes ← bytes_at (byte_len w) p
   Ok (from_be_bytes w bytes.0, bytes.1)
 
--- A number between two limits.
+-- A number of several bytes within two limits.
 unfoldable pub number_within : Width → ℕ → ℕ → Cursor → Read ℕ
 number_within w least most p = do
   n ← number_at w p
   if nat_lt n.0 least || nat_lt most n.0 then Err (OutOfLimit p.at) else Ok n
 
--- The four bytes with which every image begins.
+-- The first four bytes of every image.
 unfoldable pub magic_at : Cursor → Read (Unit {0})
 magic_at p = do
   bytes ← bytes_at 4 p
@@ -68,7 +69,7 @@ version_at p = do
   version ← byte_at p
   if (version.0 == 1) || (version.0 == 2) then Ok version else Err (WrongVersion p.at)
 
--- What one event may use at most.
+-- The stated limits of one event.
 unfoldable pub budgets_at : Cursor → Read Budgets
 budgets_at p = do
   stack ← number_within w16 0 32 p
@@ -77,7 +78,7 @@ budgets_at p = do
   commands ← number_within w16 0 64 cost.1
   Ok (record { stack = stack.0; frames = frames.0; cost = cost.0; commands = commands.0 }, commands.1)
 
--- How many entries each table has.
+-- The number of entries of each table.
 unfoldable pub counts_at : Cursor → Read Counts
 counts_at p = do
   interfaces ← number_within w16 0 64 p
@@ -105,7 +106,7 @@ length_at p = do
 unfoldable pub is_text : List ℕ → Bool
 is_text bytes = is_utf8 bytes && not (list_any (λ byte. byte == 0) bytes)
 
--- A text of so many bytes.
+-- A text of `n` bytes.
 unfoldable pub text_sized : ℕ → Cursor → Read (List ℕ)
 text_sized n p = do
   bytes ← bytes_at n p
@@ -117,11 +118,11 @@ text_at p = do
   n ← length_at p
   text_sized n.0 n.1
 
--- A name stands in a table already.
+-- Whether a table has a name.
 abbrev pub stands_in : List ℕ → List (List ℕ) → Bool
 stands_in name names = list_any (λ other. bytes_eq other name) names
 
--- A length and a name that does not stand before. Its fault is at the name.
+-- A length and a name that no earlier entry has. Its fault is at the name.
 unfoldable pub name_at : List (List ℕ) → Cursor → Read (List ℕ)
 name_at before p = do
   n ← length_at p
@@ -149,7 +150,7 @@ instruction_at p = do
   op ← ok_or (op_of bytes.0) (NoInstruction p.at)
   Ok (op, bytes.1)
 
--- So many entries of a table, each read in view of those before it.
+-- The next entries of a table, each read with the entries before it.
 unfoldable pub items_at : {X : Type 0} → (List X → Cursor → Read X) → ℕ → List X → Cursor → Read (List X)
 items_at entry zero before p = Ok (before, p)
 items_at entry (suc n) before p = do
@@ -181,15 +182,15 @@ truths_at p = do
   n ← byte_within 1 p
   Ok (replicate n.0 Truth, n.1)
 
--- What a routine takes: version 1 says nothing of it.
+-- The parameters of a routine: none in version 1.
 unfoldable pub params_at : ℕ → Cursor → Read (List Kind)
 params_at version p = if version == 1 then Ok ([], p) else kinds_at p
 
--- What a routine leaves: in version 1 a number of truths.
+-- The results of a routine: a number of truths in version 1.
 unfoldable pub results_at : ℕ → Cursor → Read (List Kind)
 results_at version p = if version == 1 then truths_at p else kinds_at p
 
--- A routine, where there is room for so many instructions.
+-- A routine of at most `room` instructions.
 unfoldable pub routine_at : ℕ → ℕ → Cursor → Read Routine
 routine_at version room p = do
   params ← params_at version p
@@ -198,11 +199,11 @@ routine_at version room p = do
   code ← items_at (λ _. instruction_at) n.0 [] n.1
   Ok (record { params = record { items = params.0 }; results = record { items = results.0 }; code = code.0 }, code.1)
 
--- The room that routines leave to those after them.
+-- The room that routines leave for later ones.
 abbrev pub room_after : ℕ → List Routine → ℕ
 room_after version before = code_limit version - instructions before
 
--- A routine after those before it.
+-- The next routine after earlier ones.
 abbrev pub routine_after : ℕ → List Routine → Cursor → Read Routine
 routine_after version before = routine_at version (room_after version before)
 

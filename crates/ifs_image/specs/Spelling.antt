@@ -1,4 +1,4 @@
--- The bytes of an image, down the table of the format in its order.
+-- The bytes of an image, in the order of the format.
 use Rattle.std.specs.Prelude.{◌≡◌, ℕ, ◌==◌, if◌then◌else◌, List, [], ◌∷◌, ◌++◌, length, map, codes}
 use Rattle.std.specs.Int.{w16, w32, w64, to_be_bytes}
 use Rattle.std.specs.List.{flat_map}
@@ -45,11 +45,11 @@ state_bytes s = text_bytes s.name ++ handlers_bytes s.handlers
 unfoldable pub kinds_bytes : List Kind → List ℕ
 kinds_bytes kinds = length kinds ∷ map code_of_kind kinds
 
--- What a routine takes, which version 1 does not spell.
+-- The parameters of a routine, which version 1 does not spell.
 unfoldable pub params_bytes : ℕ → List Kind → List ℕ
 params_bytes version params = if version == 1 then [] else kinds_bytes params
 
--- What a routine leaves: in version 1 the number alone.
+-- The results of a routine: the number alone in version 1.
 unfoldable pub results_bytes : ℕ → List Kind → List ℕ
 results_bytes version results = if version == 1 then length results ∷ [] else kinds_bytes results
 
@@ -59,7 +59,7 @@ routine_bytes version r =
     params_bytes version r.params.items ++ results_bytes version r.results.items
     ++ to_be_bytes w16 (length r.code) ++ flat_map spelling r.code
 
--- How many entries each table of an image has.
+-- The number of entries of each table of an image.
 abbrev pub counts : ImageParts → Counts
 counts p = record { interfaces = length p.interfaces; tests = length p.tests; commands = length p.commands; states = length p.states; routines = length p.routines }
 
@@ -70,7 +70,7 @@ image_bytes p =
     ++ flat_map text_bytes p.interfaces ++ flat_map test_bytes p.tests ++ flat_map text_bytes p.commands
     ++ flat_map state_bytes p.states ++ flat_map (routine_bytes p.version) p.routines
 
--- Bytes spell an image that keeps to its limits.
+-- Bytes spell an image, which fits its limits.
 pub record Spells (bytes : List ℕ) (p : ImageParts) : Type 0 where
   pub fits : Fits p
   pub in_range : InRange p

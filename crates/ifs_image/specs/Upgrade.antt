@@ -1,6 +1,6 @@
--- Upgrade: the image of version 2 that says what an image says.
+-- Upgrade: the same image in version 2.
 use Rattle.ifs_image.specs.declared.parts.ImageParts.{ImageParts}
 
--- Version 2, and all else the same.
+-- An image in version 2, otherwise unchanged.
 abbrev pub upgraded : ImageParts → ImageParts
 upgraded image = record image { version = 2 }

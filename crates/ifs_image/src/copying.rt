@@ -1,4 +1,4 @@
-//! Bytes to an image in memory of its own: what lies in the bytes, copied.
+//! Bytes to an image in memory of its own.
 
 ghost use Rattle.std.specs.Prelude.{◌≡◌, ◌≢◌, Err, IfOk};
 ghost use Rattle.ifs_image.specs.declared.parts.ImageParts.{ImageParts};
@@ -16,19 +16,18 @@ use crate::reading::view;
 use ifs_base::{Items, Op, Text};
 use std::alloc::{AllocError, Global};
 
-/// The image that the bytes spell, all of them, as [`view`] sees it, in memory of its own. After a refusal nothing
-/// is kept.
+/// Reads the image that the bytes spell, all of them, into memory of its own. An error keeps nothing.
 ///
-/// I1 to I8 name the first fault from the left, with the offset of the first byte of its field. I0, for
-/// want of memory, may come in place of another answer, unless a field before the tables has a fault.
+/// I1 to I8 report the first fault, with the offset of the first byte of its field. I0 reports a failed allocation;
+/// a fault of a field before the tables is reported even then.
 pub fn read(alloc: Global, bytes: &[u8]) -> Result<Image, ImageFault>
-    // What is read is spelled by the bytes, all of them.
+    // The bytes spell the image, all of them.
     ensures found { IfOk result (λ image. Spells bytes.now image) }
-    // What the bytes spell is read, unless want of memory is told.
+    // What the bytes spell is read, unless an allocation fails.
     ensures only { (image : ImageParts) → Spells bytes.now image → result ≢ Err Memory → result ≡ Ok image }
-    // Any other refusal is the first fault from the left.
+    // Any other error is the first fault.
     ensures first_fault { Answers result (image_of bytes.now) }
-    // A fault before the tables is told, and not want of memory.
+    // A fault before the tables is reported even if an allocation fails.
     ensures at_once { RefusesHead result (cursor 0 bytes.now) }
 {
     let lent = view(alloc, bytes)?;

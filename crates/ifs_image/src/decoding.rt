@@ -1,4 +1,4 @@
-//! Words of four bytes that are known to spell an instruction.
+//! Decoding of words that spell an instruction.
 
 ghost use Rattle.std.specs.Prelude.{◌≡◌, ◌≤◌, Some};
 ghost use Rattle.ifs_base.specs.Spelling.{op_of, link_of_code};
@@ -6,8 +6,7 @@ ghost use Rattle.ifs_image.specs.Lent.{IsInstruction};
 
 use ifs_base::{CommandId, IfaceId, LinkState, Op, RoutineId, StateId, TestId};
 
-/// The instruction of a word, which the caller knows to spell one. Bytes that only tell whether it does
-/// are not looked at.
+/// The instruction that a word spells. It ignores the bytes that only decide whether the word spells one.
 pub fn known_op(word: [u8; 4]) -> Op
     requires { IsInstruction word }
     ensures { op_of word ≡ Some result }
@@ -37,7 +36,7 @@ pub fn known_op(word: [u8; 4]) -> Op
     }
 }
 
-/// The link state of a byte, which the caller knows to be one's code.
+/// The link state of a code.
 fn known_link(code: u8) -> LinkState
     requires { code ≤ 2 }
     ensures { link_of_code code ≡ Some result }

@@ -10,32 +10,31 @@ use std::alloc::{AllocError, AllocFailed};
 use std::fmt::{self, Debug, Display, Formatter, Write};
 use thiserror::Error;
 
-/// The first thing from the left that is wrong with an image's bytes. `at` is the offset, in bytes
-/// from 0, of the first byte of the field in question.
+/// The first fault of an image's bytes. `at` is the offset of the field's first byte, from 0.
 #[derive(Clone, Copy, PartialEq, Eq, Error)]
 pub enum ImageFault {
-    /// I1: a field is not there whole.
+    /// I1: the bytes end within a field.
     Truncated { at: usize },
     /// I2: the first four bytes are not `IFSV`.
     WrongMagic { at: usize },
     /// I3: a version other than 1 and 2.
     WrongVersion { at: usize },
-    /// I4: a number over or under its limit, or a byte that is no kind.
+    /// I4: a number outside its limits, or a byte that is no kind.
     OutOfLimit { at: usize },
-    /// I5: a text of 0 or over 1,024 bytes, at its length; or one that is not UTF-8 or has a NUL, at its first byte.
+    /// I5: a text of 0 or over 1,024 bytes, at its length; a text that is not UTF-8 or has a NUL, at its first byte.
     BadText { at: usize },
-    /// I6: the name of a state or an interface that stood before in its table.
+    /// I6: a name that an earlier state or interface has.
     RepeatedName { at: usize },
     /// I7: bytes after the last routine.
     Trailing { at: usize },
     /// I8: four bytes that spell no instruction.
     NoInstruction { at: usize },
-    /// I0: no memory was found for what the bytes spell.
+    /// I0: an allocation fails.
     Memory,
 }
 
 impl ImageFault {
-    /// What is printed of the fault.
+    /// The words that the fault prints.
     pub fn text(self) -> FaultText
         ensures { fault_words result ≡ image_fault_words self }
     {
@@ -70,7 +69,7 @@ impl Display for ImageFault {
     }
 }
 
-/// As the fault is printed.
+/// Prints the same as `Display`.
 impl Debug for ImageFault {
     fn fmt<W: Write>(&self, f: &mut Formatter<W>) -> fmt::Result {
         Display::fmt(self, f)

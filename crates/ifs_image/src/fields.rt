@@ -1,4 +1,4 @@
-//! Numbers, texts and instructions at a place of an image's bytes.
+//! A reader of the fields of an image.
 
 ghost use Rattle.std.specs.Prelude.{◌≡◌, ◌≤◌, ◌/◌, ◌==◌, length, is_some, IfSome, IfOk};
 ghost use Rattle.std.specs.Simd.{first_chunks};
@@ -13,7 +13,7 @@ use crate::limits;
 use ifs_base::{Kind, Op, decode_kind, decode_op};
 use std::marker::Model;
 
-/// The bytes of an image that are not read yet, and how many were.
+/// The bytes of an image that are still unread, and the offset of the first of them.
 #[derive(Drop)]
 pub struct Reader<'a> {
     rest: &'a [u8],
@@ -65,7 +65,7 @@ impl<'a> Reader<'a> {
         self.rest.is_empty()
     }
 
-    /// The next bytes, so many; I1 where fewer are left.
+    /// The next `count` bytes; I1 if fewer are left.
     #[tactic(auto, unfolding(crate::specs::Reading::bytes_at))]
     pub fn take(&mut self, count: usize) -> Result<&'a [u8], ImageFault>
         ensures given { GivesAtOnceBy (λ bytes. bytes.now) result self.new (bytes_at count self.old) }
@@ -118,7 +118,7 @@ impl<'a> Reader<'a> {
         Ok(u64::from_be_bytes([a, b, c, d, e, f, g, h]))
     }
 
-    /// A number of one byte, up to `most`; I4 over it.
+    /// A number of one byte, up to `most`; I4 above it.
     #[tactic(auto, unfolding(crate::specs::Reading::byte_within))]
     pub fn u8_within(&mut self, most: u8) -> Result<u8, ImageFault>
         ensures given { GivesAtOnce result self.new (byte_within most self.old) }
@@ -159,7 +159,7 @@ impl<'a> Reader<'a> {
         Ok(number)
     }
 
-    /// The length of a text, in bytes; I5 where it is 0 or over its limit.
+    /// The length of a text, in bytes; I5 if it is 0 or over its limit.
     #[tactic(auto, unfolding(crate::specs::Reading::length_at))]
     pub fn text_length(&mut self) -> Result<u16, ImageFault>
         ensures { Gives result self.new (length_at self.old) }
@@ -172,7 +172,7 @@ impl<'a> Reader<'a> {
         Ok(length)
     }
 
-    /// A text of so many bytes; I5 where it is not UTF-8 or has a NUL.
+    /// A text of `length` bytes; I5 if it is not UTF-8 or has a NUL.
     #[tactic(auto, unfolding(crate::specs::Reading::text_sized))]
     pub fn text_sized(&mut self, length: u16) -> Result<LentText<'a>, ImageFault>
         ensures { Gives result self.new (text_sized length self.old) }
@@ -195,7 +195,7 @@ impl<'a> Reader<'a> {
         Ok(text)
     }
 
-    /// The next bytes by fours, as far as they go.
+    /// The unread bytes in words of four, without what remains.
     pub fn words(&self) -> &'a [[u8; 4]]
         ensures { result.now ≡ first_chunks 4 (length self.now.left / 4) self.now.left }
     {
@@ -203,7 +203,7 @@ impl<'a> Reader<'a> {
         rest.as_chunks::<4>().0
     }
 
-    /// A kind of values; I4 where the byte is none.
+    /// A kind of values; I4 if the byte is none.
     #[tactic(auto, unfolding(crate::specs::Reading::kind_at))]
     pub fn kind(&mut self) -> Result<Kind, ImageFault>
         ensures { GivesAtOnce result self.new (kind_at self.old) }
@@ -215,7 +215,7 @@ impl<'a> Reader<'a> {
         }
     }
 
-    /// An instruction; I8 where the four bytes spell none.
+    /// An instruction; I8 if the four bytes spell none.
     #[tactic(auto, unfolding(crate::specs::Reading::instruction_at))]
     pub fn op(&mut self) -> Result<Op, ImageFault>
         ensures { Gives result self.new (instruction_at self.old) }
@@ -229,7 +229,7 @@ impl<'a> Reader<'a> {
     }
 }
 
-/// The text that bytes are: UTF-8 without a NUL.
+/// The bytes as a text, if they are UTF-8 without a NUL.
 #[tactic(auto, unfolding(crate::specs::Reading::is_text))]
 fn text_in(bytes: &[u8]) -> Option<&str>
     ensures test { is_some result ≡ is_text bytes.now }

@@ -1,6 +1,6 @@
-//! Whether parts keep to the limits of the format.
+//! Whether parts fit the limits of the format.
 
-ghost use Rattle.std.specs.Prelude.{◌≡◌, ◌↔◌, ◌≤◌, ◌⊎◌, [], ◌∷◌, IsTrue};
+ghost use Rattle.std.specs.Prelude.{◌≡◌, ◌↔◌, ◌≤◌, ◌⊎◌, [], ◌∷◌, All, IsTrue};
 ghost use Rattle.ifs_image.specs.Limits.{Fits, IsVersion, BudgetsFit, CountsFit, TestFits, IsPlain, RoutineFits, RoutinesFit};
 ghost use Rattle.ifs_image.specs.Limits.{NamesFit, StatesFit, AreDistinct, names_of, instructions, code_limit};
 ghost use Rattle.ifs_base.specs.declared.op.Kind.{Kind};
@@ -15,14 +15,21 @@ use crate::parts::{Budgets, ImageParts, Routine, StateSpec, TestSpec};
 use ifs_base::{Kind, Text};
 
 impl ImageParts {
-    /// Whether all limits hold, and no two interfaces and no two states have one name.
+    /// Whether all limits hold, and the names of interfaces and of states are distinct.
     pub fn fits(&self) -> bool
         ensures { IsTrue result ↔ Fits self.now }
     {
         is_version(self.version)
             && self.budgets.fit()
             && self.counts_fit()
-            && names_fit(self.interfaces.as_slice())
+            && self.tables_fit()
+    }
+
+    fn tables_fit(&self) -> bool
+        ensures { IsTrue result ↔ (NamesFit self.now.interfaces × All TestFits self.now.tests × All TextFits self.now.commands × StatesFit self.now.states
+            × RoutinesFit self.now.version self.now.routines) }
+    {
+        names_fit(self.interfaces.as_slice())
             && self.tests.as_slice().iter().all(test_fits)
             && self.commands.as_slice().iter().all(text_fits)
             && states_fit(self.states.as_slice())
@@ -77,14 +84,14 @@ fn routine_fits(version: u8, routine: &Routine) -> bool
         && routine.code.len() <= usize::from(limits::CODE_OF_ROUTINE)
 }
 
-/// Whether a routine takes nothing, and leaves nothing or one truth.
+/// Whether a routine has no parameters, and no result or one truth.
 fn is_plain(routine: &Routine) -> bool
     ensures { IsTrue result ↔ IsPlain routine.now }
 {
     routine.params.is_empty() && are_truths(routine.results.as_slice())
 }
 
-/// Whether kinds are none, or one truth.
+/// Whether there are no kinds, or one truth.
 fn are_truths(kinds: &[Kind]) -> bool
     ensures { IsTrue result ↔ ((kinds.now ≡ []) ⊎ (kinds.now ≡ Truth ∷ [])) }
 {
@@ -94,7 +101,7 @@ fn are_truths(kinds: &[Kind]) -> bool
     }
 }
 
-/// Whether a name stands in a table.
+/// Whether a table has a name.
 fn is_among(names: &[Text], name: &[u8]) -> bool
     ensures { result ≡ stands_in name.now names.now }
 {
@@ -157,7 +164,7 @@ fn have_distinct_names(states: &[StateSpec]) -> bool
     true
 }
 
-/// Whether all routines together are within their limit; stops at the first that passes it.
+/// Whether the instructions of all routines together are within their limit; stops at the first routine beyond it.
 fn code_fits(version: u8, routines: &[Routine]) -> bool
     ensures { IsTrue result ↔ (instructions routines.now ≤ code_limit version) }
 {

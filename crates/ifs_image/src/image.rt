@@ -1,4 +1,4 @@
-//! An image in memory.
+//! An image in memory of its own.
 
 ghost use Rattle.std.specs.Prelude.{◌≡◌};
 ghost use Rattle.ifs_image.specs.Upgrade.{upgraded};
@@ -6,7 +6,7 @@ ghost use Rattle.ifs_image.specs.Upgrade.{upgraded};
 use crate::parts::ImageParts;
 use std::marker::Model;
 
-/// An image, seen as its parts. They keep to the limits of the format, and no name stands twice.
+/// An image in memory of its own. Contracts see its parts, which fit the limits of the format and have distinct names.
 #[derive(Debug)]
 pub struct Image {
     parts: ImageParts,
@@ -32,7 +32,7 @@ impl Model for Image {
 impl Image {
     ghost use Rattle.ifs_image.specs.Limits.{Fits};
 
-    /// The image of these parts, which the caller knows to fit. Takes no memory.
+    /// The image of these parts, which fit. Allocates nothing.
     pub fn new(parts: ImageParts) -> Self
         requires { Fits parts }
         ensures { result ≡ parts }
@@ -40,7 +40,7 @@ impl Image {
         Image { parts }
     }
 
-    /// Lends the parts.
+    /// Borrows the parts.
     pub fn parts(&self) -> &ImageParts
         ensures value { result.now ≡ self.now }
         ensures fits { Fits self.now }
@@ -58,7 +58,7 @@ impl Image {
     }
 }
 
-/// The image of version 2 that says what an image says: an image of version 2 is itself. Takes no memory.
+/// Changes an image to version 2, and nothing else. An image of version 2 stays as it is. Allocates nothing.
 pub fn upgrade(image: Image) -> Image
     ensures value { result ≡ upgraded image }
     ensures same { image.version ≡ 2 → result ≡ image }

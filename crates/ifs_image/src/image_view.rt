@@ -1,4 +1,4 @@
-//! An image that lies in its bytes.
+//! An image in place, in its bytes.
 
 ghost use Rattle.std.specs.Prelude.{◌≡◌, ◌<◌, ◌≤◌, Some, IfSome, length, slice_get, option_map, position};
 ghost use Rattle.std.specs.Str.{bytes_eq};
@@ -9,8 +9,8 @@ use crate::parts::{Budgets, Handlers};
 use ifs_base::{Kind, Op, StateId};
 use std::marker::Model;
 
-/// An image, seen as its parts, whose texts and instructions lie in its bytes. They keep to the limits of the format,
-/// and no name stands twice. Nothing here takes memory.
+/// An image in place: it borrows its texts and instructions from its bytes. Contracts see its parts, which fit the
+/// limits of the format and have distinct names. No method allocates.
 #[derive(Debug)]
 pub struct ImageView<'a> {
     parts: LentParts<'a>,
@@ -36,7 +36,7 @@ impl<'a> Model for ImageView<'a> {
 impl<'a> ImageView<'a> {
     ghost use Rattle.ifs_image.specs.Limits.{Fits};
 
-    /// The image of these parts, which the caller knows to fit.
+    /// The image of these parts, which fit.
     pub(crate) fn new(parts: LentParts<'a>) -> Self
         requires { Fits parts }
         ensures { result ≡ parts.entry }
@@ -44,7 +44,7 @@ impl<'a> ImageView<'a> {
         ImageView { parts }
     }
 
-    /// Lends the parts.
+    /// Borrows the parts.
     pub(crate) fn parts(&self) -> &LentParts<'a>
         ensures value { result.now ≡ self.now }
         ensures fits { Fits self.now }
@@ -59,7 +59,7 @@ impl<'a> ImageView<'a> {
         self.parts.version
     }
 
-    /// What one event may use at most, as the image states it.
+    /// The stated limits of one event.
     pub fn budgets(&self) -> Budgets
         ensures { result ≡ self.now.budgets }
     {
@@ -80,14 +80,14 @@ impl<'a> ImageView<'a> {
         self.parts.always
     }
 
-    /// How many interfaces there are, at most 64.
+    /// The number of interfaces, at most 64.
     pub fn interfaces(&self) -> usize
         ensures { result ≡ length self.now.interfaces }
     {
         self.parts.interfaces.len()
     }
 
-    /// The name of an interface that is in the table.
+    /// The name of an interface.
     pub fn interface(&self, index: usize) -> &'a str
         requires { index < length self.now.interfaces }
         ensures { slice_get self.now.interfaces index ≡ Some result.now }
@@ -96,7 +96,7 @@ impl<'a> ImageView<'a> {
         name.as_str()
     }
 
-    /// The index of the first interface of this name, compared byte by byte.
+    /// The index of the first interface of this name, byte by byte; `None` if there is none.
     pub fn interface_index(&self, name: &[u8]) -> Option<usize>
         ensures found { result ≡ position (λ other. bytes_eq other name.now) self.now.interfaces }
         ensures within { IfSome result (λ index. index < length self.now.interfaces) }
@@ -104,14 +104,14 @@ impl<'a> ImageView<'a> {
         index_of(self.parts.interfaces.as_slice(), name)
     }
 
-    /// How many tests there are, at most 64.
+    /// The number of tests, at most 64.
     pub fn tests(&self) -> usize
         ensures { result ≡ length self.now.tests }
     {
         self.parts.tests.len()
     }
 
-    /// The period of a test that is in the table, in seconds, from 1 to 604,800.
+    /// The period of a test, in seconds, from 1 to 604,800.
     pub fn test_period(&self, index: usize) -> u32
         requires { index < length self.now.tests }
         ensures { option_map (λ test. test.period) (slice_get self.now.tests index) ≡ Some result }
@@ -120,7 +120,7 @@ impl<'a> ImageView<'a> {
         test.period
     }
 
-    /// The command of a test that is in the table.
+    /// The command of a test.
     pub fn test_text(&self, index: usize) -> &'a str
         requires { index < length self.now.tests }
         ensures { option_map (λ test. test.text) (slice_get self.now.tests index) ≡ Some result.now }
@@ -129,14 +129,14 @@ impl<'a> ImageView<'a> {
         test.text.as_str()
     }
 
-    /// How many commands there are, at most 1,024.
+    /// The number of commands, at most 1,024.
     pub fn commands(&self) -> usize
         ensures { result ≡ length self.now.commands }
     {
         self.parts.commands.len()
     }
 
-    /// The text of a command that is in the table.
+    /// The text of a command.
     pub fn command(&self, index: usize) -> &'a str
         requires { index < length self.now.commands }
         ensures { slice_get self.now.commands index ≡ Some result.now }
@@ -145,14 +145,14 @@ impl<'a> ImageView<'a> {
         text.as_str()
     }
 
-    /// How many states there are, from 1 to 256.
+    /// The number of states, from 1 to 256.
     pub fn states(&self) -> usize
         ensures { result ≡ length self.now.states }
     {
         self.parts.states.len()
     }
 
-    /// The name of a state that is in the table.
+    /// The name of a state.
     pub fn state_name(&self, index: usize) -> &'a str
         requires { index < length self.now.states }
         ensures { option_map (λ state. state.name) (slice_get self.now.states index) ≡ Some result.now }
@@ -161,7 +161,7 @@ impl<'a> ImageView<'a> {
         state.name.as_str()
     }
 
-    /// The handlers of a state that is in the table.
+    /// The handlers of a state.
     pub fn state_handlers(&self, index: usize) -> Handlers
         requires { index < length self.now.states }
         ensures { option_map (λ state. state.handlers) (slice_get self.now.states index) ≡ Some result }
@@ -170,14 +170,14 @@ impl<'a> ImageView<'a> {
         state.handlers
     }
 
-    /// How many routines there are, at most 1,024.
+    /// The number of routines, at most 1,024.
     pub fn routines(&self) -> usize
         ensures { result ≡ length self.now.routines }
     {
         self.parts.routines.len()
     }
 
-    /// The kinds that a routine that is in the table takes, at most 4, the topmost last.
+    /// The parameters of a routine, at most 4, the topmost last.
     pub fn params(&self, index: usize) -> &[Kind]
         requires { index < length self.now.routines }
         ensures value { option_map (λ routine. routine.params.items) (slice_get self.now.routines index) ≡ Some result.now }
@@ -187,7 +187,7 @@ impl<'a> ImageView<'a> {
         routine.params.as_slice()
     }
 
-    /// The kinds that a routine that is in the table leaves, at most 4, the topmost last.
+    /// The results of a routine, at most 4, the topmost last.
     pub fn results(&self, index: usize) -> &[Kind]
         requires { index < length self.now.routines }
         ensures value { option_map (λ routine. routine.results.items) (slice_get self.now.routines index) ≡ Some result.now }
@@ -197,7 +197,7 @@ impl<'a> ImageView<'a> {
         routine.results.as_slice()
     }
 
-    /// The code of a routine that is in the table, at most 1,024 instructions.
+    /// The code of a routine, at most 1,024 instructions.
     pub fn code(&self, index: usize) -> LentCode<'a>
         requires { index < length self.now.routines }
         ensures { result ≡ code_of self.now index }
@@ -206,7 +206,7 @@ impl<'a> ImageView<'a> {
         routine.code.again()
     }
 
-    /// How many instructions a routine that is in the table has.
+    /// The number of instructions of a routine.
     pub fn code_len(&self, index: usize) -> usize
         requires { index < length self.now.routines }
         ensures { result ≡ length (code_of self.now index) }
@@ -215,7 +215,7 @@ impl<'a> ImageView<'a> {
         routine.code.len()
     }
 
-    /// The instruction at a place of a routine, which the caller knows to be there.
+    /// The instruction at a place of a routine.
     pub fn op(&self, index: usize, place: usize) -> Op
         requires { place < length (code_of self.now index) }
         ensures { op_at self.now index place ≡ Some result }
@@ -225,7 +225,7 @@ impl<'a> ImageView<'a> {
     }
 }
 
-/// The index of the first name that is this one, byte by byte.
+/// The index of the first name that equals this one, byte by byte.
 fn index_of(names: &[LentText<'_>], name: &[u8]) -> Option<usize>
     ensures found { result ≡ position (λ other. bytes_eq other name.now) names.now }
     ensures within { IfSome result (λ index. index < length names.now) }

@@ -1,4 +1,4 @@
-//! What an image is made of, where it lies in the image's bytes.
+//! The parts of an image in place, in its bytes.
 
 ghost use Rattle.std.specs.Prelude.{◌≡◌, ◌<◌, ◌+◌, ◌^◌, ◌↔◌, Some, All, [], slice_get, length, IsTrue};
 ghost use Rattle.ifs_base.specs.Spelling.{op_of};
@@ -9,7 +9,7 @@ use crate::parts::{Budgets, Handlers, Kinds};
 use ifs_base::{Items, Op, StateId};
 use std::marker::Model;
 
-/// A text that lies in bytes. Clauses see its bytes.
+/// A text in place. Contracts see its bytes.
 #[derive(Debug, Drop)]
 pub struct LentText<'a> {
     text: &'a str,
@@ -24,21 +24,21 @@ impl<'a> Model for LentText<'a> {
 }
 
 impl<'a> LentText<'a> {
-    /// A text where it lies.
+    /// A text in place.
     pub fn new(text: &'a str) -> Self
         ensures { result ≡ text.now }
     {
         LentText { text }
     }
 
-    /// Lends the text.
+    /// Borrows the text.
     pub fn as_str(&self) -> &'a str
         ensures { result.now ≡ self.now }
     {
         self.text
     }
 
-    /// Lends the text's bytes.
+    /// Borrows the bytes of the text.
     pub fn as_bytes(&self) -> &'a [u8]
         ensures { result.now ≡ self.now }
     {
@@ -46,7 +46,7 @@ impl<'a> LentText<'a> {
     }
 }
 
-/// An external test, whose text lies in bytes. Clauses see the test.
+/// An external test whose command is in place. Contracts see the test.
 #[derive(Debug, Drop)]
 pub struct LentTest<'a> {
     /// Seconds from one start to the next.
@@ -63,7 +63,7 @@ impl<'a> Model for LentTest<'a> {
     ghost view = { λ t. record { period = t.period; text = t.text } };
 }
 
-/// A state whose name lies in bytes. Clauses see the state.
+/// A state whose name is in place. Contracts see the state.
 #[derive(Debug, Drop)]
 pub struct LentState<'a> {
     /// Its name.
@@ -80,7 +80,7 @@ impl<'a> Model for LentState<'a> {
     ghost view = { λ s. record { name = s.name; handlers = s.handlers } };
 }
 
-/// Instructions that lie in bytes. Clauses see the list of instructions.
+/// Instructions in place. Contracts see their list.
 #[derive(Debug, Drop)]
 pub struct LentCode<'a> {
     words: &'a [[u8; 4]],
@@ -99,7 +99,7 @@ impl<'a> Model for LentCode<'a> {
 }
 
 impl<'a> LentCode<'a> {
-    /// Instructions where they lie.
+    /// Instructions in place.
     pub(crate) fn new(words: &'a [[u8; 4]]) -> Self
         requires { All IsInstruction words.now }
         ensures { result ≡ ops_in words.now }
@@ -107,7 +107,7 @@ impl<'a> LentCode<'a> {
         LentCode { words }
     }
 
-    /// How many instructions there are.
+    /// The number of instructions.
     pub fn len(&self) -> usize
         ensures { result ≡ length self.now }
     {
@@ -115,7 +115,7 @@ impl<'a> LentCode<'a> {
         words.len()
     }
 
-    /// Whether there is none.
+    /// Whether there are none.
     pub fn is_empty(&self) -> bool
         ensures { IsTrue result ↔ (self.now ≡ []) }
     {
@@ -123,28 +123,28 @@ impl<'a> LentCode<'a> {
         words.is_empty()
     }
 
-    /// The four bytes of the instruction at a place, which the caller knows to be there.
+    /// The four bytes of the instruction at a place.
     pub fn word(&self, place: usize) -> [u8; 4]
         requires { place < length self.now }
         ensures word { slice_get self.now place ≡ op_of result }
-        // The place behind it is a number too.
+        // The next place is in the range of a number too.
         ensures next { place + 1 < 2 ^ 64 }
     {
         let words = self.words;
         words[place]
     }
 
-    /// The instruction at a place, which the caller knows to be there.
+    /// The instruction at a place.
     pub fn op(&self, place: usize) -> Op
         requires { place < length self.now }
         ensures op { slice_get self.now place ≡ Some result }
-        // The place behind it is a number too.
+        // The next place is in the range of a number too.
         ensures next { place + 1 < 2 ^ 64 }
     {
         known_op(self.word(place))
     }
 
-    /// The same instructions, lent once more.
+    /// The same instructions, borrowed again.
     pub fn again(&self) -> LentCode<'a>
         ensures { result ≡ self.now }
     {
@@ -153,12 +153,12 @@ impl<'a> LentCode<'a> {
     }
 }
 
-/// A routine whose code lies in bytes. Clauses see the routine.
+/// A routine whose code is in place. Contracts see the routine.
 #[derive(Debug, Drop)]
 pub struct LentRoutine<'a> {
-    /// The kinds that it takes, at most 4, the topmost last.
+    /// Its parameters, at most 4, the topmost last.
     pub params: Kinds,
-    /// The kinds that it leaves, at most 4, the topmost last.
+    /// Its results, at most 4, the topmost last.
     pub results: Kinds,
     /// Its instructions.
     pub code: LentCode<'a>,
@@ -172,7 +172,7 @@ impl<'a> Model for LentRoutine<'a> {
     ghost view = { λ r. record { params = r.params; results = r.results; code = r.code } };
 }
 
-/// All that an image says, with texts and code that lie in its bytes. Clauses see the image.
+/// All parts of an image, with its texts and code in place. Contracts see the image.
 #[derive(Debug)]
 pub struct LentParts<'a> {
     pub version: u8,

@@ -1,10 +1,10 @@
 //! The image: what a policy is compiled to, and its bytes.
 //!
 //! An image has budgets, tables of interfaces, tests, commands and states, the handlers of the always
-//! part and of each state, and routines of byte code. [`view`] sees it in its bytes, whoever made
-//! them, and names the first thing that is wrong with them, with the offset of the field's first byte;
-//! [`read`] copies what it sees. [`write`] gives the bytes back. Contract: bytes spell at most one image,
-//! an image has one spelling, and these functions keep to it; no spelling is a prefix of another.
+//! part and of each state, and routines of byte code. [`view`] checks any bytes and sees the image in
+//! place, or reports the first fault with the offset of its field. [`read`] copies what [`view`] sees.
+//! [`write`] returns the bytes of an image. Bytes spell at most one image, an image has one spelling, and
+//! no spelling is a prefix of another.
 #![tactic(auto)]
 
 mod copying;

@@ -1,9 +1,9 @@
-//! What an image is made of.
+//! The parts of an image.
 
 use arrayvec::ArrayVec;
 use ifs_base::{Items, Kind, Op, RoutineId, StateId, Text};
 
-/// What one event may use at most, as the image states it.
+/// The stated limits of one event.
 #[derive(Clone, Copy, Debug, PartialEq, Eq)]
 pub struct Budgets {
     /// Values on the stack at one time, at most 32.
@@ -16,7 +16,7 @@ pub struct Budgets {
     pub commands: u16,
 }
 
-/// The numbers of entries of the tables.
+/// The number of entries of each table.
 #[derive(Clone, Copy)]
 pub struct Counts {
     pub interfaces: u16,
@@ -26,14 +26,14 @@ pub struct Counts {
     pub routines: u16,
 }
 
-/// The code of a part of the policy, and the tests that it mentions.
+/// The code of a part of the policy, and its tests.
 #[derive(Clone, Copy, Debug, PartialEq, Eq)]
 pub struct Handlers {
     /// Run when the part is entered.
     pub init: RoutineId,
     /// Run at each evaluation.
     pub body: RoutineId,
-    /// The tests that are active: the bit of weight 2^t stands for test t.
+    /// The active tests: bit t is test t.
     pub mask: u64,
 }
 
@@ -61,15 +61,15 @@ pub type Kinds = ArrayVec<Kind, 4>;
 /// A routine of byte code.
 #[derive(Debug, Drop)]
 pub struct Routine {
-    /// The kinds that it takes off its caller's list, at most 4, the topmost last. None in version 1.
+    /// The kinds that it takes off its caller's list, at most 4, the topmost last; none in version 1.
     pub params: Kinds,
-    /// The kinds that it leaves, at most 4, the topmost last. In version 1 none, or one truth.
+    /// The kinds that it leaves, at most 4, the topmost last; in version 1 none, or one truth.
     pub results: Kinds,
     /// Its instructions, at most 1,024.
     pub code: Items<Op>,
 }
 
-/// All that an image says.
+/// All parts of an image.
 #[derive(Debug, Drop)]
 pub struct ImageParts {
     /// The version of the format, 1 or 2.
@@ -79,13 +79,13 @@ pub struct ImageParts {
     pub initial: StateId,
     /// The handlers of the part outside all states.
     pub always: Handlers,
-    /// The names of interfaces, at most 64, each once.
+    /// The names of interfaces, at most 64, all different.
     pub interfaces: Items<Text>,
     /// At most 64.
     pub tests: Items<TestSpec>,
     /// The texts of commands, at most 1,024.
     pub commands: Items<Text>,
-    /// From 1 to 256, each name once.
+    /// From 1 to 256, all with different names.
     pub states: Items<StateSpec>,
     /// At most 1,024, with at most 8,192 instructions together in version 1, and 65,535 in version 2.
     pub routines: Items<Routine>,

@@ -1,4 +1,4 @@
-//! Bytes to image, field by field down the table of the format.
+//! Bytes to an image in place, field by field in the order of the format.
 
 ghost use Rattle.std.specs.Prelude.{◌≡◌, ◌≢◌, ◌≤◌, length, [], Err, IfOk};
 ghost use Rattle.std.specs.Int.{w16};
@@ -24,20 +24,19 @@ use crate::parts::{Budgets, Counts, Handlers, Kinds};
 use ifs_base::{Items, Kind, RoutineId, StateId};
 use std::alloc::Global;
 
-/// The image that the bytes spell, all of them, where it lies in them: texts and instructions are lent and not copied.
-/// After a refusal nothing is kept.
+/// Sees the image that the bytes spell, all of them, in place: it borrows texts and instructions. An error keeps nothing.
 ///
-/// I1 to I8 name the first fault from the left, with the offset of the first byte of its field. I0, for
-/// want of memory, may come in place of another answer, unless a field before the tables has a fault.
+/// I1 to I8 report the first fault, with the offset of the first byte of its field. I0 reports a failed allocation;
+/// a fault of a field before the tables is reported even then.
 #[tactic(auto, unfolding(crate::specs::Reading::image_of))]
 pub fn view<'a>(alloc: Global, bytes: &'a [u8]) -> Result<ImageView<'a>, ImageFault>
-    // What is seen is spelled by the bytes, all of them.
+    // The bytes spell the image, all of them.
     ensures found { IfOk result (λ image. Spells bytes.now image) }
-    // What the bytes spell is seen, unless want of memory is told.
+    // What the bytes spell is seen, unless an allocation fails.
     ensures only { (image : ImageParts) → Spells bytes.now image → result ≢ Err Memory → result ≡ Ok image }
-    // Any other refusal is the first fault from the left.
+    // Any other error is the first fault.
     ensures first_fault { Answers result (image_of bytes.now) }
-    // A fault before the tables is told, and not want of memory.
+    // A fault before the tables is reported even if an allocation fails.
     ensures at_once { RefusesHead result (cursor 0 bytes.now) }
 {
     let mut reader = Reader::new(bytes);
@@ -144,7 +143,7 @@ fn handlers_of(reader: &mut Reader<'_>) -> Result<Handlers, ImageFault>
     Ok(Handlers { init, body, mask })
 }
 
-/// A name that stands not among those before it; I6 at the text where it does.
+/// An interface's name; I6 at the text if an earlier interface has it.
 #[tactic(auto, unfolding(crate::specs::Reading::name_at))]
 fn interface_of<'a>(
     reader: &mut Reader<'a>,
@@ -215,7 +214,7 @@ fn commands_of<'a>(
     Ok(Items::new(commands))
 }
 
-/// A state whose name stands not among those before it; I6 at the text where it does.
+/// A state; I6 at its name if an earlier state has it.
 #[tactic(auto, unfolding(crate::specs::Reading::state_at, crate::specs::Reading::name_at))]
 fn state_of<'a>(
     reader: &mut Reader<'a>,
@@ -248,7 +247,7 @@ fn states_of<'a>(
     Ok(Items::new(states))
 }
 
-/// A routine, where there is room for so many instructions.
+/// A routine of at most `room` instructions.
 #[tactic(auto, unfolding(crate::specs::Reading::routine_at))]
 fn routine_of<'a>(
     reader: &mut Reader<'a>,
@@ -287,7 +286,7 @@ fn routines_of<'a>(
     Ok(Items::new(routines))
 }
 
-/// What a routine takes.
+/// The parameters of a routine.
 #[tactic(auto, unfolding(crate::specs::Reading::params_at))]
 fn params_of(reader: &mut Reader<'_>, version: u8) -> Result<Kinds, ImageFault>
     ensures { GivesAtOnceBy (λ kinds. kinds.items) result reader.new (params_at version reader.old) }
@@ -298,7 +297,7 @@ fn params_of(reader: &mut Reader<'_>, version: u8) -> Result<Kinds, ImageFault>
     kinds_of(reader)
 }
 
-/// What a routine leaves.
+/// The results of a routine.
 #[tactic(auto, unfolding(crate::specs::Reading::results_at))]
 fn results_of(reader: &mut Reader<'_>, version: u8) -> Result<Kinds, ImageFault>
     ensures { GivesAtOnceBy (λ kinds. kinds.items) result reader.new (results_at version reader.old) }
@@ -309,7 +308,7 @@ fn results_of(reader: &mut Reader<'_>, version: u8) -> Result<Kinds, ImageFault>
     kinds_of(reader)
 }
 
-/// A number of truths.
+/// A number of truths, at most one.
 #[tactic(auto, unfolding(crate::specs::Reading::truths_at))]
 fn truths_of(reader: &mut Reader<'_>) -> Result<Kinds, ImageFault>
     ensures { GivesAtOnceBy (λ kinds. kinds.items) result reader.new (truths_at reader.old) }
@@ -321,7 +320,7 @@ fn truths_of(reader: &mut Reader<'_>) -> Result<Kinds, ImageFault>
     Ok(truths)
 }
 
-/// A number of kinds, and the kinds.
+/// A number of kinds, at most four, and the kinds.
 #[tactic(auto, unfolding(crate::specs::Reading::kinds_at))]
 fn kinds_of(reader: &mut Reader<'_>) -> Result<Kinds, ImageFault>
     ensures { GivesAtOnceBy (λ kinds. kinds.items) result reader.new (kinds_at reader.old) }
@@ -354,7 +353,7 @@ fn code_of<'a>(reader: &mut Reader<'a>, count: u16) -> Result<LentCode<'a>, Imag
     Ok(LentCode::new(&words[..usize::from(count)]))
 }
 
-/// Whether a name stands in a table.
+/// Whether a table has a name.
 fn is_among(names: &[LentText<'_>], name: &[u8]) -> bool
     ensures { result ≡ stands_in name.now names.now }
 {

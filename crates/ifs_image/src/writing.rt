@@ -1,4 +1,4 @@
-//! Image to bytes, field by field down the table of the format.
+//! An image to bytes, field by field in the order of the format.
 
 ghost use Rattle.std.specs.Prelude.{◌≡◌, ◌++◌, ◌^◌, ◌<◌, ◌≤◌, length, map, All, OnOk, IfOk, IsUtf8};
 ghost use Rattle.std.specs.Int.{w16, to_be_bytes};
@@ -15,7 +15,7 @@ use crate::parts::{Budgets, Handlers, ImageParts, Routine, StateSpec, TestSpec};
 use ifs_base::{Kind, Op, Text, encode_kind, encode_op};
 use std::alloc::{AllocError, Global};
 
-/// The bytes of an image: its one spelling.
+/// Writes the one spelling of an image. Reports only a failed allocation.
 pub fn write(alloc: Global, image: &Image) -> Result<Vec<u8>, AllocError>
     ensures { IfOk result (λ bytes. Spells bytes.items image.now) }
 {
@@ -171,7 +171,7 @@ fn put_code(out: &mut Vec<u8>, code: &[Op]) -> Result<(), AllocError>
     Ok(())
 }
 
-/// What a routine takes.
+/// The parameters of a routine.
 #[tactic(auto, unfolding(crate::specs::Spelling::params_bytes))]
 fn put_params(out: &mut Vec<u8>, version: u8, params: &[Kind]) -> Result<(), AllocError>
     requires { length params.now ≤ 4 }
@@ -183,7 +183,7 @@ fn put_params(out: &mut Vec<u8>, version: u8, params: &[Kind]) -> Result<(), All
     put_kinds(out, params)
 }
 
-/// What a routine leaves.
+/// The results of a routine.
 #[tactic(auto, unfolding(crate::specs::Spelling::results_bytes))]
 fn put_results(out: &mut Vec<u8>, version: u8, results: &[Kind]) -> Result<(), AllocError>
     requires { length results.now ≤ 4 }

@@ -1,4 +1,4 @@
--- Shapes of private functions, for proofs alone.
+-- Definitions for private functions and for proofs.
 pub mod Numbers
 pub mod MachineState
 pub mod Decoding

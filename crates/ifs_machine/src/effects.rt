@@ -1,16 +1,16 @@
-//! What a handler is told, and what it brings about.
+//! The facts that a handler reads, and its effects.
 
 ghost use Rattle.std.specs.Prelude.{◌≡◌, ◌<◌, length, Some, slice_get};
 
 use arrayvec::ArrayVec;
 use ifs_base::{CommandId, IfaceId, LinkState, StateId, TestId};
 
-/// What is known of links and tests while a handler runs.
+/// The facts of links and tests, which do not change while a handler runs.
 #[derive(Debug, Drop)]
 pub struct Facts {
     /// The link state of each interface of the image, in the order of its table.
     pub links: ArrayVec<LinkState, 64>,
-    /// The value of each test of the image, where it has one, in the order of its table.
+    /// The value of each test of the image, if it has one, in the order of its table.
     pub tests: ArrayVec<Option<bool>, 64>,
 }
 
@@ -23,7 +23,7 @@ impl Facts {
         self.links.as_slice()[usize::from(n.0)]
     }
 
-    /// The value of a test, where it has one.
+    /// The value of a test, if it has one.
     pub(crate) fn test(&self, n: TestId) -> Option<bool>
         requires { n.0 < length self.now.tests.items }
         ensures { slice_get self.now.tests.items n.0 ≡ Some result }
@@ -32,11 +32,11 @@ impl Facts {
     }
 }
 
-/// What the handlers of an event brought about so far.
+/// The effects of the handlers of an event so far.
 #[derive(Debug, Drop)]
 pub struct Effects {
-    /// The commands that were queued, in order.
+    /// The queued commands, in order.
     pub queued: ArrayVec<CommandId, 64>,
-    /// The last wish for a state, if there was one.
+    /// The last wish for a state, if there is one.
     pub want: Option<StateId>,
 }

@@ -1,4 +1,4 @@
-//! What holds of handler runs, whoever makes them.
+//! Laws of handler runs: each is the contract of an empty function.
 
 ghost use Rattle.ifs_machine.specs.Run.{RunsAreUnique, RunsFollow, RunsStayWithin, HandlersEnd};
 ghost use Rattle.ifs_machine.specs.Run.{EmptyQueueHasRoom, UpgradeKeepsRuns};
@@ -8,19 +8,19 @@ pub fn runs_are_unique()
     ensures { RunsAreUnique }
 {}
 
-/// A handler run that ends from nothing brought about, and from what the event brought about before it, does
-/// the same in both: its commands follow, and its wish holds where it has one.
+/// A handler run that ends has the same effects from none and after earlier ones: its commands follow theirs, and
+/// its wish replaces theirs if it has one.
 pub fn runs_follow()
     ensures { RunsFollow }
 {}
 
-/// Each configuration that a run comes to is within the stack and the frames that the image states.
+/// Each configuration of a run is within the stated stack and frames.
 pub fn runs_stay_within()
     ensures { RunsStayWithin }
 {}
 
-/// Each handler of an accepted image runs to its end, whatever the facts, where the commands that are
-/// queued already leave room for its own: without a trap, so within the stated stack and frames.
+/// Each handler of an accepted image runs to its end without a trap, whatever the facts, if the commands that are
+/// already queued leave room for its own. So it stays within the stated stack and frames.
 pub fn handlers_end()
     ensures { HandlersEnd }
 {}
@@ -30,7 +30,7 @@ pub fn empty_queue_has_room()
     ensures { EmptyQueueHasRoom }
 {}
 
-/// An image and its upgrade to version 2 have the same runs, whatever the facts, accepted or not.
+/// An image and its upgrade to version 2 have the same runs, accepted or not.
 pub fn upgrade_keeps_runs()
     ensures { UpgradeKeepsRuns }
 {}

@@ -1,7 +1,5 @@
-//! The machine: runs a handler of an image that the verifier accepted, row by row of the machine's
-//! table, and makes no test for a trap, since none can come.
-//!
-//! Contract: the run is the one that the table gives, and its cost is told exactly.
+//! The machine runs a handler of a verified image, row by row of the machine's table. It has no trap checks:
+//! verified code is proved never to trap. The run is that of the table, and its cost is exact.
 #![tactic(auto)]
 
 mod decoding;

@@ -1,4 +1,4 @@
-//! What stands on the stack.
+//! Values on the stack.
 
 ghost use Rattle.std.specs.Prelude.{◌≡◌};
 
@@ -18,7 +18,7 @@ pub enum Value {
 impl Value {
     ghost use Rattle.ifs_machine.specs.inner.Numbers.{number_of};
 
-    /// The number that stands for it on the stack, where nobody asks for its kind.
+    /// Its number on the stack, without its kind.
     pub(crate) fn number(self) -> u16
         ensures { result ≡ number_of self }
     {

@@ -1,4 +1,4 @@
--- The order of entries: an entry is put among others, and those at the front are due.
+-- The order of entries: an entry is put among others, and the due ones are at the front.
 use Rattle.std.proofs.Common.{◌≡◌, ◌≢◌, ℕ, zero, suc, ◌+◌, ◌-◌, ◌<◌, ◌≤◌, true, false, nat_le}
 use Rattle.std.proofs.Common.{List, [], ◌∷◌, length, get_or, drop, ap, sym, ◌∙◌, subst, arith, ◌⊎◌, inl, inr, ⊎_elim, ◌↔◌, IsTrue}
 use Rattle.std.specs.Prelude.{All}
@@ -13,15 +13,15 @@ use Rattle.std.proofs.lemmas.List.Sorted.{Contains-permutation, IsPermutation-in
 use Rattle.ifs_base.specs.declared.ids.TestId.{TestId}
 use Rattle.ifs_sched.specs.Idle.{comes_before}
 
--- Each entry comes before those behind it.
+-- Each entry comes before the later ones.
 abbrev pub IsAscending : List (ℕ × TestId) → Type 0
 IsAscending entries = AllPairs (λ one other. IsTrue (comes_before one other)) entries
 
--- an entry of no test, for places that are not there
+-- An entry of no test, for places outside the list.
 abbrev pub nobody : ℕ × TestId
 nobody = (0, record { 0 = 0 })
 
--- the order of entries, on numbers
+-- The order of entries, on numbers.
 before-trans : (a b c : ℕ × TestId) → comes_before a b ≡ true → comes_before b c ≡ true → comes_before a c ≡ true
 before-trans a b c h k = grind (arith, nat_tests)
 
@@ -34,7 +34,7 @@ before-moments a b h = grind (arith, nat_tests)
 pub before-irreflexive : (a b : ℕ × TestId) → comes_before a b ≡ true → a.0 ≡ b.0 → a.1.0 ≢ b.1.0
 before-irreflexive a b h e = λ f. grind (arith, nat_tests)
 
--- a number is below another one, or not
+-- A number is below another one, or not.
 pub below_or_not : (a b : ℕ) → (a < b) ⊎ (b ≤ a)
 below_or_not a b = grind (arith, nat_tests)
 
@@ -63,7 +63,7 @@ module _ (entries : List (ℕ × TestId)) (entry : ℕ × TestId) (up : IsAscend
   abbrev inserted : List (ℕ × TestId)
   inserted = insert entries place entry
 
-  -- an entry that is put in its place
+  -- An entry that is put in its place.
   at_below : (k : ℕ) (d : ℕ × TestId) → k < place → get_or inserted k d ≡ get_or entries k d
   at_below k d h = get_or-insert_below entries place entry d k h within
 
@@ -96,7 +96,7 @@ module _ (entries : List (ℕ × TestId)) (entry : ℕ × TestId) (up : IsAscend
       (λ ne. in_order _ _ _ _ (at_above i d (omega arith)) (at_above j d (omega arith)) (up (i - 1) (j - 1) d (omega arith) (omega arith)))
       (cases_eq i place)
 
-  -- the entries stay in order
+  -- The entries stay in order.
   pub ascending-put : IsAscending (insert entries (prefix_len (λ e. comes_before e entry) entries) entry)
   ascending-put i j d h in' =
       let len = length-insert entries place entry within in
@@ -105,7 +105,7 @@ module _ (entries : List (ℕ × TestId)) (entry : ℕ × TestId) (up : IsAscend
       (λ behind. from_place i j d (omega arith) h (omega arith))
       (below_or_not i place)
 
--- what is there after an entry is put somewhere
+-- The entries after one is put among them.
 pub put-contains : (entries : List (ℕ × TestId)) (n : ℕ) (entry e : ℕ × TestId)
     → Contains (insert entries n entry) e ↔ ((e ≡ entry) ⊎ Contains entries e)
 put-contains entries n entry e =
@@ -121,7 +121,7 @@ put-contains entries n entry e =
     one_of : Contains (entry ∷ entries) e → (e ≡ entry) ⊎ Contains entries e
     one_of h = ⊎_elim (λ k. inl (only k)) inr (Contains-append_cases (entry ∷ []) entries e h)
 
--- the entries that are due stand at the front, and the others behind them
+-- The due entries are at the front, and the others after them.
 module _ (entries : List (ℕ × TestId)) (up : IsAscending entries) (now : ℕ) where
   abbrev front_count : ℕ
   front_count = prefix_len (λ e. nat_le e.0 now) entries
@@ -143,7 +143,7 @@ module _ (entries : List (ℕ × TestId)) (up : IsAscending entries) (now : ℕ)
       (λ ne. let m = before-moments (get_or entries front_count d) (get_or entries k d) (up front_count k d (omega arith) in') in omega arith)
       (cases_eq k front_count)
 
--- what is left of entries in order is in order
+-- The rest of ordered entries is ordered.
 pub ascending-drop : (entries : List (ℕ × TestId)) (n : ℕ) → IsAscending entries → IsAscending (drop n entries)
 ascending-drop entries n up i j d h in' =
     ap (λ e. comes_before e (get_or (drop n entries) j d)) (get_or-drop n entries i d)

@@ -16,7 +16,7 @@ use Rattle.ifs_sched.specs.Timer.{ended, ended_status, inactive, is_run}
 use Rattle.ifs_sched.proofs.ByIndex.{as_many_by_index}
 use Rattle.ifs_sched.proofs.Entries.{below_or_not}
 
--- the test at k of tests that are changed by index
+-- The test at k of tests that are changed by index.
 pub get_or-map_by_index : (f : ℕ → Timer → Timer) (xs : List Timer) (k : ℕ) (d : Timer) → k < length xs
     → get_or (map_by_index f xs) k d ≡ f k (get_or xs k d)
 get_or-map_by_index f xs k d within =
@@ -24,7 +24,7 @@ get_or-map_by_index f xs k d within =
     ∙ ap (λ p. f p.0 p.1) (get_or-enumerate_from 0 xs k (0, d) within)
     ∙ (let e : 0 + k ≡ k = omega arith in ap (λ n. f n (get_or xs k d)) e)
 
--- a change of the test at t alone
+-- A change of the test at t alone.
 abbrev pub at_only : ℕ → (Timer → Timer) → ℕ → Timer → Timer
 at_only t g k x = cond (eqb k t) (g x) x
 
@@ -34,7 +34,7 @@ at_same t k g x e = let b : eqb k t ≡ true = grind (arith, nat_tests) in ap (�
 at_other : (t k : ℕ) (g : Timer → Timer) (x : Timer) → (k ≡ t → ⊥) → at_only t g k x ≡ x
 at_other t k g x ne = let b : eqb k t ≡ false = grind (arith, nat_tests) in ap (λ b. cond b (g x) x) b
 
--- a change of the test at t alone writes it
+-- A change of the test at t alone writes it.
 pub map_by_index-at_only : (g : Timer → Timer) (xs : List Timer) (t : ℕ) (y : Timer) → ((d : Timer) → t < length xs → y ≡ g (get_or xs t d))
     → map_by_index (at_only t g) xs ≡ set xs t y
 map_by_index-at_only g xs t y is =
@@ -53,33 +53,28 @@ map_by_index-at_only g xs t y is =
     (λ ne. at_other t k g (get_or xs k d) ne ∙ sym (get_or-set_other xs t k y d ne))
     (cases_eq k t))
 
--- a run of no test
-pub runs_under-past : (xs : List Timer) (t run : ℕ) → length xs ≤ t → runs_under run (slice_get xs t) ≡ false
-runs_under-past xs t run h = ap (runs_under run) (slice_get_past xs t h)
-
 pub runs_under-read : (xs : List Timer) (t run : ℕ) (x : Timer) → t < length xs → x ≡ get_or xs t x
     → runs_under run (slice_get xs t) ≡ is_run run x.status
 runs_under-read xs t run x h e = ap (runs_under run) (slice_get_read xs (length xs) t x refl h e)
 
--- the end of a run of no test
+-- The end of a run of no test.
 pub ended_past : (xs : List Timer) (t run : ℕ) → length xs ≤ t → map_by_index (at_only t (ended run)) xs ≡ xs
 ended_past xs t run h =
     let blank = inactive 0 in
     map_by_index-at_only (ended run) xs t blank (λ d k. absurd (omega arith)) ∙ set_past xs t blank h
 
--- the end of a run of the test at t
+-- The end of a run of the test at t.
 pub ended_read : (xs : List Timer) (t run : ℕ) (x : Timer) → t < length xs → x ≡ get_or xs t x
     → map_by_index (at_only t (ended run)) xs ≡ set xs t (ended run x)
 ended_read xs t run x h e =
     map_by_index-at_only (ended run) xs t (ended run x) (λ d k. ap (ended run) (get_or_read xs t x h e d))
 
--- a test that does not run under a number is left by the end of that run
+-- The end of a run leaves a test that does not run under its number.
 ended_status_same : (run : ℕ) (status : Status) → is_run run status ≡ false → ended_status run status ≡ status
-ended_status_same run Off h = refl
-ended_status_same run (Idle due) h = refl
 ended_status_same run (Running number due) h = ap (λ b. cond b (Idle due) (Running number due)) h
+ended_status_same run status h = refl
 
--- the end of a run that is none leaves all tests
+-- The end of a run that does not exist leaves all tests.
 pub finished_same : (xs : List Timer) (t run : ℕ) → runs_under run (slice_get xs t) ≡ false → map_by_index (at_only t (ended run)) xs ≡ xs
 finished_same xs t run none =
     ⊎_elim

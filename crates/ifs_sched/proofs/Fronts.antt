@@ -1,4 +1,4 @@
--- A tick and the entries: those at the front are the due tests, and those behind them are left where no run number was missing.
+-- A tick and the entries: those at the front are the due tests, and the later ones are left if no run number was missing.
 use Rattle.std.proofs.Common.{◌≡◌, ℕ, ◌+◌, ◌-◌, ◌<◌, ◌≤◌, Bool, true, false, not, cond, ◌&&◌, ◌==◌, eqb, nat_lt, nat_le, refl}
 use Rattle.std.proofs.Common.{List, Option, Some, length, get_or, take, drop, slice_get, ap, sym, ◌∙◌, subst, arith}
 use Rattle.std.proofs.Common.{⊎_elim}
@@ -23,13 +23,13 @@ use Rattle.ifs_sched.proofs.Finishing.{get_or-map_by_index}
 use Rattle.ifs_sched.proofs.Ticking.{due_at, due_is_there}
 use Rattle.ifs_sched.proofs.Waiting.{entry_waits, entry_within, waits_within}
 
--- tests that are true alike are the same
+-- Two tests that are true alike are the same.
 same_truth : (a b : Bool) → (a ≡ true → b ≡ true) → (b ≡ true → a ≡ true) → a ≡ b
 same_truth true b h k = sym (h refl)
 same_truth false true h k = k refl
 same_truth false false h k = refl
 
--- a test that waits until a moment is due from then on
+-- A test that waits until a moment is due from then on.
 due_from_waits : (now m : ℕ) (o : Option Timer) (timer : Timer) → o ≡ Some timer → waits_until m o ≡ true → m ≤ now → is_due now timer ≡ true
 due_from_waits now m o timer e h le = let waits = sym (ap (waits_until m) e) ∙ h in of_status timer.status waits
   where
@@ -38,7 +38,7 @@ due_from_waits now m o timer e h le = let waits = sym (ap (waits_until m) e) ∙
     of_status (Idle due) h = grind (arith, nat_tests)
     of_status (Running run due) h = absurd (let none : false ≡ true = h in cc)
 
--- a test that is due waits until some moment that has come
+-- A due test waits until some moment that has come.
 waits_from_due : (now : ℕ) (timer : Timer) → is_due now timer ≡ true → (m : ℕ) × (is_due_from m timer.status ≡ true) × (m ≤ now)
 waits_from_due now timer h = of_status timer.status h
   where
@@ -51,7 +51,7 @@ module _ (tests : List Timer) (entries : List (ℕ × TestId)) (are : AreIdle te
   abbrev front : ℕ
   front = prefix_len (λ e. nat_le e.0 now) entries
 
-  -- the test of an entry at the front is due
+  -- The test of an entry at the front is due.
   due_from_front : (t : ℕ) → list_any (λ e. e.1.0 == t) (take front entries) ≡ true → due_at now tests t ≡ true
   due_from_front t h =
       let (k, x, in', at, is) = Any-from_list_any (λ e. e.1.0 == t) (take front entries) h in
@@ -66,7 +66,7 @@ module _ (tests : List Timer) (entries : List (ℕ × TestId)) (are : AreIdle te
       ap (due_at now tests) (sym index)
       ∙ due_from_waits now x.0 (slice_get tests x.1.0) (get_or tests x.1.0 (inactive 0)) (slice_get-get_or tests x.1.0 (inactive 0) within) waits moment
 
-  -- the entry of a test that is due stands at the front
+  -- The entry of a due test is at the front.
   front_from_due : (t : ℕ) → due_at now tests t ≡ true → list_any (λ e. e.1.0 == t) (take front entries) ≡ true
   front_from_due t h =
       let within = due_is_there now tests t h in
@@ -86,7 +86,7 @@ module _ (tests : List Timer) (entries : List (ℕ × TestId)) (are : AreIdle te
   pub due_set : (mask : ℕ) → ((t : ℕ) → t < 64 → has_test mask t ≡ list_any (λ e. e.1.0 == t) (take front entries)) → IsDueSet now tests mask
   due_set mask h = λ t l. h t l ∙ same_truth _ _ (due_from_front t) (front_from_due t)
 
--- where none passes, the one at a place does not
+-- If none passes, the one at a place does not.
 none_passes : {X : Type 0} (p : X → Bool) (xs : List X) → list_any p xs ≡ false → (k : ℕ) (d : X) → k < length xs → p (get_or xs k d) ≡ false
 none_passes p xs none k d h = at_it (p (get_or xs k d)) refl
   where
@@ -102,7 +102,7 @@ second_of_both : (a b : Bool) → (a && b) ≡ true → b ≡ true
 second_of_both true b h = h
 second_of_both false b h = absurd (let none : false ≡ true = h in cc)
 
--- an idle test after a tick that leaves no due test: it waits still where its due moment has not come
+-- An idle test after a tick that leaves no due test waits still if its due moment has not come.
 idle_after : (now m due run : ℕ) (timer : Timer) (b has : Bool) → nat_le due now ≡ b → (b && not has) ≡ false
     → is_due_from m (cond (b && has) (started now run (record timer { status = Idle due })) (record timer { status = Idle due })).status
     ≡ (eqb due m && nat_lt now m)
@@ -121,7 +121,7 @@ module _ (now next : ℕ) (tests : List Timer) (none : any_by_index (is_left_ove
       let q = get_or-enumerate_from 0 tests t (0, d) h in
       sym (ap (λ k. is_left_over now next tests k (get_or tests t d)) e) ∙ sym (ap (λ p. is_left_over now next tests p.0 p.1) q) ∙ p
 
-  -- where a test stands after the tick
+  -- The status of a test after the tick.
   status_after : (t m : ℕ) (timer : Timer) → is_left_over now next tests t timer ≡ false
       → is_due_from m (ticked_test now next tests t timer).status ≡ (is_due_from m timer.status && nat_lt now m)
   status_after t m timer left = of_status timer.status left
@@ -138,7 +138,7 @@ module _ (now next : ℕ) (tests : List Timer) (none : any_by_index (is_left_ove
       slice_get-get_or after t d (omega (arith, as_many_by_index (ticked_test now next tests) tests))
       ∙ ap Some (get_or-map_by_index (ticked_test now next tests) tests t d h)
 
-  -- whom a tick leaves waiting
+  -- The tests that a tick leaves waiting.
   waits_after : (t m : ℕ) → waits_until m (slice_get after t) ≡ (waits_until m (slice_get tests t) && nat_lt now m)
   waits_after t m =
       ⊎_elim
@@ -152,7 +152,7 @@ module _ (now next : ℕ) (tests : List Timer) (none : any_by_index (is_left_ove
       ∙ ap (λ o. waits_until m o && nat_lt now m) (sym (slice_get_past tests t past)))
       (below_or_not t (length tests))
 
-  -- the entries behind the front are those of the tests that wait still
+  -- The entries after the front are those of the tests that wait still.
   module _ (entries : List (ℕ × TestId)) (are : AreIdle tests entries) where
     abbrev n : ℕ
     n = prefix_len (λ e. nat_le e.0 now) entries
@@ -182,7 +182,7 @@ module _ (now next : ℕ) (tests : List Timer) (none : any_by_index (is_left_ove
       );
     }
 
--- the tests of the entries at the front are there
+-- The tests of the entries at the front exist.
 pub front_within : (tests : List Timer) (entries : List (ℕ × TestId)) (n limit : ℕ) → AreIdle tests entries → n ≤ length entries → length tests ≤ limit
     → All (λ e. e.1.0 < limit) (take n entries)
 front_within tests entries n limit are le room k d h =
@@ -191,7 +191,7 @@ front_within tests entries n limit are le room k d h =
     let e = ap (λ x. x.1.0) (get_or-take n entries k d there) in
     omega arith
 
--- after a tick the entries that were settled are those of the tests
+-- The settled entries are those of the tests after a tick.
 pub settled_entries : (now next : ℕ) (tests ticked : List Timer) (entries settled : List (ℕ × TestId)) (exhausted : Bool) → AreIdle tests entries
     → ticked ≡ map_by_index (ticked_test now next tests) tests
     → exhausted ≡ any_by_index (is_left_over now next tests) tests

@@ -1,4 +1,4 @@
--- Sets of tests as masks: a test is added, taken out, and the first one is found.
+-- Masks of tests: a test is added or taken out, and the first one is found.
 use Rattle.std.proofs.Common.{◌≡◌, ◌≢◌, ℕ, ◌+◌, ◌*◌, ◌%◌, ◌^◌, ◌<◌, ◌≤◌, Bool, true, false, ◌||◌, eqb, refl, List, [], ◌∷◌}
 use Rattle.std.proofs.Common.{length, get_or, take, ap, sym, ◌∙◌, arith, ⊎_elim, bit_or, bit_and, w64}
 use Rattle.std.specs.List.{list_any}
@@ -19,7 +19,7 @@ or_false : (b : Bool) → b ≡ (b || false)
 or_false true = refl
 or_false false = refl
 
--- a set with one more test
+-- A mask with one more test.
 pub has_test-added : (mask k t : ℕ) → k < 64 → has_test (bit_or mask (1 * 2 ^ k % 2 ^ 64)) t ≡ (has_test mask t || eqb k t)
 has_test-added mask k t h =
     ⊎_elim
@@ -36,7 +36,7 @@ has_test-added mask k t h =
     ∙ ap (λ b. has_test mask t || b) (sym other))
     (cases_eq t k)
 
--- whether one of some elements passes, with one element more
+-- Whether one of some elements passes, with one more element.
 pub list_any-more : {X : Type 0} (p : X → Bool) (xs : List X) (i : ℕ) (d : X) → i < length xs
     → list_any p (take (i + 1) xs) ≡ (list_any p (take i xs) || p (get_or xs i d))
 list_any-more p xs i d h =
@@ -44,14 +44,14 @@ list_any-more p xs i d h =
     ∙ list_any-append p (take i xs) (get_or xs i d ∷ [])
     ∙ ap (λ b. list_any p (take i xs) || b) (sym (or_false (p (get_or xs i d))))
 
--- a set without one of its tests
+-- A mask without one of its tests.
 pub has_test-taken : (mask k : ℕ) → k < 64 → has_test (bit_and mask (bit_not w64 (1 * 2 ^ k % 2 ^ 64))) k ≡ false
 has_test-taken mask k h = ap (λ b. eqb b 1) (bit_at_clear_same w64 mask k h)
 
 pub has_test-others : (mask k t : ℕ) → k < 64 → t < 64 → t ≢ k → has_test (bit_and mask (bit_not w64 (1 * 2 ^ k % 2 ^ 64))) t ≡ has_test mask t
 has_test-others mask k t h in' ne = ap (λ b. eqb b 1) (bit_at_clear_other w64 mask k h t in' ne)
 
--- the first test of a set that is not empty
+-- The first test of a mask that is not empty.
 pub record IsFirstTest (mask k : ℕ) : Type 0 where
   pub there : k < 64
   pub has : has_test mask k ≡ true
@@ -66,11 +66,11 @@ first_test mask some fits =
       lower = λ t h. ap (λ b. eqb b 1) (found.2 t h);
     }
 
--- the empty set has no test
+-- The empty mask has no test.
 pub has_test-empty : (t : ℕ) → has_test 0 t ≡ false
 has_test-empty t = ap (λ b. eqb b 1) (bit_at-zero t)
 
--- what is left is less than what was
+-- A mask without a test is a smaller number.
 pub taken_is_less : (mask k : ℕ) → k < 64 → has_test mask k ≡ true → bit_and mask (bit_not w64 (1 * 2 ^ k % 2 ^ 64)) < mask
 taken_is_less mask k h has =
     let rest = bit_and mask (bit_not w64 (1 * 2 ^ k % 2 ^ 64)) in

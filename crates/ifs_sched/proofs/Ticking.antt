@@ -16,13 +16,13 @@ use Rattle.ifs_sched.specs.declared.timer.Timer.{Timer}
 use Rattle.ifs_sched.specs.Timer.{inactive, is_due, started}
 use Rattle.ifs_sched.specs.Schedule.{any_by_index, collect_by_index, has_number, has_test, is_left_over, map_by_index}
 use Rattle.ifs_sched.specs.Schedule.{run_number_at, run_as_number, start_of, starts_at, ticked_test}
-use Rattle.ifs_sched.specs.inner.Due.{IsDueSet}
+use Rattle.ifs_sched.specs.inner.Due.{IsDueSet, IsTicked}
 use Rattle.ifs_sched.proofs.Entries.{below_or_not}
 use Rattle.ifs_sched.proofs.Masks.{IsFirstTest, has_test-empty, has_test-others, has_test-taken}
 use Rattle.ifs_sched.proofs.ByIndex.{any_by_index-more, changed_below, changed_below-all, changed_below-more, changed_below-same}
 use Rattle.ifs_sched.proofs.ByIndex.{changed_below-read, collect_by_index-more}
 
--- the first i tests have had their turn in a tick
+-- The first i tests have had their turn in a tick.
 pub record IsTickedBelow (now next : ℕ) (old : List Timer) (i : ℕ) (tests : List Timer) (starts : List Start) (exhausted : Bool) (number : ℕ) : Type 0 where
   pub tests_so_far : tests ≡ changed_below (ticked_test now next old) i old
   pub starts_so_far : starts ≡ collect_by_index (start_of now next old) (take i old)
@@ -32,14 +32,14 @@ pub record IsTickedBelow (now next : ℕ) (old : List Timer) (i : ℕ) (tests : 
   pub in_sequence : number ≡ next + length starts
   pub starts_fit : length starts ≤ i
 
--- the tests of numbers
+-- Tests of numbers.
 number_left : (n : ℕ) → n < 2 ^ 64 → nat_lt n (2 ^ 64) ≡ true
 number_left n h = grind (arith, nat_tests)
 
 none_left : (n : ℕ) → 2 ^ 64 ≤ n → nat_lt n (2 ^ 64) ≡ false
 none_left n h = grind (arith, nat_tests)
 
--- one more answer of an `||`
+-- One more operand of `||`.
 or_no : (b : Bool) → b ≡ (b || (false || false))
 or_no true = refl
 or_no false = refl
@@ -48,20 +48,20 @@ or_yes : (b : Bool) → true ≡ (b || (true || false))
 or_yes true = refl
 or_yes false = refl
 
--- one more number of a sequence
+-- One more number of a sequence.
 range_with_len-more : (a n : ℕ) → range_with_len a (n + 1) ≡ range_with_len a n ++ (a + n) ∷ []
 range_with_len-more a n =
     sym (map-id (range_with_len a (n + 1)))
     ∙ map-range_with_len_more (λ k. k) a n (a + n) refl
     ∙ ap (λ r. r ++ (a + n) ∷ []) (map-id (range_with_len a n))
 
--- the number after one that is left
+-- The number after one that is left.
 pub run_as_number-checked : (r : Option ℕ) (run : ℕ) → SomeIff r (run + 1 < 2 ^ 64) (run + 1) → run < 2 ^ 64
     → run_as_number r ≡ run + 1
 run_as_number-checked None run h k = let n = h in omega arith
 run_as_number-checked (Some x) run h k = h.1
 
--- the runs with one more, where it has the next number
+-- One more run, with the next number.
 numbered-push : (next : ℕ) (starts : List Start) (start : Start)
     → map (λ s. s.run) starts ≡ range_with_len next (length starts) → start.run ≡ next + length starts
     → map (λ s. s.run) (starts ++ start ∷ []) ≡ range_with_len next (length (starts ++ start ∷ []))
@@ -72,7 +72,7 @@ numbered-push next starts start so is =
     ∙ sym (range_with_len-more next (length starts))
     ∙ ap (range_with_len next) (sym (length_push starts start))
 
--- one test: not due, due with a number left, due with none left
+-- One test: not due, due with a number left, due with none left.
 module _ (now next : ℕ) (old : List Timer) (i : ℕ) (timer : Timer) where
   skipped_test : is_due now timer ≡ false → timer ≡ ticked_test now next old i timer
   skipped_test off =
@@ -103,7 +103,7 @@ module _ (now next : ℕ) (old : List Timer) (i : ℕ) (timer : Timer) where
       ap (λ d. cond d (Some (record { test = record { 0 = i }; run = run_number_at now next old i })) None) h
       ∙ ap (λ k. cond b (Some (record { test = record { 0 = i }; run = k })) None) (sym is)
 
--- no test has had its turn
+-- No test has had its turn.
 pub IsTickedBelow-none : (now next : ℕ) (old : List Timer) → next ≤ 2 ^ 64 → IsTickedBelow now next old 0 old [] false next
 IsTickedBelow-none now next old h = record {
   tests_so_far = refl;
@@ -133,7 +133,7 @@ module _ (now next : ℕ) (old : List Timer) (i : ℕ) (tests : List Timer) (sta
       ∙ ap (λ x. any_by_index (is_left_over now next old) (take i old) || (x || false)) (sym e)
       ∙ sym (any_by_index-more (is_left_over now next old) old i d within)
 
-  -- the test at i is not due
+  -- The test at i is not due.
   pub IsTickedBelow-skipped : is_due now (get_or tests i d) ≡ false
       → IsTickedBelow now next old (i + 1) tests starts exhausted number
   IsTickedBelow-skipped h =
@@ -149,7 +149,7 @@ module _ (now next : ℕ) (old : List Timer) (i : ℕ) (tests : List Timer) (sta
         starts_fit = let f = so.starts_fit in omega arith;
       }
 
-  -- the test at i is due, and a number is left
+  -- The test at i is due, and a number is left.
   pub IsTickedBelow-started : (run after : ℕ) → is_due now (get_or tests i d) ≡ true → number ≡ run → run < 2 ^ 64 → after ≡ run + 1
       → IsTickedBelow now next old (i + 1) (set tests i (started now run (get_or tests i d))) (starts ++ record { test = record { 0 = i }; run = run } ∷ []) exhausted after
   IsTickedBelow-started run after h is_run left e =
@@ -170,7 +170,7 @@ module _ (now next : ℕ) (old : List Timer) (i : ℕ) (tests : List Timer) (sta
         starts_fit = let f = so.starts_fit in omega arith;
       }
 
-  -- the test at i is due, and no number is left
+  -- The test at i is due, and no number is left.
   pub IsTickedBelow-left : is_due now (get_or tests i d) ≡ true → number ≡ 2 ^ 64
       → IsTickedBelow now next old (i + 1) tests starts true number
   IsTickedBelow-left h none_is =
@@ -192,7 +192,7 @@ module _ (now next : ℕ) (old : List Timer) (i : ℕ) (tests : List Timer) (sta
 differ : false ≡ true → ⊥
 differ e = cc
 
--- Whether a test is due, where one that is not there counts as off.
+-- Whether a test is due. An index without a test counts as off.
 abbrev pub due_at : ℕ → List Timer → ℕ → Bool
 due_at now tests t = is_due now (get_or tests t (inactive 0))
 
@@ -204,7 +204,7 @@ pub record IsTickedSoFar (now next : ℕ) (old : List Timer) (left : ℕ) (tests
   pub below : (t : ℕ) → t < place → has_test left t ≡ false
   pub behind : (t : ℕ) → place ≤ t → t < 64 → has_test left t ≡ due_at now old t
 
--- the tests up to a further place are not due
+-- The tests up to a later place are not due.
 skipped_further : (now next : ℕ) (old tests : List Timer) (starts : List Start) (exhausted : Bool) (number place n : ℕ)
     → IsTickedBelow now next old place tests starts exhausted number → place + n ≤ length old
     → ((t : ℕ) → place ≤ t → t < place + n → due_at now old t ≡ false)
@@ -223,7 +223,7 @@ skipped_further now next old tests starts exhausted number place (suc n) so h of
     let e : at + 1 ≡ place + suc n = omega arith in
     subst (λ i. IsTickedBelow now next old i tests starts exhausted number) e one
 
--- no test has had its turn, and the mask has all that are due
+-- No test has had its turn, and the mask has all due tests.
 pub ticked_so_far-none : (now next : ℕ) (old : List Timer) (due : ℕ) → next ≤ 2 ^ 64 → IsDueSet now old due → IsTickedSoFar now next old due old [] false next
 ticked_so_far-none now next old due h set = record {
   place = 0;
@@ -233,7 +233,7 @@ ticked_so_far-none now next old due h set = record {
   behind = λ t k l. set t l;
 }
 
--- a test that is due is there
+-- A due test exists.
 pub due_is_there : (now : ℕ) (old : List Timer) (t : ℕ) → due_at now old t ≡ true → t < length old
 due_is_there now old t h =
     ⊎_elim (λ k. k) (λ past. absurd (differ (sym (ap (is_due now) (get_or-eq_default old (inactive 0) past)) ∙ h))) (below_or_not t (length old))
@@ -249,7 +249,7 @@ module _ (now next : ℕ) (old : List Timer) (left : ℕ) (tests : List Timer) (
     pub index_within : index < length old
     index_within = due_is_there now old index due_there
 
-    -- the tests before the first one of the mask are not due
+    -- The tests before the first one of the mask are not due.
     pub ticked_to_index : IsTickedBelow now next old index tests starts exhausted number
     ticked_to_index =
         let behind = behind_place in
@@ -264,7 +264,7 @@ module _ (now next : ℕ) (old : List Timer) (left : ℕ) (tests : List Timer) (
         let same = changed_below-read (ticked_test now next old) old tests index d ticked_to_index.tests_so_far index_within in
         ap (is_due now) (same ∙ get_or_default old index d (inactive 0) index_within) ∙ due_there
 
-    -- the test has had its turn, and is out of the mask
+    -- The test has had its turn, and is out of the mask.
     pub one_more_turn : (tests' : List Timer) (starts' : List Start) (exhausted' : Bool) (number' : ℕ)
         → IsTickedBelow now next old (index + 1) tests' starts' exhausted' number'
         → IsTickedSoFar now next old (bit_and left (bit_not w64 (1 * 2 ^ index % 2 ^ 64))) tests' starts' exhausted' number'
@@ -279,7 +279,7 @@ module _ (now next : ℕ) (old : List Timer) (left : ℕ) (tests : List Timer) (
       behind = λ t h in'. has_test-others left index t first.there in' (λ e. absurd (omega arith)) ∙ so.behind t (let b = behind_place in omega arith) in';
     }
 
-  -- where the mask is empty all tests have had their turn
+  -- If the mask is empty, all tests have had their turn.
   pub ticked_all : left ≡ 0 → IsTickedBelow now next old (length old) tests starts exhausted number
   ticked_all none =
       let within = so.within in
@@ -288,13 +288,16 @@ module _ (now next : ℕ) (old : List Timer) (left : ℕ) (tests : List Timer) (
       (skipped_further now next old tests starts exhausted number so.place (length old - so.place) so.ticked (omega arith)
       (λ t k l. sym (so.behind t k (omega arith)) ∙ ap (λ m. has_test m t) none ∙ has_test-empty t))
 
--- all tests have had their turn
-module _ (now next : ℕ) (old : List Timer) (tests : List Timer) (starts : List Start) (exhausted : Bool) (number : ℕ) (all : IsTickedBelow now next old (length old) tests starts exhausted number) where
-  pub all_ticked : tests ≡ map_by_index (ticked_test now next old) old
-  all_ticked = all.tests_so_far ∙ changed_below-all (ticked_test now next old) old (length old) refl
-
-  pub all_started : starts ≡ collect_by_index (start_of now next old) old
-  all_started = all.starts_so_far ∙ ap (collect_by_index (start_of now next old)) (take_all (length old) old (omega arith))
-
-  pub all_exhausted : exhausted ≡ any_by_index (is_left_over now next old) old
-  all_exhausted = all.exhausted_so_far ∙ ap (any_by_index (is_left_over now next old)) (take_all (length old) old (omega arith))
+-- All tests have had their turn.
+pub is_ticked : (now next : ℕ) (old tests : List Timer) (starts : List Start) (exhausted : Bool) (number : ℕ)
+    → IsTickedBelow now next old (length old) tests starts exhausted number → IsTicked now next old tests starts exhausted number
+is_ticked now next old tests starts exhausted number all =
+    let whole = take_all (length old) old (omega arith) in
+    record {
+      tests_are = all.tests_so_far ∙ changed_below-all (ticked_test now next old) old (length old) refl;
+      starts_are = all.starts_so_far ∙ ap (collect_by_index (start_of now next old)) whole;
+      exhausted_is = all.exhausted_so_far ∙ ap (any_by_index (is_left_over now next old)) whole;
+      number_is = all.number_so_far;
+      numbered = all.numbered_so_far;
+      in_sequence = all.in_sequence;
+    }

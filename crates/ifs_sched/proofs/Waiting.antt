@@ -1,4 +1,4 @@
--- The entries of the idle tests: what stays right while tests and entries change.
+-- The entries of the idle tests, while tests and entries change.
 use Rattle.std.proofs.Common.{◌≡◌, ◌≢◌, ℕ, suc, ◌+◌, ◌<◌, ◌≤◌, Bool, true, false, eqb, refl}
 use Rattle.std.proofs.Common.{List, [], ◌∷◌, Option, Some, None, length, get_or, set, take, map, slice_get, option_map, ap, sym, ◌∙◌, arith}
 use Rattle.std.proofs.Common.{◌⊎◌, inl, inr, ⊎_elim, ◌↔◌}
@@ -21,14 +21,14 @@ use Rattle.ifs_sched.specs.Timer.{inactive, is_run}
 use Rattle.ifs_sched.specs.Idle.{AreIdle, IsNextDue, is_due_from, is_idle, waits_until}
 use Rattle.ifs_sched.proofs.Entries.{IsAscending, before-irreflexive, before-moments, below_or_not}
 
--- an entry by its moment and its test's index
+-- An entry by its moment and its test's index.
 pub entry_is : (e : ℕ × TestId) (moment test : ℕ) → e.0 ≡ moment → e.1.0 ≡ test → e ≡ (moment, record { 0 = test })
 entry_is e moment test p q =
     let first : e ≡ (moment, e.1) = ap (λ m. (m, e.1)) p in
     let second : (moment, e.1) ≡ (moment, record { 0 = test }) = ap (λ t. (moment, record { 0 = t })) q in
     first ∙ second
 
--- tests that wait alike have the same entries
+-- Tests that wait alike have the same entries.
 pub alike : (tests others : List Timer) (entries : List (ℕ × TestId))
     → ((t m : ℕ) → waits_until m (slice_get others t) ≡ waits_until m (slice_get tests t)) → AreIdle tests entries → AreIdle others entries
 alike tests others entries same are = record {
@@ -45,7 +45,7 @@ number_is m n h = grind (arith, nat_tests)
 never : false ≡ true → ⊥
 never h = cc
 
--- one test more waits
+-- One more test waits.
 module _ (tests others : List Timer) (entries added : List (ℕ × TestId)) (test due : ℕ) where
   pub one_more_waits : ((t m : ℕ) → t ≢ test → waits_until m (slice_get others t) ≡ waits_until m (slice_get tests t))
       → ((m : ℕ) → waits_until m (slice_get tests test) ≡ false)
@@ -71,14 +71,14 @@ module _ (tests others : List Timer) (entries added : List (ℕ × TestId)) (tes
     );
   }
 
--- where no test waits there are no entries
+-- There are no entries if no test waits.
 pub nobody_waits : (tests : List Timer) → ((t m : ℕ) → waits_until m (slice_get tests t) ≡ false) → AreIdle tests []
 nobody_waits tests none = record {
   ascending = λ i j d h in'. absurd (omega arith);
   each = λ e. (λ (k, h, q). absurd (omega arith), λ h. absurd (never (sym (none e.1.0 e.0) ∙ h)));
 }
 
--- a test that waits is there
+-- A test that waits exists.
 pub waits_within : (tests : List Timer) (t m : ℕ) → waits_until m (slice_get tests t) ≡ true → t < length tests
 waits_within tests t m h =
     ⊎_elim (λ k. k) (λ past. absurd (never (sym (ap (waits_until m) (slice_get_past tests t past)) ∙ h))) (below_or_not t (length tests))
@@ -90,13 +90,13 @@ module _ (tests : List Timer) (entries : List (ℕ × TestId)) (are : AreIdle te
   pub entry_within : (k : ℕ) (d : ℕ × TestId) → k < length entries → (get_or entries k d).1.0 < length tests
   entry_within k d h = waits_within tests (get_or entries k d).1.0 (get_or entries k d).0 (entry_waits k d h)
 
-  -- a test that does not wait has no entry
+  -- A test that does not wait has no entry.
   pub not_listed : (test : ℕ) → ((m : ℕ) → waits_until m (slice_get tests test) ≡ false) → All (λ e. e.1.0 ≢ test) entries
   not_listed test before k d h = λ q.
       never
       (sym (before (get_or entries k d).0) ∙ ap (λ t. waits_until (get_or entries k d).0 (slice_get tests t)) (sym q) ∙ entry_waits k d h)
 
--- the tests up to one more place
+-- The tests up to one more place.
 module _ (tests : List Timer) (i : ℕ) (within : i < length tests) where
   pub take_at : (d : Timer) → slice_get (take (i + 1) tests) i ≡ Some (get_or tests i d)
   take_at d =
@@ -121,7 +121,7 @@ module _ (tests : List Timer) (i : ℕ) (within : i < length tests) where
   pub take_alike : (t : ℕ) → t ≢ i → slice_get (take (i + 1) tests) t ≡ slice_get (take i tests) t
   take_alike t ne = ⊎_elim (below_alike t) (λ h. above_alike t (omega arith)) (below_or_not t i)
 
--- one test is written
+-- One test is written.
 module _ (tests : List Timer) (i : ℕ) (timer : Timer) where
   pub set_at_it : i < length tests → slice_get (set tests i timer) i ≡ Some timer
   set_at_it h =
@@ -138,13 +138,12 @@ module _ (tests : List Timer) (i : ℕ) (timer : Timer) where
       (λ past. slice_get_past (set tests i timer) t (omega (arith, length-set tests i timer)) ∙ sym (slice_get_past tests t past))
       (below_or_not t (length tests))
 
--- where a test stands that is not idle
+-- The status of a test that is not idle.
 pub not_idle : (status : Status) → ((due : ℕ) → status ≡ Idle due → ⊥) → (m : ℕ) → is_due_from m status ≡ false
-not_idle Off h m = refl
 not_idle (Idle due) h m = absurd (h due refl)
-not_idle (Running run due) h m = refl
+not_idle status h m = refl
 
--- what holds at one place and at all others holds everywhere
+-- A fact of one place and of all others is one of all places.
 pub at_each : (tests others : List Timer) (i : ℕ)
     → ((t m : ℕ) → t ≢ i → waits_until m (slice_get others t) ≡ waits_until m (slice_get tests t))
     → ((m : ℕ) → waits_until m (slice_get others i) ≡ waits_until m (slice_get tests i))
@@ -155,20 +154,19 @@ at_each tests others i other here t m =
     (λ ne. other t m ne)
     (cases_eq t i)
 
--- a test has one due moment
+-- A test has one due moment.
 one_moment : (m n : ℕ) (o : Option Timer) → waits_until m o ≡ true → waits_until n o ≡ true → m ≡ n
 one_moment m n None h k = absurd (never h)
 one_moment m n (Some timer) h k = same_moment m n timer.status h k
   where
     same_moment : (m n : ℕ) (status : Status) → is_due_from m status ≡ true → is_due_from n status ≡ true → m ≡ n
-    same_moment m n Off h k = absurd (never h)
     same_moment m n (Idle due) h k = sym (number_is due m h) ∙ number_is due n k
-    same_moment m n (Running run due) h k = absurd (never h)
+    same_moment m n status h k = absurd (never h)
 
 abbrev index_of : ℕ × TestId → ℕ
 index_of e = e.1.0
 
--- the tests of entries differ
+-- The tests of entries differ.
 distinct_tests : (tests : List Timer) (entries : List (ℕ × TestId)) → IsAscending entries → All (λ e. is_idle tests e ≡ true) entries
     → IsDistinct eqb (map index_of entries)
 unfolding IsDistinct
@@ -190,7 +188,7 @@ distinct_tests tests (x ∷ xs) up waits = (
         (λ ne. grind (arith, nat_tests))
         (cases_eq (index_of x) (index_of (get_or xs k d)))
 
--- there is room for the entry of a test that has none
+-- There is room for the entry of a test that has none.
 pub room_for : (tests : List Timer) (entries : List (ℕ × TestId)) (test : ℕ) → AreIdle tests entries → length tests ≤ 64 → test < length tests
     → ((m : ℕ) → waits_until m (slice_get tests test) ≡ false) → length entries < 64
 unfolding IsDistinct
@@ -215,7 +213,7 @@ room_for tests entries test are few within none =
         let e = number_is q x is in
         omega (arith, at)
 
--- tests that are off do not wait
+-- Tests that are off do not wait.
 pub off_waits : (periods : List ℕ) (t m : ℕ) → waits_until m (slice_get (map inactive periods) t) ≡ false
 off_waits periods t m = ap (waits_until m) (slice_get-map inactive periods t) ∙ none (slice_get periods t)
   where
@@ -223,7 +221,7 @@ off_waits periods t m = ap (waits_until m) (slice_get-map inactive periods t) �
     none None = refl
     none (Some period) = refl
 
--- the first entry has the least moment
+-- The first entry has the least moment.
 pub next_from_first : (tests : List Timer) (entries : List (ℕ × TestId)) (d : ℕ × TestId) → AreIdle tests entries → 0 < length entries
     → IsNextDue tests (Some (get_or entries 0 d).0)
 next_from_first tests entries d are some = (
@@ -240,7 +238,7 @@ next_from_first tests entries d are some = (
         let l = before-moments (get_or entries 0 d) (get_or entries k d) (are.ascending 0 k d (omega arith) in') in omega arith)
         (cases_eq k 0)
 
--- without entries no test waits
+-- Without entries no test waits.
 pub next_from_none : (tests : List Timer) (entries : List (ℕ × TestId)) → AreIdle tests entries → length entries < 1 → IsNextDue tests None
 next_from_none tests entries are none = λ e. go e (is_idle tests e) refl
   where
@@ -251,13 +249,12 @@ next_from_none tests entries are none = λ e. go e (is_idle tests e) refl
     go e false h = h
     go e true h = absurd (nothing e ((are.each e).1 h))
 
--- a test that runs does not wait
+-- A test that runs does not wait.
 running_is_not_due : (run m : ℕ) (status : Status) → is_run run status ≡ true → is_due_from m status ≡ false
-running_is_not_due run m Off h = refl
 running_is_not_due run m (Idle due) h = absurd (never h)
-running_is_not_due run m (Running number due) h = refl
+running_is_not_due run m status h = refl
 
--- the end of a run
+-- The end of a run.
 module _ (tests : List Timer) (entries : List (ℕ × TestId)) (test run : ℕ) (timer : Timer) (room : length tests ≤ 64) (are : AreIdle tests entries) (within : test < length tests) (here : timer ≡ get_or tests test timer) (runs : true ≡ is_run run timer.status) where
   does_not_wait : (m : ℕ) → waits_until m (slice_get tests test) ≡ false
   does_not_wait m =

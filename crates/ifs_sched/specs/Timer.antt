@@ -1,4 +1,4 @@
--- One test: when it is due, and what an entry, a start and an end make of it.
+-- One test: when it is due, and its changes.
 use Rattle.std.specs.Prelude.{ℕ, ◌+◌, ◌-◌, ◌^◌, min, Bool, true, false, nat_le, ◌==◌, if◌then◌else◌}
 use Rattle.ifs_sched.specs.declared.timer.Status.{Status}
 use Rattle.ifs_sched.specs.declared.timer.Status.TheVariants.{Off, Idle, Running}
@@ -8,15 +8,14 @@ use Rattle.ifs_sched.specs.declared.timer.Timer.{Timer}
 abbrev pub inactive : ℕ → Timer
 inactive n = record { period = n; status = Off }
 
--- What an entry at a moment makes of a test: first whether the test is of the always set, then
--- whether it is of the state's set.
+-- The status of a test after an entry. The first argument says whether the test is in the always set, the second whether it is in the state's own set.
 abbrev pub entered_status : Bool → Bool → ℕ → Status → Status
 entered_status true _ now Off = Idle now
 entered_status true _ now status = status
 entered_status false true now _ = Idle now
 entered_status false false now _ = Off
 
--- An idle test is due from its due moment on.
+-- Whether a status is due at a moment: an idle test is due from its due moment on.
 abbrev pub is_due_status : ℕ → Status → Bool
 is_due_status now (Idle due) = nat_le due now
 is_due_status now _ = false
@@ -25,15 +24,15 @@ is_due_status now _ = false
 abbrev pub is_due : ℕ → Timer → Bool
 is_due now timer = is_due_status now timer.status
 
--- When a test that starts at a moment is due again. Moments stop at 2^64 - 1.
+-- The moment at which a test that starts is due again. Moments end at 2^64 - 1.
 abbrev pub due_again : ℕ → ℕ → ℕ
 due_again now n = min (now + n) (2 ^ 64 - 1)
 
--- A test that starts at a moment under a run number.
+-- A test after its start at a moment under a run number.
 abbrev pub started : ℕ → ℕ → Timer → Timer
 started now run timer = record timer { status = Running run (due_again now timer.period) }
 
--- Whether a test runs, under whatever number.
+-- Whether a test runs.
 abbrev pub is_running_status : Status → Bool
 is_running_status (Running _ _) = true
 is_running_status _ = false
@@ -43,11 +42,11 @@ abbrev pub is_run : ℕ → Status → Bool
 is_run run (Running number due) = number == run
 is_run run _ = false
 
--- The end of a run: a test that runs under that number is idle, with the due moment that it has.
+-- The status after the end of a run: a test that runs under that number is idle, with the due moment that it has.
 abbrev pub ended_status : ℕ → Status → Status
 ended_status run (Running number due) = if number == run then Idle due else Running number due
 ended_status run status = status
 
--- A test at the end of a run.
+-- A test after the end of a run.
 abbrev pub ended : ℕ → Timer → Timer
 ended run timer = record timer { status = ended_status run timer.status }

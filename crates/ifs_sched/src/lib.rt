@@ -1,18 +1,17 @@
-//! The schedule of external tests: which are off, idle or running, and when an idle one is due.
+//! The schedule of external tests: each test is off, idle or running, and an idle test has a due moment.
 //!
-//! A schedule has a present moment and one sequence of run numbers for all of its tests. A tick
-//! starts each due test, by index, with the next number; a finished run counts only by the number
-//! under which its test runs. Moments and run numbers end at 2^64 - 1. The idle tests stand in the
-//! order in which they become due, so a tick looks at those that are due and at one more.
-//! Contract: each call is the schedule's definition, exactly. Nothing here takes memory.
+//! A schedule has a present moment and one sequence of run numbers for all tests. A tick starts each due
+//! test, by index, with the next number. The end of a run counts only under the number of that run.
+//! Moments and run numbers end at 2^64 - 1. The idle tests are in the order of their due moments, so a tick
+//! looks at the due ones and at one more. Each call is exactly its definition, and none allocates.
 #![tactic(auto)]
 
 mod order;
-mod rows;
 mod schedule;
 mod start;
 mod timer;
 mod timers;
+mod turns;
 
 pub use schedule::{Backwards, Schedule, Stale};
 pub use start::{MAX_TESTS, Start, Started};

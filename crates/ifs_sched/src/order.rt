@@ -1,4 +1,4 @@
-//! The idle tests in the order in which they become due: entries by moment and then by index.
+//! The entries of the idle tests, ordered by due moment and then by index.
 
 ghost use Rattle.std.specs.Prelude.{◌≡◌, ◌≢◌, ◌<◌, ◌≤◌, ◌↔◌, ◌+◌, ◌⊎◌, ℕ, All, IsTrue, false, drop, length, nat_le, ◌==◌};
 ghost use Rattle.std.specs.List.{AllPairs, Contains, list_any, prefix_len};
@@ -18,7 +18,7 @@ fn comes_before(one: &(u64, TestId), other: &(u64, TestId)) -> bool
     one.0 < other.0 || one.0 == other.0 && one.1.0 < other.1.0
 }
 
-/// Where an entry is to stand among others: behind those that come before it.
+/// The place of an entry among others: after those that come before it.
 fn place_of(entries: &[(u64, TestId)], entry: &(u64, TestId)) -> usize
     ensures value { result ≡ prefix_len (λ other. is_before other entry.now) entries.now }
     ensures within { result ≤ length entries.now }
@@ -31,7 +31,7 @@ fn place_of(entries: &[(u64, TestId)], entry: &(u64, TestId)) -> usize
     entries.len()
 }
 
-/// Puts the entry of a test that has none yet in its place.
+/// Puts the entry of a test that has none in its place.
 pub fn put(entries: &mut ArrayVec<(u64, TestId), MAX_TESTS>, due: u64, test: TestId)
     requires room { length entries.old.items < MAX_TESTS }
     requires ascending { AllPairs (λ one other. IsTrue (is_before one other)) entries.old.items }
@@ -46,7 +46,7 @@ pub fn put(entries: &mut ArrayVec<(u64, TestId), MAX_TESTS>, due: u64, test: Tes
     entries.insert(place, entry);
 }
 
-/// Makes the entries anew: those of the idle tests, in order.
+/// Makes the entries of the idle tests again, in order.
 pub fn put_all(tests: &[Timer], entries: &mut ArrayVec<(u64, TestId), MAX_TESTS>)
     requires { length tests.now ≤ MAX_TESTS }
     ensures { AreIdle tests.now entries.new.items }
@@ -59,7 +59,7 @@ pub fn put_all(tests: &[Timer], entries: &mut ArrayVec<(u64, TestId), MAX_TESTS>
     }
 }
 
-/// How many entries at the front are due at a moment.
+/// The number of entries that are due at a moment; they are at the front.
 pub fn due_count(entries: &[(u64, TestId)], now: u64) -> usize
     ensures value { result ≡ prefix_len (λ entry. nat_le entry.0 now) entries.now }
     ensures within { result ≤ length entries.now }
@@ -85,7 +85,7 @@ pub fn set_of(entries: &[(u64, TestId)]) -> u64
     mask
 }
 
-/// Drops so many entries at the front.
+/// Drops `count` entries at the front.
 fn drop_front(entries: &mut ArrayVec<(u64, TestId), MAX_TESTS>, count: usize)
     requires { count ≤ length entries.old.items }
     ensures { entries.new.items ≡ drop count entries.old.items }
@@ -95,7 +95,7 @@ fn drop_front(entries: &mut ArrayVec<(u64, TestId), MAX_TESTS>, count: usize)
     entries.truncate(left);
 }
 
-/// Brings the entries up to date after a tick: so many at the front were due, and run, unless one of them was left.
+/// Updates the entries after a tick: the `count` entries at the front were due and run, unless one of them was left.
 pub fn settle(
     entries: &mut ArrayVec<(u64, TestId), MAX_TESTS>,
     tests: &[Timer],

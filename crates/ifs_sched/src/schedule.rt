@@ -1,4 +1,4 @@
-//! The schedule: entries, ticks, and runs that finish.
+//! The schedule: entries of states, ticks, and ends of runs.
 
 ghost use Rattle.std.specs.Prelude.{◌≡◌, ◌<◌, ◌≤◌, ◌↔◌, ◌+◌, IsTrue, IsOk, IsErr, IfOk, OnOk, OnErr, All, length, map};
 ghost use Rattle.std.specs.List.{range_with_len};
@@ -13,7 +13,7 @@ use ifs_base::TestId;
 use std::marker::Model;
 use thiserror::Error;
 
-/// The moment of a tick is before the present one.
+/// The moment of a tick is before the present moment.
 #[derive(Clone, Copy, Debug, PartialEq, Eq, Error)]
 #[error("the moment is before the present one")]
 pub struct Backwards;
@@ -52,7 +52,7 @@ impl Model for Schedule {
     ghost invariant = { λ a. (1 ≤ run_as_number a.next_run) × (run_as_number a.next_run ≤ 2 ^ 64) };
 }
 
-/// The first run number, where one is left: 0 is none.
+/// The first run number; `None` for 0, if none is left.
 fn numbered_from(first_run: u64) -> Option<u64>
     ensures { run_as_number result ≡ run_from first_run }
 {
@@ -64,8 +64,8 @@ fn numbered_from(first_run: u64) -> Option<u64>
 }
 
 impl Schedule {
-    /// A schedule at moment 0 of tests of these periods, in seconds, all of them off. The first
-    /// start gets the number `first_run`; 0 says that no number is left, so that nothing is started.
+    /// A schedule at moment 0 of tests with these periods, in seconds, all of them off. The first start
+    /// gets the number `first_run`. If it is 0, no number is left and nothing starts.
     #[tactic(auto, unfolding(crate::specs::Schedule::all_off))]
     pub fn new(periods: ArrayVec<u32, MAX_TESTS>, first_run: u64) -> Schedule
         ensures value { result ≡ all_off periods.items first_run }
@@ -78,10 +78,10 @@ impl Schedule {
         }
     }
 
-    /// Enters a state at a moment, by the always set and the state's own set of tests. Bit t of a
-    /// mask is test t; bits of no test say nothing. An always test that is off becomes due, and
-    /// any other always test is left; each other test of the state becomes due, its run forgotten;
-    /// all others are off.
+    /// Enters a state at a moment, by the always set and the state's own set of tests. Bit t of a mask is
+    /// test t; bits of no test are ignored. An always test that is off becomes due, and any other always
+    /// test stays as it is. Each other test of the state becomes due, and its run is forgotten. All other
+    /// tests are off.
     #[tactic(auto, using(crate::proofs::ByIndex::as_many_by_index), unfolding(crate::specs::Schedule::entered))]
     pub fn enter(&mut self, always: u64, tests: u64, now: u64)
         ensures after { self.new ≡ entered always tests now self.old }
@@ -90,8 +90,8 @@ impl Schedule {
         self.timers.enter(always, tests, now);
     }
 
-    /// Makes a moment the present one, and starts each idle test whose due moment has come. It is
-    /// due again a period later. A moment before the present one is refused, and changes nothing.
+    /// Makes a moment the present one, and starts each idle test whose due moment has come. Such a test is
+    /// due again a period later. `Backwards` if the moment is before the present one; nothing changes then.
     pub fn tick(&mut self, now: u64) -> Result<Started, Backwards>
         ensures backwards { IsErr result ↔ (now < self.old.present) }
         ensures ok { OnOk result (self.new ≡ ticked now self.old) }
@@ -112,10 +112,10 @@ impl Schedule {
         Ok(Started { starts, exhausted })
     }
 
-    /// The same tick, whose starts go into a list that is lent; what it had before is lost. It answers
-    /// whether a due test was left for want of a run number.
+    /// Makes the same tick, and puts the starts into a borrowed list, which loses its old items. Returns
+    /// whether a due test was left because no run number was.
     ///
-    /// A moment before the present one is refused, and changes neither the schedule nor the list.
+    /// `Backwards` if the moment is before the present one; neither the schedule nor the list changes then.
     #[tactic(auto, using(crate::proofs::ByIndex::as_many_by_index, crate::proofs::Starts::starts_within), unfolding(crate::specs::Schedule::ticked, crate::specs::Schedule::starts, crate::specs::Schedule::is_exhausted))]
     pub fn tick_into(
         &mut self,
@@ -144,8 +144,8 @@ impl Schedule {
         Ok(self.timers.start(now, &mut self.next_run, starts))
     }
 
-    /// Ends a run: the test is idle, with the due moment that it has. Refused, with nothing
-    /// changed, where there is no such test or it does not run under that number.
+    /// Ends a run: the test is idle, with the due moment that it has, which may be before the present moment.
+    /// `Stale` if there is no such test or it does not run under that number; nothing changes then.
     #[tactic(auto, using(crate::proofs::ByIndex::as_many_by_index), unfolding(crate::specs::Schedule::is_running, crate::specs::Schedule::finished))]
     pub fn finish(&mut self, test: TestId, run: u64) -> Result<(), Stale>
         ensures ok { IsOk result ↔ IsTrue (is_running test.0 run self.old) }
@@ -159,21 +159,21 @@ impl Schedule {
         Ok(())
     }
 
-    /// The present moment: that of the last tick, 0 before the first.
+    /// The present moment: that of the last tick, 0 before the first one.
     pub fn now(&self) -> u64
         ensures { result ≡ self.now.present }
     {
         self.present
     }
 
-    /// The number of the next run, from which a schedule that is made with it goes on; 0 where none is left.
+    /// The number of the next run, with which a new schedule can go on; 0 if none is left.
     pub fn next_run(&self) -> u64
         ensures { run_from result ≡ self.now.next_run }
     {
         self.next_run.unwrap_or(0)
     }
 
-    /// How many tests run.
+    /// The number of running tests.
     #[tactic(auto, unfolding(crate::specs::Schedule::running_count))]
     pub fn running(&self) -> u16
         ensures { result ≡ running_count self.now }
@@ -185,7 +185,7 @@ impl Schedule {
             .count() as u16
     }
 
-    /// Whether there is such a test and it runs under that number.
+    /// Whether there is such a test, and it runs under that number.
     #[tactic(auto, unfolding(crate::specs::Schedule::is_running))]
     pub fn is_running(&self, test: TestId, run: u64) -> bool
         ensures { result ≡ is_running test.0 run self.now }
@@ -203,8 +203,8 @@ impl Schedule {
         self.timers.idle()
     }
 
-    /// The least due moment of the idle tests: the first moment at which a tick would start a test. `None` where
-    /// no test is idle.
+    /// The least due moment of the idle tests; `None` if no test is idle. It may be before the present moment, as
+    /// after a late `finish`. The next tick at or after it starts its test, if a run number is left.
     pub fn next_due(&self) -> Option<u64>
         ensures { IsNextDue self.now.tests result }
     {

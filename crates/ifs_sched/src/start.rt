@@ -1,11 +1,11 @@
-//! What a tick answers.
+//! The results of a tick.
 
 ghost use Rattle.std.specs.Prelude.{◌≡◌};
 
 use arrayvec::ArrayVec;
 use ifs_base::{TestId, limits};
 
-/// The most tests of a schedule: as many as a policy may have.
+/// The greatest number of tests of a schedule, and of a policy.
 pub const MAX_TESTS: usize = limits::TESTS as usize;
 
 /// A test that starts, and the number of its run.
@@ -17,7 +17,7 @@ pub struct Start {
     pub run: u64,
 }
 
-/// What an unused place of a list holds.
+/// The item of an unused place of a list.
 impl Default for Start {
     ghost is_default = { λ start. start ≡ record { test = record { 0 = 0 }; run = 0 } };
 
@@ -29,11 +29,11 @@ impl Default for Start {
     }
 }
 
-/// What a tick starts.
+/// The starts of a tick.
 #[derive(Debug, Drop)]
 pub struct Started {
     /// The tests that start, by index.
     pub starts: ArrayVec<Start, MAX_TESTS>,
-    /// Whether a due test was left, since no run number was.
+    /// Whether a due test was left because no run number was.
     pub exhausted: bool,
 }

@@ -1,10 +1,10 @@
-//! The timer of one test: its period, and where it stands.
+//! The timer of one test: its period and its status.
 
 ghost use Rattle.std.specs.Prelude.{◌≡◌, IfSome, is_some};
 ghost use Rattle.ifs_sched.specs.declared.timer.Status.TheVariants.{Idle};
 ghost use Rattle.ifs_sched.specs.Timer.{ended, entered_status, is_running_status, is_run, started};
 
-/// Where a test stands. Moments and run numbers are those of its schedule.
+/// The status of a test. Moments and run numbers are those of its schedule.
 #[derive(Clone, Copy, Debug, Default)]
 pub enum Status {
     /// Not active.
@@ -16,7 +16,7 @@ pub enum Status {
     Running { run: u64, due: u64 },
 }
 
-/// A test's period in seconds, and where it stands.
+/// A test's period in seconds, and its status.
 #[derive(Clone, Copy, Debug, Default)]
 pub struct Timer {
     pub period: u32,
@@ -24,7 +24,7 @@ pub struct Timer {
 }
 
 impl Timer {
-    /// Takes part in an entry at a moment, as a test of the always set or of the state's own.
+    /// Makes the entry of a state at a moment, for a test of the always set, of the state's own set, or of neither.
     pub fn enter(&mut self, always: bool, own: bool, now: u64)
         ensures { self.new
             ≡ record self.old { status = entered_status always own now self.old.status } }
@@ -58,8 +58,7 @@ impl Timer {
         matches!(self.status, Status::Running { run, .. } if run == number)
     }
 
-    /// Ends the test's run, where it runs under this number: it is idle then, and due from the moment that is
-    /// answered on.
+    /// Ends the test's run if it runs under this number. It is then idle, and due from the returned moment on.
     pub fn finish(&mut self, number: u64) -> Option<u64>
         ensures value { is_some result ≡ is_run number self.old.status }
         ensures after { self.new ≡ ended number self.old }

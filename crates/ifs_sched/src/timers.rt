@@ -1,17 +1,15 @@
-//! The timers of all tests, with the idle ones in order.
+//! The timers of all tests, and the entries of the idle ones in order.
 
-ghost use Rattle.std.specs.Prelude.{◌≡◌, ◌<◌, ◌≤◌, ◌+◌, ◌^◌, ◌==◌, length, map, min, if◌then◌else◌, slice_get};
-ghost use Rattle.std.specs.List.{range_with_len};
-ghost use Rattle.ifs_sched.specs.Schedule.{any_by_index, collect_by_index, entered_test};
-ghost use Rattle.ifs_sched.specs.Schedule.{is_left_over, map_by_index, run_number_at, run_as_number, runs_under, start_of};
-ghost use Rattle.ifs_sched.specs.Schedule.{ticked_test};
+ghost use Rattle.std.specs.Prelude.{◌≡◌, ◌<◌, ◌≤◌, ◌^◌, ◌==◌, length, map, if◌then◌else◌, slice_get};
+ghost use Rattle.ifs_sched.specs.Schedule.{entered_test, map_by_index, run_as_number, runs_under};
 ghost use Rattle.ifs_sched.specs.Timer.{ended, inactive};
 ghost use Rattle.ifs_sched.specs.Idle.{AreIdle, IsNextDue};
+ghost use Rattle.ifs_sched.specs.inner.Due.{IsTicked};
 
 use crate::order::{due_count, put, put_all, set_of, settle};
-use crate::rows::{enter_all, start_due};
 use crate::start::{MAX_TESTS, Start};
 use crate::timer::{Status, Timer};
+use crate::turns::{enter_all, start_due};
 use arrayvec::ArrayVec;
 use ifs_base::TestId;
 use std::marker::Model;
@@ -45,7 +43,7 @@ impl Model for Timers {
 }
 
 impl Timers {
-    /// The timers of tests of these periods, in seconds, all of them off.
+    /// The timers of tests with these periods, in seconds, all of them off.
     pub fn new(periods: &[u32]) -> Timers
         requires { length periods.now ≤ MAX_TESTS }
         ensures { result ≡ map inactive periods.now }
@@ -63,7 +61,7 @@ impl Timers {
         }
     }
 
-    /// Lets each test take part in an entry at a moment, by the always set and the state's own.
+    /// Makes the entry of a state at a moment, by the always set and the state's own set.
     pub fn enter(&mut self, always: u64, own: u64, now: u64)
         ensures { self.new ≡ map_by_index (entered_test always own now) self.old }
     {
@@ -71,8 +69,8 @@ impl Timers {
         put_all(self.tests.as_slice(), &mut self.idle);
     }
 
-    /// Starts each due test, by index, with the next run number while there is one: the list is that of
-    /// the starts. Answers whether a due test is left for want of a number.
+    /// Starts each due test, by index, with the next run number while there is one. Puts the starts into the
+    /// list, and returns whether a test was left because no number was.
     pub fn start(
         &mut self,
         now: u64,
@@ -80,18 +78,7 @@ impl Timers {
         starts: &mut ArrayVec<Start, MAX_TESTS>,
     ) -> bool
         requires number { run_as_number next_run.old ≤ 2 ^ 64 }
-        ensures tests { self.new
-            ≡ map_by_index (ticked_test now (run_as_number next_run.old) self.old) self.old }
-        ensures next_run { run_as_number next_run.new
-            ≡ min (run_number_at now (run_as_number next_run.old) self.old (length self.old)) (2 ^ 64) }
-        ensures starts { starts.new.items
-            ≡ collect_by_index (start_of now (run_as_number next_run.old) self.old) self.old }
-        ensures exhausted { result
-            ≡ any_by_index (is_left_over now (run_as_number next_run.old) self.old) self.old }
-        ensures numbered { map (λ start. start.run) starts.new.items
-            ≡ range_with_len (run_as_number next_run.old) (length starts.new.items) }
-        ensures in_sequence { run_as_number next_run.new
-            ≡ run_as_number next_run.old + length starts.new.items }
+        ensures { IsTicked now (run_as_number next_run.old) self.old self.new starts.new.items result (run_as_number next_run.new) }
     {
         let tests = self.tests.as_mut_slice();
         let count = due_count(self.idle.as_slice(), now);
@@ -101,7 +88,7 @@ impl Timers {
         exhausted
     }
 
-    /// Ends the run of a test, where there is one and it runs under this number. Says whether it did.
+    /// Ends the run of a test if it runs under this number, and returns whether it did.
     pub fn finish(&mut self, test: TestId, run: u64) -> bool
         ensures value { result ≡ runs_under run (slice_get self.old test.0) }
         ensures after { self.new

@@ -1,8 +1,9 @@
--- From what is found of all routines to the rules of acceptance, and back.
+-- From the bounds that the passes find to the rules of acceptance, and back.
 use Rattle.std.proofs.Common.{ℕ, ◌≡◌, ◌<◌, ◌≤◌, ◌+◌, ◌-◌, List, [], length, Some}
 use Rattle.std.proofs.Common.{slice_index, arith, refl, ap, sym, ◌∙◌, subst, inl, inr, ◌⊎◌}
 use Rattle.std.specs.List.{slice_get}
 use Rattle.std.proofs.lemmas.Bool.{cases_lt}
+use Rattle.std.proofs.lemmas.Option.{same_Some}
 use Rattle.ifs_base.specs.declared.ids.RoutineId.{RoutineId}
 use Rattle.ifs_base.specs.declared.op.Kind.{Kind}
 use Rattle.ifs_base.specs.declared.op.Op.{Op}
@@ -14,14 +15,14 @@ use Rattle.ifs_verify.specs.declared.budgets.Role.TheVariants.{Init, Body}
 use Rattle.ifs_verify.specs.Rules.{IsRoutine, IndexesFit}
 use Rattle.ifs_verify.specs.Typing.{IsTyped}
 use Rattle.ifs_verify.specs.Bounds.{AreDepths, AreAmounts, callee_amount, FitsEvents, FitsHandlers}
-use Rattle.ifs_verify.specs.Accepted.{EachWithin, StackFits, FramesFit}
+use Rattle.ifs_verify.specs.Accepted.{EachWithin, StackFits, FramesFit, AmountsFit}
 use Rattle.ifs_verify.specs.Refused.{AreOver, AreTypedHeights, AreTotals}
 use Rattle.ifs_verify.specs.declared.fault.At.TheVariants.{Head, Code}
 use Rattle.ifs_verify.specs.inner.Passes.{PlainRulesHold, HoldsHeight, IsTypingHeld, IsCounted}
 use Rattle.ifs_verify.specs.inner.Passes.{LeastHeights, LeastDepths, LeastAmounts, Reaches}
 use Rattle.ifs_verify.proofs.Instructions.{op_at-routine}
 
--- One value for each number, where there is one for each number below another.
+-- A choice of one value for each number below another.
 abbrev pick : {A : Type 0} (d : A) (P : ℕ → A → Type 0) (n : ℕ) → ((k : ℕ) → k < n → (x : A) × P k x) → (k : ℕ) → ((k < n) ⊎ (n ≤ k)) → A
 pick d P n each k (inl below) = (each k below).0
 pick d P n each k (inr past) = d
@@ -34,7 +35,7 @@ picked d P n each k (inr past) h = absurd (omega arith)
 pub choose : {A : Type 0} (d : A) (P : ℕ → A → Type 0) (n : ℕ) → ((k : ℕ) → k < n → (x : A) × P k x) → (f : ℕ → A) × ((k : ℕ) → k < n → P k (f k))
 choose d P n each = (λ k. pick d P n each k (cases_lt k n), λ k h. picked d P n each k (cases_lt k n) h)
 
--- What fits a number fits where each routine has the same or less.
+-- Smaller numbers fit what larger ones fit.
 pub FitsHandlers-lower : (image : ImageParts) (high low : ℕ → ℕ) (stated : ℕ) → IndexesFit image
     → ((routine : ℕ) → IsRoutine image routine → low routine ≤ high routine) → FitsHandlers image high stated → FitsHandlers image low stated
 FitsHandlers-lower image high low stated indexes le fits = record {
@@ -59,7 +60,7 @@ FitsEvents-lower image high low stated indexes le fits = record {
       omega (arith, le image.always.init.0 indexes.always.0, le first.handlers.init.0 (indexes.states image.initial.0 first is).0, fits.opening first is);
 }
 
--- The typings and heights that were found.
+-- The typings and heights that the passes find.
 abbrev Chosen : ImageParts → List ℕ → Type 0
 Chosen image heights = (kinds : ℕ → ℕ → List Kind) × ((routine : ℕ) → IsRoutine image routine → IsTypingHeld image (slice_index heights) routine (kinds routine))
 
@@ -88,7 +89,7 @@ pub stack_fits : (image : ImageParts) (heights : List ℕ) → LeastHeights imag
 stack_fits image heights found low fits =
     let are = heights_are image heights found in (are.0, slice_index heights, are.1, are.2, low, fits)
 
--- Heights that pass the limit in a routine, and heights that pass what is stated.
+-- Heights over the limit, and over the stated stack.
 pub stack_over : (image : ImageParts) (heights : List ℕ) (routine : ℕ) → LeastHeights image heights (length image.routines) → IsRoutine image routine
     → 32 < slice_index heights routine → AreOver image (AreTypedHeights image) 32 (λ heights. FitsHandlers image heights image.budgets.stack) (Code (record { 0 = routine }) 0)
 stack_over image heights routine found is_routine over = (
@@ -107,7 +108,7 @@ stack_unfit image heights indexes found low unfit = (
       unfit (FitsHandlers-lower image bounds (slice_index heights) image.budgets.stack indexes (λ routine is_routine. found.least are.0 bounds are.1 are.2 routine is_routine) fits),
 )
 
--- Depths of the image that are the ones that were found.
+-- Depths of the image that are the found ones.
 pub record FoundDepths (image : ImageParts) (depths : List ℕ) (all : ℕ → ℕ) : Type 0 where
   pub are : AreDepths image all
   pub within : EachWithin image all 32
@@ -149,17 +150,12 @@ frames_unfit image depths plain found unfit =
           unfit (FitsHandlers-lower image bounds (slice_index depths) image.budgets.frames plain.indexes (λ routine is_routine. found.least bounds are routine is_routine) fits),
     )
 
--- Some amounts fit a limit for each routine, and what is stated of each event.
-abbrev pub AmountsFit : (Op → ℕ) → ImageParts → ℕ → ℕ → Type 0
-AmountsFit weight image limit stated = (amounts : ℕ → ℕ → ℕ) × AreAmounts weight image amounts × EachWithin image (λ routine. amounts routine 0) limit
-    × FitsEvents image (λ routine. amounts routine 0) stated
-
 callee_amount-below : (all : ℕ → ℕ → ℕ) (old : ℕ → ℕ) (op : Op) → ((callee : RoutineId) → op ≡ Call callee → all callee.0 0 ≤ old callee.0)
     → callee_amount all op ≤ callee_amount (λ routine to. old routine) op
 callee_amount-below all old (Call callee) le = le callee refl
 callee_amount-below all old op le = omega arith
 
--- Amounts of the image that are the ones that were found.
+-- Amounts of the image that are the found ones.
 pub record FoundAmounts (weight : Op → ℕ) (image : ImageParts) (limit : ℕ) (amounts : List ℕ) : Type 0 where
   pub all : ℕ → ℕ → ℕ
   pub are : AreAmounts weight image all
@@ -169,8 +165,8 @@ pub record FoundAmounts (weight : Op → ℕ) (image : ImageParts) (limit : ℕ)
 amounts_are : (weight : Op → ℕ) (image : ImageParts) (limit : ℕ) (amounts : List ℕ) → PlainRulesHold image
     → LeastAmounts weight image limit amounts (length image.routines) → FoundAmounts weight image limit amounts
 amounts_are weight image limit amounts plain found =
-    let all : (rows : ℕ → ℕ → ℕ) × ((k : ℕ) → k < length image.routines → IsCounted weight image (slice_index amounts) k (rows k)) =
-    choose (λ place. 0) (λ routine row. IsCounted weight image (slice_index amounts) routine row) (length image.routines) found.held in
+    let all : (by_place : ℕ → ℕ → ℕ) × ((k : ℕ) → k < length image.routines → IsCounted weight image (slice_index amounts) k (by_place k)) =
+    choose (λ place. 0) (λ routine each. IsCounted weight image (slice_index amounts) routine each) (length image.routines) found.held in
     let callee : (routine place : ℕ) (op : Op) → op_at image routine place ≡ Some op → callee_amount all.0 op ≤ callee_amount (λ r to. slice_index amounts r) op =
     λ routine place op is.
     callee_amount-below all.0 (slice_index amounts) op (λ called e.
@@ -213,17 +209,14 @@ amounts_unfit weight image limit stated amounts plain found unfit =
           (λ routine is_routine. omega (arith, found.least are.0 are.1 routine is_routine, are.2 routine)) fits),
     )
 
-same_state : (a b : StateSpec) → Some a ≡ Some b → a ≡ b
-same_state a b e = cc
-
--- The sums of the greatest handlers are within what is stated where each event's are.
+-- The sum of the greatest handlers is within the stated amount if each event is.
 pub events_fit : (image : ImageParts) (amount : ℕ → ℕ) (stated bodies inits : ℕ) (first : StateSpec) → slice_get image.states image.initial.0 ≡ Some first
     → Reaches Body image amount bodies → Reaches Init image amount inits
     → amount image.always.init.0 + amount first.handlers.init.0 ≤ stated → amount image.always.body.0 + bodies + inits ≤ stated → FitsEvents image amount stated
 events_fit image amount stated bodies inits first found body init opening evaluation = record {
   evaluation = λ j k current next is_current is_next. omega (arith, body j current is_current, init k next is_next, evaluation);
   opening = λ other is.
-      let same : first ≡ other = same_state first other (sym found ∙ is) in
+      let same : first ≡ other = same_Some first other (sym found ∙ is) in
       subst (λ (s : StateSpec). amount image.always.init.0 + amount s.handlers.init.0 ≤ stated) same opening;
 }
 

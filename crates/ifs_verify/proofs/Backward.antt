@@ -1,10 +1,10 @@
--- The backward pass: what its rows keep when one more place is counted.
+-- The backward pass: one more place is counted.
 use Rattle.std.proofs.Common.{ℕ, ◌≡◌, ◌<◌, ◌≤◌, ◌+◌, ◌-◌, ◌*◌, List, length, get_or, Some}
 use Rattle.std.proofs.Common.{slice_index, arith, refl, ap, sym, ◌∙◌, subst, inl, inr}
 use Rattle.std.proofs.Math.ListN.{set, length-set}
 use Rattle.std.proofs.lemmas.Bool.{cases_eq}
 use Rattle.std.proofs.lemmas.List.{get_or-set_same, get_or-set_other}
-use Rattle.std.proofs.lemmas.Option.{slice_get_within}
+use Rattle.std.proofs.lemmas.Option.{slice_get_within, same_Some}
 use Rattle.ifs_base.specs.declared.ids.RoutineId.{RoutineId}
 use Rattle.ifs_base.specs.declared.op.Op.{Op}
 use Rattle.ifs_base.specs.declared.op.Op.TheVariants.{Call}
@@ -15,10 +15,10 @@ use Rattle.ifs_verify.specs.Bounds.{AreAmounts, callee_amount}
 use Rattle.ifs_verify.specs.inner.Passes.{PlainRulesHold, HoldsAmount, IsCountedFrom}
 use Rattle.ifs_verify.proofs.Flow.{successor_within}
 
--- The same amount, where the successors' amounts are the same.
-pub HoldsAmount-rows : (weight : Op → ℕ) (lower row new : ℕ → ℕ) (op : Op) (place amount other : ℕ) → amount ≡ other
-    → ((to : ℕ) → IsSuccessor op place to → row to ≡ new to) → HoldsAmount weight lower row op place amount → HoldsAmount weight lower new op place other
-HoldsAmount-rows weight lower row new op place amount other e same holds = record {
+-- An amount stays large enough if those of the successors are the same.
+pub HoldsAmount-same : (weight : Op → ℕ) (lower by_place new : ℕ → ℕ) (op : Op) (place amount other : ℕ) → amount ≡ other
+    → ((to : ℕ) → IsSuccessor op place to → by_place to ≡ new to) → HoldsAmount weight lower by_place op place amount → HoldsAmount weight lower new op place other
+HoldsAmount-same weight lower by_place new op place amount other e same holds = record {
   own = omega (arith, e, holds.own);
   onward = λ to is. omega (arith, e, same to is, holds.onward to is);
 }
@@ -28,10 +28,7 @@ pub callee_amount-le : (lower : ℕ → ℕ) (all : ℕ → ℕ → ℕ) (op : O
 callee_amount-le lower all (Call callee) le = le callee refl
 callee_amount-le lower all op le = omega arith
 
-some_op : (a b : Op) → Some a ≡ Some b → a ≡ b
-some_op a b e = cc
-
--- What any amounts have at a place holds its instruction.
+-- Any amounts are large enough at each place.
 all_hold : (weight : Op → ℕ) (image : ImageParts) (lower : ℕ → ℕ) (routine : ℕ) (amounts : List ℕ) (place : ℕ) (op : Op) (all : ℕ → ℕ → ℕ)
     → PlainRulesHold image → IsRoutine image routine → op_at image routine place ≡ Some op → IsCountedFrom weight image lower routine amounts (place + 1)
     → AreAmounts weight image all → ((k : ℕ) → k < routine → lower k ≤ all k 0) → HoldsAmount weight lower (slice_index amounts) op place (all routine place)
@@ -79,16 +76,16 @@ counted_more weight image lower routine amounts place op amount plain is_routine
       holds = λ k other le is.
           elim (cases_eq k place) [
             | inl e ↦
-                let o : op ≡ other = some_op op other (sym here ∙ subst (λ (n : ℕ). op_at image routine n ≡ Some other) e is) in
+                let o : op ≡ other = same_Some op other (sym here ∙ subst (λ (n : ℕ). op_at image routine n ≡ Some other) e is) in
                 let h : HoldsAmount weight lower (slice_index (set amounts place amount)) op place (get_or (set amounts place amount) k 0) =
-                HoldsAmount-rows weight lower (slice_index amounts) (slice_index (set amounts place amount)) op place amount (get_or (set amounts place amount) k 0)
+                HoldsAmount-same weight lower (slice_index amounts) (slice_index (set amounts place amount)) op place amount (get_or (set amounts place amount) k 0)
                 (sym (at_place k e))
                 (λ to s. let after = (successor_within image routine place to op plain.ends plain.jumps is_routine here s).0 in
                 sym (get_or-set_other amounts place to amount 0 (omega (arith, after)))) holds in
                 subst (λ (n : ℕ). HoldsAmount weight lower (slice_index (set amounts place amount)) other n (get_or (set amounts place amount) k 0)) (sym e)
                 (subst (λ (x : Op). HoldsAmount weight lower (slice_index (set amounts place amount)) x place (get_or (set amounts place amount) k 0)) o h)
             | inr ne ↦
-                HoldsAmount-rows weight lower (slice_index amounts) (slice_index (set amounts place amount)) other k (slice_index amounts k)
+                HoldsAmount-same weight lower (slice_index amounts) (slice_index (set amounts place amount)) other k (slice_index amounts k)
                 (get_or (set amounts place amount) k 0) (sym (get_or-set_other amounts place k amount 0 ne))
                 (λ to s. let after = (successor_within image routine k to other plain.ends plain.jumps is_routine is s).0 in
                 sym (get_or-set_other amounts place to amount 0 (omega (arith, after))))

@@ -1,4 +1,4 @@
--- Bounds exist, however large, where calls and jumps lead on.
+-- Bounds exist if calls go down and jumps lead on.
 use Rattle.std.proofs.Common.{ℕ, zero, suc, ◌≡◌, ◌<◌, ◌≤◌, ◌+◌, ◌-◌, ◌*◌, List}
 use Rattle.std.proofs.Common.{slice_index, Some, arith, refl, ap, sym, ◌∙◌, inl, inr}
 use Rattle.std.proofs.lemmas.Bool.{cases_lt}
@@ -25,7 +25,7 @@ use Rattle.ifs_verify.proofs.Instructions.{op_at-routine, some_code}
 pub some_depths : (image : ImageParts) → PlainRulesHold image → AreDepths image (λ routine. routine + 1)
 some_depths image plain = record { own = λ routine. omega arith; calls = λ routine place callee is. omega (arith, plain.calls routine place callee is) }
 
--- More than 1,025 times what any lower routine has.
+-- More than 1,025 times the amount of any lower routine.
 step : ℕ → ℕ
 step zero = 1
 step (suc routine) = 1 + 1025 * step routine
@@ -63,7 +63,7 @@ large-onward routine place to below later =
     let e : 1025 - place ≡ ((1025 - to) + 1) + ((1025 - place) - (1025 - to) - 1) = omega arith in
     omega (arith, ap (λ n. step routine * n) e)
 
--- An instruction by itself, with its callee, stays within a routine's step.
+-- An instruction with its callee stays within the step of a routine.
 counted : (weight : Op → ℕ) (routine : ℕ) (op : Op) → ((op : Op) → weight op ≤ 1) → ((callee : RoutineId) → op ≡ Call callee → callee.0 < routine)
     → weight op + callee_amount large op ≤ step routine
 counted weight routine (Call callee) light lower =
@@ -92,7 +92,7 @@ pub commands-light : (op : Op) → commands_of op ≤ 1
 commands-light Queue = omega arith
 commands-light op = omega arith
 
--- A depth that passes the limit, where every other that is large enough is no smaller.
+-- The least depth passes the limit.
 pub frames_over : (image : ImageParts) (depths : List ℕ) (routine depth : ℕ) → PlainRulesHold image → LeastDepths image depths routine → IsRoutine image routine
     → ((bound : ℕ) → HoldsDepth image (slice_index depths) routine bound → depth ≤ bound) → 32 < depth
     → AreOver image (AreDepths image) 32 (λ depths. FitsHandlers image depths image.budgets.frames) (Code (record { 0 = routine }) 0)
@@ -103,7 +103,7 @@ frames_over image depths routine depth plain found is_routine least over = (
   λ bounds are. omega (arith, new_depth image depths routine depth plain found least bounds are, over),
 )
 
--- The same of amounts.
+-- The least amount passes the limit.
 pub amounts_over : (weight : Op → ℕ) (image : ImageParts) (limit stated : ℕ) (amounts : List ℕ) (routine amount : ℕ) → PlainRulesHold image
     → LeastAmounts weight image limit amounts routine → IsRoutine image routine → ((op : Op) → weight op ≤ 1)
     → ((all : ℕ → ℕ → ℕ) → AreAmounts weight image all → ((k : ℕ) → k < routine → slice_index amounts k ≤ all k 0) → amount ≤ all routine 0) → limit < amount
@@ -120,7 +120,7 @@ light : (weight : Weight) (op : Op) → weight_of weight op ≤ 1
 light Cost op = cost-light op
 light Commands op = commands-light op
 
--- The amount of a routine, once all its places are counted.
+-- The amount of a routine after all its places are counted.
 pub amount_found : (weight : Weight) (image : ImageParts) (lower amounts : List ℕ) (routine amount : ℕ) → PlainRulesHold image
     → LeastAmounts (weight_of weight) image (limit_of weight) lower routine → IsRoutine image routine
     → IsCountedFrom (weight_of weight) image (slice_index lower) routine amounts 0 → amount ≡ slice_index amounts 0 → IsAmount weight image lower routine amount

@@ -1,5 +1,6 @@
 -- A check that fails keeps an image from being accepted.
 use Rattle.std.proofs.Common.{ℕ, ◌≡◌, List, Some, None, arith, refl, ap, sym, ◌∙◌, inl, inr}
+use Rattle.std.proofs.lemmas.Option.{same_Some}
 use Rattle.ifs_base.specs.declared.op.Kind.{Kind}
 use Rattle.ifs_base.specs.declared.op.Op.{Op}
 use Rattle.ifs_image.specs.declared.parts.ImageParts.{ImageParts}
@@ -31,23 +32,19 @@ leaves_value Head image fits leaves = leaves fits.always
 leaves_value (State state) image fits leaves = leaves.2 (fits.states state.0 leaves.0 leaves.1)
 leaves_value (Code routine place) image fits leaves = leaves
 
--- What no place says.
+-- A fault at no place says nothing.
 nowhere : (says : ℕ → ℕ → Type 0) (at : At) → ((routine place : ℕ) → says routine place → ⊥) → InCode says at → ⊥
-nowhere says Head none it = it
-nowhere says (State state) none it = it
 nowhere says (Code routine place) none it = none routine.0 place it
+nowhere says at none it = it
 
-some_kinds : (a b : List Kind) → Some a ≡ Some b → a ≡ b
-some_kinds a b e = cc
-
--- What an instruction leaves at the end of a way is what each typing has at its successors.
+-- Each typing has at the successors what an instruction leaves at the end of a way.
 left_for_all : (image : ImageParts) (routine place to : ℕ) (op : Op) (after : List Kind) (typing : ℕ → List Kind) → IsTyping image routine typing
     → LeavesList image routine place op after → IsSuccessor op place to → typing to ≡ after
 left_for_all image routine place to op after typing is_typing leaves successor =
     let flow : FlowsOn image typing place op = is_typing.flows place op leaves.stands in
     let same : typing place ≡ leaves.before = led image routine place place leaves.before typing is_typing leaves.leads in
     let e : Some flow.0 ≡ Some after = sym flow.1 ∙ ap (λ (kinds : List Kind). effect image op kinds) same ∙ leaves.effect_is in
-    flow.2 to successor ∙ some_kinds flow.0 after e
+    flow.2 to successor ∙ same_Some flow.0 after e
 
 lacks_operand : (image : ImageParts) → IsTyped image → (routine place : ℕ) → LacksOperand image routine place → ⊥
 lacks_operand image typed routine place lacks =

@@ -7,7 +7,7 @@ pub mod Holding
 pub mod Instructions
 pub mod KindLists
 pub mod Reaching
-pub mod Rows
+pub mod KindsAt
 pub mod Entering
 pub mod Verdict
 pub mod Versions

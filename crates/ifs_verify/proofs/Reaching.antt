@@ -1,8 +1,8 @@
--- Marks of the places that follow an instruction.
+-- Marks of the successors of instructions.
 use Rattle.std.proofs.Common.{ℕ, ◌≡◌, ◌<◌, ◌+◌, ◌↔◌, Bool, List, length}
 use Rattle.std.proofs.Common.{Some, arith, ap, sym, ◌∙◌, subst, inl, inr, ◌⊎◌}
 use Rattle.std.proofs.lemmas.Bool.{cases_eq, cases_lt}
-use Rattle.std.proofs.lemmas.Option.{slice_get_past}
+use Rattle.std.proofs.lemmas.Option.{slice_get_past, same_Some}
 use Rattle.ifs_base.specs.declared.op.Op.{Op}
 use Rattle.ifs_image.specs.declared.parts.ImageParts.{ImageParts}
 use Rattle.ifs_image.specs.Code.{op_at, code_of, code_in, IsSuccessor}
@@ -19,10 +19,7 @@ code_of-routine image routine some =
           absurd (omega arith)
     ]
 
-some_op : (a b : Op) → Some a ≡ Some b → a ≡ b
-some_op a b e = cc
-
--- What follows an instruction at a place is marked too, so far as there is room.
+-- The successors of one more instruction are marked.
 abbrev pub Marks : List Bool → List Bool → Op → ℕ → Type 0
 Marks old new op place = (k : ℕ) → IsMarked new k ↔ (IsMarked old k ⊎ (IsSuccessor op place k × (k < length old)))
 
@@ -44,7 +41,7 @@ marked_more image routine place op before after here marks marked k within follo
     elim (cases_eq follows.0 place) [
       | inl e ↦
           let at_place : op_at image routine place ≡ Some follows.1 = subst (λ (n : ℕ). op_at image routine n ≡ Some follows.1) e follows.3 in
-          let o : follows.1 ≡ op = some_op follows.1 op (sym at_place ∙ here) in
+          let o : follows.1 ≡ op = same_Some follows.1 op (sym at_place ∙ here) in
           let successor : IsSuccessor op place k =
           subst (λ (n : ℕ). IsSuccessor op n k) e (subst (λ (x : Op). IsSuccessor x follows.0 k) o follows.4) in
           (marks k).1 (inr (successor, within))

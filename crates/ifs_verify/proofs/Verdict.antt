@@ -1,4 +1,4 @@
--- From an image's limits to what the checks rest on, and from their answers to what a refusal says.
+-- From the limits of an image to what the checks need, and from their results to refusals.
 use Rattle.std.proofs.Common.{ℕ, ◌≡◌, ◌≢◌, ◌≤◌, List, length, Option, Some, None}
 use Rattle.std.proofs.Common.{Result, Ok, Err, arith, refl, ap, sym, ◌∙◌, subst}
 use Rattle.std.proofs.lemmas.Option.{get_or_from_slice_get, slice_get_within}
@@ -43,39 +43,11 @@ sized image fits = record {
   code = λ k. code_fits image.version (slice_get image.routines k) (λ routine is. entry_fits image.version image.routines k routine fits.routines.each is);
 }
 
--- A check that fails in the image that the bytes spell is a refusal of them.
+-- A check that fails in the image that bytes spell is a refusal of the bytes.
 pub check_refuses : (bytes : List ℕ) (image : ImageParts) (fault : VerifyFault) → Spells bytes image → IsImageRefused image fault → IsRefusal bytes fault
 check_refuses bytes image (NoImage fault) spelled refused = absurd (refused (λ e. cc))
 check_refuses bytes image OutOfMemory spelled refused = tt
-check_refuses bytes image (NoEntry at) spelled refused = (image, spelled, refused (λ e. cc))
-check_refuses bytes image (JumpTarget at) spelled refused = (image, spelled, refused (λ e. cc))
-check_refuses bytes image (LeftAtEnd at) spelled refused = (image, spelled, refused (λ e. cc))
-check_refuses bytes image (Unreached at) spelled refused = (image, spelled, refused (λ e. cc))
-check_refuses bytes image (WrongOperand at) spelled refused = (image, spelled, refused (λ e. cc))
-check_refuses bytes image (WaysDisagree at) spelled refused = (image, spelled, refused (λ e. cc))
-check_refuses bytes image (CallNotLower at) spelled refused = (image, spelled, refused (λ e. cc))
-check_refuses bytes image (WrongResults at) spelled refused = (image, spelled, refused (λ e. cc))
-check_refuses bytes image (StackOver at) spelled refused = (image, spelled, refused (λ e. cc))
-check_refuses bytes image (FramesOver at) spelled refused = (image, spelled, refused (λ e. cc))
-check_refuses bytes image (CostOver at) spelled refused = (image, spelled, refused (λ e. cc))
-check_refuses bytes image (CommandsOver at) spelled refused = (image, spelled, refused (λ e. cc))
-check_refuses bytes image (HandlerLeaves at) spelled refused = (image, spelled, refused (λ e. cc))
-
--- A fault in reading is a refusal of the bytes.
-pub read_refuses : (bytes : List ℕ) (fault : ImageFault) → (fault ≢ Memory → image_of bytes ≡ Err fault) → IsRefusal bytes (refusal_of fault)
-read_refuses bytes Memory first = tt
-read_refuses bytes (Truncated at) first = first (λ e. cc)
-read_refuses bytes (WrongMagic at) first = first (λ e. cc)
-read_refuses bytes (WrongVersion at) first = first (λ e. cc)
-read_refuses bytes (OutOfLimit at) first = first (λ e. cc)
-read_refuses bytes (BadText at) first = first (λ e. cc)
-read_refuses bytes (RepeatedName at) first = first (λ e. cc)
-read_refuses bytes (Trailing at) first = first (λ e. cc)
-read_refuses bytes (NoInstruction at) first = first (λ e. cc)
-
--- A refusal that is not for memory comes from a fault in reading that is not.
-pub not_memory : (fault : ImageFault) → refusal_of fault ≢ OutOfMemory → fault ≢ Memory
-not_memory fault other e = other (ap refusal_of e)
+check_refuses bytes image fault spelled refused = (image, spelled, refused (λ e. cc))
 
 abbrev read_as : ImageParts → Result ImageParts ImageFault
 read_as image = Ok image
@@ -83,7 +55,7 @@ read_as image = Ok image
 ok_same : (a b : ImageParts) → read_as a ≡ read_as b → a ≡ b
 ok_same a b e = cc
 
--- A check that fails in the one image that the bytes spell is one that keeps it from being accepted.
+-- A check that fails in the image that bytes spell keeps it from being accepted.
 pub refused_once : (bytes : List ℕ) (image : ImageParts) (fault : VerifyFault) → IsImageRefused image fault
     → ((other : ImageParts) → Spells bytes other → read_as image ≢ Err Memory → read_as image ≡ read_as other)
     → fault ≢ OutOfMemory → (other : ImageParts) → Spells bytes other → ¬ IsAccepted other
@@ -91,18 +63,18 @@ refused_once bytes image fault refused only other_fault other spelled accepted =
     let same : image ≡ other = ok_same image other (only other spelled (λ e. cc)) in
     fails_of_accepted fault image (subst IsAccepted (sym same) accepted) (refused other_fault)
 
--- Bytes that reading refuses spell no image.
+-- Bytes with a fault in reading spell no image.
 unread : (bytes : List ℕ) (fault : ImageFault) (image : ImageParts) → image_of bytes ≡ Err fault → ¬ Spells bytes image
 unread bytes fault image refused spelled =
     let read : image_of bytes ≡ read_as image = image_again bytes image spelled in
     let e : Err fault ≡ read_as image = sym refused ∙ read in
     absurd (cc)
 
--- What bytes spell at most one of.
+-- Bytes spell at most one image.
 abbrev pub OneImage : Type 0
 OneImage = (bytes : List ℕ) (image other : ImageParts) → Spells bytes image → Spells bytes other → image ≡ other
 
--- A check that fails in an image that bytes spell fails in each that they spell.
+-- A check that fails in one image that bytes spell fails in each of them.
 failed : OneImage → (bytes : List ℕ) (fault : VerifyFault) → ((found : ImageParts) × Spells bytes found × Fails fault found) → (image : ImageParts) → Spells bytes image → ¬ IsAccepted image
 failed one bytes fault refused image spelled accepted =
     fails_of_accepted fault refused.0 (subst IsAccepted (one bytes image refused.0 spelled refused.1) accepted) refused.2

@@ -1,4 +1,4 @@
--- The version of an image says nothing to the verifier: one of any other version that says the same is accepted alike.
+-- Acceptance does not depend on the version of an image.
 use Rattle.std.proofs.Common.{ℕ, ◌≡◌, List, ◌∷◌, refl, sym, ◌∙◌}
 use Rattle.ifs_base.specs.declared.op.Kind.{Kind}
 use Rattle.ifs_base.specs.declared.op.Kind.TheVariants.{Truth, Command, StateName}
@@ -11,10 +11,10 @@ use Rattle.ifs_image.specs.Code.{effect}
 use Rattle.ifs_verify.specs.Rules.{HasOperand, IndexesFit, HandlersStandAlone}
 use Rattle.ifs_verify.specs.Typing.{IsTyping, AreTypings}
 use Rattle.ifs_verify.specs.Bounds.{cost_of, commands_of, AreHeights, AreDepths, AreAmounts, FitsEvents, FitsHandlers}
-use Rattle.ifs_verify.specs.Accepted.{IsAccepted}
+use Rattle.ifs_verify.specs.Accepted.{AmountsFit, IsAccepted}
 use Rattle.ifs_verify.specs.Laws.{AreAcceptedAlike}
 
--- The image of a version that says what an image says.
+-- An image in another version.
 abbrev pub of_version : ℕ → ImageParts → ImageParts
 of_version version image = record image { version = version }
 
@@ -32,13 +32,8 @@ effect_same version image Dup (kind ∷ kinds) = refl
 effect_same version image op kinds = refl
 
 HasOperand-version : (version : ℕ) (image : ImageParts) (op : Op) → HasOperand image op → HasOperand (of_version version image) op
-HasOperand-version version image (Link interface state) has = has
-HasOperand-version version image (Test test) has = has
-HasOperand-version version image (Known test) has = has
-HasOperand-version version image (PushCommand command) has = has
-HasOperand-version version image (PushState state) has = has
 HasOperand-version version image (Call routine) has = has
-HasOperand-version version image op has = tt
+HasOperand-version version image op has = has
 
 IndexesFit-version : (version : ℕ) (image : ImageParts) → IndexesFit image → IndexesFit (of_version version image)
 IndexesFit-version version image fits = record {
@@ -94,7 +89,12 @@ FitsEvents-version : (version : ℕ) (image : ImageParts) (amount : ℕ → ℕ)
     → FitsEvents (of_version version image) amount stated
 FitsEvents-version version image amount stated fits = record { evaluation = fits.evaluation; opening = fits.opening }
 
--- What is accepted is accepted in every version.
+AmountsFit-version : (version : ℕ) (weight : Op → ℕ) (image : ImageParts) (limit stated : ℕ) → AmountsFit weight image limit stated
+    → AmountsFit weight (of_version version image) limit stated
+AmountsFit-version version weight image limit stated fits =
+    (fits.0, AreAmounts-version version weight image fits.0 fits.1, fits.2, FitsEvents-version version image (λ routine. fits.0 routine 0) stated fits.3)
+
+-- An accepted image is accepted in every version.
 IsAccepted-version : (version : ℕ) (image : ImageParts) → IsAccepted image → IsAccepted (of_version version image)
 IsAccepted-version version image accepted = record {
   indexes = IndexesFit-version version image accepted.indexes;
@@ -116,23 +116,11 @@ IsAccepted-version version image accepted = record {
   frames =
       let fits = accepted.frames in
       (fits.0, AreDepths-version version image fits.0 fits.1, fits.2, FitsHandlers-version version image fits.0 image.budgets.frames fits.3);
-  cost =
-      let fits = accepted.cost in (
-        fits.0,
-        AreAmounts-version version cost_of image fits.0 fits.1,
-        fits.2,
-        FitsEvents-version version image (λ routine. fits.0 routine 0) image.budgets.cost fits.3,
-      );
-  commands =
-      let fits = accepted.commands in (
-        fits.0,
-        AreAmounts-version version commands_of image fits.0 fits.1,
-        fits.2,
-        FitsEvents-version version image (λ routine. fits.0 routine 0) image.budgets.commands fits.3,
-      );
+  cost = AmountsFit-version version cost_of image 100000 image.budgets.cost accepted.cost;
+  commands = AmountsFit-version version commands_of image 64 image.budgets.commands accepted.commands;
 }
 
--- An image is accepted alike in every version: it is itself what its own version makes of any other.
+-- An image is accepted alike in every version, since it is another version of each of these.
 pub accepted_alike : (version : ℕ) (image : ImageParts) → AreAcceptedAlike image (of_version version image)
 accepted_alike version image =
     let own : ℕ = image.version in

@@ -1,4 +1,4 @@
--- The faults of an image as lines print them.
+-- The printed words of the faults of an image.
 use Rattle.std.specs.Prelude.{ℕ, List, ◌++◌, codes, decimal}
 use Rattle.ifs_image.specs.FaultWords.{image_fault_words}
 use Rattle.ifs_verify.specs.declared.fault.At.{At}
@@ -12,7 +12,7 @@ at_words Head = codes "head"
 at_words (State state) = codes "state " ++ decimal state.0
 at_words (Code routine place) = codes "routine " ++ decimal routine.0 ++ codes " place " ++ decimal place
 
--- The number of the check that fails, and where it does.
+-- The number of the check that fails, and its place.
 abbrev pub verify_fault_words : VerifyFault → List ℕ
 verify_fault_words (faults.NoImage fault) = image_fault_words fault
 verify_fault_words (faults.NoEntry at) = codes "V2 " ++ at_words at

@@ -1,4 +1,4 @@
--- Laws of the definitions.
+-- Laws of acceptance.
 use Rattle.std.specs.Prelude.{ℕ, ◌≡◌, ◌<◌, ◌↔◌, List, length}
 use Rattle.ifs_base.specs.declared.op.Kind.{Kind}
 use Rattle.ifs_base.specs.declared.op.Op.{Op}
@@ -12,17 +12,17 @@ use Rattle.ifs_verify.specs.Accepted.{IsAccepted}
 use Rattle.ifs_verify.specs.declared.fault.VerifyFault.{VerifyFault}
 use Rattle.ifs_verify.specs.Refused.{IsRefusal, AreNotAccepted}
 
--- Where each place is reached, two typings of a routine agree at each of its places.
+-- If each place is reached, two typings of a routine agree at each of its places.
 abbrev pub HasOneTyping : Type 0
 HasOneTyping = (image : ImageParts) (routine : ℕ) (kinds other : ℕ → List Kind) → PlacesAreReached image
     → IsTyping image routine kinds → IsTyping image routine other
     → (place : ℕ) → place < length (code_of image routine) → kinds place ≡ other place
 
--- Bytes of which a refusal says what it says are not accepted.
+-- Bytes of a refusal are not accepted.
 abbrev pub RefusedAreNotAccepted : Type 0
 RefusedAreNotAccepted = (bytes : List ℕ) (fault : VerifyFault) → IsRefusal bytes fault → AreNotAccepted bytes fault
 
--- One of two images is accepted exactly where the other is, and the same typings, bounds and budgets fit both.
+-- Two images are accepted alike, and the same typings, bounds and budgets fit both.
 pub record AreAcceptedAlike (image other : ImageParts) : Type 0 where
   pub accepted : IsAccepted image ↔ IsAccepted other
   pub typings : (kinds : ℕ → ℕ → List Kind) → AreTypings image kinds ↔ AreTypings other kinds

@@ -1,4 +1,4 @@
--- Ways: how control may come to a place of a routine, and what stands on the stack there.
+-- Ways of control to a place of a routine, and the kinds on the stack there.
 use Rattle.std.specs.Prelude.{ℕ, ◌≡◌, ◌≤◌, List, Some}
 use Rattle.ifs_base.specs.declared.op.Kind.{Kind}
 use Rattle.ifs_base.specs.declared.op.Op.{Op}

@@ -1,3 +1,3 @@
--- What the passes find and rest on, and what only proofs speak of.
+-- Definitions for private functions and for proofs.
 pub mod Passes
 pub mod Found

@@ -1,4 +1,4 @@
-//! The backward pass: how much may be executed from each place of a routine on.
+//! The backward pass: the most that may be executed from each place of a routine on.
 
 ghost use Rattle.std.specs.Prelude.{ℕ, ◌≡◌, ◌+◌, ◌<◌, ◌≤◌, Some, IfOk, length, slice_index, slice_set};
 ghost use Rattle.ifs_base.specs.declared.ids.RoutineId.{RoutineId};
@@ -17,7 +17,7 @@ use ifs_base::Op;
 use ifs_image::ImageView;
 use std::alloc::{AllocError, Global};
 
-/// What is counted.
+/// What an amount counts.
 #[derive(Clone, Copy)]
 pub enum Weight {
     /// Executed instructions.
@@ -26,7 +26,7 @@ pub enum Weight {
     Commands,
 }
 
-/// What runs of one routine amount to at most.
+/// The greatest amounts of a run of one routine.
 #[derive(Clone, Copy)]
 pub struct Amounts {
     /// Executed instructions.
@@ -35,25 +35,25 @@ pub struct Amounts {
     pub commands: u32,
 }
 
-/// Room for the amounts from each place of a routine on.
-pub struct Rows {
+/// The amounts from each place of a routine on.
+pub struct AmountsByPlace {
     /// Executed instructions.
     pub costs: Vec<u32>,
     /// Queued commands.
     pub commands: Vec<u32>,
 }
 
-impl Drop for Rows {
+impl Drop for AmountsByPlace {
     fn drop(self) {
-        let Rows {
+        let AmountsByPlace {
             costs: _costs,
             commands: _commands,
         } = self;
     }
 }
 
-impl Rows {
-    /// Room for the amounts of each routine of an image.
+impl AmountsByPlace {
+    /// Zeros, as many as the longest routine of an image needs.
     pub fn new(alloc: Global, image: &ImageView<'_>) -> Result<Self, AllocError>
         requires { IsSized image.now }
         ensures { IfOk result (HaveRoom image.now) }
@@ -61,11 +61,11 @@ impl Rows {
         let places = room(image);
         let costs = zeros(alloc, places)?;
         let commands = zeros(alloc, places)?;
-        Ok(Rows { costs, commands })
+        Ok(AmountsByPlace { costs, commands })
     }
 }
 
-/// So many zeros.
+/// `count` zeros.
 fn zeros(alloc: Global, count: usize) -> Result<Vec<u32>, AllocError>
     ensures long { IfOk result (λ amounts. length amounts.items ≡ count) }
     ensures zero { IfOk result (λ amounts. (k : ℕ) → slice_index amounts.items k ≡ 0) }
@@ -75,23 +75,23 @@ fn zeros(alloc: Global, count: usize) -> Result<Vec<u32>, AllocError>
     Ok(amounts)
 }
 
-/// How much a run of a routine amounts to at most, where `costs` and `commands` say it of the routines
-/// below. What stands in `rows` before is of no account.
+/// The greatest amounts of a run of a routine. `costs` and `commands` are those of the lower routines, and
+/// `by_place` is room, whatever is in it.
 pub fn amounts_of(
     image: &ImageView<'_>,
     routine: usize,
     costs: &[u32],
     commands: &[u32],
-    rows: &mut Rows,
+    by_place: &mut AmountsByPlace,
 ) -> Amounts
     requires plain { PlainRulesHold image.now }
     requires routine { IsRoutine image.now routine }
     requires costs { LeastAmounts cost_of image.now 100000 costs.now routine }
     requires commands { LeastAmounts commands_of image.now 64 commands.now routine }
-    requires room { HaveRoom image.now rows.old }
+    requires room { HaveRoom image.now by_place.old }
     ensures cost { IsAmount Cost image.now costs.now routine result.cost }
     ensures commands { IsAmount Commands image.now commands.now routine result.commands }
-    ensures room { HaveRoom image.now rows.new }
+    ensures room { HaveRoom image.now by_place.new }
 {
     let code = code(image, routine);
     let count = code.len();
@@ -105,7 +105,7 @@ pub fn amounts_of(
             op,
             Weight::Cost,
             costs,
-            &mut rows.costs,
+            &mut by_place.costs,
         );
         count_at(
             image,
@@ -114,16 +114,16 @@ pub fn amounts_of(
             op,
             Weight::Commands,
             commands,
-            &mut rows.commands,
+            &mut by_place.commands,
         );
     }
     Amounts {
-        cost: first(&rows.costs),
-        commands: first(&rows.commands),
+        cost: first(&by_place.costs),
+        commands: first(&by_place.commands),
     }
 }
 
-/// The amount from one place on, where those of all later places are known.
+/// Writes the amount from a place on. Those of all later places are known.
 #[inline(always)]
 fn count_at(
     image: &ImageView<'_>,
@@ -161,7 +161,7 @@ fn put(amounts: &mut Vec<u32>, place: usize, amount: u32)
     amounts[place] = amount;
 }
 
-/// The amount from one place on, where those of its successors are known.
+/// The amount from a place on. Those of its successors are known.
 #[inline(always)]
 fn amount_at(op: Op, place: usize, weight: Weight, lower: &[u32], amounts: &Vec<u32>) -> u32
     requires place { place < 1024 }
@@ -177,7 +177,7 @@ fn amount_at(op: Op, place: usize, weight: Weight, lower: &[u32], amounts: &Vec<
     own + onward(op, place, amounts)
 }
 
-/// What an instruction counts by itself.
+/// The amount of an instruction by itself.
 fn weigh(weight: Weight, op: Op) -> u32
     ensures value { result ≡ weight_of weight op }
     ensures low { result ≤ 1 }
@@ -191,7 +191,7 @@ fn weigh(weight: Weight, op: Op) -> u32
     }
 }
 
-/// What a call counts beside itself.
+/// The amount of the callee of a call; 0 for another instruction.
 fn called(op: Op, lower: &[u32]) -> u32
     requires callee { (callee : RoutineId) → op ≡ Call callee → callee.0 < length lower.now }
     requires low { (k : ℕ) → slice_index lower.now k ≤ 100000 }
@@ -204,7 +204,7 @@ fn called(op: Op, lower: &[u32]) -> u32
     }
 }
 
-/// The greatest amount from a successor on; 0 where there is none.
+/// The greatest amount from a successor on; 0 if there is none.
 #[inline(always)]
 fn onward(op: Op, place: usize, amounts: &Vec<u32>) -> u32
     requires place { place < 1024 }

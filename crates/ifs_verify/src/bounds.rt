@@ -8,7 +8,7 @@ ghost use Rattle.ifs_verify.specs.Bounds.{cost_of, commands_of};
 ghost use Rattle.ifs_verify.specs.inner.Passes.{PlainRulesHold, IsImageRefused, LeastHeights};
 ghost use Rattle.ifs_verify.specs.inner.Found.{AreFound, HaveRoom};
 
-use crate::amounts::{Rows, amounts_of};
+use crate::amounts::{AmountsByPlace, amounts_of};
 use crate::depths::depth_of;
 use crate::fault::VerifyFault;
 use crate::places::at;
@@ -16,10 +16,10 @@ use crate::tables::entry;
 use ifs_image::{ImageView, limits};
 use std::alloc::Global;
 
-/// Instructions that a run of one routine executes.
+/// Instructions that a run of one routine may execute.
 pub const ROUTINE_COST: u32 = 100_000;
 
-/// What each routine uses at most.
+/// The most that each routine uses.
 pub struct Bounds {
     /// Frames at one time.
     pub depths: Vec<u32>,
@@ -39,7 +39,7 @@ impl Drop for Bounds {
     }
 }
 
-/// V10 to V13 at a routine, one routine after the other.
+/// V10 to V13 at each routine.
 pub fn check_bounds(
     alloc: Global,
     image: &ImageView<'_>,
@@ -55,27 +55,27 @@ pub fn check_bounds(
         costs: Vec::new(alloc),
         commands: Vec::new(alloc),
     };
-    let mut rows = Rows::new(alloc, image)?;
+    let mut by_place = AmountsByPlace::new(alloc, image)?;
     for routine in 0..image.routines() {
-        find_bounds(image, routine, heights, &mut rows, &mut bounds)?;
+        find_bounds(image, routine, heights, &mut by_place, &mut bounds)?;
     }
     Ok(bounds)
 }
 
-/// The bounds of one routine, where those of the lower ones are known.
+/// Adds the bounds of one routine to those of the lower ones.
 fn find_bounds(
     image: &ImageView<'_>,
     routine: usize,
     heights: &Vec<u32>,
-    rows: &mut Rows,
+    by_place: &mut AmountsByPlace,
     bounds: &mut Bounds,
 ) -> Result<(), VerifyFault>
     requires plain { PlainRulesHold image.now }
     requires heights { LeastHeights image.now heights.now.items (length image.now.routines) }
     requires routine { IsRoutine image.now routine }
     requires lower { AreFound image.now heights.now.items bounds.old routine }
-    requires room { HaveRoom image.now rows.old }
-    ensures room { HaveRoom image.now rows.new }
+    requires room { HaveRoom image.now by_place.old }
+    ensures room { HaveRoom image.now by_place.new }
     ensures found { OnOk result (AreFound image.now heights.now.items bounds.new (routine + 1)) }
     ensures refused { IfErr result (IsImageRefused image.now) }
 {
@@ -92,7 +92,7 @@ fn find_bounds(
         routine,
         bounds.costs.as_slice(),
         bounds.commands.as_slice(),
-        rows,
+        by_place,
     );
     if amounts.cost > ROUTINE_COST {
         return Err(VerifyFault::CostOver(at(routine, 0)));
@@ -106,7 +106,7 @@ fn find_bounds(
     Ok(())
 }
 
-/// The height of a routine, among those of all.
+/// The height of a routine.
 fn height_found(image: &ImageView<'_>, routine: usize, heights: &Vec<u32>) -> u32
     requires heights { LeastHeights image.now heights.now.items (length image.now.routines) }
     requires routine { IsRoutine image.now routine }

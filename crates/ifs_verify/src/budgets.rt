@@ -1,4 +1,4 @@
-//! The stated budgets, against the bounds of the handlers.
+//! The stated budgets, compared with the bounds of the handlers.
 
 ghost use Rattle.std.specs.Prelude.{ℕ, ◌≡◌, ◌+◌, ◌<◌, ◌≤◌, ◌↔◌, Some, IsTrue};
 ghost use Rattle.std.specs.Prelude.{OnOk, IfErr, length, slice_get, slice_index};
@@ -21,12 +21,12 @@ use crate::tables::{entry, greater};
 use ifs_base::RoutineId;
 use ifs_image::{Handlers, ImageView};
 
-/// What a handler of a part is for.
+/// The role of a handler of a part.
 #[derive(Clone, Copy)]
 pub enum Role {
-    /// What runs when the part is entered.
+    /// Runs when the part is entered.
     Init,
-    /// What runs at each evaluation.
+    /// Runs at each evaluation.
     Body,
 }
 
@@ -60,7 +60,7 @@ pub fn check_budgets(
     Ok(())
 }
 
-/// V10: whether the handlers' heights are within the stated stack.
+/// V10: whether the heights of the handlers are within the stated stack.
 fn stack_fits(image: &ImageView<'_>, heights: &Vec<u32>) -> bool
     requires plain { PlainRulesHold image.now }
     requires heights { LeastHeights image.now heights.now.items (length image.now.routines) }
@@ -71,7 +71,7 @@ fn stack_fits(image: &ImageView<'_>, heights: &Vec<u32>) -> bool
     fit_handlers(image, heights, image.budgets().stack)
 }
 
-/// V11: whether the handlers' frames are within the stated frames.
+/// V11: whether the frames of the handlers are within the stated frames.
 fn frames_fit(image: &ImageView<'_>, depths: &Vec<u32>) -> bool
     requires plain { PlainRulesHold image.now }
     requires depths { LeastDepths image.now depths.now.items (length image.now.routines) }
@@ -91,7 +91,7 @@ fn amounts_fit(image: &ImageView<'_>, weight: Weight, amounts: &Vec<u32>) -> boo
     fit_events(image, amounts, stated(image, weight))
 }
 
-/// What is stated of one event.
+/// The stated amount of one event.
 fn stated(image: &ImageView<'_>, weight: Weight) -> u32
     ensures { result ≡ stated_of weight image.now }
 {
@@ -101,7 +101,7 @@ fn stated(image: &ImageView<'_>, weight: Weight) -> u32
     }
 }
 
-/// Whether what each handler reaches is within what is stated.
+/// Whether the bound of each handler is within the stated one.
 fn fit_handlers(image: &ImageView<'_>, reach: &Vec<u32>, stated: u16) -> bool
     requires indexes { IndexesFit image.now }
     requires long { length reach.now.items ≡ length image.now.routines }
@@ -110,7 +110,7 @@ fn fit_handlers(image: &ImageView<'_>, reach: &Vec<u32>, stated: u16) -> bool
     fit_part(reach, image.always(), stated) && fit_states(image, reach, stated)
 }
 
-/// The same of each state.
+/// Whether the bounds of the handlers of each state are within the stated one.
 fn fit_states(image: &ImageView<'_>, reach: &Vec<u32>, stated: u16) -> bool
     requires indexes { IndexesFit image.now }
     requires long { length reach.now.items ≡ length image.now.routines }
@@ -124,7 +124,7 @@ fn fit_states(image: &ImageView<'_>, reach: &Vec<u32>, stated: u16) -> bool
     true
 }
 
-/// The same of one part.
+/// Whether the bounds of both handlers of a part are within the stated one.
 fn fit_part(reach: &Vec<u32>, handlers: Handlers, stated: u16) -> bool
     requires init { handlers.init.0 < length reach.now.items }
     requires body { handlers.body.0 < length reach.now.items }
@@ -134,7 +134,7 @@ fn fit_part(reach: &Vec<u32>, handlers: Handlers, stated: u16) -> bool
     bound_of(reach, handlers.init) <= stated && bound_of(reach, handlers.body) <= stated
 }
 
-/// Whether the amounts of each event are within what is stated.
+/// Whether the amounts of each event are within the stated one.
 fn fit_events(image: &ImageView<'_>, amounts: &Vec<u32>, stated: u32) -> bool
     requires indexes { IndexesFit image.now }
     requires long { length amounts.now.items ≡ length image.now.routines }
@@ -148,7 +148,7 @@ fn fit_events(image: &ImageView<'_>, amounts: &Vec<u32>, stated: u32) -> bool
     opening <= stated && always + bodies + inits <= stated
 }
 
-/// The amount of the opening: the always init, and the initial state's init.
+/// The amount of the opening: of the always init and the initial state's init.
 fn opening(image: &ImageView<'_>, amounts: &Vec<u32>) -> u32
     requires indexes { IndexesFit image.now }
     requires long { length amounts.now.items ≡ length image.now.routines }
@@ -160,7 +160,7 @@ fn opening(image: &ImageView<'_>, amounts: &Vec<u32>) -> u32
     bound_of(amounts, image.always().init) + bound_of(amounts, first.init)
 }
 
-/// The greatest amount of the handlers of one role, over all states.
+/// The greatest amount of the handlers of a role, over all states.
 fn greatest(image: &ImageView<'_>, amounts: &Vec<u32>, role: Role) -> u32
     requires indexes { IndexesFit image.now }
     requires long { length amounts.now.items ≡ length image.now.routines }
@@ -178,7 +178,7 @@ fn greatest(image: &ImageView<'_>, amounts: &Vec<u32>, role: Role) -> u32
     most
 }
 
-/// The handler of a part that has this role.
+/// The handler of a part with a role.
 fn handler(handlers: Handlers, role: Role) -> RoutineId
     ensures { result ≡ handler_in role handlers }
 {

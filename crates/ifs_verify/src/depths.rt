@@ -1,4 +1,4 @@
-//! How many frames stand at one time in a run of a routine.
+//! Frames at one time in a run of a routine.
 
 ghost use Rattle.std.specs.Prelude.{ℕ, ◌≡◌, ◌+◌, ◌<◌, ◌≤◌, length, slice_index};
 ghost use Rattle.ifs_base.specs.declared.ids.RoutineId.{RoutineId};
@@ -13,7 +13,7 @@ use crate::tables::greater;
 use ifs_base::Op;
 use ifs_image::ImageView;
 
-/// One frame, or one more than the greatest number of a callee's.
+/// One frame, or one more than the greatest number of a callee.
 pub fn depth_of(image: &ImageView<'_>, routine: usize, depths: &[u32]) -> u32
     requires plain { PlainRulesHold image.now }
     requires routine { IsRoutine image.now routine }
@@ -30,7 +30,7 @@ pub fn depth_of(image: &ImageView<'_>, routine: usize, depths: &[u32]) -> u32
     depth
 }
 
-/// The number of frames, or the greater one that an instruction needs.
+/// The greater of a number of frames and the number that an instruction needs.
 fn deepened(depth: u32, op: Op, depths: &[u32]) -> u32
     requires callee { (callee : RoutineId) → op ≡ Call callee → callee.0 < length depths.now }
     requires low { (k : ℕ) → slice_index depths.now k ≤ 32 }

@@ -1,4 +1,4 @@
-//! What an instruction leaves on the stack.
+//! The effects of instructions on the stack.
 
 ghost use Rattle.std.specs.Prelude.{◌≡◌, ◌≤◌, ◌↔◌, IsTrue, [], length, Some, None, MatchOption};
 ghost use Rattle.ifs_base.specs.declared.op.Op.TheVariants.{Ret};
@@ -9,8 +9,8 @@ use crate::stack::Stack;
 use ifs_base::{Kind, Op};
 use ifs_image::ImageView;
 
-/// Does to a list of kinds what an instruction does. `None` where an operand is missing or of the wrong
-/// kind; what stands then in the list is not said.
+/// Applies an instruction to a list of kinds; `None` if an operand is missing or of the wrong kind. The list is
+/// unspecified then.
 pub fn apply(image: &ImageView<'_>, op: Op, stack: &mut Stack) -> Option<()>
     requires operand { HasOperand image.now op }
     requires within { length stack.old ≤ 32 }
@@ -58,8 +58,8 @@ pub fn apply(image: &ImageView<'_>, op: Op, stack: &mut Stack) -> Option<()>
     }
 }
 
-/// Does to a list of kinds what a call of a routine does: its results stand where its parameters stood. `None`
-/// where a parameter is missing or of another kind.
+/// Applies a call of a routine to a list of kinds: its results replace its parameters. `None` if a parameter is
+/// missing or of another kind.
 fn call(image: &ImageView<'_>, routine: usize, stack: &mut Stack) -> Option<()>
     requires routine { IsRoutine image.now routine }
     requires within { length stack.old ≤ 32 }
@@ -73,7 +73,7 @@ fn call(image: &ImageView<'_>, routine: usize, stack: &mut Stack) -> Option<()>
     Some(())
 }
 
-/// Whether a list is a routine's results, where the instruction is `ret`.
+/// Whether a list is a routine's results, if the instruction is `ret`.
 pub fn keeps_results(image: &ImageView<'_>, routine: usize, op: Op, stack: &Stack) -> bool
     requires { IsRoutine image.now routine }
     ensures { IsTrue result ↔ (op ≡ Ret → stack.now ≡ results_of image.now routine) }

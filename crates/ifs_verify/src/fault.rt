@@ -14,7 +14,7 @@ use thiserror::Error;
 /// A place in an image.
 #[derive(Clone, Copy, Debug, PartialEq, Eq)]
 pub enum At {
-    /// What the image says of itself as a whole: budgets, initial state and always part.
+    /// The head: budgets, initial state and always part.
     Head,
     /// A state.
     State(StateId),
@@ -23,7 +23,7 @@ pub enum At {
 }
 
 impl At {
-    /// The place as it is printed behind the number of a check.
+    /// The place as it is printed after the number of a check.
     fn place(self) -> FaultPlace
         ensures { place_words result ≡ codes " " ++ at_words self }
     {
@@ -35,7 +35,7 @@ impl At {
     }
 }
 
-/// The first check that an image does not pass, and where.
+/// A check that fails, and its place.
 #[derive(Clone, Copy, PartialEq, Eq, Error)]
 pub enum VerifyFault {
     /// V1: the bytes spell no image.
@@ -44,34 +44,34 @@ pub enum VerifyFault {
     NoEntry(At),
     /// V3: a jump whose target is not later, or outside its routine.
     JumpTarget(At),
-    /// V4: a routine that can be left at its end.
+    /// V4: a routine without instructions, or whose last one is not `ret`.
     LeftAtEnd(At),
-    /// V5: an instruction that nothing reaches.
+    /// V5: a place that no earlier instruction leads to.
     Unreached(At),
-    /// V6: an operand on the stack, or a parameter of what is called, that is missing or of the wrong kind.
+    /// V6: an operand on the stack, or a parameter of a callee, that is missing or of the wrong kind.
     WrongOperand(At),
-    /// V7: two ways to one place that disagree on the stack.
+    /// V7: two ways to one place with different stacks.
     WaysDisagree(At),
-    /// V8: a call of a routine that is not lower in number.
+    /// V8: a call of a routine whose number is not lower.
     CallNotLower(At),
-    /// V9: the stack at `ret` is not the routine's results.
+    /// V9: a stack at `ret` that is not the routine's results.
     WrongResults(At),
-    /// V10: the stack passes its limit or the stated stack.
+    /// V10: a stack above its limit or the stated stack.
     StackOver(At),
-    /// V11: the frames pass their limit or the stated frames.
+    /// V11: frames above their limit or the stated frames.
     FramesOver(At),
-    /// V12: the cost passes its limit or the stated cost.
+    /// V12: a cost above its limit or the stated cost.
     CostOver(At),
-    /// V13: the commands pass their limit or the stated commands.
+    /// V13: commands above their limit or the stated commands.
     CommandsOver(At),
-    /// V14: a handler that takes or leaves a value.
+    /// V14: a handler with parameters or results.
     HandlerLeaves(At),
-    /// V0: no memory was found, in reading or in verifying.
+    /// V0: an allocation fails, in reading or in verifying.
     OutOfMemory,
 }
 
 impl VerifyFault {
-    /// What is printed of the fault.
+    /// The words that the fault prints.
     pub fn text(self) -> FaultText
         ensures { fault_words result ≡ verify_fault_words self }
     {
@@ -112,7 +112,7 @@ impl Display for VerifyFault {
     }
 }
 
-/// As the fault is printed.
+/// Prints the same as `Display`.
 impl Debug for VerifyFault {
     fn fmt<W: Write>(&self, f: &mut Formatter<W>) -> fmt::Result {
         Display::fmt(self, f)
@@ -141,7 +141,7 @@ impl From<ImageFault> for VerifyFault {
 
     ghost from_gives = { λ fault e. e ≡ refusal_of fault };
 
-    /// Want of memory in reading is want of memory here; any other fault says that the bytes spell no image.
+    /// A failed allocation stays one; any other fault in reading says that the bytes spell no image.
     fn from(fault: ImageFault) -> VerifyFault {
         match fault {
             ImageFault::Memory => VerifyFault::OutOfMemory,

@@ -1,4 +1,4 @@
-//! How high the stack grows in a routine.
+//! The height of the stack in a routine.
 
 ghost use Rattle.std.specs.Prelude.{ℕ, ◌≡◌, ◌≤◌, ◌<◌, ◌+◌, ◌-◌, length, slice_index, IfOk, OnOk, IfErr};
 ghost use Rattle.ifs_base.specs.declared.ids.RoutineId.{RoutineId};
@@ -13,15 +13,15 @@ use crate::fault::VerifyFault;
 use crate::places::{code, op_at};
 use crate::stack::Stack;
 use crate::tables::greater;
-use crate::typing::pass;
+use crate::typing::{Here, pass};
 use ifs_base::Op;
 use ifs_image::ImageView;
 
-/// The greatest length of a list at any place or after any instruction, and at a call the length
-/// before it, less the callee's parameters, and the callee's height, where the routine has a typing: V6, V7,
-/// V9, and V10 at an instruction.
+/// The height of a routine, if it has a typing: V6, V7, V9, and V10 at an instruction. The height is the greatest
+/// length of a list before or after an instruction. At a call it also counts the callee's height above what the
+/// parameters leave.
 ///
-/// `brought` is room for lists, without any before and, where an `Ok` is answered, after.
+/// `brought` is room for lists. It has no list before, and none after an `Ok`.
 pub fn height_of(
     image: &ImageView<'_>,
     routine: usize,
@@ -39,19 +39,24 @@ pub fn height_of(
     ensures least { IfOk result (λ height. (bound : ℕ) → AllHold image.now routine (slice_index heights.now) (length (code_of image.now routine)) bound → height ≤ bound) }
     ensures refused { IfErr result (IsImageRefused image.now) }
 {
-    let mut here = Stack::new();
-    put_params(image, routine, &mut here);
+    let mut kinds = Stack::new();
+    put_params(image, routine, &mut kinds);
     let mut height = 0;
     let code = code(image, routine);
     for place in 0..code.len() {
-        let op = op_at(&code, place);
-        let needed = pass(image, routine, place, op, heights, &mut here, brought)?;
+        let here = Here {
+            image,
+            routine,
+            place,
+            op: op_at(&code, place),
+        };
+        let needed = pass(&here, heights, &mut kinds, brought)?;
         height = greater(height, needed);
     }
     Ok(height)
 }
 
-/// The height that an instruction needs, with so many kinds before and after it.
+/// The height that an instruction needs, from the number of kinds before and after it.
 pub fn height_at(image: &ImageView<'_>, op: Op, before: usize, after: usize, heights: &[u32]) -> u32
     requires callee { (callee : RoutineId) → op ≡ Call callee → callee.0 < length heights.now }
     requires routines { length heights.now ≤ length image.now.routines }
@@ -69,7 +74,7 @@ pub fn height_at(image: &ImageView<'_>, op: Op, before: usize, after: usize, hei
     greater(greater(before as u32, after as u32), called)
 }
 
-/// How many kinds stand below a routine's parameters, of so many.
+/// How many of `kinds` kinds are below a routine's parameters.
 fn below(image: &ImageView<'_>, routine: usize, kinds: usize) -> u32
     requires routine { IsRoutine image.now routine }
     requires kinds { kinds ≤ 32 }

@@ -1,16 +1,16 @@
-//! Laws of the definitions.
+//! Laws of acceptance: each is the contract of an empty function.
 
 ghost use Rattle.ifs_verify.specs.Laws.{HasOneTyping, RefusedAreNotAccepted, UpgradeKeepsAcceptance};
 
 use ifs_image::laws::one_image;
 
-/// A routine has at most one typing: what stands on the stack at a place does not depend on the way to it.
+/// A routine has at most one typing: the kinds at a place do not depend on the way to it.
 pub fn one_typing()
     ensures { HasOneTyping }
 {}
 
-/// What a refusal other than for want of memory says of bytes keeps them from being accepted: reading
-/// refuses them with that fault, or a check fails in the image that they spell.
+/// Bytes of a refusal are not accepted, unless the fault is a failed allocation: reading fails with the fault, or
+/// a check fails in the image that the bytes spell.
 pub fn refused_are_not_accepted()
     ensures { RefusedAreNotAccepted }
 {

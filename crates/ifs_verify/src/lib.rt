@@ -1,10 +1,9 @@
-//! The verifier: whether an image may run on a machine that makes no trap test.
+//! The verifier decides whether an image may run on a machine without trap checks.
 //!
-//! [`verify`] reads an image from its bytes and makes each check over the whole image before the next
-//! begins. The plain checks look at instructions and handlers by themselves; a forward pass finds the
-//! kinds on the stack at each place of a routine, and a backward pass what may be executed from each
-//! place on. A [`Verified`] is accepted, and a refusal but for memory names a check that fails and the place
-//! where it does.
+//! [`verify`] reads an image from its bytes and makes each check over the whole image before the next one.
+//! The plain checks look at each instruction and each handler by itself. A forward pass finds the kinds on the
+//! stack at each place of a routine. A backward pass finds the most that may be executed from each place on.
+//! A [`Verified`] is an accepted image. A fault names a check that fails and its place, unless an allocation fails.
 #![tactic(auto)]
 
 mod amounts;

@@ -1,4 +1,4 @@
-//! What stands at the places of an image, where control goes on, and how a fault names a place.
+//! Places of an image: their instructions, their successors, and their names in faults.
 
 ghost use Rattle.std.specs.Prelude.{◌≡◌, ◌<◌, ◌≤◌, ◌+◌, ◌^◌, length, slice_get};
 ghost use Rattle.ifs_image.specs.Code.{code_of, target_of};
@@ -19,7 +19,7 @@ pub fn code<'a>(image: &ImageView<'a>, routine: usize) -> LentCode<'a>
     image.code(routine)
 }
 
-/// Room for the places of each routine, and one after them.
+/// The number of places of the longest routine, and one more.
 pub fn room(image: &ImageView<'_>) -> usize
     requires { IsSized image.now }
     ensures { RoutinesAreShorter image.now result }
@@ -47,7 +47,7 @@ pub fn handlers_of(image: &ImageView<'_>, state: usize) -> Handlers
     image.state_handlers(state)
 }
 
-/// A place of a routine, as a fault names it.
+/// The name of a place of a routine in a fault.
 pub fn at(routine: usize, place: usize) -> At
     requires routine { routine < 2 ^ 16 }
     requires place { place < 2 ^ 16 }
@@ -56,7 +56,7 @@ pub fn at(routine: usize, place: usize) -> At
     At::Code(RoutineId(routine as u16), place as u16)
 }
 
-/// A state, as a fault names it.
+/// The name of a state in a fault.
 pub fn at_state(state: usize) -> At
     requires { state < 2 ^ 16 }
     ensures { result ≡ State (record { 0 = state }) }
@@ -76,7 +76,7 @@ pub fn target(op: Op) -> Option<usize>
     }
 }
 
-/// The next place, where control may go on there.
+/// The next place, if control may go on there.
 pub fn next(op: Op, place: usize) -> Option<usize>
     requires { place < 2 ^ 16 }
     ensures { result ≡ next_of op place }

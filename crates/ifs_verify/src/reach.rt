@@ -1,4 +1,4 @@
-//! Whether each place of a routine is reached.
+//! Reached places.
 
 ghost use Rattle.std.specs.Prelude.{ℕ, ◌≡◌, ◌<◌, ◌+◌, ◌^◌, ◌⊎◌, ◌↔◌, IsTrue, length, OnOk, IfErr, IfOk};
 ghost use Rattle.ifs_image.specs.Code.{code_of, IsSuccessor};
@@ -11,7 +11,7 @@ use ifs_base::Op;
 use ifs_image::ImageView;
 use std::alloc::{AllocError, Global};
 
-/// V5: each place but the first of a routine follows an earlier one.
+/// V5: each place of a routine, except the first, follows an earlier one.
 pub fn check_reached(alloc: Global, image: &ImageView<'_>) -> Result<(), VerifyFault>
     requires { IsSized image.now }
     ensures kept { OnOk result (PlacesAreReached image.now) }
@@ -23,7 +23,7 @@ pub fn check_reached(alloc: Global, image: &ImageView<'_>) -> Result<(), VerifyF
     Ok(())
 }
 
-/// The same of one routine.
+/// V5 of one routine.
 fn check_reached_in(alloc: Global, image: &ImageView<'_>, routine: usize) -> Result<(), VerifyFault>
     requires sized { IsSized image.now }
     requires routine { IsRoutine image.now routine }
@@ -42,7 +42,7 @@ fn check_reached_in(alloc: Global, image: &ImageView<'_>, routine: usize) -> Res
     Ok(())
 }
 
-/// So many places, none of them marked.
+/// `count` places, none of them marked.
 fn no_marks(alloc: Global, count: usize) -> Result<Vec<bool>, AllocError>
     ensures long { IfOk result (λ marks. length marks.items ≡ count) }
     ensures none { IfOk result (λ marks. (k : ℕ) → ¬ IsMarked marks.items k) }
@@ -60,7 +60,7 @@ fn is_reached(marks: &Vec<bool>, place: usize) -> bool
     place == 0 || marks[place]
 }
 
-/// Marks the places where control may go on after an instruction, those that are in the row.
+/// Marks the successors of an instruction that are below the number of places.
 fn mark_successors(marks: &mut Vec<bool>, op: Op, place: usize)
     requires { place < 2 ^ 16 }
     ensures long { length marks.new.items ≡ length marks.old.items }
@@ -77,7 +77,7 @@ fn mark_successors(marks: &mut Vec<bool>, op: Op, place: usize)
     }
 }
 
-/// Marks a place, where it is in the row.
+/// Marks a place that is below the number of places.
 fn mark(marks: &mut Vec<bool>, place: usize)
     ensures long { length marks.new.items ≡ length marks.old.items }
     ensures marked { (k : ℕ) → IsMarked marks.new.items k ↔ (IsMarked marks.old.items k ⊎ ((k ≡ place) × (k < length marks.old.items))) }

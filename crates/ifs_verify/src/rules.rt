@@ -1,4 +1,4 @@
-//! The plain checks: what holds of each instruction and each handler by itself.
+//! The plain checks, of each instruction and each handler by itself.
 
 ghost use Rattle.std.specs.Prelude.{ℕ, ◌≡◌, ◌<◌, ◌≤◌, ◌↔◌, length, IsTrue, OnOk, IfErr, Some, slice_get};
 ghost use Rattle.ifs_base.specs.declared.ids.RoutineId.{RoutineId};
@@ -19,18 +19,18 @@ use crate::places::{at, at_state, code, handlers_of, op_at, target};
 use ifs_base::{Op, RoutineId};
 use ifs_image::{Handlers, ImageView};
 
-/// A rule that each instruction keeps by itself.
+/// A rule of each instruction by itself.
 #[derive(Clone, Copy)]
 pub enum OpRule {
-    /// An operand is an index of its table.
+    /// The operand is an index of its table.
     Operand,
-    /// A jump leads to a later place of its routine.
+    /// The target of a jump is a later place of its routine.
     Target,
-    /// A call is of a routine with a lower number.
+    /// The callee of a call has a lower number.
     Callee,
 }
 
-/// V2: each index is one of its table, and each mask has tests of the table alone.
+/// V2: each index is in its table, and each mask has only tests of the table.
 pub fn check_indexes(image: &ImageView<'_>, plain: bool) -> Result<(), VerifyFault>
     requires sized { IsSized image.now }
     requires plain { OnTrue plain (KeepAll image.now) }
@@ -54,7 +54,7 @@ pub fn check_jumps(image: &ImageView<'_>, plain: bool) -> Result<(), VerifyFault
     Ok(())
 }
 
-/// V8: each call is of a routine with a lower number.
+/// V8: the callee of each call has a lower number.
 pub fn check_calls(image: &ImageView<'_>, plain: bool) -> Result<(), VerifyFault>
     requires sized { IsSized image.now }
     requires plain { OnTrue plain (KeepAll image.now) }
@@ -65,7 +65,7 @@ pub fn check_calls(image: &ImageView<'_>, plain: bool) -> Result<(), VerifyFault
     Ok(())
 }
 
-/// The initial state and the always part's indexes and mask.
+/// V2 of the initial state and the always part.
 fn check_head(image: &ImageView<'_>) -> Result<(), VerifyFault>
     requires { IsSized image.now }
     ensures initial { OnOk result (image.now.initial.0 < length image.now.states) }
@@ -81,7 +81,7 @@ fn check_head(image: &ImageView<'_>) -> Result<(), VerifyFault>
     Ok(())
 }
 
-/// The states' indexes and masks.
+/// V2 of the states.
 fn check_states(image: &ImageView<'_>) -> Result<(), VerifyFault>
     requires { IsSized image.now }
     ensures kept { OnOk result ((k : ℕ) (state : StateSpec) → slice_get image.now.states k ≡ Some state → AreRoutines image.now state.handlers × IsMask image.now state.handlers.mask) }
@@ -95,7 +95,7 @@ fn check_states(image: &ImageView<'_>) -> Result<(), VerifyFault>
     Ok(())
 }
 
-/// Whether init and body are routines, and the mask has tests of the table alone.
+/// Whether init and body are routines, and the mask has only tests of the table.
 fn are_indexes(image: &ImageView<'_>, handlers: Handlers) -> bool
     requires { IsSized image.now }
     ensures { IsTrue result ↔ (AreRoutines image.now handlers × IsMask image.now handlers.mask) }
@@ -115,7 +115,7 @@ fn is_mask(image: &ImageView<'_>, mask: u64) -> bool
     64 <= tests || mask < 1 << tests
 }
 
-/// V14: no handler takes or leaves values.
+/// V14: no handler has parameters or results.
 pub fn check_handlers(image: &ImageView<'_>) -> Result<(), VerifyFault>
     requires sized { IsSized image.now }
     requires indexes { IndexesFit image.now }
@@ -133,7 +133,7 @@ pub fn check_handlers(image: &ImageView<'_>) -> Result<(), VerifyFault>
     Ok(())
 }
 
-/// Whether neither handler takes or leaves values.
+/// Whether neither handler has parameters or results.
 fn both_stand_alone(image: &ImageView<'_>, handlers: Handlers) -> bool
     requires { AreRoutines image.now handlers }
     ensures { IsTrue result ↔ BothStandAlone image.now handlers }
@@ -142,7 +142,7 @@ fn both_stand_alone(image: &ImageView<'_>, handlers: Handlers) -> bool
         && stands_alone(image, usize::from(handlers.body.0))
 }
 
-/// Whether a routine takes nothing from a caller, and leaves nothing.
+/// Whether a routine has no parameters and no results.
 fn stands_alone(image: &ImageView<'_>, routine: usize) -> bool
     requires { IsRoutine image.now routine }
     ensures { IsTrue result ↔ StandsAlone image.now routine }
@@ -150,7 +150,7 @@ fn stands_alone(image: &ImageView<'_>, routine: usize) -> bool
     image.params(routine).is_empty() && image.results(routine).is_empty()
 }
 
-/// V4: the last instruction of each routine, which has one, is `ret`.
+/// V4: each routine has instructions, and the last one is `ret`.
 pub fn check_ends(image: &ImageView<'_>) -> Result<(), VerifyFault>
     requires { IsSized image.now }
     ensures kept { OnOk result (RoutinesEnd image.now) }
@@ -166,8 +166,8 @@ pub fn check_ends(image: &ImageView<'_>) -> Result<(), VerifyFault>
     Ok(())
 }
 
-/// Whether each instruction keeps every rule. So an accepted image is passed over once, and not by each rule;
-/// which rule another one breaks first, and where, the checks find.
+/// Whether each instruction keeps every rule: one pass over an accepted image in place of one for each rule. The
+/// checks find which rule is broken first, and where.
 pub fn all_keep(image: &ImageView<'_>) -> bool
     requires { IsSized image.now }
     ensures { OnTrue result (KeepAll image.now) }
@@ -180,7 +180,7 @@ pub fn all_keep(image: &ImageView<'_>) -> bool
     true
 }
 
-/// The same of one routine.
+/// Whether each instruction of a routine keeps every rule.
 fn all_keep_in(image: &ImageView<'_>, routine: usize) -> bool
     requires sized { IsSized image.now }
     requires routine { IsRoutine image.now routine }
@@ -196,7 +196,7 @@ fn all_keep_in(image: &ImageView<'_>, routine: usize) -> bool
     true
 }
 
-/// Whether an instruction keeps every rule, in a routine of so many. By one look at what it is.
+/// Whether an instruction keeps every rule, in a routine of `count` instructions.
 fn keeps_each(image: &ImageView<'_>, routine: usize, place: usize, op: Op, count: usize) -> bool
     requires routine { IsRoutine image.now routine }
     requires long { count ≡ length (code_of image.now routine) }
@@ -215,7 +215,7 @@ fn keeps_each(image: &ImageView<'_>, routine: usize, place: usize, op: Op, count
     }
 }
 
-/// Each instruction of each routine keeps a rule. It is looked for where not all are known to keep it.
+/// Checks that each instruction keeps a rule. If `plain`, it is known that all do.
 fn check_ops(image: &ImageView<'_>, rule: OpRule, plain: bool) -> Result<(), VerifyFault>
     requires sized { IsSized image.now }
     requires plain { OnTrue plain (KeepAll image.now) }
@@ -231,7 +231,7 @@ fn check_ops(image: &ImageView<'_>, rule: OpRule, plain: bool) -> Result<(), Ver
     Ok(())
 }
 
-/// Each instruction of a routine keeps a rule.
+/// Checks that each instruction of a routine keeps a rule.
 fn check_ops_of(image: &ImageView<'_>, routine: usize, rule: OpRule) -> Result<(), VerifyFault>
     requires sized { IsSized image.now }
     requires routine { IsRoutine image.now routine }
@@ -262,7 +262,7 @@ fn keeps(image: &ImageView<'_>, routine: usize, place: usize, op: Op, rule: OpRu
     }
 }
 
-/// The fault that names a rule.
+/// The fault of a broken rule.
 fn broken(rule: OpRule, at: At) -> VerifyFault
     ensures { result ≡ fault_of rule at }
 {
@@ -287,7 +287,7 @@ fn has_operand(image: &ImageView<'_>, op: Op) -> bool
     }
 }
 
-/// Whether a jump leads to a later place, below the number of instructions.
+/// Whether the target of a jump is a later place, below the number of instructions.
 fn leads_on(op: Op, place: usize, length: usize) -> bool
     ensures { IsTrue result ↔ ((target : ℕ) → target_of op ≡ Some target → (place < target) × (target < length)) }
 {
@@ -297,7 +297,7 @@ fn leads_on(op: Op, place: usize, length: usize) -> bool
     }
 }
 
-/// Whether a call is of a routine with a lower number.
+/// Whether the callee of a call has a lower number.
 fn is_lower(op: Op, routine: usize) -> bool
     ensures { IsTrue result ↔ ((callee : RoutineId) → op ≡ Call callee → callee.0 < routine) }
 {

@@ -3,8 +3,8 @@
 use ifs_base::Kind;
 use std::marker::Model;
 
-/// A list of kinds, topmost first, in a fixed row. The row has room for the four results of a routine above
-/// the stack's limit of 32, so that a list that passes the limit can be held, and told.
+/// A list of kinds, topmost first, in an array. The array has room for four results above the stack's limit of
+/// 32, so that a list may pass the limit before it is reported.
 #[derive(Drop)]
 pub struct Stack {
     kinds: [Kind; 36],
@@ -38,7 +38,7 @@ impl Stack {
         }
     }
 
-    /// How many kinds there are.
+    /// The number of kinds.
     pub fn len(&self) -> usize
         ensures value { result ≡ length self.now }
         ensures room { length self.now ≤ 36 }
@@ -46,7 +46,7 @@ impl Stack {
         self.len
     }
 
-    /// The same list once more.
+    /// A copy of the list.
     pub fn copied(&self) -> Self
         ensures { result ≡ self.now }
     {
@@ -76,7 +76,7 @@ impl Stack {
         Some(self.kinds[self.len])
     }
 
-    /// Takes a kind off that is wanted on top; `None` where nothing or another kind is.
+    /// Takes a kind off the top; `None` if there is none or another kind.
     pub fn take(&mut self, kind: Kind) -> Option<()>
         ensures { MatchOption result (LacksTop kind self.old) (λ _. self.old ≡ kind ∷ self.new) }
     {
@@ -87,8 +87,8 @@ impl Stack {
         Some(())
     }
 
-    /// Takes kinds off that are wanted on top, the last of them topmost; `None` where one is missing or of another
-    /// kind. What stands then in the list is not said.
+    /// Takes kinds off the top, the last of them topmost; `None` if one is missing or of another kind. The list is
+    /// unspecified then.
     #[inline(never)]
     pub fn take_all(&mut self, kinds: &[Kind]) -> Option<()>
         ensures left { MatchOption result (without (reverse kinds.now) self.old ≡ None) (λ _. without (reverse kinds.now) self.old ≡ Some self.new) }
@@ -112,14 +112,14 @@ impl Stack {
         }
     }
 
-    /// Whether it is a list of these kinds, the last of them topmost.
+    /// Whether the list has exactly these kinds, the last of them topmost.
     pub fn is_of(&self, kinds: &[Kind]) -> bool
         ensures { IsTrue result ↔ (self.now ≡ reverse kinds.now) }
     {
         self.kinds[..self.len] == kinds[..]
     }
 
-    /// Whether both are the same list.
+    /// Whether both lists are the same.
     pub fn is_same(&self, other: &Stack) -> bool
         ensures { IsTrue result ↔ (self.now ≡ other.now) }
     {

@@ -1,4 +1,4 @@
-//! The stacks of all routines: their kinds and heights.
+//! The stacks of all routines.
 
 ghost use Rattle.std.specs.Prelude.{length, IfOk, IfErr};
 ghost use Rattle.ifs_verify.specs.inner.Passes.{PlainRulesHold, IsImageRefused, LeastHeights};
@@ -9,7 +9,7 @@ use crate::typing::no_lists;
 use ifs_image::ImageView;
 use std::alloc::Global;
 
-/// V6, V7, V9, and V10 at an instruction: the height of each routine, all of which have a typing.
+/// V6, V7, V9, and V10 at an instruction: each routine has a typing. Returns the heights of the routines.
 pub fn check_stacks(alloc: Global, image: &ImageView<'_>) -> Result<Vec<u32>, VerifyFault>
     requires { PlainRulesHold image.now }
     ensures found { IfOk result (λ heights. LeastHeights image.now heights.items (length image.now.routines)) }

@@ -1,8 +1,8 @@
-//! Tables of bounds, by routine.
+//! Tables of bounds.
 
 ghost use Rattle.std.specs.Prelude.{ℕ, ◌≡◌, ◌<◌, ◌≤◌, length, slice_index};
 
-/// The greater of two numbers, which is the least bound of both.
+/// The greater of two numbers.
 pub fn greater(a: u32, b: u32) -> u32
     ensures left { a ≤ result }
     ensures right { b ≤ result }
@@ -11,7 +11,7 @@ pub fn greater(a: u32, b: u32) -> u32
     if a < b { b } else { a }
 }
 
-/// The entry of a routine.
+/// An entry of a table.
 pub fn entry(table: &Vec<u32>, routine: usize) -> u32
     requires { routine < length table.now.items }
     ensures { result ≡ slice_index table.now.items routine }

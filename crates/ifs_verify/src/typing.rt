@@ -1,8 +1,7 @@
 //! The forward pass: the kinds on the stack at each place of a routine.
 //!
-//! One list goes along with the pass, and each instruction changes it in place. Beside it stand the
-//! lists that jumps brought to later places; where the pass comes to such a place by falling through,
-//! both have to be the same.
+//! The pass carries one list, and each instruction changes it in place. Jumps bring lists to later places.
+//! If control also falls through to such a place, both lists must be the same.
 
 ghost use Rattle.std.specs.Prelude.{ℕ, ◌≡◌, ◌≢◌, ◌+◌, ◌^◌, ◌<◌, ◌≤◌, List, Option};
 ghost use Rattle.std.specs.Prelude.{Some, None, length, slice_index, IfOk, OnOk, IfErr};
@@ -14,7 +13,7 @@ ghost use Rattle.ifs_verify.specs.Rules.{IsRoutine, HasOperand};
 ghost use Rattle.ifs_verify.specs.Ways.{Leads};
 ghost use Rattle.ifs_verify.specs.Refused.{ReturnsOthers, LacksOperand, LeavesList, LeavesMany, Disagrees};
 ghost use Rattle.ifs_verify.specs.inner.Passes.{IsSized, PlainRulesHold, IsImageRefused, Yields, Stands};
-ghost use Rattle.ifs_verify.specs.inner.Passes.{IsLeft, IsCleared, AreClear, NeedsHeight, AreLow, row_at};
+ghost use Rattle.ifs_verify.specs.inner.Passes.{IsLeft, IsCleared, AreClear, NeedsHeight, AreLow, kinds_at};
 
 use crate::effects::{apply, keeps_results};
 use crate::fault::VerifyFault;
@@ -25,7 +24,16 @@ use ifs_base::Op;
 use ifs_image::{ImageView, limits};
 use std::alloc::{AllocError, Global};
 
-/// Room for the lists that are brought to the places of each routine, and to the one after its last.
+/// An instruction at a place of a routine.
+#[derive(Drop)]
+pub struct Here<'i, 'a> {
+    pub image: &'i ImageView<'a>,
+    pub routine: usize,
+    pub place: usize,
+    pub op: Op,
+}
+
+/// Room for a list at each place of a routine, and at the one after its last; no place has a list.
 pub fn no_lists(alloc: Global, image: &ImageView<'_>) -> Result<Vec<Option<Stack>>, AllocError>
     requires { IsSized image.now }
     ensures { IfOk result (λ brought. AreClear image.now brought.items) }
@@ -38,205 +46,158 @@ pub fn no_lists(alloc: Global, image: &ImageView<'_>) -> Result<Vec<Option<Stack
     Ok(brought)
 }
 
-/// Passes a place, and answers the height that its instruction needs. `here` is the list at this place,
+/// Passes a place, and returns the height that its instruction needs. `kinds` is the list at this place,
 /// and then at the next one.
 pub fn pass(
-    image: &ImageView<'_>,
-    routine: usize,
-    place: usize,
-    op: Op,
+    here: &Here<'_, '_>,
     heights: &[u32],
-    here: &mut Stack,
+    kinds: &mut Stack,
     brought: &mut Vec<Option<Stack>>,
 ) -> Result<u32, VerifyFault>
-    requires plain { PlainRulesHold image.now }
-    requires routine { IsRoutine image.now routine }
-    requires op { op_at image.now routine place ≡ Some op }
-    requires place { place < length (code_of image.now routine) }
-    requires long { length heights.now ≡ routine }
+    requires plain { PlainRulesHold here.now.image.now }
+    requires routine { IsRoutine here.now.image.now here.now.routine }
+    requires op { op_at here.now.image.now here.now.routine here.now.place ≡ Some here.now.op }
+    requires place { here.now.place < length (code_of here.now.image.now here.now.routine) }
+    requires long { length heights.now ≡ here.now.routine }
     requires low { AreLow heights.now }
-    requires stands { Stands image.now routine place here.old brought.old.items }
-    ensures stands { OnOk result (Stands image.now routine (place + 1) here.new brought.new.items) }
-    ensures needs { IfOk result (λ needed. NeedsHeight image.now routine (slice_index heights.now) place needed) }
-    ensures refused { IfErr result (IsImageRefused image.now) }
+    requires stands { Stands here.now.image.now here.now.routine here.now.place kinds.old brought.old.items }
+    ensures stands { OnOk result (Stands here.now.image.now here.now.routine (here.now.place + 1) kinds.new brought.new.items) }
+    ensures needs { IfOk result (λ needed. NeedsHeight here.now.image.now here.now.routine (slice_index heights.now) here.now.place needed) }
+    ensures refused { IfErr result (IsImageRefused here.now.image.now) }
 {
-    let before = here.len();
-    leave(image, routine, place, op, here)?;
-    let needed = height_at(image, op, before, here.len(), heights);
-    if !hand_on(image, routine, place, op, here, brought) {
-        return Err(VerifyFault::WaysDisagree(at(routine, place)));
+    let before = kinds.len();
+    leave(here, kinds)?;
+    let needed = height_at(here.image, here.op, before, kinds.len(), heights);
+    if !move_on(here, kinds, brought) {
+        return Err(VerifyFault::WaysDisagree(at(here.routine, here.place)));
     }
     Ok(needed)
 }
 
-/// Turns the list at a place into what its instruction leaves: V6, V9 or V10.
-fn leave(
-    image: &ImageView<'_>,
-    routine: usize,
-    place: usize,
-    op: Op,
-    kinds: &mut Stack,
-) -> Result<(), VerifyFault>
-    requires sized { IsSized image.now }
-    requires routine { IsRoutine image.now routine }
-    requires operand { HasOperand image.now op }
-    requires place { place < 2 ^ 16 }
-    requires op { op_at image.now routine place ≡ Some op }
-    requires leads { Leads image.now routine place place kinds.old }
+/// Changes the list at a place to what its instruction leaves: V6, V9 or V10.
+fn leave(here: &Here<'_, '_>, kinds: &mut Stack) -> Result<(), VerifyFault>
+    requires sized { IsSized here.now.image.now }
+    requires routine { IsRoutine here.now.image.now here.now.routine }
+    requires operand { HasOperand here.now.image.now here.now.op }
+    requires place { here.now.place < 2 ^ 16 }
+    requires op { op_at here.now.image.now here.now.routine here.now.place ≡ Some here.now.op }
+    requires leads { Leads here.now.image.now here.now.routine here.now.place here.now.place kinds.old }
     requires within { length kinds.old ≤ 32 }
-    ensures yields { OnOk result (Yields image.now routine op kinds.old kinds.new) }
-    ensures refused { IfErr result (IsImageRefused image.now) }
+    ensures yields { OnOk result (Yields here.now.image.now here.now.routine here.now.op kinds.old kinds.new) }
+    ensures refused { IfErr result (IsImageRefused here.now.image.now) }
 {
-    if returns_others(image, routine, place, op, kinds) {
-        return Err(VerifyFault::WrongResults(at(routine, place)));
+    if returns_others(here, kinds) {
+        return Err(VerifyFault::WrongResults(at(here.routine, here.place)));
     }
-    if !applies(image, routine, place, op, kinds) {
-        return Err(VerifyFault::WrongOperand(at(routine, place)));
+    if !applies(here, kinds) {
+        return Err(VerifyFault::WrongOperand(at(here.routine, here.place)));
     }
-    if leaves_many(image, routine, place, op, kinds) {
-        return Err(VerifyFault::StackOver(at(routine, place)));
+    if leaves_many(here, kinds) {
+        return Err(VerifyFault::StackOver(at(here.routine, here.place)));
     }
     Ok(())
 }
 
 /// V9: whether a way leads to a `ret` with another list than the routine's results.
-fn returns_others(
-    image: &ImageView<'_>,
-    routine: usize,
-    place: usize,
-    op: Op,
-    before: &Stack,
-) -> bool
-    requires routine { IsRoutine image.now routine }
-    requires op { op_at image.now routine place ≡ Some op }
-    requires leads { Leads image.now routine place place before.now }
-    ensures others { OnTrue result (ReturnsOthers image.now routine place) }
-    ensures kept { OnFalse result (op ≡ Ret → before.now ≡ results_of image.now routine) }
+fn returns_others(here: &Here<'_, '_>, before: &Stack) -> bool
+    requires routine { IsRoutine here.now.image.now here.now.routine }
+    requires op { op_at here.now.image.now here.now.routine here.now.place ≡ Some here.now.op }
+    requires leads { Leads here.now.image.now here.now.routine here.now.place here.now.place before.now }
+    ensures others { OnTrue result (ReturnsOthers here.now.image.now here.now.routine here.now.place) }
+    ensures kept { OnFalse result (here.now.op ≡ Ret → before.now ≡ results_of here.now.image.now here.now.routine) }
 {
-    !keeps_results(image, routine, op, before)
+    !keeps_results(here.image, here.routine, here.op, before)
 }
 
-/// Turns the list at the end of a way into what an instruction leaves. V6: says whether no operand is
+/// V6: changes the list at the end of a way to what an instruction leaves, and returns whether no operand is
 /// missing or of the wrong kind.
-fn applies(image: &ImageView<'_>, routine: usize, place: usize, op: Op, kinds: &mut Stack) -> bool
-    requires operand { HasOperand image.now op }
-    requires op { op_at image.now routine place ≡ Some op }
-    requires leads { Leads image.now routine place place kinds.old }
+fn applies(here: &Here<'_, '_>, kinds: &mut Stack) -> bool
+    requires operand { HasOperand here.now.image.now here.now.op }
+    requires op { op_at here.now.image.now here.now.routine here.now.place ≡ Some here.now.op }
+    requires leads { Leads here.now.image.now here.now.routine here.now.place here.now.place kinds.old }
     requires within { length kinds.old ≤ 32 }
-    ensures effect { OnTrue result (effect image.now op kinds.old ≡ Some kinds.new) }
-    ensures lacks { OnFalse result (LacksOperand image.now routine place) }
+    ensures effect { OnTrue result (effect here.now.image.now here.now.op kinds.old ≡ Some kinds.new) }
+    ensures lacks { OnFalse result (LacksOperand here.now.image.now here.now.routine here.now.place) }
 {
-    apply(image, op, kinds).is_some()
+    apply(here.image, here.op, kinds).is_some()
 }
 
-/// V10: whether what an instruction leaves at the end of a way passes the limit.
-fn leaves_many(image: &ImageView<'_>, routine: usize, place: usize, op: Op, after: &Stack) -> bool
-    requires { LeavesList image.now routine place op after.now }
-    ensures many { OnTrue result (LeavesMany image.now routine place) }
+/// V10: whether the list that an instruction leaves at the end of a way is longer than the limit.
+fn leaves_many(here: &Here<'_, '_>, after: &Stack) -> bool
+    requires { LeavesList here.now.image.now here.now.routine here.now.place here.now.op after.now }
+    ensures many { OnTrue result (LeavesMany here.now.image.now here.now.routine here.now.place) }
     ensures within { OnFalse result (length after.now ≤ 32) }
 {
     after.len() > usize::from(limits::STACK)
 }
 
-/// Hands on what the instruction at a place leaves. V7: says whether no successor has another list.
-fn hand_on(
-    image: &ImageView<'_>,
-    routine: usize,
-    place: usize,
-    op: Op,
-    here: &mut Stack,
-    brought: &mut Vec<Option<Stack>>,
-) -> bool
-    requires plain { PlainRulesHold image.now }
-    requires routine { IsRoutine image.now routine }
-    requires op { op_at image.now routine place ≡ Some op }
-    requires left { IsLeft image.now routine place op here.old brought.old.items }
-    ensures stands { OnTrue result (Stands image.now routine (place + 1) here.new brought.new.items) }
-    ensures disagree { OnFalse result (Disagrees image.now routine place) }
+/// V7: brings what an instruction leaves to its successors, and returns whether none of them has another list.
+fn move_on(here: &Here<'_, '_>, kinds: &mut Stack, brought: &mut Vec<Option<Stack>>) -> bool
+    requires plain { PlainRulesHold here.now.image.now }
+    requires routine { IsRoutine here.now.image.now here.now.routine }
+    requires op { op_at here.now.image.now here.now.routine here.now.place ≡ Some here.now.op }
+    requires left { IsLeft here.now.image.now here.now.routine here.now.place here.now.op kinds.old brought.old.items }
+    ensures stands { OnTrue result (Stands here.now.image.now here.now.routine (here.now.place + 1) kinds.new brought.new.items) }
+    ensures disagree { OnFalse result (Disagrees here.now.image.now here.now.routine here.now.place) }
 {
-    if !bring(image, routine, place, op, here, brought) {
+    if !bring(here, kinds, brought) {
         return false;
     }
-    go_on(image, routine, place, op, here, brought)
+    go_on(here, kinds, brought)
 }
 
-/// Brings what the instruction at a place leaves to its target. Says whether that had no list, or the
-/// same one.
-fn bring(
-    image: &ImageView<'_>,
-    routine: usize,
-    place: usize,
-    op: Op,
-    after: &Stack,
-    brought: &mut Vec<Option<Stack>>,
-) -> bool
-    requires plain { PlainRulesHold image.now }
-    requires routine { IsRoutine image.now routine }
-    requires op { op_at image.now routine place ≡ Some op }
-    requires left { IsLeft image.now routine place op after.now brought.old.items }
-    ensures left { OnTrue result (IsLeft image.now routine place op after.now brought.new.items) }
-    ensures met { OnTrue result ((to : ℕ) → target_of op ≡ Some to → row_at brought.new.items to ≡ Some after.now) }
-    ensures disagree { OnFalse result (Disagrees image.now routine place) }
+/// Brings what an instruction leaves to its target, and returns whether that has no list or the same one.
+fn bring(here: &Here<'_, '_>, after: &Stack, brought: &mut Vec<Option<Stack>>) -> bool
+    requires plain { PlainRulesHold here.now.image.now }
+    requires routine { IsRoutine here.now.image.now here.now.routine }
+    requires op { op_at here.now.image.now here.now.routine here.now.place ≡ Some here.now.op }
+    requires left { IsLeft here.now.image.now here.now.routine here.now.place here.now.op after.now brought.old.items }
+    ensures left { OnTrue result (IsLeft here.now.image.now here.now.routine here.now.place here.now.op after.now brought.new.items) }
+    ensures met { OnTrue result ((to : ℕ) → target_of here.now.op ≡ Some to → kinds_at brought.new.items to ≡ Some after.now) }
+    ensures disagree { OnFalse result (Disagrees here.now.image.now here.now.routine here.now.place) }
 {
-    match target(op) {
-        Some(to) => brings(image, routine, place, op, to, after, brought),
+    match target(here.op) {
+        Some(to) => brings(here, to, after, brought),
         None => true,
     }
 }
 
-/// Brings it to a later successor. Says whether that had no list, or the same one.
-fn brings(
-    image: &ImageView<'_>,
-    routine: usize,
-    place: usize,
-    op: Op,
-    to: usize,
-    after: &Stack,
-    brought: &mut Vec<Option<Stack>>,
-) -> bool
-    requires op { op_at image.now routine place ≡ Some op }
-    requires left { IsLeft image.now routine place op after.now brought.old.items }
-    requires successor { IsSuccessor op place to }
-    requires later { place < to }
-    requires within { to < length (code_of image.now routine) }
-    ensures left { OnTrue result (IsLeft image.now routine place op after.now brought.new.items) }
-    ensures met { OnTrue result (row_at brought.new.items to ≡ Some after.now) }
-    ensures disagree { OnFalse result (Disagrees image.now routine place) }
+/// Brings it to a later successor, and returns whether that has no list or the same one.
+fn brings(here: &Here<'_, '_>, to: usize, after: &Stack, brought: &mut Vec<Option<Stack>>) -> bool
+    requires op { op_at here.now.image.now here.now.routine here.now.place ≡ Some here.now.op }
+    requires left { IsLeft here.now.image.now here.now.routine here.now.place here.now.op after.now brought.old.items }
+    requires successor { IsSuccessor here.now.op here.now.place to }
+    requires later { here.now.place < to }
+    requires within { to < length (code_of here.now.image.now here.now.routine) }
+    ensures left { OnTrue result (IsLeft here.now.image.now here.now.routine here.now.place here.now.op after.now brought.new.items) }
+    ensures met { OnTrue result (kinds_at brought.new.items to ≡ Some after.now) }
+    ensures disagree { OnFalse result (Disagrees here.now.image.now here.now.routine here.now.place) }
 {
-    if !agrees(image, routine, place, op, to, after, brought) {
+    if !agrees(here, to, after, brought) {
         return false;
     }
     brought[to] = Some(after.copied());
     true
 }
 
-/// V7: whether nothing was brought to a later successor, or the same list as the one that an instruction
-/// leaves.
-fn agrees(
-    image: &ImageView<'_>,
-    routine: usize,
-    place: usize,
-    op: Op,
-    to: usize,
-    after: &Stack,
-    brought: &Vec<Option<Stack>>,
-) -> bool
-    requires op { op_at image.now routine place ≡ Some op }
-    requires left { IsLeft image.now routine place op after.now brought.now.items }
-    requires successor { IsSuccessor op place to }
-    requires later { place < to }
-    requires within { to < length (code_of image.now routine) }
-    ensures same { OnTrue result ((other : List Kind) → row_at brought.now.items to ≡ Some other → other ≡ after.now) }
-    ensures disagree { OnFalse result (Disagrees image.now routine place) }
+/// V7: whether a later successor has no list, or the one that an instruction leaves.
+fn agrees(here: &Here<'_, '_>, to: usize, after: &Stack, brought: &Vec<Option<Stack>>) -> bool
+    requires op { op_at here.now.image.now here.now.routine here.now.place ≡ Some here.now.op }
+    requires left { IsLeft here.now.image.now here.now.routine here.now.place here.now.op after.now brought.now.items }
+    requires successor { IsSuccessor here.now.op here.now.place to }
+    requires later { here.now.place < to }
+    requires within { to < length (code_of here.now.image.now here.now.routine) }
+    ensures same { OnTrue result ((other : List Kind) → kinds_at brought.now.items to ≡ Some other → other ≡ after.now) }
+    ensures disagree { OnFalse result (Disagrees here.now.image.now here.now.routine here.now.place) }
 {
     is_free_for(brought, to, after)
 }
 
-/// Whether nothing was brought to a place, or this list.
+/// Whether a place has no list, or this one.
 fn is_free_for(brought: &Vec<Option<Stack>>, place: usize, kinds: &Stack) -> bool
     requires { place < length brought.now.items }
-    ensures same { OnTrue result ((other : List Kind) → row_at brought.now.items place ≡ Some other → other ≡ kinds.now) }
-    ensures other { OnFalse result ((other : List Kind) × (row_at brought.now.items place ≡ Some other) × (other ≢ kinds.now)) }
+    ensures same { OnTrue result ((other : List Kind) → kinds_at brought.now.items place ≡ Some other → other ≡ kinds.now) }
+    ensures other { OnFalse result ((other : List Kind) × (kinds_at brought.now.items place ≡ Some other) × (other ≢ kinds.now)) }
 {
     match &brought[place] {
         Some(other) => other.is_same(kinds),
@@ -244,38 +205,31 @@ fn is_free_for(brought: &Vec<Option<Stack>>, place: usize, kinds: &Stack) -> boo
     }
 }
 
-/// Goes on to the next place: with the list that was left where control falls through, else with the one
-/// that was brought there. Says whether a place that is fallen through to had no list, or the same one.
-fn go_on(
-    image: &ImageView<'_>,
-    routine: usize,
-    place: usize,
-    op: Op,
-    here: &mut Stack,
-    brought: &mut Vec<Option<Stack>>,
-) -> bool
-    requires plain { PlainRulesHold image.now }
-    requires routine { IsRoutine image.now routine }
-    requires op { op_at image.now routine place ≡ Some op }
-    requires left { IsLeft image.now routine place op here.old brought.old.items }
-    requires met { (to : ℕ) → target_of op ≡ Some to → row_at brought.old.items to ≡ Some here.old }
-    ensures stands { OnTrue result (Stands image.now routine (place + 1) here.new brought.new.items) }
-    ensures disagree { OnFalse result (Disagrees image.now routine place) }
+/// Goes on to the next place. If control falls through, the list stays, and the result is whether the next place
+/// has no list or the same one. Otherwise the list becomes the one that was brought to the next place.
+fn go_on(here: &Here<'_, '_>, kinds: &mut Stack, brought: &mut Vec<Option<Stack>>) -> bool
+    requires plain { PlainRulesHold here.now.image.now }
+    requires routine { IsRoutine here.now.image.now here.now.routine }
+    requires op { op_at here.now.image.now here.now.routine here.now.place ≡ Some here.now.op }
+    requires left { IsLeft here.now.image.now here.now.routine here.now.place here.now.op kinds.old brought.old.items }
+    requires met { (to : ℕ) → target_of here.now.op ≡ Some to → kinds_at brought.old.items to ≡ Some kinds.old }
+    ensures stands { OnTrue result (Stands here.now.image.now here.now.routine (here.now.place + 1) kinds.new brought.new.items) }
+    ensures disagree { OnFalse result (Disagrees here.now.image.now here.now.routine here.now.place) }
 {
-    match next(op, place) {
+    match next(here.op, here.place) {
         Some(to) => {
-            let agree = agrees(image, routine, place, op, to, here, brought);
+            let agree = agrees(here, to, kinds, brought);
             clear(brought, to);
             agree
         }
         None => {
-            take_up(here, brought, place + 1);
+            take_up(kinds, brought, here.place + 1);
             true
         }
     }
 }
 
-/// Keeps what was brought to a place no longer.
+/// Drops the list that was brought to a place.
 fn clear(brought: &mut Vec<Option<Stack>>, place: usize)
     requires { place < length brought.old.items }
     ensures { IsCleared brought.old.items brought.new.items place }
@@ -285,16 +239,16 @@ fn clear(brought: &mut Vec<Option<Stack>>, place: usize)
     }
 }
 
-/// Goes on with the list that was brought to a place, where there is one, and keeps it there no longer.
-fn take_up(here: &mut Stack, brought: &mut Vec<Option<Stack>>, place: usize)
+/// Takes the list that was brought to a place, if there is one.
+fn take_up(kinds: &mut Stack, brought: &mut Vec<Option<Stack>>, place: usize)
     requires { place < length brought.old.items }
-    ensures taken { (kinds : List Kind) → row_at brought.old.items place ≡ Some kinds → here.new ≡ kinds }
+    ensures taken { (found : List Kind) → kinds_at brought.old.items place ≡ Some found → kinds.new ≡ found }
     ensures cleared { IsCleared brought.old.items brought.new.items place }
 {
     if brought[place].is_none() {
         return;
     }
-    if let Some(kinds) = brought[place].take() {
-        *here = kinds;
+    if let Some(found) = brought[place].take() {
+        *kinds = found;
     }
 }

@@ -1,10 +1,9 @@
-//! An image that was accepted.
+//! An accepted image.
 
 use ifs_image::{Budgets, ImageView};
 use std::marker::Model;
 
-/// An image that the verifier accepted, and only that: `verify` alone makes one. It lies in the bytes that were
-/// verified, and is seen as the image's parts.
+/// An accepted image, in place in the verified bytes. Only `verify` makes one. Contracts see the parts of the image.
 #[derive(Debug)]
 pub struct Verified<'a> {
     image: ImageView<'a>,
@@ -34,7 +33,7 @@ impl<'a> Verified<'a> {
     ghost use Rattle.ifs_image.specs.Limits.{Fits};
     ghost use Rattle.ifs_verify.specs.Accepted.{IsAccepted};
 
-    /// The image of one that meets every rule, which the caller owes.
+    /// The accepted image, which fits its limits and keeps every rule.
     pub(crate) fn new(image: ImageView<'a>) -> Self
         requires accepted { IsAccepted image }
         requires fits { Fits image }
@@ -43,7 +42,7 @@ impl<'a> Verified<'a> {
         Verified { image }
     }
 
-    /// The image, which is accepted and keeps to the limits of the format.
+    /// The image, which is accepted and fits its limits.
     pub fn image(&self) -> &ImageView<'a>
         ensures value { result.now ≡ self.now }
         ensures accepted { IsAccepted self.now }
@@ -52,7 +51,7 @@ impl<'a> Verified<'a> {
         &self.image
     }
 
-    /// The stated budgets: what one event uses at most.
+    /// The stated budgets: the most that one event uses.
     pub fn budgets(&self) -> Budgets
         ensures { result ≡ self.now.budgets }
     {

@@ -1,4 +1,4 @@
-//! The verifier: every check, each over the whole image before the next begins.
+//! All checks, each over the whole image before the next one.
 
 ghost use Rattle.std.specs.Prelude.{◌≡◌, ◌≢◌, Err, IfOk, IfErr, OnOk};
 ghost use Rattle.ifs_image.specs.declared.fault.ImageFault.{ImageFault};
@@ -20,23 +20,22 @@ use crate::verified::Verified;
 use ifs_image::{ImageView, view};
 use std::alloc::Global;
 
-/// The image that the bytes spell, once it is accepted: it may run on a machine that makes no trap test. It lies in
-/// the bytes, of which nothing is copied.
+/// Returns the image that the bytes spell if it is accepted: it may run on a machine without trap checks. The image
+/// is in place, in the bytes.
 ///
-/// A check that does not hold is answered, with its place; it is the first, which tests show, in the order
-/// of indexes and masks (V2), handlers (V14), jumps (V3), ends (V4), calls (V8), places reached (V5),
-/// stacks (V6, V7, V9, V10), and bounds (V10 to V13) of each routine and then against the stated budgets.
-/// V1 comes where the bytes spell no image. V0, for want of memory in reading or in verifying, may come in
-/// place of another answer, unless a field before the tables has a fault.
+/// Otherwise it reports a check that fails, with its place. Tests show that this is the first one, in this order:
+/// indexes and masks (V2), handlers (V14), jumps (V3), ends (V4), calls (V8), places reached (V5), stacks (V6, V7,
+/// V9, V10), bounds of each routine (V10 to V13), stated budgets (V10 to V13). V1 reports that the bytes spell no
+/// image. V0 reports a failed allocation; a fault of a field before the tables is reported even then.
 pub fn verify<'a>(alloc: Global, bytes: &'a [u8]) -> Result<Verified<'a>, VerifyFault>
-    // What is verified is the image that the bytes spell, and it is accepted.
+    // The bytes spell the image, and it is accepted.
     ensures spelled { IfOk result (λ image. Spells bytes.now image) }
     ensures accepted { IfOk result (λ image. IsAccepted image) }
-    // A refusal but for memory comes only where the bytes are not accepted,
+    // It rejects only bytes that are not accepted, unless an allocation fails,
     ensures not_accepted { IfErr result (λ fault. fault ≢ OutOfMemory → (image : ImageParts) → Spells bytes.now image → ¬ IsAccepted image) }
-    // and the check that it names fails: in reading, or at its place in the image that they spell.
+    // and the named check fails: in reading, or at its place in the image that the bytes spell.
     ensures refused { IfErr result (IsRefusal bytes.now) }
-    // Where a field before the tables has a fault, that is the refusal, and not want of memory.
+    // A fault of a field before the tables is reported even if an allocation fails.
     ensures at_once { (fault : ImageFault) → head_at (cursor 0 bytes.now) ≡ Err fault → result ≡ Err (NoImage fault) }
 {
     let image = view(alloc, bytes)?;
@@ -46,7 +45,7 @@ pub fn verify<'a>(alloc: Global, bytes: &'a [u8]) -> Result<Verified<'a>, Verify
     }
 }
 
-/// Every check on an image.
+/// Makes all checks on an image.
 fn check(alloc: Global, image: &ImageView<'_>) -> Result<(), VerifyFault>
     requires { IsSized image.now }
     ensures accepted { OnOk result (IsAccepted image.now) }

@@ -1,4 +1,4 @@
--- What contracts see of a core, and what holds of each.
+-- The view of a core, and the invariant of each core.
 use Rattle.std.specs.Prelude.{◌≡◌}
 use Rattle.ifs_core.specs.declared.gateway.Core.TheInside.{Inside}
 use Rattle.ifs_core.specs.Gateway.{OpenCore, IsStateOf, position_of}
@@ -8,7 +8,7 @@ use Rattle.ifs_core.specs.Steps.{CoreState}
 abbrev pub state_in : Inside → CoreState
 state_in core = record { position = position_of core.position; queue = core.queue.items; trace = core.trace.items }
 
--- A core is seen as its image and the state of its run.
+-- The view of a core: its image and the state of its run.
 abbrev pub core_of : Inside → OpenCore
 core_of core = record { image = core.verified; state = state_in core }
 

@@ -2,7 +2,7 @@ use Rattle.std.proofs.Common.{◌<◌, ◌++◌, List, length, get_or, ap, sym, 
 use Rattle.ifs_base.specs.declared.op.LinkState.TheVariants.{Unknown}
 use Rattle.ifs_core.specs.declared.carried.NamedLink.{NamedLink}
 use Rattle.ifs_core.specs.Carrying.{known_link}
-use Rattle.ifs_core.proofs.Handing.{known_links-more}
+use Rattle.ifs_core.proofs.KnownLinks.{known_links-more}
 use Rattle.ifs_core.proofs.carried.known_links.Goals as goal
 
 pub loop-interface-preserved : goal.loop-interface-preserved

@@ -1,5 +1,5 @@
-use Rattle.ifs_core.proofs.Handing as handing
+use Rattle.ifs_core.proofs.KnownLinks as known
 use Rattle.ifs_core.proofs.laws.links_stand.Goals as goal
 
 pub returns : goal.returns
-returns c = handing.links_stand
+returns c = known.links_stand

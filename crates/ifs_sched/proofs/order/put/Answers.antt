@@ -1,4 +1,4 @@
--- The entry stands behind those that come before it, and before all others.
+-- The entry is after those that come before it, and before all others.
 use Rattle.ifs_sched.proofs.Entries.{ascending-put, put-contains}
 use Rattle.ifs_sched.proofs.order.put.Goals as goal
 

@@ -1,4 +1,4 @@
--- A test is idle, and has an entry more, or there are no more entries.
+-- One more test is idle and has an entry, or it is not idle.
 use Rattle.std.proofs.Common.{◌≡◌, ◌+◌, ℕ, false, eqb, [], take, slice_get, ap, sym, ◌∙◌, arith, refl}
 use Rattle.ifs_sched.specs.Idle.{is_due_from, waits_until}
 use Rattle.ifs_sched.specs.Timer.{inactive}

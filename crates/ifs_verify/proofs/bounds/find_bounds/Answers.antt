@@ -1,5 +1,4 @@
-use Rattle.std.proofs.Common.{ℕ, ◌≡◌, ◌+◌, List, [], ◌∷◌, ◌++◌, slice_index, arith, ap, sym, ◌∙◌, subst, inl, inr}
-use Rattle.std.proofs.lemmas.Bool.{cases_eq}
+use Rattle.std.proofs.Common.{ℕ, ◌≡◌, ◌≤◌, ◌+◌, List, [], ◌∷◌, ◌++◌, slice_index, arith, below_more, ap, sym, ◌∙◌, subst}
 use Rattle.ifs_verify.specs.Bounds.{cost_of, commands_of}
 use Rattle.ifs_verify.specs.inner.Passes.{LeastDepths, LeastAmounts}
 use Rattle.ifs_verify.proofs.Entering.{depths_more, amounts_more}
@@ -24,13 +23,8 @@ returns-clause-found c =
     let new_costs : c.push-2.new.self.items ≡ costs ++ cost ∷ [] = c.in_ok-push-2.ensures.items ∙ ap (λ (xs : List ℕ). xs ++ cost ∷ []) (sym c.as_slice-2.ensures.value) in
     let new_commands : c.push-3.new.self.items ≡ commands ++ command ∷ [] = c.in_ok-push-3.ensures.items ∙ ap (λ (xs : List ℕ). xs ++ command ∷ []) (sym c.as_slice-3.ensures.value) in
     record {
-      heights_low = λ k below.
-          elim (cases_eq k routine) [
-            | inl e ↦
-                let here : slice_index c.args.heights.now.items k ≡ c.height_found-height.result = ap (slice_index c.args.heights.now.items) e ∙ sym c.height_found-height.ensures.value in
-                omega (arith, here)
-            | inr ne ↦ c.requires.lower.heights_low k (omega arith)
-          ];
+      heights_low = below_more (λ (k : ℕ). slice_index c.args.heights.now.items k ≤ 32) routine c.requires.lower.heights_low
+          (omega (arith, c.height_found-height.ensures.value));
       depths = subst (λ (xs : List ℕ). LeastDepths image xs (routine + 1)) (sym new_depths)
           (depths_more image depths routine depth c.requires.plain found_depths c.depth_of-depth.ensures.holds c.depth_of-depth.ensures.least (omega arith));
       costs = subst (λ (xs : List ℕ). LeastAmounts cost_of image 100000 xs (routine + 1)) (sym new_costs)

@@ -1,15 +1,12 @@
 use Rattle.std.proofs.Common.{ℕ, ◌≡◌, ◌<◌, List, length, Some, arith, ap, sym, ◌∙◌, subst, inl, inr}
 use Rattle.std.specs.List.{slice_get}
 use Rattle.std.proofs.lemmas.Bool.{cases_eq}
-use Rattle.std.proofs.lemmas.Option.{slice_get_within}
+use Rattle.std.proofs.lemmas.Option.{slice_get_within, same_Some}
 use Rattle.ifs_base.specs.declared.op.Op.{Op}
 use Rattle.ifs_base.specs.declared.op.Op.TheVariants.{Call}
 use Rattle.ifs_image.specs.Code.{op_at, code_of}
 use Rattle.ifs_verify.proofs.Existing.{frames_over}
 use Rattle.ifs_verify.proofs.depths.depth_of.Goals as goal
-
-some_op : (a b : Op) → Some a ≡ Some b → a ≡ b
-some_op a b e = cc
 
 pub deepened-depth-requires-clause-callee : goal.deepened-depth-requires-clause-callee
 deepened-depth-requires-clause-callee c = λ callee is.
@@ -26,7 +23,7 @@ loop-place-preserved c =
           elim (cases_eq place c.loop-place.place) [
             | inl e ↦
                 let same : c.op_at.result ≡ Call callee =
-                some_op c.op_at.result (Call callee) (sym here ∙ subst (λ (n : ℕ). op_at c.args.image.now c.args.routine n ≡ Some (Call callee)) e is) in
+                same_Some c.op_at.result (Call callee) (sym here ∙ subst (λ (n : ℕ). op_at c.args.image.now c.args.routine n ≡ Some (Call callee)) e is) in
                 c.deepened-depth.ensures.call callee same
             | inr ne ↦ omega (arith, c.loop-place.invariant.calls place callee (omega arith) is, c.deepened-depth.ensures.more)
           ];

@@ -38,5 +38,5 @@ pub returns-clause-clear : goal.returns-clause-clear
 returns-clause-clear c =
     let end : c.loop-place.place ≡ length (code_of c.args.image.now c.args.routine) =
     omega (arith, c.loop-place-test.false, c.loop-place.auto.place-end, ap length c.code-code.ensures) in
-    clear_behind c.args.image.now c.args.routine c.loop-place.here c.loop-place.brought.items
-    (subst (λ (n : ℕ). Stands c.args.image.now c.args.routine n c.loop-place.here c.loop-place.brought.items) end c.loop-place.invariant.stands)
+    clear_behind c.args.image.now c.args.routine c.loop-place.kinds c.loop-place.brought.items
+    (subst (λ (n : ℕ). Stands c.args.image.now c.args.routine n c.loop-place.kinds c.loop-place.brought.items) end c.loop-place.invariant.stands)

@@ -1,14 +1,12 @@
 use Rattle.std.proofs.Common.{ℕ, zero, suc, ◌≡◌, ◌<◌, ◌+◌, List, length, Some, arith, ap, sym, ◌∙◌, subst, inl, inr}
 use Rattle.std.proofs.lemmas.Bool.{cases_eq}
+use Rattle.std.proofs.lemmas.Option.{same_Some}
 use Rattle.ifs_base.specs.declared.op.Kind.{Kind}
 use Rattle.ifs_image.specs.declared.parts.ImageParts.{ImageParts}
 use Rattle.ifs_image.specs.Code.{code_of, effect}
 use Rattle.ifs_verify.specs.Rules.{PlacesAreReached}
 use Rattle.ifs_verify.specs.Typing.{IsTyping, FlowsOn}
 use Rattle.ifs_verify.proofs.laws.one_typing.Goals as goal
-
-some_kinds : (a b : List Kind) → Some a ≡ Some b → a ≡ b
-some_kinds a b e = cc
 
 agree_below : (n : ℕ) (image : ImageParts) (routine : ℕ) (kinds other : ℕ → List Kind) → PlacesAreReached image → IsTyping image routine kinds
     → IsTyping image routine other → (place : ℕ) → place < n → place < length (code_of image routine) → kinds place ≡ other place
@@ -22,7 +20,7 @@ agree_below (suc n) image routine kinds other reached first second place below w
           let f : FlowsOn image kinds r.0 r.1 = first.flows r.0 r.1 r.3 in
           let s : FlowsOn image other r.0 r.1 = second.flows r.0 r.1 r.3 in
           let same : Some f.0 ≡ Some s.0 = sym f.1 ∙ ap (λ (list : List Kind). effect image r.1 list) before ∙ s.1 in
-          f.2 place r.4 ∙ some_kinds f.0 s.0 same ∙ sym (s.2 place r.4)
+          f.2 place r.4 ∙ same_Some f.0 s.0 same ∙ sym (s.2 place r.4)
     ]
 
 pub returns : goal.returns

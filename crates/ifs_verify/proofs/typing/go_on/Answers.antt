@@ -7,16 +7,16 @@ use Rattle.ifs_verify.proofs.typing.go_on.Goals as goal
 
 pub returns-in-Some-clause-stands : goal.returns-in-Some-clause-stands
 returns-in-Some-clause-stands c =
-    let image = c.args.image.now in
+    let image = c.args.here.now.image.now in
     let next = sym c.next.ensures ∙ c.in-Some.is in
-    let later : (k : ℕ) → target_of c.args.op ≡ Some k → c.args.place < k = λ k is. (c.requires.plain.jumps c.args.routine c.args.place c.args.op k c.requires.op is).0 in
-    OnTrue_from c.agrees-agree.result (Stands image c.args.routine (c.args.place + 1) c.args.here.now c.clear.new.brought.items) (λ yes.
-    falls_through image c.args.routine c.args.place c.in-Some.to c.args.op c.args.here.now c.args.brought.now.items c.clear.new.brought.items c.requires.op c.requires.left next
-    (next_within image c.args.routine c.args.place c.in-Some.to c.args.op c.requires.plain.ends c.requires.routine c.requires.op next)
+    let later : (k : ℕ) → target_of c.args.here.now.op ≡ Some k → c.args.here.now.place < k = λ k is. (c.requires.plain.jumps c.args.here.now.routine c.args.here.now.place c.args.here.now.op k c.requires.op is).0 in
+    OnTrue_from c.agrees-agree.result (Stands image c.args.here.now.routine (c.args.here.now.place + 1) c.args.kinds.now c.clear.new.brought.items) (λ yes.
+    falls_through image c.args.here.now.routine c.args.here.now.place c.in-Some.to c.args.here.now.op c.args.kinds.now c.args.brought.now.items c.clear.new.brought.items c.requires.op c.requires.left next
+    (next_within image c.args.here.now.routine c.args.here.now.place c.in-Some.to c.args.here.now.op c.requires.plain.ends c.requires.routine c.requires.op next)
     (OnTrue_at yes c.agrees-agree.ensures.same) later c.requires.met c.clear.ensures)
 
 pub returns-in-None-clause-stands : goal.returns-in-None-clause-stands
 returns-in-None-clause-stands c =
-    let later : (k : ℕ) → target_of c.args.op ≡ Some k → c.args.place < k = λ k is. (c.requires.plain.jumps c.args.routine c.args.place c.args.op k c.requires.op is).0 in
-    takes_up c.args.image.now c.args.routine c.args.place c.args.op c.args.here.now c.take_up.new.here c.args.brought.now.items c.take_up.new.brought.items c.requires.plain c.requires.op
+    let later : (k : ℕ) → target_of c.args.here.now.op ≡ Some k → c.args.here.now.place < k = λ k is. (c.requires.plain.jumps c.args.here.now.routine c.args.here.now.place c.args.here.now.op k c.requires.op is).0 in
+    takes_up c.args.here.now.image.now c.args.here.now.routine c.args.here.now.place c.args.here.now.op c.args.kinds.now c.take_up.new.kinds c.args.brought.now.items c.take_up.new.brought.items c.requires.plain c.requires.op
     c.requires.left (sym c.next.ensures ∙ c.in-None.is) later c.requires.met c.take_up.ensures.taken c.take_up.ensures.cleared

@@ -15,9 +15,9 @@ both true first second = cc
 both false first second = cc
 
 pub returns-clause-others : goal.returns-clause-others
-returns-clause-others c = OnTrue_from (not c.keeps_results.result) (ReturnsOthers c.args.image.now c.args.routine c.args.place) (λ yes.
-    let broken : ¬ (c.args.op ≡ Ret → c.args.before.now ≡ results_of c.args.image.now c.args.routine) =
+returns-clause-others c = OnTrue_from (not c.keeps_results.result) (ReturnsOthers c.args.here.now.image.now c.args.here.now.routine c.args.here.now.place) (λ yes.
+    let broken : ¬ (c.args.here.now.op ≡ Ret → c.args.before.now ≡ results_of c.args.here.now.image.now c.args.here.now.routine) =
     λ kept. let held = c.keeps_results.ensures.1 kept in both c.keeps_results.result held yes in
-    let at_ret : op_at c.args.image.now c.args.routine c.args.place ≡ Some Ret =
-    c.requires.op ∙ ap (λ (o : Op). Some o) (is_ret c.args.op (c.args.before.now ≡ results_of c.args.image.now c.args.routine) broken) in
+    let at_ret : op_at c.args.here.now.image.now c.args.here.now.routine c.args.here.now.place ≡ Some Ret =
+    c.requires.op ∙ ap (λ (o : Op). Some o) (is_ret c.args.here.now.op (c.args.before.now ≡ results_of c.args.here.now.image.now c.args.here.now.routine) broken) in
     (c.args.before.now, at_ret, c.requires.leads, λ same. broken (λ e. same)))

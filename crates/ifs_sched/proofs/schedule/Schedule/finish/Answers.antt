@@ -1,4 +1,4 @@
--- A test that does not run under that number is left as it is.
+-- A test that does not run under that number stays as it is.
 use Rattle.std.proofs.Common.{sym, ◌∙◌, refl}
 use Rattle.ifs_sched.proofs.Finishing.{finished_same}
 use Rattle.ifs_sched.proofs.schedule.Schedule.finish.Goals as goal

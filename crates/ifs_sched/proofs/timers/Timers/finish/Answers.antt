@@ -1,4 +1,4 @@
--- There is no test of that index, it does not run under that number, or it has its run ended and an entry more.
+-- There is no test of that index, it does not run under that number, or its run ends and it has an entry.
 use Rattle.std.proofs.Common.{◌<◌, ◌≤◌, length, sym, ◌∙◌, arith, refl}
 use Rattle.ifs_sched.proofs.Finishing.{ended_past, ended_read, runs_under-read}
 use Rattle.ifs_sched.proofs.Waiting.{finished_entries, finished_other, finished_room}

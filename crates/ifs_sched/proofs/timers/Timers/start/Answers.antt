@@ -1,4 +1,4 @@
--- The due tests are those of the entries at the front, and the entries behind them are left.
+-- The due tests are those of the entries at the front, and the later entries are left.
 use Rattle.std.proofs.Common.{◌≡◌, ◌≤◌, ◌==◌, List, length, take, drop, nat_le, ap, sym, ◌∙◌, subst, arith}
 use Rattle.std.specs.List.{list_any, prefix_len, refill}
 use Rattle.ifs_sched.specs.declared.timer.Timer.{Timer}
@@ -32,9 +32,9 @@ invariant_of-self c =
     let settled = c.settle.new.entries.items in
     let counted : c.due_count-count.result ≡ prefix_len (λ e. nat_le e.0 c.args.now) idle =
     c.due_count-count.ensures.value ∙ ap (prefix_len (λ e. nat_le e.0 c.args.now)) c.as_slice.ensures.value in
-    let e : made ≡ map_by_index (ticked_test c.args.now next tests) tests = rw c.as_mut_slice-tests.ensures.value at c.start_due-exhausted.ensures.tests in
+    let e : made ≡ map_by_index (ticked_test c.args.now next tests) tests = rw c.as_mut_slice-tests.ensures.value at c.start_due-exhausted.ensures.tests_are in
     let f : c.start_due-exhausted.result ≡ any_by_index (is_left_over c.args.now next tests) tests =
-    rw c.as_mut_slice-tests.ensures.value at c.start_due-exhausted.ensures.exhausted in
+    rw c.as_mut_slice-tests.ensures.value at c.start_due-exhausted.ensures.exhausted_is in
     let many : length made ≡ length tests = ap length e ∙ as_many_by_index (ticked_test c.args.now next tests) tests in
     let whole : refill (length tests) tests made ≡ made = refilled tests made many in
     let lent = c.as_slice-3.ensures.value ∙ whole in

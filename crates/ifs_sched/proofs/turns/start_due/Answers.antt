@@ -4,9 +4,8 @@ use Rattle.ifs_sched.specs.Schedule.{run_as_number}
 use Rattle.ifs_sched.specs.Timer.{inactive}
 use Rattle.ifs_sched.proofs.Masks.{first_test, taken_is_less}
 use Rattle.ifs_sched.proofs.Ticking.{IsTickedBelow-started, IsTickedBelow-left, run_as_number-checked}
-use Rattle.ifs_sched.proofs.Ticking.{all_exhausted, all_started, all_ticked}
-use Rattle.ifs_sched.proofs.Ticking.{due_here, index_within, one_more_turn, ticked_all, ticked_so_far-none, ticked_to_index}
-use Rattle.ifs_sched.proofs.rows.start_due.Goals as goal
+use Rattle.ifs_sched.proofs.Ticking.{due_here, index_within, is_ticked, one_more_turn, ticked_all, ticked_so_far-none, ticked_to_index}
+use Rattle.ifs_sched.proofs.turns.start_due.Goals as goal
 
 pub loop-left-init : goal.loop-left-init
 loop-left-init c = rw c.clear.ensures (ticked_so_far-none c.args.now _ c.args.tests.now c.args.due c.requires.number c.requires.due)
@@ -56,18 +55,5 @@ loop-left-preserved c =
     one_more_turn _ _ _ _ _ _ _ _ so room _ first _ _ _ _
     (IsTickedBelow-left _ _ _ _ _ _ _ _ (inactive 0) ticked within due (ap run_as_number c.in-None.is))
 
-pub returns-clause-tests : goal.returns-clause-tests
-returns-clause-tests c =
-    all_ticked _ _ _ _ _ _ _ (ticked_all _ _ _ _ _ _ _ _ c.loop-left.invariant c.requires.room c.loop-left-test.false)
-
-pub returns-clause-next_run : goal.returns-clause-next_run
-returns-clause-next_run c =
-    let all = ticked_all _ _ _ _ _ _ _ _ c.loop-left.invariant c.requires.room c.loop-left-test.false in all.number_so_far
-
-pub returns-clause-starts : goal.returns-clause-starts
-returns-clause-starts c =
-    all_started _ _ _ _ _ _ _ (ticked_all _ _ _ _ _ _ _ _ c.loop-left.invariant c.requires.room c.loop-left-test.false)
-
-pub returns-clause-exhausted : goal.returns-clause-exhausted
-returns-clause-exhausted c =
-    all_exhausted _ _ _ _ _ _ _ (ticked_all _ _ _ _ _ _ _ _ c.loop-left.invariant c.requires.room c.loop-left-test.false)
+pub returns : goal.returns
+returns c = is_ticked _ _ _ _ _ _ _ (ticked_all _ _ _ _ _ _ _ _ c.loop-left.invariant c.requires.room c.loop-left-test.false)

@@ -1,4 +1,4 @@
--- What is known of interfaces and their links, one interface more.
+-- The known link states of interfaces, with one more interface.
 use Rattle.std.proofs.Common.{◌≡◌, ◌≢◌, ℕ, zero, suc, ◌+◌, Bool, true, false, List, [], ◌∷◌, ◌++◌, ◌<◌, Some, length, All, take, get_or, refl, sym}
 use Rattle.std.proofs.Common.{ap, subst, ◌∙◌, arith, append_assoc, append-nil}
 use Rattle.std.specs.Prelude.{slice_get, if◌then◌else◌}
@@ -12,10 +12,7 @@ use Rattle.ifs_base.specs.declared.op.LinkState.TheVariants.{Unknown, Down, Up}
 use Rattle.ifs_core.specs.declared.carried.NamedLink.{NamedLink}
 use Rattle.ifs_image.specs.Limits.{AreDistinct}
 use Rattle.ifs_core.specs.Carrying.{known_link, known_links, link_named, LinksStand}
-
--- the index after one, as loops write it
-after_suc : (i : ℕ) → suc i + 1 ≡ suc (i + 1)
-after_suc i = omega arith
+use Rattle.ifs_core.proofs.Tables.{after_suc}
 
 pub known_links-more : (names : List (List ℕ)) (links : List LinkState) (i : ℕ) (name : List ℕ) → slice_get names i ≡ Some name → i < length links
     → known_links (take (i + 1) names) (take (i + 1) links) ≡ known_links (take i names) (take i links) ++ known_link name (get_or links i Unknown)
@@ -37,13 +34,13 @@ differ_if one other false e differ = e
 differ : (one other : List ℕ) → one ≢ other → bytes_eq one other ≡ false
 differ one other h = differ_if one other (bytes_eq one other) refl h
 
--- an interface of another name is passed over
+-- An interface of another name is skipped.
 passed : (name : List ℕ) (link : LinkState) (rest : List NamedLink) (wanted : List ℕ) → name ≢ wanted → link_named (known_link name link ++ rest) wanted ≡ link_named rest wanted
 passed name Unknown rest wanted h = refl
 passed name Down rest wanted h = ap (λ b. if b then Down else link_named rest wanted) (differ name wanted h)
 passed name Up rest wanted h = ap (λ b. if b then Up else link_named rest wanted) (differ name wanted h)
 
--- and one of this name is found, where no other follows
+-- An interface of this name is found if no other follows.
 found : (name : List ℕ) (link : LinkState) (rest : List NamedLink) → link_named rest name ≡ Unknown → link_named (known_link name link ++ rest) name ≡ link
 found name Unknown rest none = none
 found name Down rest none = ap (λ b. if b then Down else link_named rest name) ((bytes_eq-Decides name name).1 refl)
@@ -54,13 +51,13 @@ none_known [] links wanted h = refl
 none_known (name ∷ names) [] wanted h = refl
 none_known (name ∷ names) (link ∷ links) wanted h = passed name link (known_links names links) wanted h.0 ∙ none_known names links wanted h.1
 
--- what holds of all names holds of one of them
+-- A fact of all names is one of each.
 at_in : (P : List ℕ → Type 0) (names : List (List ℕ)) (k : ℕ) (name : List ℕ) → AllByRecursion P names → slice_get names k ≡ Some name → P name
 at_in P [] k name h e = absurd (none-some name e)
 at_in P (x ∷ xs) zero name h e = subst P (same_Some x name e) h.0
 at_in P (x ∷ xs) (suc k) name h e = at_in P xs k name h.1 e
 
--- the names after one differ from it
+-- The names after one differ from it.
 later : (name : List ℕ) (names : List (List ℕ)) → AreDistinct (name ∷ names) → All (λ other. other ≢ name) names
 later name names distinct = λ i d within e. distinct 0 (suc i) d (omega arith) (omega (arith, within)) (sym e)
 

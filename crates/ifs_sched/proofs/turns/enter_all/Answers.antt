@@ -1,8 +1,8 @@
--- The test at the index is what an entry makes of it.
+-- The test at the index has entered.
 use Rattle.ifs_sched.specs.Schedule.{entered_test}
 use Rattle.ifs_sched.specs.Timer.{inactive}
 use Rattle.ifs_sched.proofs.ByIndex.{changed_below-more}
-use Rattle.ifs_sched.proofs.rows.enter_all.Goals as goal
+use Rattle.ifs_sched.proofs.turns.enter_all.Goals as goal
 
 pub loop-index-preserved : goal.loop-index-preserved
 loop-index-preserved c =
