@@ -2,7 +2,7 @@
 use Rattle.std.proofs.Common.{◌≡◌, ℕ, ◌<◌, ◌⊎◌, inl, inr, ⊎_elim, length, Option, Some}
 use Rattle.std.proofs.Common.{None, refl, sym, ap, ◌∙◌, subst, arith, option_map}
 use Rattle.std.specs.Prelude.{slice_get}
-use Rattle.std.proofs.lemmas.Bool.{cases_lt}
+use Rattle.std.proofs.lemmas.Bool.{cases_eq}
 use Rattle.std.proofs.lemmas.Option.{none-some, same_Some, slice_get_cases}
 use Rattle.ifs_base.specs.Facts.{Facts}
 use Rattle.ifs_image.specs.declared.parts.StateSpec.{StateSpec}
@@ -59,20 +59,13 @@ record Answers (image : ImageParts) (handler : Handler) (facts : Facts) : Type 0
   is : routine_of image handler ≡ Some routine
   given : AreFactsOf image facts
 
-same_number : (m n : ℕ) → (m ≡ n) ⊎ (m ≡ n → ⊥)
-same_number m n =
-    ⊎_elim
-    (λ less. inr (λ e. absurd (omega (arith, less, e))))
-    (λ le. ⊎_elim (λ less. inr (λ e. absurd (omega (arith, less, e)))) (λ ge. inl (omega (arith, le, ge))) (cases_lt n m))
-    (cases_lt m n)
-
 facts_fit : (image : ImageParts) (facts : Facts) → AreFactsOf image facts ⊎ (AreFactsOf image facts → ⊥)
 facts_fit image facts =
     ⊎_elim
     (λ links. ⊎_elim (λ tests. inl (record { links = links; tests = tests })) (λ never. inr (λ (g : AreFactsOf image facts). never g.tests))
-    (same_number (length facts.tests) (length image.tests)))
+    (cases_eq (length facts.tests) (length image.tests)))
     (λ never. inr (λ (g : AreFactsOf image facts). never g.links))
-    (same_number (length facts.links) (length image.interfaces))
+    (cases_eq (length facts.links) (length image.interfaces))
 
 answers_as : (image : ImageParts) (handler : Handler) (facts : Facts) (o : Option ℕ) → routine_of image handler ≡ o
     → AreFactsOf image facts ⊎ (AreFactsOf image facts → ⊥) → Answers image handler facts ⊎ (Answers image handler facts → ⊥)

@@ -2,16 +2,13 @@
 use Rattle.std.proofs.Common.{◌≡◌, ℕ, ◌+◌, ◌-◌, ◌≤◌, ◌<◌, Bool, false, List, [], ◌∷◌}
 use Rattle.std.proofs.Common.{◌++◌, Some, length, ◌∙◌, arith, length-append, length-set}
 use Rattle.std.specs.Prelude.{All}
-use Rattle.std.specs.List.{enumerate_from}
-use Rattle.std.proofs.lemmas.List.{length-map}
 use Rattle.std.proofs.lemmas.List.Elements.{All-append, All-push, All-drop}
-use Rattle.std.proofs.lemmas.List.FromFn.{length-enumerate_from}
 use Rattle.ifs_base.specs.declared.ids.CommandId.{CommandId}
 use Rattle.ifs_base.specs.declared.ids.StateId.{StateId}
 use Rattle.ifs_base.specs.declared.op.LinkState.{LinkState}
 use Rattle.ifs_image.specs.declared.parts.ImageParts.{ImageParts}
-use Rattle.ifs_sched.specs.declared.timer.Timer.{Timer}
-use Rattle.ifs_sched.specs.Schedule.{Timetable, map_by_index, entered, entered_test, ticked, ticked_test, finished}
+use Rattle.ifs_sched.specs.Schedule.{Timetable, entered, entered_test, ticked, ticked_test, finished}
+use Rattle.ifs_sched.proofs.ByIndex.{as_many_by_index}
 use Rattle.ifs_machine.specs.Run.{IsCommand}
 use Rattle.ifs_core.specs.declared.step.Step.{Step}
 use Rattle.ifs_core.specs.declared.step.Answer.{Answer}
@@ -21,20 +18,17 @@ use Rattle.ifs_core.specs.Gateway.{IsListed, IsPositionOf, IsStateOf}
 use Rattle.ifs_core.specs.Steps.{CoreState, at_position, settled, traced, with_link, with_value, with_run_over}
 use Rattle.ifs_core.proofs.Kept.{length-kept_values}
 
-length-map_by_index : (f : ℕ → Timer → Timer) (tests : List Timer) → length (map_by_index f tests) ≡ length tests
-length-map_by_index f tests = length-map (enumerate_from 0 tests) (λ p. f p.0 p.1) ∙ length-enumerate_from 0 tests
-
 pub length-entered : (always own now : ℕ) (s : Timetable) → length (entered always own now s).tests ≡ length s.tests
 unfolding entered
-length-entered always own now s = length-map_by_index (entered_test always own now) s.tests
+length-entered always own now s = as_many_by_index (entered_test always own now) s.tests
 
 length-ticked : (now : ℕ) (s : Timetable) → length (ticked now s).tests ≡ length s.tests
 unfolding ticked
-length-ticked now s = length-map_by_index (ticked_test now s.next_run s.tests) s.tests
+length-ticked now s = as_many_by_index (ticked_test now s.next_run s.tests) s.tests
 
 length-finished : (test run : ℕ) (s : Timetable) → length (finished test run s).tests ≡ length s.tests
 unfolding finished
-length-finished test run s = length-map_by_index _ s.tests
+length-finished test run s = as_many_by_index _ s.tests
 
 module _ (image : ImageParts) where
   pub entering_stays : (b : Behaviour) (next : StateId) (p : Position) → IsPositionOf image p → next.0 < length image.states → IsPositionOf image (entering b next p)

@@ -4,7 +4,7 @@ use Rattle.std.proofs.Common.{List, [], ◌∷◌, ◌++◌, length, get_or, tak
 use Rattle.std.proofs.Common.{refl, sym, ap, subst, ◌∙◌, append_assoc, add-zero, arith, inl, inr}
 use Rattle.std.specs.Int.{Width, w16, w32, w64, byte_len, from_be_bytes, to_be_bytes}
 use Rattle.std.specs.List.{flat_map}
-use Rattle.std.proofs.lemmas.Bool.{cases_lt, ltb-false, le-ltb}
+use Rattle.std.proofs.lemmas.Bool.{cases_lt, ltb-false, le-ltb, or_parts}
 use Rattle.std.specs.Prelude.{◌||◌}
 use Rattle.std.proofs.lemmas.List.{take_at, drop_at, take-append-drop, length-append, length-take}
 use Rattle.std.proofs.lemmas.List.{get_or-drop, get_or-take, get_or_past, append-nil, nil_from_length}
@@ -53,10 +53,6 @@ done x = Ok x
 
 pub ok_is : {A : Type 0} (x y : A) → done x ≡ done y → x ≡ y
 ok_is x y e = cc
-
-pub or_false : (a b : Bool) → (a || b) ≡ false → (a ≡ false) × (b ≡ false)
-or_false true b e = absurd cc
-or_false false b e = (refl, e)
 
 -- ---- bytes taken from the front
 
@@ -149,7 +145,7 @@ within_field w limit least most wide small = record {
       let b = bind_ok (number_at w p) (λ n. cond (ltb n.0 least || ltb most n.0) (Err (OutOfLimit p.at)) (Ok n)) y e in
       let t = number_taken w limit wide p b.0 fits b.1 in
       let g = guard_ok (ltb b.0.0 least || ltb most b.0.0) (OutOfLimit p.at) b.0 y b.2 in
-      let o = or_false (ltb b.0.0 least) (ltb most b.0.0) g.0 in
+      let o = or_parts (ltb b.0.0 least) (ltb most b.0.0) g.0 in
       subst (λ (z : ℕ × Cursor). Took p.left (to_be_bytes w z.0) z.1.left × ((least ≤ z.0) × (z.0 ≤ most))) g.1
       (t.0, (ltb-false _ _ o.0, ltb-false _ _ o.1));
 }

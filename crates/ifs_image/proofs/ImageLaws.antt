@@ -5,7 +5,7 @@ use Rattle.std.specs.Prelude.{◌==◌, ◌||◌, ◌⊎◌, codes, IsUtf8, IfOk
 use Rattle.std.specs.Int.{w16, w32, to_be_bytes}
 use Rattle.std.specs.List.{flat_map}
 use Rattle.std.specs.Str.{bytes_eq}
-use Rattle.std.proofs.lemmas.Bool.{eqb-true, false_from_ne_true}
+use Rattle.std.proofs.lemmas.Bool.{eqb-true, false_from_ne_true, or_cases}
 use Rattle.std.proofs.lemmas.List.{append-nil, nil_from_length, length-append, map_push, take_at}
 use Rattle.std.proofs.Math.Seq.{get_or-append_seam}
 use Rattle.std.proofs.lemmas.List.Elements.{All-nil, All-cons, All-head, All-tail}
@@ -54,10 +54,6 @@ magic_taken p y fits e =
     let same : b.0.0 ≡ codes "IFSV" = (bytes_eq-Decides b.0.0 (codes "IFSV")).0 g.0 in
     subst (λ (z : Unit {0} × Cursor). Took p.left (codes "IFSV") z.1.left) g.1 (subst (λ (text : List ℕ). Took p.left text b.0.1.left) same t.0)
 
-either : (a b : Bool) → (a || b) ≡ true → (a ≡ true) ⊎ (b ≡ true)
-either true b e = inl refl
-either false b e = inr e
-
 version_tests : (version : ℕ) → IsVersion version → ((version == 1) || (version == 2)) ≡ true
 version_tests version is =
     elim (version_cases version is) [
@@ -67,7 +63,7 @@ version_tests version is =
 
 version_is : (version : ℕ) → ((version == 1) || (version == 2)) ≡ true → IsVersion version
 version_is version e =
-    elim (either (version == 1) (version == 2) e) [
+    elim (or_cases (version == 1) (version == 2) e) [
       | inl one ↦ let is = eqb-true version 1 one in (omega (arith, is), omega (arith, is))
       | inr two ↦ let is = eqb-true version 2 two in (omega (arith, is), omega (arith, is))
     ]

@@ -2,7 +2,7 @@
 use Rattle.std.proofs.Common.{◌≡◌, ℕ, ◌+◌, ◌*◌, ◌/◌, ◌%◌, ◌^◌, ◌<◌, Bool, true, false, cond, List}
 use Rattle.std.proofs.Common.{[], ◌∷◌, length, get_or, Option, Some, None, refl, sym, subst, arith}
 use Rattle.std.specs.Prelude.{◌&&◌, ◌==◌}
-use Rattle.std.proofs.lemmas.Bool.{eqb-true}
+use Rattle.std.proofs.lemmas.Bool.{eqb-true, and_parts}
 use Rattle.ifs_base.specs.declared.op.LinkState.TheVariants.{Unknown, Down, Up}
 use Rattle.ifs_base.specs.declared.op.Op.{Op}
 use Rattle.ifs_base.specs.declared.op.Op.TheVariants.{Ret, Yes, No, Link, Test, Known, Negate, Both}
@@ -37,10 +37,6 @@ chosen : (b : Bool) (x y : Option Op) (op : Op) (P : Type 0) → cond b x y ≡ 
 chosen true x y op P e first second = first refl e
 chosen false x y op P e first second = second refl e
 
-both_true : (a b : Bool) → (a && b) ≡ true → (a ≡ true) × (b ≡ true)
-both_true true b e = (refl, e)
-both_true false b e = absurd cc
-
 abbrev found : Op → Option Op
 found op = Some op
 
@@ -51,7 +47,7 @@ IsSpelled-plain : (code state n c : ℕ) (o op : Op) → code ≡ c → spelling
 IsSpelled-plain code state n c o op at bytes fits e =
     chosen ((state == 0) && (n == 0)) (Some o) None op (IsSpelled code state n op) e
     (λ t f.
-    let s = both_true (state == 0) (n == 0) t in
+    let s = and_parts (state == 0) (n == 0) t in
     let no_state : state ≡ 0 = eqb-true state 0 s.0 in
     let no_operand : n ≡ 0 = eqb-true n 0 s.1 in
     let same = found_is o op f in

@@ -7,7 +7,7 @@ use Rattle.std.specs.Int.{w16, w32, w64, to_be_bytes}
 use Rattle.std.specs.List.{list_any, flat_map}
 use Rattle.std.specs.Option.{ok_or}
 use Rattle.std.specs.Str.{is_utf8}
-use Rattle.std.proofs.lemmas.Bool.{eqb-true, ltb-false, le-ltb, false_from_ne_true}
+use Rattle.std.proofs.lemmas.Bool.{eqb-true, ltb-false, le-ltb, false_from_ne_true, and_parts, not-true, or_parts}
 use Rattle.std.proofs.lemmas.Bool.Decides.{Decides-by_or, Decides-eqb, not_from_Decides}
 use Rattle.std.proofs.lemmas.List.{length-append, get_or_default}
 use Rattle.std.proofs.lemmas.List.Folds.{list_any_none}
@@ -30,7 +30,7 @@ use Rattle.ifs_image.specs.Spelling.{params_bytes, results_bytes, routine_bytes}
 use Rattle.ifs_image.specs.Reading.{Cursor, cursor, bytes_at, number_at, number_within}
 use Rattle.ifs_image.specs.Reading.{handlers_at, length_at, is_text, text_sized, text_at, stands_in, name_at}
 use Rattle.ifs_image.specs.Reading.{test_at, state_at, instruction_at, items_at, params_at, results_at, routine_at}
-use Rattle.ifs_image.proofs.FieldLaws.{IsBytes, bind_ok, again_bind, guard_ok, passed_ok, ok_is, or_false, Took}
+use Rattle.ifs_image.proofs.FieldLaws.{IsBytes, bind_ok, again_bind, guard_ok, passed_ok, ok_is, Took}
 use Rattle.ifs_image.proofs.FieldLaws.{Took-then, IsField, bytes_again, bytes_taken, wide16, wide64, number_field}
 use Rattle.ifs_image.proofs.FieldLaws.{within16, within32, AllAfter, table_field}
 use Rattle.ifs_image.proofs.KindLaws.{AreTruths, ok_or_ok, params_field, results_field}
@@ -51,14 +51,6 @@ nul_free t e k d lt at =
 free_nul : (t : List ℕ) → All (λ byte. byte ≢ 0) t → list_any (λ byte. byte == 0) t ≡ false
 free_nul t free = list_any_none (λ byte. byte == 0) t (λ k d lt. false_from_ne_true (get_or t k d == 0) (λ e. free k d lt (eqb-true _ _ e)))
 
-both_true : (a b : Bool) → (a && b) ≡ true → (a ≡ true) × (b ≡ true)
-both_true true b e = (refl, e)
-both_true false b e = absurd cc
-
-not_true : (b : Bool) → not b ≡ true → b ≡ false
-not_true true e = absurd cc
-not_true false e = refl
-
 text_true : (t : List ℕ) → TextGood t → is_text t ≡ true
 unfolding is_text
 text_true t good = rw (is_utf8-from_IsUtf8 t good.utf8, free_nul t good.fits.no_nul) refl
@@ -66,8 +58,8 @@ text_true t good = rw (is_utf8-from_IsUtf8 t good.utf8, free_nul t good.fits.no_
 text_parts : (t : List ℕ) → is_text t ≡ true → IsUtf8 t × All (λ byte. byte ≢ 0) t
 unfolding is_text
 text_parts t e =
-    let s = both_true (is_utf8 t) (not (list_any (λ byte. byte == 0) t)) e in
-    (IsUtf8-from_is_utf8 t s.0, nul_free t (not_true _ s.1))
+    let s = and_parts (is_utf8 t) (not (list_any (λ byte. byte == 0) t)) e in
+    (IsUtf8-from_is_utf8 t s.0, nul_free t (not-true _ s.1))
 
 length_field : IsField length_at (to_be_bytes w16) (λ n. (1 ≤ n) × (n ≤ 1024))
 unfolding length_at
@@ -80,7 +72,7 @@ length_field = record {
       let b = bind_ok (number_at w16 p) (λ n. cond ((n.0 == 0) || ltb 1024 n.0) (Err (BadText p.at)) (Ok n)) y e in
       let t = (number_field w16 (2 ^ 16) wide16).taken p b.0 fits b.1 in
       let g = guard_ok ((b.0.0 == 0) || ltb 1024 b.0.0) (BadText p.at) b.0 y b.2 in
-      let o = or_false (b.0.0 == 0) (ltb 1024 b.0.0) g.0 in
+      let o = or_parts (b.0.0 == 0) (ltb 1024 b.0.0) g.0 in
       let few : b.0.0 ≤ 1024 = ltb-false _ _ o.1 in
       let some : b.0.0 ≢ 0 = not_from_Decides (b.0.0 == 0) (Decides-eqb b.0.0 0) o.0 in
       subst (λ (z : ℕ × Cursor). Took p.left (to_be_bytes w16 z.0) z.1.left × ((1 ≤ z.0) × (z.0 ≤ 1024))) g.1

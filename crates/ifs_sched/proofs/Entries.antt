@@ -3,7 +3,7 @@ use Rattle.std.proofs.Common.{◌≡◌, ◌≢◌, ℕ, zero, suc, ◌+◌, ◌
 use Rattle.std.proofs.Common.{List, [], ◌∷◌, length, get_or, drop, ap, sym, ◌∙◌, subst, arith, ◌⊎◌, inl, inr, ⊎_elim, ◌↔◌, IsTrue}
 use Rattle.std.specs.Prelude.{All}
 use Rattle.std.specs.List.{AllPairs, Contains, insert, prefix_len}
-use Rattle.std.proofs.lemmas.Bool.{cases_eq}
+use Rattle.std.proofs.lemmas.Bool.{cases_eq, cases_lt}
 use Rattle.std.proofs.lemmas.Bool.Decides.{nat_tests}
 use Rattle.std.proofs.lemmas.List.Sums.{prefix_len-le-length, prefix_len_passes, prefix_len_stops}
 use Rattle.std.proofs.lemmas.List.{get_or-drop, length-drop}
@@ -33,10 +33,6 @@ before-moments a b h = grind (arith, nat_tests)
 
 pub before-irreflexive : (a b : ℕ × TestId) → comes_before a b ≡ true → a.0 ≡ b.0 → a.1.0 ≢ b.1.0
 before-irreflexive a b h e = λ f. grind (arith, nat_tests)
-
--- A number is below another one, or not.
-pub below_or_not : (a b : ℕ) → (a < b) ⊎ (b ≤ a)
-below_or_not a b = grind (arith, nat_tests)
 
 module _ (entries : List (ℕ × TestId)) (entry : ℕ × TestId) (up : IsAscending entries) (other : All (λ e. e.1.0 ≢ entry.1.0) entries) where
   abbrev place : ℕ
@@ -86,7 +82,7 @@ module _ (entries : List (ℕ × TestId)) (entry : ℕ × TestId) (up : IsAscend
       ⊎_elim
       (λ k. in_order _ _ _ _ (at_below i d below) (at_below j d k) (up i j d h (omega (arith, within))))
       (λ k. in_order _ _ _ _ (at_below i d below) (at_above j d (omega arith)) (up i (j - 1) d (omega arith) (omega arith)))
-      (below_or_not j place))
+      (cases_lt j place))
       (cases_eq j place)
 
   from_place : (i j : ℕ) (d : ℕ × TestId) → place ≤ i → i < j → j < length entries + 1 → comes_before (get_or inserted i d) (get_or inserted j d) ≡ true
@@ -103,7 +99,7 @@ module _ (entries : List (ℕ × TestId)) (entry : ℕ × TestId) (up : IsAscend
       ⊎_elim
       (λ below. from_below i j d below h (omega arith))
       (λ behind. from_place i j d (omega arith) h (omega arith))
-      (below_or_not i place)
+      (cases_lt i place)
 
 -- The entries after one is put among them.
 pub put-contains : (entries : List (ℕ × TestId)) (n : ℕ) (entry e : ℕ × TestId)

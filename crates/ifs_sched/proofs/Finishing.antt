@@ -2,7 +2,7 @@
 use Rattle.std.proofs.Common.{◌≡◌, ℕ, ◌+◌, ◌<◌, ◌≤◌, true, false, cond, eqb, refl, List}
 use Rattle.std.proofs.Common.{length, get_or, set, slice_get, ap, sym, ◌∙◌, arith, ⊎_elim}
 use Rattle.std.specs.List.{enumerate_from}
-use Rattle.std.proofs.lemmas.Bool.{cases_eq}
+use Rattle.std.proofs.lemmas.Bool.{cases_eq, cases_lt}
 use Rattle.std.proofs.lemmas.Bool.Decides.{nat_tests}
 use Rattle.std.proofs.lemmas.List.{get_or-map, get_or-set_same, get_or-set_other, get_or_default, set-get_or}
 use Rattle.std.proofs.lemmas.List.{length-set, same_lists, set_past, get_or_read}
@@ -14,7 +14,6 @@ use Rattle.ifs_sched.specs.declared.timer.Status.{Status}
 use Rattle.ifs_sched.specs.declared.timer.Status.TheVariants.{Off, Idle, Running}
 use Rattle.ifs_sched.specs.Timer.{ended, ended_status, inactive, is_run}
 use Rattle.ifs_sched.proofs.ByIndex.{as_many_by_index}
-use Rattle.ifs_sched.proofs.Entries.{below_or_not}
 
 -- The test at k of tests that are changed by index.
 pub get_or-map_by_index : (f : ℕ → Timer → Timer) (xs : List Timer) (k : ℕ) (d : Timer) → k < length xs
@@ -86,4 +85,4 @@ finished_same xs t run none =
     ∙ ap (λ s. set xs t (record x { status = s })) still
     ∙ set-get_or xs t (inactive 0))
     (λ past. ended_past xs t run past)
-    (below_or_not t (length xs))
+    (cases_lt t (length xs))

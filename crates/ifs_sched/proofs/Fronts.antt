@@ -9,6 +9,7 @@ use Rattle.std.proofs.lemmas.List.{get_or-drop, get_or-take, get_or_default, len
 use Rattle.std.proofs.lemmas.List.Folds.{Any-from_list_any, list_any-from_Any}
 use Rattle.std.proofs.lemmas.List.FromFn.{get_or-enumerate_from, length-enumerate_from}
 use Rattle.std.proofs.lemmas.Option.{slice_get-get_or, slice_get_past}
+use Rattle.std.proofs.lemmas.Bool.{cases_lt}
 use Rattle.ifs_base.specs.declared.ids.TestId.{TestId}
 use Rattle.ifs_sched.specs.declared.timer.Status.{Status}
 use Rattle.ifs_sched.specs.declared.timer.Status.TheVariants.{Off, Idle, Running}
@@ -18,7 +19,7 @@ use Rattle.ifs_sched.specs.Schedule.{any_by_index, has_number, has_test, is_left
 use Rattle.ifs_sched.specs.Idle.{AreIdle, is_due_from, is_idle, waits_until}
 use Rattle.ifs_sched.specs.inner.Due.{IsDueSet}
 use Rattle.ifs_sched.proofs.ByIndex.{as_many_by_index}
-use Rattle.ifs_sched.proofs.Entries.{ascending-drop, below_or_not, due_in_front, late_behind, count-le}
+use Rattle.ifs_sched.proofs.Entries.{ascending-drop, due_in_front, late_behind, count-le}
 use Rattle.ifs_sched.proofs.Finishing.{get_or-map_by_index}
 use Rattle.ifs_sched.proofs.Ticking.{due_at, due_is_there}
 use Rattle.ifs_sched.proofs.Waiting.{entry_waits, entry_within, waits_within}
@@ -79,7 +80,7 @@ module _ (tests : List Timer) (entries : List (ℕ × TestId)) (are : AreIdle te
       let here : k < front =
       ⊎_elim (λ h. h)
       (λ late. absurd (let l = late_behind entries are.ascending now k entry late in' in let q : (get_or entries k entry).0 ≡ m = ap (λ y. y.0) at in omega arith))
-      (below_or_not k front) in
+      (cases_lt k front) in
       list_any-from_Any (λ e. e.1.0 == t) (take front entries)
       (k, entry, omega (arith, length-take-le front entries most), get_or-take front entries k entry here ∙ at, grind (arith, nat_tests))
 
@@ -150,7 +151,7 @@ module _ (now next : ℕ) (tests : List Timer) (none : any_by_index (is_left_ove
       (λ past.
       ap (waits_until m) (slice_get_past after t (omega (arith, as_many_by_index (ticked_test now next tests) tests)))
       ∙ ap (λ o. waits_until m o && nat_lt now m) (sym (slice_get_past tests t past)))
-      (below_or_not t (length tests))
+      (cases_lt t (length tests))
 
   -- The entries after the front are those of the tests that wait still.
   module _ (entries : List (ℕ × TestId)) (are : AreIdle tests entries) where
@@ -176,7 +177,7 @@ module _ (now next : ℕ) (tests : List Timer) (none : any_by_index (is_left_ove
             ⊎_elim
             (λ here. absurd (let d = due_in_front entries are.ascending now k e here in let q : (get_or entries k e).0 ≡ e.0 = ap (λ y. y.0) at in omega arith))
             (λ l. l)
-            (below_or_not k n) in
+            (cases_lt k n) in
             let back : n + (k - n) ≡ k = omega arith in
             (k - n, omega (arith, length-drop n entries), get_or-drop n entries (k - n) e ∙ ap (λ j. get_or entries j e) back ∙ at),
       );

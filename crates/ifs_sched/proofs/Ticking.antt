@@ -7,7 +7,7 @@ use Rattle.std.specs.Option.{SomeIff}
 use Rattle.std.proofs.lemmas.Bool.Decides.{nat_tests}
 use Rattle.std.specs.Int.{bit_not}
 use Rattle.std.proofs.Math.ListN.{get_or-eq_default}
-use Rattle.std.proofs.lemmas.Bool.{cases_eq}
+use Rattle.std.proofs.lemmas.Bool.{cases_eq, cases_lt, lt-ltb, le-ltb}
 use Rattle.std.proofs.lemmas.List.{length_push, map_push, map-id, get_or_default, take_all}
 use Rattle.std.proofs.lemmas.List.FromFn.{map-range_with_len_more}
 use Rattle.std.proofs.lemmas.List.Sums.{count_by_more_no, count_by_more_yes}
@@ -17,7 +17,6 @@ use Rattle.ifs_sched.specs.Timer.{inactive, is_due, started}
 use Rattle.ifs_sched.specs.Schedule.{any_by_index, collect_by_index, has_number, has_test, is_left_over, map_by_index}
 use Rattle.ifs_sched.specs.Schedule.{run_number_at, run_as_number, start_of, starts_at, ticked_test}
 use Rattle.ifs_sched.specs.inner.Due.{IsDueSet, IsTicked}
-use Rattle.ifs_sched.proofs.Entries.{below_or_not}
 use Rattle.ifs_sched.proofs.Masks.{IsFirstTest, has_test-empty, has_test-others, has_test-taken}
 use Rattle.ifs_sched.proofs.ByIndex.{any_by_index-more, changed_below, changed_below-all, changed_below-more, changed_below-same}
 use Rattle.ifs_sched.proofs.ByIndex.{changed_below-read, collect_by_index-more}
@@ -31,13 +30,6 @@ pub record IsTickedBelow (now next : ℕ) (old : List Timer) (i : ℕ) (tests : 
   pub numbered_so_far : map (λ start. start.run) starts ≡ range_with_len next (length starts)
   pub in_sequence : number ≡ next + length starts
   pub starts_fit : length starts ≤ i
-
--- Tests of numbers.
-number_left : (n : ℕ) → n < 2 ^ 64 → nat_lt n (2 ^ 64) ≡ true
-number_left n h = grind (arith, nat_tests)
-
-none_left : (n : ℕ) → 2 ^ 64 ≤ n → nat_lt n (2 ^ 64) ≡ false
-none_left n h = grind (arith, nat_tests)
 
 -- One more operand of `||`.
 or_no : (b : Bool) → b ≡ (b || (false || false))
@@ -156,7 +148,7 @@ module _ (now next : ℕ) (old : List Timer) (i : ℕ) (tests : List Timer) (sta
       let on : is_due now (get_or old i d) ≡ true = ap (is_due now) (sym same) ∙ h in
       let count = count_by_more_yes (is_due now) old i d within on in
       let is : run ≡ run_number_at now next old i = let k = so.number_so_far in omega arith in
-      let some : has_number now next old i ≡ true = number_left _ (omega arith) in
+      let some : has_number now next old i ≡ true = lt-ltb _ _ (omega arith) in
       let many = length_push starts (record { test = record { 0 = i }; run = run }) in
       let changed = test_if now next old i (get_or tests i d) true run (starts_if now next old i (get_or tests i d) true h some) is in
       let one = start_if now next old i (get_or old i d) true run (starts_if now next old i (get_or old i d) true on some) is in
@@ -176,7 +168,7 @@ module _ (now next : ℕ) (old : List Timer) (i : ℕ) (tests : List Timer) (sta
   IsTickedBelow-left h none_is =
       let on : is_due now (get_or old i d) ≡ true = ap (is_due now) (sym same) ∙ h in
       let count = count_by_more_yes (is_due now) old i d within on in
-      let none : has_number now next old i ≡ false = none_left _ (let k = so.number_so_far in omega arith) in
+      let none : has_number now next old i ≡ false = le-ltb _ _ (let k = so.number_so_far in omega arith) in
       let stays = test_if now next old i (get_or tests i d) false _ (starts_if now next old i (get_or tests i d) false h none) refl in
       let nothing = start_if now next old i (get_or old i d) false _ (starts_if now next old i (get_or old i d) false on none) refl in
       record {
@@ -236,12 +228,12 @@ ticked_so_far-none now next old due h set = record {
 -- A due test exists.
 pub due_is_there : (now : ℕ) (old : List Timer) (t : ℕ) → due_at now old t ≡ true → t < length old
 due_is_there now old t h =
-    ⊎_elim (λ k. k) (λ past. absurd (differ (sym (ap (is_due now) (get_or-eq_default old (inactive 0) past)) ∙ h))) (below_or_not t (length old))
+    ⊎_elim (λ k. k) (λ past. absurd (differ (sym (ap (is_due now) (get_or-eq_default old (inactive 0) past)) ∙ h))) (cases_lt t (length old))
 
 module _ (now next : ℕ) (old : List Timer) (left : ℕ) (tests : List Timer) (starts : List Start) (exhausted : Bool) (number : ℕ) (so : IsTickedSoFar now next old left tests starts exhausted number) (room : length old ≤ 64) where
   module _ (index : ℕ) (first : IsFirstTest left index) where
     behind_place : so.place ≤ index
-    behind_place = ⊎_elim (λ h. absurd (differ (sym (so.below index h) ∙ first.has))) (λ h. h) (below_or_not index so.place)
+    behind_place = ⊎_elim (λ h. absurd (differ (sym (so.below index h) ∙ first.has))) (λ h. h) (cases_lt index so.place)
 
     pub due_there : due_at now old index ≡ true
     due_there = sym (so.behind index behind_place first.there) ∙ first.has

@@ -4,7 +4,7 @@ use Rattle.std.proofs.Common.{List, [], ◌∷◌, Option, Some, None, length, g
 use Rattle.std.proofs.Common.{◌⊎◌, inl, inr, ⊎_elim, ◌↔◌}
 use Rattle.std.specs.Prelude.{All}
 use Rattle.std.specs.List.{Contains, IsDistinct, list_any}
-use Rattle.std.proofs.lemmas.Bool.{cases_eq}
+use Rattle.std.proofs.lemmas.Bool.{cases_eq, cases_lt, eqb-true, eq-eqb}
 use Rattle.std.proofs.lemmas.Bool.Decides.{nat_tests}
 use Rattle.std.proofs.lemmas.List.{get_or-set_other, get_or-set_same, length-set}
 use Rattle.std.proofs.lemmas.List.{get_or-take, get_or_default, length-take-le}
@@ -19,7 +19,7 @@ use Rattle.ifs_sched.specs.declared.timer.Status.TheVariants.{Off, Idle, Running
 use Rattle.ifs_sched.specs.declared.timer.Timer.{Timer}
 use Rattle.ifs_sched.specs.Timer.{inactive, is_run}
 use Rattle.ifs_sched.specs.Idle.{AreIdle, IsNextDue, is_due_from, is_idle, waits_until}
-use Rattle.ifs_sched.proofs.Entries.{IsAscending, before-irreflexive, before-moments, below_or_not}
+use Rattle.ifs_sched.proofs.Entries.{IsAscending, before-irreflexive, before-moments}
 
 -- An entry by its moment and its test's index.
 pub entry_is : (e : ℕ × TestId) (moment test : ℕ) → e.0 ≡ moment → e.1.0 ≡ test → e ≡ (moment, record { 0 = test })
@@ -36,12 +36,6 @@ alike tests others entries same are = record {
   each = λ e. (λ h. same e.1.0 e.0 ∙ (are.each e).0 h, λ h. (are.each e).1 (sym (same e.1.0 e.0) ∙ h));
 }
 
-same_number : (n : ℕ) → eqb n n ≡ true
-same_number n = grind (arith, nat_tests)
-
-number_is : (m n : ℕ) → eqb m n ≡ true → m ≡ n
-number_is m n h = grind (arith, nat_tests)
-
 never : false ≡ true → ⊥
 never h = cc
 
@@ -57,7 +51,7 @@ module _ (tests others : List Timer) (entries added : List (ℕ × TestId)) (tes
     ascending = up;
     each = λ e. (
       λ h. ⊎_elim
-          (λ is. ap (λ x. is_idle others x) is ∙ after due ∙ same_number due)
+          (λ is. ap (λ x. is_idle others x) is ∙ after due ∙ eq-eqb due due refl)
           (λ k. ⊎_elim
           (λ here. absurd (never (sym (before e.0) ∙ ap (λ t. waits_until e.0 (slice_get tests t)) (sym here) ∙ (are.each e).0 k)))
           (λ else. same e.1.0 e.0 else ∙ (are.each e).0 k)
@@ -65,7 +59,7 @@ module _ (tests others : List Timer) (entries added : List (ℕ × TestId)) (tes
           ((there e).0 h),
       λ h. (there e).1
           (⊎_elim
-          (λ here. inl (entry_is e due test (sym (number_is due e.0 (sym (after e.0) ∙ ap (λ t. waits_until e.0 (slice_get others t)) (sym here) ∙ h))) here))
+          (λ here. inl (entry_is e due test (sym (eqb-true due e.0 (sym (after e.0) ∙ ap (λ t. waits_until e.0 (slice_get others t)) (sym here) ∙ h))) here))
           (λ else. inr ((are.each e).1 (sym (same e.1.0 e.0 else) ∙ h)))
           (cases_eq e.1.0 test)),
     );
@@ -81,7 +75,7 @@ nobody_waits tests none = record {
 -- A test that waits exists.
 pub waits_within : (tests : List Timer) (t m : ℕ) → waits_until m (slice_get tests t) ≡ true → t < length tests
 waits_within tests t m h =
-    ⊎_elim (λ k. k) (λ past. absurd (never (sym (ap (waits_until m) (slice_get_past tests t past)) ∙ h))) (below_or_not t (length tests))
+    ⊎_elim (λ k. k) (λ past. absurd (never (sym (ap (waits_until m) (slice_get_past tests t past)) ∙ h))) (cases_lt t (length tests))
 
 module _ (tests : List Timer) (entries : List (ℕ × TestId)) (are : AreIdle tests entries) where
   pub entry_waits : (k : ℕ) (d : ℕ × TestId) → k < length entries → is_idle tests (get_or entries k d) ≡ true
@@ -119,7 +113,7 @@ module _ (tests : List Timer) (i : ℕ) (within : i < length tests) where
       ∙ sym (slice_get_past (take i tests) t (omega (arith, length-take-le i tests (omega arith))))
 
   pub take_alike : (t : ℕ) → t ≢ i → slice_get (take (i + 1) tests) t ≡ slice_get (take i tests) t
-  take_alike t ne = ⊎_elim (below_alike t) (λ h. above_alike t (omega arith)) (below_or_not t i)
+  take_alike t ne = ⊎_elim (below_alike t) (λ h. above_alike t (omega arith)) (cases_lt t i)
 
 -- One test is written.
 module _ (tests : List Timer) (i : ℕ) (timer : Timer) where
@@ -136,7 +130,7 @@ module _ (tests : List Timer) (i : ℕ) (timer : Timer) where
       ∙ ap Some (get_or-set_other tests i t timer timer ne)
       ∙ sym (slice_get-get_or tests t timer h))
       (λ past. slice_get_past (set tests i timer) t (omega (arith, length-set tests i timer)) ∙ sym (slice_get_past tests t past))
-      (below_or_not t (length tests))
+      (cases_lt t (length tests))
 
 -- The status of a test that is not idle.
 pub not_idle : (status : Status) → ((due : ℕ) → status ≡ Idle due → ⊥) → (m : ℕ) → is_due_from m status ≡ false
@@ -160,7 +154,7 @@ one_moment m n None h k = absurd (never h)
 one_moment m n (Some timer) h k = same_moment m n timer.status h k
   where
     same_moment : (m n : ℕ) (status : Status) → is_due_from m status ≡ true → is_due_from n status ≡ true → m ≡ n
-    same_moment m n (Idle due) h k = sym (number_is due m h) ∙ number_is due n k
+    same_moment m n (Idle due) h k = sym (eqb-true due m h) ∙ eqb-true due n k
     same_moment m n status h k = absurd (never h)
 
 abbrev index_of : ℕ × TestId → ℕ
@@ -210,7 +204,7 @@ room_for tests entries test are few within none =
     found_low ys y low q h =
         let (k, x, in', at, is) = Any-from_list_any (eqb q) (y ∷ ys) h in
         let l = low k x in' in
-        let e = number_is q x is in
+        let e = eqb-true q x is in
         omega (arith, at)
 
 -- Tests that are off do not wait.
