@@ -1,8 +1,8 @@
 -- The values of tests after an entry, with one more test.
 use Rattle.std.proofs.Common.{◌≡◌, ℕ, ◌+◌, Bool, List, [], ◌∷◌, ◌++◌, Option}
-use Rattle.std.proofs.Common.{length, get_or, take, map, ◌<◌, ap, sym, ◌∙◌, arith}
+use Rattle.std.proofs.Common.{length, get_or, take, ◌<◌, ap, sym, ◌∙◌, arith}
 use Rattle.std.specs.List.{enumerate_from}
-use Rattle.std.proofs.lemmas.List.{map_push, length-map, length-take-le, take_more}
+use Rattle.std.proofs.lemmas.List.{length-map, length-take-le, take_more}
 use Rattle.std.proofs.lemmas.List.FromFn.{length-enumerate_from}
 use Rattle.ifs_sched.proofs.ByIndex.{map_enumerated-push}
 use Rattle.ifs_core.specs.Event.{kept_value, kept_values}

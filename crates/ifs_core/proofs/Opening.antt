@@ -2,11 +2,10 @@
 use Rattle.std.proofs.Common.{◌≡◌, ℕ, Option, None, length, map, ◌∙◌}
 use Rattle.std.specs.Prelude.{Bool}
 use Rattle.std.proofs.lemmas.List.{length-map}
-use Rattle.ifs_base.specs.declared.op.LinkState.TheVariants.{Unknown}
 use Rattle.ifs_image.specs.declared.parts.ImageParts.{ImageParts}
 use Rattle.ifs_sched.specs.Timer.{inactive}
 use Rattle.ifs_sched.specs.Schedule.{all_off}
-use Rattle.ifs_core.specs.Machine.{all_unknown, periods_in}
+use Rattle.ifs_core.specs.Machine.{periods_in}
 
 pub length-periods_in : (image : ImageParts) → length (periods_in image) ≡ length image.tests
 length-periods_in image = length-map image.tests (λ test. test.period)

@@ -8,7 +8,7 @@ use Rattle.ifs_image.specs.Upgrade.{upgraded}
 use Rattle.ifs_verify.specs.Bounds.{commands_of}
 use Rattle.ifs_verify.specs.Laws.{UpgradeKeepsAcceptance}
 use Rattle.ifs_machine.specs.Run.{UpgradeKeepsRuns}
-use Rattle.ifs_core.specs.Event.{Handler, AlwaysInit, AlwaysBody, Init, Body, Behaviour}
+use Rattle.ifs_core.specs.Event.{Handler, AlwaysInit, Behaviour}
 use Rattle.ifs_core.specs.Machine.{routine_of, IsBehaviour}
 use Rattle.ifs_core.specs.UpgradeKeeps.{with_budgets, MeansTheSame, UpgradeKeeps, UpgradeKeepsBytes}
 

@@ -6,7 +6,7 @@ use Rattle.ifs_image.specs.declared.parts.ImageParts.{ImageParts}
 use Rattle.ifs_base.specs.Effects.{Effects, nothing_yet, followed}
 use Rattle.ifs_machine.specs.Run.{RunsTo, StaysWithin}
 use Rattle.ifs_core.specs.declared.step.Step.{Step}
-use Rattle.ifs_core.specs.declared.step.Step.TheVariants.{Link, Finished, Tick, Take}
+use Rattle.ifs_core.specs.declared.step.Step.TheVariants.{Link, Finished}
 use Rattle.ifs_core.specs.Event.{Handler, AlwaysInit, AlwaysBody, Init, Body, Behaviour, Position, change_of, entering}
 use Rattle.ifs_core.specs.Machine.{routine_of}
 use Rattle.ifs_core.specs.Gateway.{Known, opening_of, opened}

@@ -1,7 +1,7 @@
 -- Laws of images: reading an image is the inverse of spelling it.
-use Rattle.std.proofs.Common.{◌≡◌, ◌≢◌, ℕ, ◌+◌, ◌-◌, ◌^◌, ◌<◌, ◌≤◌, Bool, true, false, cond, inl, inr, List, [], ◌∷◌, ◌++◌, length}
+use Rattle.std.proofs.Common.{◌≡◌, ◌≢◌, ℕ, ◌+◌, ◌-◌, ◌^◌, ◌<◌, ◌≤◌, true, false, cond, inl, inr, List, [], ◌∷◌, ◌++◌, length}
 use Rattle.std.proofs.Common.{get_or, take, Result, Ok, Err, refl, sym, ap, subst, ◌∙◌, append_assoc, arith, All}
-use Rattle.std.specs.Prelude.{◌==◌, ◌||◌, ◌⊎◌, codes, IsUtf8, IfOk}
+use Rattle.std.specs.Prelude.{◌==◌, ◌||◌, codes, IsUtf8, IfOk}
 use Rattle.std.specs.Int.{w16, w32, to_be_bytes}
 use Rattle.std.specs.List.{flat_map}
 use Rattle.std.specs.Str.{bytes_eq}
@@ -16,7 +16,7 @@ use Rattle.ifs_image.specs.declared.fault.ImageFault.{ImageFault}
 use Rattle.ifs_image.specs.declared.fault.ImageFault.TheVariants.{Memory, WrongMagic, WrongVersion, Trailing}
 use Rattle.ifs_image.specs.declared.parts.Budgets.{Budgets}
 use Rattle.ifs_image.specs.declared.parts.Counts.{Counts}
-use Rattle.ifs_image.specs.declared.parts.Handlers.{Handlers}
+use Rattle.ifs_image.specs.declared.parts.Head.{Head}
 use Rattle.ifs_image.specs.declared.parts.TestSpec.{TestSpec}
 use Rattle.ifs_image.specs.declared.parts.StateSpec.{StateSpec}
 use Rattle.ifs_image.specs.declared.parts.Routine.{Routine}
@@ -29,7 +29,7 @@ use Rattle.ifs_image.specs.Spelling.{front_bytes, budgets_bytes, counts_bytes, h
 use Rattle.ifs_image.specs.Spelling.{test_bytes, state_bytes, routine_bytes, counts, image_bytes, Spells}
 use Rattle.ifs_image.specs.Reading.{Cursor, cursor, bytes_at, byte_at, number_at, number_within, magic_at}
 use Rattle.ifs_image.specs.Reading.{version_at, budgets_at, counts_at, handlers_at, text_at, stands_in, name_at}
-use Rattle.ifs_image.specs.Reading.{test_at, state_at, items_at, routine_after, room_after, parts_at, image_of}
+use Rattle.ifs_image.specs.Reading.{test_at, state_at, items_at, routine_after, room_after, head_at, parts_at, image_of}
 use Rattle.ifs_image.specs.Answers.{Answers}
 use Rattle.ifs_image.proofs.Names.{AreDistinct-push, distinct_broken}
 use Rattle.ifs_image.proofs.FieldLaws.{IsBytes, bind_ok, again_bind, passed_ok, ok_is, Took, Took-then}
@@ -136,6 +136,59 @@ counts_field = record {
       subst (λ (z : Counts × Cursor). Took p.left (counts_bytes z.0) z.1.left × CountsGood z.0) (ok_is made y b_routines.2)
       (Took-then (Took-then (Took-then (Took-then t1.0 t2.0) t3.0) t4.0) t5.0, record { interfaces = t1.1.1; tests = t2.1.1; commands = t3.1.1; some_state = t4.1.0; states = t4.1.1; routines = t5.1.1 });
 }
+
+-- ---- the fields before the tables
+
+-- The fields before the tables are within their limits.
+pub record HeadGood (h : Head) : Type 0 where
+  pub version : IsVersion h.version
+  pub budgets : BudgetsFit h.budgets
+  pub counts : CountsGood h.counts
+  pub initial : h.initial.0 < 2 ^ 16
+  pub always : HandlersInRange h.always
+
+abbrev head_bytes : Head → List ℕ
+head_bytes h = front_bytes h.version ++ budgets_bytes h.budgets ++ counts_bytes h.counts ++ to_be_bytes w16 h.initial.0 ++ handlers_bytes h.always
+
+head_again : (h : Head) (at : ℕ) (rest : List ℕ) → HeadGood h → (after : ℕ) × (head_at (cursor at (head_bytes h ++ rest)) ≡ Ok (h, cursor after rest))
+unfolding head_at front_bytes
+head_again h at rest good =
+    let r6 = handlers_bytes h.always ++ rest in
+    let r5 = to_be_bytes w16 h.initial.0 ++ r6 in
+    let r4 = counts_bytes h.counts ++ r5 in
+    let r3 = budgets_bytes h.budgets ++ r4 in
+    let regrouped : head_bytes h ++ rest ≡ codes "IFSV" ++ ((h.version ∷ []) ++ r3) = simp append_assoc in
+    let k4 = at + 4 + 1 + length (budgets_bytes h.budgets) in
+    let k5 = k4 + length (counts_bytes h.counts) in
+    let a1 = magic_again at ((h.version ∷ []) ++ r3) in
+    let a2 = version_again h.version (at + 4) r3 good.version in
+    let a3 = budgets_field.again h.budgets (at + 4 + 1) r4 good.budgets in
+    let a4 = counts_field.again h.counts k4 r5 good.counts in
+    let a5 = (number_field w16 (2 ^ 16) wide16).again h.initial.0 k5 r6 good.initial in
+    let a6 = handlers_field.again h.always (k5 + 2) rest good.always in (
+      k5 + 2 + length (handlers_bytes h.always),
+      ap (λ (bytes : List ℕ). head_at (cursor at bytes)) regrouped
+          ∙ again_bind _ _ _ _ a1 (again_bind _ _ _ _ a2 (again_bind _ _ _ _ a3 (again_bind _ _ _ _ a4 (again_bind _ _ _ _ a5 (again_bind _ _ _ _ a6 refl))))),
+    )
+
+head_taken : (p : Cursor) (y : Head × Cursor) → IsBytes p.left → head_at p ≡ Ok y → Took p.left (head_bytes y.0) y.1.left × HeadGood y.0
+unfolding head_at front_bytes
+head_taken p y fits e =
+    let a = bind_ok (magic_at p) (λ magic. version_at magic.1 >>= λ version. budgets_at version.1 >>= λ budgets. counts_at budgets.1 >>= λ counts. number_at w16 counts.1 >>= λ initial. handlers_at initial.1 >>= λ always. Ok (record { version = version.0; budgets = budgets.0; counts = counts.0; initial = record { 0 = initial.0 }; always = always.0 }, always.1)) y e in
+    let b = bind_ok (version_at a.0.1) (λ version. budgets_at version.1 >>= λ budgets. counts_at budgets.1 >>= λ counts. number_at w16 counts.1 >>= λ initial. handlers_at initial.1 >>= λ always. Ok (record { version = version.0; budgets = budgets.0; counts = counts.0; initial = record { 0 = initial.0 }; always = always.0 }, always.1)) y a.2 in
+    let c = bind_ok (budgets_at b.0.1) (λ budgets. counts_at budgets.1 >>= λ counts. number_at w16 counts.1 >>= λ initial. handlers_at initial.1 >>= λ always. Ok (record { version = b.0.0; budgets = budgets.0; counts = counts.0; initial = record { 0 = initial.0 }; always = always.0 }, always.1)) y b.2 in
+    let d = bind_ok (counts_at c.0.1) (λ counts. number_at w16 counts.1 >>= λ initial. handlers_at initial.1 >>= λ always. Ok (record { version = b.0.0; budgets = c.0.0; counts = counts.0; initial = record { 0 = initial.0 }; always = always.0 }, always.1)) y c.2 in
+    let i = bind_ok (number_at w16 d.0.1) (λ initial. handlers_at initial.1 >>= λ always. Ok (record { version = b.0.0; budgets = c.0.0; counts = d.0.0; initial = record { 0 = initial.0 }; always = always.0 }, always.1)) y d.2 in
+    let h = bind_ok (handlers_at i.0.1) (λ always. Ok (record { version = b.0.0; budgets = c.0.0; counts = d.0.0; initial = record { 0 = i.0.0 }; always = always.0 }, always.1)) y i.2 in
+    let t1 = magic_taken p a.0 fits a.1 in
+    let t2 = version_taken a.0.1 b.0 t1.rest_fits b.1 in
+    let t3 = budgets_field.taken b.0.1 c.0 t2.0.rest_fits c.1 in
+    let t4 = counts_field.taken c.0.1 d.0 t3.0.rest_fits d.1 in
+    let t5 = (number_field w16 (2 ^ 16) wide16).taken d.0.1 i.0 t4.0.rest_fits i.1 in
+    let t6 = handlers_field.taken i.0.1 h.0 t5.0.rest_fits h.1 in
+    let made : Head × Cursor = (record { version = b.0.0; budgets = c.0.0; counts = d.0.0; initial = record { 0 = i.0.0 }; always = h.0.0 }, h.0.1) in
+    subst (λ (z : Head × Cursor). Took p.left (head_bytes z.0) z.1.left × HeadGood z.0) (ok_is made y h.2)
+    (Took-then (Took-then (Took-then (Took-then (Took-then t1 t2.0) t3.0) t4.0) t5.0) t6.0, record { version = t2.1; budgets = t3.1; counts = t4.1; initial = t5.1; always = t6.1 })
 
 -- ---- tables: facts of each entry, and facts of an entry after earlier ones
 
@@ -306,77 +359,57 @@ pub record TookImage (bytes : List ℕ) (parts : ImageParts) (rest : List ℕ) :
 
 -- The fields of an image as they were read, one after the other.
 pub record Steps (p : Cursor) (y : ImageParts × Cursor) : Type 0 where
-  pub magic : Unit {0} × Cursor
-  pub is_magic : magic_at p ≡ Ok magic
-  pub version : ℕ × Cursor
-  pub is_version : version_at magic.1 ≡ Ok version
-  pub budgets : Budgets × Cursor
-  pub is_budgets : budgets_at version.1 ≡ Ok budgets
-  pub counts : Counts × Cursor
-  pub is_counts : counts_at budgets.1 ≡ Ok counts
-  pub initial : ℕ × Cursor
-  pub is_initial : number_at w16 counts.1 ≡ Ok initial
-  pub always : Handlers × Cursor
-  pub is_always : handlers_at initial.1 ≡ Ok always
+  pub head : Head × Cursor
+  pub is_head : head_at p ≡ Ok head
   pub interfaces : List (List ℕ) × Cursor
-  pub is_interfaces : items_at name_at counts.0.interfaces [] always.1 ≡ Ok interfaces
+  pub is_interfaces : items_at name_at head.0.counts.interfaces [] head.1 ≡ Ok interfaces
   pub tests : List TestSpec × Cursor
-  pub is_tests : items_at (λ _. test_at) counts.0.tests [] interfaces.1 ≡ Ok tests
+  pub is_tests : items_at (λ _. test_at) head.0.counts.tests [] interfaces.1 ≡ Ok tests
   pub commands : List (List ℕ) × Cursor
-  pub is_commands : items_at (λ _. text_at) counts.0.commands [] tests.1 ≡ Ok commands
+  pub is_commands : items_at (λ _. text_at) head.0.counts.commands [] tests.1 ≡ Ok commands
   pub states : List StateSpec × Cursor
-  pub is_states : items_at state_at counts.0.states [] commands.1 ≡ Ok states
+  pub is_states : items_at state_at head.0.counts.states [] commands.1 ≡ Ok states
   pub routines : List Routine × Cursor
-  pub is_routines : items_at (routine_after version.0) counts.0.routines [] states.1 ≡ Ok routines
-  pub made_is : done (record { version = version.0; budgets = budgets.0; initial = record { 0 = initial.0 }; always = always.0; interfaces = interfaces.0; tests = tests.0; commands = commands.0; states = states.0; routines = routines.0 }, routines.1) ≡ Ok y
+  pub is_routines : items_at (routine_after head.0.version) head.0.counts.routines [] states.1 ≡ Ok routines
+  pub made_is : done (record { version = head.0.version; budgets = head.0.budgets; initial = head.0.initial; always = head.0.always; interfaces = interfaces.0; tests = tests.0; commands = commands.0; states = states.0; routines = routines.0 }, routines.1) ≡ Ok y
 
 steps_of : (p : Cursor) (y : ImageParts × Cursor) → parts_at p ≡ Ok y → Steps p y
 unfolding parts_at
 steps_of p y e =
-    bind_elim (magic_at p) (λ magic. version_at magic.1 >>= λ version. budgets_at version.1 >>= λ budgets. counts_at budgets.1 >>= λ counts. number_at w16 counts.1 >>= λ initial. handlers_at initial.1 >>= λ always. items_at name_at counts.0.interfaces [] always.1 >>= λ interfaces. items_at (λ _. test_at) counts.0.tests [] interfaces.1 >>= λ tests. items_at (λ _. text_at) counts.0.commands [] tests.1 >>= λ commands. items_at state_at counts.0.states [] commands.1 >>= λ states. items_at (routine_after version.0) counts.0.routines [] states.1 >>= λ routines. Ok (record { version = version.0; budgets = budgets.0; initial = record { 0 = initial.0 }; always = always.0; interfaces = interfaces.0; tests = tests.0; commands = commands.0; states = states.0; routines = routines.0 }, routines.1)) y (Steps p y) e (λ magic e_magic g_magic.
-    bind_elim (version_at magic.1) (λ version. budgets_at version.1 >>= λ budgets. counts_at budgets.1 >>= λ counts. number_at w16 counts.1 >>= λ initial. handlers_at initial.1 >>= λ always. items_at name_at counts.0.interfaces [] always.1 >>= λ interfaces. items_at (λ _. test_at) counts.0.tests [] interfaces.1 >>= λ tests. items_at (λ _. text_at) counts.0.commands [] tests.1 >>= λ commands. items_at state_at counts.0.states [] commands.1 >>= λ states. items_at (routine_after version.0) counts.0.routines [] states.1 >>= λ routines. Ok (record { version = version.0; budgets = budgets.0; initial = record { 0 = initial.0 }; always = always.0; interfaces = interfaces.0; tests = tests.0; commands = commands.0; states = states.0; routines = routines.0 }, routines.1)) y (Steps p y) g_magic (λ version e_version g_version.
-    bind_elim (budgets_at version.1) (λ budgets. counts_at budgets.1 >>= λ counts. number_at w16 counts.1 >>= λ initial. handlers_at initial.1 >>= λ always. items_at name_at counts.0.interfaces [] always.1 >>= λ interfaces. items_at (λ _. test_at) counts.0.tests [] interfaces.1 >>= λ tests. items_at (λ _. text_at) counts.0.commands [] tests.1 >>= λ commands. items_at state_at counts.0.states [] commands.1 >>= λ states. items_at (routine_after version.0) counts.0.routines [] states.1 >>= λ routines. Ok (record { version = version.0; budgets = budgets.0; initial = record { 0 = initial.0 }; always = always.0; interfaces = interfaces.0; tests = tests.0; commands = commands.0; states = states.0; routines = routines.0 }, routines.1)) y (Steps p y) g_version (λ budgets e_budgets g_budgets.
-    bind_elim (counts_at budgets.1) (λ counts. number_at w16 counts.1 >>= λ initial. handlers_at initial.1 >>= λ always. items_at name_at counts.0.interfaces [] always.1 >>= λ interfaces. items_at (λ _. test_at) counts.0.tests [] interfaces.1 >>= λ tests. items_at (λ _. text_at) counts.0.commands [] tests.1 >>= λ commands. items_at state_at counts.0.states [] commands.1 >>= λ states. items_at (routine_after version.0) counts.0.routines [] states.1 >>= λ routines. Ok (record { version = version.0; budgets = budgets.0; initial = record { 0 = initial.0 }; always = always.0; interfaces = interfaces.0; tests = tests.0; commands = commands.0; states = states.0; routines = routines.0 }, routines.1)) y (Steps p y) g_budgets (λ counts e_counts g_counts.
-    bind_elim (number_at w16 counts.1) (λ initial. handlers_at initial.1 >>= λ always. items_at name_at counts.0.interfaces [] always.1 >>= λ interfaces. items_at (λ _. test_at) counts.0.tests [] interfaces.1 >>= λ tests. items_at (λ _. text_at) counts.0.commands [] tests.1 >>= λ commands. items_at state_at counts.0.states [] commands.1 >>= λ states. items_at (routine_after version.0) counts.0.routines [] states.1 >>= λ routines. Ok (record { version = version.0; budgets = budgets.0; initial = record { 0 = initial.0 }; always = always.0; interfaces = interfaces.0; tests = tests.0; commands = commands.0; states = states.0; routines = routines.0 }, routines.1)) y (Steps p y) g_counts (λ initial e_initial g_initial.
-    bind_elim (handlers_at initial.1) (λ always. items_at name_at counts.0.interfaces [] always.1 >>= λ interfaces. items_at (λ _. test_at) counts.0.tests [] interfaces.1 >>= λ tests. items_at (λ _. text_at) counts.0.commands [] tests.1 >>= λ commands. items_at state_at counts.0.states [] commands.1 >>= λ states. items_at (routine_after version.0) counts.0.routines [] states.1 >>= λ routines. Ok (record { version = version.0; budgets = budgets.0; initial = record { 0 = initial.0 }; always = always.0; interfaces = interfaces.0; tests = tests.0; commands = commands.0; states = states.0; routines = routines.0 }, routines.1)) y (Steps p y) g_initial (λ always e_always g_always.
-    bind_elim (items_at name_at counts.0.interfaces [] always.1) (λ interfaces. items_at (λ _. test_at) counts.0.tests [] interfaces.1 >>= λ tests. items_at (λ _. text_at) counts.0.commands [] tests.1 >>= λ commands. items_at state_at counts.0.states [] commands.1 >>= λ states. items_at (routine_after version.0) counts.0.routines [] states.1 >>= λ routines. Ok (record { version = version.0; budgets = budgets.0; initial = record { 0 = initial.0 }; always = always.0; interfaces = interfaces.0; tests = tests.0; commands = commands.0; states = states.0; routines = routines.0 }, routines.1)) y (Steps p y) g_always (λ interfaces e_interfaces g_interfaces.
-    bind_elim (items_at (λ _. test_at) counts.0.tests [] interfaces.1) (λ tests. items_at (λ _. text_at) counts.0.commands [] tests.1 >>= λ commands. items_at state_at counts.0.states [] commands.1 >>= λ states. items_at (routine_after version.0) counts.0.routines [] states.1 >>= λ routines. Ok (record { version = version.0; budgets = budgets.0; initial = record { 0 = initial.0 }; always = always.0; interfaces = interfaces.0; tests = tests.0; commands = commands.0; states = states.0; routines = routines.0 }, routines.1)) y (Steps p y) g_interfaces (λ tests e_tests g_tests.
-    bind_elim (items_at (λ _. text_at) counts.0.commands [] tests.1) (λ commands. items_at state_at counts.0.states [] commands.1 >>= λ states. items_at (routine_after version.0) counts.0.routines [] states.1 >>= λ routines. Ok (record { version = version.0; budgets = budgets.0; initial = record { 0 = initial.0 }; always = always.0; interfaces = interfaces.0; tests = tests.0; commands = commands.0; states = states.0; routines = routines.0 }, routines.1)) y (Steps p y) g_tests (λ commands e_commands g_commands.
-    bind_elim (items_at state_at counts.0.states [] commands.1) (λ states. items_at (routine_after version.0) counts.0.routines [] states.1 >>= λ routines. Ok (record { version = version.0; budgets = budgets.0; initial = record { 0 = initial.0 }; always = always.0; interfaces = interfaces.0; tests = tests.0; commands = commands.0; states = states.0; routines = routines.0 }, routines.1)) y (Steps p y) g_commands (λ states e_states g_states.
-    bind_elim (items_at (routine_after version.0) counts.0.routines [] states.1) (λ routines. Ok (record { version = version.0; budgets = budgets.0; initial = record { 0 = initial.0 }; always = always.0; interfaces = interfaces.0; tests = tests.0; commands = commands.0; states = states.0; routines = routines.0 }, routines.1)) y (Steps p y) g_states (λ routines e_routines g_routines.
-    record { magic = magic; is_magic = e_magic; version = version; is_version = e_version; budgets = budgets; is_budgets = e_budgets; counts = counts; is_counts = e_counts; initial = initial; is_initial = e_initial; always = always; is_always = e_always; interfaces = interfaces; is_interfaces = e_interfaces; tests = tests; is_tests = e_tests; commands = commands; is_commands = e_commands; states = states; is_states = e_states; routines = routines; is_routines = e_routines; made_is = g_routines })))))))))))
+    bind_elim (head_at p) (λ head. items_at name_at head.0.counts.interfaces [] head.1 >>= λ interfaces. items_at (λ _. test_at) head.0.counts.tests [] interfaces.1 >>= λ tests. items_at (λ _. text_at) head.0.counts.commands [] tests.1 >>= λ commands. items_at state_at head.0.counts.states [] commands.1 >>= λ states. items_at (routine_after head.0.version) head.0.counts.routines [] states.1 >>= λ routines. Ok (record { version = head.0.version; budgets = head.0.budgets; initial = head.0.initial; always = head.0.always; interfaces = interfaces.0; tests = tests.0; commands = commands.0; states = states.0; routines = routines.0 }, routines.1)) y (Steps p y) e (λ head e_head g_head.
+    bind_elim (items_at name_at head.0.counts.interfaces [] head.1) (λ interfaces. items_at (λ _. test_at) head.0.counts.tests [] interfaces.1 >>= λ tests. items_at (λ _. text_at) head.0.counts.commands [] tests.1 >>= λ commands. items_at state_at head.0.counts.states [] commands.1 >>= λ states. items_at (routine_after head.0.version) head.0.counts.routines [] states.1 >>= λ routines. Ok (record { version = head.0.version; budgets = head.0.budgets; initial = head.0.initial; always = head.0.always; interfaces = interfaces.0; tests = tests.0; commands = commands.0; states = states.0; routines = routines.0 }, routines.1)) y (Steps p y) g_head (λ interfaces e_interfaces g_interfaces.
+    bind_elim (items_at (λ _. test_at) head.0.counts.tests [] interfaces.1) (λ tests. items_at (λ _. text_at) head.0.counts.commands [] tests.1 >>= λ commands. items_at state_at head.0.counts.states [] commands.1 >>= λ states. items_at (routine_after head.0.version) head.0.counts.routines [] states.1 >>= λ routines. Ok (record { version = head.0.version; budgets = head.0.budgets; initial = head.0.initial; always = head.0.always; interfaces = interfaces.0; tests = tests.0; commands = commands.0; states = states.0; routines = routines.0 }, routines.1)) y (Steps p y) g_interfaces (λ tests e_tests g_tests.
+    bind_elim (items_at (λ _. text_at) head.0.counts.commands [] tests.1) (λ commands. items_at state_at head.0.counts.states [] commands.1 >>= λ states. items_at (routine_after head.0.version) head.0.counts.routines [] states.1 >>= λ routines. Ok (record { version = head.0.version; budgets = head.0.budgets; initial = head.0.initial; always = head.0.always; interfaces = interfaces.0; tests = tests.0; commands = commands.0; states = states.0; routines = routines.0 }, routines.1)) y (Steps p y) g_tests (λ commands e_commands g_commands.
+    bind_elim (items_at state_at head.0.counts.states [] commands.1) (λ states. items_at (routine_after head.0.version) head.0.counts.routines [] states.1 >>= λ routines. Ok (record { version = head.0.version; budgets = head.0.budgets; initial = head.0.initial; always = head.0.always; interfaces = interfaces.0; tests = tests.0; commands = commands.0; states = states.0; routines = routines.0 }, routines.1)) y (Steps p y) g_commands (λ states e_states g_states.
+    bind_elim (items_at (routine_after head.0.version) head.0.counts.routines [] states.1) (λ routines. Ok (record { version = head.0.version; budgets = head.0.budgets; initial = head.0.initial; always = head.0.always; interfaces = interfaces.0; tests = tests.0; commands = commands.0; states = states.0; routines = routines.0 }, routines.1)) y (Steps p y) g_states (λ routines e_routines g_routines.
+    record { head = head; is_head = e_head; interfaces = interfaces; is_interfaces = e_interfaces; tests = tests; is_tests = e_tests; commands = commands; is_commands = e_commands; states = states; is_states = e_states; routines = routines; is_routines = e_routines; made_is = g_routines }))))))
 
 steps_taken : (p : Cursor) (y : ImageParts × Cursor) → IsBytes p.left → Steps p y → TookImage p.left y.0 y.1.left
-unfolding image_bytes front_bytes
+unfolding image_bytes
 steps_taken p y fits s =
-    let t1 = magic_taken p s.magic fits s.is_magic in
-    let t2 = version_taken s.magic.1 s.version t1.rest_fits s.is_version in
-    let t3 = budgets_field.taken s.version.1 s.budgets t2.0.rest_fits s.is_budgets in
-    let t4 = counts_field.taken s.budgets.1 s.counts t3.0.rest_fits s.is_counts in
-    let t5 = (number_field w16 (2 ^ 16) wide16).taken s.counts.1 s.initial t4.0.rest_fits s.is_initial in
-    let t6 = handlers_field.taken s.initial.1 s.always t5.0.rest_fits s.is_always in
-    let t7 = (interfaces_table s.counts.0.interfaces).taken s.always.1 s.interfaces t6.0.rest_fits s.is_interfaces in
-    let t8 = (tests_table s.counts.0.tests).taken s.interfaces.1 s.tests t7.0.rest_fits s.is_tests in
-    let t9 = (commands_table s.counts.0.commands).taken s.tests.1 s.commands t8.0.rest_fits s.is_commands in
-    let t10 = (states_table s.counts.0.states).taken s.commands.1 s.states t9.0.rest_fits s.is_states in
-    let t11 = (routines_table s.version.0 s.counts.0.routines t2.1).taken s.states.1 s.routines t10.0.rest_fits s.is_routines in
-    let front = Took-then (Took-then t1 t2.0) t3.0 in
-    let parts : ImageParts = record { version = s.version.0; budgets = s.budgets.0; initial = record { 0 = s.initial.0 }; always = s.always.0; interfaces = s.interfaces.0; tests = s.tests.0; commands = s.commands.0; states = s.states.0; routines = s.routines.0 } in
-    let same : s.counts.0 ≡ counts parts = counts_same s.counts.0 parts (sym t7.1.0) (sym t8.1.0) (sym t9.1.0) (sym t10.1.0) (sym t11.1.0) in
-    let with_counts : Took s.budgets.1.left (counts_bytes (counts parts)) s.counts.1.left = subst (λ (c : Counts). Took s.budgets.1.left (counts_bytes c) s.counts.1.left) same t4.0 in
-    let limits : CountsGood (counts parts) = subst CountsGood same t4.1 in
-    let whole = Took-then (Took-then (Took-then (Took-then (Took-then (Took-then (Took-then (Took-then front with_counts) t5.0) t6.0) t7.0) t8.0) t9.0) t10.0) t11.0 in
+    let counts_read = s.head.0.counts in
+    let t6 = head_taken p s.head fits s.is_head in
+    let t7 = (interfaces_table counts_read.interfaces).taken s.head.1 s.interfaces t6.0.rest_fits s.is_interfaces in
+    let t8 = (tests_table counts_read.tests).taken s.interfaces.1 s.tests t7.0.rest_fits s.is_tests in
+    let t9 = (commands_table counts_read.commands).taken s.tests.1 s.commands t8.0.rest_fits s.is_commands in
+    let t10 = (states_table counts_read.states).taken s.commands.1 s.states t9.0.rest_fits s.is_states in
+    let t11 = (routines_table s.head.0.version counts_read.routines t6.1.version).taken s.states.1 s.routines t10.0.rest_fits s.is_routines in
+    let parts : ImageParts = record { version = s.head.0.version; budgets = s.head.0.budgets; initial = s.head.0.initial; always = s.head.0.always; interfaces = s.interfaces.0; tests = s.tests.0; commands = s.commands.0; states = s.states.0; routines = s.routines.0 } in
+    let same : counts_read ≡ counts parts = counts_same counts_read parts (sym t7.1.0) (sym t8.1.0) (sym t9.1.0) (sym t10.1.0) (sym t11.1.0) in
+    let front : Took p.left (head_bytes (record s.head.0 { counts = counts parts })) s.head.1.left = subst (λ (c : Counts). Took p.left (head_bytes (record s.head.0 { counts = c })) s.head.1.left) same t6.0 in
+    let limits : CountsGood (counts parts) = subst CountsGood same t6.1.counts in
+    let whole = Took-then (Took-then (Took-then (Took-then (Took-then front t7.0) t8.0) t9.0) t10.0) t11.0 in
     let tables : TablesGood parts = record { interfaces = t7.1.1; tests = t8.1.1; commands = t9.1.1; states = t10.1.1; routines = t11.1.1 } in
     let made : ImageParts × Cursor = (parts, s.routines.1) in
     subst (λ (z : ImageParts × Cursor). TookImage p.left z.0 z.1.left) (ok_is made y s.made_is)
-    (record { took = whole; fits = fits_from_tables parts t2.1 t3.1 (record { interfaces = limits.interfaces; tests = limits.tests; commands = limits.commands; some_state = limits.some_state; states = limits.states; routines = limits.routines }) tables; in_range = in_range_from_tables parts t5.1 t6.1 tables })
+    (record { took = whole; fits = fits_from_tables parts t6.1.version t6.1.budgets (record { interfaces = limits.interfaces; tests = limits.tests; commands = limits.commands; some_state = limits.some_state; states = limits.states; routines = limits.routines }) tables; in_range = in_range_from_tables parts t6.1.initial t6.1.always tables })
 
 pub parts_taken : (p : Cursor) (y : ImageParts × Cursor) → IsBytes p.left → parts_at p ≡ Ok y → TookImage p.left y.0 y.1.left
 parts_taken p y fits e = steps_taken p y fits (steps_of p y e)
 
 -- The spelling of an image is read as that image, at any place, whatever follows.
 pub parts_again : (p : ImageParts) (at : ℕ) (rest : List ℕ) → Fits p → InRange p → (after : ℕ) × (parts_at (cursor at (image_bytes p ++ rest)) ≡ Ok (p, cursor after rest))
-unfolding parts_at image_bytes front_bytes
+unfolding parts_at image_bytes
 parts_again p at rest f r =
     let t = tables_from_fits p f r in
     let r11 = flat_map (routine_bytes p.version) p.routines ++ rest in
@@ -384,36 +417,22 @@ parts_again p at rest f r =
     let r9 = flat_map text_bytes p.commands ++ r10 in
     let r8 = flat_map test_bytes p.tests ++ r9 in
     let r7 = flat_map text_bytes p.interfaces ++ r8 in
-    let r6 = handlers_bytes p.always ++ r7 in
-    let r5 = to_be_bytes w16 p.initial.0 ++ r6 in
-    let r4 = counts_bytes (counts p) ++ r5 in
-    let r3 = budgets_bytes p.budgets ++ r4 in
-    let regrouped : image_bytes p ++ rest ≡ codes "IFSV" ++ ((p.version ∷ []) ++ r3) = simp append_assoc in
-    let k3 = at + 4 + 1 in
-    let k4 = k3 + length (budgets_bytes p.budgets) in
-    let k5 = k4 + length (counts_bytes (counts p)) in
-    let k6 = k5 + 2 in
-    let k7 = k6 + length (handlers_bytes p.always) in
-    let k8 = k7 + length (flat_map text_bytes p.interfaces) in
+    let head : Head = record { version = p.version; budgets = p.budgets; counts = counts p; initial = p.initial; always = p.always } in
+    let regrouped : image_bytes p ++ rest ≡ head_bytes head ++ r7 = simp append_assoc in
+    let limits : CountsGood (counts p) = record { interfaces = f.counts.interfaces; tests = f.counts.tests; commands = f.counts.commands; some_state = f.counts.some_state; states = f.counts.states; routines = f.counts.routines } in
+    let a6 = head_again head at r7 (record { version = f.version; budgets = f.budgets; counts = limits; initial = r.initial; always = r.always }) in
+    let k8 = a6.0 + length (flat_map text_bytes p.interfaces) in
     let k9 = k8 + length (flat_map test_bytes p.tests) in
     let k10 = k9 + length (flat_map text_bytes p.commands) in
     let k11 = k10 + length (flat_map state_bytes p.states) in
-    let limits : CountsGood (counts p) = record { interfaces = f.counts.interfaces; tests = f.counts.tests; commands = f.counts.commands; some_state = f.counts.some_state; states = f.counts.states; routines = f.counts.routines } in
-    let a1 = magic_again at ((p.version ∷ []) ++ r3) in
-    let a2 = version_again p.version (at + 4) r3 f.version in
-    let a3 = budgets_field.again p.budgets k3 r4 f.budgets in
-    let a4 = counts_field.again (counts p) k4 r5 limits in
-    let a5 = (number_field w16 (2 ^ 16) wide16).again p.initial.0 k5 r6 r.initial in
-    let a6 = handlers_field.again p.always k6 r7 r.always in
-    let a7 = (interfaces_table (length p.interfaces)).again p.interfaces k7 r8 (refl, t.interfaces) in
+    let a7 = (interfaces_table (length p.interfaces)).again p.interfaces a6.0 r8 (refl, t.interfaces) in
     let a8 = (tests_table (length p.tests)).again p.tests k8 r9 (refl, t.tests) in
     let a9 = (commands_table (length p.commands)).again p.commands k9 r10 (refl, t.commands) in
     let a10 = (states_table (length p.states)).again p.states k10 r11 (refl, t.states) in
     let a11 = (routines_table p.version (length p.routines) f.version).again p.routines k11 rest (refl, t.routines) in (
       k11 + length (flat_map (routine_bytes p.version) p.routines),
       ap (λ (bytes : List ℕ). parts_at (cursor at bytes)) regrouped
-          ∙ again_bind _ _ _ _ a1 (again_bind _ _ _ _ a2 (again_bind _ _ _ _ a3 (again_bind _ _ _ _ a4 (again_bind _ _ _ _ a5 (again_bind _ _ _ _ a6
-          (again_bind _ _ _ _ a7 (again_bind _ _ _ _ a8 (again_bind _ _ _ _ a9 (again_bind _ _ _ _ a10 (again_bind _ _ _ _ a11 refl)))))))))),
+          ∙ again_bind _ _ _ _ a6.1 (again_bind _ _ _ _ a7 (again_bind _ _ _ _ a8 (again_bind _ _ _ _ a9 (again_bind _ _ _ _ a10 (again_bind _ _ _ _ a11 refl))))),
     )
 
 -- ---- the laws

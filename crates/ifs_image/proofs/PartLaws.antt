@@ -1,8 +1,8 @@
 -- Laws of the parts of an image: reading a part is the inverse of spelling it.
-use Rattle.std.proofs.Common.{◌≡◌, ◌≢◌, ℕ, ◌+◌, ◌^◌, ◌≤◌, Bool, true, false, cond, eqb}
+use Rattle.std.proofs.Common.{◌≡◌, ◌≢◌, ℕ, ◌+◌, ◌^◌, ◌≤◌, true, false, cond, eqb}
 use Rattle.std.proofs.Common.{ltb, List, [], ◌++◌, length, get_or, inl, inr}
 use Rattle.std.proofs.Common.{Ok, Err, refl, sym, ap, subst, ◌∙◌, append_assoc, arith, All}
-use Rattle.std.specs.Prelude.{◌&&◌, ◌||◌, not, ◌==◌, ◌⊎◌, min, IsUtf8}
+use Rattle.std.specs.Prelude.{◌||◌, not, ◌==◌, ◌⊎◌, min, IsUtf8}
 use Rattle.std.specs.Int.{w16, w32, w64, to_be_bytes}
 use Rattle.std.specs.List.{list_any, flat_map}
 use Rattle.std.specs.Option.{ok_or}
@@ -13,9 +13,7 @@ use Rattle.std.proofs.lemmas.List.{length-append, get_or_default}
 use Rattle.std.proofs.lemmas.List.Folds.{list_any_none}
 use Rattle.std.proofs.lemmas.Str.{is_utf8-from_IsUtf8, IsUtf8-from_is_utf8}
 use Rattle.ifs_base.specs.declared.op.Op.{Op}
-use Rattle.ifs_base.specs.declared.op.Op.TheVariants.{Ret, Yes, No, Link, Test, Known, Negate, Both}
-use Rattle.ifs_base.specs.declared.op.Op.TheVariants.{Either, PushCommand, PushState, Queue, Want}
-use Rattle.ifs_base.specs.declared.op.Op.TheVariants.{Jump, JumpFalse, JumpTrue, Call, Pop, Dup}
+use Rattle.ifs_base.specs.declared.op.Op.TheVariants.{Ret}
 use Rattle.ifs_base.specs.Spelling.{spelling, op_of, HasSpelling}
 use Rattle.ifs_image.specs.declared.fault.ImageFault.TheVariants.{BadText, RepeatedName, NoInstruction}
 use Rattle.ifs_image.specs.declared.parts.Handlers.{Handlers}

@@ -15,6 +15,7 @@ use Rattle.ifs_image.specs.declared.fault.ImageFault.TheVariants.{Truncated, Wro
 use Rattle.ifs_image.specs.declared.fault.ImageFault.TheVariants.{BadText, RepeatedName, Trailing, NoInstruction}
 use Rattle.ifs_image.specs.declared.parts.Budgets.{Budgets}
 use Rattle.ifs_image.specs.declared.parts.Counts.{Counts}
+use Rattle.ifs_image.specs.declared.parts.Head.{Head}
 use Rattle.ifs_image.specs.declared.parts.Handlers.{Handlers}
 use Rattle.ifs_image.specs.declared.parts.TestSpec.{TestSpec}
 use Rattle.ifs_image.specs.declared.parts.StateSpec.{StateSpec}
@@ -208,7 +209,7 @@ abbrev pub routine_after : ℕ → List Routine → Cursor → Read Routine
 routine_after version before = routine_at version (room_after version before)
 
 -- The fields before the tables.
-unfoldable pub head_at : Cursor → Read (Unit {0})
+unfoldable pub head_at : Cursor → Read Head
 head_at p = do
   magic ← magic_at p
   version ← version_at magic.1
@@ -216,23 +217,18 @@ head_at p = do
   counts ← counts_at budgets.1
   initial ← number_at w16 counts.1
   always ← handlers_at initial.1
-  Ok (tt, always.1)
+  Ok (record { version = version.0; budgets = budgets.0; counts = counts.0; initial = record { 0 = initial.0 }; always = always.0 }, always.1)
 
 -- All fields of an image.
 unfoldable pub parts_at : Cursor → Read ImageParts
 parts_at p = do
-  magic ← magic_at p
-  version ← version_at magic.1
-  budgets ← budgets_at version.1
-  counts ← counts_at budgets.1
-  initial ← number_at w16 counts.1
-  always ← handlers_at initial.1
-  interfaces ← items_at name_at counts.0.interfaces [] always.1
-  tests ← items_at (λ _. test_at) counts.0.tests [] interfaces.1
-  commands ← items_at (λ _. text_at) counts.0.commands [] tests.1
-  states ← items_at state_at counts.0.states [] commands.1
-  routines ← items_at (routine_after version.0) counts.0.routines [] states.1
-  Ok (record { version = version.0; budgets = budgets.0; initial = record { 0 = initial.0 }; always = always.0; interfaces = interfaces.0; tests = tests.0; commands = commands.0; states = states.0; routines = routines.0 }, routines.1)
+  head ← head_at p
+  interfaces ← items_at name_at head.0.counts.interfaces [] head.1
+  tests ← items_at (λ _. test_at) head.0.counts.tests [] interfaces.1
+  commands ← items_at (λ _. text_at) head.0.counts.commands [] tests.1
+  states ← items_at state_at head.0.counts.states [] commands.1
+  routines ← items_at (routine_after head.0.version) head.0.counts.routines [] states.1
+  Ok (record { version = head.0.version; budgets = head.0.budgets; initial = head.0.initial; always = head.0.always; interfaces = interfaces.0; tests = tests.0; commands = commands.0; states = states.0; routines = routines.0 }, routines.1)
 
 -- The image that all of the bytes spell, or the first fault.
 unfoldable pub image_of : List ℕ → Result ImageParts ImageFault

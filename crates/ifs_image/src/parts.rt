@@ -26,6 +26,16 @@ pub struct Counts {
     pub routines: u16,
 }
 
+/// The fields before the tables.
+#[derive(Clone, Copy)]
+pub struct Head {
+    pub version: u8,
+    pub budgets: Budgets,
+    pub counts: Counts,
+    pub initial: StateId,
+    pub always: Handlers,
+}
+
 /// The code of a part of the policy, and its tests.
 #[derive(Clone, Copy, Debug, PartialEq, Eq)]
 pub struct Handlers {

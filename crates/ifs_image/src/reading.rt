@@ -20,7 +20,7 @@ use crate::fields::Reader;
 use crate::image_view::ImageView;
 use crate::lent::{LentCode, LentParts, LentRoutine, LentState, LentTest, LentText};
 use crate::limits;
-use crate::parts::{Budgets, Counts, Handlers, Kinds};
+use crate::parts::{Budgets, Counts, Handlers, Head, Kinds};
 use ifs_base::{Items, Kind, RoutineId, StateId};
 use std::alloc::Global;
 
@@ -47,10 +47,33 @@ pub fn view<'a>(alloc: Global, bytes: &'a [u8]) -> Result<ImageView<'a>, ImageFa
     Ok(ImageView::new(parts))
 }
 
-#[tactic(auto, unfolding(crate::specs::Reading::parts_at, crate::specs::Reading::head_at))]
+#[tactic(auto, unfolding(crate::specs::Reading::parts_at))]
 fn parts_of<'a>(alloc: Global, reader: &mut Reader<'a>) -> Result<LentParts<'a>, ImageFault>
     ensures given { Gives result reader.new (parts_at reader.old) }
     ensures at_once { RefusesHead result reader.old }
+{
+    let head = head_of(reader)?;
+    let interfaces = interfaces_of(alloc, reader, head.counts.interfaces)?;
+    let tests = tests_of(alloc, reader, head.counts.tests)?;
+    let commands = commands_of(alloc, reader, head.counts.commands)?;
+    let states = states_of(alloc, reader, head.counts.states)?;
+    let routines = routines_of(alloc, reader, head.version, head.counts.routines)?;
+    Ok(LentParts {
+        version: head.version,
+        budgets: head.budgets,
+        initial: head.initial,
+        always: head.always,
+        interfaces,
+        tests,
+        commands,
+        states,
+        routines,
+    })
+}
+
+#[tactic(auto, unfolding(crate::specs::Reading::head_at))]
+fn head_of(reader: &mut Reader<'_>) -> Result<Head, ImageFault>
+    ensures { GivesAtOnce result reader.new (head_at reader.old) }
 {
     magic_of(reader)?;
     let version = version_of(reader)?;
@@ -58,21 +81,12 @@ fn parts_of<'a>(alloc: Global, reader: &mut Reader<'a>) -> Result<LentParts<'a>,
     let counts = counts_of(reader)?;
     let initial = StateId(reader.u16()?);
     let always = handlers_of(reader)?;
-    let interfaces = interfaces_of(alloc, reader, counts.interfaces)?;
-    let tests = tests_of(alloc, reader, counts.tests)?;
-    let commands = commands_of(alloc, reader, counts.commands)?;
-    let states = states_of(alloc, reader, counts.states)?;
-    let routines = routines_of(alloc, reader, version, counts.routines)?;
-    Ok(LentParts {
+    Ok(Head {
         version,
         budgets,
+        counts,
         initial,
         always,
-        interfaces,
-        tests,
-        commands,
-        states,
-        routines,
     })
 }
 

@@ -6,12 +6,12 @@ use Rattle.std.proofs.lemmas.Bool.{cases_eq, cases_lt}
 use Rattle.std.proofs.lemmas.Bool.Decides.{nat_tests}
 use Rattle.std.proofs.lemmas.List.{get_or-map, get_or-set_same, get_or-set_other, get_or_default, set-get_or}
 use Rattle.std.proofs.lemmas.List.{length-set, same_lists, set_past, get_or_read}
-use Rattle.std.proofs.lemmas.Option.{slice_get_past, slice_get_read}
+use Rattle.std.proofs.lemmas.Option.{slice_get_read}
 use Rattle.std.proofs.lemmas.List.FromFn.{get_or-enumerate_from, length-enumerate_from}
 use Rattle.ifs_sched.specs.declared.timer.Timer.{Timer}
 use Rattle.ifs_sched.specs.Schedule.{map_by_index, runs_under}
 use Rattle.ifs_sched.specs.declared.timer.Status.{Status}
-use Rattle.ifs_sched.specs.declared.timer.Status.TheVariants.{Off, Idle, Running}
+use Rattle.ifs_sched.specs.declared.timer.Status.TheVariants.{Idle, Running}
 use Rattle.ifs_sched.specs.Timer.{ended, ended_status, inactive, is_run}
 use Rattle.ifs_sched.proofs.ByIndex.{as_many_by_index}
 

@@ -1,10 +1,9 @@
 -- A tick, test by test.
 use Rattle.std.proofs.Common.{◌≡◌, ℕ, zero, suc, ◌+◌, ◌-◌, ◌*◌, ◌%◌, ◌<◌, ◌≤◌, ◌^◌, min, bit_and, w64, subst, ⊎_elim, Bool, true, false, not, cond, ◌&&◌}
-use Rattle.std.proofs.Common.{◌||◌, List, [], ◌∷◌, ◌++◌, Option, Some, None, nat_lt, length, map}
+use Rattle.std.proofs.Common.{◌||◌, List, [], ◌∷◌, ◌++◌, Option, Some, None, length, map}
 use Rattle.std.proofs.Common.{get_or, take, set, refl, ap, sym, ◌∙◌, arith, append-nil}
 use Rattle.std.specs.List.{cons_option, range_with_len}
 use Rattle.std.specs.Option.{SomeIff}
-use Rattle.std.proofs.lemmas.Bool.Decides.{nat_tests}
 use Rattle.std.specs.Int.{bit_not}
 use Rattle.std.proofs.Math.ListN.{get_or-eq_default}
 use Rattle.std.proofs.lemmas.Bool.{cases_eq, cases_lt, lt-ltb, le-ltb}
@@ -14,7 +13,7 @@ use Rattle.std.proofs.lemmas.List.Sums.{count_by_more_no, count_by_more_yes}
 use Rattle.ifs_sched.specs.declared.start.Start.{Start}
 use Rattle.ifs_sched.specs.declared.timer.Timer.{Timer}
 use Rattle.ifs_sched.specs.Timer.{inactive, is_due, started}
-use Rattle.ifs_sched.specs.Schedule.{any_by_index, collect_by_index, has_number, has_test, is_left_over, map_by_index}
+use Rattle.ifs_sched.specs.Schedule.{any_by_index, collect_by_index, has_number, has_test, is_left_over}
 use Rattle.ifs_sched.specs.Schedule.{run_number_at, run_as_number, start_of, starts_at, ticked_test}
 use Rattle.ifs_sched.specs.inner.Due.{IsDueSet, IsTicked}
 use Rattle.ifs_sched.proofs.Masks.{IsFirstTest, has_test-empty, has_test-others, has_test-taken}

@@ -15,7 +15,7 @@ use Rattle.std.proofs.lemmas.Map.Steps.{length-le_from_distinct_below}
 use Rattle.std.proofs.lemmas.Option.{slice_get-get_or, slice_get-map, slice_get_past, slice_get_read}
 use Rattle.ifs_base.specs.declared.ids.TestId.{TestId}
 use Rattle.ifs_sched.specs.declared.timer.Status.{Status}
-use Rattle.ifs_sched.specs.declared.timer.Status.TheVariants.{Off, Idle, Running}
+use Rattle.ifs_sched.specs.declared.timer.Status.TheVariants.{Idle}
 use Rattle.ifs_sched.specs.declared.timer.Timer.{Timer}
 use Rattle.ifs_sched.specs.Timer.{inactive, is_run}
 use Rattle.ifs_sched.specs.Idle.{AreIdle, IsNextDue, is_due_from, is_idle, waits_until}

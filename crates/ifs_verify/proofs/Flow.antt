@@ -15,7 +15,7 @@ use Rattle.ifs_verify.specs.Rules.{IsRoutine, RoutinesEnd, JumpsLeadOn}
 use Rattle.ifs_verify.specs.Ways.{Leads, begins, goes_on}
 use Rattle.ifs_verify.specs.Refused.{LeavesList, Disagrees}
 use Rattle.ifs_verify.specs.inner.Passes.{next_of, kinds_at, Extends, Leaves, HasPassed, IsTypedUpTo}
-use Rattle.ifs_verify.specs.inner.Passes.{PlainRulesHold, Yields, AreAhead, AreClear, IsCleared, Stands, IsLeft}
+use Rattle.ifs_verify.specs.inner.Passes.{PlainRulesHold, AreAhead, AreClear, IsCleared, Stands, IsLeft}
 use Rattle.ifs_verify.proofs.Ways.{Leads-later}
 use Rattle.ifs_verify.proofs.Instructions.{op_at-routine}
 use Rattle.ifs_verify.proofs.KindsAt.{Extends-set, kinds_at-set_same, kinds_at-set_other}

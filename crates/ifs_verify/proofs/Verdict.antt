@@ -1,12 +1,10 @@
 -- From the limits of an image to what the checks need, and from their results to refusals.
 use Rattle.std.proofs.Common.{ℕ, ◌≡◌, ◌≢◌, ◌≤◌, List, length, Option, Some, None}
-use Rattle.std.proofs.Common.{Result, Ok, Err, arith, refl, ap, sym, ◌∙◌, subst}
+use Rattle.std.proofs.Common.{Result, Ok, Err, arith, refl, sym, ◌∙◌, subst}
 use Rattle.std.proofs.lemmas.Option.{get_or_from_slice_get, slice_get_within}
 use Rattle.std.specs.List.{slice_get, All}
 use Rattle.ifs_image.specs.declared.fault.ImageFault.{ImageFault}
-use Rattle.ifs_image.specs.declared.fault.ImageFault.TheVariants.{Truncated, WrongMagic, WrongVersion}
-use Rattle.ifs_image.specs.declared.fault.ImageFault.TheVariants.{OutOfLimit, BadText, RepeatedName}
-use Rattle.ifs_image.specs.declared.fault.ImageFault.TheVariants.{Trailing, NoInstruction, Memory}
+use Rattle.ifs_image.specs.declared.fault.ImageFault.TheVariants.{Memory}
 use Rattle.ifs_image.specs.declared.parts.Routine.{Routine}
 use Rattle.ifs_image.specs.declared.parts.ImageParts.{ImageParts}
 use Rattle.ifs_image.specs.Code.{code_in}
@@ -14,12 +12,10 @@ use Rattle.ifs_image.specs.Limits.{Fits, RoutineFits}
 use Rattle.ifs_image.specs.Spelling.{Spells}
 use Rattle.ifs_image.specs.Reading.{image_of}
 use Rattle.ifs_verify.specs.declared.fault.VerifyFault.{VerifyFault}
-use Rattle.ifs_verify.specs.declared.fault.VerifyFault.TheVariants.{NoImage, NoEntry, JumpTarget, LeftAtEnd, Unreached}
-use Rattle.ifs_verify.specs.declared.fault.VerifyFault.TheVariants.{WrongOperand, WaysDisagree, CallNotLower}
-use Rattle.ifs_verify.specs.declared.fault.VerifyFault.TheVariants.{WrongResults, StackOver, FramesOver, CostOver}
-use Rattle.ifs_verify.specs.declared.fault.VerifyFault.TheVariants.{CommandsOver, HandlerLeaves, OutOfMemory}
+use Rattle.ifs_verify.specs.declared.fault.VerifyFault.TheVariants.{NoImage}
+use Rattle.ifs_verify.specs.declared.fault.VerifyFault.TheVariants.{OutOfMemory}
 use Rattle.ifs_verify.specs.Accepted.{IsAccepted}
-use Rattle.ifs_verify.specs.Refused.{refusal_of, Fails, IsRefusal}
+use Rattle.ifs_verify.specs.Refused.{Fails, IsRefusal}
 use Rattle.ifs_verify.specs.Laws.{RefusedAreNotAccepted}
 use Rattle.ifs_verify.specs.inner.Passes.{IsSized, IsImageRefused}
 use Rattle.ifs_image.proofs.ImageLaws.{image_again}
@@ -82,16 +78,4 @@ failed one bytes fault refused image spelled accepted =
 pub refused_are_not_accepted : OneImage → RefusedAreNotAccepted
 refused_are_not_accepted one bytes OutOfMemory refused other image spelled = absurd (other refl)
 refused_are_not_accepted one bytes (NoImage fault) refused other image spelled = absurd (unread bytes fault image refused spelled)
-refused_are_not_accepted one bytes (NoEntry at) refused other image spelled = failed one bytes (NoEntry at) refused image spelled
-refused_are_not_accepted one bytes (JumpTarget at) refused other image spelled = failed one bytes (JumpTarget at) refused image spelled
-refused_are_not_accepted one bytes (LeftAtEnd at) refused other image spelled = failed one bytes (LeftAtEnd at) refused image spelled
-refused_are_not_accepted one bytes (Unreached at) refused other image spelled = failed one bytes (Unreached at) refused image spelled
-refused_are_not_accepted one bytes (WrongOperand at) refused other image spelled = failed one bytes (WrongOperand at) refused image spelled
-refused_are_not_accepted one bytes (WaysDisagree at) refused other image spelled = failed one bytes (WaysDisagree at) refused image spelled
-refused_are_not_accepted one bytes (CallNotLower at) refused other image spelled = failed one bytes (CallNotLower at) refused image spelled
-refused_are_not_accepted one bytes (WrongResults at) refused other image spelled = failed one bytes (WrongResults at) refused image spelled
-refused_are_not_accepted one bytes (StackOver at) refused other image spelled = failed one bytes (StackOver at) refused image spelled
-refused_are_not_accepted one bytes (FramesOver at) refused other image spelled = failed one bytes (FramesOver at) refused image spelled
-refused_are_not_accepted one bytes (CostOver at) refused other image spelled = failed one bytes (CostOver at) refused image spelled
-refused_are_not_accepted one bytes (CommandsOver at) refused other image spelled = failed one bytes (CommandsOver at) refused image spelled
-refused_are_not_accepted one bytes (HandlerLeaves at) refused other image spelled = failed one bytes (HandlerLeaves at) refused image spelled
+refused_are_not_accepted one bytes fault refused other image spelled = failed one bytes fault refused image spelled

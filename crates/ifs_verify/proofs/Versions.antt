@@ -3,8 +3,8 @@ use Rattle.std.proofs.Common.{ℕ, ◌≡◌, List, ◌∷◌, refl, sym, ◌∙
 use Rattle.ifs_base.specs.declared.op.Kind.{Kind}
 use Rattle.ifs_base.specs.declared.op.Kind.TheVariants.{Truth, Command, StateName}
 use Rattle.ifs_base.specs.declared.op.Op.{Op}
-use Rattle.ifs_base.specs.declared.op.Op.TheVariants.{Link, Test, Known, Negate, Both}
-use Rattle.ifs_base.specs.declared.op.Op.TheVariants.{Either, PushCommand, PushState, Queue, Want}
+use Rattle.ifs_base.specs.declared.op.Op.TheVariants.{Negate, Both}
+use Rattle.ifs_base.specs.declared.op.Op.TheVariants.{Either, Queue, Want}
 use Rattle.ifs_base.specs.declared.op.Op.TheVariants.{JumpFalse, JumpTrue, Call, Pop, Dup}
 use Rattle.ifs_image.specs.declared.parts.ImageParts.{ImageParts}
 use Rattle.ifs_image.specs.Code.{effect}
