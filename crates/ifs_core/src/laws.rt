@@ -56,6 +56,7 @@ pub fn upgrade_keeps_bytes()
 
 /// Carried link states are found by the names of their interfaces. So an image with the same interfaces, in any
 /// order, begins with the same link states, and any other interface begins as unknown.
+#[tactic(auto, using(crate::proofs::KnownLinks::links_stand))]
 pub fn links_stand()
     ensures { LinksStand }
 {}
