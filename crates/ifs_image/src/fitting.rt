@@ -19,10 +19,7 @@ impl ImageParts {
     pub fn fits(&self) -> bool
         ensures { IsTrue result ↔ Fits self.now }
     {
-        is_version(self.version)
-            && self.budgets.fit()
-            && self.counts_fit()
-            && self.tables_fit()
+        is_version(self.version) && self.budgets.fit() && self.counts_fit() && self.tables_fit()
     }
 
     fn tables_fit(&self) -> bool

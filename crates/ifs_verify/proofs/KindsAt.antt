@@ -1,5 +1,5 @@
 -- Lists of kinds at places, after a write and at a read.
-use Rattle.std.proofs.Common.{ℕ, zero, suc, replicate, ◌≡◌, ◌≢◌, ◌<◌, List, length, Option, Some}
+use Rattle.std.proofs.Common.{ℕ, suc, replicate, ◌≡◌, ◌≢◌, ◌<◌, List, length, Option, Some}
 use Rattle.std.proofs.Common.{None, arith, refl, ap, sym, ◌∙◌, subst, inl, inr, ◌⊎◌}
 use Rattle.std.specs.List.{slice_get}
 use Rattle.std.specs.Option.{option_flatten}
