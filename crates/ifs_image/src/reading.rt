@@ -174,6 +174,7 @@ fn interface_of<'a>(
     Ok(name)
 }
 
+#[tactic(auto, using(crate::proofs::Loops::goes_on, crate::proofs::Loops::is_done))]
 fn interfaces_of<'a>(
     alloc: Global,
     reader: &mut Reader<'a>,
@@ -198,6 +199,7 @@ fn test_of<'a>(reader: &mut Reader<'a>) -> Result<LentTest<'a>, ImageFault>
     Ok(LentTest { period, text })
 }
 
+#[tactic(auto, using(crate::proofs::Loops::goes_on, crate::proofs::Loops::is_done))]
 fn tests_of<'a>(
     alloc: Global,
     reader: &mut Reader<'a>,
@@ -213,6 +215,7 @@ fn tests_of<'a>(
     Ok(Items::new(tests))
 }
 
+#[tactic(auto, using(crate::proofs::Loops::goes_on, crate::proofs::Loops::is_done))]
 fn commands_of<'a>(
     alloc: Global,
     reader: &mut Reader<'a>,
@@ -246,6 +249,7 @@ fn state_of<'a>(
     Ok(LentState { name, handlers })
 }
 
+#[tactic(auto, using(crate::proofs::Loops::goes_on, crate::proofs::Loops::is_done))]
 fn states_of<'a>(
     alloc: Global,
     reader: &mut Reader<'a>,
