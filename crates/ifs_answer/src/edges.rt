@@ -234,9 +234,10 @@ fn begins_actions(what: &What) -> bool {
 
 /// The number of the state of this name.
 fn number_of(policy: &Policy, name: &What) -> usize {
+    let states = &policy.tables().states;
     match name {
-        What::Word(text) | What::Quoted(text) => policy.tables().states.place_of(text),
-        _ => policy.tables().states.len(),
+        What::Word(text) | What::Quoted(text) => states.place_of(text).unwrap_or(states.len()),
+        _ => states.len(),
     }
 }
 

@@ -12,7 +12,7 @@ pub data Condition (Leaf : Type 0) : Type 0 where
 pub data Block (Leaf Command State : Type 0) : Type 0 where
   Done : Block Leaf Command State
   RunThen : Command → Block Leaf Command State → Block Leaf Command State
-  WantThen : State → Block Leaf Command State → Block Leaf Command State
+  SetStateThen : State → Block Leaf Command State → Block Leaf Command State
   IfThen : Condition Leaf → Block Leaf Command State → Block Leaf Command State → Block Leaf Command State
 
 -- The number of leaves and operators of a condition.
@@ -26,5 +26,5 @@ condition_size (Or a b) = condition_size a + condition_size b + 1
 abbrev pub block_size : {Leaf Command State : Type 0} → Block Leaf Command State → ℕ
 block_size Done = 1
 block_size (RunThen command rest) = block_size rest + 1
-block_size (WantThen state rest) = block_size rest + 1
+block_size (SetStateThen state rest) = block_size rest + 1
 block_size (IfThen c inner rest) = block_size inner + block_size rest + 1

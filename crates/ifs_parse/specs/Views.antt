@@ -30,7 +30,7 @@ condition_of (Any first second rest) = any_of (tree.Or first.value second.value)
 -- A statement and those after it.
 abbrev pub statement_then : {L R S : Type 0} → Statement L R S → tree.Block L R S → tree.Block L R S
 statement_then (Run command) rest = tree.RunThen command rest
-statement_then (SetState state) rest = tree.WantThen state rest
+statement_then (SetState state) rest = tree.SetStateThen state rest
 statement_then (If c inner) rest = tree.IfThen c inner rest
 
 -- The block of statements in order.

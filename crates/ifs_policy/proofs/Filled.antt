@@ -1,6 +1,6 @@
--- Mentions that break no rule leave tables within their limits, and what they mention stands in them.
+-- Mentions that break no rule leave tables within their limits, which list what is mentioned.
 use Rattle.std.proofs.Common.{◌≡◌, ◌≢◌, ℕ, ◌+◌, ◌≤◌, inl, inr, Bool, true, false, nat_eq, ◌||◌, ◌&&◌, true≢false}
-use Rattle.std.proofs.Common.{List, [], ◌∷◌, ◌++◌, length, if◌then◌else◌, All, refl, sym, ap, ◌∙◌, arith}
+use Rattle.std.proofs.Common.{List, [], ◌∷◌, ◌++◌, fold, subst, length, if◌then◌else◌, All, refl, sym, ap, ◌∙◌, arith}
 use Rattle.std.proofs.lemmas.Bool.{cases_lt}
 use Rattle.std.proofs.Math.Bool.{or-true}
 use Rattle.std.proofs.lemmas.Cmp.{nat_list_eq_equiv, nat_eq_equiv}
@@ -8,12 +8,13 @@ use Rattle.std.proofs.lemmas.List.{length_push}
 use Rattle.std.proofs.lemmas.List.Elements.{All-nil, All-push}
 use Rattle.std.proofs.lemmas.List.Folds.{list_any-append, list_any_at}
 use Rattle.std.proofs.lemmas.List.Quantifiers.{all_pairs_push}
-use Rattle.std.specs.List.{list_any, AllPairs}
+use Rattle.std.specs.List.{flat_map, list_any, AllPairs, AllByRecursion}
+use Rattle.std.proofs.lemmas.List.Sums.{fold-append}
 use Rattle.indexmap.specs.IndexSet.{insert_key}
 use Rattle.ifs_base.specs.Sizes.{TextFits}
 use Rattle.ifs_policy.specs.declared.fault.ResolveFault.TheVariants.{StateTwice, TableFull, BadText}
 use Rattle.ifs_policy.specs.declared.mention.Mention.TheVariants.{Interface, External, Command, Defined}
-use Rattle.ifs_policy.specs.declared.mention.Mention.TheVariants.{Wanted, Init, InitState, SetState}
+use Rattle.ifs_policy.specs.declared.mention.Mention.TheVariants.{Target, Init}
 use Rattle.ifs_policy.specs.declared.mention.Owner.TheVariants as whose
 use Rattle.ifs_policy.specs.declared.tables.ExternalTest.{ExternalTest}
 use Rattle.ifs_policy.specs.declared.tables.Tables.{Tables}
@@ -22,8 +23,9 @@ use Rattle.ifs_policy.specs.Mentions.{Mentioned}
 use Rattle.ifs_policy.specs.Tables.{text_eq, test_eq, test_of, no_tables, after, names_after}
 use Rattle.ifs_policy.specs.Faults.{IsFull, IsSound, AreSound, IsKnown, AreKnown}
 use Rattle.ifs_policy.specs.Fits.{TableFits, TestsFit, TablesFit}
+use Rattle.ifs_policy.proofs.Gathered.{interface_of, tested_by, command_of}
 
--- An entry that is inserted was there already, or goes last.
+-- An inserted entry is in the table already, or is appended.
 pub insert_cases : {T : Type 0} (eq : T → T → Bool) (Q : List T → Type 0) (xs : List T) (x : T)
     → (list_any (eq x) xs ≡ true → Q xs) → (list_any (eq x) xs ≡ false → Q (xs ++ x ∷ [])) → Q (insert_key eq xs x)
 insert_cases {T} eq Q xs x there absent = by (list_any (eq x) xs) there absent
@@ -56,11 +58,15 @@ any_insert : {T : Type 0} (eq : T → T → Bool) (p : T → Bool) (xs : List T)
 any_insert eq p xs x h = insert_cases eq (λ ys. list_any p ys ≡ true) xs x (λ there. h) (λ absent.
     list_any-append p xs (x ∷ []) ∙ ap (λ b. b || list_any p (x ∷ [])) h)
 
+any_all : {T : Type 0} (eq : T → T → Bool) (p : T → Bool) (table xs : List T) → list_any p table ≡ true → list_any p (fold (insert_key eq) table xs) ≡ true
+any_all eq p table [] h = h
+any_all eq p table (x ∷ xs) h = any_all eq p (insert_key eq table x) xs (any_insert eq p table x h)
+
 inserted : {T : Type 0} (eq : T → T → Bool) → ((x : T) → eq x x ≡ true) → (xs : List T) (x : T) → list_any (eq x) (insert_key eq xs x) ≡ true
 inserted eq same xs x = insert_cases eq (λ ys. list_any (eq x) ys ≡ true) xs x (λ there. there) (λ absent.
     list_any-append (eq x) xs (x ∷ []) ∙ ap (λ b. list_any (eq x) xs || (b || false)) (same x) ∙ or-true (list_any (eq x) xs))
 
--- A text that is not unfit is fit.
+-- A text that is not invalid is valid.
 pub at_most : (m n : ℕ) → ¬ (¬ (m ≤ n)) → m ≤ n
 at_most m n h = elim (cases_lt n m) [ inl above ↦ absurd (h (λ within. omega arith)) | inr within ↦ within ]
 
@@ -110,11 +116,8 @@ fits_after names (Defined name) sound t = record {
   commands = t.commands;
   states = table_fits 256 names.tables.states name.text (λ full. sound (TableFull name.span.line) (refl, full)) (λ bad. sound (BadText name.span.line) (refl, bad)) t.states;
 }
-fits_after names (Wanted name) sound t = t
 fits_after names (Init whose.Always span) sound t = t
-fits_after names (Init whose.State span) sound t = t
-fits_after names (InitState span) sound t = t
-fits_after names (SetState half span) sound t = t
+fits_after names _ sound t = t
 
 pub tables_fit : (names : Names) (mentions : List Mentioned) → AreSound names mentions → TablesFit names.tables → TablesFit (names_after names mentions).tables
 tables_fit names [] sound t = t
@@ -131,107 +134,75 @@ no_tables_fit = record {
   states = none_fit 256;
 }
 
--- What stood in the tables stands in them later.
-abbrev Grows : {T : Type 0} → List T → List T → Type 0
-Grows {T} xs ys = (p : T → Bool) → list_any p xs ≡ true → list_any p ys ≡ true
+-- If each mention adds its picked entries to a table, then a list of mentions adds those of all its members.
+module _ {T : Type 0} (eq : T → T → Bool) (table : Names → List T) (pick : Mentioned → List T)
+    (one : (names : Names) (mention : Mentioned) → table (after names mention) ≡ fold (insert_key eq) (table names) (pick mention)) where
+  pub table_after : (names : Names) (mentions : List Mentioned) → table (names_after names mentions) ≡ fold (insert_key eq) (table names) (flat_map pick mentions)
+  table_after names [] = refl
+  table_after names (mention ∷ rest) =
+      table_after (after names mention) rest ∙ ap (λ t. fold (insert_key eq) t (flat_map pick rest)) (one names mention)
+      ∙ sym (fold-append (insert_key eq) (table names) (pick mention) (flat_map pick rest))
 
-record Grow (old new : Tables) : Type 0 where
-  interfaces : Grows old.interfaces new.interfaces
-  tests : Grows old.tests new.tests
-  commands : Grows old.commands new.commands
-  states : Grows old.states new.states
+  -- The table keeps its entries.
+  kept_after : (names : Names) (mentions : List Mentioned) (p : T → Bool) → list_any p (table names) ≡ true → list_any p (table (names_after names mentions)) ≡ true
+  kept_after names mentions p h = subst (λ t. list_any p t ≡ true) (sym (table_after names mentions)) (any_all eq p (table names) (flat_map pick mentions) h)
 
-same_tables : (tables : Tables) → Grow tables tables
-same_tables tables = record { interfaces = λ p h. h; tests = λ p h. h; commands = λ p h. h; states = λ p h. h }
+pub interfaces_one : (names : Names) (mention : Mentioned) → (after names mention).tables.interfaces ≡ fold (insert_key text_eq) names.tables.interfaces (interface_of mention)
+interfaces_one names (Init whose.Always span) = refl
+interfaces_one names _ = refl
 
-grow_then : (a b c : Tables) → Grow a b → Grow b c → Grow a c
-grow_then a b c g h = record {
-  interfaces = λ p there. h.interfaces p (g.interfaces p there);
-  tests = λ p there. h.tests p (g.tests p there);
-  commands = λ p there. h.commands p (g.commands p there);
-  states = λ p there. h.states p (g.states p there);
-}
+pub tests_one : (names : Names) (mention : Mentioned) → (after names mention).tables.tests ≡ fold (insert_key test_eq) names.tables.tests (tested_by mention)
+tests_one names (Init whose.Always span) = refl
+tests_one names _ = refl
 
-grow_after : (names : Names) (mention : Mentioned) → Grow names.tables (after names mention).tables
-grow_after names (Interface name) = record { interfaces = λ p h. any_insert text_eq p names.tables.interfaces name.text h; tests = λ p h. h; commands = λ p h. h; states = λ p h. h }
-grow_after names (External half command period) = record { interfaces = λ p h. h; tests = λ p h. any_insert test_eq p names.tables.tests (test_of command period) h; commands = λ p h. h; states = λ p h. h }
-grow_after names (Command text) = record { interfaces = λ p h. h; tests = λ p h. h; commands = λ p h. any_insert text_eq p names.tables.commands text.text h; states = λ p h. h }
-grow_after names (Defined name) = record { interfaces = λ p h. h; tests = λ p h. h; commands = λ p h. h; states = λ p h. any_insert text_eq p names.tables.states name.text h }
-grow_after names (Wanted name) = same_tables names.tables
-grow_after names (Init whose.Always span) = same_tables names.tables
-grow_after names (Init whose.State span) = same_tables names.tables
-grow_after names (InitState span) = same_tables names.tables
-grow_after names (SetState half span) = same_tables names.tables
+pub commands_one : (names : Names) (mention : Mentioned) → (after names mention).tables.commands ≡ fold (insert_key text_eq) names.tables.commands (command_of mention)
+commands_one names (Init whose.Always span) = refl
+commands_one names _ = refl
 
-grow_all : (names : Names) (mentions : List Mentioned) → Grow names.tables (names_after names mentions).tables
-grow_all names [] = same_tables names.tables
-grow_all names (mention ∷ rest) =
-    grow_then names.tables (after names mention).tables (names_after names (mention ∷ rest)).tables (grow_after names mention) (grow_all (after names mention) rest)
+-- The mentioned entry is in its table.
+abbrev pub IsListed : Tables → Mentioned → Type 0
+IsListed tables (Interface name) = list_any (text_eq name.text) tables.interfaces ≡ true
+IsListed tables (External half command period) = list_any (test_eq (test_of command period)) tables.tests ≡ true
+IsListed tables (Command text) = list_any (text_eq text.text) tables.commands ≡ true
+IsListed tables (Target name) = list_any (text_eq name.text) tables.states ≡ true
+IsListed tables _ = Unit {0}
 
--- What is mentioned stands in its table.
-abbrev pub Stands : Tables → Mentioned → Type 0
-Stands tables (Interface name) = list_any (text_eq name.text) tables.interfaces ≡ true
-Stands tables (External half command period) = list_any (test_eq (test_of command period)) tables.tests ≡ true
-Stands tables (Command text) = list_any (text_eq text.text) tables.commands ≡ true
-Stands tables (Wanted name) = list_any (text_eq name.text) tables.states ≡ true
-Stands tables _ = Unit {0}
+listed_after : (names : Names) (mention : Mentioned) (rest : List Mentioned) → IsKnown (names_after names (mention ∷ rest)).tables.states mention
+    → IsListed (names_after names (mention ∷ rest)).tables mention
+listed_after names (Interface name) rest known =
+    kept_after text_eq (λ names. names.tables.interfaces) interface_of interfaces_one (after names (Interface name)) rest (text_eq name.text) (inserted text_eq text_same names.tables.interfaces name.text)
+listed_after names (External half command period) rest known =
+    let test = test_of command period in
+    kept_after test_eq (λ names. names.tables.tests) tested_by tests_one (after names (External half command period)) rest (test_eq test) (inserted test_eq test_same names.tables.tests test)
+listed_after names (Command text) rest known =
+    kept_after text_eq (λ names. names.tables.commands) command_of commands_one (after names (Command text)) rest (text_eq text.text) (inserted text_eq text_same names.tables.commands text.text)
+listed_after names (Target name) rest known = known
+listed_after names _ rest known = tt
 
-stands_after : (names : Names) (mention : Mentioned) (final : Tables) → Grow (after names mention).tables final → IsKnown final.states mention → Stands final mention
-stands_after names (Interface name) final g known = g.interfaces (text_eq name.text) (inserted text_eq text_same names.tables.interfaces name.text)
-stands_after names (External half command period) final g known = g.tests (test_eq (test_of command period)) (inserted test_eq test_same names.tables.tests (test_of command period))
-stands_after names (Command text) final g known = g.commands (text_eq text.text) (inserted text_eq text_same names.tables.commands text.text)
-stands_after names (Wanted name) final g known = known
-stands_after names (Defined name) final g known = tt
-stands_after names (Init owner span) final g known = tt
-stands_after names (InitState span) final g known = tt
-stands_after names (SetState half span) final g known = tt
+abbrev pub AreListed : Tables → List Mentioned → Type 0
+AreListed tables mentions = AllByRecursion (IsListed tables) mentions
 
-abbrev pub AreStanding : Tables → List Mentioned → Type 0
-AreStanding tables [] = Unit {0}
-AreStanding tables (mention ∷ rest) = Stands tables mention × AreStanding tables rest
+pub all_listed : (names : Names) (mentions : List Mentioned) → AreKnown (names_after names mentions).tables.states mentions
+    → AreListed (names_after names mentions).tables mentions
+all_listed names [] known = tt
+all_listed names (mention ∷ rest) known = (listed_after names mention rest known.0, all_listed (after names mention) rest known.1)
 
-pub all_stand : (names : Names) (mentions : List Mentioned) → AreKnown (names_after names mentions).tables.states mentions
-    → AreStanding (names_after names mentions).tables mentions
-all_stand names [] known = tt
-all_stand names (mention ∷ rest) known =
-    (stands_after names mention (names_after names (mention ∷ rest)).tables (grow_all (after names mention) rest) known.0, all_stand (after names mention) rest known.1)
-
-pub stand_left : (tables : Tables) (xs ys : List Mentioned) → AreStanding tables (xs ++ ys) → AreStanding tables xs
-stand_left tables [] ys h = tt
-stand_left tables (x ∷ xs) ys h = (h.0, stand_left tables xs ys h.1)
-
-pub stand_right : (tables : Tables) (xs ys : List Mentioned) → AreStanding tables (xs ++ ys) → AreStanding tables ys
-stand_right tables [] ys h = h
-stand_right tables (x ∷ xs) ys h = stand_right tables xs ys h.1
-
--- How many states mentions define.
+-- The number of states that mentions define.
 abbrev pub defined : List Mentioned → ℕ
 defined [] = 0
 defined (Defined name ∷ rest) = defined rest + 1
 defined (mention ∷ rest) = defined rest
 
 states_after : (names : Names) (mention : Mentioned) → IsSound names mention → length (after names mention).tables.states ≡ length names.tables.states + defined (mention ∷ [])
-states_after names (Interface name) sound = omega arith
-states_after names (External half command period) sound = omega arith
-states_after names (Command text) sound = omega arith
 states_after names (Defined name) sound = insert_cases text_eq (λ ys. length ys ≡ length names.tables.states + 1) names.tables.states name.text
     (λ there. absurd (sound (StateTwice name.span.line) (refl, there)))
     (λ absent. length_push names.tables.states name.text)
-states_after names (Wanted name) sound = omega arith
 states_after names (Init whose.Always span) sound = omega arith
-states_after names (Init whose.State span) sound = omega arith
-states_after names (InitState span) sound = omega arith
-states_after names (SetState half span) sound = omega arith
+states_after names _ sound = omega arith
 
 defined_more : (mention : Mentioned) (rest : List Mentioned) → defined (mention ∷ rest) ≡ defined (mention ∷ []) + defined rest
-defined_more (Interface name) rest = omega arith
-defined_more (External half command period) rest = omega arith
-defined_more (Command text) rest = omega arith
 defined_more (Defined name) rest = omega arith
-defined_more (Wanted name) rest = omega arith
-defined_more (Init owner span) rest = omega arith
-defined_more (InitState span) rest = omega arith
-defined_more (SetState half span) rest = omega arith
+defined_more _ rest = omega arith
 
 pub count_states : (names : Names) (mentions : List Mentioned) → AreSound names mentions
     → length (names_after names mentions).tables.states ≡ length names.tables.states + defined mentions

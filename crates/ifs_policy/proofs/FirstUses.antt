@@ -1,4 +1,4 @@
--- Entries that are put last where they are new are the first uses.
+-- Appending each new entry yields the first uses.
 use Rattle.std.proofs.Common.{◌≡◌, ◌∙◌, Bool, true, false, cond, not, ◌||◌, List}
 use Rattle.std.proofs.Common.{[], ◌∷◌, ◌++◌, fold, refl, sym, ap, append_assoc}
 use Rattle.std.specs.Prelude.{filter}
@@ -13,19 +13,21 @@ use Rattle.ifs_policy.specs.Tables.{text_eq, test_eq}
 use Rattle.ifs_policy.specs.Whole.{first_uses}
 
 module _ {T : Type 0} (eq : T → T → Bool) (laws : IsEquivalence eq) where
-  -- What no entry of a table is the same as.
+  -- The members that equal no entry of a table.
   abbrev pub news : List T → List T → List T
   news table xs = filter (λ y. not (list_any (eq y) table)) xs
 
+  -- The members that do not equal this one.
   abbrev pub others : T → List T → List T
   others x xs = filter (λ y. not (eq x y)) xs
 
-  any_same : (x y : T) (table : List T) → eq x y ≡ true → list_any (eq y) table ≡ list_any (eq x) table
+  -- Equal members equal the same entries.
+  pub any_same : (x y : T) (table : List T) → eq x y ≡ true → list_any (eq y) table ≡ list_any (eq x) table
   any_same x y [] e = refl
   any_same x y (z ∷ table) e = λ i. sym (laws.congr x y z e) i || any_same x y table e i
 
-  -- What is the same as an entry is left out already.
-  there_already : (x : T) (table xs : List T) → list_any (eq x) table ≡ true → news table (others x xs) ≡ news table xs
+  -- A member that equals an entry is left out already.
+  pub there_already : (x : T) (table xs : List T) → list_any (eq x) table ≡ true → news table (others x xs) ≡ news table xs
   there_already x table [] there = refl
   there_already x table (y ∷ ys) there = by (eq x y) refl (there_already x table ys there)
     where
@@ -34,8 +36,8 @@ module _ {T : Type 0} (eq : T → T → Bool) (laws : IsEquivalence eq) where
       by true e more = more ∙ ap (λ c. cond (not c) (y ∷ news table ys) (news table ys)) (sym (any_same x y table e ∙ there))
       by false e more = ap (λ xs. cond (not (list_any (eq y) table)) (y ∷ xs) xs) more
 
-  -- Of a table with one more entry, what is new is so in both.
-  one_more : (x : T) (table xs : List T) → news (table ++ x ∷ []) xs ≡ news table (others x xs)
+  -- A member that is new to a table with one more entry is new to both.
+  pub one_more : (x : T) (table xs : List T) → news (table ++ x ∷ []) xs ≡ news table (others x xs)
   one_more x table [] = refl
   one_more x table (y ∷ ys) = by (eq x y) (list_any (eq y) table) refl refl (one_more x table ys)
     where
@@ -76,7 +78,8 @@ module _ {T : Type 0} (eq : T → T → Bool) (laws : IsEquivalence eq) where
           ∙ append_assoc table (x ∷ []) (news table later)
           ∙ ap (λ c. table ++ cond (not c) (x ∷ news table later) (news table later)) (sym e)
 
-  all_new : (xs : List T) → news [] xs ≡ xs
+  -- All members are new to the empty table.
+  pub all_new : (xs : List T) → news [] xs ≡ xs
   all_new [] = refl
   all_new (x ∷ xs) = ap (λ ys. x ∷ ys) (all_new xs)
 

@@ -1,15 +1,18 @@
 mod Mentioned
 mod Decided
 mod Places
+pub mod Lists
+pub mod Joined
+mod Inner
+mod Gathered
 mod Filled
 mod Timed
 mod Fitting
 mod Refusals
 mod OneRefusal
-mod Gathered
-mod FirstUses
+pub mod FirstUses
 mod Running
 mod Ordered
 mod Whole
-mod Unresolved
-mod Stands
+pub mod Unresolved
+mod MentionedTests

@@ -1,9 +1,9 @@
--- The mentions of chains and of statements in order are those of their members.
+-- The mentions in a block are those in its statements.
 use Rattle.std.proofs.Common.{◌≡◌, List, [], ◌∷◌, ◌++◌, refl, sym, ap, ◌∙◌, append_assoc}
 use Rattle.std.proofs.lemmas.List.{append-nil}
 use Rattle.std.specs.List.{flat_map}
 use Rattle.ifs_parse.specs.Trees as tree
-use Rattle.ifs_parse.specs.Views.{all_of, any_of, block_of, statement_then}
+use Rattle.ifs_parse.specs.Views.{block_of, statement_then}
 use Rattle.ifs_parse.specs.declared.tree.Name.{Name}
 use Rattle.ifs_parse.specs.declared.tree.Test.{Test}
 use Rattle.ifs_parse.specs.declared.tree.Wish.{Wish}
@@ -12,22 +12,10 @@ use Rattle.ifs_parse.specs.declared.block.Statement.TheVariants.{Run, SetState, 
 use Rattle.ifs_policy.specs.declared.mention.Half.{Half}
 use Rattle.ifs_policy.specs.Mentions.{block_mentions, condition_mentions, statement_mentions}
 
-pub all_mentions : (half : Half) (first : tree.Condition Test) (rest : List (tree.Condition Test))
-    → condition_mentions half (all_of first rest) ≡ condition_mentions half first ++ flat_map (condition_mentions half) rest
-all_mentions half first [] = sym (append-nil _)
-all_mentions half first (next ∷ rest) = all_mentions half (tree.And first next) rest
-    ∙ append_assoc (condition_mentions half first) (condition_mentions half next) (flat_map (condition_mentions half) rest)
-
-pub any_mentions : (half : Half) (first : tree.Condition Test) (rest : List (tree.Condition Test))
-    → condition_mentions half (any_of first rest) ≡ condition_mentions half first ++ flat_map (condition_mentions half) rest
-any_mentions half first [] = sym (append-nil _)
-any_mentions half first (next ∷ rest) = any_mentions half (tree.Or first next) rest
-    ∙ append_assoc (condition_mentions half first) (condition_mentions half next) (flat_map (condition_mentions half) rest)
-
 then_mentions : (half : Half) (statement : Statement Test Name Wish) (rest : tree.Block Test Name Wish)
     → block_mentions half (statement_then statement rest) ≡ statement_mentions half statement ++ block_mentions half rest
 then_mentions half (Run command) rest = refl
-then_mentions half (SetState wish) rest = refl
+then_mentions half (SetState target) rest = refl
 then_mentions half (If condition inner) rest =
     let inside = block_mentions half inner in
     sym (append_assoc (condition_mentions half condition) (inside ++ []) (block_mentions half rest)

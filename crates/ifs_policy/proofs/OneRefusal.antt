@@ -1,4 +1,4 @@
--- One fault stands first.
+-- A tree has at most one first fault.
 use Rattle.std.proofs.Common.{◌≡◌, ◌<◌, ◌==◌, if◌then◌else◌, inl, inr, ℕ}
 use Rattle.std.proofs.Common.{true≢false, List, [], ◌∷◌, ap, sym, ◌∙◌, refl, arith}
 use Rattle.std.proofs.lemmas.Bool.{cases_lt}
@@ -8,25 +8,26 @@ use Rattle.ifs_policy.specs.declared.fault.ResolveFault.TheVariants.{NoState, St
 use Rattle.ifs_policy.specs.declared.fault.ResolveFault.TheVariants.{SetStateInInit, TestInInit, TableFull}
 use Rattle.ifs_policy.specs.declared.fault.ResolveFault.TheVariants.{BadText, UnknownState, Memory}
 use Rattle.ifs_policy.specs.declared.mention.Mention.TheVariants.{Interface, External, Command, Defined}
-use Rattle.ifs_policy.specs.declared.mention.Mention.TheVariants.{Wanted, Init, InitState, SetState}
+use Rattle.ifs_policy.specs.declared.mention.Mention.TheVariants.{Target, Init, InitState, SetState}
 use Rattle.ifs_policy.specs.declared.names.Names.{Names}
 use Rattle.ifs_policy.specs.Mentions.{Mentioned, mentions_of}
 use Rattle.ifs_policy.specs.Tables.{after, no_names, tables_of}
-use Rattle.ifs_policy.specs.Faults.{IsStringWith, Breaks, fault_number, IsLowest, FirstBroken}
+use Rattle.ifs_base.specs.Sizes.{TextFits}
+use Rattle.ifs_policy.specs.Faults.{HasNoRoom, IsStringWith, Breaks, fault_number, IsLowest, FirstBroken}
 use Rattle.ifs_policy.specs.Faults.{FirstUnknown, IsTreeRefused, no_state, broken, unknown}
 use Rattle.ifs_policy.proofs.Refusals.{broken_not_sound}
 
--- The line that a fault tells, and the fault of a number and a line.
-abbrev told_line : ResolveFault → ℕ
-told_line Memory = 0
-told_line (NoState line) = line
-told_line (StateTwice line) = line
-told_line (UnknownState line) = line
-told_line (SecondInit line) = line
-told_line (SetStateInInit line) = line
-told_line (TestInInit line) = line
-told_line (TableFull line) = line
-told_line (BadText line) = line
+-- The line of a fault, and the fault with a number and a line.
+abbrev fault_line : ResolveFault → ℕ
+fault_line Memory = 0
+fault_line (NoState line) = line
+fault_line (StateTwice line) = line
+fault_line (UnknownState line) = line
+fault_line (SecondInit line) = line
+fault_line (SetStateInInit line) = line
+fault_line (TestInInit line) = line
+fault_line (TableFull line) = line
+fault_line (BadText line) = line
 
 abbrev fault_of : ℕ → ℕ → ResolveFault
 fault_of n line =
@@ -39,19 +40,12 @@ fault_of n line =
     if n == 15 then TableFull line else
     if n == 16 then BadText line else Memory
 
-told_whole : (fault : ResolveFault) → fault_of (fault_number fault) (told_line fault) ≡ fault
-told_whole Memory = refl
-told_whole (NoState line) = refl
-told_whole (StateTwice line) = refl
-told_whole (UnknownState line) = refl
-told_whole (SecondInit line) = refl
-told_whole (SetStateInInit line) = refl
-told_whole (TestInInit line) = refl
-told_whole (TableFull line) = refl
-told_whole (BadText line) = refl
+fault_is : (fault : ResolveFault) → fault_of (fault_number fault) (fault_line fault) ≡ fault
+fault_is Memory = refl
+fault_is _ = refl
 
-same_fault : (fault other : ResolveFault) → fault_number fault ≡ fault_number other → told_line fault ≡ told_line other → fault ≡ other
-same_fault fault other n l = sym (told_whole fault) ∙ ap (λ m. fault_of m (told_line fault)) n ∙ ap (fault_of (fault_number other)) l ∙ told_whole other
+same_fault : (fault other : ResolveFault) → fault_number fault ≡ fault_number other → fault_line fault ≡ fault_line other → fault ≡ other
+same_fault fault other n l = sym (fault_is fault) ∙ ap (λ m. fault_of m (fault_line fault)) n ∙ ap (fault_of (fault_number other)) l ∙ fault_is other
 
 -- The line of a mention.
 abbrev line_of : Mentioned → ℕ
@@ -59,35 +53,26 @@ line_of (Interface name) = name.span.line
 line_of (External half command period) = command.span.line
 line_of (Command text) = text.span.line
 line_of (Defined name) = name.span.line
-line_of (Wanted name) = name.span.line
+line_of (Target name) = name.span.line
 line_of (Init owner span) = span.line
 line_of (InitState span) = span.line
 line_of (SetState half span) = span.line
 
-broken_here : (names : Names) (mention : Mentioned) (fault : ResolveFault) → Breaks names mention fault → told_line fault ≡ line_of mention
-broken_here names (Interface name) (TableFull line) h = h.0
-broken_here names (Interface name) (BadText line) h = h.0
-broken_here names (Interface name) _ h = absurd h
+string_line : (P : List ℕ → Type 0) (line : ℕ) (mention : Mentioned) → IsStringWith P line mention → line ≡ line_of mention
+string_line P line (Init owner span) h = absurd h
+string_line P line (InitState span) h = absurd h
+string_line P line (SetState half span) h = absurd h
+string_line P line _ h = h.0
+
+broken_here : (names : Names) (mention : Mentioned) (fault : ResolveFault) → Breaks names mention fault → fault_line fault ≡ line_of mention
 broken_here names (External half command period) (TestInInit line) h = h.0
-broken_here names (External half command period) (TableFull line) h = h.0
-broken_here names (External half command period) (BadText line) h = h.0
-broken_here names (External half command period) _ h = absurd h
-broken_here names (Command text) (TableFull line) h = h.0
-broken_here names (Command text) (BadText line) h = h.0
-broken_here names (Command text) _ h = absurd h
 broken_here names (Defined name) (StateTwice line) h = h.0
-broken_here names (Defined name) (TableFull line) h = h.0
-broken_here names (Defined name) (BadText line) h = h.0
-broken_here names (Defined name) _ h = absurd h
-broken_here names (Wanted name) (TableFull line) h = h.0
-broken_here names (Wanted name) (BadText line) h = h.0
-broken_here names (Wanted name) _ h = absurd h
 broken_here names (Init owner span) (SecondInit line) h = h.0
-broken_here names (Init owner span) _ h = absurd h
 broken_here names (InitState span) (SecondInit line) h = h.0
-broken_here names (InitState span) _ h = absurd h
 broken_here names (SetState half span) (SetStateInInit line) h = h.0
-broken_here names (SetState half span) _ h = absurd h
+broken_here names mention (TableFull line) h = string_line (λ text. HasNoRoom names mention) line mention h
+broken_here names mention (BadText line) h = string_line (λ text. ¬ TextFits text) line mention h
+broken_here names _ _ h = absurd h
 
 one_number : (m n : ℕ) → ¬ (m < n) → ¬ (n < m) → m ≡ n
 one_number m n not_below not_above =
@@ -110,19 +95,9 @@ one_broken names (mention ∷ rest) fault other (inl h) (inr k) = absurd (k.0 fa
 one_broken names (mention ∷ rest) fault other (inr h) (inl k) = absurd (h.0 other k.broken)
 one_broken names (mention ∷ rest) fault other (inr h) (inr k) = one_broken (after names mention) rest fault other h.1 k.1
 
-string_here : (mention : Mentioned) (line other : ℕ) → IsStringWith (λ text. Unit {0}) line mention → IsStringWith (λ text. Unit {0}) other mention → line ≡ other
-string_here (Interface name) line other h k = h.0 ∙ sym k.0
-string_here (External half command period) line other h k = h.0 ∙ sym k.0
-string_here (Command text) line other h k = h.0 ∙ sym k.0
-string_here (Defined name) line other h k = h.0 ∙ sym k.0
-string_here (Wanted name) line other h k = h.0 ∙ sym k.0
-string_here (Init owner span) line other h k = absurd h
-string_here (InitState span) line other h k = absurd h
-string_here (SetState half span) line other h k = absurd h
-
 one_unknown : (states : List (List ℕ)) (mentions : List Mentioned) (line other : ℕ) → FirstUnknown states mentions line → FirstUnknown states mentions other → line ≡ other
 one_unknown states [] line other h k = absurd h
-one_unknown states (mention ∷ rest) line other (inl h) (inl k) = string_here mention line other h.0 k.0
+one_unknown states (mention ∷ rest) line other (inl h) (inl k) = string_line (λ text. Unit {0}) line mention h.0 ∙ sym (string_line (λ text. Unit {0}) other mention k.0)
 one_unknown states (mention ∷ rest) line other (inl h) (inr k) = absurd (h.1 k.0)
 one_unknown states (mention ∷ rest) line other (inr h) (inl k) = absurd (k.1 h.0)
 one_unknown states (mention ∷ rest) line other (inr h) (inr k) = one_unknown states rest line other h.1 k.1

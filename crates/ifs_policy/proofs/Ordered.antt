@@ -1,11 +1,11 @@
--- The tables of a text's mentions are in order.
+-- The entries of the tables are in the order of the text.
 use Rattle.std.proofs.Common.{◌≡◌, List, [], ◌∷◌, ◌++◌, fold, refl, sym, ap, subst, ◌∙◌, append_assoc}
 use Rattle.std.specs.List.{flat_map}
+use Rattle.std.proofs.lemmas.List.{append-nil}
 use Rattle.indexmap.specs.IndexSet.{insert_key}
 use Rattle.ifs_parse.specs.declared.tree.Item.{Item}
 use Rattle.ifs_policy.specs.declared.fault.ResolveFault.TheVariants.{StateTwice}
-use Rattle.ifs_policy.specs.declared.mention.Mention.TheVariants.{Interface, External, Command, Defined}
-use Rattle.ifs_policy.specs.declared.mention.Mention.TheVariants.{Wanted, Init, InitState, SetState}
+use Rattle.ifs_policy.specs.declared.mention.Mention.TheVariants.{Defined, Init}
 use Rattle.ifs_policy.specs.declared.mention.Owner.TheVariants as whose
 use Rattle.ifs_policy.specs.declared.names.Names.{Names}
 use Rattle.ifs_policy.specs.declared.policy.PolicyParts.{PolicyParts}
@@ -16,76 +16,30 @@ use Rattle.ifs_policy.specs.Resolution.{Resolves}
 use Rattle.ifs_policy.specs.Order.{InOrder}
 use Rattle.ifs_policy.specs.Whole as whole
 use Rattle.ifs_policy.specs.Whole.{first_uses}
-use Rattle.ifs_policy.proofs.Filled.{insert_cases}
+use Rattle.ifs_policy.proofs.Filled.{insert_cases, table_after, interfaces_one, tests_one, commands_one}
 use Rattle.ifs_policy.proofs.FirstUses.{inserted_are_first, text_laws, test_laws}
 use Rattle.ifs_policy.proofs.Gathered.{interface_of, tested_by, command_of, state_of}
 use Rattle.ifs_policy.proofs.Gathered.{picked_interfaces, picked_tests, picked_commands, picked_states}
 
-interfaces_after : (names : Names) (mentions : List Mentioned) → (names_after names mentions).tables.interfaces ≡ fold (insert_key text_eq) names.tables.interfaces (flat_map interface_of mentions)
-interfaces_after names [] = refl
-interfaces_after names (Interface name ∷ rest) = interfaces_after (after names (Interface name)) rest
-interfaces_after names (External half command period ∷ rest) = interfaces_after (after names (External half command period)) rest
-interfaces_after names (Command text ∷ rest) = interfaces_after (after names (Command text)) rest
-interfaces_after names (Defined name ∷ rest) = interfaces_after (after names (Defined name)) rest
-interfaces_after names (Wanted name ∷ rest) = interfaces_after names rest
-interfaces_after names (Init whose.Always span ∷ rest) = interfaces_after (after names (Init whose.Always span)) rest
-interfaces_after names (Init whose.State span ∷ rest) = interfaces_after (after names (Init whose.State span)) rest
-interfaces_after names (InitState span ∷ rest) = interfaces_after (after names (InitState span)) rest
-interfaces_after names (SetState half span ∷ rest) = interfaces_after names rest
-
-tests_after : (names : Names) (mentions : List Mentioned) → (names_after names mentions).tables.tests ≡ fold (insert_key test_eq) names.tables.tests (flat_map tested_by mentions)
-tests_after names [] = refl
-tests_after names (Interface name ∷ rest) = tests_after (after names (Interface name)) rest
-tests_after names (External half command period ∷ rest) = tests_after (after names (External half command period)) rest
-tests_after names (Command text ∷ rest) = tests_after (after names (Command text)) rest
-tests_after names (Defined name ∷ rest) = tests_after (after names (Defined name)) rest
-tests_after names (Wanted name ∷ rest) = tests_after names rest
-tests_after names (Init whose.Always span ∷ rest) = tests_after (after names (Init whose.Always span)) rest
-tests_after names (Init whose.State span ∷ rest) = tests_after (after names (Init whose.State span)) rest
-tests_after names (InitState span ∷ rest) = tests_after (after names (InitState span)) rest
-tests_after names (SetState half span ∷ rest) = tests_after names rest
-
-commands_after : (names : Names) (mentions : List Mentioned) → (names_after names mentions).tables.commands ≡ fold (insert_key text_eq) names.tables.commands (flat_map command_of mentions)
-commands_after names [] = refl
-commands_after names (Interface name ∷ rest) = commands_after (after names (Interface name)) rest
-commands_after names (External half command period ∷ rest) = commands_after (after names (External half command period)) rest
-commands_after names (Command text ∷ rest) = commands_after (after names (Command text)) rest
-commands_after names (Defined name ∷ rest) = commands_after (after names (Defined name)) rest
-commands_after names (Wanted name ∷ rest) = commands_after names rest
-commands_after names (Init whose.Always span ∷ rest) = commands_after (after names (Init whose.Always span)) rest
-commands_after names (Init whose.State span ∷ rest) = commands_after (after names (Init whose.State span)) rest
-commands_after names (InitState span ∷ rest) = commands_after (after names (InitState span)) rest
-commands_after names (SetState half span ∷ rest) = commands_after names rest
-
--- A state that is defined is new, so it goes last.
+-- A defined state is new, so it is appended.
 state_goes_last : (names : Names) (mentions : List Mentioned) → AreSound names mentions → (names_after names mentions).tables.states ≡ names.tables.states ++ flat_map state_of mentions
-state_goes_last names [] sound = sym (append_nil names.tables.states)
-  where
-    append_nil : {T : Type 0} (xs : List T) → xs ++ [] ≡ xs
-    append_nil [] = refl
-    append_nil (x ∷ xs) = ap (λ l. x ∷ l) (append_nil xs)
-state_goes_last names (Interface name ∷ rest) sound = state_goes_last (after names (Interface name)) rest sound.1
-state_goes_last names (External half command period ∷ rest) sound = state_goes_last (after names (External half command period)) rest sound.1
-state_goes_last names (Command text ∷ rest) sound = state_goes_last (after names (Command text)) rest sound.1
+state_goes_last names [] sound = sym (append-nil names.tables.states)
 state_goes_last names (Defined name ∷ rest) sound =
     let new : insert_key text_eq names.tables.states name.text ≡ names.tables.states ++ name.text ∷ [] =
     insert_cases text_eq (λ ys. ys ≡ names.tables.states ++ name.text ∷ []) names.tables.states name.text
     (λ there. absurd (sound.0 (StateTwice name.span.line) (refl, there))) (λ absent. refl) in
     state_goes_last (after names (Defined name)) rest sound.1 ∙ ap (λ xs. xs ++ flat_map state_of rest) new ∙ append_assoc names.tables.states (name.text ∷ []) (flat_map state_of rest)
-state_goes_last names (Wanted name ∷ rest) sound = state_goes_last names rest sound.1
 state_goes_last names (Init whose.Always span ∷ rest) sound = state_goes_last (after names (Init whose.Always span)) rest sound.1
-state_goes_last names (Init whose.State span ∷ rest) sound = state_goes_last (after names (Init whose.State span)) rest sound.1
-state_goes_last names (InitState span ∷ rest) sound = state_goes_last (after names (InitState span)) rest sound.1
-state_goes_last names (SetState half span ∷ rest) sound = state_goes_last names rest sound.1
+state_goes_last names (mention ∷ rest) sound = state_goes_last (after names mention) rest sound.1
 
 pub interfaces_first : (items : List Item) → (tables_of (mentions_of items)).interfaces ≡ first_uses text_eq (whole.interfaces items)
-interfaces_first items = interfaces_after no_names (mentions_of items) ∙ ap (fold (insert_key text_eq) []) (picked_interfaces items) ∙ inserted_are_first text_eq text_laws (whole.interfaces items)
+interfaces_first items = table_after text_eq (λ names. names.tables.interfaces) interface_of interfaces_one no_names (mentions_of items) ∙ ap (fold (insert_key text_eq) []) (picked_interfaces items) ∙ inserted_are_first text_eq text_laws (whole.interfaces items)
 
 pub tests_first : (items : List Item) → (tables_of (mentions_of items)).tests ≡ first_uses test_eq (whole.tests items)
-tests_first items = tests_after no_names (mentions_of items) ∙ ap (fold (insert_key test_eq) []) (picked_tests items) ∙ inserted_are_first test_eq test_laws (whole.tests items)
+tests_first items = table_after test_eq (λ names. names.tables.tests) tested_by tests_one no_names (mentions_of items) ∙ ap (fold (insert_key test_eq) []) (picked_tests items) ∙ inserted_are_first test_eq test_laws (whole.tests items)
 
 pub commands_first : (items : List Item) → (tables_of (mentions_of items)).commands ≡ first_uses text_eq (whole.commands items)
-commands_first items = commands_after no_names (mentions_of items) ∙ ap (fold (insert_key text_eq) []) (picked_commands items) ∙ inserted_are_first text_eq text_laws (whole.commands items)
+commands_first items = table_after text_eq (λ names. names.tables.commands) command_of commands_one no_names (mentions_of items) ∙ ap (fold (insert_key text_eq) []) (picked_commands items) ∙ inserted_are_first text_eq text_laws (whole.commands items)
 
 pub states_defined : (items : List Item) → AreSound no_names (mentions_of items) → (tables_of (mentions_of items)).states ≡ whole.states items
 states_defined items sound = state_goes_last no_names (mentions_of items) sound ∙ picked_states items

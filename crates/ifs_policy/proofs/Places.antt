@@ -1,4 +1,4 @@
--- Placing goes into the members of chains and of blocks.
+-- The places in chains and blocks are those in their members.
 use Rattle.std.proofs.Common.{◌≡◌, ℕ, zero, suc, ◌<◌, ◌≤◌, max, Bool, List, []}
 use Rattle.std.proofs.Common.{◌∷◌, map, length, get_or, refl, ap, ◌∙◌, not, arith}
 use Rattle.std.proofs.lemmas.List.Sums.{prefix_len-le-length}
@@ -32,7 +32,7 @@ place_any tables first (next ∷ rest) = place_any tables (tree.Or first next) r
 pub place_then : (tables : Tables) (statement : Statement Test Name Wish) (rest : tree.Block Test Name Wish)
     → place_block tables (statement_then statement rest) ≡ statement_then (place_statement tables statement) (place_block tables rest)
 place_then tables (Run command) rest = refl
-place_then tables (SetState wish) rest = refl
+place_then tables (SetState target) rest = refl
 place_then tables (If condition inner) rest = refl
 
 pub place_statements : (tables : Tables) (statements : List (Statement Test Name Wish))
@@ -41,7 +41,7 @@ place_statements tables [] = refl
 place_statements tables (statement ∷ rest) =
     place_then tables statement (block_of rest) ∙ ap (statement_then (place_statement tables statement)) (place_statements tables rest)
 
--- The size of the greatest of some operands.
+-- The size of the greatest operand.
 abbrev pub greatest : List (tree.Condition Test) → ℕ
 greatest [] = 0
 greatest (operand ∷ rest) = max (tree.condition_size operand) (greatest rest)
@@ -57,7 +57,7 @@ pub greatest_below : (size : ℕ) (operands : List (tree.Condition Test)) → 0 
 greatest_below size [] some h = some
 greatest_below size (operand ∷ rest) some h = let later = greatest_below size rest some h.1 in omega (arith, h.0)
 
--- The statements of a part, as the code has them.
+-- The statements of a part, as a list.
 abbrev pub statements_in : List Part → List (Statement Test Name Wish)
 statements_in [] = []
 statements_in (Init span block ∷ rest) = statements_in rest

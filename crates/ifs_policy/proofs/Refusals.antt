@@ -1,8 +1,9 @@
--- A text that is refused has no policy, and the fault is the only one.
-use Rattle.std.proofs.Common.{◌≡◌, inl, inr, ℕ, true≢false, IsTrue, List, [], ◌∷◌, sym, subst, ◌∙◌}
+-- A rejected tree has no policy, and the walk over its items rejects it with its first fault.
+use Rattle.std.proofs.Common.{◌≡◌, ◌≢◌, inl, inr, ℕ, true≢false, IsTrue, List, [], ◌∷◌, sym, subst, ◌∙◌}
 use Rattle.std.specs.List.{list_any}
 use Rattle.ifs_parse.specs.declared.tree.Item.{Item}
 use Rattle.ifs_policy.specs.declared.fault.ResolveFault.{ResolveFault}
+use Rattle.ifs_policy.specs.declared.fault.ResolveFault.TheVariants.{Memory}
 use Rattle.ifs_policy.specs.declared.names.Names.{Names}
 use Rattle.ifs_policy.specs.declared.policy.PolicyParts.{PolicyParts}
 use Rattle.ifs_policy.specs.Mentions.{Mentioned, mentions_of}
@@ -33,12 +34,14 @@ first_is_refused : (items : List Item) (fault : ResolveFault) → IsTrue (list_a
 first_is_refused items fault some (inl h) = broken fault some h
 first_is_refused items fault some (inr h) = subst (IsTreeRefused items) (sym h.1.1) (unknown h.1.0 some h.0 h.1.2)
 
--- A fault that the walk over the items tells first refuses them.
-pub told_is_refused : (items walked : List Item) (fault : ResolveFault) → walked ≡ items → IsTrue (list_any is_state walked) → IsFirst no_names (mentions_of walked) fault
-    → IsTreeRefused items fault
-told_is_refused items walked fault same some first = subst (λ (l : List Item). IsTreeRefused l fault) same (first_is_refused walked fault some first)
+-- The walk returned a fault, which is the first one of the items.
+pub walk_refuses : (items walked : List Item) (returned fault : ResolveFault) → returned ≡ fault → walked ≡ items → IsTrue (list_any is_state walked)
+    → (fault ≢ Memory → IsFirst no_names (mentions_of walked) fault) → returned ≢ Memory → IsTreeRefused items returned
+walk_refuses items walked returned fault is same some first other =
+    subst (IsTreeRefused items) (sym is)
+    (subst (λ (l : List Item). IsTreeRefused l fault) same (first_is_refused walked fault some (first (subst (λ f. f ≢ Memory) is other))))
 
--- What the walk leaves and makes is the policy of the items.
+-- The result of the walk is the policy of the items.
 pub resolved : (items : List Item) (placed : PolicyTrees) (names : Names) → IsTrue (list_any is_state items) → Walked items placed names
     → Resolves items (record { tables = names.tables; initial = placed.initial; always = placed.always; states = placed.states })
 resolved items placed names some w = record {

@@ -1,4 +1,4 @@
--- That mentions break no rule, as what holds of the lists that are picked from them.
+-- Mentions break no rule exactly if the lists that are picked from them have certain properties.
 use Rattle.std.proofs.Common.{◌≡◌, ◌≢◌, ℕ, suc, ◌+◌, ◌≤◌, ⊎_elim, Bool, true, false, ◌||◌, List, []}
 use Rattle.std.proofs.Common.{◌∷◌, ◌++◌, length, fold, AllPairs, Contains, refl, sym, ap, ◌∙◌, arith}
 use Rattle.std.proofs.lemmas.Bool.{or_cases, or_from, false_from_ne_true}
@@ -10,29 +10,26 @@ use Rattle.std.proofs.lemmas.List.Folds.{list_any-append, list_any_at}
 use Rattle.std.specs.List.{flat_map, list_any, AllByRecursion}
 use Rattle.indexmap.specs.IndexSet.{insert_key}
 use Rattle.ifs_base.specs.Sizes.{TextFits}
-use Rattle.ifs_base.specs.declared.span.Span.{Span}
-use Rattle.ifs_parse.specs.declared.tree.Name.{Name}
 use Rattle.ifs_policy.specs.declared.fault.ResolveFault.TheVariants.{StateTwice, SecondInit, SetStateInInit}
 use Rattle.ifs_policy.specs.declared.fault.ResolveFault.TheVariants.{TestInInit, TableFull, BadText}
 use Rattle.ifs_policy.specs.declared.mention.Mention.TheVariants.{Interface, External, Command, Defined}
-use Rattle.ifs_policy.specs.declared.mention.Mention.TheVariants.{Wanted, Init, InitState, SetState}
+use Rattle.ifs_policy.specs.declared.mention.Mention.TheVariants.{Target, Init, InitState, SetState}
 use Rattle.ifs_policy.specs.declared.mention.Half.TheVariants as at
-use Rattle.ifs_policy.specs.declared.mention.Owner.{Owner}
 use Rattle.ifs_policy.specs.declared.mention.Owner.TheVariants as whose
 use Rattle.ifs_policy.specs.declared.names.Names.{Names}
 use Rattle.ifs_policy.specs.Mentions.{Mentioned}
-use Rattle.ifs_policy.specs.Tables.{text_eq, test_eq, test_of, after}
-use Rattle.ifs_policy.specs.Faults.{IsFull, IsSound, AreSound, AreKnown, has_init}
+use Rattle.ifs_policy.specs.Tables.{text_eq, test_eq, after}
+use Rattle.ifs_policy.specs.Faults.{IsFull, IsSound, AreSound, AreKnown}
 use Rattle.ifs_policy.proofs.Filled.{insert_cases, fit, text_same}
-use Rattle.ifs_policy.proofs.Gathered.{interface_of, tested_by, command_of, state_of, wanted_by}
-use Rattle.ifs_policy.proofs.Gathered.{tested_in_init, wish_in_init, always_init, init_state}
+use Rattle.ifs_policy.proofs.Gathered.{interface_of, tested_by, command_of, state_of, target_of}
+use Rattle.ifs_policy.proofs.Gathered.{tested_in_init, set_in_init, always_init, init_state}
 
--- Each entry finds a place in its table, and its text fits.
+-- Each entry finds room in its table, and its text is valid.
 abbrev pub Takes : {T : Type 0} → (T → T → Bool) → (T → List ℕ) → ℕ → List T → List T → Type 0
 Takes eq text limit table [] = Unit {0}
 Takes eq text limit table (x ∷ xs) = (¬ IsFull eq limit table x) × TextFits (text x) × Takes eq text limit (insert_key eq table x) xs
 
--- Each state is new besides.
+-- Each state finds room, is valid, and is new.
 abbrev pub Defines : List (List ℕ) → List (List ℕ) → Type 0
 Defines table [] = Unit {0}
 Defines table (x ∷ xs) = (list_any (text_eq x) table ≡ false) × (¬ IsFull text_eq 256 table x) × TextFits x × Defines (insert_key text_eq table x) xs
@@ -48,17 +45,48 @@ abbrev pub bit : Bool → ℕ
 bit true = 1
 bit false = 0
 
+-- What holds of the lists that are picked from mentions, from these tables on.
+abbrev TakesInterfaces : Names → List Mentioned → Type 0
+TakesInterfaces names ms = Takes text_eq (λ t. t) 64 names.tables.interfaces (flat_map interface_of ms)
+
+abbrev TakesTests : Names → List Mentioned → Type 0
+TakesTests names ms = Takes test_eq (λ t. t.command) 64 names.tables.tests (flat_map tested_by ms)
+
+abbrev TakesCommands : Names → List Mentioned → Type 0
+TakesCommands names ms = Takes text_eq (λ t. t) 1024 names.tables.commands (flat_map command_of ms)
+
+abbrev DefinesStates : Names → List Mentioned → Type 0
+DefinesStates names ms = Defines names.tables.states (flat_map state_of ms)
+
+abbrev TargetsFit : Names → List Mentioned → Type 0
+TargetsFit names ms = AllByRecursion TextFits (flat_map target_of ms)
+
+abbrev HasNoTest : Names → List Mentioned → Type 0
+HasNoTest names ms = flat_map tested_in_init ms ≡ []
+
+abbrev HasNoSetState : Names → List Mentioned → Type 0
+HasNoSetState names ms = flat_map set_in_init ms ≡ []
+
+abbrev OneOutside : Names → List Mentioned → Type 0
+OneOutside names ms = bit names.always_init + length (flat_map always_init ms) ≤ 1
+
+abbrev OneInitial : Names → List Mentioned → Type 0
+OneInitial names ms = bit names.init_state + length (flat_map init_state ms) ≤ 1
+
+abbrev OneEach : Names → List Mentioned → Type 0
+OneEach names ms = Opens names.state_init ms
+
 pub record Sound (names : Names) (ms : List Mentioned) : Type 0 where
-  pub interfaces : Takes text_eq (λ t. t) 64 names.tables.interfaces (flat_map interface_of ms)
-  pub tests : Takes test_eq (λ t. t.command) 64 names.tables.tests (flat_map tested_by ms)
-  pub commands : Takes text_eq (λ t. t) 1024 names.tables.commands (flat_map command_of ms)
-  pub states : Defines names.tables.states (flat_map state_of ms)
-  pub wanted : AllByRecursion TextFits (flat_map wanted_by ms)
-  pub untested : flat_map tested_in_init ms ≡ []
-  pub unwished : flat_map wish_in_init ms ≡ []
-  pub outside : bit names.always_init + length (flat_map always_init ms) ≤ 1
-  pub initial : bit names.init_state + length (flat_map init_state ms) ≤ 1
-  pub opens : Opens names.state_init ms
+  pub interfaces : TakesInterfaces names ms
+  pub tests : TakesTests names ms
+  pub commands : TakesCommands names ms
+  pub states : DefinesStates names ms
+  pub targets : TargetsFit names ms
+  pub untested : HasNoTest names ms
+  pub unset : HasNoSetState names ms
+  pub outside : OneOutside names ms
+  pub initial : OneInitial names ms
+  pub opens : OneEach names ms
 
 no_more : (b : Bool) → bit b + 0 ≤ 1
 no_more true = omega arith
@@ -76,328 +104,172 @@ bit_after : (b : Bool) (n : ℕ) → bit b + suc n ≤ 1 → 1 + n ≤ 1
 bit_after true n h = absurd (omega (arith, h))
 bit_after false n h = omega (arith, h)
 
+-- A property of the mentions after a sound one holds with that mention as well.
+abbrev Carries : (Names → List Mentioned → Type 0) → Type 0
+Carries P = (names : Names) (mention : Mentioned) (rest : List Mentioned) → IsSound names mention → P (after names mention) rest → P names (mention ∷ rest)
+
+along : (P : Names → List Mentioned → Type 0) → ((names : Names) → P names []) → Carries P → (names : Names) (ms : List Mentioned) → AreSound names ms → P names ms
+along P none more names [] h = none names
+along P none more names (mention ∷ rest) h = more names mention rest h.0 (along P none more (after names mention) rest h.1)
+
+carry_interfaces : Carries TakesInterfaces
+carry_interfaces names (Interface name) rest sound h = ((λ full. sound (TableFull name.span.line) (refl, full)), fit name.text (λ bad. sound (BadText name.span.line) (refl, bad)), h)
+carry_interfaces names (Init whose.Always span) rest sound h = h
+carry_interfaces names _ rest sound h = h
+
+carry_tests : Carries TakesTests
+carry_tests names (External half command period) rest sound h =
+    ((λ full. sound (TableFull command.span.line) (refl, full)), fit command.text (λ bad. sound (BadText command.span.line) (refl, bad)), h)
+carry_tests names (Init whose.Always span) rest sound h = h
+carry_tests names _ rest sound h = h
+
+carry_commands : Carries TakesCommands
+carry_commands names (Command text) rest sound h = ((λ full. sound (TableFull text.span.line) (refl, full)), fit text.text (λ bad. sound (BadText text.span.line) (refl, bad)), h)
+carry_commands names (Init whose.Always span) rest sound h = h
+carry_commands names _ rest sound h = h
+
+carry_states : Carries DefinesStates
+carry_states names (Defined name) rest sound h = (
+  false_from_ne_true (list_any (text_eq name.text) names.tables.states) (λ there. sound (StateTwice name.span.line) (refl, there)),
+  (λ full. sound (TableFull name.span.line) (refl, full)),
+  fit name.text (λ bad. sound (BadText name.span.line) (refl, bad)),
+  h,
+)
+carry_states names (Init whose.Always span) rest sound h = h
+carry_states names _ rest sound h = h
+
+carry_targets : Carries TargetsFit
+carry_targets names (Target name) rest sound h = (fit name.text (λ bad. sound (BadText name.span.line) (refl, bad)), h)
+carry_targets names _ rest sound h = h
+
+carry_untested : Carries HasNoTest
+carry_untested names (External at.Init command period) rest sound h = absurd (sound (TestInInit command.span.line) (refl, refl))
+carry_untested names _ rest sound h = h
+
+carry_unset : Carries HasNoSetState
+carry_unset names (SetState at.Init span) rest sound h = absurd (sound (SetStateInInit span.line) (refl, refl))
+carry_unset names _ rest sound h = h
+
+carry_outside : Carries OneOutside
+carry_outside names (Init whose.Always span) rest sound h =
+    first_bit names.always_init (length (flat_map always_init rest)) (false_from_ne_true names.always_init (λ has. sound (SecondInit span.line) (refl, has))) h
+carry_outside names _ rest sound h = h
+
+carry_initial : Carries OneInitial
+carry_initial names (InitState span) rest sound h =
+    first_bit names.init_state (length (flat_map init_state rest)) (false_from_ne_true names.init_state (λ has. sound (SecondInit span.line) (refl, has))) h
+carry_initial names (Init whose.Always span) rest sound h = h
+carry_initial names _ rest sound h = h
+
+carry_opens : Carries OneEach
+carry_opens names (Init whose.State span) rest sound h = (false_from_ne_true names.state_init (λ has. sound (SecondInit span.line) (refl, has)), h)
+carry_opens names _ rest sound h = h
+
 pub forth : (names : Names) (ms : List Mentioned) → AreSound names ms → Sound names ms
-forth names [] h = record {
-  interfaces = tt;
-  tests = tt;
-  commands = tt;
-  states = tt;
-  wanted = tt;
-  untested = refl;
-  unwished = refl;
-  outside = no_more names.always_init;
-  initial = no_more names.init_state;
-  opens = tt;
+forth names ms h = record {
+  interfaces = along TakesInterfaces (λ names. tt) carry_interfaces names ms h;
+  tests = along TakesTests (λ names. tt) carry_tests names ms h;
+  commands = along TakesCommands (λ names. tt) carry_commands names ms h;
+  states = along DefinesStates (λ names. tt) carry_states names ms h;
+  targets = along TargetsFit (λ names. tt) carry_targets names ms h;
+  untested = along HasNoTest (λ names. refl) carry_untested names ms h;
+  unset = along HasNoSetState (λ names. refl) carry_unset names ms h;
+  outside = along OneOutside (λ names. no_more names.always_init) carry_outside names ms h;
+  initial = along OneInitial (λ names. no_more names.init_state) carry_initial names ms h;
+  opens = along OneEach (λ names. tt) carry_opens names ms h;
 }
-forth names (Interface name ∷ rest) h =
-    let r = forth (after names (Interface name)) rest h.1 in record {
-      interfaces = ((λ full. h.0 (TableFull name.span.line) (refl, full)), fit name.text (λ bad. h.0 (BadText name.span.line) (refl, bad)), r.interfaces);
-      tests = r.tests;
-      commands = r.commands;
-      states = r.states;
-      wanted = r.wanted;
-      untested = r.untested;
-      unwished = r.unwished;
-      outside = r.outside;
-      initial = r.initial;
-      opens = r.opens;
-    }
-forth names (External at.Init command period ∷ rest) h = absurd (h.0 (TestInInit command.span.line) (refl, refl))
-forth names (External at.Body command period ∷ rest) h =
-    let r = forth (after names (External at.Body command period)) rest h.1 in record {
-      interfaces = r.interfaces;
-      tests = ((λ full. h.0 (TableFull command.span.line) (refl, full)), fit command.text (λ bad. h.0 (BadText command.span.line) (refl, bad)), r.tests);
-      commands = r.commands;
-      states = r.states;
-      wanted = r.wanted;
-      untested = r.untested;
-      unwished = r.unwished;
-      outside = r.outside;
-      initial = r.initial;
-      opens = r.opens;
-    }
-forth names (Command text ∷ rest) h =
-    let r = forth (after names (Command text)) rest h.1 in record {
-      interfaces = r.interfaces;
-      tests = r.tests;
-      commands = ((λ full. h.0 (TableFull text.span.line) (refl, full)), fit text.text (λ bad. h.0 (BadText text.span.line) (refl, bad)), r.commands);
-      states = r.states;
-      wanted = r.wanted;
-      untested = r.untested;
-      unwished = r.unwished;
-      outside = r.outside;
-      initial = r.initial;
-      opens = r.opens;
-    }
-forth names (Defined name ∷ rest) h =
-    let r = forth (after names (Defined name)) rest h.1 in record {
-      interfaces = r.interfaces;
-      tests = r.tests;
-      commands = r.commands;
-      states = (false_from_ne_true (list_any (text_eq name.text) names.tables.states) (λ there. h.0 (StateTwice name.span.line) (refl, there)), (λ full. h.0 (TableFull name.span.line) (refl, full)), fit name.text (λ bad. h.0 (BadText name.span.line) (refl, bad)), r.states);
-      wanted = r.wanted;
-      untested = r.untested;
-      unwished = r.unwished;
-      outside = r.outside;
-      initial = r.initial;
-      opens = r.opens;
-    }
-forth names (Wanted name ∷ rest) h =
-    let r = forth (after names (Wanted name)) rest h.1 in record {
-      interfaces = r.interfaces;
-      tests = r.tests;
-      commands = r.commands;
-      states = r.states;
-      wanted = (fit name.text (λ bad. h.0 (BadText name.span.line) (refl, bad)), r.wanted);
-      untested = r.untested;
-      unwished = r.unwished;
-      outside = r.outside;
-      initial = r.initial;
-      opens = r.opens;
-    }
-forth names (Init whose.Always span ∷ rest) h =
-    let r = forth (after names (Init whose.Always span)) rest h.1 in record {
-      interfaces = r.interfaces;
-      tests = r.tests;
-      commands = r.commands;
-      states = r.states;
-      wanted = r.wanted;
-      untested = r.untested;
-      unwished = r.unwished;
-      outside = first_bit names.always_init (length (flat_map always_init rest)) (false_from_ne_true names.always_init (λ has. h.0 (SecondInit span.line) (refl, has))) r.outside;
-      initial = r.initial;
-      opens = r.opens;
-    }
-forth names (Init whose.State span ∷ rest) h =
-    let r = forth (after names (Init whose.State span)) rest h.1 in record {
-      interfaces = r.interfaces;
-      tests = r.tests;
-      commands = r.commands;
-      states = r.states;
-      wanted = r.wanted;
-      untested = r.untested;
-      unwished = r.unwished;
-      outside = r.outside;
-      initial = r.initial;
-      opens = (false_from_ne_true names.state_init (λ has. h.0 (SecondInit span.line) (refl, has)), r.opens);
-    }
-forth names (InitState span ∷ rest) h =
-    let r = forth (after names (InitState span)) rest h.1 in record {
-      interfaces = r.interfaces;
-      tests = r.tests;
-      commands = r.commands;
-      states = r.states;
-      wanted = r.wanted;
-      untested = r.untested;
-      unwished = r.unwished;
-      outside = r.outside;
-      initial = first_bit names.init_state (length (flat_map init_state rest)) (false_from_ne_true names.init_state (λ has. h.0 (SecondInit span.line) (refl, has))) r.initial;
-      opens = r.opens;
-    }
-forth names (SetState at.Init span ∷ rest) h = absurd (h.0 (SetStateInInit span.line) (refl, refl))
-forth names (SetState at.Body span ∷ rest) h =
-    let r = forth (after names (SetState at.Body span)) rest h.1 in record {
-      interfaces = r.interfaces;
-      tests = r.tests;
-      commands = r.commands;
-      states = r.states;
-      wanted = r.wanted;
-      untested = r.untested;
-      unwished = r.unwished;
-      outside = r.outside;
-      initial = r.initial;
-      opens = r.opens;
-    }
 
--- Mentions by what they keep to.
-sound_interface : (names : Names) (name : Name) → ¬ IsFull text_eq 64 names.tables.interfaces name.text → TextFits name.text → IsSound names (Interface name)
-sound_interface names name room fits (TableFull line) h = room h.1
-sound_interface names name room fits (BadText line) h = h.1 fits
-sound_interface names name room fits _ h = h
+-- A property of mentions holds of those after the first.
+abbrev Leaves : (Names → List Mentioned → Type 0) → Type 0
+Leaves P = (names : Names) (mention : Mentioned) (rest : List Mentioned) → P names (mention ∷ rest) → P (after names mention) rest
 
-sound_test : (names : Names) (command : Name) (period : ℕ) → ¬ IsFull test_eq 64 names.tables.tests (test_of command period) → TextFits command.text
-    → IsSound names (External at.Body command period)
-sound_test names command period room fits (TestInInit line) h = absurd (cc)
-sound_test names command period room fits (TableFull line) h = room h.1
-sound_test names command period room fits (BadText line) h = h.1 fits
-sound_test names command period room fits _ h = h
+leave_interfaces : Leaves TakesInterfaces
+leave_interfaces names (Interface name) rest h = h.2
+leave_interfaces names (Init whose.Always span) rest h = h
+leave_interfaces names _ rest h = h
 
-sound_command : (names : Names) (text : Name) → ¬ IsFull text_eq 1024 names.tables.commands text.text → TextFits text.text → IsSound names (Command text)
-sound_command names text room fits (TableFull line) h = room h.1
-sound_command names text room fits (BadText line) h = h.1 fits
-sound_command names text room fits _ h = h
+leave_tests : Leaves TakesTests
+leave_tests names (External half command period) rest h = h.2
+leave_tests names (Init whose.Always span) rest h = h
+leave_tests names _ rest h = h
 
-sound_state : (names : Names) (name : Name) → list_any (text_eq name.text) names.tables.states ≡ false → ¬ IsFull text_eq 256 names.tables.states name.text → TextFits name.text
-    → IsSound names (Defined name)
-sound_state names name new room fits (StateTwice line) h = let k = h.1 in absurd (cc)
-sound_state names name new room fits (TableFull line) h = room h.1
-sound_state names name new room fits (BadText line) h = h.1 fits
-sound_state names name new room fits _ h = h
+leave_commands : Leaves TakesCommands
+leave_commands names (Command text) rest h = h.2
+leave_commands names (Init whose.Always span) rest h = h
+leave_commands names _ rest h = h
 
-sound_wanted : (names : Names) (name : Name) → TextFits name.text → IsSound names (Wanted name)
-sound_wanted names name fits (TableFull line) h = h.1
-sound_wanted names name fits (BadText line) h = h.1 fits
-sound_wanted names name fits _ h = h
+leave_states : Leaves DefinesStates
+leave_states names (Defined name) rest h = h.3
+leave_states names (Init whose.Always span) rest h = h
+leave_states names _ rest h = h
 
-sound_init : (names : Names) (owner : Owner) (span : Span) → has_init names owner ≡ false → IsSound names (Init owner span)
-sound_init names owner span none (SecondInit line) h = let k = h.1 in absurd (cc)
-sound_init names owner span none (TableFull line) h = h
-sound_init names owner span none (BadText line) h = h
-sound_init names owner span none _ h = h
+leave_targets : Leaves TargetsFit
+leave_targets names (Target name) rest h = h.1
+leave_targets names _ rest h = h
 
-sound_initial : (names : Names) (span : Span) → names.init_state ≡ false → IsSound names (InitState span)
-sound_initial names span none (SecondInit line) h = let k = h.1 in absurd (cc)
-sound_initial names span none (TableFull line) h = h
-sound_initial names span none (BadText line) h = h
-sound_initial names span none _ h = h
+leave_untested : Leaves HasNoTest
+leave_untested names (External at.Init command period) rest h = absurd (cc)
+leave_untested names _ rest h = h
 
-sound_set : (names : Names) (span : Span) → IsSound names (SetState at.Body span)
-sound_set names span (SetStateInInit line) h = absurd (cc)
-sound_set names span (TableFull line) h = h
-sound_set names span (BadText line) h = h
-sound_set names span _ h = h
+leave_unset : Leaves HasNoSetState
+leave_unset names (SetState at.Init span) rest h = absurd (cc)
+leave_unset names _ rest h = h
+
+leave_outside : Leaves OneOutside
+leave_outside names (Init whose.Always span) rest h = bit_after names.always_init (length (flat_map always_init rest)) h
+leave_outside names _ rest h = h
+
+leave_initial : Leaves OneInitial
+leave_initial names (InitState span) rest h = bit_after names.init_state (length (flat_map init_state rest)) h
+leave_initial names (Init whose.Always span) rest h = h
+leave_initial names _ rest h = h
+
+leave_opens : Leaves OneEach
+leave_opens names (Init whose.State span) rest h = h.1
+leave_opens names _ rest h = h
+
+first_sound : (names : Names) (mention : Mentioned) (rest : List Mentioned) → Sound names (mention ∷ rest) → IsSound names mention
+first_sound names (Interface name) rest w (TableFull line) h = w.interfaces.0 h.1
+first_sound names (Interface name) rest w (BadText line) h = h.1 w.interfaces.1
+first_sound names (External at.Init command period) rest w fault h = let none = w.untested in absurd (cc)
+first_sound names (External at.Body command period) rest w (TestInInit line) h = let k = h.1 in absurd (cc)
+first_sound names (External at.Body command period) rest w (TableFull line) h = w.tests.0 h.1
+first_sound names (External at.Body command period) rest w (BadText line) h = h.1 w.tests.1
+first_sound names (Command text) rest w (TableFull line) h = w.commands.0 h.1
+first_sound names (Command text) rest w (BadText line) h = h.1 w.commands.1
+first_sound names (Defined name) rest w (StateTwice line) h = let k = h.1 in let new = w.states.0 in absurd (cc)
+first_sound names (Defined name) rest w (TableFull line) h = w.states.1 h.1
+first_sound names (Defined name) rest w (BadText line) h = h.1 w.states.2
+first_sound names (Target name) rest w (TableFull line) h = h.1
+first_sound names (Target name) rest w (BadText line) h = h.1 w.targets.0
+first_sound names (Init whose.Always span) rest w (SecondInit line) h =
+    let k = h.1 in let none = bit_before names.always_init (length (flat_map always_init rest)) w.outside in absurd (cc)
+first_sound names (Init whose.State span) rest w (SecondInit line) h = let k = h.1 in let none = w.opens.0 in absurd (cc)
+first_sound names (InitState span) rest w (SecondInit line) h =
+    let k = h.1 in let none = bit_before names.init_state (length (flat_map init_state rest)) w.initial in absurd (cc)
+first_sound names (SetState at.Init span) rest w fault h = let none = w.unset in absurd (cc)
+first_sound names (SetState at.Body span) rest w (SetStateInInit line) h = let k = h.1 in absurd (cc)
+first_sound names _ rest w _ h = h
+
+others_sound : (names : Names) (mention : Mentioned) (rest : List Mentioned) → Sound names (mention ∷ rest) → Sound (after names mention) rest
+others_sound names mention rest w = record {
+  interfaces = leave_interfaces names mention rest w.interfaces;
+  tests = leave_tests names mention rest w.tests;
+  commands = leave_commands names mention rest w.commands;
+  states = leave_states names mention rest w.states;
+  targets = leave_targets names mention rest w.targets;
+  untested = leave_untested names mention rest w.untested;
+  unset = leave_unset names mention rest w.unset;
+  outside = leave_outside names mention rest w.outside;
+  initial = leave_initial names mention rest w.initial;
+  opens = leave_opens names mention rest w.opens;
+}
 
 pub back : (names : Names) (ms : List Mentioned) → Sound names ms → AreSound names ms
 back names [] w = tt
-back names (Interface name ∷ rest) w = (
-  sound_interface names name w.interfaces.0 w.interfaces.1,
-  back (after names (Interface name)) rest record {
-    interfaces = w.interfaces.2;
-    tests = w.tests;
-    commands = w.commands;
-    states = w.states;
-    wanted = w.wanted;
-    untested = w.untested;
-    unwished = w.unwished;
-    outside = w.outside;
-    initial = w.initial;
-    opens = w.opens;
-  },
-)
-back names (External at.Init command period ∷ rest) w = let none = w.untested in absurd (cc)
-back names (External at.Body command period ∷ rest) w = (
-  sound_test names command period w.tests.0 w.tests.1,
-  back (after names (External at.Body command period)) rest record {
-    interfaces = w.interfaces;
-    tests = w.tests.2;
-    commands = w.commands;
-    states = w.states;
-    wanted = w.wanted;
-    untested = w.untested;
-    unwished = w.unwished;
-    outside = w.outside;
-    initial = w.initial;
-    opens = w.opens;
-  },
-)
-back names (Command text ∷ rest) w = (
-  sound_command names text w.commands.0 w.commands.1,
-  back (after names (Command text)) rest record {
-    interfaces = w.interfaces;
-    tests = w.tests;
-    commands = w.commands.2;
-    states = w.states;
-    wanted = w.wanted;
-    untested = w.untested;
-    unwished = w.unwished;
-    outside = w.outside;
-    initial = w.initial;
-    opens = w.opens;
-  },
-)
-back names (Defined name ∷ rest) w = (
-  sound_state names name w.states.0 w.states.1 w.states.2,
-  back (after names (Defined name)) rest record {
-    interfaces = w.interfaces;
-    tests = w.tests;
-    commands = w.commands;
-    states = w.states.3;
-    wanted = w.wanted;
-    untested = w.untested;
-    unwished = w.unwished;
-    outside = w.outside;
-    initial = w.initial;
-    opens = w.opens;
-  },
-)
-back names (Wanted name ∷ rest) w = (
-  sound_wanted names name w.wanted.0,
-  back (after names (Wanted name)) rest record {
-    interfaces = w.interfaces;
-    tests = w.tests;
-    commands = w.commands;
-    states = w.states;
-    wanted = w.wanted.1;
-    untested = w.untested;
-    unwished = w.unwished;
-    outside = w.outside;
-    initial = w.initial;
-    opens = w.opens;
-  },
-)
-back names (Init whose.Always span ∷ rest) w = (
-  sound_init names whose.Always span (bit_before names.always_init (length (flat_map always_init rest)) w.outside),
-  back (after names (Init whose.Always span)) rest record {
-    interfaces = w.interfaces;
-    tests = w.tests;
-    commands = w.commands;
-    states = w.states;
-    wanted = w.wanted;
-    untested = w.untested;
-    unwished = w.unwished;
-    outside = bit_after names.always_init (length (flat_map always_init rest)) w.outside;
-    initial = w.initial;
-    opens = w.opens;
-  },
-)
-back names (Init whose.State span ∷ rest) w = (
-  sound_init names whose.State span w.opens.0,
-  back (after names (Init whose.State span)) rest record {
-    interfaces = w.interfaces;
-    tests = w.tests;
-    commands = w.commands;
-    states = w.states;
-    wanted = w.wanted;
-    untested = w.untested;
-    unwished = w.unwished;
-    outside = w.outside;
-    initial = w.initial;
-    opens = w.opens.1;
-  },
-)
-back names (InitState span ∷ rest) w = (
-  sound_initial names span (bit_before names.init_state (length (flat_map init_state rest)) w.initial),
-  back (after names (InitState span)) rest record {
-    interfaces = w.interfaces;
-    tests = w.tests;
-    commands = w.commands;
-    states = w.states;
-    wanted = w.wanted;
-    untested = w.untested;
-    unwished = w.unwished;
-    outside = w.outside;
-    initial = bit_after names.init_state (length (flat_map init_state rest)) w.initial;
-    opens = w.opens;
-  },
-)
-back names (SetState at.Init span ∷ rest) w = let none = w.unwished in absurd (cc)
-back names (SetState at.Body span ∷ rest) w = (
-  sound_set names span,
-  back (after names (SetState at.Body span)) rest record {
-    interfaces = w.interfaces;
-    tests = w.tests;
-    commands = w.commands;
-    states = w.states;
-    wanted = w.wanted;
-    untested = w.untested;
-    unwished = w.unwished;
-    outside = w.outside;
-    initial = w.initial;
-    opens = w.opens;
-  },
-)
+back names (mention ∷ rest) w = (first_sound names mention rest w, back (after names mention) rest (others_sound names mention rest w))
 
--- Entries that find a place, over the whole.
+-- All entries of a list find room and are valid.
 module _ {T : Type 0} (eq : T → T → Bool) (text : T → List ℕ) (limit : ℕ) where
   pub takes_fit : (table xs : List T) → Takes eq text limit table xs → AllByRecursion (λ x. TextFits (text x)) xs
   takes_fit table [] h = tt
@@ -426,7 +298,7 @@ pub defines_fit : (table xs : List (List ℕ)) → Defines table xs → AllByRec
 defines_fit table [] h = tt
 defines_fit table (x ∷ xs) h = (h.2, defines_fit (insert_key text_eq table x) xs h.3)
 
--- Each is another than those after it.
+-- No member equals a later one.
 abbrev Apart : List (List ℕ) → Type 0
 Apart [] = Unit {0}
 Apart (x ∷ xs) = AllByRecursion (λ y. text_eq y x ≡ false) xs × Apart xs
@@ -442,7 +314,7 @@ apart_from (x ∷ xs) pairs = (
   apart_from xs (λ i j d before below. pairs (suc i) (suc j) d (omega (arith, before)) (omega (arith, below))),
 )
 
--- What is new to a table and other than one more entry is new to both.
+-- An entry that is new to a table, and differs from a further entry, is new to both.
 still_new : (table : List (List ℕ)) (x : List ℕ) (xs : List (List ℕ)) → AllByRecursion (λ y. list_any (text_eq y) table ≡ false) xs
     → AllByRecursion (λ y. text_eq y x ≡ false) xs → AllByRecursion (λ y. list_any (text_eq y) (table ++ x ∷ []) ≡ false) xs
 still_new table x [] new apart = tt
@@ -469,7 +341,7 @@ all_new (x ∷ xs) = (refl, all_new xs)
 pub all_defined : (xs : List (List ℕ)) → AllPairs (λ name other. name ≢ other) xs → length xs ≤ 256 → AllByRecursion TextFits xs → Defines [] xs
 all_defined xs pairs within fits = defined_apart [] xs (all_new xs) (apart_from xs pairs) (omega (arith, within)) fits
 
--- States that are wanted, and those that there are.
+-- Targets and defined states.
 pub contains_from : (name : List ℕ) (xs : List (List ℕ)) → list_any (text_eq name) xs ≡ true → Contains xs name
 contains_from name [] h = absurd (cc)
 contains_from name (x ∷ xs) h =
@@ -481,24 +353,12 @@ contains_from name (x ∷ xs) h =
 pub contains_to : (name : List ℕ) (xs : List (List ℕ)) → Contains xs name → list_any (text_eq name) xs ≡ true
 contains_to name xs c = list_any_at (text_eq name) xs c.0 name c.1 (ap (text_eq name) c.2 ∙ text_same name)
 
-pub known_forth : (states : List (List ℕ)) (ms : List Mentioned) → AreKnown states ms → AllByRecursion (λ name. list_any (text_eq name) states ≡ true) (flat_map wanted_by ms)
+pub known_forth : (states : List (List ℕ)) (ms : List Mentioned) → AreKnown states ms → AllByRecursion (λ name. list_any (text_eq name) states ≡ true) (flat_map target_of ms)
 known_forth states [] h = tt
-known_forth states (Wanted name ∷ rest) h = (h.0, known_forth states rest h.1)
-known_forth states (Interface name ∷ rest) h = known_forth states rest h.1
-known_forth states (External half command period ∷ rest) h = known_forth states rest h.1
-known_forth states (Command text ∷ rest) h = known_forth states rest h.1
-known_forth states (Defined name ∷ rest) h = known_forth states rest h.1
-known_forth states (Init owner span ∷ rest) h = known_forth states rest h.1
-known_forth states (InitState span ∷ rest) h = known_forth states rest h.1
-known_forth states (SetState half span ∷ rest) h = known_forth states rest h.1
+known_forth states (Target name ∷ rest) h = (h.0, known_forth states rest h.1)
+known_forth states (mention ∷ rest) h = known_forth states rest h.1
 
-pub known_back : (states : List (List ℕ)) (ms : List Mentioned) → AllByRecursion (λ name. list_any (text_eq name) states ≡ true) (flat_map wanted_by ms) → AreKnown states ms
+pub known_back : (states : List (List ℕ)) (ms : List Mentioned) → AllByRecursion (λ name. list_any (text_eq name) states ≡ true) (flat_map target_of ms) → AreKnown states ms
 known_back states [] h = tt
-known_back states (Wanted name ∷ rest) h = (h.0, known_back states rest h.1)
-known_back states (Interface name ∷ rest) h = (tt, known_back states rest h)
-known_back states (External half command period ∷ rest) h = (tt, known_back states rest h)
-known_back states (Command text ∷ rest) h = (tt, known_back states rest h)
-known_back states (Defined name ∷ rest) h = (tt, known_back states rest h)
-known_back states (Init owner span ∷ rest) h = (tt, known_back states rest h)
-known_back states (InitState span ∷ rest) h = (tt, known_back states rest h)
-known_back states (SetState half span ∷ rest) h = (tt, known_back states rest h)
+known_back states (Target name ∷ rest) h = (h.0, known_back states rest h.1)
+known_back states (mention ∷ rest) h = (tt, known_back states rest h)

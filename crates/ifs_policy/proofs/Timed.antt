@@ -1,8 +1,8 @@
--- The periods of a policy's tests are those that the grammar lets through.
+-- The periods of a policy's tests are in the range that the grammar accepts.
 use Rattle.std.proofs.Common.{◌≡◌, ℕ, zero, suc, Bool, true, false, ◌&&◌, inl, inr, Some, None}
 use Rattle.std.proofs.Common.{if◌then◌else◌, List, [], ◌∷◌, ◌++◌, map, All, refl, sym, subst}
 use Rattle.std.specs.Prelude.{Option, nat_le}
-use Rattle.std.specs.List.{flat_map}
+use Rattle.std.specs.List.{flat_map, AllByRecursion}
 use Rattle.std.proofs.lemmas.Bool.{leb-true}
 use Rattle.std.proofs.lemmas.Grind.{not_there}
 use Rattle.std.proofs.lemmas.Option.{none-some, same_Some}
@@ -15,7 +15,7 @@ use Rattle.ifs_parse.specs.Files.{File}
 use Rattle.ifs_parse.specs.Rules.{Rule, GivesValue, ◌⨟◌, ◌or◌, Never, Noted, Many, Enough, More, with_last}
 use Rattle.ifs_parse.specs.Words.{fits_period, number_of_what}
 use Rattle.ifs_parse.specs.Grammar as grammar
-use Rattle.ifs_parse.specs.Grammar.{SaysWithin, Says, IsSaid, Operands, whole, conjunction, disjunction}
+use Rattle.ifs_parse.specs.Grammar.{SaysWithin, Says, IsSaid, Operands, whole, conjunction}
 use Rattle.ifs_parse.specs.declared.mark.Mark.{Mark}
 use Rattle.ifs_parse.specs.declared.mark.Mark.TheVariants as mark
 use Rattle.ifs_parse.specs.declared.tree.Name.{Name}
@@ -41,8 +41,9 @@ use Rattle.ifs_policy.specs.Mentions.{part_mentions, item_mentions, mentions_of}
 use Rattle.ifs_policy.specs.Tables.{test_eq, test_of, after, no_names, names_after}
 use Rattle.ifs_policy.specs.Resolution.{Resolves}
 use Rattle.ifs_policy.proofs.Filled.{at_most, all_insert}
+use Rattle.ifs_policy.proofs.Lists.{each_both}
 
--- Each period in a tree fits.
+-- Each period in a tree is in the range.
 abbrev TestTimed : Test → Type 0
 TestTimed (Link name state) = Unit {0}
 TestTimed (External command period) = PeriodFits period
@@ -56,7 +57,7 @@ ConditionTimed (tree.Or left right) = ConditionTimed left × ConditionTimed righ
 abbrev BlockTimed : tree.Block Test Name Wish → Type 0
 BlockTimed tree.Done = Unit {0}
 BlockTimed (tree.RunThen command rest) = BlockTimed rest
-BlockTimed (tree.WantThen wish rest) = BlockTimed rest
+BlockTimed (tree.SetStateThen target rest) = BlockTimed rest
 BlockTimed (tree.IfThen condition inner rest) = ConditionTimed condition × BlockTimed inner × BlockTimed rest
 
 abbrev StatementTimed : Statement Test Name Wish → Type 0
@@ -71,7 +72,7 @@ ItemTimed (InitState span name) = Unit {0}
 ItemTimed (State name parts) = All PartTimed parts
 ItemTimed (Always part) = PartTimed part
 
--- Chains and blocks of timed members.
+-- Chains and blocks whose members have such periods.
 all_timed : (first : tree.Condition Test) (rest : List (tree.Condition Test)) → ConditionTimed first → All ConditionTimed rest → ConditionTimed (all_of first rest)
 all_timed first [] h k = h
 all_timed first (next ∷ rest) h k = all_timed (tree.And first next) rest (h, All-head ConditionTimed next rest k) (All-tail ConditionTimed next rest k)
@@ -82,14 +83,14 @@ any_timed first (next ∷ rest) h k = any_timed (tree.Or first next) rest (h, Al
 
 then_timed : (statement : Statement Test Name Wish) (rest : tree.Block Test Name Wish) → StatementTimed statement → BlockTimed rest → BlockTimed (statement_then statement rest)
 then_timed (Run command) rest h k = k
-then_timed (SetState wish) rest h k = k
+then_timed (SetState target) rest h k = k
 then_timed (If condition inner) rest h k = (h.0, h.1, k)
 
 block_timed : (statements : List (Statement Test Name Wish)) → All StatementTimed statements → BlockTimed (block_of statements)
 block_timed [] h = tt
 block_timed (statement ∷ rest) h = then_timed statement (block_of rest) (All-head StatementTimed statement rest h) (block_timed rest (All-tail StatementTimed statement rest h))
 
--- Whatever a rule says has a property.
+-- A rule says only values with a property.
 abbrev Keeps : {X : Type 0} → Rule X → (X → Type 0) → Type 0
 Keeps {X} P G = (tokens : List Token) (x : X) (notes : List ℕ) → P tokens x notes → G x
 
@@ -99,7 +100,7 @@ keeps_gives G value g tokens x notes h = subst G (sym h.is_value) g
 keeps_then : {X Y : Type 0} (P : Rule X) (Q : X → Rule Y) (F : X → Type 0) (G : Y → Type 0) → Keeps P F → ((x : X) → F x → Keeps (Q x) G) → Keeps (P ⨟ Q) G
 keeps_then P Q F G p q tokens y notes h = q h.x (p h.front h.x h.before h.first) h.back y h.after h.second
 
--- The same where nothing has to be known of what stands first.
+-- The same, if the first value does not matter.
 keeps_after : {X Y : Type 0} (P : Rule X) (Q : X → Rule Y) (G : Y → Type 0) → ((x : X) → Keeps (Q x) G) → Keeps (P ⨟ Q) G
 keeps_after P Q G q tokens y notes h = q h.x h.back y h.after h.second
 
@@ -147,7 +148,7 @@ keeps_test =
     (keeps_after _ _ TestTimed (λ _. keeps_after _ _ TestTimed (λ _. keeps_after _ _ TestTimed (λ _. keeps_after _ _ TestTimed (λ l. keeps_gives TestTimed (Link name l) tt)))))
     (keeps_after _ _ TestTimed (λ _. keeps_then _ _ PeriodFits TestTimed keeps_period (λ n fits. keeps_gives TestTimed (External name n) fits))))
 
--- Operands, each of which has a property.
+-- Each operand has a property.
 abbrev Each : {X : Type 0} → (X → Type 0) → Operands X → Type 0
 Each G o = All G (whole o)
 
@@ -237,35 +238,30 @@ said_timed tokens f h =
     (keeps_list _ ItemTimed (keeps_item _ (keeps_part _ (keeps_statement 32))))
     (λ all each. keeps_after _ _ (All ItemTimed) (λ _. keeps_gives (All ItemTimed) all each)) tokens f.items f.notes h
 
--- The periods of mentions.
+-- Each mentioned period is in the range.
 abbrev MentionTimed : Mentioned → Type 0
 MentionTimed (says.External half command period) = PeriodFits period
 MentionTimed _ = Unit {0}
 
 abbrev AreTimed : List Mentioned → Type 0
-AreTimed [] = Unit {0}
-AreTimed (mention ∷ rest) = MentionTimed mention × AreTimed rest
-
-both_timed : (xs ys : List Mentioned) → AreTimed xs → AreTimed ys → AreTimed (xs ++ ys)
-both_timed [] ys h k = k
-both_timed (x ∷ xs) ys h k = (h.0, both_timed xs ys h.1 k)
+AreTimed mentions = AllByRecursion MentionTimed mentions
 
 condition_says : (half : Half) (c : tree.Condition Test) → ConditionTimed c → AreTimed (condition_mentions half c)
 condition_says half (tree.Leaf (Link name state)) h = (tt, tt)
 condition_says half (tree.Leaf (External command period)) h = (h, tt)
 condition_says half (tree.NotSo operand) h = condition_says half operand h
 condition_says half (tree.And left right) h =
-    both_timed (condition_mentions half left) (condition_mentions half right) (condition_says half left h.0) (condition_says half right h.1)
+    each_both MentionTimed (condition_mentions half left) (condition_mentions half right) (condition_says half left h.0) (condition_says half right h.1)
 condition_says half (tree.Or left right) h =
-    both_timed (condition_mentions half left) (condition_mentions half right) (condition_says half left h.0) (condition_says half right h.1)
+    each_both MentionTimed (condition_mentions half left) (condition_mentions half right) (condition_says half left h.0) (condition_says half right h.1)
 
 block_says : (half : Half) (b : tree.Block Test Name Wish) → BlockTimed b → AreTimed (block_mentions half b)
 block_says half tree.Done h = tt
 block_says half (tree.RunThen command rest) h = (tt, block_says half rest h)
-block_says half (tree.WantThen wish rest) h = (tt, (tt, block_says half rest h))
+block_says half (tree.SetStateThen target rest) h = (tt, (tt, block_says half rest h))
 block_says half (tree.IfThen condition inner rest) h =
-    both_timed (condition_mentions half condition) (block_mentions half inner ++ block_mentions half rest) (condition_says half condition h.0)
-    (both_timed (block_mentions half inner) (block_mentions half rest) (block_says half inner h.1) (block_says half rest h.2))
+    each_both MentionTimed (condition_mentions half condition) (block_mentions half inner ++ block_mentions half rest) (condition_says half condition h.0)
+    (each_both MentionTimed (block_mentions half inner) (block_mentions half rest) (block_says half inner h.1) (block_says half rest h.2))
 
 part_says : (owner : Owner) (part : Part) → PartTimed part → AreTimed (part_mentions owner part)
 part_says owner (Init span block) h = (tt, block_says at.Init block h)
@@ -274,7 +270,7 @@ part_says owner (Do statement) h = block_says at.Body (statement_then statement 
 parts_say : (owner : Owner) (parts : List Part) → All PartTimed parts → AreTimed (flat_map (part_mentions owner) parts)
 parts_say owner [] h = tt
 parts_say owner (part ∷ parts) h =
-    both_timed (part_mentions owner part) (flat_map (part_mentions owner) parts) (part_says owner part (All-head PartTimed part parts h)) (parts_say owner parts (All-tail PartTimed part parts h))
+    each_both MentionTimed (part_mentions owner part) (flat_map (part_mentions owner) parts) (part_says owner part (All-head PartTimed part parts h)) (parts_say owner parts (All-tail PartTimed part parts h))
 
 item_says : (item : Item) → ItemTimed item → AreTimed (item_mentions item)
 item_says (InitState span name) h = (tt, (tt, tt))
@@ -284,22 +280,16 @@ item_says (Always part) h = part_says whose.Always part h
 items_say : (items : List Item) → All ItemTimed items → AreTimed (mentions_of items)
 items_say [] h = tt
 items_say (item ∷ items) h =
-    both_timed (item_mentions item) (mentions_of items) (item_says item (All-head ItemTimed item items h)) (items_say items (All-tail ItemTimed item items h))
+    each_both MentionTimed (item_mentions item) (mentions_of items) (item_says item (All-head ItemTimed item items h)) (items_say items (All-tail ItemTimed item items h))
 
--- The tests of tables that timed mentions fill.
+-- The periods in the table of tests.
 abbrev NamesTimed : Names → Type 0
 NamesTimed names = All (λ test. PeriodFits test.period) names.tables.tests
 
 timed_after : (names : Names) (mention : Mentioned) → MentionTimed mention → NamesTimed names → NamesTimed (after names mention)
-timed_after names (says.Interface name) m h = h
 timed_after names (says.External half command period) m h = all_insert test_eq (λ test. PeriodFits test.period) names.tables.tests (test_of command period) h m
-timed_after names (says.Command text) m h = h
-timed_after names (says.Defined name) m h = h
-timed_after names (says.Wanted name) m h = h
 timed_after names (says.Init whose.Always span) m h = h
-timed_after names (says.Init whose.State span) m h = h
-timed_after names (says.InitState span) m h = h
-timed_after names (says.SetState half span) m h = h
+timed_after names _ m h = h
 
 all_timed_after : (names : Names) (mentions : List Mentioned) → AreTimed mentions → NamesTimed names → NamesTimed (names_after names mentions)
 all_timed_after names [] m h = h
@@ -310,7 +300,7 @@ periods_fit tokens f policy said r =
     let h = all_timed_after no_names (mentions_of f.items) (items_say f.items (said_timed tokens f said)) (All-nil (λ test. PeriodFits test.period)) in
     subst (λ (p : PolicyParts). All (λ test. PeriodFits test.period) p.tables.tests) (sym r.placed) h
 
--- Periods that cannot but fit do.
+-- Periods that are not out of range are in the range.
 sure : (tests : List ExternalTest) → ¬ (¬ (All (λ test. PeriodFits test.period) tests)) → All (λ test. PeriodFits test.period) tests
 sure [] h = All-nil (λ test. PeriodFits test.period)
 sure (test ∷ tests) h =
@@ -320,6 +310,6 @@ sure (test ∷ tests) h =
     } in
     All-cons (λ test. PeriodFits test.period) test tests first (sure tests (λ no. h (λ all. no (All-tail (λ (t : ExternalTest). PeriodFits t.period) test tests all))))
 
--- The tests of the policy of a file that some tokens say have periods that fit.
+-- The policy of a file that some tokens say has periods in the range.
 pub said_periods_fit : (f : File) (policy : PolicyParts) → IsSaid f → Resolves f.items policy → All (λ test. PeriodFits test.period) policy.tables.tests
 said_periods_fit f policy said r = sure policy.tables.tests (λ no. not_there said (λ s. no (periods_fit s.0 f policy s.1 r)))

@@ -1,4 +1,4 @@
--- A tree has a policy exactly where it keeps the rules as a whole.
+-- A tree has a policy exactly if it keeps the rules as a whole.
 use Rattle.std.proofs.Common.{◌≡◌, ◌≢◌, ℕ, suc, ◌+◌, ◌≤◌, ◌↔◌, Bool, true, false, List, [], ◌∷◌, ◌++◌, length}
 use Rattle.std.proofs.Common.{All, AllPairs, Contains, refl, sym, ap, subst, ◌∙◌, append_assoc, arith}
 use Rattle.std.proofs.lemmas.List.{length-map}
@@ -7,8 +7,6 @@ use Rattle.std.specs.List.{flat_map, list_any, AllByRecursion}
 use Rattle.ifs_base.specs.Sizes.{TextFits}
 use Rattle.ifs_parse.specs.Trees as tree
 use Rattle.ifs_parse.specs.Views.{statement_then}
-use Rattle.ifs_parse.specs.declared.tree.Test.{Test}
-use Rattle.ifs_parse.specs.declared.tree.Test.TheVariants.{Link, External}
 use Rattle.ifs_parse.specs.declared.tree.Part.{Part}
 use Rattle.ifs_parse.specs.declared.tree.Part.TheVariants.{Init, Do}
 use Rattle.ifs_parse.specs.declared.tree.Item.{Item}
@@ -17,65 +15,42 @@ use Rattle.ifs_policy.specs.declared.mention.Half.{Half}
 use Rattle.ifs_policy.specs.declared.mention.Half.TheVariants as at
 use Rattle.ifs_policy.specs.declared.mention.Owner.TheVariants as whose
 use Rattle.ifs_policy.specs.declared.policy.PolicyParts.{PolicyParts}
-use Rattle.ifs_policy.specs.Mentions.{Mentioned, condition_mentions, block_mentions, part_mentions, mentions_of}
+use Rattle.ifs_policy.specs.Mentions.{Mentioned, block_mentions, part_mentions, mentions_of}
+use Rattle.ifs_policy.specs.declared.mention.Mention.TheVariants as says
 use Rattle.ifs_policy.specs.Tables.{text_eq, test_eq, no_names, tables_of}
 use Rattle.ifs_policy.specs.Faults.{AreSound, AreKnown, is_state}
 use Rattle.ifs_policy.specs.Resolution.{place_items, Resolves}
 use Rattle.ifs_policy.specs.Whole as whole
 use Rattle.ifs_policy.specs.Whole.{TextBlock, inits_of, KeepsRules}
 use Rattle.ifs_policy.proofs.Filled.{tables_fit, no_tables_fit}
+use Rattle.ifs_policy.proofs.Inner.{IsInner, block_inner}
 use Rattle.ifs_policy.proofs.Gathered.{interface_of, tested_by, command_of, state_of, always_init, init_state}
 use Rattle.ifs_policy.proofs.Gathered.{marks, picked_interfaces, picked_tests, picked_commands, picked_states}
-use Rattle.ifs_policy.proofs.Gathered.{picked_init_tests, picked_init_wishes, picked_outside, picked_initial}
-use Rattle.ifs_policy.proofs.Gathered.{picked_wanted, wanted_wishes, wanted_initial, all_wanted}
+use Rattle.ifs_policy.proofs.Gathered.{picked_init_tests, picked_init_targets, picked_outside, picked_initial}
+use Rattle.ifs_policy.proofs.Gathered.{picked_targets, set_targets, initial_targets, join_targets}
 use Rattle.ifs_policy.proofs.FirstUses.{inserted_are_first, text_laws, test_laws}
 use Rattle.ifs_policy.proofs.Ordered.{interfaces_first, tests_first, commands_first, states_defined}
 use Rattle.ifs_policy.proofs.Running.{Takes, Defines, Opens, bit, Sound, forth, back, takes_fit, all_taken}
 use Rattle.ifs_policy.proofs.Running.{defines_fit, all_defined, contains_from, contains_to, known_forth, known_back}
 
--- Conditions and blocks have no `init`.
-opens_condition : (has : Bool) (half : Half) (c : tree.Condition Test) (rest : List Mentioned) → Opens has (condition_mentions half c ++ rest) → Opens has rest
-opens_condition has half (tree.Leaf (Link name state)) rest h = h
-opens_condition has half (tree.Leaf (External command period)) rest h = h
-opens_condition has half (tree.NotSo c) rest h = opens_condition has half c rest h
-opens_condition has half (tree.And a b) rest h =
-    let later = condition_mentions half b in
-    opens_condition has half b rest (opens_condition has half a (later ++ rest) (subst (Opens has) (append_assoc (condition_mentions half a) later rest) h))
-opens_condition has half (tree.Or a b) rest h =
-    let later = condition_mentions half b in
-    opens_condition has half b rest (opens_condition has half a (later ++ rest) (subst (Opens has) (append_assoc (condition_mentions half a) later rest) h))
+-- Mentions inside blocks have no `init`.
+opens_inner : (has : Bool) (inside rest : List Mentioned) → AllByRecursion IsInner inside → Opens has (inside ++ rest) → Opens has rest
+opens_inner has [] rest inner h = h
+opens_inner has (says.Defined name ∷ inside) rest inner h = absurd inner.0
+opens_inner has (says.Init owner span ∷ inside) rest inner h = absurd inner.0
+opens_inner has (mention ∷ inside) rest inner h = opens_inner has inside rest inner.1 h
 
-before_condition : (has : Bool) (half : Half) (c : tree.Condition Test) (rest : List Mentioned) → Opens has rest → Opens has (condition_mentions half c ++ rest)
-before_condition has half (tree.Leaf (Link name state)) rest h = h
-before_condition has half (tree.Leaf (External command period)) rest h = h
-before_condition has half (tree.NotSo c) rest h = before_condition has half c rest h
-before_condition has half (tree.And a b) rest h =
-    let later = condition_mentions half b in
-    subst (Opens has) (sym (append_assoc (condition_mentions half a) later rest)) (before_condition has half a (later ++ rest) (before_condition has half b rest h))
-before_condition has half (tree.Or a b) rest h =
-    let later = condition_mentions half b in
-    subst (Opens has) (sym (append_assoc (condition_mentions half a) later rest)) (before_condition has half a (later ++ rest) (before_condition has half b rest h))
+before_inner : (has : Bool) (inside rest : List Mentioned) → AllByRecursion IsInner inside → Opens has rest → Opens has (inside ++ rest)
+before_inner has [] rest inner h = h
+before_inner has (says.Defined name ∷ inside) rest inner h = absurd inner.0
+before_inner has (says.Init owner span ∷ inside) rest inner h = absurd inner.0
+before_inner has (mention ∷ inside) rest inner h = before_inner has inside rest inner.1 h
 
 opens_block : (has : Bool) (half : Half) (b : TextBlock) (rest : List Mentioned) → Opens has (block_mentions half b ++ rest) → Opens has rest
-opens_block has half tree.Done rest h = h
-opens_block has half (tree.RunThen command b) rest h = opens_block has half b rest h
-opens_block has half (tree.WantThen wish b) rest h = opens_block has half b rest h
-opens_block has half (tree.IfThen c inner b) rest h =
-    let second = block_mentions half inner in
-    let third = block_mentions half b in
-    opens_block has half b rest (opens_block has half inner (third ++ rest) (subst (Opens has) (append_assoc second third rest)
-    (opens_condition has half c ((second ++ third) ++ rest) (subst (Opens has) (append_assoc (condition_mentions half c) (second ++ third) rest) h))))
+opens_block has half b rest h = opens_inner has (block_mentions half b) rest (block_inner half b) h
 
 before_block : (has : Bool) (half : Half) (b : TextBlock) (rest : List Mentioned) → Opens has rest → Opens has (block_mentions half b ++ rest)
-before_block has half tree.Done rest h = h
-before_block has half (tree.RunThen command b) rest h = before_block has half b rest h
-before_block has half (tree.WantThen wish b) rest h = before_block has half b rest h
-before_block has half (tree.IfThen c inner b) rest h =
-    let second = block_mentions half inner in
-    let third = block_mentions half b in
-    subst (Opens has) (sym (append_assoc (condition_mentions half c) (second ++ third) rest))
-    (before_condition has half c ((second ++ third) ++ rest) (subst (Opens has) (sym (append_assoc second third rest))
-    (before_block has half inner (third ++ rest) (before_block has half b rest h))))
+before_block has half b rest h = before_inner has (block_mentions half b) rest (block_inner half b) h
 
 one_more : (has : Bool) (n : ℕ) → has ≡ false → 1 + n ≤ 1 → bit has + suc n ≤ 1
 one_more true n e h = absurd (cc)
@@ -89,7 +64,7 @@ at_most_one : (has : Bool) → bit has + 0 ≤ 1
 at_most_one true = omega arith
 at_most_one false = omega arith
 
--- What a state has between its braces.
+-- The parts between the braces of a state have at most one `init`.
 opens_parts : (has : Bool) (ps : List Part) (rest : List Mentioned) → Opens has (flat_map (part_mentions whose.State) ps ++ rest)
     → (bit has + length (inits_of ps) ≤ 1) × ((later : Bool) × Opens later rest)
 opens_parts has [] rest h = (at_most_one has, (has, h))
@@ -133,7 +108,7 @@ before_items has (State name ps ∷ rest) h = let few = h.0 in before_parts fals
 before_items has (Always (Init span b) ∷ rest) h = before_block has at.Init b (mentions_of rest) (before_items has rest h)
 before_items has (Always (Do statement) ∷ rest) h = before_block has at.Body (statement_then statement tree.Done) (mentions_of rest) (before_items has rest h)
 
--- There is a state where one is defined.
+-- There is a state exactly if an item defines one.
 some_state : (items : List Item) → list_any is_state items ≡ true → 1 ≤ length (whole.states items)
 some_state [] h = absurd (cc)
 some_state (InitState span name ∷ rest) h = some_state rest h
@@ -169,7 +144,7 @@ module _ (items : List Item) where
       let initial = marked (flat_map init_state ms) (whole.init_states items) (picked_initial items) in
       let few_outside = s.outside in
       let few_initial = s.initial in
-      let known = subst (AllByRecursion (λ name. list_any (text_eq name) (tables_of ms).states ≡ true)) (picked_wanted items) (known_forth (tables_of ms).states ms r.known) in
+      let known = subst (AllByRecursion (λ name. list_any (text_eq name) (tables_of ms).states ≡ true)) (picked_targets items) (known_forth (tables_of ms).states ms r.known) in
       let contained = λ (name : List ℕ) (h : list_any (text_eq name) (tables_of ms).states ≡ true). contains_from name (whole.states items) (subst (λ xs. list_any (text_eq name) xs ≡ true) defined h) in
       record {
         some_state = some_state items r.has_state;
@@ -179,7 +154,7 @@ module _ (items : List Item) where
         one_each = All-from_recursion FewInits (whole.of_states items) (opens_items false items s.opens);
         one_initial = omega (arith, initial, few_initial);
         no_tests = sym (picked_init_tests items) ∙ s.untested;
-        no_wishes = no_marks (whole.wishes_in_inits items) (sym (picked_init_wishes items) ∙ s.unwished);
+        no_targets = no_marks (whole.targets_in_inits items) (sym (picked_init_targets items) ∙ s.unset);
         few_interfaces = subst (λ xs. length xs ≤ 64) (interfaces_first items) t.interfaces.within;
         few_tests = subst (λ xs. length xs ≤ 64) (tests_first items) t.tests.within;
         few_commands = subst (λ xs. length xs ≤ 1024) (commands_first items) t.commands.within;
@@ -187,8 +162,8 @@ module _ (items : List Item) where
         tests_fit = subst (All (λ test. TextFits test.command)) (picked_tests items) (All-from_recursion (λ test. TextFits test.command) _ (takes_fit test_eq (λ t. t.command) 64 [] (flat_map tested_by ms) s.tests));
         commands_fit = subst (All TextFits) (picked_commands items) (All-from_recursion TextFits _ (takes_fit text_eq (λ t. t) 1024 [] (flat_map command_of ms) s.commands));
         states_fit = subst (All TextFits) (picked_states items) (All-from_recursion TextFits _ (defines_fit [] (flat_map state_of ms) s.states));
-        wishes_known = each_as _ (Contains (whole.states items)) contained (whole.wishes items) (wanted_wishes _ items known);
-        initial_known = each_as _ (Contains (whole.states items)) contained (whole.init_states items) (wanted_initial _ items known);
+        targets_known = each_as _ (Contains (whole.states items)) contained (whole.targets items) (set_targets _ items known);
+        initial_known = each_as _ (Contains (whole.states items)) contained (whole.init_states items) (initial_targets _ items known);
       }
 
   sound_from : KeepsRules items → Sound no_names ms
@@ -210,10 +185,10 @@ module _ (items : List Item) where
             (subst (λ xs. length xs ≤ 1024) (sym (inserted_are_first text_eq text_laws (whole.commands items))) k.few_commands)
             (recursion_from_All TextFits (whole.commands items) k.commands_fit));
         states = subst (Defines []) (sym (picked_states items)) (all_defined (whole.states items) k.distinct k.few_states (recursion_from_All TextFits (whole.states items) k.states_fit));
-        wanted = subst (AllByRecursion TextFits) (sym (picked_wanted items))
-            (all_wanted TextFits items (fits_of (whole.wishes items) k.wishes_known) (fits_of (whole.init_states items) k.initial_known));
+        targets = subst (AllByRecursion TextFits) (sym (picked_targets items))
+            (join_targets TextFits items (fits_of (whole.targets items) k.targets_known) (fits_of (whole.init_states items) k.initial_known));
         untested = picked_init_tests items ∙ k.no_tests;
-        unwished = picked_init_wishes items ∙ ap marks k.no_wishes;
+        unset = picked_init_targets items ∙ ap marks k.no_targets;
         outside = omega (arith, outside, few_outside);
         initial = omega (arith, initial, few_initial);
         opens = before_items false items (recursion_from_All FewInits (whole.of_states items) k.one_each);
@@ -223,8 +198,8 @@ module _ (items : List Item) where
   known_from k sound =
       let P = λ (name : List ℕ). list_any (text_eq name) (tables_of ms).states ≡ true in
       let there = λ (name : List ℕ) (c : Contains (whole.states items) name). subst (λ xs. list_any (text_eq name) xs ≡ true) (sym (states_defined items sound)) (contains_to name (whole.states items) c) in
-      known_back (tables_of ms).states ms (subst (AllByRecursion P) (sym (picked_wanted items)) (all_wanted P items
-      (recursion_from_All P (whole.wishes items) (All-weaker (Contains (whole.states items)) P there (whole.wishes items) k.wishes_known))
+      known_back (tables_of ms).states ms (subst (AllByRecursion P) (sym (picked_targets items)) (join_targets P items
+      (recursion_from_All P (whole.targets items) (All-weaker (Contains (whole.states items)) P there (whole.targets items) k.targets_known))
       (recursion_from_All P (whole.init_states items) (All-weaker (Contains (whole.states items)) P there (whole.init_states items) k.initial_known))))
 
   has_policy : KeepsRules items → (policy : PolicyParts) × Resolves items policy

@@ -1,4 +1,4 @@
--- The faults of names, and of whole texts, as lines print them.
+-- The words of the faults of names and of texts, as they are printed.
 use Rattle.std.specs.Prelude.{ℕ, List, ◌++◌, codes, decimal}
 use Rattle.ifs_lex.specs.FaultWords.{lex_fault_words}
 use Rattle.ifs_parse.specs.FaultWords.{parse_fault_words}
@@ -7,7 +7,7 @@ use Rattle.ifs_policy.specs.declared.front.PolicyFault.TheVariants as policies
 use Rattle.ifs_policy.specs.declared.fault.ResolveFault.{ResolveFault}
 use Rattle.ifs_policy.specs.declared.fault.ResolveFault.TheVariants.{NoState, StateTwice, UnknownState, SecondInit, SetStateInInit, TestInInit, TableFull, BadText, Memory}
 
--- A fault's code, and its line.
+-- The code and the line of a fault of names.
 abbrev pub resolve_fault_words : ResolveFault → List ℕ
 resolve_fault_words (NoState line) = codes "P9 line " ++ decimal line
 resolve_fault_words (StateTwice line) = codes "P10 line " ++ decimal line
@@ -19,7 +19,7 @@ resolve_fault_words (TableFull line) = codes "P15 line " ++ decimal line
 resolve_fault_words (BadText line) = codes "P16 line " ++ decimal line
 resolve_fault_words Memory = codes "P0"
 
--- The fault of the first step that refuses a text.
+-- The words of the fault of the first step that rejects a text.
 abbrev pub policy_fault_words : PolicyFault → List ℕ
 policy_fault_words (policies.Text fault) = lex_fault_words fault
 policy_fault_words (policies.Tokens fault) = parse_fault_words fault

@@ -1,4 +1,4 @@
--- What a tree says of names, in the order of its text.
+-- The mentions of names in a tree, in text order.
 use Rattle.std.specs.Prelude.{ℕ, List, [], ◌∷◌, ◌++◌}
 use Rattle.std.specs.List.{flat_map}
 use Rattle.ifs_parse.specs.Trees as tree
@@ -23,40 +23,40 @@ use Rattle.ifs_policy.specs.declared.mention.Owner.TheVariants as whose
 abbrev pub Mentioned : Type 0
 Mentioned = Mention Name ℕ
 
--- The mention that a single test makes.
+-- The mention in a single test.
 abbrev pub test_mention : Half → Test → Mentioned
 test_mention half (Link name state) = says.Interface name
 test_mention half (External command period) = says.External half command period
 
--- The mentions of a condition, from the left.
+-- The mentions in a condition, from the left.
 abbrev pub condition_mentions : Half → tree.Condition Test → List Mentioned
 condition_mentions half (tree.Leaf test) = test_mention half test ∷ []
 condition_mentions half (tree.NotSo operand) = condition_mentions half operand
 condition_mentions half (tree.And left right) = condition_mentions half left ++ condition_mentions half right
 condition_mentions half (tree.Or left right) = condition_mentions half left ++ condition_mentions half right
 
--- The mentions of statements, in order.
+-- The mentions in statements, in order.
 abbrev pub block_mentions : Half → tree.Block Test Name Wish → List Mentioned
 block_mentions half tree.Done = []
 block_mentions half (tree.RunThen command rest) = says.Command command ∷ block_mentions half rest
-block_mentions half (tree.WantThen wish rest) = says.SetState half wish.span ∷ says.Wanted wish.state ∷ block_mentions half rest
+block_mentions half (tree.SetStateThen target rest) = says.SetState half target.span ∷ says.Target target.state ∷ block_mentions half rest
 block_mentions half (tree.IfThen condition inner rest) = condition_mentions half condition ++ (block_mentions half inner ++ block_mentions half rest)
 
--- Those of one statement.
+-- The mentions in one statement.
 abbrev pub statement_mentions : Half → Statement Test Name Wish → List Mentioned
 statement_mentions half statement = block_mentions half (statement_then statement tree.Done)
 
--- The mentions of a part: an `init` with its block, or a statement of the body.
+-- The mentions in a part: an `init` with its block, or a statement of the body.
 abbrev pub part_mentions : Owner → Part → List Mentioned
 part_mentions owner (Init span block) = says.Init owner span ∷ block_mentions at.Init block
 part_mentions owner (Do statement) = statement_mentions at.Body statement
 
--- The mentions of an item.
+-- The mentions in an item.
 abbrev pub item_mentions : Item → List Mentioned
-item_mentions (InitState span name) = says.InitState span ∷ says.Wanted name ∷ []
+item_mentions (InitState span name) = says.InitState span ∷ says.Target name ∷ []
 item_mentions (State name parts) = says.Defined name ∷ flat_map (part_mentions whose.State) parts
 item_mentions (Always part) = part_mentions whose.Always part
 
--- The mentions of a tree's items.
+-- The mentions in the items of a tree.
 abbrev pub mentions_of : List Item → List Mentioned
 mentions_of items = flat_map item_mentions items

@@ -1,4 +1,4 @@
--- The policy of a tree: each name replaced by its place in the tables.
+-- The policy of a tree, in which each name is replaced by its place in a table.
 use Rattle.std.specs.Prelude.{ℕ, ◌≡◌, List, [], ◌∷◌, IsTrue}
 use Rattle.std.specs.List.{list_any, position_or_len}
 use Rattle.ifs_base.specs.declared.ids.CommandId.{CommandId}
@@ -22,36 +22,38 @@ use Rattle.ifs_policy.specs.Mentions.{mentions_of}
 use Rattle.ifs_policy.specs.Tables.{text_eq, test_eq, test_of, no_names, tables_of}
 use Rattle.ifs_policy.specs.Faults.{is_state, AreSound, AreKnown}
 
--- The place of a text in a table.
+-- The place of a text in a table; of a missing one, the number of entries.
 abbrev pub place_in : List (List ℕ) → Name → ℕ
 place_in table name = position_or_len (text_eq name.text) table
 
+-- The number of a command.
 abbrev pub place_command : Tables → Name → CommandId
 place_command tables text = record { 0 = place_in tables.commands text }
 
+-- The number of a state.
 abbrev pub place_state : Tables → Name → StateId
 place_state tables name = record { 0 = place_in tables.states name }
 
--- A single test, by the place of its interface or of the test.
+-- A single test, with the place of its interface or of the test.
 abbrev pub place_single : Tables → Test → Single
 place_single tables (Link name state) = LinkIs (record { 0 = place_in tables.interfaces name }) state
 place_single tables (External command period) = TestIs (record { 0 = position_or_len (test_eq (test_of command period)) tables.tests })
 
--- A condition with its single tests so replaced.
+-- A condition with places for names.
 abbrev pub place_condition : Tables → tree.Condition Test → tree.Condition Single
 place_condition tables (tree.Leaf test) = tree.Leaf (place_single tables test)
 place_condition tables (tree.NotSo operand) = tree.NotSo (place_condition tables operand)
 place_condition tables (tree.And left right) = tree.And (place_condition tables left) (place_condition tables right)
 place_condition tables (tree.Or left right) = tree.Or (place_condition tables left) (place_condition tables right)
 
--- A block with its names so replaced.
+-- A block with places for names.
 abbrev pub place_block : Tables → tree.Block Test Name Wish → tree.Block Single CommandId StateId
 place_block tables tree.Done = tree.Done
 place_block tables (tree.RunThen command rest) = tree.RunThen (place_command tables command) (place_block tables rest)
-place_block tables (tree.WantThen wish rest) = tree.WantThen (place_state tables wish.state) (place_block tables rest)
+place_block tables (tree.SetStateThen target rest) = tree.SetStateThen (place_state tables target.state) (place_block tables rest)
 place_block tables (tree.IfThen condition inner rest) = tree.IfThen (place_condition tables condition) (place_block tables inner) (place_block tables rest)
 
--- The block of a part's `init`; without one nothing is done.
+-- The block of a part's `init`; without one, the empty block.
 abbrev pub init_in : List Part → tree.Block Test Name Wish
 init_in [] = tree.Done
 init_in (Init span block ∷ rest) = block
@@ -63,31 +65,32 @@ body_in [] = tree.Done
 body_in (Init span block ∷ rest) = body_in rest
 body_in (Do statement ∷ rest) = statement_then statement (body_in rest)
 
+-- The two blocks of a part, with places for names.
 abbrev pub place_part : Tables → List Part → Handlers
 place_part tables parts = record { init = place_block tables (init_in parts); body = place_block tables (body_in parts) }
 
--- What stands outside any state.
+-- The parts outside any state.
 abbrev pub always_of : List Item → List Part
 always_of [] = []
 always_of (Always part ∷ rest) = part ∷ always_of rest
 always_of (State name parts ∷ rest) = always_of rest
 always_of (InitState span name ∷ rest) = always_of rest
 
--- The states in the order of their definitions, each with its handlers.
+-- The blocks of the states, in the order of their definitions.
 abbrev pub place_states : Tables → List Item → List Handlers
 place_states tables [] = []
 place_states tables (State name parts ∷ rest) = place_part tables parts ∷ place_states tables rest
 place_states tables (Always part ∷ rest) = place_states tables rest
 place_states tables (InitState span name ∷ rest) = place_states tables rest
 
--- The state that `init-state` names; without one it is the first.
+-- The state that `init-state` names; without one, the first.
 abbrev pub initial_of : Tables → List Item → StateId
 initial_of tables [] = record { 0 = 0 }
 initial_of tables (InitState span name ∷ rest) = place_state tables name
 initial_of tables (State name parts ∷ rest) = initial_of tables rest
 initial_of tables (Always part ∷ rest) = initial_of tables rest
 
--- The policy of a text's items, with the tables of its mentions.
+-- The policy of a text's items, with these tables.
 abbrev pub place_items : Tables → List Item → PolicyParts
 place_items tables items = record {
   tables = tables;
@@ -96,7 +99,7 @@ place_items tables items = record {
   states = place_states tables items;
 }
 
--- A policy is that of a text's items. It exists only where no rule is broken.
+-- A policy is that of a text's items, which break no rule.
 pub record Resolves (items : List Item) (policy : PolicyParts) : Type 0 where
   pub has_state : IsTrue (list_any is_state items)
   pub sound : AreSound no_names (mentions_of items)

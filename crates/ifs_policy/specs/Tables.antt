@@ -1,21 +1,21 @@
--- The tables of a text's names, and how its mentions fill them.
+-- The tables of a text's names, filled by its mentions.
 use Rattle.std.specs.Prelude.{ℕ, Bool, true, false, ◌&&◌, nat_eq, List, [], fold}
 use Rattle.std.specs.Cmp.Lexicographic.{pointwise}
 use Rattle.indexmap.specs.IndexSet.{insert_key}
 use Rattle.ifs_parse.specs.declared.tree.Name.{Name}
 use Rattle.ifs_policy.specs.declared.mention.Mention.TheVariants.{Interface, External, Command, Defined}
-use Rattle.ifs_policy.specs.declared.mention.Mention.TheVariants.{Wanted, Init, InitState, SetState}
+use Rattle.ifs_policy.specs.declared.mention.Mention.TheVariants.{Target, Init, InitState, SetState}
 use Rattle.ifs_policy.specs.declared.mention.Owner.TheVariants.{Always, State}
 use Rattle.ifs_policy.specs.declared.tables.ExternalTest.{ExternalTest}
 use Rattle.ifs_policy.specs.declared.tables.Tables.{Tables}
 use Rattle.ifs_policy.specs.declared.names.Names.{Names}
 use Rattle.ifs_policy.specs.Mentions.{Mentioned}
 
--- Two texts are the same, byte by byte.
+-- Two texts are equal, byte by byte.
 abbrev pub text_eq : List ℕ → List ℕ → Bool
 text_eq = pointwise nat_eq
 
--- Two tests are the same: the same command with the same period.
+-- Two tests are equal: they have the same command and the same period.
 abbrev pub test_eq : ExternalTest → ExternalTest → Bool
 test_eq a b = text_eq a.command b.command && nat_eq a.period b.period
 
@@ -23,14 +23,15 @@ test_eq a b = text_eq a.command b.command && nat_eq a.period b.period
 abbrev pub test_of : Name → ℕ → ExternalTest
 test_of command period = record { command = command.text; period = period }
 
--- Tables without entries, and no `init` or `init-state` so far.
+-- Empty tables.
 abbrev pub no_tables : Tables
 no_tables = record { interfaces = []; tests = []; commands = []; states = [] }
 
+-- Empty tables, and no `init` or `init-state` so far.
 abbrev pub no_names : Names
 no_names = record { tables = no_tables; always_init = false; state_init = false; init_state = false }
 
--- The tables after a mention: what is new goes last, in its own table. A state begins without an `init`.
+-- The tables after a mention. A new entry is appended to its table. A state begins without an `init`.
 abbrev pub after : Names → Mentioned → Names
 after names (Interface name) =
     let tables = names.tables in
@@ -44,7 +45,7 @@ after names (Command text) =
 after names (Defined name) =
     let tables = names.tables in
     record names { tables = record tables { states = insert_key text_eq tables.states name.text }; state_init = false }
-after names (Wanted name) = names
+after names (Target name) = names
 after names (Init Always span) = record names { always_init = true }
 after names (Init State span) = record names { state_init = true }
 after names (InitState span) = record names { init_state = true }

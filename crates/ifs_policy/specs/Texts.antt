@@ -1,4 +1,4 @@
--- The policy that a text has, and why it has none.
+-- The policy of a text, or why it has none.
 use Rattle.std.specs.Prelude.{ℕ, ◌≡◌, List, Err}
 use Rattle.ifs_lex.specs.declared.token.Token.{Token}
 use Rattle.ifs_lex.specs.Expansion as lex
@@ -16,13 +16,13 @@ use Rattle.ifs_policy.specs.declared.policy.PolicyParts.{PolicyParts}
 use Rattle.ifs_policy.specs.Faults as names
 use Rattle.ifs_policy.specs.Resolution.{Resolves}
 
--- A text says a file under the definitions that are given beside it: it spells tokens, which say the file.
+-- Under these definitions a text says a file: it spells tokens, which say the file.
 pub record SaysFile (text : List ℕ) (defs : List (List ℕ × List ℕ)) (file : File) : Type 0 where
   pub tokens : List Token
   pub spelled : lex.HasTokens text defs tokens
   pub said : Says tokens file
 
--- A text has a policy under the definitions that are given beside it: it spells tokens, which say a file, whose names resolve to the policy.
+-- Under these definitions a text has a policy: it spells tokens, which say a file, whose names resolve to the policy.
 pub record HasPolicy (text : List ℕ) (defs : List (List ℕ × List ℕ)) (policy : PolicyParts) : Type 0 where
   pub tokens : List Token
   pub file : File
@@ -30,24 +30,26 @@ pub record HasPolicy (text : List ℕ) (defs : List (List ℕ × List ℕ)) (pol
   pub said : Says tokens file
   pub resolved : Resolves file.items policy
 
--- It has none.
+-- A text has no policy.
 abbrev pub HasNoPolicy : List ℕ → List (List ℕ × List ℕ) → Type 0
 HasNoPolicy text defs = (policy : PolicyParts) → ¬ HasPolicy text defs policy
 
--- The refusals for faults of each step: want of memory stays want of memory.
+-- The fault of a text from a fault of its tokens. A failed allocation stays one.
 abbrev pub of_text : LexFault → PolicyFault
 of_text lexing.Memory = Memory
 of_text fault = Text fault
 
+-- The fault of a text from a fault of its grammar.
 abbrev pub of_tokens : ParseFault → PolicyFault
 of_tokens parsing.Memory = Memory
 of_tokens fault = Tokens fault
 
+-- The fault of a text from a fault of its names.
 abbrev pub of_names : ResolveFault → PolicyFault
 of_names resolving.Memory = Memory
 of_names fault = Names fault
 
--- A text has no policy, and this is the fault that the first step which refuses it finds first. Want of memory is no such fault.
+-- A text has no policy, and this is the first fault of the first step that rejects it. A failed allocation is no such fault.
 abbrev pub IsTextRefused : List ℕ → List (List ℕ × List ℕ) → PolicyFault → Type 0
 IsTextRefused text defs (Text fault) = HasNoPolicy text defs × (lex.tokens_of text defs ≡ Err fault)
 IsTextRefused text defs (Tokens fault) = HasNoPolicy text defs × ((tokens : List Token) × lex.HasTokens text defs tokens × StopsAt tokens fault)

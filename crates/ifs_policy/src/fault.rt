@@ -10,32 +10,32 @@ use std::alloc::{AllocError, AllocFailed};
 use std::fmt::{self, Debug, Display, Formatter, Write};
 use thiserror::Error;
 
-/// The fault that is answered, with its line, from 1: a text without a state, else the first of the
-/// others but the last, else the first state that is not known.
+/// Why a tree has no policy, with a line from 1. A missing state comes first, then the first broken rule,
+/// then the first unknown state.
 #[derive(Clone, Copy, PartialEq, Eq, Error)]
 pub enum ResolveFault {
     /// P9: no state is defined. Its line is 1.
     NoState { line: u32 },
-    /// P10: a state that is defined already, at its name.
+    /// P10: a state is defined twice. The line is that of the second name.
     StateTwice { line: u32 },
-    /// P12: a second `init` of one part or a second `init-state`, at that word.
+    /// P12: a part has a second `init`, or there is a second `init-state`. The line is that of the word.
     SecondInit { line: u32 },
-    /// P13: a `set-state` in an `init`, at that word.
+    /// P13: an `init` contains a `set-state`. The line is that of the word.
     SetStateInInit { line: u32 },
-    /// P14: an external test in an `init`, at its command.
+    /// P14: an `init` contains an external test. The line is that of its command.
     TestInInit { line: u32 },
-    /// P15: a new name, test or command for which its table has no place, at its text.
+    /// P15: the table of a new name, test or command is full. The line is that of its text.
     TableFull { line: u32 },
-    /// P16: a name or a command of no byte or of over 1,024, or with a NUL, at its text.
+    /// P16: a name or a command is empty, has over 1,024 bytes or contains a NUL.
     BadText { line: u32 },
-    /// P11: a state that is not defined, at its name.
+    /// P11: a state is not defined. The line is that of its name.
     UnknownState { line: u32 },
-    /// P0: no memory was found.
+    /// P0: an allocation failed.
     Memory,
 }
 
 impl ResolveFault {
-    /// What is printed of the fault.
+    /// The code and the line, as they are printed.
     pub fn text(self) -> FaultText
         ensures { fault_words result ≡ resolve_fault_words self }
     {
@@ -70,7 +70,7 @@ impl Display for ResolveFault {
     }
 }
 
-/// As the fault is printed.
+/// The same as `Display`.
 impl Debug for ResolveFault {
     fn fmt<W: Write>(&self, f: &mut Formatter<W>) -> fmt::Result {
         Display::fmt(self, f)

@@ -1,4 +1,4 @@
-//! From a text to its policy: its tokens, their tree and its names.
+//! From a text to its policy, by way of its tokens and their tree.
 
 ghost use Rattle.std.specs.Prelude.{◌≡◌, ◌≢◌, Some, Err, IfOk, IfErr};
 ghost use Rattle.ifs_lex.specs.declared.fault.LexFault.{LexFault};
@@ -21,21 +21,21 @@ use std::alloc::Global;
 use std::fmt::{self, Debug, Display, Formatter, Write};
 use thiserror::Error;
 
-/// Why a text has no policy: the fault of the first step that refuses it.
+/// Why a text has no policy: the fault of the first step that rejects it.
 #[derive(Clone, Copy, PartialEq, Eq, Error)]
 pub enum PolicyFault {
     /// P1 to P5: the text has no tokens.
     Text(LexFault),
-    /// P6 to P8: the tokens are no policy by the grammar.
+    /// P6 to P8: the tokens do not follow the grammar.
     Tokens(ParseFault),
-    /// P9 to P16: the names are at fault.
+    /// P9 to P16: the names break a rule.
     Names(ResolveFault),
-    /// P0: no memory was found.
+    /// P0: an allocation failed.
     Memory,
 }
 
 impl PolicyFault {
-    /// What is printed of the fault.
+    /// The code and the place, as they are printed.
     pub fn text(self) -> FaultText
         ensures { fault_words result ≡ policy_fault_words self }
     {
@@ -59,7 +59,7 @@ impl Display for PolicyFault {
     }
 }
 
-/// As the fault is printed.
+/// The same as `Display`.
 impl Debug for PolicyFault {
     fn fmt<W: Write>(&self, f: &mut Formatter<W>) -> fmt::Result {
         Display::fmt(self, f)
@@ -99,31 +99,30 @@ impl From<ResolveFault> for PolicyFault {
     }
 }
 
-/// A text that has a policy: what it says by the grammar, with its notes, and the policy.
+/// A policy, beside the tree of its text and the notes on it.
 #[derive(Drop)]
 pub struct PolicyText {
     pub tree: Tree,
     pub policy: Policy,
 }
 
-/// The policy of a text, and its tree. `defs` are definitions that win over the text's: of two with one
-/// name the first holds.
+/// The policy of a text, and its tree. `defs` define macros and override the definitions of the text. The
+/// first of two with one name holds.
 ///
-/// A refusal is the fault of the first step that refuses: of the tokens, of the grammar and of the names,
-/// each with its line. P0, for want of memory, may come in place of another answer, but not of a fault of the text
-/// that is certain before anything is kept.
+/// An error is that of the first step that fails: the tokens, the grammar, or the names. It has the line. P0
+/// may come in place of any other result, except a fault that is certain before the first allocation.
 pub fn policy_of<'a>(
     alloc: Global,
     text: &'a str,
     defs: &'a [(&'a str, &'a str)],
 ) -> Result<PolicyText, PolicyFault>
-    // What is answered is a policy of the text,
+    // The result is a policy of the text.
     ensures policy { IfOk result (λ it. HasPolicy text.now (defined_by defs.now) it.policy) }
-    // and the tree of its tokens.
+    // Its tree is that of the tokens.
     ensures tree { IfOk result (λ it. SaysFile text.now (defined_by defs.now) it.tree) }
-    // A refusal but for memory comes only where the text has no policy, with the fault that stands first.
+    // An error other than P0 comes only if the text has no policy, and is the first fault.
     ensures refused { IfErr result (λ fault. fault ≢ Memory → IsTextRefused text.now (defined_by defs.now) fault) }
-    // What is certain of the text before anything is kept is told, and no want of memory in its place.
+    // A fault that is certain before the first allocation is returned, not P0.
     ensures at_once { (fault : LexFault) → certain_at_once text.now (defined_by defs.now) ≡ Some fault → result ≡ Err (of_text fault) }
 {
     one_list();

@@ -1,4 +1,4 @@
-//! Laws of policies, over their definitions alone: each is the contract of a function that does nothing.
+//! Laws about the definitions of policies. Each is the contract of an empty function.
 
 ghost use Rattle.std.specs.Prelude.{◌≡◌, ◌↔◌, List, Contains, IsTrue};
 ghost use Rattle.ifs_base.specs.Effects.{nothing_yet};
@@ -21,35 +21,35 @@ pub fn one_policy()
     ensures { (items : List Item) (policy other : PolicyParts) → Resolves items policy → Resolves items other → policy ≡ other }
 {}
 
-/// A tree that is refused has no policy, and there is one fault that stands first.
+/// A rejected tree has no policy, and exactly one fault comes first.
 pub fn one_refusal()
     ensures none { (items : List Item) (fault : ResolveFault) → IsTreeRefused items fault → (policy : PolicyParts) → ¬ Resolves items policy }
     ensures one { (items : List Item) (fault other : ResolveFault) → IsTreeRefused items fault → IsTreeRefused items other → fault ≡ other }
 {}
 
-/// A tree has a policy exactly where its names keep the rules, which are said of the tree as a whole.
+/// A tree has a policy exactly if its names keep the rules, stated over the whole tree.
 pub fn tree_has_a_policy()
     ensures { (items : List Item) → ((policy : PolicyParts) × Resolves items policy) ↔ KeepsRules items }
 {}
 
-/// The tables of a policy have each entry once, in the order of first uses; its states stand in the
-/// order of their definitions.
+/// The tables of a policy list each entry once, in the order of first use. States are in the order of their
+/// definitions.
 pub fn numbered_by_first_use()
     ensures { (items : List Item) (policy : PolicyParts) → Resolves items policy → InOrder items policy.tables }
 {}
 
-/// A policy whose tree some tokens say is within its limits, and its numbers are of entries of its tables.
+/// A policy of a parsed tree keeps the limits, and its numbers refer to entries of its tables.
 pub fn policies_fit()
     ensures { (file : File) (policy : PolicyParts) → IsSaid file → Resolves file.items policy → PolicyFits policy }
 {}
 
-/// The tests that are listed of a block are exactly those that it mentions.
+/// The list of tests of a block has exactly those that the block mentions.
 pub fn mentioned_are_mentions()
     ensures { (block : Block) (test : TestId) → Contains (mentioned block) test ↔ Mentions test block }
 {}
 
-/// A body is held back exactly where it mentions a test without a value: then it yields nothing, and else
-/// what it reaches.
+/// A body is held back exactly if it mentions a test without a value. It then yields nothing; otherwise it
+/// yields what it reaches.
 pub fn held_by_an_open_test()
     ensures exactly { (facts : Facts) (body : Block) → IsTrue (is_held facts body) ↔ IsHeld facts body }
     ensures held { (facts : Facts) (body : Block) → IsHeld facts body → body_yield facts body ≡ nothing_yet }

@@ -1,10 +1,9 @@
-//! From the tree of a text to its policy: each name becomes an index of a table. And from the text
-//! itself, by all steps.
+//! Name resolution: the policy of a tree, in which each name is the index of a table entry.
 //!
 //! Interfaces, tests and commands are numbered from 0 in the order of their first use in the text,
 //! states in the order of their definitions.
-//! Contract: `resolve` answers the policy of the tree, and `policy_of` that of a text, or the fault that
-//! stands first with its line.
+//! Contract: `resolve` returns the policy of a tree, and `policy_of` that of a text. Otherwise they return the
+//! first fault with its line.
 #![tactic(auto)]
 
 mod fault;

@@ -1,4 +1,4 @@
-//! What a tree says of names, in the order of its text.
+//! The mentions of names in a tree, in text order.
 
 ghost use Rattle.std.specs.Prelude.{◌≡◌, ◌++◌, map, OnOk};
 ghost use Rattle.std.specs.List.{flat_map};
@@ -10,24 +10,24 @@ use ifs_base::Span;
 use ifs_parse::{Action, Actions, Condition, Item, Name, Node, Part, Period, Statement, Test};
 use std::alloc::AllocError;
 
-/// The half of a part in which something stands: its `init` or its body.
+/// One half of a part: its `init` or its body.
 #[derive(Clone, Copy, Debug, PartialEq, Eq)]
 pub enum Half {
     Init,
     Body,
 }
 
-/// Whose part something is.
+/// The owner of a part.
 #[derive(Clone, Copy, Debug, PartialEq, Eq)]
 pub enum Owner {
-    /// What stands outside any state.
+    /// The part outside any state.
     Always,
     /// The state that was defined last.
     State,
 }
 
-/// One thing that a text says of names: one for each of its strings, and for each `init`,
-/// `init-state` and `set-state`. `N` is a string, `P` a period.
+/// A mention of a name or of a word. The text has one for each string, `init`, `init-state` and `set-state`.
+/// `N` is a string, `P` a period.
 #[derive(Debug, Drop)]
 pub enum Mention<N, P> {
     /// The interface of a link test.
@@ -36,19 +36,19 @@ pub enum Mention<N, P> {
     External(Half, N, P),
     /// A command that is run.
     Command(N),
-    /// The name that a state is defined by.
+    /// The name in the definition of a state.
     Defined(N),
-    /// The name of a state that `set-state` or `init-state` wants.
-    Wanted(N),
-    /// `init`.
+    /// The name of a state after `set-state` or `init-state`.
+    Target(N),
+    /// The word `init`.
     Init(Owner, Span),
-    /// `init-state`.
+    /// The word `init-state`.
     InitState(Span),
-    /// `set-state`.
+    /// The word `set-state`.
     SetState(Half, Span),
 }
 
-/// The mentions of a tree, found so far.
+/// The mentions found so far.
 pub type Mentions<'a> = Vec<Mention<&'a Name, &'a Period>>;
 
 /// Adds the mentions of an item.
@@ -58,7 +58,7 @@ pub fn mention_item<'a>(item: &'a Item, mentions: &mut Mentions<'a>) -> Result<(
     match item {
         Item::InitState(span, name) => {
             mentions.push(Mention::InitState(*span))?;
-            mentions.push(Mention::Wanted(name))?;
+            mentions.push(Mention::Target(name))?;
             Ok(())
         }
         Item::State(name, parts) => {
@@ -125,9 +125,9 @@ fn mention_statement<'a>(
             mentions.push(Mention::Command(command))?;
             Ok(())
         }
-        Statement::SetState(wish) => {
-            mentions.push(Mention::SetState(half, wish.span))?;
-            mentions.push(Mention::Wanted(&wish.state))?;
+        Statement::SetState(target) => {
+            mentions.push(Mention::SetState(half, target.span))?;
+            mentions.push(Mention::Target(&target.state))?;
             Ok(())
         }
         Statement::If(condition, block) => {

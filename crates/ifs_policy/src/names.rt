@@ -1,4 +1,4 @@
-//! How mentions fill the tables, and the rules that they may break.
+//! Mentions fill the tables, and are checked against the rules.
 
 ghost use Rattle.std.specs.Prelude.{◌≡◌, true, false, map, IsTrue, IfErr, OnOk};
 ghost use Rattle.ifs_base.specs.Sizes.{TextFits};
@@ -17,20 +17,20 @@ use ifs_parse::{Name, Period};
 use std::alloc::Global;
 use std::hash::Hash;
 
-/// The tables at a place of a text, and which of the words that stand once have stood so far.
+/// The tables at a place of a text, and which of the words that may occur once have occurred.
 #[derive(Drop)]
 pub struct Names {
     pub tables: Tables,
     /// The part outside any state has an `init`.
     pub always_init: bool,
-    /// The state that was defined last has one.
+    /// The state that was defined last has an `init`.
     pub state_init: bool,
-    /// There is an `init-state`.
+    /// An `init-state` has occurred.
     pub init_state: bool,
 }
 
 impl Names {
-    /// Tables without entries. Takes no memory.
+    /// Empty tables. Does not allocate.
     pub fn new(alloc: Global) -> Self
         ensures { result ≡ no_names }
     {
@@ -47,7 +47,7 @@ impl Names {
         }
     }
 
-    /// Enters the mentions of a text, in its order, and looks for the states that they want.
+    /// Enters the mentions of a text in order. Then checks that each target is a defined state.
     pub fn fill(&mut self, mentions: &[Mention<&Name, &Period>]) -> Result<(), ResolveFault>
         ensures { Filled self.old (map seen mentions.now) result self.new }
     {
@@ -56,7 +56,7 @@ impl Names {
         Ok(())
     }
 
-    /// Enters mentions in the order of their text, or tells the first fault.
+    /// Enters mentions in text order, or returns the first fault.
     fn note_all(&mut self, mentions: &[Mention<&Name, &Period>]) -> Result<(), ResolveFault>
         ensures { AllNoted self.old (map seen mentions.now) result self.new }
     {
@@ -66,7 +66,7 @@ impl Names {
         Ok(())
     }
 
-    /// Enters a mention, or tells the first rule that it breaks.
+    /// Enters a mention, or returns the lowest rule that it breaks.
     fn note(&mut self, mention: &Mention<&Name, &Period>) -> Result<(), ResolveFault>
         ensures { MentionNoted self.old (seen mention.now) result self.new }
     {
@@ -79,12 +79,12 @@ impl Names {
                 enter_text(&mut self.tables.commands, limits::COMMANDS, text)
             }
             Mention::Defined(name) => self.note_state(name),
-            Mention::Wanted(name) => check_text(name),
+            Mention::Target(name) => check_text(name),
             Mention::Init(owner, span) => match owner {
-                Owner::Always => stand_once(&mut self.always_init, *span),
-                Owner::State => stand_once(&mut self.state_init, *span),
+                Owner::Always => occur_once(&mut self.always_init, *span),
+                Owner::State => occur_once(&mut self.state_init, *span),
             },
-            Mention::InitState(span) => stand_once(&mut self.init_state, *span),
+            Mention::InitState(span) => occur_once(&mut self.init_state, *span),
             Mention::SetState(half, span) => match half {
                 Half::Init => Err(ResolveFault::SetStateInInit { line: span.line }),
                 Half::Body => Ok(()),
@@ -92,7 +92,7 @@ impl Names {
         }
     }
 
-    /// Enters an external test, which stands in a body alone.
+    /// Enters an external test, which only a body may contain.
     fn note_test(&mut self, half: Half, command: &Name, period: Period) -> Result<(), ResolveFault>
         ensures { MentionNoted self.old (External half command.now period) result self.new }
     {
@@ -104,7 +104,7 @@ impl Names {
         }
     }
 
-    /// Enters the name of a state, which begins without an `init`.
+    /// Enters the name of a state. The state begins without an `init`.
     fn note_state(&mut self, name: &Name) -> Result<(), ResolveFault>
         ensures { MentionNoted self.old (Defined name.now) result self.new }
     {
@@ -118,7 +118,7 @@ impl Names {
     }
 }
 
-/// Tells the first mention of a state that is not in the table of states.
+/// Rejects the first target that is not in the table of states.
 fn check_states(
     states: &Table<Text>,
     mentions: &[Mention<&Name, &Period>],
@@ -126,7 +126,7 @@ fn check_states(
     ensures { StatesChecked states.now (map seen mentions.now) result }
 {
     for mention in mentions {
-        if let Mention::Wanted(name) = mention
+        if let Mention::Target(name) = mention
             && !states.has(&name.text)
         {
             return Err(ResolveFault::UnknownState {
@@ -137,7 +137,7 @@ fn check_states(
     Ok(())
 }
 
-/// Enters a string into its table, where there is room for it and it is fine.
+/// Enters a string into its table, if there is room and the string is valid.
 fn enter_text(table: &mut Table<Text>, limit: u16, name: &Name) -> Result<(), ResolveFault>
     ensures { Enters text_eq limit name.now.text name.now table.old result table.new }
 {
@@ -145,7 +145,7 @@ fn enter_text(table: &mut Table<Text>, limit: u16, name: &Name) -> Result<(), Re
     enter(table, limit, entry, name)
 }
 
-/// Enters a test into its table, where there is room for it and its command is fine.
+/// Enters a test into its table, if there is room and its command is valid.
 fn enter_test(
     table: &mut Table<ExternalTest>,
     command: &Name,
@@ -157,7 +157,7 @@ fn enter_test(
     enter(table, limits::TESTS, entry, command)
 }
 
-/// Enters what a string names into its table, where there is room for it and the string is fine.
+/// Enters an entry into its table, if there is room and its string is valid.
 fn enter<T: Eq + Hash + Drop>(
     table: &mut Table<T>,
     limit: u16,
@@ -176,7 +176,7 @@ fn enter<T: Eq + Hash + Drop>(
     Ok(())
 }
 
-/// Tells a string that is empty, too long or has a NUL.
+/// Rejects a string that is empty, too long or contains a NUL.
 fn check_text(name: &Name) -> Result<(), ResolveFault>
     ensures fits { OnOk result (TextFits name.now.text) }
     ensures refused { IfErr result (λ fault. (fault ≡ BadText name.now.span.line) × (¬ TextFits name.now.text)) }
@@ -189,14 +189,14 @@ fn check_text(name: &Name) -> Result<(), ResolveFault>
     Ok(())
 }
 
-/// Notes that a word stands, which may stand once.
-fn stand_once(stands: &mut bool, span: Span) -> Result<(), ResolveFault>
-    ensures first { OnOk result ((stands.old ≡ false) × (stands.new ≡ true)) }
-    ensures refused { IfErr result (λ fault. (fault ≡ SecondInit span.line) × IsTrue stands.old) }
+/// Notes an occurrence of a word that may occur once.
+fn occur_once(occurs: &mut bool, span: Span) -> Result<(), ResolveFault>
+    ensures first { OnOk result ((occurs.old ≡ false) × (occurs.new ≡ true)) }
+    ensures refused { IfErr result (λ fault. (fault ≡ SecondInit span.line) × IsTrue occurs.old) }
 {
-    if *stands {
+    if *occurs {
         return Err(ResolveFault::SecondInit { line: span.line });
     }
-    *stands = true;
+    *occurs = true;
     Ok(())
 }

@@ -1,10 +1,11 @@
-//! Names replaced by their places in the tables.
+//! Names are replaced by their places in the tables.
 
 ghost use Rattle.std.specs.Prelude.{◌≡◌, ◌≤◌, IfOk, length, map};
+ghost use Rattle.std.specs.List.{position_or_len};
 ghost use Rattle.ifs_parse.specs.Views.{block_of, statement_then};
 ghost use Rattle.ifs_policy.specs.Resolution.{always_of, body_in, init_in, initial_of, place_block};
 ghost use Rattle.ifs_policy.specs.Resolution.{place_condition, place_in, place_part, place_single, place_states};
-ghost use Rattle.ifs_policy.specs.inner.Sized.{HasTableSizes, lent, place_statement};
+ghost use Rattle.ifs_policy.specs.inner.Sized.{HasTableSizes, borrowed, place_statement};
 
 use crate::policy::{Handlers, PolicyBlock, Single};
 use crate::table::Table;
@@ -12,16 +13,24 @@ use crate::tables::{Tables, test_of};
 use ifs_base::{CommandId, IfaceId, Items, StateId, TestId, Text};
 use ifs_parse::{Action, Actions, Condition, Item, Name, Node, Part, Statement, Test};
 use std::alloc::{AllocError, Global};
+use std::hash::Hash;
 
-/// The place of a string in a table.
+/// The place of an entry in a table; of a missing one, the number of entries.
+fn place_or_len<T: Eq + Hash + Drop>(table: &Table<T>, entry: &T) -> usize
+    ensures { result ≡ position_or_len (T.eq entry.now) table.now }
+{
+    table.place_of(entry).unwrap_or(table.len())
+}
+
+/// The place of a string in a table; of a missing one, the number of entries.
 fn place_in(table: &Table<Text>, name: &Name) -> u16
     requires { length table.now ≤ 1024 }
     ensures { result ≡ place_in table.now name.now }
 {
-    table.place_of(&name.text) as u16
+    place_or_len(table, &name.text) as u16
 }
 
-/// A single test, by the place of its interface or of the test.
+/// A single test, with the place of its interface or of the test.
 fn place_single(tables: &Tables, test: &Test) -> Result<Single, AllocError>
     requires { HasTableSizes tables.now }
     ensures { IfOk result (λ single. single ≡ place_single tables.now test.now) }
@@ -33,13 +42,13 @@ fn place_single(tables: &Tables, test: &Test) -> Result<Single, AllocError>
         }
         Test::External(command, period) => {
             let entry = test_of(command, *period)?;
-            let place = tables.tests.place_of(&entry) as u16;
+            let place = place_or_len(&tables.tests, &entry) as u16;
             Ok(Single::TestIs(TestId(place)))
         }
     }
 }
 
-/// A condition by places.
+/// A condition with places for names.
 #[cycle(place_condition)]
 fn place_condition(
     alloc: Global,
@@ -73,7 +82,7 @@ fn place_condition(
     }
 }
 
-/// The operands of a chain by places.
+/// The operands of a chain, with places for names.
 #[cycle(place_condition)]
 fn place_operands(
     alloc: Global,
@@ -90,7 +99,7 @@ fn place_operands(
     Ok(placed)
 }
 
-/// Statements by places, in order.
+/// Statements with places for names, in order.
 #[cycle(place_block)]
 fn place_block(alloc: Global, tables: &Tables, block: &Actions) -> Result<PolicyBlock, AllocError>
     requires { HasTableSizes tables.now }
@@ -103,7 +112,7 @@ fn place_block(alloc: Global, tables: &Tables, block: &Actions) -> Result<Policy
     Ok(PolicyBlock::new(placed))
 }
 
-/// A statement by places.
+/// A statement with places for names.
 #[cycle(place_block)]
 fn place_statement(
     alloc: Global,
@@ -118,8 +127,8 @@ fn place_statement(
             let command = CommandId(place_in(&tables.commands, command));
             Ok(Statement::Run(command))
         }
-        Statement::SetState(wish) => {
-            let state = StateId(place_in(&tables.states, &wish.state));
+        Statement::SetState(target) => {
+            let state = StateId(place_in(&tables.states, &target.state));
             Ok(Statement::SetState(state))
         }
         Statement::If(condition, block) => {
@@ -130,10 +139,10 @@ fn place_statement(
     }
 }
 
-/// The block of a part's `init` by places.
+/// The block of a part's `init`, with places for names.
 fn place_init(alloc: Global, tables: &Tables, parts: &[&Part]) -> Result<PolicyBlock, AllocError>
     requires { HasTableSizes tables.now }
-    ensures { IfOk result (λ placed. placed ≡ place_block tables.now (init_in (lent parts.now))) }
+    ensures { IfOk result (λ placed. placed ≡ place_block tables.now (init_in (borrowed parts.now))) }
 {
     for part in parts {
         if let Part::Init(_, block) = part {
@@ -143,10 +152,10 @@ fn place_init(alloc: Global, tables: &Tables, parts: &[&Part]) -> Result<PolicyB
     Ok(PolicyBlock::new(Vec::new(alloc)))
 }
 
-/// The statements of a part by places.
+/// The statements of a part, with places for names.
 fn place_body(alloc: Global, tables: &Tables, parts: &[&Part]) -> Result<PolicyBlock, AllocError>
     requires { HasTableSizes tables.now }
-    ensures { IfOk result (λ placed. placed ≡ place_block tables.now (body_in (lent parts.now))) }
+    ensures { IfOk result (λ placed. placed ≡ place_block tables.now (body_in (borrowed parts.now))) }
 {
     let mut placed = Vec::new(alloc);
     for part in parts {
@@ -157,19 +166,19 @@ fn place_body(alloc: Global, tables: &Tables, parts: &[&Part]) -> Result<PolicyB
     Ok(PolicyBlock::new(placed))
 }
 
-/// What a part does, by places.
+/// The two blocks of a part, with places for names.
 fn place_part(alloc: Global, tables: &Tables, parts: &[&Part]) -> Result<Handlers, AllocError>
     requires { HasTableSizes tables.now }
-    ensures { IfOk result (λ placed. placed ≡ place_part tables.now (lent parts.now)) }
+    ensures { IfOk result (λ placed. placed ≡ place_part tables.now (borrowed parts.now)) }
 {
     let init = place_init(alloc, tables, parts)?;
     let body = place_body(alloc, tables, parts)?;
     Ok(Handlers { init, body })
 }
 
-/// The parts of a state, each lent.
-fn lend_all<'a>(alloc: Global, parts: &'a [Part]) -> Result<Vec<&'a Part>, AllocError>
-    ensures { IfOk result (λ made. lent made.items ≡ parts.now) }
+/// The parts of a state, each borrowed.
+fn borrow_all<'a>(alloc: Global, parts: &'a [Part]) -> Result<Vec<&'a Part>, AllocError>
+    ensures { IfOk result (λ made. borrowed made.items ≡ parts.now) }
 {
     let mut made = Vec::new(alloc);
     for part in parts {
@@ -178,9 +187,9 @@ fn lend_all<'a>(alloc: Global, parts: &'a [Part]) -> Result<Vec<&'a Part>, Alloc
     Ok(made)
 }
 
-/// What stands outside any state.
+/// The parts outside any state.
 fn always_of<'a>(alloc: Global, items: &'a [Item]) -> Result<Vec<&'a Part>, AllocError>
-    ensures { IfOk result (λ made. lent made.items ≡ always_of items.now) }
+    ensures { IfOk result (λ made. borrowed made.items ≡ always_of items.now) }
 {
     let mut made = Vec::new(alloc);
     for item in items {
@@ -191,7 +200,7 @@ fn always_of<'a>(alloc: Global, items: &'a [Item]) -> Result<Vec<&'a Part>, Allo
     Ok(made)
 }
 
-/// What the states do, by places, in the order of their definitions.
+/// The blocks of the states, with places for names, in the order of their definitions.
 fn place_states(alloc: Global, tables: &Tables, items: &[Item]) -> Result<Vec<Handlers>, AllocError>
     requires { HasTableSizes tables.now }
     ensures { IfOk result (λ placed. placed.items ≡ place_states tables.now items.now) }
@@ -199,14 +208,14 @@ fn place_states(alloc: Global, tables: &Tables, items: &[Item]) -> Result<Vec<Ha
     let mut placed = Vec::new(alloc);
     for item in items {
         if let Item::State(_, parts) = item {
-            let parts = lend_all(alloc, parts.as_slice())?;
+            let parts = borrow_all(alloc, parts.as_slice())?;
             placed.push(place_part(alloc, tables, parts.as_slice())?)?;
         }
     }
     Ok(placed)
 }
 
-/// The place of the state that `init-state` names; without one it is the first.
+/// The state that `init-state` names; without one, the first.
 fn initial_of(tables: &Tables, items: &[Item]) -> StateId
     requires { HasTableSizes tables.now }
     ensures { result ≡ initial_of tables.now items.now }
@@ -219,18 +228,18 @@ fn initial_of(tables: &Tables, items: &[Item]) -> StateId
     StateId(0)
 }
 
-/// The trees of a policy, by places.
+/// The blocks of a policy, with places for names.
 #[derive(Drop)]
 pub struct PolicyTrees {
-    /// The state that it starts in.
+    /// The initial state.
     pub initial: StateId,
-    /// What stands outside any state.
+    /// The part outside any state.
     pub always: Handlers,
-    /// What the states do, in the order of their definitions.
+    /// The states, in the order of their definitions.
     pub states: Items<Handlers>,
 }
 
-/// What items say, by places in the tables of their names.
+/// The blocks of items, with places in the tables of their names.
 pub fn place_items(
     alloc: Global,
     tables: &Tables,

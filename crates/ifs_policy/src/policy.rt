@@ -1,4 +1,4 @@
-//! The policy of a text.
+//! Policies.
 
 ghost use Rattle.std.specs.Prelude.{◌≡◌, length, slice_get, option_copied};
 
@@ -7,40 +7,40 @@ use ifs_base::{CommandId, IfaceId, Items, LinkState, StateId, TestId, Text};
 use ifs_parse::Block;
 use std::marker::Model;
 
-/// A test that stands by itself in a condition.
+/// A single test of a condition.
 #[derive(Clone, Copy, Debug, PartialEq, Eq)]
 pub enum Single {
-    /// An interface has a link state.
+    /// An interface has this link state.
     LinkIs(IfaceId, LinkState),
     /// An external test has the value true.
     TestIs(TestId),
 }
 
-/// What a part does, as commands to run and states to want.
+/// A block of a part, with numbers of commands and states.
 pub type PolicyBlock = Block<Single, CommandId, StateId>;
 
-/// The two blocks of a part: of a state, or of what stands outside any.
+/// The two blocks of a part. A part is a state, or what is outside any state.
 #[derive(Drop)]
 pub struct Handlers {
-    /// Done when the part is entered.
+    /// Runs when the part is entered.
     pub init: PolicyBlock,
-    /// Done at each evaluation.
+    /// Runs at each evaluation.
     pub body: PolicyBlock,
 }
 
-/// All that a policy says.
+/// The content of a policy.
 #[derive(Drop)]
 pub struct PolicyParts {
     pub tables: Tables,
-    /// The state that it starts in.
+    /// The initial state.
     pub initial: StateId,
-    /// What stands outside any state.
+    /// The part outside any state.
     pub always: Handlers,
-    /// The states' blocks, in the order of the table of states.
+    /// The parts of the states, in the order of the table of states.
     pub states: Items<Handlers>,
 }
 
-/// How many entries the tables of a policy have.
+/// The number of entries of each table of a policy.
 #[derive(Clone, Copy, Debug, PartialEq, Eq)]
 pub struct Counts {
     pub interfaces: u16,
@@ -49,8 +49,7 @@ pub struct Counts {
     pub states: u16,
 }
 
-/// A policy, seen as all that it says. It keeps to the limits, and its numbers are of entries of its
-/// tables.
+/// A policy. Clauses see its content. It keeps the limits, and its numbers refer to entries of its tables.
 pub struct Policy {
     parts: PolicyParts,
 }
@@ -79,7 +78,7 @@ impl Model for Policy {
 impl Policy {
     ghost use Rattle.ifs_policy.specs.Fits.{PolicyFits};
 
-    /// The policy of these parts, which the caller knows to fit. Takes no memory.
+    /// The policy with this content. Does not allocate.
     pub fn new(parts: PolicyParts) -> Self
         requires { PolicyFits parts }
         ensures { result ≡ parts }
@@ -87,7 +86,7 @@ impl Policy {
         Policy { parts }
     }
 
-    /// How many entries the tables have.
+    /// The number of entries of each table.
     pub fn counts(&self) -> Counts
         ensures interfaces { result.interfaces ≡ length self.now.tables.interfaces }
         ensures tests { result.tests ≡ length self.now.tables.tests }
@@ -104,7 +103,7 @@ impl Policy {
         }
     }
 
-    /// Lends the tables.
+    /// The tables.
     pub fn tables(&self) -> &Tables
         ensures { result.now ≡ self.now.tables }
     {
@@ -139,28 +138,28 @@ impl Policy {
         self.parts.tables.states.get(usize::from(state.0))
     }
 
-    /// The state that the policy starts in.
+    /// The initial state.
     pub fn initial(&self) -> StateId
         ensures { result ≡ self.now.initial }
     {
         self.parts.initial
     }
 
-    /// What stands outside any state.
+    /// The part outside any state.
     pub fn always(&self) -> &Handlers
         ensures { result.now ≡ self.now.always }
     {
         &self.parts.always
     }
 
-    /// What a state does.
+    /// The part of a state.
     pub fn handlers(&self, state: StateId) -> Option<&Handlers>
         ensures { option_copied result ≡ slice_get self.now.states state.0 }
     {
         self.parts.states.as_slice().get(usize::from(state.0))
     }
 
-    /// What the states do, in the order of their table.
+    /// The parts of the states, in the order of their table.
     pub fn states(&self) -> &[Handlers]
         ensures value { result.now ≡ self.now.states }
         ensures count { length result.now ≡ length self.now.tables.states }

@@ -20,18 +20,17 @@ use crate::policy::{Policy, PolicyParts};
 use ifs_parse::{Item, Tree};
 use std::alloc::{AllocError, Global};
 
-/// The policy of a tree, or the fault that stands first, with its line: that no state is defined;
-/// else the first mention that breaks a rule, with the lowest rule that it breaks; else the first
-/// mention of a state that is not defined. Want of memory has no place in this order, but that no state is defined is told
-/// before anything is kept.
+/// The policy of a tree, or the first fault with its line. A tree without a state comes first, then the first
+/// mention that breaks a rule, with the lowest such rule, then the first unknown state. P0 may come in place of
+/// any other result, except that of a tree without a state.
 pub fn resolve(alloc: Global, tree: &Tree) -> Result<Policy, ResolveFault>
-    // What is answered is the tree's policy.
+    // The result is the policy of the tree.
     ensures policy { IfOk result (λ policy. Resolves tree.now.items policy) }
-    // A fault other than want of memory is the first,
+    // A fault other than P0 is the first one.
     ensures refused { IfErr result (λ fault. fault ≢ Memory → IsTreeRefused tree.now.items fault) }
-    // and comes only where the tree has no policy.
+    // It comes only if the tree has no policy.
     ensures none { IfErr result (λ fault. fault ≢ Memory → (policy : PolicyParts) → ¬ Resolves tree.now.items policy) }
-    // That no state is defined is told, and no want of memory in its place.
+    // A tree without a state is reported before the first allocation.
     ensures at_once { list_any is_state tree.now.items ≡ false → result ≡ Err (NoState 1) }
 {
     let items = tree.items();
@@ -52,7 +51,7 @@ pub fn resolve(alloc: Global, tree: &Tree) -> Result<Policy, ResolveFault>
     }))
 }
 
-/// Fills empty tables by the mentions of items, and places what the items say.
+/// Fills empty tables with the mentions of items, and replaces the names of the items by places.
 fn walk(alloc: Global, names: &mut Names, items: &[Item]) -> Result<PolicyTrees, ResolveFault>
     requires { names.old ≡ no_names }
     ensures walked { IfOk result (λ placed. Walked items.now placed names.new) }
@@ -76,7 +75,7 @@ fn has_state(items: &[Item]) -> bool
     false
 }
 
-/// The mentions of items, in the order of their text.
+/// The mentions of items, in text order.
 fn mentions_of<'a>(alloc: Global, items: &'a [Item]) -> Result<Mentions<'a>, AllocError>
     ensures { IfOk result (λ mentions. map seen mentions.items ≡ mentions_of items.now) }
 {

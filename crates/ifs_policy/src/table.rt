@@ -1,8 +1,8 @@
 //! A table of distinct entries, found by hash.
 
 ghost use Rattle.std.specs.Prelude.{◌≡◌, ◌≤◌, ◌<◌, ◌↔◌, [], length, slice_get};
-ghost use Rattle.std.specs.Prelude.{option_copied, IsSome, IfSome, IfOk, OnOk, OnErr};
-ghost use Rattle.std.specs.List.{list_any, position_or_len};
+ghost use Rattle.std.specs.Prelude.{option_copied, position, IsSome, IfSome, IfOk, OnOk, OnErr};
+ghost use Rattle.std.specs.List.{list_any};
 ghost use Rattle.indexmap.specs.IndexSet.{insert_key};
 
 use indexmap::IndexSet;
@@ -10,7 +10,7 @@ use std::alloc::{AllocFailed, Global};
 use std::hash::Hash;
 use std::marker::Model;
 
-/// Distinct entries in the order in which they came. Clauses see their list.
+/// Distinct entries in the order of their insertion. Clauses see the list of entries.
 pub struct Table<T: Eq + Hash> {
     entries: IndexSet<T>,
 }
@@ -30,7 +30,7 @@ impl<T: Eq + Hash> Model for Table<T> {
 }
 
 impl<T: Eq + Hash + Drop> Table<T> {
-    /// A table without entries. Takes no memory.
+    /// An empty table. Does not allocate.
     pub fn new(alloc: Global) -> Self
         ensures { result ≡ [] }
     {
@@ -39,7 +39,7 @@ impl<T: Eq + Hash + Drop> Table<T> {
         }
     }
 
-    /// How many entries there are.
+    /// The number of entries.
     pub fn len(&self) -> usize
         ensures { result ≡ length self.now }
     {
@@ -54,23 +54,22 @@ impl<T: Eq + Hash + Drop> Table<T> {
         self.entries.get_index(index)
     }
 
-    /// Whether there is an entry.
+    /// Whether an entry is in the table.
     pub fn has(&self, entry: &T) -> bool
         ensures { result ≡ list_any (T.eq entry.now) self.now }
     {
         self.entries.contains(entry)
     }
 
-    /// The index of an entry; of one that is not there, how many entries there are.
-    pub fn place_of(&self, entry: &T) -> usize
-        ensures { result ≡ position_or_len (T.eq entry.now) self.now }
+    /// The index of an entry, or `None` if it is not in the table.
+    pub fn place_of(&self, entry: &T) -> Option<usize>
+        ensures place { result ≡ position (T.eq entry.now) self.now }
+        ensures within { IfSome result (λ place. place < length self.now) }
     {
-        self.entries
-            .get_index_of(entry)
-            .unwrap_or(self.entries.len())
+        self.entries.get_index_of(entry)
     }
 
-    /// Puts a new entry last; one that is there stays where it is. An `Err` changes nothing.
+    /// Appends an entry, unless it is in the table already. An `Err` changes nothing.
     pub fn insert(&mut self, entry: T) -> Result<(), AllocFailed<T>>
         ensures entries { OnOk result (self.new ≡ insert_key T.eq self.old entry) }
         ensures unchanged { OnErr result (self.new ≡ self.old) }

@@ -8,7 +8,7 @@ use ifs_base::Text;
 use ifs_parse::{Name, Period};
 use std::alloc::AllocError;
 
-/// An external test: a command, and the period in which it is started.
+/// An external test: a command, and the period at which it is started.
 #[derive(Debug, PartialEq, Eq, Hash, Drop)]
 pub struct ExternalTest {
     pub command: Text,
@@ -28,12 +28,12 @@ pub fn test_of(command: &Name, period: Period) -> Result<ExternalTest, AllocErro
 /// The tables of a policy. Entries are numbered from 0.
 #[derive(Drop)]
 pub struct Tables {
-    /// The names of interfaces in the order of their first use, at most 64.
+    /// The names of interfaces, in the order of their first use, at most 64.
     pub interfaces: Table<Text>,
-    /// External tests in the order of their first use, at most 64.
+    /// External tests, in the order of their first use, at most 64.
     pub tests: Table<ExternalTest>,
-    /// The texts of commands in the order of their first use, at most 1,024.
+    /// The texts of commands, in the order of their first use, at most 1,024.
     pub commands: Table<Text>,
-    /// The names of states in the order of their definitions, from 1 to 256.
+    /// The names of states, in the order of their definitions, from 1 to 256.
     pub states: Table<Text>,
 }

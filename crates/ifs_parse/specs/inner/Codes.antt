@@ -2,7 +2,7 @@
 use Rattle.std.specs.Prelude.{◌≡◌, refl}
 use Rattle.std.specs.Coded.{Coded}
 use base.Stored.{Gv, gnil, gnum, gcons}
-use Rattle.ifs_parse.specs.Trees.{Condition, Leaf, NotSo, And, Or, Block, Done, RunThen, WantThen, IfThen}
+use Rattle.ifs_parse.specs.Trees.{Condition, Leaf, NotSo, And, Or, Block, Done, RunThen, SetStateThen, IfThen}
 
 module _ {L : Type 0} (leaf : Coded L) where
   abbrev pub code_condition : Condition L → Gv
@@ -25,13 +25,13 @@ module _ {L R S : Type 0} (leaf : Coded L) (command : Coded R) (state : Coded S)
   abbrev pub code_block : Block L R S → Gv
   code_block Done = gcons (gnum 0) gnil
   code_block (RunThen r rest) = gcons (gnum 1) (gcons (command.code r) (code_block rest))
-  code_block (WantThen s rest) = gcons (gnum 2) (gcons (state.code s) (code_block rest))
+  code_block (SetStateThen s rest) = gcons (gnum 2) (gcons (state.code s) (code_block rest))
   code_block (IfThen c inner rest) = gcons (gnum 3) (gcons (code_condition leaf c) (gcons (code_block inner) (code_block rest)))
 
   pub same_block : (a b : Block L R S) → code_block a ≡ code_block b → a ≡ b
   same_block Done Done p = refl
   same_block (RunThen r rest) (RunThen q more) p = let first = command.inj r q (cc) in let others = same_block rest more (cc) in cc
-  same_block (WantThen s rest) (WantThen t more) p = let first = state.inj s t (cc) in let others = same_block rest more (cc) in cc
+  same_block (SetStateThen s rest) (SetStateThen t more) p = let first = state.inj s t (cc) in let others = same_block rest more (cc) in cc
   same_block (IfThen c inner rest) (IfThen d within more) p =
       let test = same_condition leaf c d (cc) in let body = same_block inner within (cc) in let others = same_block rest more (cc) in cc
   same_block _ _ p = cc

@@ -1,4 +1,4 @@
--- What becomes of an entry of a table, and of a mention.
+-- The contracts of entering an entry and of noting mentions.
 use Rattle.std.specs.Prelude.{ℕ, ◌≡◌, ◌≢◌, ◌⊎◌, Bool, List, Result, MatchResult}
 use Rattle.indexmap.specs.IndexSet.{insert_key}
 use Rattle.ifs_base.specs.Sizes.{TextFits}
@@ -10,56 +10,56 @@ use Rattle.ifs_policy.specs.Mentions.{Mentioned}
 use Rattle.ifs_policy.specs.Tables.{after, names_after}
 use Rattle.ifs_policy.specs.Faults.{IsFull, IsSound, IsLowest, AreSound, FirstBroken, AreKnown, FirstUnknown}
 
--- It stands in its table, which had a place for it, and its string is fine.
+-- An entry is entered: its table has room, and its string is valid.
 pub record Entered {T : Type 0} (eq : T → T → Bool) (limit : ℕ) (entry : T) (name : Name) (old new : List T) : Type 0 where
   pub room : ¬ IsFull eq limit old entry
   pub fits : TextFits name.text
-  pub stands : new ≡ insert_key eq old entry
+  pub entered : new ≡ insert_key eq old entry
 
--- It found no place, or its string is not fine.
+-- An entry is not entered: its table is full, or its string is not valid.
 abbrev pub NotEntered : {T : Type 0} → (T → T → Bool) → ℕ → T → Name → List T → ResolveFault → Type 0
 NotEntered eq limit entry name table fault =
     ((fault ≡ TableFull name.span.line) × IsFull eq limit table entry)
     ⊎ ((fault ≡ BadText name.span.line) × (¬ IsFull eq limit table entry) × (¬ TextFits name.text))
 
--- One of both, unless memory ran out.
+-- An entry is entered or not, unless an allocation fails.
 abbrev pub Enters : {T : Type 0} → (T → T → Bool) → ℕ → T → Name → List T → Result (Unit {0}) ResolveFault → List T → Type 0
 Enters eq limit entry name old result new =
     MatchResult result (λ _. Entered eq limit entry name old new) (λ fault. fault ≢ Memory → NotEntered eq limit entry name old fault)
 
--- A mention that breaks no rule is noted; of one that does the lowest is told, unless memory ran out.
+-- A mention that breaks no rule is noted. Otherwise the fault is that of the lowest rule, unless an allocation fails.
 abbrev pub MentionNoted : Names → Mentioned → Result (Unit {0}) ResolveFault → Names → Type 0
 MentionNoted old mention result new =
     MatchResult result (λ _. IsSound old mention × (new ≡ after old mention)) (λ fault. fault ≢ Memory → IsLowest old mention fault)
 
--- Mentions that break no rule are noted in order; else the first fault is told, unless memory ran out.
+-- Mentions that break no rule are noted in order. Otherwise the fault is the first one, unless an allocation fails.
 abbrev pub AllNoted : Names → List Mentioned → Result (Unit {0}) ResolveFault → Names → Type 0
 AllNoted old mentions result new =
     MatchResult result (λ _. AreSound old mentions × (new ≡ names_after old mentions)) (λ fault. fault ≢ Memory → FirstBroken old mentions fault)
 
--- What is still to come of mentions decides for all of them.
+-- The remaining mentions decide for all of them.
 pub record Decides (names : Names) (rest : List Mentioned) (old : Names) (all : List Mentioned) : Type 0 where
   pub sound : AreSound names rest → AreSound old all
   pub filled : names_after names rest ≡ names_after old all
   pub broken : (fault : ResolveFault) → FirstBroken names rest fault → FirstBroken old all fault
 
--- Each state that is mentioned is known, or the first that is not is told.
+-- Each target is a defined state, or the fault has the line of the first that is not.
 abbrev pub StatesChecked : List (List ℕ) → List Mentioned → Result (Unit {0}) ResolveFault → Type 0
 StatesChecked states mentions result =
     MatchResult result (λ _. AreKnown states mentions) (λ fault. (line : ℕ) × (fault ≡ UnknownState line) × FirstUnknown states mentions line)
 
--- The same of the states alone.
+-- The remaining mentions decide for all of them, as to targets.
 pub record DecidesStates (states : List (List ℕ)) (rest all : List Mentioned) : Type 0 where
   pub known : AreKnown states rest → AreKnown states all
   pub unknown : (line : ℕ) → FirstUnknown states rest line → FirstUnknown states all line
 
--- The fault that stands first of a text's mentions.
+-- The first fault of a text's mentions.
 abbrev pub IsFirst : Names → List Mentioned → ResolveFault → Type 0
 IsFirst old mentions fault =
     FirstBroken old mentions fault
     ⊎ (AreSound old mentions × ((line : ℕ) × (fault ≡ UnknownState line) × FirstUnknown (names_after old mentions).tables.states mentions line))
 
--- The tables are those of mentions that break no rule and want known states; else the first fault is told, unless memory ran out.
+-- The tables are those of mentions that break no rule and whose targets are defined. Otherwise the fault is the first one, unless an allocation fails.
 abbrev pub Filled : Names → List Mentioned → Result (Unit {0}) ResolveFault → Names → Type 0
 Filled old mentions result new =
     MatchResult result

@@ -1,4 +1,4 @@
--- Tables whose places are numbers of 16 bits, and a statement of the code by places.
+-- Tables whose places are 16-bit numbers, statements with places, and borrowed parts.
 use Rattle.std.specs.Prelude.{◌≤◌, List, map, length}
 use Rattle.std.specs.Borrow.{Bor}
 use Rattle.ifs_base.specs.declared.ids.CommandId.{CommandId}
@@ -13,17 +13,19 @@ use Rattle.ifs_policy.specs.declared.policy.Single.{Single}
 use Rattle.ifs_policy.specs.declared.tables.Tables.{Tables}
 use Rattle.ifs_policy.specs.Resolution.{place_command, place_state, place_condition, place_block}
 
+-- The tables are not longer than their limits.
 pub record HasTableSizes (tables : Tables) : Type 0 where
   pub interfaces : length tables.interfaces ≤ 64
   pub tests : length tables.tests ≤ 64
   pub commands : length tables.commands ≤ 1024
   pub states : length tables.states ≤ 256
 
+-- A statement with places for names.
 abbrev pub place_statement : Tables → Statement Test Name Wish → Statement Single CommandId StateId
 place_statement tables (Run command) = Run (place_command tables command)
-place_statement tables (SetState wish) = SetState (place_state tables wish.state)
+place_statement tables (SetState target) = SetState (place_state tables target.state)
 place_statement tables (If condition block) = If (place_condition tables condition) (place_block tables block)
 
--- Parts that are lent, as the parts.
-abbrev pub lent : List (Bor Part) → List Part
-lent parts = map (λ part. part.now) parts
+-- Borrowed parts, as the parts.
+abbrev pub borrowed : List (Bor Part) → List Part
+borrowed parts = map (λ part. part.now) parts

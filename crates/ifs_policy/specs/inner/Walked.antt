@@ -1,4 +1,4 @@
--- What the walk over a text's items leaves, where it breaks no rule.
+-- The result of a walk over items that break no rule.
 use Rattle.std.specs.Prelude.{◌≡◌, List}
 use Rattle.ifs_parse.specs.declared.tree.Item.{Item}
 use Rattle.ifs_policy.specs.declared.names.Names.{Names}
@@ -8,6 +8,7 @@ use Rattle.ifs_policy.specs.Tables.{no_names, tables_of}
 use Rattle.ifs_policy.specs.Faults.{AreSound, AreKnown}
 use Rattle.ifs_policy.specs.Resolution.{always_of, initial_of, place_part, place_states}
 
+-- The items break no rule, the tables are those of their mentions, and the blocks have the places in these tables.
 pub record Walked (items : List Item) (placed : PolicyTrees) (names : Names) : Type 0 where
   pub sound : AreSound no_names (mentions_of items)
   pub known : AreKnown (tables_of (mentions_of items)).states (mentions_of items)

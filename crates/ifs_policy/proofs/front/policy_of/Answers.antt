@@ -1,7 +1,8 @@
--- What each step refuses, said of the text.
+-- A text is rejected by one of the steps.
 use Rattle.std.proofs.Common.{List, sym, subst, ap, ◌∙◌, Err}
 use Rattle.ifs_lex.specs.declared.token.Token.{Token}
 use Rattle.ifs_parse.specs.Grammar.{Says, StopsAt}
+use Rattle.ifs_policy.specs.Texts.{of_text}
 use Rattle.ifs_policy.proofs.Unresolved as texts
 use Rattle.ifs_policy.proofs.front.policy_of.Goals as goal
 use Rattle.ifs_lex.specs.Expansion.{defined_by}
@@ -28,13 +29,13 @@ returns-clause-refused c =
     c.in-Err-resolve.ensures.none)
 
 pub returns-in-Err-clause-at_once : goal.returns-in-Err-clause-at_once
-returns-in-Err-clause-at_once c = λ fault h. ap (λ f. Err f) (c.from.ensures ∙ texts.same_refusal c.in-Err.fault fault (c.in-Err.ensures.at_once fault h))
+returns-in-Err-clause-at_once c = λ fault h. ap (λ f. Err f) (c.from.ensures ∙ texts.same_error of_text c.in-Err.fault fault (c.in-Err.ensures.at_once fault h))
 
 pub returns-in-Err-parse-clause-at_once : goal.returns-in-Err-parse-clause-at_once
-returns-in-Err-parse-clause-at_once c = λ fault h. texts.not_certain c.in-Ok.tokens fault (c.in-Ok.ensures.at_once fault h)
+returns-in-Err-parse-clause-at_once c = λ fault h. texts.not_error c.in-Ok.tokens fault (c.in-Ok.ensures.at_once fault h)
 
 pub returns-in-Ok-resolve-clause-at_once : goal.returns-in-Ok-resolve-clause-at_once
-returns-in-Ok-resolve-clause-at_once c = λ fault h. texts.not_certain c.in-Ok.tokens fault (c.in-Ok.ensures.at_once fault h)
+returns-in-Ok-resolve-clause-at_once c = λ fault h. texts.not_error c.in-Ok.tokens fault (c.in-Ok.ensures.at_once fault h)
 
 pub returns-clause-at_once : goal.returns-clause-at_once
-returns-clause-at_once c = λ fault h. texts.not_certain c.in-Ok.tokens fault (c.in-Ok.ensures.at_once fault h)
+returns-clause-at_once c = λ fault h. texts.not_error c.in-Ok.tokens fault (c.in-Ok.ensures.at_once fault h)

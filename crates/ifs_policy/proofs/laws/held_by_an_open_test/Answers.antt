@@ -1,4 +1,4 @@
-use Rattle.ifs_policy.proofs.Stands.{held_exactly, held_yields, free_yields}
+use Rattle.ifs_policy.proofs.MentionedTests.{held_exactly, held_yields, free_yields}
 use Rattle.ifs_policy.proofs.laws.held_by_an_open_test.Goals as goal
 
 pub returns : goal.returns

@@ -1,4 +1,4 @@
--- The statements' mentions are those of the block.
+-- The mentions in the statements are those in the block.
 use Rattle.std.proofs.Common.{ap, ◌∙◌, arith}
 use Rattle.std.proofs.lemmas.Grind.{common_steps}
 use Rattle.ifs_policy.specs.Mentions.{block_mentions}

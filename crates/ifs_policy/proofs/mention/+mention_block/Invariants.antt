@@ -1,4 +1,4 @@
--- The statements so far have told their mentions.
+-- The mentions in the statements so far.
 use Rattle.std.proofs.Common.{◌≡◌, ◌++◌, map, take}
 use Rattle.std.specs.List.{flat_map}
 use Rattle.ifs_policy.specs.Mentions.{statement_mentions}

@@ -1,4 +1,4 @@
--- The parts so far have told their mentions.
+-- The mentions in the parts so far.
 use Rattle.std.proofs.Common.{◌≡◌, ◌++◌, map, take}
 use Rattle.std.specs.List.{flat_map}
 use Rattle.ifs_policy.specs.Mentions.{part_mentions}

@@ -1,4 +1,4 @@
--- No `init-state` stands in the items so far.
+-- There is no `init-state` in the items so far.
 use Rattle.std.proofs.Common.{◌≡◌, drop}
 use Rattle.ifs_policy.specs.Resolution.{initial_of}
 use Rattle.ifs_policy.proofs.placing.initial_of.Given as goal

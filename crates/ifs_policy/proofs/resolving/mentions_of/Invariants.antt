@@ -1,4 +1,4 @@
--- The items so far have told their mentions.
+-- The mentions in the items so far.
 use Rattle.std.proofs.Common.{◌≡◌, map, take}
 use Rattle.ifs_policy.specs.Mentions.{mentions_of}
 use Rattle.ifs_policy.specs.inner.Seen.{seen}

@@ -1,13 +1,12 @@
--- What the walk answers, said of the tree.
-use Rattle.std.proofs.Common.{◌≢◌, List, ap, sym, subst, ◌∙◌}
+-- The walk over the items has the result of the tree.
+use Rattle.std.proofs.Common.{List, ap, sym, subst, ◌∙◌}
 use Rattle.std.proofs.lemmas.Result.{err_from_is_err_and}
 use Rattle.std.specs.List.{list_any}
-use Rattle.ifs_policy.specs.declared.fault.ResolveFault.TheVariants.{Memory}
-use Rattle.ifs_policy.specs.Faults.{IsTreeRefused, is_state, no_state}
+use Rattle.ifs_policy.specs.Faults.{is_state, no_state}
 use Rattle.ifs_parse.specs.declared.tree.Item.{Item}
 use Rattle.ifs_policy.specs.inner.Walked.{Walked}
 use Rattle.ifs_policy.proofs.Fitting.{resolved_fits}
-use Rattle.ifs_policy.proofs.Refusals.{refused_has_none, told_is_refused, resolved}
+use Rattle.ifs_policy.proofs.Refusals.{refused_has_none, walk_refuses, resolved}
 use Rattle.ifs_policy.proofs.resolving.resolve.Goals as goal
 
 pub returns-then-not-has_state-clause-refused : goal.returns-then-not-has_state-clause-refused
@@ -15,21 +14,14 @@ returns-then-not-has_state-clause-refused c = λ other. no_state (ap (list_any i
 
 pub returns-in_err-initial-clause-refused : goal.returns-in_err-initial-clause-refused
 returns-in_err-initial-clause-refused c =
-    let items = c.args.tree.now.items in
-    let fault = c.in_err-initial.field-0.0 in
     let p = err_from_is_err_and c.from_residual.result c.from_residual.ensures.1 in
-    rw p.1 (λ other.
-    let first = c.in_err-initial.ensures.refused (subst (λ f. f ≢ Memory) p.2 other) in
-    subst (IsTreeRefused items) (sym p.2) (told_is_refused items _ fault c.items-items.ensures.items (sym c.if-not-has_state.ensures) first))
+    rw p.1 (walk_refuses c.args.tree.now.items _ _ c.in_err-initial.field-0.0 p.2 c.items-items.ensures.items (sym c.if-not-has_state.ensures) c.in_err-initial.ensures.refused)
 
 pub returns-in_err-initial-clause-none : goal.returns-in_err-initial-clause-none
 returns-in_err-initial-clause-none c =
-    let items = c.args.tree.now.items in
-    let fault = c.in_err-initial.field-0.0 in
     let p = err_from_is_err_and c.from_residual.result c.from_residual.ensures.1 in
-    rw p.1 (λ other.
-    let first = c.in_err-initial.ensures.refused (subst (λ f. f ≢ Memory) p.2 other) in
-    refused_has_none items fault (told_is_refused items _ fault c.items-items.ensures.items (sym c.if-not-has_state.ensures) first))
+    rw p.1 (λ other. refused_has_none c.args.tree.now.items _
+    (walk_refuses c.args.tree.now.items _ _ c.in_err-initial.field-0.0 p.2 c.items-items.ensures.items (sym c.if-not-has_state.ensures) c.in_err-initial.ensures.refused other))
 
 pub new-requires : goal.new-requires
 new-requires c =

@@ -1,4 +1,4 @@
--- What filling and placing answer, said of the items.
+-- The tables and the places are those of the items.
 use Rattle.std.proofs.Common.{◌≡◌, ◌≢◌, List, map, ap, sym, subst, ◌∙◌}
 use Rattle.std.proofs.lemmas.Result.{err_from_is_err_and}
 use Rattle.ifs_policy.specs.declared.fault.ResolveFault.TheVariants.{Memory}

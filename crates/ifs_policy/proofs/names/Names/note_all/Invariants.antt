@@ -1,4 +1,4 @@
--- The mentions that are left decide for all.
+-- The remaining mentions decide for all.
 use Rattle.std.proofs.Common.{map, drop}
 use Rattle.ifs_policy.specs.inner.Entries.{Decides}
 use Rattle.ifs_policy.specs.inner.Seen.{seen}

@@ -1,4 +1,4 @@
--- The tests that are found in a tree are those that it mentions, and one of them without a value holds a body back.
+-- The listed tests of a tree are those that it mentions, and a body is held back exactly if one of them has no value.
 use Rattle.std.proofs.Common.{◌≡◌, ◌↔◌, inl, inr, Bool, true, false, true≢false, []}
 use Rattle.std.proofs.Common.{◌∷◌, ◌++◌, Contains, refl, sym, ap, subst, ◌∙◌, arith}
 use Rattle.std.specs.Prelude.{if◌then◌else◌, IsTrue}
@@ -8,10 +8,10 @@ use Rattle.std.proofs.lemmas.List.Folds.{Any-from_list_any, list_any_at}
 use Rattle.ifs_base.specs.Facts.{Facts}
 use Rattle.ifs_base.specs.Effects.{Effects, nothing_yet}
 use Rattle.ifs_base.specs.declared.ids.TestId.{TestId}
-use Rattle.ifs_parse.specs.Trees.{Leaf, NotSo, And, Or, Done, RunThen, WantThen, IfThen}
+use Rattle.ifs_parse.specs.Trees.{Leaf, NotSo, And, Or, Done, RunThen, SetStateThen, IfThen}
 use Rattle.ifs_policy.specs.declared.policy.Single.TheVariants.{LinkIs, TestIs}
-use Rattle.ifs_policy.specs.Meaning.{Condition, Block, StandsIn, itself, negated, left_of_and, right_of_and, left_of_or}
-use Rattle.ifs_policy.specs.Meaning.{right_of_or, Mentions, asked, inside, behind_if, behind_run, behind_wish}
+use Rattle.ifs_policy.specs.Meaning.{Condition, Block, OccursIn, itself, negated, left_of_and, right_of_and, left_of_or}
+use Rattle.ifs_policy.specs.Meaning.{right_of_or, Mentions, asked, inside, behind_if, behind_run, behind_set_state}
 use Rattle.ifs_policy.specs.Meaning.{mentioned_in, mentioned, reached, is_open, IsHeld, is_held, body_yield}
 
 none_there : {X : Type 0} (x : X) → Contains [] x → ⊥
@@ -20,23 +20,23 @@ none_there x h = let below = h.1 in omega (arith, below)
 alone : {X : Type 0} (y x : X) → Contains (y ∷ []) x → y ≡ x
 alone y x h = elim (Contains-push_cases [] y x h) [ inl before ↦ absurd (none_there x before) | inr here ↦ here ]
 
--- In a condition.
-stands : (test : TestId) (condition : Condition) → Contains (mentioned_in condition) test → StandsIn test condition
-stands test (Leaf (LinkIs interface state)) h = absurd (none_there test h)
-stands test (Leaf (TestIs other)) h = subst (λ t. StandsIn test (Leaf (TestIs t))) (sym (alone other test h)) itself
-stands test (NotSo operand) h = negated operand (stands test operand h)
-stands test (And left right) h =
+-- The tests in a condition.
+occurs : (test : TestId) (condition : Condition) → Contains (mentioned_in condition) test → OccursIn test condition
+occurs test (Leaf (LinkIs interface state)) h = absurd (none_there test h)
+occurs test (Leaf (TestIs other)) h = subst (λ t. OccursIn test (Leaf (TestIs t))) (sym (alone other test h)) itself
+occurs test (NotSo operand) h = negated operand (occurs test operand h)
+occurs test (And left right) h =
     elim (Contains-append_cases (mentioned_in left) (mentioned_in right) test h) [
-      | inl here ↦ left_of_and left right (stands test left here)
-      | inr there ↦ right_of_and left right (stands test right there)
+      | inl here ↦ left_of_and left right (occurs test left here)
+      | inr there ↦ right_of_and left right (occurs test right there)
     ]
-stands test (Or left right) h =
+occurs test (Or left right) h =
     elim (Contains-append_cases (mentioned_in left) (mentioned_in right) test h) [
-      | inl here ↦ left_of_or left right (stands test left here)
-      | inr there ↦ right_of_or left right (stands test right there)
+      | inl here ↦ left_of_or left right (occurs test left here)
+      | inr there ↦ right_of_or left right (occurs test right there)
     ]
 
-found_in : (test : TestId) (condition : Condition) → StandsIn test condition → Contains (mentioned_in condition) test
+found_in : (test : TestId) (condition : Condition) → OccursIn test condition → Contains (mentioned_in condition) test
 found_in test _ itself = (0, omega arith, refl)
 found_in test _ (negated operand h) = found_in test operand h
 found_in test _ (left_of_and left right h) = Contains-append_left (mentioned_in left) (mentioned_in right) test (found_in test left h)
@@ -44,18 +44,18 @@ found_in test _ (right_of_and left right h) = Contains-append_right (mentioned_i
 found_in test _ (left_of_or left right h) = Contains-append_left (mentioned_in left) (mentioned_in right) test (found_in test left h)
 found_in test _ (right_of_or left right h) = Contains-append_right (mentioned_in left) (mentioned_in right) test (found_in test right h)
 
--- In a block.
-mentions : (test : TestId) (block : Block) → Contains (mentioned block) test → Mentions test block
-mentions test Done h = absurd (none_there test h)
-mentions test (RunThen command rest) h = behind_run command rest (mentions test rest h)
-mentions test (WantThen state rest) h = behind_wish state rest (mentions test rest h)
-mentions test (IfThen condition inner rest) h =
+-- The tests in a block.
+mentions_in : (test : TestId) (block : Block) → Contains (mentioned block) test → Mentions test block
+mentions_in test Done h = absurd (none_there test h)
+mentions_in test (RunThen command rest) h = behind_run command rest (mentions_in test rest h)
+mentions_in test (SetStateThen state rest) h = behind_set_state state rest (mentions_in test rest h)
+mentions_in test (IfThen condition inner rest) h =
     elim (Contains-append_cases (mentioned_in condition) (mentioned inner ++ mentioned rest) test h) [
-      | inl here ↦ asked condition inner rest (stands test condition here)
+      | inl here ↦ asked condition inner rest (occurs test condition here)
       | inr there ↦
           elim (Contains-append_cases (mentioned inner) (mentioned rest) test there) [
-            | inl under ↦ inside condition inner rest (mentions test inner under)
-            | inr later ↦ behind_if condition inner rest (mentions test rest later)
+            | inl under ↦ inside condition inner rest (mentions_in test inner under)
+            | inr later ↦ behind_if condition inner rest (mentions_in test rest later)
           ]
     ]
 
@@ -66,16 +66,16 @@ found test _ (inside condition inner rest h) =
 found test _ (behind_if condition inner rest h) =
     Contains-append_right (mentioned_in condition) (mentioned inner ++ mentioned rest) test (Contains-append_right (mentioned inner) (mentioned rest) test (found test rest h))
 found test _ (behind_run command rest h) = found test rest h
-found test _ (behind_wish state rest h) = found test rest h
+found test _ (behind_set_state state rest h) = found test rest h
 
 pub mentioned_are_mentions : (block : Block) (test : TestId) → Contains (mentioned block) test ↔ Mentions test block
-mentioned_are_mentions block test = (mentions test block, found test block)
+mentioned_are_mentions block test = (mentions_in test block, found test block)
 
--- What holds a body back.
+-- A body is held back.
 pub held_exactly : (facts : Facts) (body : Block) → IsTrue (is_held facts body) ↔ IsHeld facts body
 held_exactly facts body = (
-  (λ h. let a = Any-from_list_any (is_open facts) (mentioned body) h in record { test = a.1; stands = mentions a.1 body (a.0, a.2, a.3); no_value = a.4 }),
-  (λ h. let c = found h.test body h.stands in list_any_at (is_open facts) (mentioned body) c.0 h.test c.1 (ap (is_open facts) c.2 ∙ h.no_value)),
+  (λ h. let a = Any-from_list_any (is_open facts) (mentioned body) h in record { test = a.1; mentions = mentions_in a.1 body (a.0, a.2, a.3); no_value = a.4 }),
+  (λ h. let c = found h.test body h.mentions in list_any_at (is_open facts) (mentioned body) c.0 h.test c.1 (ap (is_open facts) c.2 ∙ h.no_value)),
 )
 
 yield_by : (b : Bool) (more : Effects) → b ≡ true → (if b then nothing_yet else more) ≡ nothing_yet
