@@ -1,4 +1,4 @@
--- The image of a policy is accepted.
+-- The verifier accepts the image of a policy.
 use Rattle.std.proofs.Common.{◌≡◌, ℕ, suc, ◌+◌, ◌-◌, ◌*◌, ◌^◌, ◌<◌, ◌≤◌, ⊎_elim, List, [], ◌∷◌, ◌++◌, length, map}
 use Rattle.std.proofs.Common.{Option, Some, None, refl, sym, ap, ◌∙◌, subst, arith, length-append}
 use Rattle.std.specs.Prelude.{slice_get, All}
@@ -18,16 +18,15 @@ use Rattle.ifs_image.specs.Code.{code_in, code_of, op_at, params_in, params_of, 
 use Rattle.ifs_verify.specs.Rules.{AreRoutines, IsMask, IndexesFit, BothStandAlone, HandlersStandAlone}
 use Rattle.ifs_verify.specs.Bounds.{cost_of, commands_of, FitsHandlers}
 use Rattle.ifs_verify.specs.Accepted.{IsAccepted}
-use Rattle.ifs_parse.specs.Trees.{condition_size}
-use Rattle.ifs_gen.specs.Trees.{Condition, Block, Done, RunThen, WantThen, IfThen, Part, Policy}
+use Rattle.ifs_gen.specs.Trees.{Part, Policy}
 use Rattle.ifs_policy.specs.Meaning.{mentioned}
-use Rattle.ifs_gen.specs.PlainCode.{Coder, plain_coder, condition_code, code_size, body_code, init_code, block_runs}
-use Rattle.ifs_gen.specs.PlainCode.{block_limit, body_limit, init_limit}
+use Rattle.ifs_gen.specs.PlainCode.{Coder, body_code, init_code, block_runs}
+use Rattle.ifs_gen.specs.PlainCode.{body_limit, init_limit}
 use Rattle.ifs_gen.specs.PlainSizes.{test_count, parts_of, mask_of_part, greatest, room_of, part_height}
 use Rattle.ifs_gen.specs.PlainSizes.{PartCodeFits, CodeFits}
 use Rattle.ifs_gen.specs.PolicyImage.{shared_of, handlers_of, routine_of_code, shared_routine, routines_of}
 use Rattle.ifs_gen.specs.PolicyImage.{image_with, least_budgets, image_of}
-use Rattle.ifs_gen.specs.Sharing.{conditions_in, place_in, cost_in_place, frames_for, shared_coder}
+use Rattle.ifs_gen.specs.Sharing.{conditions_in, frames_for, shared_coder}
 use Rattle.ifs_policy.specs.Fits.{PolicyFits}
 use Rattle.ifs_policy.specs.Fits as fits
 use Rattle.ifs_policy.specs.Fits.{Sizes, HandlersFit}
@@ -35,8 +34,8 @@ use Rattle.ifs_gen.specs.Runs.{image_sizes}
 use Rattle.ifs_gen.proofs.Rows.{entry_at}
 use Rattle.ifs_gen.proofs.Called.{frames_some, frames_few, frames_two}
 use Rattle.ifs_gen.proofs.Fine.{Callees}
-use Rattle.ifs_gen.proofs.Among.{each_both, each_weaker, each_shared}
-use Rattle.ifs_gen.proofs.Shrinks.{size_some}
+use Rattle.ifs_gen.proofs.Among.{each_at, each_both, each_weaker, each_shared}
+use Rattle.ifs_gen.proofs.EventCosts.{limit_low}
 use Rattle.ifs_gen.proofs.StackHeights.{tall, IsConditionCode, all_conditions, IsShort, all_short, IsLow, all_tall}
 use Rattle.ifs_gen.proofs.CalledTypes.{MayBeCalled}
 use Rattle.ifs_gen.proofs.GoodRoutines.{EachGood, AreCallees, kinds_in, heights_in, amount, with_callee, operands, jumps}
@@ -46,14 +45,14 @@ use Rattle.ifs_gen.proofs.Images.{routines_long, states_long, state_at, part_at,
 use Rattle.ifs_gen.proofs.Images.{has_shared, behind}
 use Rattle.ifs_gen.proofs.Goods.{good_append, heights_left, heights_right, each_shared_good, shared_height, shared_low}
 use Rattle.ifs_gen.proofs.Goods.{shared_quiet, each_good, heights_within}
-use Rattle.ifs_gen.proofs.Reach.{each_at, Weighs, Below, routines_within, parts_below, fits_events}
+use Rattle.ifs_gen.proofs.Reach.{Weighs, Below, routines_within, parts_below, fits_events}
 
--- The height of a shared code.
+-- The stack height of a shared code.
 abbrev tall_in : Option (List Op) → ℕ
 tall_in None = 0
 tall_in (Some code) = tall code
 
--- What the handlers of a policy may call.
+-- The routines that the handlers of a policy may call.
 abbrev pub callees_of : Policy → Callees
 callees_of policy = record { count = length (shared_of policy); height = λ k. tall_in (slice_get (shared_of policy) k) }
 
@@ -109,7 +108,7 @@ module _ (back : IsReadBack) (policy : Policy) (is : PolicyFits policy) (budgets
   abbrev pub good : EachGood image (callees_of policy) image.routines
   good = good_append image (callees_of policy) (map shared_routine table) (routines_of coder count (parts_of policy)) shared_good parts_good
 
-  -- shared routines take nothing and call nothing, and are as high as is told
+  -- Shared routines have no parameters and no calls, and have the stated heights.
   first_high : (routine : ℕ) → routine < shared → heights_in image (callees_of policy) image.routines good routine ≡ tall_in (slice_get table routine)
   first_high routine lt =
       let there = entry_at table routine lt in
@@ -159,7 +158,7 @@ module _ (back : IsReadBack) (policy : Policy) (is : PolicyFits policy) (budgets
     operands = operands image (callees_of policy) good;
   }
 
-  -- the handlers of a part take nothing and leave nothing
+  -- The handlers of a part have no parameters and no results.
   part_leaves : (k : ℕ) (part : Part) → slice_get (parts_of policy) k ≡ Some part → BothStandAlone image (handlers_of shared count k part)
   part_leaves k part e =
       let init = init_there k part e in
@@ -174,7 +173,7 @@ module _ (back : IsReadBack) (policy : Policy) (is : PolicyFits policy) (budgets
         subst (λ (x : StateSpec). BothStandAlone image x.handlers) (sym s.is) (part_leaves (1 + k) s.part (part_at policy k s.part s.at));
   }
 
-  -- What inits and bodies come to at most.
+  -- The greatest costs of inits and bodies.
   abbrev pub init_most : Part → ℕ
   init_most part = init_limit coder part.init
 
@@ -192,22 +191,6 @@ module _ (back : IsReadBack) (policy : Policy) (is : PolicyFits policy) (budgets
     init_is = λ part. init_runs image table (has_shared policy budgets) back part.init;
     body_is = λ part. body_runs image table (has_shared policy budgets) back count part.body;
   }
-
--- no code costs more than three times its plain size
-module _ (table : List (List Op)) where
-  condition_costs : (c : Condition) (o : Option ℕ) → cost_in_place (condition_size c) o ≤ 3 * condition_size c
-  condition_costs c None = omega arith
-  condition_costs c (Some k) = let some = size_some c in omega (arith, some)
-
-  pub limit_low : (block : Block) → block_limit (shared_coder table) block ≤ 3 * code_size plain_coder block
-  limit_low Done = omega arith
-  limit_low (RunThen n rest) = let h = limit_low rest in omega (arith, h)
-  limit_low (WantThen n rest) = let h = limit_low rest in omega (arith, h)
-  limit_low (IfThen c inner rest) =
-      let here = condition_costs c (place_in table (condition_code c)) in
-      let h = limit_low inner in
-      let g = limit_low rest in
-      omega (arith, here, h, g)
 
 module _ (back : IsReadBack) (policy : Policy) (is : PolicyFits policy) (code : CodeFits policy) where
   abbrev stated : Budgets
@@ -228,7 +211,7 @@ module _ (back : IsReadBack) (policy : Policy) (is : PolicyFits policy) (code : 
   all_first : AreCallees whole called all_good
   all_first = first back policy is stated
 
-  -- what all routines stay below, handlers do
+  -- A bound of all routines is one of handlers.
   handlers_below : (reach : ℕ → ℕ) (b : ℕ) → ((routine : ℕ) → reach routine ≤ b) → FitsHandlers whole reach b
   handlers_below reach b h = record {
     always_init = h whole.always.init.0;
@@ -280,7 +263,7 @@ module _ (back : IsReadBack) (policy : Policy) (is : PolicyFits policy) (code : 
       let body_low = limit_low (shared_of policy) part.body in
       record { init_below = omega (arith, init, init_low); body_below = omega (arith, body, body_low) }) (parts_of policy) code.each
 
-  -- shared routines cost as much as they have instructions, and queue nothing
+  -- The cost of a shared routine is its number of instructions, and it queues nothing.
   shared_cheap : AllByRecursion (λ code. amount (with_callee cost_of whole) (code ++ Ret ∷ []) 0 ≤ 100000) (shared_of policy)
   shared_cheap =
       each_weaker (λ code. IsConditionCode (image_sizes whole) code × IsShort 1023 code) (λ code. amount (with_callee cost_of whole) (code ++ Ret ∷ []) 0 ≤ 100000)

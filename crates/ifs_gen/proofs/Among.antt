@@ -1,6 +1,7 @@
--- What the shared codes of a list are: each qualifies, none stands twice, and what holds of all holds of them.
-use Rattle.std.proofs.Common.{◌≡◌, ℕ, zero, suc, Bool, true, false, not, cond, List, [], ◌∷◌, take, refl, sym}
-use Rattle.std.specs.Prelude.{filter}
+-- The shared codes of a list: each qualifies, they are distinct, and properties of all codes hold of them.
+use Rattle.std.proofs.Common.{◌≡◌, ℕ, zero, suc, Bool, true, false, not, cond, List, [], ◌∷◌, take, Some, refl, sym, subst}
+use Rattle.std.specs.Prelude.{filter, slice_get}
+use Rattle.std.proofs.lemmas.Option.{none-some, same_Some}
 use Rattle.std.specs.List.{AllByRecursion}
 use Rattle.ifs_base.specs.declared.op.Op.{Op}
 use Rattle.ifs_gen.specs.Sharing.{same_code, is_shared, firsts, most_shared, shared_among}
@@ -11,7 +12,7 @@ module _ {T : Type 0} where
   filtered P true x xs here rest = (here, rest)
   filtered P false x xs here rest = rest
 
-  -- what holds of all holds of those that are kept
+  -- A property of all members holds of the filtered ones.
   pub each_filter : (P : T → Type 0) (test : T → Bool) (xs : List T) → AllByRecursion P xs → AllByRecursion P (filter test xs)
   each_filter P test [] all = tt
   each_filter P test (x ∷ xs) all = filtered P (test x) x (filter test xs) all.0 (each_filter P test xs all.1)
@@ -21,7 +22,13 @@ module _ {T : Type 0} where
   each_take P (suc n) [] all = tt
   each_take P (suc n) (x ∷ xs) all = (all.0, each_take P n xs all.1)
 
-  -- properties together, and a weaker one
+  -- A property of all members holds of the one at an index.
+  pub each_at : (P : T → Type 0) (xs : List T) (k : ℕ) (x : T) → AllByRecursion P xs → slice_get xs k ≡ Some x → P x
+  each_at P [] k x all e = absurd (none-some x e)
+  each_at P (y ∷ xs) zero x all e = subst P (same_Some y x e) all.0
+  each_at P (y ∷ xs) (suc k) x all e = each_at P xs k x all.1 e
+
+  -- Two properties together, and a weaker one.
   pub each_both : (P Q : T → Type 0) (xs : List T) → AllByRecursion P xs → AllByRecursion Q xs → AllByRecursion (λ x. P x × Q x) xs
   each_both P Q [] one two = tt
   each_both P Q (x ∷ xs) one two = ((one.0, two.0), each_both P Q xs one.1 two.1)
@@ -34,7 +41,7 @@ module _ {T : Type 0} where
   passed test true x xs here rest = (here, rest)
   passed test false x xs here rest = rest
 
-  -- what is kept of a list has passed
+  -- The filtered members pass the test.
   pub filter_passes : (test : T → Bool) (xs : List T) → AllByRecursion (λ y. test y ≡ true) (filter test xs)
   filter_passes test [] = tt
   filter_passes test (x ∷ xs) = passed test (test x) x (filter test xs) refl (filter_passes test xs)
@@ -43,7 +50,7 @@ module _ {T : Type 0} where
   apart e true x xs here rest = (here, rest)
   apart e false x xs here rest = rest
 
-  -- no two of those that are kept are alike
+  -- Filtered members stay distinct.
   pub distinct_filter : (e : T → T → Bool) (test : T → Bool) (xs : List T) → AreApart e xs → AreApart e (filter test xs)
   distinct_filter e test [] all = tt
   distinct_filter e test (x ∷ xs) all = apart e (test x) x (filter test xs) (each_filter (λ y. e x y ≡ false) test xs all.0) (distinct_filter e test xs all.1)
@@ -70,14 +77,14 @@ firsts_distinct (code ∷ codes) =
       distinct_filter same_code others (firsts codes) (firsts_distinct codes),
     )
 
--- what holds of all codes holds of the shared ones
+-- A property of all codes holds of the shared ones.
 pub each_shared : (P : List Op → Type 0) (all : List (List Op)) → AllByRecursion P all → AllByRecursion P (shared_among all)
 each_shared P all holds = each_take P most_shared (filter (is_shared all) (firsts all)) (each_filter P (is_shared all) (firsts all) (each_first P all holds))
 
--- each of these qualifies
+-- Each shared code qualifies.
 pub shared_qualify : (all : List (List Op)) → AllByRecursion (λ code. is_shared all code ≡ true) (shared_among all)
 shared_qualify all = each_take (λ code. is_shared all code ≡ true) most_shared (filter (is_shared all) (firsts all)) (filter_passes (is_shared all) (firsts all))
 
--- and none stands twice
+-- The shared codes are distinct.
 pub shared_distinct : (all : List (List Op)) → AreApart same_code (shared_among all)
 shared_distinct all = distinct_take same_code most_shared (filter (is_shared all) (firsts all)) (distinct_filter same_code (is_shared all) (firsts all) (firsts_distinct all))

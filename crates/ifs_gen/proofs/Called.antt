@@ -1,4 +1,4 @@
--- Code that calls shared conditions computes their truth: call, code and `ret` lead past the call.
+-- Code that calls shared conditions computes their truth: the call, the code and the `ret` run past the call.
 use Rattle.std.proofs.Common.{◌≡◌, ℕ, zero, suc, ◌+◌, ◌≤◌, Bool, true, false, List, [], ◌∷◌, ◌++◌}
 use Rattle.std.proofs.Common.{length, Option, Some, None, refl, sym, ap, ◌∙◌, subst, arith, option_map}
 use Rattle.std.specs.Prelude.{slice_get, if◌then◌else◌}
@@ -25,7 +25,7 @@ use Rattle.ifs_gen.proofs.Rows.{unless_fits, has_all, has_left, has_right, after
 use Rattle.ifs_gen.proofs.Simulation.{condition_sized, condition_high, condition_leads}
 use Rattle.ifs_gen.proofs.CodeKeys.{code_decides}
 
--- a code stands at its number
+-- The number of a code is the index of the code.
 placed_if : IsReadBack → (b : Bool) (entry : List Op) (table : List (List Op)) (code : List Op) (o : Option ℕ) (k : ℕ) → same_code code entry ≡ b
     → ((j : ℕ) → o ≡ Some j → slice_get table j ≡ Some code) → (if b then Some zero else option_map suc o) ≡ Some k → slice_get (entry ∷ table) k ≡ Some code
 placed_if back true entry table code o k same rest e =
@@ -34,12 +34,12 @@ placed_if back false entry table code None k same rest e = absurd (none-some k e
 placed_if back false entry table code (Some j) k same rest e =
     subst (λ n. slice_get (entry ∷ table) n ≡ Some code) (same_Some (suc j) k e) (rest j refl)
 
--- so does the code of each number
+-- The code at a number is the code.
 pub placed : IsReadBack → (table : List (List Op)) (code : List Op) (k : ℕ) → place_in table code ≡ Some k → slice_get table k ≡ Some code
 placed back [] code k e = absurd (none-some k e)
 placed back (entry ∷ table) code k e = placed_if back (same_code code entry) entry table code (place_in table code) k refl (placed back table code) e
 
--- a call has size 1, and plain code its own
+-- The size of a call is 1, and that of plain code its own.
 pub coder_sized : (table : List (List Op)) (c : Condition) → length ((shared_coder table).code c) ≡ (shared_coder table).size c
 coder_sized table c = sized_in (place_in table (condition_code c))
   where
@@ -47,7 +47,7 @@ coder_sized table c = sized_in (place_in table (condition_code c))
     sized_in None = condition_sized c
     sized_in (Some k) = refl
 
--- one frame is counted at least, and no more than the limit
+-- At least one frame is needed, and no more than the limit.
 pub frames_some : (table : List (List Op)) → 1 ≤ frames_for table
 frames_some [] = omega arith
 frames_some (code ∷ table) = omega arith
@@ -56,7 +56,7 @@ pub frames_few : (table : List (List Op)) → frames_for table ≤ 32
 frames_few [] = omega arith
 frames_few (code ∷ table) = omega arith
 
--- where something stands in a table, two frames are counted
+-- If a table has an entry, two frames are needed.
 pub frames_two : (table : List (List Op)) (k : ℕ) (code : List Op) → slice_get table k ≡ Some code → 2 ≤ frames_for table
 frames_two [] k code e = absurd (none-some code e)
 frames_two (entry ∷ table) k code e = omega arith

@@ -1,4 +1,4 @@
--- Code that calls shared conditions has kinds with which it is fine.
+-- Code that calls shared conditions is fine with certain kinds.
 use Rattle.std.proofs.Common.{◌≡◌, ℕ, ◌+◌, ◌≤◌, List, [], ◌∷◌, ◌++◌, length, Option, Some, None, refl, ap, ◌∙◌, arith}
 use Rattle.std.specs.Prelude.{slice_get}
 use Rattle.std.specs.Option.{option_map}
@@ -30,7 +30,7 @@ pub record MayBeCalled (callees : Callees) (table : List (List Op)) : Type 0 whe
   pub count : length table ≤ callees.count
   pub heights : (k : ℕ) (code : List Op) → slice_get table k ≡ Some code → callees.height k ≡ tall code
 
--- the callee of a call
+-- The callee of a call.
 callee_is : (k : ℕ) (callee : RoutineId) → (let op : Op = Call (record { 0 = k }) in op ≡ Call callee) → k ≡ callee.0
 callee_is k callee e = ap number e
   where
@@ -38,7 +38,7 @@ callee_is k callee e = ap number e
     number (Call n) = n.0
     number op = k
 
--- The kinds at each place of a condition that is called or plain, on an empty stack.
+-- The kinds at each place of a condition, called or plain, on an empty stack.
 abbrev kinds_in_place : Condition → Option ℕ → List (List Kind)
 kinds_in_place c None = condition_kinds [] c
 kinds_in_place c (Some k) = [] ∷ []
@@ -52,11 +52,11 @@ module _ (image : ImageParts) (callees : Callees) (table : List (List Op)) (shar
   starts_in kinds c place None has = condition_starts kinds c place [] has
   starts_in kinds c place (Some k) has = has.0
 
-  -- the height of the callee
+  -- The height of the callee.
   height_at : (c : Condition) (k : ℕ) → place_in table (condition_code c) ≡ Some k → callees.height k ≡ condition_height c
   height_at c k e = may.heights k (condition_code c) (placed back table (condition_code c) k e) ∙ tall_is c
 
-  -- the code is fine, called or plain
+  -- The code is fine, called or plain.
   fine_in : (kinds : ℕ → List Kind) (height end place : ℕ) (c : Condition) (o : Option ℕ) → place_in table (condition_code c) ≡ o → HasKinds kinds place (kinds_in_place c o)
       → kinds (place + size_in_place (condition_size c) o) ≡ Truth ∷ [] → ConditionFits (image_sizes image) c → condition_height c ≤ height
       → AreFine image callees kinds height end place (in_place (condition_code c) o)
@@ -75,7 +75,7 @@ module _ (image : ImageParts) (callees : Callees) (table : List (List Op)) (shar
         tt,
       )
 
-  -- no lower height will do
+  -- It needs the height of the coder.
   low_in : (kinds : ℕ → List Kind) (height end : ℕ) → ((place : ℕ) → place ≤ end → length (kinds place) ≤ height) → (c : Condition) (place : ℕ) (o : Option ℕ) → place_in table (condition_code c) ≡ o
       → HasKinds kinds place (kinds_in_place c o) → kinds (place + size_in_place (condition_size c) o) ≡ Truth ∷ [] → place + size_in_place (condition_size c) o ≤ end
       → CallsWithin callees kinds height place (in_place (condition_code c) o) → condition_height c ≤ height
@@ -86,7 +86,7 @@ module _ (image : ImageParts) (callees : Callees) (table : List (List Op)) (shar
       let called = calls.0 (record { 0 = k }) refl in
       omega (arith, tall, called)
 
-  -- all of it together
+  -- All of this together.
   pub shared_typed : IsTypedCoder image callees (shared_coder table)
   shared_typed = record {
     kinds_of = λ c. kinds_in_place c (place_in table (condition_code c));

@@ -1,7 +1,7 @@
--- The code of chains and of statements in order is that of their members.
-use Rattle.std.proofs.Common.{◌≡◌, ℕ, zero, suc, ◌+◌, ◌*◌, ◌^◌, ◌<◌, ◌≤◌, List, [], ◌∷◌, ◌++◌, length, refl}
+-- The code of chains and of blocks, member by member.
+use Rattle.std.proofs.Common.{◌≡◌, ℕ, zero, suc, ◌+◌, ◌*◌, ◌^◌, ◌<◌, ◌≤◌, ◌⊎◌, ⊎_elim, fold, List, [], ◌∷◌, ◌++◌, length, refl}
 use Rattle.std.proofs.Common.{sym, ap, ◌∙◌, append_assoc, length-append, arith, take, drop, get_or, drop-cons}
-use Rattle.std.proofs.lemmas.List.{append-nil, take_more, take-append-drop}
+use Rattle.std.proofs.lemmas.List.{append-nil, take_more, take-append-drop, take_all}
 use Rattle.std.specs.Prelude.{slice_set}
 use Rattle.std.specs.List.{flat_map}
 use Rattle.ifs_base.specs.declared.op.Op.{Op}
@@ -16,19 +16,31 @@ use Rattle.ifs_parse.specs.declared.block.Statement.TheVariants.{Run, SetState, 
 use Rattle.ifs_gen.specs.Trees.{Single, Condition, Block}
 use Rattle.ifs_gen.specs.PlainCode.{Coder, condition_code, block_code, code_size, held_code}
 use Rattle.ifs_gen.specs.inner.Emission.{statement_code, statement_size}
+use Rattle.ifs_policy.proofs.Lists.{fold_flat}
+use Rattle.ifs_policy.proofs.Joined.{all_steps, any_steps}
+use Rattle.ifs_gen.proofs.Handlers.{held_sized}
 use Rattle.ifs_gen.proofs.Simulation.{block_sized}
 
--- A further operand, joined by a sign.
+-- The code of a further operand and the instruction of its sign.
 abbrev pub joined : Op → Condition → List Op
 joined op c = condition_code c ++ op ∷ []
 
-pub all_code : (first : Condition) (rest : List Condition) → condition_code (all_of first rest) ≡ condition_code first ++ flat_map (joined Both) rest
-all_code first [] = sym (append-nil (condition_code first))
-all_code first (next ∷ rest) = all_code (tree.And first next) rest ∙ append_assoc (condition_code first) (joined Both next) (flat_map (joined Both) rest)
-
-pub any_code : (first : Condition) (rest : List Condition) → condition_code (any_of first rest) ≡ condition_code first ++ flat_map (joined Either) rest
-any_code first [] = sym (append-nil (condition_code first))
-any_code first (next ∷ rest) = any_code (tree.Or first next) rest ∙ append_assoc (condition_code first) (joined Either next) (flat_map (joined Either) rest)
+-- The code of a chain, given the instruction of its sign.
+pub chain_code : {N : Type 0} (view : N → Condition) (sign : N → Op) (node all any : N) (c first second : Condition) (rest : List Condition) (op : Op) → (node ≡ all) ⊎ (node ≡ any)
+    → view all ≡ all_of (tree.And first second) rest → view any ≡ any_of (tree.Or first second) rest → sign all ≡ Both → sign any ≡ Either → c ≡ view node → op ≡ sign node
+    → condition_code c ≡ condition_code first ++ (joined op second ++ flat_map (joined op) rest)
+chain_code view sign node all any c first second rest op is all_is any_is both either c_is op_is =
+    ⊎_elim
+    (λ e. code_from Both (tree.And first second) (c_is ∙ ap view e ∙ all_is) (op_is ∙ ap sign e ∙ both) (all_steps condition_code (λ xs c. xs ++ joined Both c) (λ a b. refl) (tree.And first second) rest) refl)
+    (λ e. code_from Either (tree.Or first second) (c_is ∙ ap view e ∙ any_is) (op_is ∙ ap sign e ∙ either) (any_steps condition_code (λ xs c. xs ++ joined Either c) (λ a b. refl) (tree.Or first second) rest) refl)
+    is
+  where
+    code_from : (own : Op) (two : Condition) {whole : Condition} → c ≡ whole → op ≡ own → condition_code whole ≡ fold (λ xs c. xs ++ joined own c) (condition_code two) rest
+        → condition_code two ≡ condition_code first ++ joined own second → condition_code c ≡ condition_code first ++ (joined op second ++ flat_map (joined op) rest)
+    code_from own two {whole} whole_is own_is steps two_is =
+        ap condition_code whole_is ∙ steps ∙ fold_flat (joined own) (condition_code two) rest ∙ ap (λ xs. xs ++ flat_map (joined own) rest) two_is
+        ∙ append_assoc (condition_code first) (joined own second) (flat_map (joined own) rest)
+        ∙ ap (λ o. condition_code first ++ (joined o second ++ flat_map (joined o) rest)) (sym own_is)
 
 set_front : (front : List Op) (x y : Op) (rest : List Op) → slice_set (front ++ x ∷ rest) (length front) y ≡ front ++ y ∷ rest
 set_front [] x y rest = refl
@@ -38,7 +50,7 @@ split_at : (items : List (Statement Single CommandId StateId)) (i : ℕ) → ite
 split_at items i = sym (take-append-drop i items)
 
 module _ (coder : Coder) where
-  -- a block of statements, up to a place and from there on
+  -- A block is its first statement and the rest.
   then_code : (place : ℕ) (statement : Statement Single CommandId StateId) (rest : Block) → block_code coder place (statement_then statement rest)
       ≡ statement_code coder place statement ++ block_code coder (place + statement_size coder statement) rest
   then_code place (Run command) rest = refl
@@ -58,7 +70,7 @@ module _ (coder : Coder) where
   then_size (SetState state) rest = refl
   then_size (If c inner) rest = omega arith
 
-  -- statements in two lists
+  -- The code of two lists of statements is in sequence.
   of_append : (place : ℕ) (xs ys : List (Statement Single CommandId StateId)) → block_code coder place (block_of (xs ++ ys))
       ≡ block_code coder place (block_of xs) ++ block_code coder (place + code_size coder (block_of xs)) (block_of ys)
   of_append place [] ys = let same : place ≡ place + 0 = omega arith in ap (λ p. block_code coder p (block_of ys)) same
@@ -80,7 +92,7 @@ module _ (coder : Coder) where
       let h = of_size xs ys in
       omega (arith, e, f, h)
 
-  -- a statement is no larger than its block, and a block smaller than its statement
+  -- A statement is no larger than its block, and an inner block is smaller than its statement.
   pub item_within : (block : Block) (items : List (Statement Single CommandId StateId)) (i : ℕ) (item : Statement Single CommandId StateId) → block ≡ block_of items
       → i < length items → item ≡ get_or items i item → statement_size coder item ≤ code_size coder block
   item_within block items i item block_is lt at =
@@ -164,7 +176,7 @@ module _ (coder : Coder) (sized : (c : Condition) → length (coder.code c) ≡ 
       ∙ ap (λ xs. old ++ xs) (sym (of_append coder (length old) front (item ∷ [])))
       ∙ ap (λ xs. old ++ block_code coder (length old) (block_of xs)) (sym more)
 
--- one test more that holds a body back
+-- One more test that holds a body back.
 held_last : (end : ℕ) (tests : List TestId) (test : TestId) → held_code end (tests ++ test ∷ []) ≡ held_code end tests ++ (Known test ∷ JumpFalse end ∷ [])
 held_last end [] test = refl
 held_last end (x ∷ tests) test = ap (λ l. Known x ∷ JumpFalse end ∷ l) (held_last end tests test)
@@ -176,17 +188,7 @@ held_next end now one next tests i test lt at now_is one_is next_is =
     next_is ∙ ap (λ l. l ++ JumpFalse end ∷ []) one_is ∙ append_assoc now (Known test ∷ []) (JumpFalse end ∷ []) ∙ ap (λ l. l ++ (Known test ∷ JumpFalse end ∷ [])) now_is
     ∙ sym (held_last end (take i tests) test) ∙ ap (held_code end) (sym more)
 
-pub take_past : {T : Type 0} (xs : List T) (i : ℕ) → length xs ≤ i → take i xs ≡ xs
-take_past [] zero le = refl
-take_past [] (suc i) le = refl
-take_past (x ∷ xs) zero le = absurd (omega arith)
-take_past (x ∷ xs) (suc i) le = ap (λ l. x ∷ l) (take_past xs i (omega arith))
-
-held_long : (end : ℕ) (tests : List TestId) → length (held_code end tests) ≡ 2 * length tests
-held_long end [] = refl
-held_long end (test ∷ tests) = let h = held_long end tests in omega (arith, h)
-
--- the jumps over a body, one after the other
+-- The jumps over a body are set one by one.
 held_set : (end : ℕ) (tests : List TestId) (i : ℕ) (rest : List Op) → i < length tests
     → slice_set (held_code end (take i tests) ++ (held_code 0 (drop i tests) ++ rest)) (2 * i + 1) (JumpFalse end) ≡ held_code end (take (suc i) tests) ++ (held_code 0 (drop (suc i) tests) ++ rest)
 held_set end [] i rest lt = absurd (omega (arith, lt))
@@ -204,30 +206,20 @@ set_next end tests i rest now next lt now_is next_is =
     next_is ∙ ap (λ l. slice_set l (2 * i + 1) (JumpFalse end)) now_is ∙ held_set end tests i rest lt
     ∙ ap (λ k. held_code end (take k tests) ++ (held_code 0 (drop k tests) ++ rest)) one
 
-drop_past : {T : Type 0} (xs : List T) (i : ℕ) → length xs ≤ i → drop i xs ≡ []
-drop_past [] zero le = refl
-drop_past [] (suc i) le = refl
-drop_past (x ∷ xs) zero le = absurd (omega (arith, le))
-drop_past (x ∷ xs) (suc i) le = drop_past xs i (omega (arith, le))
-
-pub set_all : (end : ℕ) (tests : List TestId) (i : ℕ) (rest now : List Op) → length tests ≤ i → now ≡ held_code end (take i tests) ++ (held_code 0 (drop i tests) ++ rest) → now ≡ held_code end tests ++ rest
-set_all end tests i rest now le now_is =
-    now_is ∙ ap (λ l. held_code end l ++ (held_code 0 (drop i tests) ++ rest)) (take_past tests i le) ∙ ap (λ l. held_code end tests ++ (held_code 0 l ++ rest)) (drop_past tests i le)
-
 module _ (coder : Coder) (sized : (c : Condition) → length (coder.code c) ≡ coder.size c) where
   pub held_room : (now : List Op) (tests : List TestId) (i : ℕ) (body : Block) → length tests ≤ i → now ≡ held_code 0 (take i tests)
       → 2 * length tests + code_size coder body < 1024 → length now + code_size coder body < 2 ^ 16
   held_room now tests i body le now_is room =
-      let all = ap length (now_is ∙ ap (held_code 0) (take_past tests i le)) in
-      let long = held_long 0 tests in
+      let all = ap length (now_is ∙ ap (held_code 0) (take_all i tests le)) in
+      let long = held_sized 0 tests in
       omega (arith, all, long, room)
 
-  -- how long the code of a body is before its `ret`
+  -- The length of the code of a body before its `ret`.
   pub body_ends : (now one : List Op) (tests : List TestId) (i : ℕ) (body : Block) → length tests ≤ i → now ≡ held_code 0 (take i tests)
       → one ≡ now ++ block_code coder (length now) body → length one ≡ 2 * length tests + code_size coder body
   body_ends now one tests i body le now_is one_is =
-      let all = ap length (now_is ∙ ap (held_code 0) (take_past tests i le)) in
-      let long = held_long 0 tests in
+      let all = ap length (now_is ∙ ap (held_code 0) (take_all i tests le)) in
+      let long = held_sized 0 tests in
       let a = ap length one_is ∙ length-append now (block_code coder (length now) body) in
       let b = block_sized coder sized (length now) body in
       omega (arith, all, long, a, b)
@@ -236,8 +228,8 @@ module _ (coder : Coder) (sized : (c : Condition) → length (coder.code c) ≡ 
       → one ≡ now ++ block_code coder (length now) body → ((rest : List Op) → one ≡ held_code 0 tests ++ rest → two ≡ held_code (length one) tests ++ rest) → code ≡ two ++ Ret ∷ []
       → code ≡ held_code (2 * length tests + code_size coder body) tests ++ (block_code coder (2 * length tests) body ++ Ret ∷ [])
   body_is now one two code tests i body le now_is one_is set code_is =
-      let held : now ≡ held_code 0 tests = now_is ∙ ap (held_code 0) (take_past tests i le) in
-      let long : length now ≡ 2 * length tests = ap length held ∙ held_long 0 tests in
+      let held : now ≡ held_code 0 tests = now_is ∙ ap (held_code 0) (take_all i tests le) in
+      let long : length now ≡ 2 * length tests = ap length held ∙ held_sized 0 tests in
       let block = block_code coder (2 * length tests) body in
       let one_now : one ≡ held_code 0 tests ++ block = one_is ∙ ap (λ p. now ++ block_code coder p body) long ∙ ap (λ l. l ++ block) held in
       code_is ∙ ap (λ l. l ++ Ret ∷ []) (set block one_now) ∙ append_assoc (held_code (length one) tests) block (Ret ∷ [])

@@ -1,8 +1,7 @@
--- A core that is opened on what a text compiles to runs the text's policy.
-use Rattle.std.proofs.Common.{◌≡◌, ℕ, zero, suc, ◌+◌, List, [], ◌∷◌, ◌++◌, map}
-use Rattle.std.proofs.Common.{take, Some, refl, sym, ap, ◌∙◌, subst, arith}
+-- A core that is opened on the image of a text runs the text's policy.
+use Rattle.std.proofs.Common.{◌≡◌, ℕ, ◌+◌, List, [], ◌∷◌, ◌++◌, map}
+use Rattle.std.proofs.Common.{take, Some, refl, sym, ap, ◌∙◌, subst}
 use Rattle.std.specs.Prelude.{slice_get}
-use Rattle.std.proofs.lemmas.Option.{none-some, same_Some}
 use Rattle.ifs_image.specs.declared.parts.ImageParts.{ImageParts}
 use Rattle.ifs_image.specs.Spelling.{Spells}
 use Rattle.ifs_core.specs.declared.step.Step.{Step}
@@ -18,8 +17,9 @@ use Rattle.ifs_gen.specs.PolicyImage.{image_of}
 use Rattle.ifs_gen.specs.Events.{RunsAsPolicy, reply_without_cost, state_without_costs}
 use Rattle.ifs_gen.specs.Compiled.{HasNamesOf, IsCompiled}
 use Rattle.ifs_gen.specs.CompiledCore.{LeadsTo, IsRunOf, RunsText}
+use Rattle.ifs_gen.proofs.Copying.{take_next}
 
--- Replies to steps, and the state after them, are what a behaviour of the image makes of them.
+-- The replies and the state after steps are those of a behaviour of the image.
 record IsRunBy (b : Behaviour) (room : ℕ) (steps : List Step) (replied : List Reply) (before after : CoreState) : Type 0 where
   replies_are : replied ≡ replies b room steps before
   came_to : after ≡ after_steps b room steps before
@@ -41,15 +41,7 @@ run_by image b is (step ∷ steps) (reply ∷ replied) before after leads =
       came_to = rest.came_to ∙ ap (λ (s : CoreState). after_steps b room steps s) made.came_to;
     }
 
--- The steps so far, and the next one.
-pub next_steps : (steps : List Step) (i : ℕ) (step : Step) → slice_get steps i ≡ Some step → take (i + 1) steps ≡ take i steps ++ step ∷ []
-next_steps [] i step e = absurd (none-some step e)
-next_steps (x ∷ steps) zero step e = ap (λ (s : Step). s ∷ []) (same_Some x step e)
-next_steps (x ∷ steps) (suc i) step e =
-    let next : suc i + 1 ≡ suc (i + 1) = omega arith in
-    ap (λ (n : ℕ). take n (x ∷ steps)) next ∙ ap (λ (l : List Step). x ∷ l) (next_steps steps i step e)
-
--- What runs as the policy does, from its opening, is a run of the policy.
+-- A run like that of the policy, from its opening, is a run of the policy.
 run_of : (policy : Policy) (known : Known) (b : Behaviour) (steps : List Step) (replied : List Reply) (before after : CoreState) → before ≡ opened b (image_of policy) known
     → IsRunBy b (room_of policy) steps replied before after → RunsAsPolicy policy known b steps → IsRunOf policy known steps replied after
 run_of policy known b steps replied before after is run as_policy = record {
@@ -57,7 +49,7 @@ run_of policy known b steps replied before after is run as_policy = record {
   state_is = ap state_without_costs (run.came_to ∙ ap (λ (s : CoreState). after_steps b (room_of policy) steps s) is) ∙ as_policy.state;
 }
 
--- One step more.
+-- One more step.
 lead_on : (image : ImageParts) (steps : List Step) (replied : List Reply) (before after next : CoreState) (step : Step) (reply : Reply)
     → LeadsTo image steps replied before after → ((b : Behaviour) → IsBehaviour image b → Makes (turn b image.budgets.commands step after) reply next)
     → LeadsTo image (steps ++ step ∷ []) (replied ++ reply ∷ []) before next
@@ -68,13 +60,13 @@ lead_on image (s ∷ steps) [] before after next step reply leads made = absurd 
 lead_on image (s ∷ steps) (r ∷ replied) before after next step reply leads made =
     (leads.0, leads.1, lead_on image steps replied leads.0 after next step reply leads.2 made)
 
--- The same of the steps of a list, each in its turn.
+-- The steps of a list, one by one.
 pub lead_next : (image : ImageParts) (steps : List Step) (i : ℕ) (replied replied' : List Reply) (before after next : CoreState) (step : Step) (reply : Reply)
     → slice_get steps i ≡ Some step → replied' ≡ replied ++ reply ∷ [] → LeadsTo image (take i steps) replied before after
     → ((b : Behaviour) → IsBehaviour image b → Makes (turn b image.budgets.commands step after) reply next)
     → LeadsTo image (take (i + 1) steps) replied' before next
 lead_next image steps i replied replied' before after next step reply at more leads made =
-    subst (λ (ss : List Step). LeadsTo image ss replied' before next) (sym (next_steps steps i step at))
+    subst (λ (ss : List Step). LeadsTo image ss replied' before next) (sym (take_next steps i step at))
     (subst (λ (rs : List Reply). LeadsTo image (take i steps ++ step ∷ []) rs before next) (sym more)
     (lead_on image (take i steps) replied before after next step reply leads made))
 

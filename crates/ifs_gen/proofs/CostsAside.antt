@@ -1,4 +1,4 @@
--- Two behaviours that differ in costs alone make the same run, costs aside.
+-- Two behaviours that differ only in costs make the same run, apart from costs.
 use Rattle.std.proofs.Common.{◌≡◌, ℕ, ◌+◌, ◌-◌, Bool, true, false, not, List, [], ◌∷◌, ◌++◌}
 use Rattle.std.proofs.Common.{length, map, drop, Option, Some, None, refl, sym, ap, ◌∙◌}
 use Rattle.std.specs.Prelude.{slice_get, nat_lt, if◌then◌else◌}
@@ -23,14 +23,14 @@ use Rattle.ifs_core.specs.Steps.{with_run_over, has_value, changing, LinkSeen, R
 use Rattle.ifs_core.specs.Steps.{finished_turn, tick_turn, take_turn, turn, replies, after_steps}
 use Rattle.ifs_gen.specs.Events.{reply_without_cost, record_without_cost, state_without_costs}
 
--- A turn, costs aside, and an event.
+-- A turn and an event, apart from costs.
 abbrev turn_without_costs : Turn → Turn
 turn_without_costs t = record { reply = reply_without_cost t.reply; next = state_without_costs t.next }
 
 abbrev free : Event → Event
 free e = record e { cost = 0 }
 
--- A behaviour that costs nothing.
+-- A behaviour without costs.
 abbrev pub without_costs : Behaviour → Behaviour
 without_costs b = record b { cost = λ handler facts. 0 }
 

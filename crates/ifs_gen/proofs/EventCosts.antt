@@ -1,17 +1,18 @@
--- What the written code of events costs is what the policy's blocks cost.
+-- The cost of events by the written code is that of the policy's blocks.
 use Rattle.std.proofs.Common.{◌≡◌, ◌∙◌, ℕ, zero, suc, ◌+◌, ◌*◌, ◌≤◌, ◌<◌, max, Bool, true, false, List, []}
 use Rattle.std.proofs.Common.{◌∷◌, ◌++◌, length, Option, Some, None, refl, sym, ap, subst, arith, option_map, take, drop, get_or, map, append_assoc, length-drop, ◌-◌}
 use Rattle.std.specs.Prelude.{sum_by, slice_get, All, if◌then◌else◌}
 use Rattle.std.specs.Cmp.Lexicographic.{as_long}
-use Rattle.std.proofs.lemmas.List.Elements.{All-head, All-tail}
-use Rattle.std.proofs.lemmas.List.Sums.{sum_by-cons}
+use Rattle.std.proofs.lemmas.List.{take_all}
+use Rattle.std.proofs.lemmas.List.Elements.{All-head, All-tail, All-weaker}
+use Rattle.std.proofs.lemmas.List.Sums.{sum_by-cons, sum_by-append}
 use Rattle.std.proofs.lemmas.Option.{none-some, same_Some}
 use Rattle.ifs_base.specs.declared.ids.TestId.{TestId}
 use Rattle.ifs_base.specs.declared.op.Op.{Op}
 use Rattle.ifs_base.specs.declared.op.Op.TheVariants.{Ret, Call, Known, JumpFalse, Negate, Both, Either, PushCommand, PushState, Queue, Want}
 use Rattle.ifs_image.specs.declared.parts.Routine.{Routine}
 use Rattle.ifs_parse.specs.Trees.{condition_size}
-use Rattle.ifs_gen.specs.Trees.{LinkIs, TestIs, Condition, Leaf, NotSo, And, Or, Block, Done, RunThen, WantThen, IfThen, Part, Policy}
+use Rattle.ifs_gen.specs.Trees.{LinkIs, TestIs, Condition, Leaf, NotSo, And, Or, Block, Done, RunThen, SetStateThen, IfThen, Part, Policy}
 use Rattle.ifs_gen.specs.PlainCode.{Coder, plain_coder, condition_code, block_code, code_size, block_limit, held_code, holding}
 use Rattle.ifs_gen.specs.PlainCode.{body_start, body_end, body_code, init_code, body_limit, init_limit}
 use Rattle.ifs_gen.specs.PlainSizes.{test_count, parts_of, greatest, number_in, event_total, PartCodeFits, CodeFits}
@@ -21,8 +22,9 @@ use Rattle.ifs_gen.specs.inner.Costs.{call_cost, op_cost, routine_cost, most_of_
 use Rattle.ifs_gen.specs.inner.Measures.{capped}
 use Rattle.ifs_gen.proofs.Simulation.{condition_sized}
 use Rattle.ifs_policy.specs.Fits.{PolicyFits}
-use Rattle.ifs_gen.proofs.Chains.{take_past}
-use Rattle.ifs_gen.proofs.Shrinks.{sum_append}
+use Rattle.ifs_gen.proofs.Copying.{at_index}
+use Rattle.ifs_gen.proofs.Images.{routines_long, greatest_below, number_low}
+use Rattle.ifs_gen.proofs.Shrinks.{size_some}
 
 module _ (table : List (List Op)) where
   abbrev coder : Coder
@@ -31,30 +33,29 @@ module _ (table : List (List Op)) where
   abbrev cost : List Op → ℕ
   cost code = sum_by (op_cost table) code
 
-  -- code after code
+  -- Two codes in sequence, and one more instruction.
   cost_append : (xs ys : List Op) → cost (xs ++ ys) ≡ cost xs + cost ys
-  cost_append xs ys = sum_append (op_cost table) xs ys
+  cost_append xs ys = sum_by-append (op_cost table) xs ys
 
   cost_cons : (op : Op) (ops : List Op) → cost (op ∷ ops) ≡ op_cost table op + cost ops
   cost_cons op ops = sum_by-cons (op_cost table) op ops
 
-  -- a condition in plain code executes each of its instructions once
+  both_cost : (a b : Condition) (op : Op) → cost (op ∷ []) ≡ 1 → cost (condition_code a) ≡ condition_size a → cost (condition_code b) ≡ condition_size b
+      → cost (condition_code a ++ (condition_code b ++ op ∷ [])) ≡ condition_size a + condition_size b + 1
+  both_cost a b op last h k =
+      let e = cost_append (condition_code a) (condition_code b ++ op ∷ []) in
+      let f = cost_append (condition_code b) (op ∷ []) in
+      omega (arith, e, f, last, h, k)
+
+  -- A condition in plain code executes each of its instructions once.
   plain_costs : (c : Condition) → cost (condition_code c) ≡ condition_size c
   plain_costs (Leaf (LinkIs n s)) = refl
   plain_costs (Leaf (TestIs n)) = refl
   plain_costs (NotSo c) = let e = cost_append (condition_code c) (Negate ∷ []) in let h = plain_costs c in let last : cost (Negate ∷ []) ≡ 1 = refl in omega (arith, e, h, last)
-  plain_costs (And a b) =
-      let e = cost_append (condition_code a) (condition_code b ++ Both ∷ []) in
-      let f = cost_append (condition_code b) (Both ∷ []) in
-      let last : cost (Both ∷ []) ≡ 1 = refl in
-      omega (arith, e, f, last, plain_costs a, plain_costs b)
-  plain_costs (Or a b) =
-      let e = cost_append (condition_code a) (condition_code b ++ Either ∷ []) in
-      let f = cost_append (condition_code b) (Either ∷ []) in
-      let last : cost (Either ∷ []) ≡ 1 = refl in
-      omega (arith, e, f, last, plain_costs a, plain_costs b)
+  plain_costs (And a b) = both_cost a b Both refl (plain_costs a) (plain_costs b)
+  plain_costs (Or a b) = both_cost a b Either refl (plain_costs a) (plain_costs b)
 
-  -- a condition, in place or called
+  -- A condition in plain code or called.
   test_costs : (c : Condition) (o : Option ℕ) → ((k : ℕ) → o ≡ Some k → call_cost (slice_get table k) ≡ 2 + length (condition_code c))
       → cost (in_place (condition_code c) o) ≡ cost_in_place (condition_size c) o
   test_costs c None placed = plain_costs c
@@ -65,7 +66,7 @@ module _ (table : List (List Op)) where
       let sized = condition_sized c in
       omega (arith, here, e, nothing, sized)
 
--- What stands at the number of a code is as long as the code.
+-- The entry at the number of a code has the length of the code.
 placed_if : (b : Bool) (entry : List Op) (table : List (List Op)) (code : List Op) (o : Option ℕ) (k : ℕ) → same_code code entry ≡ b
     → ((j : ℕ) → o ≡ Some j → call_cost (slice_get table j) ≡ 2 + length code) → (if b then Some zero else option_map suc o) ≡ Some k → call_cost (slice_get (entry ∷ table) k) ≡ 2 + length code
 placed_if true entry table code o k same rest e =
@@ -77,32 +78,21 @@ placed_long : (table : List (List Op)) (code : List Op) (k : ℕ) → place_in t
 placed_long [] code k e = absurd (none-some k e)
 placed_long (entry ∷ table) code k e = placed_if (same_code code entry) entry table code (place_in table code) k refl (placed_long table code) e
 
--- A condition has an instruction.
-size_some : (c : Condition) → 1 ≤ condition_size c
-size_some (Leaf single) = omega arith
-size_some (NotSo c) = omega arith
-size_some (And a b) = omega arith
-size_some (Or a b) = omega arith
-
 module _ (table : List (List Op)) where
   called_costs : (c : Condition) → cost table ((shared_coder table).code c) ≡ (shared_coder table).cost c
   called_costs c = test_costs table c (place_in table (condition_code c)) (placed_long table (condition_code c))
 
-  -- blocks, inits and bodies
+  two_costs : (first second : Op) (code : List Op) (n : ℕ) → op_cost table first ≡ 1 → op_cost table second ≡ 1 → cost table code ≡ n → cost table (first ∷ second ∷ code) ≡ 2 + n
+  two_costs first second code n p q h =
+      let e = cost_cons table first (second ∷ code) in
+      let f = cost_cons table second code in
+      omega (arith, e, f, p, q, h)
+
+  -- Blocks, inits and bodies.
   block_costs : (place : ℕ) (block : Block) → cost table (block_code (shared_coder table) place block) ≡ block_limit (shared_coder table) block
   block_costs place Done = refl
-  block_costs place (RunThen n rest) =
-      let code = block_code (shared_coder table) (place + 2) rest in
-      let e = cost_cons table (PushCommand n) (Queue ∷ code) in
-      let f = cost_cons table Queue code in
-      let h = block_costs (place + 2) rest in
-      omega (arith, e, f, h)
-  block_costs place (WantThen n rest) =
-      let code = block_code (shared_coder table) (place + 2) rest in
-      let e = cost_cons table (PushState n) (Want ∷ code) in
-      let f = cost_cons table Want code in
-      let h = block_costs (place + 2) rest in
-      omega (arith, e, f, h)
+  block_costs place (RunThen n rest) = two_costs (PushCommand n) Queue (block_code (shared_coder table) (place + 2) rest) _ refl refl (block_costs (place + 2) rest)
+  block_costs place (SetStateThen n rest) = two_costs (PushState n) Want (block_code (shared_coder table) (place + 2) rest) _ refl refl (block_costs (place + 2) rest)
   block_costs place (IfThen c inner rest) =
       let from = place + (shared_coder table).size c + 1 in
       let past = from + code_size (shared_coder table) inner in
@@ -119,10 +109,7 @@ module _ (table : List (List Op)) where
   held_costs : (end : ℕ) (tests : List TestId) → cost table (held_code end tests) ≡ 2 * length tests
   held_costs end [] = refl
   held_costs end (test ∷ tests) =
-      let e = cost_cons table (Known test) (JumpFalse end ∷ held_code end tests) in
-      let f = cost_cons table (JumpFalse end) (held_code end tests) in
-      let h = held_costs end tests in
-      omega (arith, e, f, h)
+      let h = two_costs (Known test) (JumpFalse end) (held_code end tests) _ refl refl (held_costs end tests) in omega (arith, h)
 
   ret_costs : cost table (Ret ∷ []) ≡ 1
   ret_costs = refl
@@ -145,20 +132,19 @@ module _ (table : List (List Op)) where
       let last = ret_costs in
       omega (arith, e, f, g, h, last)
 
-  -- a call executes at most three times what the condition has
+  -- Code with calls executes at most three times as many instructions as plain code has.
   test_low : (c : Condition) (o : Option ℕ) → cost_in_place (condition_size c) o ≤ 3 * condition_size c
   test_low c None = omega arith
   test_low c (Some k) = let some = size_some c in omega (arith, some)
 
-  -- code that calls executes at most three times as many instructions as plain code has
-  block_low : (block : Block) → block_limit (shared_coder table) block ≤ 3 * code_size plain_coder block
-  block_low Done = omega arith
-  block_low (RunThen n rest) = let h = block_low rest in omega (arith, h)
-  block_low (WantThen n rest) = let h = block_low rest in omega (arith, h)
-  block_low (IfThen c inner rest) =
+  pub limit_low : (block : Block) → block_limit (shared_coder table) block ≤ 3 * code_size plain_coder block
+  limit_low Done = omega arith
+  limit_low (RunThen n rest) = let h = limit_low rest in omega (arith, h)
+  limit_low (SetStateThen n rest) = let h = limit_low rest in omega (arith, h)
+  limit_low (IfThen c inner rest) =
       let here = test_low c (place_in table (condition_code c)) in
-      let h = block_low inner in
-      let k = block_low rest in
+      let h = limit_low inner in
+      let k = limit_low rest in
       omega (arith, here, h, k)
 
   module _ (count : ℕ) where
@@ -172,19 +158,19 @@ module _ (table : List (List Op)) where
     code_of parts = routines_of (shared_coder table) count parts
 
     init_low : (part : Part) → PartCodeFits count part → init_of part ≤ 3072
-    init_low part fits = let low = block_low part.init in let short = fits.init in omega (arith, low, short)
+    init_low part fits = let low = limit_low part.init in let short = fits.init in omega (arith, low, short)
 
     body_low : (part : Part) → PartCodeFits count part → body_of part ≤ 3072
-    body_low part fits = let low = block_low part.body in let short = fits.body in omega (arith, low, short)
+    body_low part fits = let low = limit_low part.body in let short = fits.body in omega (arith, low, short)
 
-    -- a routine costs what its block costs
+    -- The cost of a routine is that of its block.
     init_is : (part : Part) → PartCodeFits count part → routine_cost table (routine_of_code (init_code (shared_coder table) part.init)) ≡ init_of part
     init_is part fits = let e = init_costs part.init in let low = init_low part fits in omega (arith, e, low)
 
     body_is : (part : Part) → PartCodeFits count part → routine_cost table (routine_of_code (body_code (shared_coder table) count part.body)) ≡ body_of part
     body_is part fits = let e = body_costs count part.body in let low = body_low part fits in omega (arith, e, low)
 
-    -- the greatest ones
+    -- The greatest costs.
     inits_are : (parts : List Part) → All (PartCodeFits count) parts → most_of_inits table (code_of parts) ≡ greatest init_of parts
     inits_are [] fits = refl
     inits_are (x ∷ parts) fits =
@@ -200,20 +186,12 @@ module _ (table : List (List Op)) where
         omega (arith, e, h)
 
     inits_low : (parts : List Part) → All (PartCodeFits count) parts → greatest init_of parts ≤ 3072
-    inits_low [] fits = omega arith
-    inits_low (x ∷ parts) fits =
-        let e = init_low x (All-head (PartCodeFits count) x parts fits) in
-        let h = inits_low parts (All-tail (PartCodeFits count) x parts fits) in
-        omega (arith, e, h)
+    inits_low parts fits = greatest_below init_of parts 3072 (All-weaker (PartCodeFits count) (λ part. init_of part ≤ 3072) init_low parts fits)
 
     bodies_low : (parts : List Part) → All (PartCodeFits count) parts → greatest body_of parts ≤ 3072
-    bodies_low [] fits = omega arith
-    bodies_low (x ∷ parts) fits =
-        let e = body_low x (All-head (PartCodeFits count) x parts fits) in
-        let h = bodies_low parts (All-tail (PartCodeFits count) x parts fits) in
-        omega (arith, e, h)
+    bodies_low parts fits = greatest_below body_of parts 3072 (All-weaker (PartCodeFits count) (λ part. body_of part ≤ 3072) body_low parts fits)
 
-    -- the init of one part
+    -- The cost of one init.
     first_is : (parts : List Part) (i : ℕ) → All (PartCodeFits count) parts → number_in (routine_cost table) (slice_get (code_of parts) (2 * i)) ≡ number_in init_of (slice_get parts i)
     first_is [] i fits = refl
     first_is (x ∷ parts) zero fits = init_is x (All-head (PartCodeFits count) x parts fits)
@@ -221,29 +199,23 @@ module _ (table : List (List Op)) where
         let next : 2 * suc i ≡ suc (suc (2 * i)) = omega arith in
         ap (λ k. number_in (routine_cost table) (slice_get (code_of (x ∷ parts)) k)) next ∙ first_is parts i (All-tail (PartCodeFits count) x parts fits)
 
-    first_low : (parts : List Part) (i : ℕ) → All (PartCodeFits count) parts → number_in init_of (slice_get parts i) ≤ 3072
-    first_low [] i fits = omega arith
-    first_low (x ∷ parts) zero fits = init_low x (All-head (PartCodeFits count) x parts fits)
-    first_low (x ∷ parts) (suc i) fits = first_low parts i (All-tail (PartCodeFits count) x parts fits)
-
-    -- two routines a part
-    pub long_of : (parts : List Part) → length (code_of parts) ≡ 2 * length parts
-    long_of [] = refl
-    long_of (x ∷ parts) = let h = long_of parts in omega (arith, h)
-
--- What one event of a policy costs at most.
+-- The greatest cost of one event of a policy.
 abbrev pub event_limit : Policy → List (List Op) → ℕ
 event_limit policy table = event_total (init_of table (test_count policy)) (body_of table (test_count policy)) policy
 
--- It is told by the policy's written routines.
+-- It is the one that the written routines have, and it is low.
 module _ (policy : Policy) (table : List (List Op)) (fits : All (PartCodeFits (test_count policy)) (parts_of policy)) where
   abbrev tests : ℕ
   tests = test_count policy
 
+  always : PartCodeFits tests policy.always
+  always = All-head (PartCodeFits tests) policy.always policy.states fits
+
+  states : All (PartCodeFits tests) policy.states
+  states = All-tail (PartCodeFits tests) policy.always policy.states fits
+
   pub event_is : event_cost_in table (code_of table tests (parts_of policy)) policy.initial.0 ≡ event_limit policy table
   event_is =
-      let always = All-head (PartCodeFits tests) policy.always policy.states fits in
-      let states = All-tail (PartCodeFits tests) policy.always policy.states fits in
       let a = init_is table tests policy.always always in
       let b = body_is table tests policy.always always in
       let c = inits_are table tests policy.states states in
@@ -253,22 +225,14 @@ module _ (policy : Policy) (table : List (List Op)) (fits : All (PartCodeFits (t
 
   pub event_low : event_limit policy table ≤ 9216
   event_low =
-      let always = All-head (PartCodeFits tests) policy.always policy.states fits in
-      let states = All-tail (PartCodeFits tests) policy.always policy.states fits in
       let a = init_low table tests policy.always always in
       let b = body_low table tests policy.always always in
       let c = inits_low table tests policy.states states in
       let d = bodies_low table tests policy.states states in
-      let e = first_low table tests policy.states policy.initial.0 states in
+      let e = number_low (init_of table tests) policy.states policy.initial.0 in
       omega (arith, a, b, c, d, e)
 
--- An item that is read stands in the list.
-got : (x : Routine) (xs : List Routine) (i : ℕ) → i < length xs → x ≡ get_or xs i x → slice_get xs i ≡ Some x
-got x [] i less e = absurd (omega (arith, less))
-got x (y ∷ xs) zero less e = ap (λ z. Some z) (sym e)
-got x (y ∷ xs) (suc i) less e = got x xs i (omega (arith, less)) e
-
--- the routines that are read for an event
+-- The cost of an event, by the routines that are read for it.
 pub event_read : (table : List (List Op)) (handlers : List Routine) (initial : ℕ) (init body first : Routine) → 2 + 2 * initial < length handlers
     → init ≡ get_or handlers 0 init → body ≡ get_or handlers 1 body → first ≡ get_or (drop 2 handlers) (2 * initial) first
     → event_cost_in table handlers initial ≡ max (routine_cost table body + most_of_bodies table (drop 2 handlers) + most_of_inits table (drop 2 handlers)) (routine_cost table init + routine_cost table first)
@@ -277,10 +241,10 @@ event_read table (x ∷ []) initial init body first less a b c = absurd (omega (
 event_read table (x ∷ y ∷ states) initial init body first less a b c =
     let p = ap (routine_cost table) a in
     let q = ap (routine_cost table) b in
-    let r = ap (number_in (routine_cost table)) (got first states (2 * initial) (omega (arith, less)) c) in
+    let r = ap (number_in (routine_cost table)) (at_index states (2 * initial) first first (omega (arith, less)) c) in
     omega (arith, p, q, r)
 
--- all routines of a policy, one after the other
+-- All routines of a policy, in order.
 pub written : (shared : List (List Op)) (count : ℕ) (always : Part) (states : List Part) (start one two three : List Routine) → start ≡ [] → one ≡ start ++ map shared_routine shared
     → two ≡ one ++ routines_of (shared_coder shared) count (always ∷ []) → three ≡ two ++ routines_of (shared_coder shared) count states
     → three ≡ map shared_routine shared ++ routines_of (shared_coder shared) count (always ∷ states)
@@ -289,16 +253,16 @@ written shared count always states start one two three start_is one_is two_is th
     three_is ∙ ap (λ l. l ++ routines_of coder count states) (two_is ∙ ap (λ l. l ++ routines_of coder count (always ∷ [])) (one_is ∙ ap (λ l. l ++ map shared_routine shared) start_is))
     ∙ append_assoc (map shared_routine shared) (routines_of coder count (always ∷ [])) (routines_of coder count states)
 
--- what stands behind the shared routines
+-- The list after the routines of shared conditions.
 pub behind : {T U : Type 0} (f : T → U) (xs : List T) (ys : List U) → drop (length xs) (map f xs ++ ys) ≡ ys
 behind f [] ys = refl
 behind f (x ∷ xs) ys = behind f xs ys
 
--- a slice from a place on
+-- A slice from a place to the end.
 pub from_place : {T : Type 0} (k : ℕ) (xs : List T) → take (length xs - k) (drop k xs) ≡ drop k xs
-from_place k xs = let long = length-drop k xs in take_past (drop k xs) (length xs - k) (omega (arith, long))
+from_place k xs = let long = length-drop k xs in take_all (length xs - k) (drop k xs) (omega (arith, long))
 
--- What is known of the routines that are written for a policy.
+-- The routines that are written for a policy.
 module _ (policy : Policy) (shared : List (List Op)) (count m : ℕ) (always : Part) (states : List Part) (all : List Routine) (count_is : count ≡ test_count policy) (m_is : m ≡ length shared)
     (always_is : always ≡ policy.always) (states_is : states ≡ policy.states) (all_is : all ≡ map shared_routine shared ++ routines_of (shared_coder shared) count (always ∷ states)) where
   pub routines_are : all ≡ map shared_routine shared ++ routines_of (shared_coder shared) (test_count policy) (parts_of policy)
@@ -312,7 +276,7 @@ module _ (policy : Policy) (shared : List (List Op)) (count m : ℕ) (always : P
   pub initial_within : PolicyFits policy → 2 + 2 * policy.initial.0 < length (take (length all - m) (drop m all))
   initial_within fits =
       let e = ap length handlers_are in
-      let long = long_of shared (test_count policy) (parts_of policy) in
+      let long = routines_long (shared_coder shared) (test_count policy) (parts_of policy) in
       let less = fits.initial in
       let same = fits.count in
       omega (arith, e, long, less, same)
@@ -323,7 +287,7 @@ module _ (policy : Policy) (shared : List (List Op)) (count m : ℕ) (always : P
       let low = event_low policy shared code.each in
       omega (arith, is, e, low)
 
--- the always part keeps the limits
+-- The always part keeps the limits.
 pub always_fits : (policy : Policy) (count : ℕ) (always : Part) → CodeFits policy → count ≡ test_count policy → always ≡ policy.always → PartCodeFits count always
 always_fits policy count always code count_is always_is =
     subst (λ n. PartCodeFits n always) (sym count_is)

@@ -1,4 +1,4 @@
--- Routines whose instructions are fine one by one: each has a typing, bounds, and keeps the plain rules.
+-- Routines whose instructions are fine one by one have a typing and bounds, and keep the rules.
 use Rattle.std.proofs.Common.{◌≡◌, ℕ, zero, suc, ◌+◌, ◌<◌, ◌≤◌, ◌⊎◌, inl, inr, ⊎_elim, List}
 use Rattle.std.proofs.Common.{[], ◌∷◌, ◌++◌, length, Some, refl, sym, ap, ◌∙◌, subst, arith}
 use Rattle.std.specs.Prelude.{slice_get, reverse}
@@ -12,12 +12,12 @@ use Rattle.ifs_image.specs.declared.parts.ImageParts.{ImageParts}
 use Rattle.ifs_image.specs.Code.{IsSuccessor, target_of, effect}
 use Rattle.ifs_verify.specs.Rules.{HasOperand}
 
--- What may be called: the first so many routines, each of some height.
+-- The routines that may be called: the first ones, each of some height.
 pub record Callees : Type 0 where
   pub count : ℕ
   pub height : ℕ → ℕ
 
--- An instruction that is no end, at a place of a routine of some length: what it needs is there, it leaves what its successors have, control falls through or jumps to a later place, and it calls only what may be called and has room.
+-- An instruction before the end is fine at a place: its operand and its kinds are there, it leaves the kinds of its successors, control falls through or jumps to a later place, and it calls only routines that may be called and have room.
 pub record IsFine (image : ImageParts) (callees : Callees) (kinds : ℕ → List Kind) (height end place : ℕ) (op : Op) : Type 0 where
   pub operand : HasOperand image op
   pub after : List Kind
@@ -29,12 +29,12 @@ pub record IsFine (image : ImageParts) (callees : Callees) (kinds : ℕ → List
   pub low : length (kinds place) ≤ height
   pub high : length after ≤ height
 
--- Each of these, from a place on.
+-- Each of these instructions is fine, from a place on.
 abbrev pub AreFine : ImageParts → Callees → (ℕ → List Kind) → ℕ → ℕ → ℕ → List Op → Type 0
 AreFine image callees kinds height end place [] = Unit {0}
 AreFine image callees kinds height end place (op ∷ ops) = IsFine image callees kinds height end place op × AreFine image callees kinds height end (place + 1) ops
 
--- Above the kinds at its place, what each of these instructions calls is within a height.
+-- Each callee of these instructions stays within a height, above the kinds at the place of its call.
 abbrev pub CallsWithin : Callees → (ℕ → List Kind) → ℕ → ℕ → List Op → Type 0
 CallsWithin callees kinds height place [] = Unit {0}
 CallsWithin callees kinds height place (op ∷ ops) =
@@ -67,7 +67,7 @@ module _ (image : ImageParts) (callees : Callees) (kinds : ℕ → List Kind) (h
   pub fine_from_start : (ops : List Op) (k : ℕ) (op : Op) → AreFine image callees kinds height end 0 ops → slice_get ops k ≡ Some op → IsFine image callees kinds height end k op
   fine_from_start ops k op h e = let same : 0 + k ≡ k = omega arith in subst (λ p. IsFine image callees kinds height end p op) same (fine_at 0 ops k op h e)
 
--- A routine that begins with its parameters, whose instructions are fine, and then it ends with its results; no lower height will do.
+-- A good routine begins with its parameters, has fine instructions and ends with its results. It needs its height.
 pub record IsGood (image : ImageParts) (callees : Callees) (r : Routine) : Type 0 where
   pub front : List Op
   pub code : r.code ≡ front ++ Ret ∷ []
@@ -79,7 +79,7 @@ pub record IsGood (image : ImageParts) (callees : Callees) (r : Routine) : Type 
   pub room : length (reverse r.results.items) ≤ height
   pub least : (other : ℕ) → ((place : ℕ) → place ≤ length front → length (kinds place) ≤ other) → CallsWithin callees kinds other 0 front → height ≤ other
 
--- What an instruction of a good routine is.
+-- An instruction of a good routine is the end, or fine.
 pub data IsAt (image : ImageParts) (callees : Callees) (r : Routine) (good : IsGood image callees r) (place : ℕ) (op : Op) : Type 0 where
   inside : place < length good.front → IsFine image callees good.kinds good.height (length good.front) place op → IsAt image callees r good place op
   last : place ≡ length good.front → op ≡ Ret → IsAt image callees r good place op

@@ -1,75 +1,44 @@
--- Codes met one after the other: those of five instructions at least are kept in one table when they are first met, and in another when they are met again.
+-- Codes as they occur: a code of five instructions or more goes to one table at its first occurrence, and to another at a later one.
 use Rattle.std.proofs.Common.{◌≡◌, ◌∙◌, ℕ, zero, suc, ◌+◌, Bool, true, false, cond, not, ◌&&◌, ◌||◌, List}
 use Rattle.std.proofs.Common.{[], ◌∷◌, ◌++◌, fold, refl, sym, ap, subst, append_assoc, arith, take, Some}
 use Rattle.std.specs.Prelude.{filter, nat_le, count_by, slice_get}
-use Rattle.std.specs.List.{list_any, AllByRecursion}
+use Rattle.std.specs.List.{list_any}
 use Rattle.std.specs.Cmp.Lexicographic.{as_long}
 use Rattle.std.proofs.lemmas.List.{append-nil}
 use mathlib.Core.Bool.{true≢false}
-use Rattle.std.proofs.lemmas.Bool.{le-leb}
-use Rattle.std.proofs.lemmas.Option.{none-some, same_Some}
+use Rattle.std.proofs.lemmas.Bool.{le-leb, or_parts}
+use Rattle.std.proofs.Math.Bool.{or-true}
+use Rattle.std.proofs.lemmas.Option.{none-some}
 use Rattle.std.proofs.lemmas.List.Folds.{list_any-append}
 use Rattle.std.proofs.lemmas.List.Sums.{sum_by-cons}
 use Rattle.ifs_base.specs.declared.op.Op.{Op}
 use Rattle.ifs_gen.specs.Sharing.{same_op, same_code, firsts, is_shared, shared_among, most_shared}
 use Rattle.ifs_gen.specs.inner.Keys.{same_code_laws}
-use Rattle.ifs_gen.proofs.Among.{distinct_filter, firsts_distinct}
+use Rattle.ifs_policy.proofs.FirstUses as uses
+use Rattle.ifs_gen.proofs.Among.{each_at, distinct_filter, firsts_distinct}
+use Rattle.ifs_gen.proofs.Marking.{or_false}
 use Rattle.ifs_gen.specs.declared.sharing.Met.{Met}
 use Rattle.ifs_gen.specs.inner.Meetings.{is_long, with_code, meet, met_nothing, chosen, AreApart}
 
--- What no entry of a table is the same as.
+-- The codes that are the same as no entry of a table, and those that are not the same as one code.
 abbrev news : List (List Op) → List (List Op) → List (List Op)
-news table xs = filter (λ y. not (list_any (same_code y) table)) xs
+news table xs = uses.news same_code same_code_laws table xs
 
 abbrev others : List Op → List (List Op) → List (List Op)
-others x xs = filter (λ y. not (same_code x y)) xs
+others x xs = uses.others same_code same_code_laws x xs
 
--- A code that is the same as another is the same as what that one is.
 any_same : (x y : List Op) (table : List (List Op)) → same_code x y ≡ true → list_any (same_code y) table ≡ list_any (same_code x) table
-any_same x y [] e = refl
-any_same x y (z ∷ table) e = λ i. sym (same_code_laws.congr x y z e) i || any_same x y table e i
+any_same = uses.any_same same_code same_code_laws
 
--- The same codes are as long.
+-- The same codes have the same length.
 same_long : (x y : List Op) → same_code x y ≡ true → is_long x ≡ is_long y
 same_long x y e = ap (nat_le 5) (as_long same_op x y e)
 
--- What is the same as an entry is left out already.
-there_already : (x : List Op) (table xs : List (List Op)) → list_any (same_code x) table ≡ true → news table (others x xs) ≡ news table xs
-there_already x table [] there = refl
-there_already x table (y ∷ ys) there = by (same_code x y) refl (there_already x table ys there)
-  where
-    by : (b : Bool) → same_code x y ≡ b → news table (others x ys) ≡ news table ys
-        → news table (cond (not b) (y ∷ others x ys) (others x ys)) ≡ cond (not (list_any (same_code y) table)) (y ∷ news table ys) (news table ys)
-    by true e more = more ∙ ap (λ c. cond (not c) (y ∷ news table ys) (news table ys)) (sym (any_same x y table e ∙ there))
-    by false e more = ap (λ xs. cond (not (list_any (same_code y) table)) (y ∷ xs) xs) more
-
--- Of a table with one more entry, what is new is so in both.
-one_more : (x : List Op) (table xs : List (List Op)) → news (table ++ x ∷ []) xs ≡ news table (others x xs)
-one_more x table [] = refl
-one_more x table (y ∷ ys) = by (same_code x y) (list_any (same_code y) table) refl refl (one_more x table ys)
-  where
-    both : (c b : Bool) → list_any (same_code y) table ≡ c → same_code x y ≡ b → list_any (same_code y) (table ++ x ∷ []) ≡ c || (b || false)
-    both c b f e = list_any-append (same_code y) table (x ∷ []) ∙ (λ i. f i || ((same_code_laws.symm y x ∙ e) i || false))
-
-    kept : (d : Bool) → list_any (same_code y) (table ++ x ∷ []) ≡ d
-        → cond (not (list_any (same_code y) (table ++ x ∷ []))) (y ∷ news (table ++ x ∷ []) ys) (news (table ++ x ∷ []) ys) ≡ cond (not d) (y ∷ news (table ++ x ∷ []) ys) (news (table ++ x ∷ []) ys)
-    kept d e = ap (λ d. cond (not d) (y ∷ news (table ++ x ∷ []) ys) (news (table ++ x ∷ []) ys)) e
-
-    here : (c : Bool) → list_any (same_code y) table ≡ c → cond (not c) (y ∷ news table (others x ys)) (news table (others x ys)) ≡ news table (y ∷ others x ys)
-    here c f = ap (λ d. cond (not d) (y ∷ news table (others x ys)) (news table (others x ys))) (sym f)
-
-    by : (b c : Bool) → same_code x y ≡ b → list_any (same_code y) table ≡ c → news (table ++ x ∷ []) ys ≡ news table (others x ys)
-        → news (table ++ x ∷ []) (y ∷ ys) ≡ news table (cond (not b) (y ∷ others x ys) (others x ys))
-    by true true e f more = kept true (both true true f e) ∙ more
-    by true false e f more = kept true (both false true f e) ∙ more
-    by false true e f more = kept true (both true false f e) ∙ more ∙ here true f
-    by false false e f more = kept false (both false false f e) ∙ ap (λ xs. y ∷ xs) more ∙ here false f
-
--- the long ones of a list
+-- The codes of a list that are long enough.
 abbrev long_of : List (List Op) → List (List Op)
 long_of xs = filter is_long xs
 
--- Two tests of a list may be made in either order.
+-- Two filters commute.
 filter_swap : (p q : List Op → Bool) (xs : List (List Op)) → filter p (filter q xs) ≡ filter q (filter p xs)
 filter_swap p q [] = refl
 filter_swap p q (x ∷ xs) = by (p x) (q x) refl refl (filter_swap p q xs)
@@ -84,7 +53,7 @@ filter_swap p q (x ∷ xs) = by (p x) (q x) refl refl (filter_swap p q xs)
         ∙ more ∙ sym (ap (λ c. filter q (cond c (x ∷ filter p xs) (filter p xs))) e)
     by false false e f more = ap (λ c. filter p (cond c (x ∷ filter q xs) (filter q xs))) f ∙ more ∙ sym (ap (λ c. filter q (cond c (x ∷ filter p xs) (filter p xs))) e)
 
--- What is not long is left out of the long ones, whatever it is the same as.
+-- Leaving out what is the same as a short code does not change the long codes.
 short_out : (x : List Op) (xs : List (List Op)) → is_long x ≡ false → long_of (others x xs) ≡ long_of xs
 short_out x [] short = refl
 short_out x (y ∷ ys) short = by (same_code x y) refl (short_out x ys short)
@@ -94,7 +63,7 @@ short_out x (y ∷ ys) short = by (same_code x y) refl (short_out x ys short)
     by true e more = more ∙ ap (λ c. cond c (y ∷ long_of ys) (long_of ys)) (sym (sym (same_long x y e) ∙ short))
     by false e more = ap (λ xs. cond (is_long y) (y ∷ xs) xs) more
 
--- What is met first stands behind what stood there, once, in its order.
+-- New codes are appended once, in order.
 pub first_met : (met : Met) (xs : List (List Op)) → (fold meet met xs).once ≡ met.once ++ news met.once (long_of (firsts xs))
 first_met met [] = sym (append-nil met.once)
 first_met met (x ∷ xs) = by (is_long x) (list_any (same_code x) met.once) refl refl (λ m. first_met m xs)
@@ -113,7 +82,7 @@ first_met met (x ∷ xs) = by (is_long x) (list_any (same_code x) met.once) refl
         ap (λ c. (fold meet (cond c (cond (list_any (same_code x) met.once) (record { once = met.once; again = with_code met.again x }) (record { once = met.once ++ x ∷ []; again = met.again })) met) xs).once) long
         ∙ ap (λ c. (fold meet (cond c (record { once = met.once; again = with_code met.again x }) (record { once = met.once ++ x ∷ []; again = met.again })) xs).once) e
         ∙ more (record { once = met.once; again = with_code met.again x })
-        ∙ ap (λ l. met.once ++ l) (sym (there_already x met.once (long_of (firsts xs)) e) ∙ ap (news met.once) (filter_swap (λ y. not (same_code x y)) is_long (firsts xs)))
+        ∙ ap (λ l. met.once ++ l) (sym (uses.there_already same_code same_code_laws x met.once (long_of (firsts xs)) e) ∙ ap (news met.once) (filter_swap (λ y. not (same_code x y)) is_long (firsts xs)))
         ∙ ap (λ c. met.once ++ cond (not c) (x ∷ news met.once (long_of later)) (news met.once (long_of later))) (sym e)
         ∙ ap (λ c. met.once ++ news met.once (cond c (x ∷ long_of later) (long_of later))) (sym long)
     by true false long e more =
@@ -121,34 +90,25 @@ first_met met (x ∷ xs) = by (is_long x) (list_any (same_code x) met.once) refl
         ∙ ap (λ c. (fold meet (cond c (record { once = met.once; again = with_code met.again x }) (record { once = met.once ++ x ∷ []; again = met.again })) xs).once) e
         ∙ more (record { once = met.once ++ x ∷ []; again = met.again })
         ∙ append_assoc met.once (x ∷ []) (news (met.once ++ x ∷ []) (long_of (firsts xs)))
-        ∙ ap (λ l. met.once ++ x ∷ l) (one_more x met.once (long_of (firsts xs)) ∙ ap (news met.once) (filter_swap (λ y. not (same_code x y)) is_long (firsts xs)))
+        ∙ ap (λ l. met.once ++ x ∷ l) (uses.one_more same_code same_code_laws x met.once (long_of (firsts xs)) ∙ ap (news met.once) (filter_swap (λ y. not (same_code x y)) is_long (firsts xs)))
         ∙ ap (λ c. met.once ++ cond (not c) (x ∷ news met.once (long_of later)) (news met.once (long_of later))) (sym e)
         ∙ ap (λ c. met.once ++ news met.once (cond c (x ∷ long_of later) (long_of later))) (sym long)
 
--- Whether a table has a code.
+-- A table has a code.
 abbrev pub has : List Op → List (List Op) → Bool
 has x table = list_any (same_code x) table
 
--- Two Booleans, of which the second is known.
-or_true : (b : Bool) → (b || true) ≡ true
-or_true true = refl
-or_true false = refl
-
-or_false : (b : Bool) → (b || false) ≡ b
-or_false true = refl
-or_false false = refl
-
--- A table with one entry more has what it had, and what is the same as that entry.
+-- A table with one more entry has its former codes and that entry.
 has_last : (x y : List Op) (table : List (List Op)) (b : Bool) → same_code x y ≡ b → has x (table ++ y ∷ []) ≡ has x table || (b || false)
 has_last x y table b e = list_any-append (same_code x) table (y ∷ []) ∙ ap (λ c. has x table || (c || false)) e
 
 last_same : (x y : List Op) (table : List (List Op)) → same_code x y ≡ true → has x (table ++ y ∷ []) ≡ true
-last_same x y table e = has_last x y table true e ∙ or_true (has x table)
+last_same x y table e = has_last x y table true e ∙ or-true (has x table)
 
 last_other : (x y : List Op) (table : List (List Op)) → same_code x y ≡ false → has x (table ++ y ∷ []) ≡ has x table
 last_other x y table e = has_last x y table false e ∙ or_false (has x table)
 
--- So has one to which a code is added where it is new.
+-- A table with one more code, if it is new, has its former codes and that code.
 with_same : (x y : List Op) (table : List (List Op)) → same_code x y ≡ true → has x (with_code table y) ≡ true
 with_same x y table e = by (has y table) refl
   where
@@ -163,14 +123,14 @@ with_other x y table e = by (has y table) refl
     by true there = ap (λ c. has x (cond c table (table ++ y ∷ []))) there
     by false there = ap (λ c. has x (cond c table (table ++ y ∷ []))) there ∙ last_other x y table e
 
--- How often a code was met, up to twice.
+-- How often a code occurred, up to twice.
 abbrev times : Bool → Bool → ℕ
 times again once = cond again 2 (cond once 1 0)
 
 abbrev seen : List Op → Met → ℕ
 seen x met = times (has x met.again) (has x met.once)
 
--- The states after a code was met, by whether it is long and whether it was met before.
+-- The tables after a code, depending on its length and on earlier occurrences.
 abbrev met_again : Met → List Op → Met
 met_again met y = record { once = met.once; again = with_code met.again y }
 
@@ -180,7 +140,7 @@ met_first met y = record { once = met.once ++ y ∷ []; again = met.again }
 abbrev met_by : Met → List Op → Bool → Bool → Met
 met_by met y long there = cond long (cond there (met_again met y) (met_first met y)) met
 
--- Another code changes nothing, and the same code is seen once more.
+-- Another code changes nothing, and the same code counts once more.
 seen_other : (x y : List Op) (met : Met) (long there : Bool) → same_code x y ≡ false → seen x (met_by met y long there) ≡ seen x met
 seen_other x y met true true e = ap (λ b. times b (has x met.once)) (with_other x y met.again e)
 seen_other x y met true false e = ap (λ b. times (has x met.again) b) (last_other x y met.once e)
@@ -213,7 +173,7 @@ seen_same x y met n e = by (has x met.again) (has x met.once) (has y met.once) r
         ∙ ap (nat_le 2) (let same : 1 + n ≡ 0 + (1 + n) = omega arith in same)
         ∙ sym (ap (λ c. nat_le 2 (times c (has x met.once) + (1 + n))) a_is ∙ ap (λ c. nat_le 2 (times false c + (1 + n))) o_is)
 
--- A long code was met again where it was met twice, with what was met before.
+-- A long code occurred again if it occurred twice.
 pub met_twice : (x : List Op) (met : Met) (xs : List (List Op)) → is_long x ≡ true → has x (fold meet met xs).again ≡ nat_le 2 (seen x met + count_by (same_code x) xs)
 met_twice x met [] long = by (has x met.again) (has x met.once) refl refl
   where
@@ -238,15 +198,11 @@ met_twice x met (y ∷ xs) long = by (same_code x y) refl (met_twice x (meet met
         step ∙ ap (λ n. nat_le 2 (n + more)) (seen_other x y met (is_long y) (has y met.once) e)
         ∙ ap (λ n. nat_le 2 (seen x met + n)) ((let same : more ≡ 0 + more = omega arith in same) ∙ counted false e)
 
--- Before anything was met all is new, so each long code is kept once.
-all_new : (xs : List (List Op)) → news [] xs ≡ xs
-all_new [] = refl
-all_new (x ∷ xs) = ap (λ ys. x ∷ ys) (all_new xs)
-
+-- The first table has the distinct long codes.
 once_is : (all : List (List Op)) → (fold meet met_nothing all).once ≡ long_of (firsts all)
-once_is all = first_met met_nothing all ∙ all_new (long_of (firsts all))
+once_is all = first_met met_nothing all ∙ uses.all_new same_code same_code_laws (long_of (firsts all))
 
--- Those of the long ones that were met again are the shared ones.
+-- The long codes that occurred again are the shared ones.
 shared_are : (all xs : List (List Op)) → filter (λ code. has code (fold meet met_nothing all).again) (long_of xs) ≡ filter (is_shared all) xs
 shared_are all [] = refl
 shared_are all (x ∷ xs) = by (is_long x) refl (shared_are all xs)
@@ -265,13 +221,13 @@ shared_are all (x ∷ xs) = by (is_long x) refl (shared_are all xs)
         ap (λ c. filter test (cond c (x ∷ long_of xs) (long_of xs))) e ∙ more
         ∙ ap (λ c. cond (c && nat_le 2 (count_by (same_code x) all)) (x ∷ filter (is_shared all) xs) (filter (is_shared all) xs)) (sym e)
 
--- The chosen ones of all that were met are the shared ones.
+-- The chosen codes are the shared ones.
 pub chosen_is : (all : List (List Op)) → chosen (fold meet met_nothing all) ≡ shared_among all
 chosen_is all =
     ap (λ xs. take most_shared (filter (λ code. has code (fold meet met_nothing all).again) xs)) (once_is all)
     ∙ ap (take most_shared) (shared_are all (firsts all))
 
--- What is the same as none of a list is so of none of those that are kept.
+-- A code that is not in a list is not in the filtered list.
 none_left : (x : List Op) (p : List Op → Bool) (xs : List (List Op)) → has x xs ≡ false → has x (filter p xs) ≡ false
 none_left x p [] none = refl
 none_left x p (y ∷ ys) none = by (same_code x y) (p y) refl refl none (none_left x p ys)
@@ -282,33 +238,18 @@ none_left x p (y ∷ ys) none = by (same_code x y) (p y) refl refl none (none_le
     by false true e f off more = ap (λ d. has x (cond d (y ∷ filter p ys) (filter p ys))) f ∙ ap (λ d. d || has x (filter p ys)) e ∙ more (sym (ap (λ d. d || has x ys) e) ∙ off)
     by false false e f off more = ap (λ d. has x (cond d (y ∷ filter p ys) (filter p ys))) f ∙ more (sym (ap (λ d. d || has x ys) e) ∙ off)
 
--- No two of the codes that were met are the same.
+-- No two codes of the first table are the same.
 pub once_apart : (all : List (List Op)) → AreApart same_code (fold meet met_nothing all).once
 once_apart all = subst (AreApart same_code) (sym (once_is all)) (distinct_filter same_code is_long (firsts all) (firsts_distinct all))
 
--- What is not so of either is so of neither.
-or_first : (b c : Bool) → (b || c) ≡ false → b ≡ false
-or_first true c e = e
-or_first false c e = refl
-
-or_second : (b c : Bool) → (b || c) ≡ false → c ≡ false
-or_second true c e = absurd (true≢false e)
-or_second false c e = e
-
--- No later entry is the same.
-not_later : (y : List Op) (ys : List (List Op)) (i : ℕ) (x : List Op) → AllByRecursion (λ other. same_code y other ≡ false) ys → slice_get ys i ≡ Some x → same_code y x ≡ false
-not_later y [] i x none at = absurd (none-some x at)
-not_later y (z ∷ zs) zero x none at = ap (same_code y) (sym (same_Some z x at)) ∙ none.0
-not_later y (z ∷ zs) (suc i) x none at = not_later y zs i x none.1 at
-
--- An entry is the same as none before it.
+-- No earlier entry is the same code.
 pub none_before : (xs : List (List Op)) (i : ℕ) (x : List Op) → AreApart same_code xs → slice_get xs i ≡ Some x → has x (take i xs) ≡ false
 none_before [] i x apart at = absurd (none-some x at)
 none_before (y ∷ ys) zero x apart at = refl
 none_before (y ∷ ys) (suc i) x apart at =
-    ap (λ c. c || has x (take i ys)) (same_code_laws.symm x y ∙ not_later y ys i x apart.0 at) ∙ none_before ys i x apart.1 at
+    ap (λ c. c || has x (take i ys)) (same_code_laws.symm x y ∙ each_at (λ other. same_code y other ≡ false) ys i x apart.0 at) ∙ none_before ys i x apart.1 at
 
--- so it is of the first of these
+-- A code that is not in a list is not in a front of the filtered list.
 pub none_kept : (x : List Op) (p : List Op → Bool) (n : ℕ) (xs : List (List Op)) → has x xs ≡ false → has x (take n (filter p xs)) ≡ false
 none_kept x p n xs none = none_taken n (filter p xs) (none_left x p xs none)
   where
@@ -317,4 +258,4 @@ none_kept x p n xs none = none_taken n (filter p xs) (none_left x p xs none)
     none_taken zero (y ∷ ys) none = refl
     none_taken (suc n) [] none = refl
     none_taken (suc n) (y ∷ ys) none =
-        ap (λ c. c || has x (take n ys)) (or_first (same_code x y) (has x ys) none) ∙ none_taken n ys (or_second (same_code x y) (has x ys) none)
+        let parts = or_parts (same_code x y) (has x ys) none in ap (λ c. c || has x (take n ys)) parts.0 ∙ none_taken n ys parts.1

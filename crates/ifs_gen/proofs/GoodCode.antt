@@ -23,7 +23,7 @@ use Rattle.ifs_gen.proofs.TypedTrees.{held_starts, held_fine}
 use Rattle.ifs_gen.proofs.TypedBlocks.{IsTypedCoder, kinds_of_block, kinds_of_block_sized}
 use Rattle.ifs_gen.proofs.TypedBlocks.{block_starts, block_fine, block_low}
 
--- The kinds at a place of a list; none past its end.
+-- The kinds at a place of a list; none after its end.
 abbrev pub listed : List (List Kind) → ℕ → List Kind
 listed [] place = []
 listed (k ∷ ks) zero = k
@@ -44,7 +44,7 @@ has_listed front (k ∷ ks) =
     )
 
 module _ (image : ImageParts) (callees : Callees) where
-  -- the routine of a shared condition is good
+  -- The routine of a shared condition is good.
   pub shared_good : (c : Condition) → ConditionFits (image_sizes image) c → (good : IsGood image callees (shared_routine (condition_code c))) × (good.height ≡ condition_height c)
   shared_good c fits =
       let high = condition_height c in
@@ -81,7 +81,7 @@ module _ (image : ImageParts) (callees : Callees) where
     abbrev kinds_of : List (List Kind)
     kinds_of = kinds_of_block image callees coder typed block
 
-    -- an init is good
+    -- An init is good.
     pub init_good : (good : IsGood image callees (routine_of_code (init_code coder block))) × (good.height ≡ high)
     init_good =
         let end = code_size coder block in
@@ -109,7 +109,7 @@ module _ (image : ImageParts) (callees : Callees) where
         } in
         (good, refl)
 
-    -- a body is good
+    -- A body is good.
     pub body_good : (good : IsGood image callees (routine_of_code (body_code coder (length image.tests) block))) × (good.height ≡ high)
     body_good =
         let count = length image.tests in

@@ -1,4 +1,4 @@
--- An image whose routines are all good keeps the rules of acceptance, where its tables and budgets do.
+-- If all routines of an image are good, and its tables and budgets keep the rules of acceptance, so does the image.
 use Rattle.std.proofs.Common.{◌≡◌, ℕ, zero, suc, ◌+◌, ◌-◌, ◌<◌, ◌≤◌, ⊎_elim, List, [], ◌∷◌, ◌++◌, length}
 use Rattle.std.proofs.Common.{Option, Some, None, refl, sym, ap, ◌∙◌, subst, arith, length-append}
 use Rattle.std.specs.Prelude.{slice_get, nat_le, if◌then◌else◌}
@@ -24,7 +24,7 @@ abbrev pub EachGood : ImageParts → Callees → List Routine → Type 0
 EachGood image callees [] = Unit {0}
 EachGood image callees (r ∷ routines) = IsGood image callees r × EachGood image callees routines
 
--- The kinds at each place of each, and the height of each.
+-- The kinds at each place of each routine, and its height.
 abbrev pub kinds_in : (image : ImageParts) (callees : Callees) (routines : List Routine) → EachGood image callees routines → ℕ → ℕ → List Kind
 kinds_in image callees [] good k place = []
 kinds_in image callees (r ∷ routines) good zero place = good.0.kinds place
@@ -35,7 +35,7 @@ heights_in image callees [] good k = 0
 heights_in image callees (r ∷ routines) good zero = good.0.height
 heights_in image callees (r ∷ routines) good (suc k) = heights_in image callees routines good.1 k
 
--- What an instruction weighs and all that follow it, from a place of a code on.
+-- The total weight of the instructions of a code from a place on.
 abbrev pub amount : (Op → ℕ) → List Op → ℕ → ℕ
 amount weight [] place = 0
 amount weight (op ∷ ops) zero = weight op + amount weight ops zero
@@ -68,7 +68,7 @@ amount_past weight [] place le = refl
 amount_past weight (x ∷ code) zero le = absurd (omega arith)
 amount_past weight (x ∷ code) (suc place) le = amount_past weight code place (omega arith)
 
--- where two weights agree on the instructions of a code, its amounts agree
+-- If two weights agree on the instructions of a code, so do its totals.
 pub amount_same : (f g : Op → ℕ) (code : List Op) → ((place : ℕ) (op : Op) → slice_get code place ≡ Some op → f op ≡ g op) → (place : ℕ) → amount f code place ≡ amount g code place
 amount_same f g [] same place = refl
 amount_same f g (x ∷ code) same zero =
@@ -77,7 +77,7 @@ amount_same f g (x ∷ code) same zero =
     omega (arith, here, rest)
 amount_same f g (x ∷ code) same (suc place) = amount_same f g code (λ place op e. same (suc place) op e) place
 
--- what a callee adds depends on what is called alone
+-- The weight of a callee depends only on the called routine.
 callee_same : (f g : ℕ → ℕ → ℕ) (op : Op) → ((callee : RoutineId) → op ≡ Call callee → f callee.0 0 ≡ g callee.0 0) → callee_amount f op ≡ callee_amount g op
 callee_same f g (Call callee) same = same callee refl
 callee_same f g op same = refl
@@ -86,16 +86,16 @@ callee_less : (f g : ℕ → ℕ → ℕ) (op : Op) → ((routine : ℕ) → f r
 callee_less f g (Call callee) less = less callee.0
 callee_less f g op less = omega arith
 
--- an instruction that is no call adds nothing of a callee's
+-- An instruction other than a call adds no weight of a callee.
 no_callee : (amounts : ℕ → ℕ → ℕ) (op : Op) → ((callee : RoutineId) → op ≡ Call callee → ⊥) → callee_amount amounts op ≡ 0
 no_callee amounts (Call callee) never = absurd (never callee refl)
 no_callee amounts op never = refl
 
--- An instruction weighs its own weight, and that of what it calls.
+-- The weight of an instruction with that of its callee.
 abbrev pub with_callee : (Op → ℕ) → ImageParts → Op → ℕ
 with_callee weight image op = weight op + callee_amount (λ routine place. amount weight (code_of image routine) place) op
 
--- where jumps lead on, so does every way
+-- If jumps lead forward, so does each path.
 leads_on : (op : Op) (place to : ℕ) → IsSuccessor op place to → ((target : ℕ) → target_of op ≡ Some target → place < target) → place < to
 leads_on Ret place to h jumps = absurd h
 leads_on (Jump target) place to h jumps = let j = jumps target refl in omega (arith, h, j)
@@ -104,7 +104,7 @@ leads_on (JumpTrue target) place to h jumps = let j = jumps target refl in ⊎_e
 leads_on op place to h jumps = omega (arith, h)
 
 module _ (image : ImageParts) (callees : Callees) where
-  -- A good routine of a list, at its place there.
+  -- A good routine at its index in a list.
   record Found (routines : List Routine) (all : EachGood image callees routines) (k : ℕ) (r : Routine) : Type 0 where
     good : IsGood image callees r
     kinds : kinds_in image callees routines all k ≡ good.kinds
@@ -144,22 +144,22 @@ module _ (image : ImageParts) (callees : Callees) where
     has routine is = let there = entry_at image.routines routine is in has_at routine there.0 there.1
 
     -- An instruction of a routine.
-    record Stands (routine place : ℕ) (op : Op) : Type 0 where
+    record HasOp (routine place : ℕ) (op : Op) : Type 0 where
       in_routine : Has routine
       is : IsAt image callees in_routine.r in_routine.found.good place op
 
-    stands_in : (o : Option Routine) (routine place : ℕ) (op : Op) → slice_get image.routines routine ≡ o → op_at image routine place ≡ Some op → Stands routine place op
-    stands_in None routine place op e h = absurd (none-some op (sym (ap (λ o. slice_get (code_in o) place) e) ∙ h))
-    stands_in (Some r) routine place op e h =
+    has_op_in : (o : Option Routine) (routine place : ℕ) (op : Op) → slice_get image.routines routine ≡ o → op_at image routine place ≡ Some op → HasOp routine place op
+    has_op_in None routine place op e h = absurd (none-some op (sym (ap (λ o. slice_get (code_in o) place) e) ∙ h))
+    has_op_in (Some r) routine place op e h =
         let there = has_at routine r e in
         record { in_routine = there; is = is_at image callees there.r there.found.good place op (sym (ap (λ o. slice_get (code_in o) place) there.at) ∙ h) }
 
-    stands : (routine place : ℕ) (op : Op) → op_at image routine place ≡ Some op → Stands routine place op
-    stands routine place op h = stands_in (slice_get image.routines routine) routine place op refl h
+    has_op : (routine place : ℕ) (op : Op) → op_at image routine place ≡ Some op → HasOp routine place op
+    has_op routine place op h = has_op_in (slice_get image.routines routine) routine place op refl h
 
     pub operands : (routine place : ℕ) (op : Op) → op_at image routine place ≡ Some op → HasOperand image op
     operands routine place op h =
-        let s = stands routine place op h in
+        let s = has_op routine place op h in
         elim s.is [
           | inside within fine ↦ fine.operand
           | last at ret ↦ subst (λ o. HasOperand image o) (sym ret) tt
@@ -167,7 +167,7 @@ module _ (image : ImageParts) (callees : Callees) where
 
     pub jumps : JumpsLeadOn image
     jumps routine place op target h t =
-        let s = stands routine place op h in
+        let s = has_op routine place op h in
         let long = s.in_routine.long in
         elim s.is [
           | inside within fine ↦ let j = fine.jumps target t in (j.0, omega (arith, j.1, long))
@@ -185,7 +185,7 @@ module _ (image : ImageParts) (callees : Callees) where
     reached routine zero lt within = absurd (omega (arith, lt))
     reached routine (suc place) lt within =
         let there = entry_at (code_of image routine) place (omega (arith, within)) in
-        let s = stands routine place there.0 there.1 in
+        let s = has_op routine place there.0 there.1 in
         let long = s.in_routine.long in
         let next : place + 1 ≡ suc place = omega arith in
         elim s.is [
@@ -199,14 +199,14 @@ module _ (image : ImageParts) (callees : Callees) where
         record {
           start = ap (λ k. k 0) there.found.kinds ∙ there.found.good.start ∙ sym (ap params_in there.at);
           flows = λ place op h.
-              let s = stands routine place op h in
+              let s = has_op routine place op h in
               let same = s.in_routine.found.kinds in
               elim s.is [
                 | inside before fine ↦ (fine.after, ap (λ k. effect image op (k place)) same ∙ fine.effect_is, λ to successor. ap (λ k. k to) same ∙ fine.onward to successor)
                 | last at ret ↦ (kinds routine place, ap (λ o. effect image o (kinds routine place)) ret, λ to successor. absurd (subst (λ o. IsSuccessor o place to) ret successor))
               ];
           results = λ place h.
-              let s = stands routine place Ret h in
+              let s = has_op routine place Ret h in
               let same = s.in_routine.found.kinds in
               elim s.is [
                 | inside before fine ↦ absurd fine.falls
@@ -214,13 +214,13 @@ module _ (image : ImageParts) (callees : Callees) where
               ];
         }
 
-    -- The first routines, which may be called: they take nothing and call nothing, and are as high as is told.
+    -- The routines that may be called have no parameters and no calls, and have the stated heights.
     pub record AreCallees : Type 0 where
       pub bare : (routine : ℕ) → routine < callees.count → params_of image routine ≡ []
       pub quiet : (routine place : ℕ) (callee : RoutineId) → routine < callees.count → op_at image routine place ≡ Some (Call callee) → ⊥
       pub high : (routine : ℕ) → routine < callees.count → heights routine ≡ callees.height routine
 
-    -- What a call of a routine needs.
+    -- The requirements of a call.
     record MayCall (routine place : ℕ) (callee : RoutineId) : Type 0 where
       known : callee.0 < callees.count
       there : IsRoutine image callee.0
@@ -228,7 +228,7 @@ module _ (image : ImageParts) (callees : Callees) where
 
     may_call : (routine place : ℕ) (callee : RoutineId) → op_at image routine place ≡ Some (Call callee) → MayCall routine place callee
     may_call routine place callee h =
-        let s = stands routine place (Call callee) h in
+        let s = has_op routine place (Call callee) h in
         let f = s.in_routine.found in
         let same = ap (λ k. length (k place)) f.kinds in
         let high = f.height in
@@ -249,7 +249,7 @@ module _ (image : ImageParts) (callees : Callees) where
       pub are_heights : AreHeights image kinds heights
       are_heights = record {
         before = λ routine place op h.
-            let s = stands routine place op h in
+            let s = has_op routine place op h in
             let f = s.in_routine.found in
             let same = ap (λ k. length (k place)) f.kinds in
             let high = f.height in
@@ -258,7 +258,7 @@ module _ (image : ImageParts) (callees : Callees) where
               | last at ret ↦ let end = at_end f.good at in omega (arith, same, high, end)
             ];
         after = λ routine place op next h effect_is.
-            let s = stands routine place op h in
+            let s = has_op routine place op h in
             let f = s.in_routine.found in
             let high = f.height in
             elim s.is [
@@ -284,7 +284,7 @@ module _ (image : ImageParts) (callees : Callees) where
               let room = good.room in
               omega (arith, long, room)
 
-      -- frames: a callee's own, and so many of any other routine's
+      -- Frames: one of a callee, and `frames` of any other routine.
       abbrev pub depth : ℕ → ℕ → ℕ
       depth frames routine = if nat_le callees.count routine then frames else 1
 
@@ -316,7 +316,7 @@ module _ (image : ImageParts) (callees : Callees) where
         abbrev own_amounts : ℕ → ℕ → ℕ
         own_amounts routine place = amount weight (code_of image routine) place
 
-        -- a callee's amounts are those of its own instructions
+        -- The amounts of a callee are those of its own instructions.
         alone : (routine place : ℕ) → routine < callees.count → amounts routine place ≡ own_amounts routine place
         alone routine place lower =
             amount_same (with_callee weight image) weight (code_of image routine)
@@ -339,14 +339,14 @@ module _ (image : ImageParts) (callees : Callees) where
               omega (arith, here, same, less);
         }
 
-    -- amounts from a place on are the least: control may fall through each instruction
+    -- The amounts from a place on are the least ones, since control may fall through each instruction.
     least_from : (weight heavy : Op → ℕ) (bound : ℕ → ℕ → ℕ) → AreAmounts weight image bound → ((op : Op) → heavy op ≤ weight op + callee_amount bound op)
         → (routine n place : ℕ) → place + n ≡ length (code_of image routine) → amount heavy (code_of image routine) place ≤ bound routine place
     least_from weight heavy bound are light routine zero place e =
         let none = amount_past heavy (code_of image routine) place (omega (arith, e)) in omega (arith, none)
     least_from weight heavy bound are light routine (suc n) place e =
         let there = entry_at (code_of image routine) place (omega (arith, e)) in
-        let s = stands routine place there.0 there.1 in
+        let s = has_op routine place there.0 there.1 in
         let here = amount_at heavy (code_of image routine) place there.0 there.1 in
         let long = s.in_routine.long in
         let few = light there.0 in
@@ -367,7 +367,7 @@ module _ (image : ImageParts) (callees : Callees) where
         least_from weight (with_callee weight image) bound are
         (λ op. let less = callee_less (λ r place. amount weight (code_of image r) place) bound op own in omega (arith, less)) routine (length (code_of image routine)) 0 (omega arith)
 
-    -- so are heights, of any typing: it is the only one
+    -- So are the heights of any typing, since there is only one.
     module _ (one : HasOneTyping) (other : ℕ → ℕ → List Kind) (tops : ℕ → ℕ) (typed : AreTypings image other) (are : AreHeights image other tops) (first : AreCallees) where
       same_kinds : (routine place : ℕ) → IsRoutine image routine → place < length (code_of image routine) → kinds routine place ≡ other routine place
       same_kinds routine place is lt = one image routine (kinds routine) (other routine) reached (typings routine is) (typed routine is) place lt

@@ -1,4 +1,4 @@
--- The routines of a policy's image are good: those of shared conditions, and behind them those of its parts.
+-- The routines of a policy's image are good: those of shared conditions, then those of its parts.
 use Rattle.std.proofs.Common.{◌≡◌, ℕ, zero, suc, ◌+◌, ◌*◌, ◌<◌, ◌≤◌, List, [], ◌∷◌, ◌++◌, length, map}
 use Rattle.std.proofs.Common.{Some, refl, sym, ap, ◌∙◌, subst, arith}
 use Rattle.std.specs.Prelude.{slice_get, All}
@@ -11,7 +11,7 @@ use Rattle.ifs_base.specs.declared.op.Op.{Op}
 use Rattle.ifs_base.specs.declared.op.Op.TheVariants.{Ret, Negate, Both, Either, Call}
 use Rattle.ifs_image.specs.declared.parts.Routine.{Routine}
 use Rattle.ifs_image.specs.declared.parts.ImageParts.{ImageParts}
-use Rattle.ifs_gen.specs.Trees.{LinkIs, TestIs, Condition, Leaf, NotSo, And, Or, Block, Done, RunThen, WantThen, IfThen, Part}
+use Rattle.ifs_gen.specs.Trees.{LinkIs, TestIs, Condition, Leaf, NotSo, And, Or, Block, Done, RunThen, SetStateThen, IfThen, Part}
 use Rattle.ifs_gen.specs.PlainCode.{Coder, plain_coder, condition_code, body_code, init_code, block_height}
 use Rattle.ifs_gen.specs.PlainSizes.{greatest, part_height}
 use Rattle.ifs_gen.specs.PolicyImage.{routine_of_code, routines_of, shared_routine}
@@ -19,44 +19,42 @@ use Rattle.ifs_gen.specs.Sharing.{shared_coder}
 use Rattle.ifs_policy.specs.Fits.{BlockFits, HandlersFit}
 use Rattle.ifs_gen.specs.Runs.{image_sizes, HasShared}
 use Rattle.ifs_gen.proofs.Fine.{Callees, IsGood}
-use Rattle.ifs_gen.proofs.StackHeights.{tall, tall_is, IsConditionCode, each_append, IsLow}
+use Rattle.ifs_policy.proofs.Lists.{each_both}
+use Rattle.ifs_gen.proofs.Among.{each_at}
+use Rattle.ifs_gen.proofs.StackHeights.{tall, tall_is, IsConditionCode, IsLow}
 use Rattle.ifs_gen.proofs.GoodRoutines.{EachGood, heights_in}
 use Rattle.ifs_gen.proofs.TypedBlocks.{IsTypedCoder}
 use Rattle.ifs_gen.proofs.CalledTypes.{MayBeCalled, shared_typed}
 use Rattle.ifs_gen.proofs.GoodCode.{shared_good, init_good, body_good}
 
--- The code of a condition calls nothing, and neither does it with its `ret`.
+-- The code of a condition has no call, with or without its `ret`.
 abbrev IsNoCall : Op → Type 0
 IsNoCall op = (callee : RoutineId) → op ≡ Call callee → ⊥
 
 code_quiet : (c : Condition) → AllByRecursion IsNoCall (condition_code c)
 code_quiet (Leaf (LinkIs n s)) = (λ callee e. cc, tt)
 code_quiet (Leaf (TestIs n)) = (λ callee e. cc, tt)
-code_quiet (NotSo c) = each_append IsNoCall (condition_code c) (Negate ∷ []) (code_quiet c) (λ callee e. cc, tt)
-code_quiet (And a b) = each_append IsNoCall (condition_code a) (condition_code b ++ Both ∷ []) (code_quiet a) (each_append IsNoCall (condition_code b) (Both ∷ []) (code_quiet b) (λ callee e. cc, tt))
-code_quiet (Or a b) = each_append IsNoCall (condition_code a) (condition_code b ++ Either ∷ []) (code_quiet a) (each_append IsNoCall (condition_code b) (Either ∷ []) (code_quiet b) (λ callee e. cc, tt))
-
-no_call_at : (ops : List Op) → AllByRecursion IsNoCall ops → (place : ℕ) (callee : RoutineId) → slice_get ops place ≡ Some (Call callee) → ⊥
-no_call_at [] quiet place callee e = none-some (Call callee) e
-no_call_at (op ∷ ops) quiet zero callee e = quiet.0 callee (same_Some op (Call callee) e)
-no_call_at (op ∷ ops) quiet (suc place) callee e = no_call_at ops quiet.1 place callee e
+code_quiet (NotSo c) = each_both IsNoCall (condition_code c) (Negate ∷ []) (code_quiet c) (λ callee e. cc, tt)
+code_quiet (And a b) = each_both IsNoCall (condition_code a) (condition_code b ++ Both ∷ []) (code_quiet a) (each_both IsNoCall (condition_code b) (Both ∷ []) (code_quiet b) (λ callee e. cc, tt))
+code_quiet (Or a b) = each_both IsNoCall (condition_code a) (condition_code b ++ Either ∷ []) (code_quiet a) (each_both IsNoCall (condition_code b) (Either ∷ []) (code_quiet b) (λ callee e. cc, tt))
 
 pub shared_quiet : (c : Condition) (place : ℕ) (callee : RoutineId) → slice_get (condition_code c ++ Ret ∷ []) place ≡ Some (Call callee) → ⊥
-shared_quiet c place callee e = no_call_at (condition_code c ++ Ret ∷ []) (each_append IsNoCall (condition_code c) (Ret ∷ []) (code_quiet c) (λ callee e. cc, tt)) place callee e
+shared_quiet c place callee e =
+    each_at IsNoCall (condition_code c ++ Ret ∷ []) place (Call callee) (each_both IsNoCall (condition_code c) (Ret ∷ []) (code_quiet c) (λ callee e. cc, tt)) e callee refl
 
--- a call does not change how high a block grows: its callee stands on an empty stack
+-- Calls do not change the height of a block, since they are made on an empty stack.
 pub height_same : (table : List (List Op)) (block : Block) → block_height (shared_coder table) block ≡ block_height plain_coder block
 height_same table Done = refl
 height_same table (RunThen n rest) = let h = height_same table rest in omega (arith, h)
-height_same table (WantThen n rest) = let h = height_same table rest in omega (arith, h)
+height_same table (SetStateThen n rest) = let h = height_same table rest in omega (arith, h)
 height_same table (IfThen c inner rest) = let h = height_same table inner in let g = height_same table rest in omega (arith, h, g)
 
 module _ (image : ImageParts) (callees : Callees) where
-  -- A good routine of a height.
+  -- A routine is good and has this height.
   abbrev Good : Routine → ℕ → Type 0
   Good r height = (good : IsGood image callees r) × (good.height ≡ height)
 
-  -- lists of good routines, one behind the other
+  -- Two lists of good routines in sequence.
   abbrev pub good_append : (xs ys : List Routine) → EachGood image callees xs → EachGood image callees ys → EachGood image callees (xs ++ ys)
   good_append [] ys one two = two
   good_append (x ∷ xs) ys one two = (one.0, good_append xs ys one.1 two)
@@ -74,7 +72,7 @@ module _ (image : ImageParts) (callees : Callees) where
   heights_left (x ∷ xs) ys one two zero lt = refl
   heights_left (x ∷ xs) ys one two (suc i) lt = heights_left xs ys one.1 two i (omega (arith, lt))
 
-  -- the routine of a shared code is good, and as high as the code
+  -- The routine of a shared code is good, and has the height of the code.
   pub shared_is_good : (code : List Op) → IsConditionCode (image_sizes image) code → Good (shared_routine code) (tall code)
   shared_is_good code own =
       let good = shared_good image callees own.condition own.fits in
@@ -84,7 +82,7 @@ module _ (image : ImageParts) (callees : Callees) where
   each_shared_good [] own = tt
   each_shared_good (code ∷ codes) own = ((shared_is_good code own.0).0, each_shared_good codes own.1)
 
-  -- their heights
+  -- The heights of these routines.
   pub shared_height : (codes : List (List Op)) (own : AllByRecursion (IsConditionCode (image_sizes image)) codes) (k : ℕ) (code : List Op) → slice_get codes k ≡ Some code
       → heights_in image callees (map shared_routine codes) (each_shared_good codes own) k ≡ tall code
   shared_height [] own k code e = absurd (none-some code e)
@@ -104,7 +102,7 @@ module _ (image : ImageParts) (callees : Callees) where
     typed : IsTypedCoder image callees coder
     typed = shared_typed image callees table shared back may
 
-    -- each routine is good, and no higher than the parts
+    -- Each routine of a part is good, and no higher than the parts.
     pub init_is_good : (block : Block) → BlockFits (image_sizes image) block → Good (routine_of_code (init_code coder block)) (block_height plain_coder block)
     init_is_good block fits = let good = init_good image callees coder typed block fits in (good.0, good.1 ∙ height_same table block)
 
@@ -128,7 +126,7 @@ module _ (image : ImageParts) (callees : Callees) where
     heights_within (x ∷ parts) fits (suc (suc i)) =
         let h = heights_within parts (All-tail (HandlersFit (image_sizes image)) x parts fits) i in omega (arith, h)
 
-    -- the heights of part k
+    -- The heights of part k.
     pub init_height : (parts : List Part) (fits : All (HandlersFit (image_sizes image)) parts) (k : ℕ) (part : Part) → slice_get parts k ≡ Some part
         → heights_in image callees (routines_of coder count parts) (each_good parts fits) (2 * k) ≡ block_height plain_coder part.init
     init_height [] fits k part e = absurd (none-some part e)

@@ -1,4 +1,4 @@
--- Handlers of a policy on the machine: a body that is held back goes to its end, and else does what it reaches.
+-- Handlers of a policy on the machine: a body that is held back jumps to its end; otherwise it has the effects that it reaches.
 use Rattle.std.proofs.Common.{◌≡◌, ℕ, suc, ◌+◌, ◌*◌, ◌<◌, ◌≤◌, Bool, true, false, not, cond, List, []}
 use Rattle.std.proofs.Common.{◌∷◌, ◌++◌, length, Option, Some, None, refl, sym, ap, ◌∙◌, subst, arith}
 use Rattle.std.specs.Prelude.{◌||◌, is_some, slice_get, if◌then◌else◌}
@@ -44,7 +44,7 @@ module _ (image : ImageParts) (facts : Facts) (coder : Coder) (given : AreFactsO
         one_row image facts routine [] _ _ (Known n) here
         (rw there.1 (unless_fits 1 image.budgets.stack StackFull _ room ∙ ap (λ b. at_point routine [] (point (place + 1) (Truth b ∷ []) effects)) (known_value there.0)))
 
-    -- a test that has no value leads to the end, and one that has leads on
+    -- A test without a value leads to the end, and one with a value to the next test.
     held_choice : (b any : Bool) (place end past cost : ℕ) (effects : Effects) → leads (point place [] effects) 2 (point (cond b (place + 1 + 1) end) [] effects)
         → leads (point (place + 2) [] effects) cost (point (if any then end else past) [] effects)
         → leads (point place [] effects) (2 + (if not b then 0 else cost)) (point (if not b || any then end else past) [] effects)
@@ -69,7 +69,7 @@ module _ (image : ImageParts) (facts : Facts) (coder : Coder) (given : AreFactsO
         (then_leads image facts routine [] _ _ _ 1 1 known jump)
         (subst (λ p. leads (point (place + 2) [] effects) (held_cost facts tests) (point (if list_any (is_open facts) tests then end else p) [] effects)) far onward)
 
-    -- what a frame without values comes to at its `ret`
+    -- A frame without values ends at its `ret`.
     ends : (place cost : ℕ) (before effects : Effects) → results_of image routine ≡ [] → 1 ≤ image.budgets.frames → op_at image routine place ≡ Some Ret
         → leads (point 0 [] before) cost (point place [] effects) → RunsTo image facts routine before (cost + 1) effects
     ends place cost before effects results frame here runs =
@@ -95,7 +95,7 @@ module _ (image : ImageParts) (facts : Facts) (coder : Coder) (given : AreFactsO
         let runs = block_leads image facts coder computes routine [] block 0 [] before h.fits (has_left code 0 (block_code coder 0 block) (Ret ∷ []) has) (omega (arith, stack)) (omega (arith, frames)) h.commands in
         ends (0 + code_size coder block) (block_cost coder facts block) before (followed before (reached facts block)) h.results (omega (arith, framed, frames)) ret.0 runs
 
-    -- a body that is held back has gone to its end, and else its block leads there
+    -- A body that is held back is at its end; otherwise its block leads there.
     body_choice : (held : Bool) (start end first cost : ℕ) (before more : Effects) → leads (point 0 [] before) first (point (if held then end else start) [] before)
         → leads (point start [] before) cost (point end [] (followed before more))
         → leads (point 0 [] before) (first + (if held then 0 else cost)) (point end [] (followed before (if held then nothing_yet else more)))

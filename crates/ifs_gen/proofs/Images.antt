@@ -14,12 +14,12 @@ use Rattle.ifs_image.specs.declared.parts.Routine.{Routine}
 use Rattle.ifs_image.specs.declared.parts.ImageParts.{ImageParts}
 use Rattle.ifs_gen.specs.Trees.{Part, Policy}
 use Rattle.ifs_gen.specs.PlainCode.{Coder, tests_below, body_code, init_code}
-use Rattle.ifs_gen.specs.PlainSizes.{parts_of, mask_of, greatest}
+use Rattle.ifs_gen.specs.PlainSizes.{parts_of, mask_of, greatest, number_in}
 use Rattle.ifs_gen.specs.PolicyImage.{handlers_of, states_from, routine_of_code, routines_of, shared_routine}
 use Rattle.ifs_gen.specs.PolicyImage.{shared_of, image_with}
 use Rattle.ifs_gen.specs.Runs.{HasShared}
 
--- the routines of part k
+-- The routines of part k.
 pub init_at : (coder : Coder) (count : ℕ) (parts : List Part) (k : ℕ) (part : Part) → slice_get parts k ≡ Some part
     → slice_get (routines_of coder count parts) (2 * k) ≡ Some (routine_of_code (init_code coder part.init))
 init_at coder count [] k part e = absurd (none-some part e)
@@ -66,7 +66,7 @@ state_at shared count k (x ∷ names) (part ∷ parts) (suc j) spec e =
     let same : k + 1 + j ≡ k + suc j = omega arith in
     record { name = s.name; part = s.part; named = s.named; at = s.at; is = s.is ∙ ap made same }
 
--- A state of the policy is one of the image.
+-- A state of the policy is a state of the image.
 pub record SpecAt (shared count k : ℕ) (names : List (List ℕ)) (parts : List Part) (j : ℕ) (part : Part) : Type 0 where
   pub spec : StateSpec
   pub at : slice_get (states_from shared count k names parts) j ≡ Some spec
@@ -83,7 +83,7 @@ spec_at shared count k (name ∷ names) (x ∷ parts) (suc j) part long e =
     let same : k + 1 + j ≡ k + suc j = omega arith in
     record { spec = s.spec; at = s.at; handlers = s.handlers ∙ ap (λ n. handlers_of shared count n part) same }
 
--- a state's part is the one after the always part and those before it
+-- The part of a state follows the always part and those of earlier states.
 pub part_at : (policy : Policy) (j : ℕ) (part : Part) → slice_get policy.states j ≡ Some part → slice_get (parts_of policy) (1 + j) ≡ Some part
 part_at policy j part e = let one : 1 + j ≡ suc j = omega arith in ap (slice_get (parts_of policy)) one ∙ e
 
@@ -92,6 +92,11 @@ at_most_greatest number [] j x e = absurd (none-some x e)
 at_most_greatest number (y ∷ xs) zero x e = let same = ap number (same_Some y x e) in omega (arith, same)
 at_most_greatest number (y ∷ xs) (suc j) x e = let h = at_most_greatest number xs j x e in omega (arith, h)
 
+pub number_low : {T : Type 0} (number : T → ℕ) (xs : List T) (k : ℕ) → number_in number (slice_get xs k) ≤ greatest number xs
+number_low number [] k = omega arith
+number_low number (x ∷ xs) zero = omega arith
+number_low number (x ∷ xs) (suc k) = let h = number_low number xs k in omega (arith, h)
+
 pub greatest_below : {T : Type 0} (number : T → ℕ) (xs : List T) (b : ℕ) → All (λ x. number x ≤ b) xs → greatest number xs ≤ b
 greatest_below number [] b h = omega arith
 greatest_below number (x ∷ xs) b h =
@@ -99,7 +104,7 @@ greatest_below number (x ∷ xs) b h =
     let rest = greatest_below number xs b (All-tail (λ x. number x ≤ b) x xs h) in
     omega (arith, first, rest)
 
--- the set of tests below a number
+-- The set of tests below a number.
 pub mask_append : (xs ys : List TestId) → mask_of (xs ++ ys) ≡ mask_of xs + mask_of ys
 mask_append [] ys = let e : mask_of ys ≡ 0 + mask_of ys = omega arith in e
 mask_append (x ∷ xs) ys = let e = mask_append xs ys in omega (arith, e)
@@ -118,7 +123,7 @@ mask_below (suc count) tests =
     let twice = pow-suc 2 count in
     omega (arith, e, h, g, twice)
 
--- entries of two lists, one behind the other
+-- The entries of two lists in sequence.
 pub right_at : {T : Type 0} (xs ys : List T) (i : ℕ) → slice_get (xs ++ ys) (length xs + i) ≡ slice_get ys i
 right_at [] ys i = let same : 0 + i ≡ i = omega arith in ap (slice_get ys) same
 right_at (x ∷ xs) ys i = let same : suc (length xs) + i ≡ suc (length xs + i) = omega arith in ap (slice_get (x ∷ (xs ++ ys))) same ∙ right_at xs ys i
@@ -132,11 +137,11 @@ module _ (policy : Policy) (budgets : Budgets) where
   abbrev pub shared_first : ImageParts
   shared_first = image_with budgets policy
 
-  -- the shared routines stand at their numbers
+  -- The shared routines are at their numbers.
   pub has_shared : HasShared shared_first (shared_of policy)
   has_shared k code e = left_at shared_routine (shared_of policy) _ k code e
 
-  -- and behind them those of the parts
+  -- Those of the parts follow.
   pub behind : (handlers : List Routine) (i : ℕ) → slice_get (map shared_routine (shared_of policy) ++ handlers) (length (shared_of policy) + i) ≡ slice_get handlers i
   behind handlers i =
       ap (λ n. slice_get (map shared_routine (shared_of policy) ++ handlers) (n + i)) (sym (length-map (shared_of policy) shared_routine)) ∙ right_at (map shared_routine (shared_of policy)) handlers i

@@ -1,4 +1,4 @@
--- No budgets under the least are enough.
+-- No budgets below the least ones are enough.
 use Rattle.std.proofs.Common.{◌≡◌, ℕ, zero, suc, ◌+◌, ◌*◌, ◌<◌, ◌≤◌, ⊎_elim, List}
 use Rattle.std.proofs.Common.{[], ◌∷◌, ◌++◌, length, map, Option, Some, refl, sym, ap, ◌∙◌, subst, arith, option_map}
 use Rattle.std.specs.Prelude.{slice_get, if◌then◌else◌}
@@ -16,7 +16,7 @@ use Rattle.ifs_image.specs.declared.parts.ImageParts.{ImageParts}
 use Rattle.ifs_verify.specs.Laws.{HasOneTyping}
 use Rattle.ifs_verify.specs.Bounds.{AreAmounts, cost_of, commands_of, FitsEvents}
 use Rattle.ifs_verify.specs.Accepted.{IsAccepted}
-use Rattle.ifs_gen.specs.Trees.{Block, Done, RunThen, WantThen, IfThen, Part, Policy}
+use Rattle.ifs_gen.specs.Trees.{Block, Done, RunThen, SetStateThen, IfThen, Part, Policy}
 use Rattle.ifs_gen.specs.PlainCode.{Coder, condition_code, block_code, code_size, held_code, holding, body_start}
 use Rattle.ifs_gen.specs.PlainCode.{body_end, block_runs}
 use Rattle.ifs_gen.specs.PlainSizes.{test_count, parts_of, greatest, number_in, event_total, part_height}
@@ -27,7 +27,7 @@ use Rattle.ifs_gen.specs.Runs.{HasAt}
 use Rattle.ifs_gen.specs.Acceptance.{BudgetsAreLeast}
 use Rattle.ifs_gen.proofs.CodeKeys.{code_decides}
 use Rattle.ifs_gen.proofs.Among.{each_shared}
-use Rattle.ifs_gen.proofs.StackHeights.{each_append}
+use Rattle.ifs_policy.proofs.Lists.{each_both}
 use Rattle.ifs_gen.proofs.Called.{coder_sized}
 use Rattle.ifs_gen.proofs.Simulation.{block_sized}
 use Rattle.ifs_gen.proofs.Handlers.{held_sized}
@@ -39,7 +39,7 @@ use Rattle.ifs_gen.proofs.Reach.{Weighs, init_amount, body_amount}
 use Rattle.ifs_gen.proofs.Accepting.{callees_of, tests_long, parts_fit, may, good, shared_good, parts_good, first, indexes}
 use Rattle.ifs_gen.proofs.Accepting.{init_there, body_there, init_most, body_most, costs, commands}
 
--- The greatest number is that of some entry.
+-- The greatest number is that of an entry.
 record IsReached {T : Type 0} (number : T → ℕ) (xs : List T) : Type 0 where
   k : ℕ
   x : T
@@ -79,7 +79,7 @@ module _ (back : IsReadBack) (policy : Policy) (is : PolicyFits policy) (budgets
   some_state : 1 ≤ length policy.states
   some_state = let h = is.initial in let e = is.count in omega (arith, h, e)
 
-  -- what an event may come to is within what is stated, where it is within for each of its handlers
+  -- The amount of one event is within a budget, if the amount of each handler is.
   events_least : (init body : Part → ℕ) (reach : ℕ → ℕ) (stated : ℕ) → FitsEvents image reach stated
       → ((k : ℕ) (part : Part) → slice_get (parts_of policy) k ≡ Some part → (init part ≤ reach (shared + 2 * k)) × (body part ≤ reach (shared + (2 * k + 1))))
       → event_total init body policy ≤ stated
@@ -127,7 +127,7 @@ module _ (back : IsReadBack) (policy : Policy) (is : PolicyFits policy) (budgets
       ∙ heights_right image (callees_of policy) (map shared_routine table) (routines_of coder count (parts_of policy)) (shared_good back policy is budgets) (parts_good back policy is budgets) i
 
   module _ (one : HasOneTyping) where
-    -- each part's height is within the stated stack
+    -- The height of each part is within the stated stack.
     part_low : (k : ℕ) (part : Part) → slice_get (parts_of policy) k ≡ Some part → (tops : ℕ) → heights (shared + 2 * k) ≤ tops → heights (shared + (2 * k + 1)) ≤ tops → part_height part ≤ tops
     part_low k part e tops low high =
         let fit = parts_fit back policy is budgets in
@@ -168,17 +168,17 @@ module _ (back : IsReadBack) (policy : Policy) (is : PolicyFits policy) (budgets
   abbrev depths : ℕ → ℕ
   depths = accepted.frames.0
 
-  -- Where a code has the first number, there are two frames.
+  -- If a code has number 0, two frames are stated.
   abbrev HasTwo : List Op → Type 0
   HasTwo code = place_in table code ≡ Some 0 → 2 ≤ budgets.frames
 
-  -- a block whose code calls the first shared condition needs two frames
+  -- A block that calls the first shared condition needs two frames.
   block_frames : (routine : ℕ) → depths routine ≤ budgets.frames → (place : ℕ) (block : Block) → HasAt (code_of image routine) place (block_code coder place block) → AllByRecursion HasTwo (conditions_of block)
   block_frames routine low place Done has = tt
   block_frames routine low place (RunThen n rest) has =
       let same : place + 1 + 1 ≡ place + 2 = omega arith in
       block_frames routine low (place + 2) rest (subst (λ p. HasAt (code_of image routine) p (block_code coder (place + 2) rest)) same has.1.1)
-  block_frames routine low place (WantThen n rest) has =
+  block_frames routine low place (SetStateThen n rest) has =
       let same : place + 1 + 1 ≡ place + 2 = omega arith in
       block_frames routine low (place + 2) rest (subst (λ p. HasAt (code_of image routine) p (block_code coder (place + 2) rest)) same has.1.1)
   block_frames routine low place (IfThen c inner rest) has =
@@ -196,7 +196,7 @@ module _ (back : IsReadBack) (policy : Policy) (is : PolicyFits policy) (budgets
             let below = accepted.frames.1.calls routine place (record { 0 = 0 }) call in
             let own = accepted.frames.1.own 0 in
             omega (arith, below, own, low),
-        each_append HasTwo (conditions_of inner) (conditions_of rest) (block_frames routine low from inner inside) (block_frames routine low past rest onward),
+        each_both HasTwo (conditions_of inner) (conditions_of rest) (block_frames routine low from inner inside) (block_frames routine low past rest onward),
       )
 
   init_frames : (k : ℕ) (part : Part) → slice_get (parts_of policy) k ≡ Some part → depths (shared + 2 * k) ≤ budgets.frames → AllByRecursion HasTwo (conditions_of part.init)
@@ -218,7 +218,7 @@ module _ (back : IsReadBack) (policy : Policy) (is : PolicyFits policy) (budgets
       let behind_held = has_right all 0 held (code ++ Ret ∷ []) start (omega (arith, long)) has in
       block_frames (shared + (2 * k + 1)) low start part.body (has_left all start code (Ret ∷ []) behind_held)
 
-  -- the depths of part k are within the stated frames
+  -- The depths of part k are within the stated frames.
   part_depths : (k : ℕ) (part : Part) → slice_get (parts_of policy) k ≡ Some part → (depths (shared + 2 * k) ≤ budgets.frames) × (depths (shared + (2 * k + 1)) ≤ budgets.frames)
   part_depths zero part e = (accepted.frames.3.always_init, accepted.frames.3.always_body)
   part_depths (suc k) part e =
@@ -241,8 +241,8 @@ module _ (back : IsReadBack) (policy : Policy) (is : PolicyFits policy) (budgets
       let e = sym (ap (slice_get (parts_of policy)) here) ∙ at 0 x refl in
       let low = part_depths k x e in
       let rest = parts_frames (k + 1) parts (λ j part h. let same : k + 1 + j ≡ k + suc j = omega arith in ap (slice_get (parts_of policy)) same ∙ at (suc j) part h) in
-      each_append HasTwo (conditions_of x.init) (conditions_of x.body ++ conditions_in parts) (init_frames k x e low.0)
-      (each_append HasTwo (conditions_of x.body) (conditions_in parts) (body_frames k x e low.1) rest)
+      each_both HasTwo (conditions_of x.init) (conditions_of x.body ++ conditions_in parts) (init_frames k x e low.0)
+      (each_both HasTwo (conditions_of x.body) (conditions_in parts) (body_frames k x e low.1) rest)
 
   abbrev first_place : Option ℕ
   first_place = Some zero

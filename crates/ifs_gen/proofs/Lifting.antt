@@ -1,8 +1,8 @@
--- The core that is opened on a policy's image runs as the policy does.
-use Rattle.std.proofs.Common.{◌≡◌, ℕ, zero, suc, ◌+◌, ◌*◌, List, [], ◌∷◌, length, map, Option}
+-- A core that is opened on a policy's image runs as the policy does.
+use Rattle.std.proofs.Common.{◌≡◌, ℕ, ◌+◌, ◌*◌, List, [], length, map, Option}
 use Rattle.std.proofs.Common.{Some, None, refl, sym, ap, ◌∙◌, subst, arith, option_map}
-use Rattle.std.specs.Prelude.{slice_get, All}
-use Rattle.std.proofs.lemmas.List.Elements.{All-head, All-tail}
+use Rattle.std.specs.Prelude.{slice_get}
+use Rattle.std.proofs.lemmas.List.Elements.{recursion_from_All}
 use Rattle.std.proofs.lemmas.Option.{none-some, same_Some}
 use Rattle.std.proofs.lemmas.Simd.{map-map}
 use Rattle.ifs_base.specs.Facts.{Facts}
@@ -32,6 +32,7 @@ use Rattle.ifs_policy.specs.Fits.{HandlersFit}
 use Rattle.ifs_gen.specs.Runs.{image_sizes, Computes, init_cost, body_cost}
 use Rattle.ifs_gen.specs.Events.{yield_in, yield_of, mask_of_state, behaviour_of, policy_opened}
 use Rattle.ifs_gen.specs.Events.{reply_without_cost, state_without_costs, RunsAsPolicy, ImageMeansPolicy}
+use Rattle.ifs_gen.proofs.Among.{each_at}
 use Rattle.ifs_gen.proofs.Called.{shared_truth_runs}
 use Rattle.ifs_gen.proofs.Handlers.{handlers_do}
 use Rattle.ifs_gen.proofs.GoodRoutines.{amount, with_callee, least_amount}
@@ -41,18 +42,12 @@ use Rattle.ifs_gen.proofs.Limits.{plain_is_accepted}
 use Rattle.ifs_gen.proofs.Accepting.{callees_of, tests_long, parts_fit, good, init_there, body_there, commands}
 use Rattle.ifs_gen.proofs.CostsAside.{replies_free, states_free}
 
--- an entry of a list of which each has a property
-all_at : {T : Type 0} (P : T → Type 0) (xs : List T) (k : ℕ) (x : T) → All P xs → slice_get xs k ≡ Some x → P x
-all_at P [] k x h e = absurd (none-some x e)
-all_at P (y ∷ xs) zero x h e = subst P (same_Some y x e) (All-head P y xs h)
-all_at P (y ∷ xs) (suc k) x h e = all_at P xs k x (All-tail P y xs h) e
-
--- a state whose routine an option has
+-- The state whose routine an option has.
 mapped : (o : Option StateSpec) (f : StateSpec → ℕ) (routine : ℕ) → option_map f o ≡ Some routine → (s : StateSpec) × (o ≡ Some s) × (routine ≡ f s)
 mapped None f routine e = absurd (none-some routine e)
 mapped (Some s) f routine e = (s, refl, sym (same_Some (f s) routine e))
 
--- What a state's part costs.
+-- The cost of a state's part; 0 if there is no such state.
 abbrev cost_in : (Part → ℕ) → Option Part → ℕ
 cost_in cost None = 0
 cost_in cost (Some part) = cost part
@@ -70,14 +65,14 @@ module _ (back : IsReadBack) (policy : Policy) (is : PolicyFits policy) (code : 
   abbrev coder : Coder
   coder = shared_coder (shared_of policy)
 
-  -- What a handler costs on the machine.
+  -- The cost of a handler on the machine.
   abbrev cost_of_handler : Handler → Facts → ℕ
   cost_of_handler AlwaysInit facts = init_cost coder facts policy.always.init
   cost_of_handler AlwaysBody facts = body_cost coder (length image.tests) facts policy.always.body
   cost_of_handler (Init k) facts = cost_in (λ part. init_cost coder facts part.init) (slice_get policy.states k)
   cost_of_handler (Body k) facts = cost_in (λ part. body_cost coder (length image.tests) facts part.body) (slice_get policy.states k)
 
-  -- The policy's behaviour at the machine's cost.
+  -- The policy's behaviour with the costs of the machine.
   abbrev at_cost : Behaviour
   at_cost = record (behaviour_of policy) { cost = cost_of_handler }
 
@@ -86,7 +81,7 @@ module _ (back : IsReadBack) (policy : Policy) (is : PolicyFits policy) (code : 
     computes = shared_truth_runs back image facts (shared_of policy) given (has_shared policy (least_budgets policy))
 
     part_fits : HandlersFit (image_sizes image) part
-    part_fits = all_at (HandlersFit (image_sizes image)) (parts_of policy) k part (parts_fit back policy is (least_budgets policy)) e
+    part_fits = each_at (HandlersFit (image_sizes image)) (parts_of policy) k part (recursion_from_All (HandlersFit (image_sizes image)) (parts_of policy) (parts_fit back policy is (least_budgets policy))) e
 
     init_does : HasRoom image (shared + 2 * k) (length before.commands)
         → RunsTo image facts (shared + 2 * k) before (init_cost coder facts part.init) (followed before (init_yield facts part.init))
@@ -158,7 +153,7 @@ module _ (back : IsReadBack) (policy : Policy) (is : PolicyFits policy) (code : 
     runs = handler_does;
   }
 
-  -- the opening does not depend on how the tests are told
+  -- The opening needs only the periods of the tests.
   same_opening : (known : Known) → state_without_costs (opened at_cost image known) ≡ policy_opened policy known
   same_opening known =
       let begun : List ℕ → Event = λ periods. opening (behaviour_of policy) known.links periods known.first_run policy.initial in

@@ -1,11 +1,11 @@
 -- The image of a policy keeps the limits of images, and is accepted.
-use Rattle.std.proofs.Common.{◌≡◌, ℕ, zero, suc, ◌+◌, ◌≤◌, inl, inr, List, [], ◌∷◌, ◌++◌, length, map, take}
-use Rattle.std.proofs.Common.{Option, Some, None, refl, sym, ap, subst, arith, length-append}
-use Rattle.std.specs.Prelude.{slice_get, All, sum_by, filter}
+use Rattle.std.proofs.Common.{◌≡◌, ℕ, ◌+◌, ◌≤◌, inl, inr, List, [], ◌∷◌, ◌++◌, length, map, take}
+use Rattle.std.proofs.Common.{refl, sym, ap, subst, arith, length-append}
+use Rattle.std.specs.Prelude.{All, sum_by, filter}
 use Rattle.std.specs.List.{AllByRecursion}
-use Rattle.std.proofs.lemmas.List.{length-map}
-use Rattle.std.proofs.lemmas.List.Elements.{All-head, All-tail, All-cons, All-nil, All-weaker, All-map}
-use Rattle.std.proofs.lemmas.List.Sums.{sum_by-cons}
+use Rattle.std.proofs.lemmas.List.{length-map, length-take}
+use Rattle.std.proofs.lemmas.List.Elements.{All-head, All-tail, All-cons, All-nil, All-map}
+use Rattle.std.proofs.lemmas.List.Sums.{sum_by-cons, sum_by-append}
 use Rattle.ifs_base.specs.Sizes.{TextFits, PeriodFits}
 use Rattle.ifs_base.specs.Spelling.{IsReadBack}
 use Rattle.ifs_base.specs.declared.op.Op.{Op}
@@ -16,8 +16,8 @@ use Rattle.ifs_image.specs.declared.parts.Routine.{Routine}
 use Rattle.ifs_image.specs.declared.parts.ImageParts.{ImageParts}
 use Rattle.ifs_image.specs.Limits.{TestFits, RoutineFits, names_of, AreDistinct, instructions, Fits}
 use Rattle.ifs_gen.specs.Trees.{Part, External, Policy}
-use Rattle.ifs_gen.specs.PlainCode.{Coder, body_code, init_code, body_limit, init_limit}
-use Rattle.ifs_gen.specs.PlainSizes.{test_count, parts_of, greatest, number_in, event_total, part_height}
+use Rattle.ifs_gen.specs.PlainCode.{Coder, body_code, init_code}
+use Rattle.ifs_gen.specs.PlainSizes.{test_count, parts_of, part_height}
 use Rattle.ifs_gen.specs.PlainSizes.{init_length, body_length}
 use Rattle.ifs_gen.specs.PlainSizes.{PartCodeFits as PartLengths, CodeFits}
 use Rattle.ifs_gen.specs.PolicyImage.{states_from, routine_of_code, shared_routine, routines_of, shared_of}
@@ -27,21 +27,18 @@ use Rattle.ifs_policy.specs.Fits.{PolicyFits}
 use Rattle.ifs_gen.specs.Acceptance.{ImageIsAccepted}
 use Rattle.ifs_gen.proofs.Called.{coder_sized, frames_few}
 use Rattle.ifs_gen.proofs.Among.{each_shared}
-use Rattle.ifs_gen.proofs.Shrinks.{block_shrinks, shared_lengths, sum_append, sharing_shrinks}
+use Rattle.ifs_gen.proofs.EventCosts.{event_low}
+use Rattle.ifs_gen.proofs.Shrinks.{block_shrinks, shared_lengths, sharing_shrinks}
 use Rattle.ifs_gen.proofs.StackHeights.{IsShort, all_short}
 use Rattle.ifs_gen.proofs.Weights.{init_long, body_long}
-use Rattle.ifs_gen.proofs.Images.{states_long, at_most_greatest, greatest_below}
-use Rattle.ifs_gen.proofs.Accepting.{routines_are, limit_low, accepted}
+use Rattle.ifs_gen.proofs.Images.{states_long, greatest_below}
+use Rattle.ifs_gen.proofs.Accepting.{routines_are, accepted}
 
 unmapped : {X Y : Type 0} (P : Y → Type 0) (f : X → Y) (xs : List X) → All P (map f xs) → All (λ x. P (f x)) xs
 unmapped P f [] h = All-nil (λ x. P (f x))
 unmapped P f (x ∷ xs) h = All-cons (λ x. P (f x)) x xs (All-head P (f x) (map f xs) h) (unmapped P f xs (All-tail P (f x) (map f xs) h))
 
-number_low : {T : Type 0} (number : T → ℕ) (xs : List T) (k : ℕ) (o : Option T) → slice_get xs k ≡ o → number_in number (slice_get xs k) ≤ greatest number xs
-number_low number xs k None e = let h = ap (number_in number) e in omega (arith, h)
-number_low number xs k (Some x) e = let h = ap (number_in number) e in let g = at_most_greatest number xs k x e in omega (arith, h, g)
-
-names_same : (shared count k : ℕ) (names : List (List ℕ)) (parts : List Part) → length parts ≡ length names → names_of (states_from shared count k names parts) ≡ names
+pub names_same : (shared count k : ℕ) (names : List (List ℕ)) (parts : List Part) → length parts ≡ length names → names_of (states_from shared count k names parts) ≡ names
 names_same shared count k [] parts e = refl
 names_same shared count k (x ∷ names) [] e = absurd (omega (arith, e))
 names_same shared count k (x ∷ names) (part ∷ parts) e = ap (λ names. x ∷ names) (names_same shared count (k + 1) names parts (omega (arith, e)))
@@ -50,7 +47,7 @@ module _ (table : List (List Op)) (count : ℕ) where
   abbrev coder : Coder
   coder = shared_coder table
 
-  -- handlers are no longer than in plain code
+  -- Handlers are no longer than in plain code.
   handlers_fit : (parts : List Part) → All (PartLengths count) parts → All (RoutineFits 1) (routines_of coder count parts)
   handlers_fit [] h = All-nil (RoutineFits 1)
   handlers_fit (x ∷ parts) h =
@@ -98,9 +95,7 @@ shared_together (code ∷ codes) =
     omega (arith, long, e, f, rest)
 
 shared_few : (n : ℕ) (codes : List (List Op)) → length (take n codes) ≤ n
-shared_few zero codes = omega arith
-shared_few (suc n) [] = omega arith
-shared_few (suc n) (code ∷ codes) = let h = shared_few n codes in omega (arith, h)
+shared_few n codes = let e = length-take n codes in omega (arith, e)
 
 tests_fit : (tests : List External) → All (λ test. TextFits test.command) tests → All (λ test. PeriodFits test.period) tests
     → All (λ (test : External). TestFits (record { period = test.period; text = test.command })) tests
@@ -110,13 +105,13 @@ tests_fit (x ∷ tests) texts periods =
     (record { period = All-head (λ test. PeriodFits test.period) x tests periods; text = All-head (λ test. TextFits test.command) x tests texts })
     (tests_fit tests (All-tail (λ test. TextFits test.command) x tests texts) (All-tail (λ test. PeriodFits test.period) x tests periods))
 
--- the image has no more instructions than plain code
+-- The image has no more instructions than plain code.
 pub image_shrinks : IsReadBack → (policy : Policy)
     → instructions (image_of policy).routines ≤ sum_by (λ part. init_length part + body_length (test_count policy) part) (parts_of policy)
 image_shrinks back policy =
     let table = shared_of policy in
     let count = test_count policy in
-    let e = sum_append (λ (r : Routine). length r.code) (map shared_routine table) (routines_of (shared_coder table) count (parts_of policy)) in
+    let e = sum_by-append (λ (r : Routine). length r.code) (map shared_routine table) (routines_of (shared_coder table) count (parts_of policy)) in
     let f = shared_together table in
     let g = handlers_together table count (parts_of policy) in
     let less = sharing_shrinks back count (parts_of policy) in
@@ -138,43 +133,13 @@ module _ (back : IsReadBack) (policy : Policy) (is : PolicyFits policy) (code : 
   few_shared : shared ≤ 510
   few_shared = shared_few most_shared (filter (is_shared (conditions_in (parts_of policy))) (firsts (conditions_in (parts_of policy))))
 
-  abbrev init_most : Part → ℕ
-  init_most part = init_limit (shared_coder table) part.init
-
-  abbrev body_most : Part → ℕ
-  body_most part = body_limit (shared_coder table) count part.body
-
-  -- Each is within three times the limit of a routine.
-  record IsCheap (part : Part) : Type 0 where
-    init : init_most part ≤ 3072
-    body : body_most part ≤ 3072
-
-  cheap : (part : Part) → PartLengths count part → IsCheap part
-  cheap part fit =
-      let init = fit.init in
-      let body = fit.body in
-      let init_low = limit_low table part.init in
-      let body_low = limit_low table part.body in
-      record { init = omega (arith, init, init_low); body = omega (arith, body, body_low) }
-
-  cost_low : event_total init_most body_most policy ≤ 9216
-  cost_low =
-      let always = cheap policy.always (All-head (PartLengths count) policy.always policy.states code.each) in
-      let rest = All-weaker (PartLengths count) IsCheap cheap policy.states (All-tail (PartLengths count) policy.always policy.states code.each) in
-      let inits = greatest_below init_most policy.states 3072 (All-weaker IsCheap (λ part. init_most part ≤ 3072) (λ part h. h.init) policy.states rest) in
-      let bodies = greatest_below body_most policy.states 3072 (All-weaker IsCheap (λ part. body_most part ≤ 3072) (λ part h. h.body) policy.states rest) in
-      let first = number_low init_most policy.states policy.initial.0 (slice_get policy.states policy.initial.0) refl in
-      let always_init = always.init in
-      let always_body = always.body in
-      omega (arith, always_init, always_body, inits, bodies, first)
-
   pub fits : Fits image
   fits = record {
     version = (omega arith, omega arith);
     budgets = record {
       stack = greatest_below part_height (parts_of policy) 32 code.height;
       frames = frames_few table;
-      cost = let h = cost_low in omega (arith, h);
+      cost = let h = event_low policy table code.each in omega (arith, h);
       commands = code.room;
     };
     counts =

@@ -1,20 +1,20 @@
--- Marks of chains and of statements in order, and what they say of a list of tests.
+-- The marks of chains and of blocks, and the tests that marks list.
 use Rattle.std.proofs.Common.{◌≡◌, ℕ, zero, suc, ◌+◌, ◌<◌, ◌≤◌, ◌⊎◌, ⊎_elim, Bool, true, false, List, []}
 use Rattle.std.proofs.Common.{◌∷◌, ◌++◌, length, Some, refl, sym, ap, ◌∙◌, append_assoc, arith, take, get_or}
 use Rattle.std.specs.Prelude.{◌||◌, ◌==◌, if◌then◌else◌, replicate, slice_get, slice_set}
 use Rattle.std.proofs.lemmas.Bool.{cases_eq, eq-eqb, ne_eqb}
 use Rattle.std.specs.List.{flat_map, list_any}
-use Rattle.std.proofs.lemmas.List.{append-nil, take_more}
-use Rattle.std.proofs.Math.ListN.{length-set}
+use Rattle.std.proofs.lemmas.List.{append-nil, take_more, take_all}
 use Rattle.std.proofs.lemmas.Option.{none-some, get_or_from_slice_get}
 use Rattle.ifs_base.specs.declared.ids.CommandId.{CommandId}
 use Rattle.ifs_base.specs.declared.ids.StateId.{StateId}
 use Rattle.ifs_base.specs.declared.ids.TestId.{TestId}
-use Rattle.ifs_parse.specs.Trees as tree
-use Rattle.ifs_parse.specs.Views.{all_of, any_of, block_of, statement_then}
+use Rattle.ifs_parse.specs.Views.{block_of, statement_then}
 use Rattle.ifs_parse.specs.declared.block.Statement.{Statement}
 use Rattle.ifs_parse.specs.declared.block.Statement.TheVariants.{Run, SetState, If}
 use Rattle.ifs_policy.specs.Meaning.{mentioned_in, mentioned}
+use Rattle.ifs_policy.proofs.Lists.{flat_last}
+use Rattle.ifs_policy.proofs.Joined.{IsChain, chain_list}
 use Rattle.ifs_gen.specs.Trees.{Single, Condition, Block}
 use Rattle.ifs_gen.specs.inner.Marks.{with_marks, statement_tests, test_where}
 use Rattle.ifs_gen.specs.PlainCode.{tests_below}
@@ -22,14 +22,6 @@ use Rattle.ifs_gen.specs.PlainCode.{tests_below}
 pub marked_append : (marks : List Bool) (xs ys : List TestId) → with_marks marks (xs ++ ys) ≡ with_marks (with_marks marks xs) ys
 marked_append marks [] ys = refl
 marked_append marks (x ∷ xs) ys = marked_append (slice_set marks x.0 true) xs ys
-
-pub all_mentions : (first : Condition) (rest : List Condition) → mentioned_in (all_of first rest) ≡ mentioned_in first ++ flat_map mentioned_in rest
-all_mentions first [] = sym (append-nil (mentioned_in first))
-all_mentions first (next ∷ rest) = all_mentions (tree.And first next) rest ∙ append_assoc (mentioned_in first) (mentioned_in next) (flat_map mentioned_in rest)
-
-pub any_mentions : (first : Condition) (rest : List Condition) → mentioned_in (any_of first rest) ≡ mentioned_in first ++ flat_map mentioned_in rest
-any_mentions first [] = sym (append-nil (mentioned_in first))
-any_mentions first (next ∷ rest) = any_mentions (tree.Or first next) rest ∙ append_assoc (mentioned_in first) (mentioned_in next) (flat_map mentioned_in rest)
 
 then_mentions : (s : Statement Single CommandId StateId) (rest : Block) → mentioned (statement_then s rest) ≡ statement_tests s ++ mentioned rest
 then_mentions (Run command) rest = refl
@@ -41,11 +33,7 @@ pub statements_mention : (items : List (Statement Single CommandId StateId)) →
 statements_mention [] = refl
 statements_mention (s ∷ rest) = then_mentions s (block_of rest) ∙ ap (λ xs. statement_tests s ++ xs) (statements_mention rest)
 
--- one member more
-flat_last : {T : Type 0} (f : T → List TestId) (xs : List T) (x : T) → flat_map f (xs ++ x ∷ []) ≡ flat_map f xs ++ f x
-flat_last f [] x = append-nil (f x)
-flat_last f (y ∷ xs) x = ap (λ l. f y ++ l) (flat_last f xs x) ∙ sym (append_assoc (f y) (flat_map f xs) (f x))
-
+-- One more member.
 pub marked_more : {T : Type 0} (f : T → List TestId) (start now next : List Bool) (items : List T) (i : ℕ) (item : T) → i < length items → item ≡ get_or items i item
     → now ≡ with_marks start (flat_map f (take i items)) → next ≡ with_marks now (f item) → next ≡ with_marks start (flat_map f (take (i + 1) items))
 marked_more f start now next items i item lt at now_is next_is =
@@ -53,23 +41,17 @@ marked_more f start now next items i item lt at now_is next_is =
     next_is ∙ ap (λ m. with_marks m (f item)) now_is ∙ sym (marked_append start (flat_map f (take i items)) (f item))
     ∙ ap (with_marks start) (sym (flat_last f (take i items) item)) ∙ ap (λ xs. with_marks start (flat_map f xs)) (sym more)
 
-take_past : {T : Type 0} (xs : List T) (i : ℕ) → length xs ≤ i → take i xs ≡ xs
-take_past [] zero le = refl
-take_past [] (suc i) le = refl
-take_past (x ∷ xs) zero le = absurd (omega arith)
-take_past (x ∷ xs) (suc i) le = ap (λ l. x ∷ l) (take_past xs i (omega arith))
-
 pub marked_end : {T : Type 0} (f : T → List TestId) (start now : List Bool) (items : List T) (i : ℕ) → length items ≤ i → now ≡ with_marks start (flat_map f (take i items))
     → now ≡ with_marks start (flat_map f items)
-marked_end f start now items i le e = e ∙ ap (λ xs. with_marks start (flat_map f xs)) (take_past items i le)
+marked_end f start now items i le e = e ∙ ap (λ xs. with_marks start (flat_map f xs)) (take_all i items le)
 
 pub chain_marked : (start one two now : List Bool) (c first second : Condition) (items : List Condition) (i : ℕ) → one ≡ with_marks start (mentioned_in first) → two ≡ with_marks one (mentioned_in second)
     → length items ≤ i → now ≡ with_marks two (flat_map mentioned_in (take i items))
-    → (c ≡ all_of (tree.And first second) items) ⊎ (c ≡ any_of (tree.Or first second) items) → now ≡ with_marks start (mentioned_in c)
+    → IsChain c first second items → now ≡ with_marks start (mentioned_in c)
 chain_marked start one two now c first second items i one_is two_is le now_is is =
     let rest = flat_map mentioned_in items in
     let whole : mentioned_in c ≡ (mentioned_in first ++ mentioned_in second) ++ rest =
-    ⊎_elim (λ e. ap mentioned_in e ∙ all_mentions (tree.And first second) items) (λ e. ap mentioned_in e ∙ any_mentions (tree.Or first second) items) is in
+    chain_list mentioned_in (λ a b. refl) (λ a b. refl) c first second items is in
     marked_end mentioned_in two now items i le now_is ∙ ap (λ m. with_marks m rest) two_is ∙ ap (λ m. with_marks (with_marks m (mentioned_in second)) rest) one_is
     ∙ ap (λ m. with_marks m rest) (sym (marked_append start (mentioned_in first) (mentioned_in second)))
     ∙ sym (marked_append start (mentioned_in first ++ mentioned_in second) rest) ∙ ap (with_marks start) (sym whole)
@@ -80,11 +62,7 @@ if_marked start one two s c inner is one_is two_is =
     two_is ∙ ap (λ m. with_marks m (mentioned inner)) one_is ∙ sym (marked_append start (mentioned_in c) (mentioned inner))
     ∙ ap (λ xs. with_marks start (mentioned_in c ++ xs)) (sym (append-nil (mentioned inner))) ∙ ap (λ x. with_marks start (statement_tests x)) (sym is)
 
--- a mark stands where it stood, and where its test is of the list
-marks_long : (marks : List Bool) (xs : List TestId) → length (with_marks marks xs) ≡ length marks
-marks_long marks [] = refl
-marks_long marks (x ∷ xs) = marks_long (slice_set marks x.0 true) xs ∙ length-set marks x.0 true
-
+-- A place is marked if it was marked, or if its test is in the list.
 set_here : (marks : List Bool) (k : ℕ) (b : Bool) → slice_get marks k ≡ Some b → slice_get (slice_set marks k true) k ≡ Some true
 set_here [] k b e = absurd (none-some b e)
 set_here (x ∷ marks) zero b e = refl
@@ -119,7 +97,7 @@ where_is : (b : Bool) (k : ℕ) → test_where b k ≡ (if b then record { 0 = k
 where_is true k = refl
 where_is false k = refl
 
--- the tests below one number more
+-- The tests below the next number.
 pub below_next : (xs : List TestId) (index : ℕ) (now next : List TestId) (mark : Bool) → now ≡ tests_below index xs → next ≡ now ++ test_where mark index
     → mark ≡ list_any (λ test. test.0 == index) xs → next ≡ tests_below (index + 1) xs
 below_next xs index now next mark now_is next_is mark_is =
@@ -132,11 +110,11 @@ replicate_at zero k lt = absurd (omega arith)
 replicate_at (suc n) zero lt = refl
 replicate_at (suc n) (suc k) lt = replicate_at n k (omega arith)
 
-or_false : (b : Bool) → (b || false) ≡ b
+pub or_false : (b : Bool) → (b || false) ≡ b
 or_false true = refl
 or_false false = refl
 
--- among marks that began with none, the one at an index says whether its test is of the list
+-- Starting without marks, the mark of an index says whether its test is in the list.
 pub mark_is : (n k : ℕ) (marks : List Bool) (xs : List TestId) → k < n → marks ≡ with_marks (replicate n false) xs → get_or marks k false ≡ list_any (λ test. test.0 == k) xs
 mark_is n k marks xs lt e =
     let found = list_any (λ (test : TestId). test.0 == k) xs in

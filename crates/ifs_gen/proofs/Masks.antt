@@ -1,4 +1,4 @@
--- A mask has the bits of the tests that it was made of, which are those that a body mentions.
+-- A mask has the bits of its tests, which are those that a body mentions.
 use Rattle.std.proofs.Common.{◌≡◌, ◌↔◌, ℕ, zero, suc, ◌+◌, ◌-◌, ◌*◌, ◌^◌, ◌<◌, ⊎_elim}
 use Rattle.std.proofs.Common.{Bool, true, false, List, [], ◌∷◌, Contains, refl}
 use Rattle.std.proofs.Common.{sym, ap, subst, ◌∙◌, arith}
@@ -16,7 +16,7 @@ use Rattle.ifs_gen.specs.PlainSizes.{mask_of}
 use Rattle.ifs_gen.specs.Events.{ActiveAreMentioned}
 use Rattle.ifs_gen.proofs.Images.{mask_append, mask_below}
 
--- The mask of the test of a number, where it is mentioned.
+-- The mask of the test with a number, if it is mentioned.
 abbrev one_more : Bool → ℕ → ℕ
 one_more b n = mask_of (if b then record { 0 = n } ∷ [] else [])
 
@@ -48,7 +48,7 @@ has_mentioned (suc n) xs t lt =
 abbrev test : ℕ → TestId
 test k = record { 0 = k }
 
--- One of a list has a number where the list has the test of that number.
+-- A number is that of a member exactly if the list has the test with that number.
 of_number : (xs : List TestId) (t : ℕ) → list_any (λ test. test.0 == t) xs ≡ true → Contains xs (test t)
 of_number xs t h =
     let a = Any-from_list_any (λ (test : TestId). test.0 == t) xs h in

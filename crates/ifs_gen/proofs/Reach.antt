@@ -1,11 +1,10 @@
--- What the routines of a policy's image weigh, and what its events come to.
+-- The weights of the routines of a policy's image, and the amounts of its events.
 use Rattle.std.proofs.Common.{◌≡◌, ℕ, zero, suc, ◌+◌, ◌*◌, ◌-◌, ◌≤◌, ⊎_elim, List, [], ◌∷◌, ◌++◌, length}
-use Rattle.std.proofs.Common.{Some, refl, ap, ◌∙◌, subst, arith}
+use Rattle.std.proofs.Common.{Some, refl, ap, ◌∙◌, arith}
 use Rattle.std.specs.Prelude.{slice_get, All}
 use Rattle.std.specs.List.{AllByRecursion}
 use Rattle.std.proofs.lemmas.Bool.{cases_lt}
 use Rattle.std.proofs.lemmas.List.Elements.{All-head, All-tail, All-cons, All-nil}
-use Rattle.std.proofs.lemmas.Option.{none-some, same_Some}
 use Rattle.ifs_base.specs.declared.op.Op.{Op}
 use Rattle.ifs_base.specs.declared.op.Op.TheVariants.{Ret}
 use Rattle.ifs_image.specs.declared.parts.Budgets.{Budgets}
@@ -18,15 +17,10 @@ use Rattle.ifs_gen.specs.PlainCode.{Coder, body_code, init_code}
 use Rattle.ifs_gen.specs.PlainSizes.{test_count, parts_of, greatest, number_in, event_total}
 use Rattle.ifs_gen.specs.PolicyImage.{routines_of, shared_of, image_with}
 use Rattle.ifs_gen.specs.Sharing.{shared_coder}
+use Rattle.ifs_gen.proofs.Among.{each_at}
 use Rattle.ifs_gen.proofs.Rows.{entry_at}
 use Rattle.ifs_gen.proofs.GoodRoutines.{amount}
 use Rattle.ifs_gen.proofs.Images.{init_at, body_at, state_at, part_at, at_most_greatest, has_shared, behind}
-
--- an entry of a list of which each has a property
-pub each_at : {T : Type 0} (P : T → Type 0) (xs : List T) (k : ℕ) (x : T) → AllByRecursion P xs → slice_get xs k ≡ Some x → P x
-each_at P [] k x all e = absurd (none-some x e)
-each_at P (y ∷ xs) zero x all e = subst P (same_Some y x e) all.0
-each_at P (y ∷ xs) (suc k) x all e = each_at P xs k x all.1 e
 
 module _ (policy : Policy) (budgets : Budgets) (weight : Op → ℕ) (init body : Part → ℕ) where
   abbrev image : ImageParts
@@ -41,25 +35,25 @@ module _ (policy : Policy) (budgets : Budgets) (weight : Op → ℕ) (init body 
   abbrev first : ℕ
   first = length (shared_of policy)
 
-  -- What inits and bodies weigh.
+  -- The weights of inits and bodies.
   pub record Weighs : Type 0 where
     pub init_is : (part : Part) → amount weight (init_code coder part.init) zero ≡ init part
     pub body_is : (part : Part) → amount weight (body_code coder count part.body) zero ≡ body part
 
-  -- Neither passes a number.
+  -- Neither exceeds a number.
   pub record Below (b : ℕ) (part : Part) : Type 0 where
     pub init_below : init part ≤ b
     pub body_below : body part ≤ b
 
   module _ (weighs : Weighs) where
-    -- inits and bodies are within a number
+    -- Inits and bodies are within a number.
     handlers_within : (parts : List Part) (b : ℕ) → All (Below b) parts → (i : ℕ) → amount weight (code_in (slice_get (routines_of coder count parts) i)) zero ≤ b
     handlers_within [] b below i = omega arith
     handlers_within (x ∷ parts) b below zero = let e = weighs.init_is x in let h = (All-head (Below b) x parts below).init_below in omega (arith, e, h)
     handlers_within (x ∷ parts) b below (suc zero) = let e = weighs.body_is x in let h = (All-head (Below b) x parts below).body_below in omega (arith, e, h)
     handlers_within (x ∷ parts) b below (suc (suc i)) = handlers_within parts b (All-tail (Below b) x parts below) i
 
-    -- each routine of the image is within a number
+    -- Each routine of the image is within a number.
     pub routines_within : (b : ℕ) → All (Below b) (parts_of policy) → AllByRecursion (λ code. amount weight (code ++ Ret ∷ []) zero ≤ b) (shared_of policy) → (routine : ℕ)
         → amount weight (code_of image routine) zero ≤ b
     routines_within b below shared routine =
@@ -83,14 +77,14 @@ module _ (policy : Policy) (budgets : Budgets) (weight : Op → ℕ) (init body 
         All-cons (Below b) x states (record { init_below = omega (arith, inits); body_below = omega (arith, bodies) })
         (states_below b states (omega (arith, inits)) (omega (arith, bodies)))
 
-    -- each part's are within what an event may come to
+    -- Those of each part are within the amount of an event.
     pub parts_below : All (Below (event_total init body policy)) (parts_of policy)
     parts_below =
         let b = event_total init body policy in
         All-cons (Below b) policy.always policy.states (record { init_below = omega arith; body_below = omega arith })
         (states_below b policy.states (omega arith) (omega arith))
 
-    -- what the init and the body of part k weigh
+    -- The weights of the init and the body of part k.
     pub init_amount : (k : ℕ) (part : Part) → slice_get (parts_of policy) k ≡ Some part → amount weight (code_of image (first + 2 * k)) zero ≡ init part
     init_amount k part e =
         ap (λ o. amount weight (code_in o) zero) (behind policy budgets (routines_of coder count (parts_of policy)) (2 * k) ∙ init_at coder count (parts_of policy) k part e) ∙ weighs.init_is part
@@ -99,7 +93,7 @@ module _ (policy : Policy) (budgets : Budgets) (weight : Op → ℕ) (init body 
     body_amount k part e =
         ap (λ o. amount weight (code_in o) zero) (behind policy budgets (routines_of coder count (parts_of policy)) (2 * k + 1) ∙ body_at coder count (parts_of policy) k part e) ∙ weighs.body_is part
 
-    -- what an event comes to
+    -- The amount of an event.
     pub fits_events : FitsEvents image (λ routine. amount weight (code_of image routine) zero) (event_total init body policy)
     fits_events = record {
       evaluation = λ j k current next at_j at_k.

@@ -1,11 +1,11 @@
--- The code of each policy keeps the limits, or it passes one first.
+-- The code of each policy keeps the limits, or exceeds exactly one first.
 use Rattle.std.proofs.Common.{◌≡◌, ℕ, zero, suc, ◌+◌, ◌<◌, ◌≤◌, ◌⊎◌, inl, inr}
 use Rattle.std.proofs.Common.{⊎_elim, List, [], ◌∷◌, Some, refl, ap, arith}
 use Rattle.std.specs.Prelude.{slice_get, All, sum, sum_by}
 use Rattle.std.proofs.lemmas.Bool.{cases_lt}
-use Rattle.std.proofs.lemmas.List.Elements.{All-head, All-tail, All-cons, All-nil}
+use Rattle.std.proofs.lemmas.List.Elements.{All-head, All-tail, All-cons, All-nil, recursion_from_All}
 use Rattle.std.proofs.lemmas.List.Sums.{sum_by-cons}
-use Rattle.std.proofs.lemmas.Option.{none-some, same_Some}
+use Rattle.std.proofs.lemmas.Option.{same_Some}
 use Rattle.ifs_base.specs.declared.ids.RoutineId.{RoutineId}
 use Rattle.ifs_gen.specs.declared.fault.GenFault.{GenFault}
 use Rattle.ifs_gen.specs.declared.fault.GenFault.TheVariants.{RoutineTooLong, CodeTooLong}
@@ -16,8 +16,9 @@ use Rattle.ifs_gen.specs.PlainSizes.{test_count, parts_of, init_length, body_len
 use Rattle.ifs_gen.specs.PlainSizes.{part_height, room_of, PartCodeFits, CodeFits}
 use Rattle.ifs_gen.specs.Refused.{lengths_of, heights_of, lengths, heights, AreWithin}
 use Rattle.ifs_gen.specs.Refused.{IsFirstOver, PassesFirst, FitsOrIsRefused, OneLimitIsFirst}
+use Rattle.ifs_gen.proofs.Among.{each_at}
 
--- The index of the first number over a limit, where there is one.
+-- The index of the first number that exceeds a limit.
 record Over (limit : ℕ) (numbers : List ℕ) : Type 0 where
   index : ℕ
   first : IsFirstOver limit numbers index
@@ -90,14 +91,9 @@ fits_or_is_refused policy =
     (λ long. inr (RoutineTooLong (record { 0 = long.index }), long.first))
     (first_over 1024 (lengths policy))
 
--- Of numbers that keep a limit none is over it.
+-- No number exceeds a limit that all keep.
 each_low : (limit : ℕ) (numbers : List ℕ) (index number : ℕ) → AreWithin limit numbers → slice_get numbers index ≡ Some number → number ≤ limit
-each_low limit [] index number within at = absurd (none-some number at)
-each_low limit (x ∷ numbers) zero number within at =
-    let same = same_Some x number at in
-    let low = All-head (λ n. n ≤ limit) x numbers within in
-    omega (arith, same, low)
-each_low limit (x ∷ numbers) (suc index) number within at = each_low limit numbers index number (All-tail (λ n. n ≤ limit) x numbers within) at
+each_low limit numbers index number within at = each_at (λ n. n ≤ limit) numbers index number (recursion_from_All (λ n. n ≤ limit) numbers within) at
 
 none_over : (limit : ℕ) (numbers : List ℕ) (index : ℕ) → AreWithin limit numbers → ¬ IsFirstOver limit numbers index
 none_over limit numbers index within first =
@@ -121,7 +117,7 @@ heights_low (x ∷ parts) h =
     All-cons (λ n. n ≤ 32) init (body ∷ heights_of parts) (omega (arith, low))
     (All-cons (λ n. n ≤ 32) body (heights_of parts) (omega (arith, low)) (heights_low parts (All-tail (λ part. part_height part ≤ 32) x parts h)))
 
--- A code that passes a limit does not keep the limits.
+-- Code that exceeds a limit does not keep the limits.
 pub does_not_fit : (policy : Policy) (fault : GenFault) → PassesFirst policy fault → ¬ CodeFits policy
 does_not_fit policy (RoutineTooLong routine) h code = none_over 1024 (lengths policy) routine.0 (lengths_low (test_count policy) (parts_of policy) code.each) h
 does_not_fit policy CodeTooLong h code =
@@ -136,7 +132,7 @@ does_not_fit policy TooManyCommands h code =
     absurd (omega (arith, many, few))
 does_not_fit policy Memory h code = h
 
--- A number over a limit stands first at one index.
+-- The first number that exceeds a limit has one index.
 one_first : (limit : ℕ) (numbers : List ℕ) (i j : ℕ) → IsFirstOver limit numbers i → IsFirstOver limit numbers j → i ≡ j
 one_first limit numbers i j a b =
     ⊎_elim
@@ -147,35 +143,20 @@ one_first limit numbers i j a b =
     (cases_lt j i))
     (cases_lt i j)
 
--- What keeps a limit is not over it.
-short_and_long : (policy : Policy) (index : ℕ) → AreWithin 1024 (lengths policy) → IsFirstOver 1024 (lengths policy) index → ⊥
-short_and_long policy index short long = none_over 1024 (lengths policy) index short long
-
-low_and_high : (policy : Policy) (index : ℕ) → AreWithin 32 (heights policy) → IsFirstOver 32 (heights policy) index → ⊥
-low_and_high policy index low high = none_over 32 (heights policy) index low high
-
+-- A number that keeps a limit does not exceed it.
 few_and_many : (limit n : ℕ) → n ≤ limit → limit < n → ⊥
 few_and_many limit n few many = omega (arith, few, many)
 
 pub one_limit : OneLimitIsFirst
-one_limit policy (RoutineTooLong a) (RoutineTooLong b) h k = ap (λ (n : ℕ). let r : RoutineId = record { 0 = n } in RoutineTooLong r) (one_first 1024 (lengths policy) a.0 b.0 h k)
-one_limit policy (RoutineTooLong a) CodeTooLong h k = absurd (short_and_long policy a.0 k.0 h)
-one_limit policy (RoutineTooLong a) (StackTooHigh b) h k = absurd (short_and_long policy a.0 k.0 h)
-one_limit policy (RoutineTooLong a) TooManyCommands h k = absurd (short_and_long policy a.0 k.0 h)
-one_limit policy CodeTooLong (RoutineTooLong b) h k = absurd (short_and_long policy b.0 h.0 k)
-one_limit policy CodeTooLong CodeTooLong h k = refl
-one_limit policy CodeTooLong (StackTooHigh b) h k = absurd (few_and_many 8192 (sum (lengths policy)) k.1 h.1)
-one_limit policy CodeTooLong TooManyCommands h k = absurd (few_and_many 8192 (sum (lengths policy)) k.1 h.1)
-one_limit policy (StackTooHigh a) (RoutineTooLong b) h k = absurd (short_and_long policy b.0 h.0 k)
-one_limit policy (StackTooHigh a) CodeTooLong h k = absurd (few_and_many 8192 (sum (lengths policy)) h.1 k.1)
-one_limit policy (StackTooHigh a) (StackTooHigh b) h k = ap (λ (n : ℕ). let r : RoutineId = record { 0 = n } in StackTooHigh r) (one_first 32 (heights policy) a.0 b.0 h.2 k.2)
-one_limit policy (StackTooHigh a) TooManyCommands h k = absurd (low_and_high policy a.0 k.2 h.2)
-one_limit policy TooManyCommands (RoutineTooLong b) h k = absurd (short_and_long policy b.0 h.0 k)
-one_limit policy TooManyCommands CodeTooLong h k = absurd (few_and_many 8192 (sum (lengths policy)) h.1 k.1)
-one_limit policy TooManyCommands (StackTooHigh b) h k = absurd (low_and_high policy b.0 h.2 k.2)
-one_limit policy TooManyCommands TooManyCommands h k = refl
 one_limit policy Memory other h k = absurd h
-one_limit policy (RoutineTooLong a) Memory h k = absurd k
-one_limit policy CodeTooLong Memory h k = absurd k
-one_limit policy (StackTooHigh a) Memory h k = absurd k
-one_limit policy TooManyCommands Memory h k = absurd k
+one_limit policy fault Memory h k = absurd k
+one_limit policy (RoutineTooLong a) (RoutineTooLong b) h k = ap (λ (n : ℕ). let r : RoutineId = record { 0 = n } in RoutineTooLong r) (one_first 1024 (lengths policy) a.0 b.0 h k)
+one_limit policy (RoutineTooLong a) other h k = absurd (none_over 1024 (lengths policy) a.0 k.0 h)
+one_limit policy fault (RoutineTooLong b) h k = absurd (none_over 1024 (lengths policy) b.0 h.0 k)
+one_limit policy CodeTooLong CodeTooLong h k = refl
+one_limit policy CodeTooLong other h k = absurd (few_and_many 8192 (sum (lengths policy)) k.1 h.1)
+one_limit policy fault CodeTooLong h k = absurd (few_and_many 8192 (sum (lengths policy)) h.1 k.1)
+one_limit policy (StackTooHigh a) (StackTooHigh b) h k = ap (λ (n : ℕ). let r : RoutineId = record { 0 = n } in StackTooHigh r) (one_first 32 (heights policy) a.0 b.0 h.2 k.2)
+one_limit policy (StackTooHigh a) TooManyCommands h k = absurd (none_over 32 (heights policy) a.0 k.2 h.2)
+one_limit policy TooManyCommands (StackTooHigh b) h k = absurd (none_over 32 (heights policy) b.0 h.2 k.2)
+one_limit policy TooManyCommands TooManyCommands h k = refl

@@ -1,4 +1,4 @@
--- Rows of the machine's table for the instructions of plain code, and how runs of rows are joined.
+-- The rows of the machine's table for the instructions of plain code, and sequences of rows.
 use Rattle.std.proofs.Common.{◌≡◌, ℕ, zero, suc, ◌+◌, ◌<◌, ◌≤◌, Bool, cond, List, [], ◌∷◌, ◌++◌, length, Option}
 use Rattle.std.proofs.Common.{Some, None, refl, sym, ap, ◌∙◌, subst, arith, append_assoc, length-append}
 use Rattle.std.specs.Prelude.{nat_le, slice_get}
@@ -18,7 +18,7 @@ use Rattle.ifs_machine.specs.Table.{Frame, Trap, StackFull, CommandsPassed, Outc
 use Rattle.ifs_machine.specs.Run.{next, after_rows}
 use Rattle.ifs_gen.specs.Runs.{HasAt, Point, point, at_point, RowsLead, HasStack}
 
--- an entry of a table, at an index that is one of its
+-- An index below the length of a table has an entry.
 pub entry_at : {T : Type 0} (xs : List T) (i : ℕ) → i < length xs → (x : T) × (slice_get xs i ≡ Some x)
 entry_at [] i lt = absurd (omega arith)
 entry_at (x ∷ xs) zero lt = (x, refl)
@@ -27,7 +27,7 @@ entry_at (x ∷ xs) (suc i) lt = entry_at xs i (omega arith)
 pub unless_fits : (a b : ℕ) (trap : Trap) (o : Outcome) → a ≤ b → unless (nat_le a b) trap o ≡ o
 unless_fits a b trap o le = rw (le-leb a b le) refl
 
--- instructions that stand one list after the other
+-- Two lists of instructions in sequence.
 pub has_left : (code : List Op) (place : ℕ) (xs ys : List Op) → HasAt code place (xs ++ ys) → HasAt code place xs
 has_left code place [] ys h = tt
 has_left code place (x ∷ xs) ys h = (h.0, has_left code (place + 1) xs ys h.1)
@@ -46,7 +46,7 @@ has_all front (op ∷ ops) =
     let long = length-append front (op ∷ []) in
     (at_front front op ops, subst (λ p. HasAt (front ++ op ∷ ops) p ops) long (subst (λ c. HasAt c (length (front ++ op ∷ [])) ops) (append_assoc front (op ∷ []) ops) (has_all (front ++ op ∷ []) ops)))
 
--- what three events brought about
+-- The effects of three events.
 later_wish_assoc : (a b c : Option StateId) → later_wish (later_wish a b) c ≡ later_wish a (later_wish b c)
 later_wish_assoc a b None = refl
 later_wish_assoc a b (Some next) = refl
@@ -73,7 +73,7 @@ module _ (image : ImageParts) (facts : Facts) where
     pub then_leads : (a b c : Point) (m n : ℕ) → RowsLead image facts routine callers a m b → RowsLead image facts routine callers b n c → RowsLead image facts routine callers a (m + n) c
     then_leads a b c m n first second = record { runs = after_add n m (at_point routine callers a) ∙ ap (after_rows image facts n) first.runs ∙ second.runs }
 
-    -- the same run, told in other words
+    -- The same run with equal numbers.
     pub as_told : (a b c : Point) (m n : ℕ) → RowsLead image facts routine callers a m b → m ≡ n → b ≡ c → RowsLead image facts routine callers a n c
     as_told a b c m n leads e f = subst (λ k. RowsLead image facts routine callers a k c) e (subst (λ p. RowsLead image facts routine callers a m p) f leads)
 
@@ -81,7 +81,7 @@ module _ (image : ImageParts) (facts : Facts) where
         → RowsLead image facts routine callers a n (point q values effects)
     at_place a m n p q values effects leads e f = as_told a (point p values effects) (point q values effects) m n leads e (ap (λ k. point k values effects) f)
 
-    -- one row
+    -- One row.
     pub one_row : (a b : Point) (op : Op) → op_at image routine a.place ≡ Some op
         → row image facts (record { frame = record { routine = routine; place = a.place; values = a.values }; callers = callers; effects = a.effects }) op ≡ at_point routine callers b
         → RowsLead image facts routine callers a 1 b
@@ -89,7 +89,7 @@ module _ (image : ImageParts) (facts : Facts) where
         record { runs = ap (row_of image facts (record { frame = record { routine = routine; place = a.place; values = a.values }; callers = callers; effects = a.effects })) here ∙ is }
 
     module _ (place : ℕ) (values : List Value) (effects : Effects) where
-      -- a row that pushes a value
+      -- A row that pushes a value.
       pushed_row : (op : Op) (value : Value) → op_at image routine place ≡ Some op → HasStack image callers values 1
           → row image facts (record { frame = record { routine = routine; place = place; values = values }; callers = callers; effects = effects }) op
           ≡ unless (nat_le (length (value ∷ values) + height callers) image.budgets.stack) StackFull (at_point routine callers (point (place + 1) (value ∷ values) effects))

@@ -1,16 +1,16 @@
--- Sharing makes code no longer: what is saved where shared codes are called is no less than what their routines have.
+-- Sharing makes code no longer: the calls save at least as many instructions as the shared routines have.
 use Rattle.std.proofs.Common.{◌≡◌, ℕ, zero, suc, ◌+◌, ◌*◌, ◌-◌, ◌≤◌, Bool, true, false, ◌&&◌, cond, List, [], ◌∷◌, ◌++◌}
 use Rattle.std.proofs.Common.{length, Option, Some, None, refl, sym, ap, ◌∙◌, arith, option_map}
 use Rattle.std.specs.Prelude.{sum_by, count_by, if◌then◌else◌, nat_le}
 use Rattle.std.specs.List.{AllByRecursion}
 use native.Mathlib.Nat.{add-mul}
-use Rattle.std.proofs.lemmas.List.Sums.{sum_by-cons}
+use Rattle.std.proofs.lemmas.List.Sums.{sum_by-cons, sum_by-append}
 use Rattle.std.proofs.lemmas.Bool.{leb-true}
 use mathlib.Core.Bool.{true≢false}
 use Rattle.ifs_base.specs.Spelling.{IsReadBack}
 use Rattle.ifs_base.specs.declared.op.Op.{Op}
 use Rattle.ifs_parse.specs.Trees.{condition_size}
-use Rattle.ifs_gen.specs.Trees.{Part, Condition, Leaf, NotSo, And, Or, Block, Done, RunThen, WantThen, IfThen}
+use Rattle.ifs_gen.specs.Trees.{Part, Condition, Leaf, NotSo, And, Or, Block, Done, RunThen, SetStateThen, IfThen}
 use Rattle.ifs_gen.specs.PlainCode.{plain_coder, condition_code, code_size, body_size, init_size}
 use Rattle.ifs_gen.specs.PlainSizes.{init_length, body_length}
 use Rattle.ifs_gen.specs.Sharing.{same_code, conditions_of, conditions_in, is_shared, shared_among, place_in}
@@ -20,7 +20,7 @@ use Rattle.ifs_gen.proofs.CodeKeys.{code_decides}
 use Rattle.ifs_gen.specs.inner.Meetings.{AreApart}
 use Rattle.ifs_gen.proofs.Among.{each_weaker, shared_qualify, shared_distinct}
 
--- What a call saves over a code, and what a table saves over one.
+-- The number of instructions that a call, or a table, saves over plain code.
 abbrev pub saved_at : List Op → Option ℕ → ℕ
 saved_at code None = 0
 saved_at code (Some k) = length code - 1
@@ -28,16 +28,7 @@ saved_at code (Some k) = length code - 1
 abbrev pub saved : List (List Op) → List Op → ℕ
 saved table code = saved_at code (place_in table code)
 
--- a sum over two lists
-pub sum_append : {T : Type 0} (f : T → ℕ) (xs ys : List T) → sum_by f (xs ++ ys) ≡ sum_by f xs + sum_by f ys
-sum_append f [] ys = let same : sum_by f ys ≡ 0 + sum_by f ys = omega arith in same
-sum_append f (x ∷ xs) ys =
-    let e = sum_by-cons f x (xs ++ ys) in
-    let g = sum_by-cons f x xs in
-    let h = sum_append f xs ys in
-    omega (arith, e, g, h)
-
--- a condition has an instruction
+-- A condition has an instruction.
 pub size_some : (c : Condition) → 1 ≤ condition_size c
 size_some (Leaf single) = omega arith
 size_some (NotSo c) = omega arith
@@ -49,15 +40,15 @@ module _ (table : List (List Op)) (count : ℕ) where
   condition_saves c None = omega arith
   condition_saves c (Some k) = let long = condition_sized c in let some = size_some c in omega (arith, long, some)
 
-  -- a block has as many instructions fewer as its conditions save
+  -- A block saves as many instructions as its conditions.
   block_saves : (block : Block) → code_size plain_coder block ≡ code_size (shared_coder table) block + sum_by (saved table) (conditions_of block)
   block_saves Done = refl
   block_saves (RunThen n rest) = let h = block_saves rest in omega (arith, h)
-  block_saves (WantThen n rest) = let h = block_saves rest in omega (arith, h)
+  block_saves (SetStateThen n rest) = let h = block_saves rest in omega (arith, h)
   block_saves (IfThen c inner rest) =
       let here = condition_saves c (place_in table (condition_code c)) in
       let e = sum_by-cons (saved table) (condition_code c) (conditions_of inner ++ conditions_of rest) in
-      let f = sum_append (saved table) (conditions_of inner) (conditions_of rest) in
+      let f = sum_by-append (saved table) (conditions_of inner) (conditions_of rest) in
       let h = block_saves inner in
       let g = block_saves rest in
       omega (arith, here, e, f, h, g)
@@ -65,26 +56,26 @@ module _ (table : List (List Op)) (count : ℕ) where
   pub block_shrinks : (block : Block) → code_size (shared_coder table) block ≤ code_size plain_coder block
   block_shrinks block = let h = block_saves block in omega (arith, h)
 
-  -- How many instructions init and body of a part have.
+  -- The number of instructions of the init and the body of a part.
   abbrev pub shared_lengths : Part → ℕ
   shared_lengths part = init_size (shared_coder table) part.init + body_size (shared_coder table) count part.body
 
-  -- so have parts
+  -- Parts save as many instructions as their conditions.
   pub parts_save : (parts : List Part) → sum_by (λ part. init_length part + body_length count part) parts ≡ sum_by shared_lengths parts + sum_by (saved table) (conditions_in parts)
   parts_save [] = refl
   parts_save (x ∷ parts) =
       let e = sum_by-cons (λ part. init_length part + body_length count part) x parts in
       let f = sum_by-cons shared_lengths x parts in
-      let g = sum_append (saved table) (conditions_of x.init) (conditions_of x.body ++ conditions_in parts) in
-      let h = sum_append (saved table) (conditions_of x.body) (conditions_in parts) in
+      let g = sum_by-append (saved table) (conditions_of x.init) (conditions_of x.body ++ conditions_in parts) in
+      let h = sum_by-append (saved table) (conditions_of x.body) (conditions_in parts) in
       omega (arith, e, f, g, h, block_saves x.init, block_saves x.body, parts_save parts)
 
--- What a code of a table saves over a code.
+-- The number of instructions that an entry of a table saves over a code.
 abbrev saved_by : List Op → List Op → ℕ
 saved_by entry code = if same_code entry code then length entry - 1 else 0
 
 module _ (back : IsReadBack) where
-  -- two codes are the same either way
+  -- Being the same is symmetric.
   pub same_other : (a b : List Op) (x y : Bool) → same_code a b ≡ x → same_code b a ≡ y → x ≡ y
   same_other a b true true e f = refl
   same_other a b false false e f = refl
@@ -94,12 +85,12 @@ module _ (back : IsReadBack) where
   pub same_sym : (a b : List Op) → same_code a b ≡ same_code b a
   same_sym a b = same_other a b (same_code a b) (same_code b a) refl refl
 
-  -- a number further on is none where there is none
+  -- No number in the rest of a table is none in the table.
   placed_nowhere : (code entry : List Op) (table : List (List Op)) (b : Bool) → b ≡ false → place_in table code ≡ None → (if b then Some zero else option_map suc (place_in table code)) ≡ None
   placed_nowhere code entry table true never rest = absurd (true≢false never)
   placed_nowhere code entry table false never rest = ap (option_map suc) rest
 
-  -- a code that is none of a table's has no number there
+  -- A code that is not in a table has no number there.
   pub absent : (code : List Op) (table : List (List Op)) → AllByRecursion (λ entry. same_code code entry ≡ false) table → place_in table code ≡ None
   absent code [] all = refl
   absent code (entry ∷ table) all = placed_nowhere code entry table (same_code code entry) all.0 (absent code table all.1)
@@ -117,7 +108,7 @@ module _ (back : IsReadBack) where
       omega (arith, none, long)
   one_more entry code table false same apart = let e = saves_more code (place_in table code) in omega (arith, e)
 
-  -- what one more code in a table saves, of a code and of all
+  -- One more entry saves over a code, and over all codes.
   code_more : (entry : List Op) (table : List (List Op)) → AllByRecursion (λ other. same_code entry other ≡ false) table → (code : List Op)
       → saved (entry ∷ table) code ≡ saved_by entry code + saved table code
   code_more entry table apart code =
@@ -138,7 +129,7 @@ module _ (back : IsReadBack) where
   one_saved true n = omega arith
   one_saved false n = omega arith
 
-  -- at each of its standings
+  -- An entry saves at each of its occurrences.
   saved_counts : (entry : List Op) (all : List (List Op)) → sum_by (saved_by entry) all ≡ count_by (same_code entry) all * (length entry - 1)
   saved_counts entry [] = omega arith
   saved_counts entry (code ∷ all) =
@@ -150,7 +141,7 @@ module _ (back : IsReadBack) where
       let times = add-mul (cond (same_code entry code) 1 0) (count_by (same_code entry) all) long in
       omega (arith, e, f, h, here, times)
 
-  -- Where each code of a table is long enough and stands twice, what is saved is no less than what the routines have.
+  -- If each entry is long enough and occurs twice, the calls save at least what the routines have.
   record Saves (all : List (List Op)) (entry : List Op) : Type 0 where
     long : 5 ≤ length entry
     twice : 2 ≤ count_by (same_code entry) all
@@ -180,7 +171,7 @@ module _ (back : IsReadBack) where
       let both = qualifies (nat_le 5 (length code)) (nat_le 2 (count_by (same_code code) all)) e in
       record { long = leb-true 5 (length code) both.0; twice = leb-true 2 (count_by (same_code code) all) both.1 }
 
-  -- with the routines of shared conditions, code has no more instructions than plain code
+  -- With the routines of shared conditions, code has no more instructions than plain code.
   pub sharing_shrinks : (count : ℕ) (parts : List Part) → let all = conditions_in parts in
       sum_by (λ code. length code + 1) (shared_among all) + sum_by (shared_lengths (shared_among all) count) parts ≤ sum_by (λ part. init_length part + body_length count part) parts
   sharing_shrinks count parts =

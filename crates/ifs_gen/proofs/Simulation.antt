@@ -1,9 +1,10 @@
--- Plain code on the machine: conditions leave their truth, blocks bring about what they reach, handlers what they yield.
+-- Plain code on the machine: conditions leave their truth, and blocks have the effects that they reach.
 use Rattle.std.proofs.Common.{◌≡◌, ℕ, ◌+◌, ◌≤◌, Bool, true, false, not, List, [], ◌∷◌, ◌++◌, length}
 use Rattle.std.proofs.Common.{Option, Some, None, refl, sym, ap, ◌∙◌, subst, arith, length-append}
-use Rattle.std.specs.Prelude.{◌&&◌, ◌||◌, if◌then◌else◌}
+use Rattle.std.specs.Prelude.{◌&&◌, ◌||◌, if◌then◌else◌, max}
 use Rattle.ifs_base.specs.Facts.{Facts, is_link}
 use Rattle.ifs_base.specs.Effects.{Effects, nothing_yet, followed}
+use Rattle.ifs_base.specs.declared.op.Op.{Op}
 use Rattle.ifs_base.specs.declared.op.Op.TheVariants.{Link, Test, Negate, Both, Either, JumpFalse}
 use Rattle.ifs_image.specs.declared.parts.ImageParts.{ImageParts}
 use Rattle.ifs_image.specs.Code.{code_of, op_at}
@@ -11,7 +12,7 @@ use Rattle.ifs_machine.specs.declared.value.Value.{Value}
 use Rattle.ifs_machine.specs.declared.value.Value.TheVariants.{Truth, Command, StateName}
 use Rattle.ifs_machine.specs.Table.{Frame, StackFull, height, is_true}
 use Rattle.ifs_machine.specs.Run.{AreFactsOf}
-use Rattle.ifs_gen.specs.Trees.{LinkIs, TestIs, Condition, Leaf, NotSo, And, Or, Block, Done, RunThen, WantThen, IfThen}
+use Rattle.ifs_gen.specs.Trees.{LinkIs, TestIs, Condition, Leaf, NotSo, And, Or, Block, Done, RunThen, SetStateThen, IfThen}
 use Rattle.ifs_policy.specs.Meaning.{has_true, truth, reached}
 use Rattle.ifs_parse.specs.Trees.{condition_size}
 use Rattle.ifs_gen.specs.PlainCode.{Coder, condition_code, condition_height}
@@ -23,18 +24,19 @@ use Rattle.ifs_gen.proofs.Rows.{entry_at, unless_fits, has_left, has_right, foll
 use Rattle.ifs_gen.proofs.Rows.{followed_nothing, no_rows, then_leads, as_told, at_place}
 use Rattle.ifs_gen.proofs.Rows.{one_row, command_row, state_row, queue_row, want_row, jump_row}
 
+joined_sized : (a b : Condition) (op : Op) → length (condition_code a) ≡ condition_size a → length (condition_code b) ≡ condition_size b
+    → length (condition_code a ++ (condition_code b ++ op ∷ [])) ≡ condition_size a + condition_size b + 1
+joined_sized a b op h k =
+    let e = length-append (condition_code a) (condition_code b ++ op ∷ []) in
+    let f = length-append (condition_code b) (op ∷ []) in
+    omega (arith, e, f, h, k)
+
 pub condition_sized : (c : Condition) → length (condition_code c) ≡ condition_size c
 condition_sized (Leaf (LinkIs n s)) = refl
 condition_sized (Leaf (TestIs n)) = refl
 condition_sized (NotSo c) = length-append (condition_code c) (Negate ∷ []) ∙ ap (λ n. n + 1) (condition_sized c)
-condition_sized (And a b) =
-    let e = length-append (condition_code a) (condition_code b ++ Both ∷ []) in
-    let f = length-append (condition_code b) (Both ∷ []) in
-    omega (arith, e, f, condition_sized a, condition_sized b)
-condition_sized (Or a b) =
-    let e = length-append (condition_code a) (condition_code b ++ Either ∷ []) in
-    let f = length-append (condition_code b) (Either ∷ []) in
-    omega (arith, e, f, condition_sized a, condition_sized b)
+condition_sized (And a b) = joined_sized a b Both (condition_sized a) (condition_sized b)
+condition_sized (Or a b) = joined_sized a b Either (condition_sized a) (condition_sized b)
 
 pub condition_high : (c : Condition) → 1 ≤ condition_height c
 condition_high (Leaf single) = omega arith
@@ -47,14 +49,29 @@ same_value None = refl
 same_value (Some b) = refl
 
 module _ (image : ImageParts) (facts : Facts) (given : AreFactsOf image facts) (routine : ℕ) (callers : List Frame) where
-  two_operands : (a b : Condition) (x y z : Bool) (place : ℕ) (values : List Value) (effects : Effects)
-      → RowsLead image facts routine callers (point place values effects) (condition_size a) (point (place + condition_size a) (Truth x ∷ values) effects)
-      → RowsLead image facts routine callers (point (place + condition_size a) (Truth x ∷ values) effects) (condition_size b) (point (place + condition_size a + condition_size b) (Truth y ∷ Truth x ∷ values) effects)
-      → RowsLead image facts routine callers (point (place + condition_size a + condition_size b) (Truth y ∷ Truth x ∷ values) effects) 1 (point (place + condition_size a + condition_size b + 1) (Truth z ∷ values) effects)
+  -- The code of a condition runs to its end and leaves its truth.
+  abbrev Leads : Condition → Type 0
+  Leads c = (place : ℕ) (values : List Value) (effects : Effects) → ConditionFits (image_sizes image) c
+      → HasAt (code_of image routine) place (condition_code c) → HasStack image callers values (condition_height c)
+      → RowsLead image facts routine callers (point place values effects) (condition_size c) (point (place + condition_size c) (Truth (truth facts c) ∷ values) effects)
+
+  -- So does that of two operands and their sign.
+  joined_leads : (a b : Condition) (op : Op) (z : Bool) (place : ℕ) (values : List Value) (effects : Effects) → Leads a → Leads b
+      → (op_at image routine (place + condition_size a + condition_size b) ≡ Some op
+      → RowsLead image facts routine callers (point (place + condition_size a + condition_size b) (Truth (truth facts b) ∷ Truth (truth facts a) ∷ values) effects) 1
+      (point (place + condition_size a + condition_size b + 1) (Truth z ∷ values) effects))
+      → ConditionFits (image_sizes image) a × ConditionFits (image_sizes image) b → HasAt (code_of image routine) place (condition_code a ++ (condition_code b ++ op ∷ []))
+      → HasStack image callers values (max (condition_height a) (condition_height b + 1))
       → RowsLead image facts routine callers (point place values effects) (condition_size a + condition_size b + 1) (point (place + (condition_size a + condition_size b + 1)) (Truth z ∷ values) effects)
-  two_operands a b x y z place values effects first second last =
+  joined_leads a b op z place values effects leads_a leads_b row fits has room =
+      let code = code_of image routine in
+      let at = place + condition_size a in
+      let first = leads_a place values effects fits.0 (has_left code place (condition_code a) (condition_code b ++ op ∷ []) has) (omega (arith, room)) in
+      let rest = has_right code place (condition_code a) (condition_code b ++ op ∷ []) at (ap (λ n. place + n) (condition_sized a)) has in
+      let second = leads_b at (Truth (truth facts a) ∷ values) effects fits.1 (has_left code at (condition_code b) (op ∷ []) rest) (omega (arith, room)) in
+      let there = has_right code at (condition_code b) (op ∷ []) (at + condition_size b) (ap (λ n. at + n) (condition_sized b)) rest in
       at_place image facts routine callers _ (condition_size a + condition_size b + 1) _ (place + condition_size a + condition_size b + 1) _ (Truth z ∷ values) effects
-      (then_leads image facts routine callers _ _ _ _ _ (then_leads image facts routine callers _ _ _ _ _ first second) last) refl (omega arith)
+      (then_leads image facts routine callers _ _ _ _ _ (then_leads image facts routine callers _ _ _ _ _ first second) (row there.0)) refl (omega arith)
 
   pub condition_leads : (c : Condition) (place : ℕ) (values : List Value) (effects : Effects) → ConditionFits (image_sizes image) c
       → HasAt (code_of image routine) place (condition_code c) → HasStack image callers values (condition_height c)
@@ -75,27 +92,9 @@ module _ (image : ImageParts) (facts : Facts) (given : AreFactsOf image facts) (
       at_place image facts routine callers _ (condition_size c + 1) _ (place + condition_size c + 1) _ (Truth (not (truth facts c)) ∷ values) effects
       (then_leads image facts routine callers _ _ _ _ _ inner last) refl (omega arith)
   condition_leads (And a b) place values effects fits has room =
-      let code = code_of image routine in
-      let x = truth facts a in
-      let y = truth facts b in
-      let first = condition_leads a place values effects fits.0 (has_left code place (condition_code a) (condition_code b ++ Both ∷ []) has) (omega (arith, room)) in
-      let rest = has_right code place (condition_code a) (condition_code b ++ Both ∷ []) (place + condition_size a) (ap (λ n. place + n) (condition_sized a)) has in
-      let second = condition_leads b (place + condition_size a) (Truth x ∷ values) effects fits.1 (has_left code (place + condition_size a) (condition_code b) (Both ∷ []) rest) (omega (arith, room)) in
-      let there = has_right code (place + condition_size a) (condition_code b) (Both ∷ []) (place + condition_size a + condition_size b) (ap (λ n. place + condition_size a + n) (condition_sized b)) rest in
-      let last = one_row image facts routine callers (point (place + condition_size a + condition_size b) (Truth y ∷ Truth x ∷ values) effects)
-      (point (place + condition_size a + condition_size b + 1) (Truth (x && y) ∷ values) effects) Both there.0 refl in
-      two_operands a b x y (x && y) place values effects first second last
+      joined_leads a b Both (truth facts a && truth facts b) place values effects (condition_leads a) (condition_leads b) (λ there. one_row image facts routine callers _ _ Both there refl) fits has room
   condition_leads (Or a b) place values effects fits has room =
-      let code = code_of image routine in
-      let x = truth facts a in
-      let y = truth facts b in
-      let first = condition_leads a place values effects fits.0 (has_left code place (condition_code a) (condition_code b ++ Either ∷ []) has) (omega (arith, room)) in
-      let rest = has_right code place (condition_code a) (condition_code b ++ Either ∷ []) (place + condition_size a) (ap (λ n. place + n) (condition_sized a)) has in
-      let second = condition_leads b (place + condition_size a) (Truth x ∷ values) effects fits.1 (has_left code (place + condition_size a) (condition_code b) (Either ∷ []) rest) (omega (arith, room)) in
-      let there = has_right code (place + condition_size a) (condition_code b) (Either ∷ []) (place + condition_size a + condition_size b) (ap (λ n. place + condition_size a + n) (condition_sized b)) rest in
-      let last = one_row image facts routine callers (point (place + condition_size a + condition_size b) (Truth y ∷ Truth x ∷ values) effects)
-      (point (place + condition_size a + condition_size b + 1) (Truth (x || y) ∷ values) effects) Either there.0 refl in
-      two_operands a b x y (x || y) place values effects first second last
+      joined_leads a b Either (truth facts a || truth facts b) place values effects (condition_leads a) (condition_leads b) (λ there. one_row image facts routine callers _ _ Either there refl) fits has room
 
 pub truth_runs : TruthRuns
 truth_runs image facts given = record {
@@ -113,7 +112,7 @@ module _ (coder : Coder) where
   pub block_sized : ((c : Condition) → length (coder.code c) ≡ coder.size c) → (place : ℕ) (block : Block) → length (block_code coder place block) ≡ code_size coder block
   block_sized each place Done = refl
   block_sized each place (RunThen n rest) = let e = block_sized each (place + 2) rest in omega (arith, e)
-  block_sized each place (WantThen n rest) = let e = block_sized each (place + 2) rest in omega (arith, e)
+  block_sized each place (SetStateThen n rest) = let e = block_sized each (place + 2) rest in omega (arith, e)
   block_sized each place (IfThen c inner rest) =
       let from = place + coder.size c + 1 in
       let past = from + code_size coder inner in
@@ -122,11 +121,11 @@ module _ (coder : Coder) where
       omega (arith, e, f, each c, block_sized each from inner, block_sized each past rest)
 
 module _ (image : ImageParts) (facts : Facts) (coder : Coder) where
-  -- no more commands are reached than the block has to run
+  -- A block reaches no more commands than it has.
   pub reached_within : (block : Block) → length (reached facts block).commands ≤ block_runs block
   reached_within Done = omega arith
   reached_within (RunThen n rest) = let h = reached_within rest in omega (arith, h)
-  reached_within (WantThen n rest) = let h = reached_within rest in omega (arith, h)
+  reached_within (SetStateThen n rest) = let h = reached_within rest in omega (arith, h)
   reached_within (IfThen c inner rest) =
       let h = reached_within rest in
       let i = chosen_within (truth facts c) (reached facts inner) (block_runs inner) (reached_within inner) in
@@ -134,7 +133,7 @@ module _ (image : ImageParts) (facts : Facts) (coder : Coder) where
       omega (arith, h, i, e)
 
   module _ (computes : Computes image facts coder) (routine : ℕ) (callers : List Frame) where
-    -- a block under a condition's truth: it leads on where it is true, and is passed over where it is false
+    -- A block under a truth runs if it is true, and is skipped if it is false.
     chosen_leads : (b : Bool) (place past cost : ℕ) (values : List Value) (effects more : Effects) → op_at image routine place ≡ Some (JumpFalse past)
         → RowsLead image facts routine callers (point (place + 1) values effects) cost (point past values (followed effects more))
         → RowsLead image facts routine callers (point place (Truth b ∷ values) effects) (1 + (if b then cost else 0)) (point past values (followed effects (if b then more else nothing_yet)))
@@ -144,7 +143,7 @@ module _ (image : ImageParts) (facts : Facts) (coder : Coder) where
         as_told image facts routine callers _ _ _ _ _ (jump_row image facts routine callers place values effects false past here) refl
         (ap (λ e. point past values e) (sym (followed_nothing effects)))
 
-    -- two statements, one after the other
+    -- Two statements in sequence.
     both_lead : (from : Point) (m n place to : ℕ) (values : List Value) (effects first second : Effects)
         → RowsLead image facts routine callers from m (point place values (followed effects first))
         → RowsLead image facts routine callers (point place values (followed effects first)) n (point to values (followed (followed effects first) second))
@@ -181,7 +180,7 @@ module _ (image : ImageParts) (facts : Facts) (coder : Coder) where
         let long = length-append effects.commands (n ∷ []) in
         let onward = block_leads rest (place + 2) values (followed effects queued) fits.1 there (omega (arith, room)) frames (omega (arith, more, long)) in
         two_rows place values effects queued (reached facts rest) (Command n) (block_cost coder facts rest) (code_size coder rest) push queue onward
-    block_leads (WantThen n rest) place values effects fits has room frames more =
+    block_leads (SetStateThen n rest) place values effects fits has room frames more =
         let wished : Effects = record { commands = []; wish = Some n } in
         let push = state_row image facts routine callers place values effects n has.0 fits.0 (omega (arith, room)) in
         let want = want_row image facts routine callers (place + 1) values effects n has.1.0 in

@@ -1,5 +1,5 @@
--- What a text means through the image of its policy.
-use Rattle.std.proofs.Common.{◌≡◌, ◌≢◌, ℕ, ◌+◌, List, [], ◌∷◌, length, refl, sym, ap, subst, arith, Result, Ok, Err}
+-- The meaning of a text, by the image of its policy.
+use Rattle.std.proofs.Common.{◌≡◌, ◌≢◌, ℕ, List, length, refl, sym, subst}
 use Rattle.std.proofs.lemmas.Simd.{map-map}
 use Rattle.ifs_lex.specs.declared.token.Token.{Token}
 use Rattle.ifs_lex.specs.Expansion as lex
@@ -13,7 +13,6 @@ use Rattle.ifs_policy.specs.declared.front.PolicyFault.{PolicyFault}
 use Rattle.ifs_policy.specs.declared.front.PolicyFault.TheVariants as fronting
 use Rattle.ifs_image.specs.declared.parts.TestSpec.{TestSpec}
 use Rattle.ifs_image.specs.declared.parts.ImageParts.{ImageParts}
-use Rattle.ifs_image.specs.Limits.{names_of}
 use Rattle.ifs_base.specs.Spelling.{IsReadBack}
 use Rattle.ifs_image.specs.Spelling as image
 use Rattle.ifs_verify.specs.Accepted.{IsAccepted}
@@ -21,9 +20,9 @@ use Rattle.ifs_verify.specs.Refused.{AreNotAccepted}
 use Rattle.ifs_verify.specs.declared.fault.VerifyFault.{VerifyFault}
 use Rattle.ifs_verify.specs.declared.fault.VerifyFault.TheVariants as verifying
 use Rattle.ifs_core.specs.Headline.{AcceptedIsKept}
-use Rattle.ifs_gen.specs.Trees.{Part, Policy, External}
+use Rattle.ifs_gen.specs.Trees.{Policy, External}
 use Rattle.ifs_gen.specs.PlainSizes.{test_count, CodeFits}
-use Rattle.ifs_gen.specs.PolicyImage.{states_from, shared_of, image_of}
+use Rattle.ifs_gen.specs.PolicyImage.{shared_of, image_of}
 use Rattle.ifs_gen.specs.Compiled.{MeansPolicy, TextsMeanTheirPolicy, IsCompiled, Compiles}
 use Rattle.ifs_gen.specs.Compiled.{IsCompileRefusal, IsWritten, IsCodeRefusal, of_policy, of_code}
 use Rattle.ifs_gen.specs.Refused.{PassesFirst}
@@ -32,39 +31,12 @@ use Rattle.ifs_gen.specs.declared.compile_fault.CompileFault.TheVariants as comp
 use Rattle.ifs_gen.specs.declared.compile_fault.CompileFault.TheVariants.{Memory}
 use Rattle.ifs_gen.specs.declared.fault.GenFault.{GenFault}
 use Rattle.ifs_gen.specs.declared.fault.GenFault.TheVariants as generating
-use Rattle.ifs_gen.proofs.Limits.{plain_is_accepted}
+use Rattle.ifs_policy.proofs.Unresolved.{OneList, OneTree}
+use Rattle.ifs_gen.proofs.Limits.{plain_is_accepted, names_same}
 use Rattle.ifs_gen.proofs.Lifting as lifting
 use Rattle.ifs_gen.proofs.Refusing.{does_not_fit}
 
--- What a call answers: a policy,
-abbrev answered : {A : Type 0} → A → Result A PolicyFault
-answered it = Ok it
-
--- or a refusal.
-abbrev unanswered : (A : Type 0) → PolicyFault → Result A PolicyFault
-unanswered A fault = Err fault
-
--- One fault is one refusal.
-pub same_refusal : {A : Type 0} (told fault : PolicyFault) → unanswered A told ≡ Err fault → of_policy told ≡ of_policy fault
-same_refusal told fault e = let same : told ≡ fault = cc in ap of_policy same
-
--- Where a policy is answered no fault was certain.
-pub not_certain : {A B : Type 0} (it : A) (fault : PolicyFault) → answered it ≡ Err fault → B
-not_certain it fault e = absurd (cc)
-
--- the names of states stand in the image as in the policy
-state_names : (shared count k : ℕ) (names : List (List ℕ)) (parts : List Part) → length parts ≡ length names → names_of (states_from shared count k names parts) ≡ names
-state_names shared count k [] parts e = refl
-state_names shared count k (x ∷ names) [] e = absurd (omega (arith, e))
-state_names shared count k (x ∷ names) (part ∷ parts) e = ap (λ (l : List (List ℕ)). x ∷ l) (state_names shared count (k + 1) names parts (omega (arith, e)))
-
--- The laws of the crates below.
-abbrev pub OneList : Type 0
-OneList = (text : List ℕ) (defs : List (List ℕ × List ℕ)) (tokens other : List Token) → lex.HasTokens text defs tokens → lex.HasTokens text defs other → tokens ≡ other
-
-abbrev pub OneTree : Type 0
-OneTree = (tokens : List Token) (file other : File) → Says tokens file → Says tokens other → file ≡ other
-
+-- Laws of the crates below.
 abbrev pub OnePolicy : Type 0
 OnePolicy = (items : List Item) (policy other : Policy) → Resolves items policy → Resolves items other → policy ≡ other
 
@@ -85,23 +57,10 @@ one_of_text one_list one_tree one_policy text defs policy other h k =
 pub is_policy : PoliciesFit → (text : List ℕ) (defs : List (List ℕ × List ℕ)) (policy : Policy) → HasPolicy text defs policy → PolicyFits policy
 is_policy fit text defs policy h = fit h.file policy ∣ (h.tokens, h.said) ∣₁ h.resolved
 
--- What is accepted is refused for nothing but memory.
+-- The verifier rejects accepted bytes only if an allocation fails.
 only_memory : (bytes : List ℕ) (parts : ImageParts) → image.Spells bytes parts → IsAccepted parts → (fault : VerifyFault) → AreNotAccepted bytes fault → fault ≡ verifying.OutOfMemory
 only_memory bytes parts spelled accepted verifying.OutOfMemory refuses = refl
-only_memory bytes parts spelled accepted (verifying.NoImage at) refuses = absurd (refuses (λ k. absurd (cc)) parts spelled accepted)
-only_memory bytes parts spelled accepted (verifying.NoEntry at) refuses = absurd (refuses (λ k. absurd (cc)) parts spelled accepted)
-only_memory bytes parts spelled accepted (verifying.JumpTarget at) refuses = absurd (refuses (λ k. absurd (cc)) parts spelled accepted)
-only_memory bytes parts spelled accepted (verifying.LeftAtEnd at) refuses = absurd (refuses (λ k. absurd (cc)) parts spelled accepted)
-only_memory bytes parts spelled accepted (verifying.Unreached at) refuses = absurd (refuses (λ k. absurd (cc)) parts spelled accepted)
-only_memory bytes parts spelled accepted (verifying.WrongOperand at) refuses = absurd (refuses (λ k. absurd (cc)) parts spelled accepted)
-only_memory bytes parts spelled accepted (verifying.WaysDisagree at) refuses = absurd (refuses (λ k. absurd (cc)) parts spelled accepted)
-only_memory bytes parts spelled accepted (verifying.CallNotLower at) refuses = absurd (refuses (λ k. absurd (cc)) parts spelled accepted)
-only_memory bytes parts spelled accepted (verifying.WrongResults at) refuses = absurd (refuses (λ k. absurd (cc)) parts spelled accepted)
-only_memory bytes parts spelled accepted (verifying.StackOver at) refuses = absurd (refuses (λ k. absurd (cc)) parts spelled accepted)
-only_memory bytes parts spelled accepted (verifying.FramesOver at) refuses = absurd (refuses (λ k. absurd (cc)) parts spelled accepted)
-only_memory bytes parts spelled accepted (verifying.CostOver at) refuses = absurd (refuses (λ k. absurd (cc)) parts spelled accepted)
-only_memory bytes parts spelled accepted (verifying.CommandsOver at) refuses = absurd (refuses (λ k. absurd (cc)) parts spelled accepted)
-only_memory bytes parts spelled accepted (verifying.HandlerLeaves at) refuses = absurd (refuses (λ k. absurd (cc)) parts spelled accepted)
+only_memory bytes parts spelled accepted _ refuses = absurd (refuses (λ k. absurd (cc)) parts spelled accepted)
 
 pub means : IsReadBack → AcceptedIsKept → OneImage → (policy : Policy) → PolicyFits policy → CodeFits policy → (bytes : List ℕ) → image.Spells bytes (image_of policy) → MeansPolicy bytes policy
 means back kept one_image policy is code bytes spelled =
@@ -115,7 +74,7 @@ means back kept one_image policy is code bytes spelled =
         tests = map-map (λ (test : TestSpec). test.text) (λ (test : External). record { period = test.period; text = test.command }) policy.tables.tests;
         periods = map-map (λ (test : TestSpec). test.period) (λ (test : External). record { period = test.period; text = test.command }) policy.tables.tests;
         commands = refl;
-        states = state_names (length (shared_of policy)) (test_count policy) 1 policy.tables.states policy.states is.count;
+        states = names_same (length (shared_of policy)) (test_count policy) 1 policy.tables.states policy.states is.count;
         initial = refl;
       };
       room = refl;
@@ -129,20 +88,15 @@ texts_mean back one_list one_tree one_policy fit one_image kept text defs policy
   means = λ code bytes spelled. means back kept one_image policy (is_policy fit text defs policy h) code bytes spelled;
 }
 
--- What stops the compiler.
+-- The errors of the compiler.
 module _ (text : List ℕ) (defs : List (List ℕ × List ℕ)) where
   pub refused_policy : (fault : PolicyFault) → (fault ≢ fronting.Memory → IsTextRefused text defs fault) → IsCompileRefusal text defs (of_policy fault)
-  refused_policy (fronting.Text fault) e = e (λ k. absurd (cc))
-  refused_policy (fronting.Tokens fault) e = e (λ k. absurd (cc))
-  refused_policy (fronting.Names fault) e = e (λ k. absurd (cc))
   refused_policy fronting.Memory e = tt
+  refused_policy _ e = e (λ k. absurd (cc))
 
   pub refused_code : (policy : Policy) → HasPolicy text defs policy → (fault : GenFault) → (fault ≢ generating.Memory → PassesFirst policy fault) → IsCompileRefusal text defs (of_code fault)
   refused_code policy h generating.Memory e = tt
-  refused_code policy h (generating.RoutineTooLong routine) e = (policy, h, e (λ k. absurd (cc)))
-  refused_code policy h generating.CodeTooLong e = (policy, h, e (λ k. absurd (cc)))
-  refused_code policy h (generating.StackTooHigh routine) e = (policy, h, e (λ k. absurd (cc)))
-  refused_code policy h generating.TooManyCommands e = (policy, h, e (λ k. absurd (cc)))
+  refused_code policy h _ e = (policy, h, e (λ k. absurd (cc)))
 
   pub is_compiled : TextsMeanTheirPolicy → (policy : Policy) → HasPolicy text defs policy → (bytes : List ℕ) → IsWritten policy bytes → IsCompiled text defs bytes
   is_compiled law policy h bytes w =
@@ -152,12 +106,10 @@ module _ (text : List ℕ) (defs : List (List ℕ × List ℕ)) where
 pub code_refusal : (policy : Policy) (text : List ℕ) (defs : List (List ℕ × List ℕ)) → HasPolicy text defs policy → (fault : CompileFault) → IsCodeRefusal policy fault → IsCompileRefusal text defs fault
 code_refusal policy text defs h fault r = subst (IsCompileRefusal text defs) (sym r.1) (refused_code text defs policy h r.0 r.2)
 
--- A text that is refused for another cause than memory does not compile.
+-- A text that is rejected, except for a failed allocation, does not compile.
 pub no_policy : (text : List ℕ) (defs : List (List ℕ × List ℕ)) (fault : PolicyFault) → IsTextRefused text defs fault → ¬ Compiles text defs
-no_policy text defs (fronting.Text fault) h k = h.0 k.policy k.of_text
-no_policy text defs (fronting.Tokens fault) h k = h.0 k.policy k.of_text
-no_policy text defs (fronting.Names fault) h k = h.0 k.policy k.of_text
 no_policy text defs fronting.Memory h k = h
+no_policy text defs _ h k = h.0 k.policy k.of_text
 
 pub none_compiled : TextsMeanTheirPolicy → (text : List ℕ) (defs : List (List ℕ × List ℕ)) (fault : CompileFault) → IsCompileRefusal text defs fault → fault ≢ Memory → ¬ Compiles text defs
 none_compiled law text defs (compiling.Text fault) h other k = no_policy text defs fault h k

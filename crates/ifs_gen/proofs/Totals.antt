@@ -1,4 +1,4 @@
--- What measures of a policy's parts say of the policy.
+-- The measures of the parts of a policy, and the policy.
 use Rattle.std.proofs.Common.{◌≡◌, ℕ, zero, suc, ◌+◌, ◌*◌, ◌<◌, ◌≤◌, List, []}
 use Rattle.std.proofs.Common.{◌∷◌, map, Some, refl, sym, ap, ◌∙◌, subst, arith}
 use Rattle.std.specs.Prelude.{slice_get, sum, max}
@@ -21,9 +21,10 @@ use Rattle.ifs_gen.specs.PlainSizes.{test_count, parts_of, greatest, number_in, 
 use Rattle.ifs_gen.specs.PlainSizes.{body_length, part_height, room_of, CodeFits}
 use Rattle.ifs_gen.specs.Refused.{lengths_of, heights_of, lengths, heights}
 use Rattle.ifs_gen.specs.Refused.{AreWithin, IsFirstOver, IsPassed, PassesFirst}
+use Rattle.ifs_gen.proofs.Images.{number_low}
 use Rattle.ifs_gen.proofs.Refusing.{one_later, each_fits, heights_fit, sums_agree}
 
--- What is looked for among the numbers that are left is found among all of them, so many places later.
+-- A property of the remaining numbers holds of all numbers, at an index that is greater by `place`.
 pub record Passes (amount : Amount) (limit : ℕ) (all left : List PartMeasure) (place : ℕ) : Type 0 where
   pub within : AreWithin limit (numbers_of amount left) → AreWithin limit (numbers_of amount all)
   pub first : (index : ℕ) → IsFirstOver limit (numbers_of amount left) index → IsFirstOver limit (numbers_of amount all) (place + index)
@@ -32,21 +33,12 @@ pub start : (amount : Amount) (limit : ℕ) (all : List PartMeasure) → Passes 
 start amount limit all = record { within = λ h. h; first = λ index h. let e : index ≡ 0 + index = omega arith in subst (IsFirstOver limit (numbers_of amount all)) e h }
 
 module _ (amount : Amount) (limit : ℕ) (all left rest : List PartMeasure) (m : PartMeasure) (place : ℕ) (is : left ≡ m ∷ rest) (passes : Passes amount limit all left place) where
-  here : IsFirstOver limit (numbers_of amount (m ∷ rest)) 0 → IsFirstOver limit (numbers_of amount all) (place + 0)
-  here h = passes.first 0 (subst (λ l. IsFirstOver limit (numbers_of amount l) 0) (sym is) h)
-
   pub init_over : limit < amount_in amount m.init → IsFirstOver limit (numbers_of amount all) place
   init_over over =
       let e : place + 0 ≡ place = omega arith in
       subst (IsFirstOver limit (numbers_of amount all)) e
       (passes.first 0 (subst (λ l. IsFirstOver limit (numbers_of amount l) 0) (sym is)
       (record { number = amount_in amount m.init; at = refl; over = over; before = λ i n lt e. absurd (omega (arith, lt)) })))
-
-  pub body_over : amount_in amount m.init ≤ limit → limit < amount_in amount m.body → IsFirstOver limit (numbers_of amount all) (place + 1)
-  body_over low over =
-      passes.first 1 (subst (λ l. IsFirstOver limit (numbers_of amount l) 1) (sym is)
-      (one_later limit (amount_in amount m.init) (amount_in amount m.body ∷ numbers_of amount rest) 0 low
-      (record { number = amount_in amount m.body; at = refl; over = over; before = λ i n lt e. absurd (omega (arith, lt)) })))
 
   pub none_over : amount_in amount m.init ≤ limit → amount_in amount m.body ≤ limit → Passes amount limit all rest (place + 2)
   none_over low too = record {
@@ -64,16 +56,7 @@ module _ (amount : Amount) (limit : ℕ) (all left rest : List PartMeasure) (m :
 pub all_within : (amount : Amount) (limit : ℕ) (all left : List PartMeasure) (place : ℕ) → left ≡ [] → Passes amount limit all left place → AreWithin limit (numbers_of amount all)
 all_within amount limit all left place none passes = passes.within (subst (λ l. AreWithin limit (numbers_of amount l)) (sym none) (All-nil (λ n. n ≤ limit)))
 
--- one part more
-pub sum_next : (left rest : List PartMeasure) (m : PartMeasure) (total next all : ℕ) → left ≡ m ∷ rest → next ≡ capped (capped (total + m.init.size) + m.body.size)
-    → capped (total + sum (numbers_of Size left)) ≡ capped all → capped (next + sum (numbers_of Size rest)) ≡ capped all
-sum_next left rest m total next all is next_is before =
-    let e = ap (λ l. sum (numbers_of Size l)) is in
-    let a = sum_by-cons (λ (n : ℕ). n) m.init.size (m.body.size ∷ numbers_of Size rest) in
-    let b = sum_by-cons (λ (n : ℕ). n) m.body.size (numbers_of Size rest) in
-    omega (arith, e, a, b, next_is, before)
-
--- no number over a limit, so no greatest one
+-- If no number exceeds a limit, the greatest one does not.
 pub inits_low : (amount : Amount) (limit : ℕ) (ms : List PartMeasure) → AreWithin limit (numbers_of amount ms) → most_of_inits amount ms ≤ limit
 inits_low amount limit [] h = omega arith
 inits_low amount limit (m ∷ ms) h =
@@ -90,18 +73,13 @@ bodies_low amount limit (m ∷ ms) h =
     let rest = bodies_low amount limit ms (All-tail (λ n. n ≤ limit) (amount_in amount m.body) (numbers_of amount ms) more) in
     omega (arith, first, rest)
 
-number_low : (amount : Amount) (ms : List PartMeasure) (i : ℕ) → number_in (λ (m : PartMeasure). amount_in amount m.init) (slice_get ms i) ≤ most_of_inits amount ms
-number_low amount [] i = omega arith
-number_low amount (m ∷ ms) zero = omega arith
-number_low amount (m ∷ ms) (suc i) = let h = number_low amount ms i in omega (arith, h)
-
--- nor an event that comes to more than three of it
+-- Nor does an event exceed three times the limit.
 pub event_low : (amount : Amount) (limit : ℕ) (ms : List PartMeasure) (initial : ℕ) → AreWithin limit (numbers_of amount ms) → event_in amount ms initial ≤ 3 * limit
 event_low amount limit [] initial h = omega arith
 event_low amount limit (m ∷ ms) initial h =
     let inits = inits_low amount limit (m ∷ ms) h in
     let bodies = bodies_low amount limit (m ∷ ms) h in
-    let first = number_low amount ms initial in
+    let first = number_low (λ (m : PartMeasure). amount_in amount m.init) ms initial in
     omega (arith, inits, bodies, first)
 
 bounds_same : (s height runs commands : ℕ) → s ≡ height → runs ≡ commands
@@ -114,16 +92,11 @@ bounds_are s height runs commands same runs_is few =
     let two : runs ≡ commands = omega (arith, runs_is, few) in
     bounds_same s height runs commands same two
 
--- Measures of a policy's parts, and the policy.
-inits_are : (amount : Amount) (count : ℕ) (number : Part → ℕ) → ((part : Part) → amount_in amount (measured count part).init ≡ capped (number part))
-    → (parts : List Part) → most_of_inits amount (map (measured count) parts) ≡ capped (greatest number parts)
-inits_are amount count number is [] = omega arith
-inits_are amount count number is (x ∷ parts) = let e = is x in let h = inits_are amount count number is parts in omega (arith, e, h)
-
-bodies_are : (amount : Amount) (count : ℕ) (number : Part → ℕ) → ((part : Part) → amount_in amount (measured count part).body ≡ capped (number part))
-    → (parts : List Part) → most_of_bodies amount (map (measured count) parts) ≡ capped (greatest number parts)
-bodies_are amount count number is [] = omega arith
-bodies_are amount count number is (x ∷ parts) = let e = is x in let h = bodies_are amount count number is parts in omega (arith, e, h)
+-- The amounts of the parts of a policy, by measures.
+most_are : (amount : PartMeasure → ℕ) (count : ℕ) (number : Part → ℕ) → ((part : Part) → amount (measured count part) ≡ capped (number part))
+    → (parts : List Part) → greatest amount (map (measured count) parts) ≡ capped (greatest number parts)
+most_are amount count number is [] = omega arith
+most_are amount count number is (x ∷ parts) = let e = is x in let h = most_are amount count number is parts in omega (arith, e, h)
 
 first_is : (amount : Amount) (count : ℕ) (number : Part → ℕ) → ((part : Part) → amount_in amount (measured count part).init ≡ capped (number part))
     → (parts : List Part) (i : ℕ) → number_in (λ (m : PartMeasure). amount_in amount m.init) (slice_get (map (measured count) parts) i) ≡ capped (number_in number (slice_get parts i))
@@ -137,8 +110,8 @@ event_is : (amount : Amount) (policy : Policy) (init body : Part → ℕ)
 event_is amount policy init body init_is body_is =
     let a = init_is policy.always in
     let b = body_is policy.always in
-    let inits = inits_are amount (test_count policy) init init_is policy.states in
-    let bodies = bodies_are amount (test_count policy) body body_is policy.states in
+    let inits = most_are (λ (m : PartMeasure). amount_in amount m.init) (test_count policy) init init_is policy.states in
+    let bodies = most_are (λ (m : PartMeasure). amount_in amount m.body) (test_count policy) body body_is policy.states in
     let first = first_is amount (test_count policy) init init_is policy.states policy.initial.0 in
     omega (arith, a, b, inits, bodies, first)
 
@@ -150,7 +123,7 @@ heights_are : (count : ℕ) (parts : List Part) → numbers_of Height (map (meas
 heights_are count [] = refl
 heights_are count (x ∷ parts) = ap (λ l. capped (block_height plain_coder x.init) ∷ capped (block_height plain_coder x.body) ∷ l) (heights_are count parts)
 
--- numbers that stop at the greatest one keep a limit below it where the numbers do
+-- Numbers keep a limit below the maximum if their saturated forms do.
 uncapped : (limit : ℕ) (xs : List ℕ) → limit ≤ 8192 → AreWithin limit (map capped xs) → AreWithin limit xs
 uncapped limit [] low h = All-nil (λ n. n ≤ limit)
 uncapped limit (x ∷ xs) low h =
@@ -171,7 +144,7 @@ capped_at [] i n e = absurd (none-some n e)
 capped_at (x ∷ xs) zero n e = ap (λ k. Some (capped k)) (same_Some x n e)
 capped_at (x ∷ xs) (suc i) n e = capped_at xs i n e
 
--- Where such a number stands, it is one of these.
+-- A saturated number is that of a number at the same index.
 record Uncapped (xs : List ℕ) (i n : ℕ) : Type 0 where
   number : ℕ
   at : slice_get xs i ≡ Some number
@@ -236,8 +209,8 @@ module _ (policy : Policy) where
   settled fine =
       let count = test_count policy in
       let parts = parts_of policy in
-      let inits = inits_are Height count (λ part. block_height plain_coder part.init) (λ part. refl) parts in
-      let bodies = bodies_are Height count (λ part. block_height plain_coder part.body) (λ part. refl) parts in
+      let inits = most_are (λ (m : PartMeasure). m.init.height) count (λ part. block_height plain_coder part.init) (λ part. refl) parts in
+      let bodies = most_are (λ (m : PartMeasure). m.body.height) count (λ part. block_height plain_coder part.body) (λ part. refl) parts in
       let inits_within = inits_low Height 32 measures fine.heights in
       let bodies_within = bodies_low Height 32 measures fine.heights in
       let both = part_greatest parts in

@@ -1,11 +1,11 @@
--- The kinds at each place of a block's code, by those of its conditions, with which its instructions are fine.
-use Rattle.std.proofs.Common.{◌≡◌, ℕ, ◌+◌, ◌≤◌, List, [], ◌∷◌, ◌++◌, length, refl, sym, ap, ◌∙◌, subst, arith, length-append}
+-- The kinds at each place of a block's code, given those of its conditions. With them the code is fine.
+use Rattle.std.proofs.Common.{◌≡◌, ℕ, ◌+◌, ◌≤◌, max, List, [], ◌∷◌, ◌++◌, length, refl, sym, ap, ◌∙◌, subst, arith, length-append}
 use Rattle.ifs_base.specs.declared.op.Kind.{Kind}
 use Rattle.ifs_base.specs.declared.op.Kind.TheVariants.{Truth, Command, StateName}
 use Rattle.ifs_base.specs.declared.op.Op.{Op}
 use Rattle.ifs_base.specs.declared.op.Op.TheVariants.{PushCommand, PushState, Queue, Want, JumpFalse}
 use Rattle.ifs_image.specs.declared.parts.ImageParts.{ImageParts}
-use Rattle.ifs_gen.specs.Trees.{Condition, Block, Done, RunThen, WantThen, IfThen}
+use Rattle.ifs_gen.specs.Trees.{Condition, Block, Done, RunThen, SetStateThen, IfThen}
 use Rattle.ifs_gen.specs.PlainCode.{Coder, block_code, code_size, block_height}
 use Rattle.ifs_policy.specs.Fits.{ConditionFits, BlockFits}
 use Rattle.ifs_gen.specs.Runs.{image_sizes}
@@ -13,7 +13,7 @@ use Rattle.ifs_gen.proofs.Simulation.{block_sized}
 use Rattle.ifs_gen.proofs.Fine.{Callees, IsFine, AreFine, CallsWithin, calls_left, calls_right, fine_append}
 use Rattle.ifs_gen.proofs.TypedTrees.{HasKinds, kinds_left, kinds_right, falls_on, jumps_on}
 
--- What is known of a coder's code of conditions, which begins on an empty stack: its kinds and its size, that it is fine, and that no lower height will do.
+-- The code of conditions, on an empty stack, has these kinds and sizes. It is fine, and needs the height of the coder.
 pub record IsTypedCoder (image : ImageParts) (callees : Callees) (coder : Coder) : Type 0 where
   pub kinds_of : Condition → List (List Kind)
   pub kinds_sized : (c : Condition) → length (kinds_of c) ≡ coder.size c
@@ -29,13 +29,13 @@ module _ (image : ImageParts) (callees : Callees) (coder : Coder) (typed : IsTyp
   abbrev pub kinds_of_block : Block → List (List Kind)
   kinds_of_block Done = []
   kinds_of_block (RunThen n rest) = [] ∷ (Command ∷ []) ∷ kinds_of_block rest
-  kinds_of_block (WantThen n rest) = [] ∷ (StateName ∷ []) ∷ kinds_of_block rest
+  kinds_of_block (SetStateThen n rest) = [] ∷ (StateName ∷ []) ∷ kinds_of_block rest
   kinds_of_block (IfThen c inner rest) = typed.kinds_of c ++ ((Truth ∷ []) ∷ (kinds_of_block inner ++ kinds_of_block rest))
 
   pub kinds_of_block_sized : (block : Block) → length (kinds_of_block block) ≡ code_size coder block
   kinds_of_block_sized Done = refl
   kinds_of_block_sized (RunThen n rest) = let e = kinds_of_block_sized rest in omega (arith, e)
-  kinds_of_block_sized (WantThen n rest) = let e = kinds_of_block_sized rest in omega (arith, e)
+  kinds_of_block_sized (SetStateThen n rest) = let e = kinds_of_block_sized rest in omega (arith, e)
   kinds_of_block_sized (IfThen c inner rest) =
       let e = length-append (typed.kinds_of c) ((Truth ∷ []) ∷ (kinds_of_block inner ++ kinds_of_block rest)) in
       let f = length-append (kinds_of_block inner) (kinds_of_block rest) in
@@ -45,43 +45,37 @@ module _ (image : ImageParts) (callees : Callees) (coder : Coder) (typed : IsTyp
     pub block_starts : (block : Block) (place : ℕ) → HasKinds kinds place (kinds_of_block block) → kinds (place + code_size coder block) ≡ [] → kinds place ≡ []
     block_starts Done place has next = let same : place + 0 ≡ place = omega arith in sym (ap kinds same) ∙ next
     block_starts (RunThen n rest) place has next = has.0
-    block_starts (WantThen n rest) place has next = has.0
+    block_starts (SetStateThen n rest) place has next = has.0
     block_starts (IfThen c inner rest) place has next =
         typed.starts kinds c place (kinds_left kinds place (typed.kinds_of c) ((Truth ∷ []) ∷ (kinds_of_block inner ++ kinds_of_block rest)) has)
 
-    -- a value is pushed and used up
-    two_steps : (place : ℕ) (push takes : Op) (kind : Kind) (rest : Block) → HasKinds kinds place ([] ∷ (kind ∷ []) ∷ kinds_of_block rest)
+    -- A value is pushed and used up, and then the rest of a block follows.
+    two_steps : (place : ℕ) (push takes : Op) (kind : Kind) (rest : Block) → HasKinds kinds place ([] ∷ (kind ∷ []) ∷ kinds_of_block rest) → kinds (place + (2 + code_size coder rest)) ≡ []
         → (kinds place ≡ [] → kinds (place + 1) ≡ kind ∷ [] → IsFine image callees kinds height end place push)
         → (kinds (place + 1) ≡ kind ∷ [] → kinds (place + 1 + 1) ≡ [] → IsFine image callees kinds height end (place + 1) takes)
-        → kinds (place + 2 + code_size coder rest) ≡ [] → AreFine image callees kinds height end (place + 2) (block_code coder (place + 2) rest)
+        → (HasKinds kinds (place + 2) (kinds_of_block rest) → kinds (place + 2 + code_size coder rest) ≡ [] → AreFine image callees kinds height end (place + 2) (block_code coder (place + 2) rest))
         → AreFine image callees kinds height end place (push ∷ takes ∷ block_code coder (place + 2) rest)
-    two_steps place push takes kind rest has first second next onward =
+    two_steps place push takes kind rest has next first second onward =
+        let far : place + (2 + code_size coder rest) ≡ place + 2 + code_size coder rest = omega arith in
         let same : place + 2 ≡ place + 1 + 1 = omega arith in
+        let last = sym (ap kinds far) ∙ next in
         let there = subst (λ p. HasKinds kinds p (kinds_of_block rest)) (sym same) has.1.1 in
-        let starts = sym (ap kinds same) ∙ block_starts rest (place + 2) there next in
-        (first has.0 has.1.0, (second has.1.0 starts, subst (λ p. AreFine image callees kinds height end p (block_code coder (place + 2) rest)) same onward))
+        let starts = sym (ap kinds same) ∙ block_starts rest (place + 2) there last in
+        (first has.0 has.1.0, (second has.1.0 starts, subst (λ p. AreFine image callees kinds height end p (block_code coder (place + 2) rest)) same (onward there last)))
 
     pub block_fine : (block : Block) (place : ℕ) → HasKinds kinds place (kinds_of_block block) → kinds (place + code_size coder block) ≡ [] → BlockFits (image_sizes image) block
         → block_height coder block ≤ height → place + code_size coder block ≤ end → AreFine image callees kinds height end place (block_code coder place block)
     block_fine Done place has next fits room within = tt
     block_fine (RunThen n rest) place has next fits room within =
-        let far : place + (2 + code_size coder rest) ≡ place + 2 + code_size coder rest = omega arith in
-        let same : place + 1 + 1 ≡ place + 2 = omega arith in
-        let last = sym (ap kinds far) ∙ next in
-        two_steps place (PushCommand n) Queue Command rest has
+        two_steps place (PushCommand n) Queue Command rest has next
         (λ at to. falls_on image callees kinds height end place (PushCommand n) [] (Command ∷ []) fits.0 at to refl (λ to e. e) refl refl (λ callee e. cc) (omega arith) (omega (arith, room)))
         (λ at to. falls_on image callees kinds height end (place + 1) Queue (Command ∷ []) [] tt at to refl (λ to e. e) refl refl (λ callee e. cc) (omega (arith, room)) (omega arith))
-        last
-        (block_fine rest (place + 2) (subst (λ p. HasKinds kinds p (kinds_of_block rest)) same has.1.1) last fits.1 (omega (arith, room)) (omega (arith, within)))
-    block_fine (WantThen n rest) place has next fits room within =
-        let far : place + (2 + code_size coder rest) ≡ place + 2 + code_size coder rest = omega arith in
-        let same : place + 1 + 1 ≡ place + 2 = omega arith in
-        let last = sym (ap kinds far) ∙ next in
-        two_steps place (PushState n) Want StateName rest has
+        (λ there last. block_fine rest (place + 2) there last fits.1 (omega (arith, room)) (omega (arith, within)))
+    block_fine (SetStateThen n rest) place has next fits room within =
+        two_steps place (PushState n) Want StateName rest has next
         (λ at to. falls_on image callees kinds height end place (PushState n) [] (StateName ∷ []) fits.0 at to refl (λ to e. e) refl refl (λ callee e. cc) (omega arith) (omega (arith, room)))
         (λ at to. falls_on image callees kinds height end (place + 1) Want (StateName ∷ []) [] tt at to refl (λ to e. e) refl refl (λ callee e. cc) (omega (arith, room)) (omega arith))
-        last
-        (block_fine rest (place + 2) (subst (λ p. HasKinds kinds p (kinds_of_block rest)) same has.1.1) last fits.1 (omega (arith, room)) (omega (arith, within)))
+        (λ there last. block_fine rest (place + 2) there last fits.1 (omega (arith, room)) (omega (arith, within)))
     block_fine (IfThen c inner rest) place has next fits room within =
         let at = place + coder.size c in
         let from = at + 1 in
@@ -102,29 +96,28 @@ module _ (image : ImageParts) (callees : Callees) (coder : Coder) (typed : IsTyp
         fine_append image callees kinds height end place (coder.code c) (JumpFalse past ∷ (block_code coder from inner ++ block_code coder past rest)) at (ap (λ n. place + n) (typed.sized c)) tested
         (jump, fine_append image callees kinds height end from (block_code coder from inner) (block_code coder past rest) past (ap (λ n. from + n) (block_sized coder typed.sized from inner)) inside onward)
 
-    -- a height that no place and no call passes is that of the tree at least
+    -- If no place and no call exceeds a height, the tree does not.
     module _ (each : (place : ℕ) → place ≤ end → length (kinds place) ≤ height) where
+      two_low : (place : ℕ) (kind : Kind) (rest : Block) → HasKinds kinds place ([] ∷ (kind ∷ []) ∷ kinds_of_block rest) → kinds (place + (2 + code_size coder rest)) ≡ []
+          → place + (2 + code_size coder rest) ≤ end → CallsWithin callees kinds height (place + 1 + 1) (block_code coder (place + 2) rest)
+          → (HasKinds kinds (place + 2) (kinds_of_block rest) → kinds (place + 2 + code_size coder rest) ≡ [] → place + 2 + code_size coder rest ≤ end
+          → CallsWithin callees kinds height (place + 2) (block_code coder (place + 2) rest) → block_height coder rest ≤ height)
+          → max 1 (block_height coder rest) ≤ height
+      two_low place kind rest has next within calls low =
+          let far : place + (2 + code_size coder rest) ≡ place + 2 + code_size coder rest = omega arith in
+          let same : place + 1 + 1 ≡ place + 2 = omega arith in
+          let one = each (place + 1) (omega (arith, within)) in
+          let long = ap length has.1.0 in
+          let there = subst (λ p. HasKinds kinds p (kinds_of_block rest)) same has.1.1 in
+          let called = subst (λ p. CallsWithin callees kinds height p (block_code coder (place + 2) rest)) same calls in
+          let more = low there (sym (ap kinds far) ∙ next) (omega (arith, within)) called in
+          omega (arith, one, long, more)
+
       pub block_low : (block : Block) (place : ℕ) → HasKinds kinds place (kinds_of_block block) → kinds (place + code_size coder block) ≡ [] → place + code_size coder block ≤ end
           → CallsWithin callees kinds height place (block_code coder place block) → block_height coder block ≤ height
       block_low Done place has next within calls = omega arith
-      block_low (RunThen n rest) place has next within calls =
-          let far : place + (2 + code_size coder rest) ≡ place + 2 + code_size coder rest = omega arith in
-          let same : place + 1 + 1 ≡ place + 2 = omega arith in
-          let one = each (place + 1) (omega (arith, within)) in
-          let long = ap length has.1.0 in
-          let there = subst (λ p. HasKinds kinds p (kinds_of_block rest)) same has.1.1 in
-          let called = subst (λ p. CallsWithin callees kinds height p (block_code coder (place + 2) rest)) same calls.1.1 in
-          let more = block_low rest (place + 2) there (sym (ap kinds far) ∙ next) (omega (arith, within)) called in
-          omega (arith, one, long, more)
-      block_low (WantThen n rest) place has next within calls =
-          let far : place + (2 + code_size coder rest) ≡ place + 2 + code_size coder rest = omega arith in
-          let same : place + 1 + 1 ≡ place + 2 = omega arith in
-          let one = each (place + 1) (omega (arith, within)) in
-          let long = ap length has.1.0 in
-          let there = subst (λ p. HasKinds kinds p (kinds_of_block rest)) same has.1.1 in
-          let called = subst (λ p. CallsWithin callees kinds height p (block_code coder (place + 2) rest)) same calls.1.1 in
-          let more = block_low rest (place + 2) there (sym (ap kinds far) ∙ next) (omega (arith, within)) called in
-          omega (arith, one, long, more)
+      block_low (RunThen n rest) place has next within calls = two_low place Command rest has next within calls.1.1 (block_low rest (place + 2))
+      block_low (SetStateThen n rest) place has next within calls = two_low place StateName rest has next within calls.1.1 (block_low rest (place + 2))
       block_low (IfThen c inner rest) place has next within calls =
           let at = place + coder.size c in
           let from = at + 1 in

@@ -1,6 +1,6 @@
--- The kinds at each place of the plain code of conditions, and of what holds a body back, with which its instructions are fine.
+-- The kinds at each place of the plain code of conditions, and of the tests that hold a body back. With them the code is fine.
 use Rattle.std.proofs.Common.{◌≡◌, ℕ, suc, ◌+◌, ◌*◌, ◌<◌, ◌≤◌, inl, ⊎_elim, List, [], ◌∷◌, ◌++◌}
-use Rattle.std.proofs.Common.{length, Some, None, refl, sym, ap, ◌∙◌, subst, arith, length-append}
+use Rattle.std.proofs.Common.{length, max, Some, None, refl, sym, ap, ◌∙◌, subst, arith, length-append}
 use Rattle.std.proofs.lemmas.Option.{none-some, same_Some}
 use Rattle.ifs_base.specs.declared.ids.TestId.{TestId}
 use Rattle.ifs_base.specs.declared.op.Kind.{Kind}
@@ -22,35 +22,36 @@ use Rattle.ifs_gen.proofs.Simulation.{condition_sized, condition_high}
 use Rattle.ifs_gen.proofs.Mentions.{EachBelow, HasRoomFor, room_any}
 use Rattle.ifs_gen.proofs.Fine.{Callees, IsFine, AreFine, fine_append}
 
--- The kinds at each place of a condition's code that begins with these, and of what holds a body back.
+-- The kinds at each place of a condition's code, above these kinds.
 abbrev pub condition_kinds : List Kind → Condition → List (List Kind)
 condition_kinds below (Leaf single) = below ∷ []
 condition_kinds below (NotSo c) = condition_kinds below c ++ (Truth ∷ below) ∷ []
 condition_kinds below (And a b) = condition_kinds below a ++ (condition_kinds (Truth ∷ below) b ++ (Truth ∷ Truth ∷ below) ∷ [])
 condition_kinds below (Or a b) = condition_kinds below a ++ (condition_kinds (Truth ∷ below) b ++ (Truth ∷ Truth ∷ below) ∷ [])
 
+-- The kinds at each place of the tests that hold a body back.
 abbrev pub held_kinds : List TestId → List (List Kind)
 held_kinds [] = []
 held_kinds (test ∷ tests) = [] ∷ (Truth ∷ []) ∷ held_kinds tests
 
+joined_sized : (below : List Kind) (xs ys : List (List Kind)) (m n : ℕ) → length xs ≡ m → length ys ≡ n → length (xs ++ (ys ++ (Truth ∷ Truth ∷ below) ∷ [])) ≡ m + n + 1
+joined_sized below xs ys m n e f =
+    let g = length-append xs (ys ++ (Truth ∷ Truth ∷ below) ∷ []) in
+    let h = length-append ys ((Truth ∷ Truth ∷ below) ∷ []) in
+    omega (arith, e, f, g, h)
+
 pub kinds_sized : (below : List Kind) (c : Condition) → length (condition_kinds below c) ≡ condition_size c
 kinds_sized below (Leaf single) = refl
 kinds_sized below (NotSo c) = length-append (condition_kinds below c) ((Truth ∷ below) ∷ []) ∙ ap (λ n. n + 1) (kinds_sized below c)
-kinds_sized below (And a b) =
-    let e = length-append (condition_kinds below a) (condition_kinds (Truth ∷ below) b ++ (Truth ∷ Truth ∷ below) ∷ []) in
-    let f = length-append (condition_kinds (Truth ∷ below) b) ((Truth ∷ Truth ∷ below) ∷ []) in
-    omega (arith, e, f, kinds_sized below a, kinds_sized (Truth ∷ below) b)
-kinds_sized below (Or a b) =
-    let e = length-append (condition_kinds below a) (condition_kinds (Truth ∷ below) b ++ (Truth ∷ Truth ∷ below) ∷ []) in
-    let f = length-append (condition_kinds (Truth ∷ below) b) ((Truth ∷ Truth ∷ below) ∷ []) in
-    omega (arith, e, f, kinds_sized below a, kinds_sized (Truth ∷ below) b)
+kinds_sized below (And a b) = joined_sized below (condition_kinds below a) (condition_kinds (Truth ∷ below) b) _ _ (kinds_sized below a) (kinds_sized (Truth ∷ below) b)
+kinds_sized below (Or a b) = joined_sized below (condition_kinds below a) (condition_kinds (Truth ∷ below) b) _ _ (kinds_sized below a) (kinds_sized (Truth ∷ below) b)
 
 pub held_kinds_sized : (tests : List TestId) → length (held_kinds tests) ≡ 2 * length tests
 held_kinds_sized [] = refl
 held_kinds_sized (test ∷ tests) = let e = held_kinds_sized tests in omega (arith, e)
 
 module _ (kinds : ℕ → List Kind) where
-  -- These stand at a place and those after it.
+  -- The places from this one on have these kinds.
   abbrev pub HasKinds : ℕ → List (List Kind) → Type 0
   HasKinds place [] = Unit {0}
   HasKinds place (k ∷ ks) = (kinds place ≡ k) × HasKinds (place + 1) ks
@@ -69,8 +70,31 @@ module _ (kinds : ℕ → List Kind) where
   condition_starts (And a b) place below h = condition_starts a place below (kinds_left place (condition_kinds below a) (condition_kinds (Truth ∷ below) b ++ (Truth ∷ Truth ∷ below) ∷ []) h)
   condition_starts (Or a b) place below h = condition_starts a place below (kinds_left place (condition_kinds below a) (condition_kinds (Truth ∷ below) b ++ (Truth ∷ Truth ∷ below) ∷ []) h)
 
+  -- The kinds of two operands and their sign, from a place on.
+  record HasJoined (a b : Condition) (place : ℕ) (below : List Kind) : Type 0 where
+    left : HasKinds place (condition_kinds below a)
+    left_end : kinds (place + condition_size a) ≡ Truth ∷ below
+    right : HasKinds (place + condition_size a) (condition_kinds (Truth ∷ below) b)
+    right_end : kinds (place + condition_size a + condition_size b) ≡ Truth ∷ Truth ∷ below
+
+  has_joined : (a b : Condition) (place : ℕ) (below : List Kind) → HasKinds place (condition_kinds below a ++ (condition_kinds (Truth ∷ below) b ++ (Truth ∷ Truth ∷ below) ∷ []))
+      → HasJoined a b place below
+  has_joined a b place below has =
+      let ka = condition_kinds below a in
+      let kb = condition_kinds (Truth ∷ below) b in
+      let last = (Truth ∷ Truth ∷ below) ∷ [] in
+      let at = place + condition_size a in
+      let rest = kinds_right place ka (kb ++ last) at (ap (λ n. place + n) (kinds_sized below a)) has in
+      let right = kinds_left at kb last rest in
+      record {
+        left = kinds_left place ka (kb ++ last) has;
+        left_end = condition_starts b at (Truth ∷ below) right;
+        right = right;
+        right_end = (kinds_right at kb last (at + condition_size b) (ap (λ n. at + n) (kinds_sized (Truth ∷ below) b)) rest).0;
+      }
+
 module _ (image : ImageParts) (callees : Callees) (kinds : ℕ → List Kind) (height end : ℕ) where
-  -- an instruction that goes on at the next place alone
+  -- An instruction whose only successor is the next place is fine.
   pub falls_on : (place : ℕ) (op : Op) (before after : List Kind) → HasOperand image op → kinds place ≡ before → kinds (place + 1) ≡ after → effect image op before ≡ Some after
       → ((to : ℕ) → IsSuccessor op place to → to ≡ place + 1) → target_of op ≡ None → IsSuccessor op place (place + 1) → ((callee : RoutineId) → op ≡ Call callee → (callee.0 < callees.count) × (length before + callees.height callee.0 ≤ height))
       → length before ≤ height → length after ≤ height → IsFine image callees kinds height end place op
@@ -88,7 +112,7 @@ module _ (image : ImageParts) (callees : Callees) (kinds : ℕ → List Kind) (h
         high = high;
       }
 
-  -- a jump that leads on from a truth to a later place, where nothing stands either
+  -- A jump on a truth to a later place with an empty stack is fine.
   pub jumps_on : (place target : ℕ) → kinds place ≡ Truth ∷ [] → kinds (place + 1) ≡ [] → kinds target ≡ [] → place < target → target ≤ end → 1 ≤ height
       → IsFine image callees kinds height end place (JumpFalse target)
   jumps_on place target at next there later within room =
@@ -105,13 +129,28 @@ module _ (image : ImageParts) (callees : Callees) (kinds : ℕ → List Kind) (h
         high = omega arith;
       }
 
-  -- the two operands of a sign, and the sign
-  two_fine : (a b : Condition) (op : Op) (place : ℕ) (below : List Kind) → AreFine image callees kinds height end place (condition_code a)
-      → AreFine image callees kinds height end (place + condition_size a) (condition_code b) → IsFine image callees kinds height end (place + condition_size a + condition_size b) op
+  -- The code of a condition is fine.
+  abbrev Fine : Condition → Type 0
+  Fine c = (place : ℕ) (below : List Kind) → HasKinds kinds place (condition_kinds below c) → kinds (place + condition_size c) ≡ Truth ∷ below
+      → ConditionFits (image_sizes image) c → condition_height c + length below ≤ height → AreFine image callees kinds height end place (condition_code c)
+
+  -- So is that of two operands and their sign.
+  joined_fine : (a b : Condition) (op : Op) (place : ℕ) (below : List Kind) → Fine a → Fine b
+      → ((at : ℕ) → kinds at ≡ Truth ∷ Truth ∷ below → kinds (at + 1) ≡ Truth ∷ below → suc (suc (length below)) ≤ height → suc (length below) ≤ height
+      → IsFine image callees kinds height end at op)
+      → HasKinds kinds place (condition_kinds below a ++ (condition_kinds (Truth ∷ below) b ++ (Truth ∷ Truth ∷ below) ∷ [])) → kinds (place + (condition_size a + condition_size b + 1)) ≡ Truth ∷ below
+      → ConditionFits (image_sizes image) a × ConditionFits (image_sizes image) b → max (condition_height a) (condition_height b + 1) + length below ≤ height
       → AreFine image callees kinds height end place (condition_code a ++ (condition_code b ++ op ∷ []))
-  two_fine a b op place below first second last =
-      fine_append image callees kinds height end place (condition_code a) (condition_code b ++ op ∷ []) (place + condition_size a) (ap (λ n. place + n) (condition_sized a)) first
-      (fine_append image callees kinds height end (place + condition_size a) (condition_code b) (op ∷ []) (place + condition_size a + condition_size b) (ap (λ n. place + condition_size a + n) (condition_sized b)) second (last, tt))
+  joined_fine a b op place below fine_a fine_b fine_op has next fits room =
+      let j = has_joined kinds a b place below has in
+      let high = condition_high b in
+      let at = place + condition_size a in
+      let same : place + (condition_size a + condition_size b + 1) ≡ place + condition_size a + condition_size b + 1 = omega arith in
+      let first = fine_a place below j.left j.left_end fits.0 (omega (arith, room)) in
+      let second = fine_b at (Truth ∷ below) j.right j.right_end fits.1 (omega (arith, room)) in
+      let last = fine_op (at + condition_size b) j.right_end (sym (ap kinds same) ∙ next) (omega (arith, room, high)) (omega (arith, room, high)) in
+      fine_append image callees kinds height end place (condition_code a) (condition_code b ++ op ∷ []) at (ap (λ n. place + n) (condition_sized a)) first
+      (fine_append image callees kinds height end at (condition_code b) (op ∷ []) (at + condition_size b) (ap (λ n. at + n) (condition_sized b)) second (last, tt))
 
   pub condition_fine : (c : Condition) (place : ℕ) (below : List Kind) → HasKinds kinds place (condition_kinds below c) → kinds (place + condition_size c) ≡ Truth ∷ below
       → ConditionFits (image_sizes image) c → condition_height c + length below ≤ height → AreFine image callees kinds height end place (condition_code c)
@@ -127,39 +166,17 @@ module _ (image : ImageParts) (callees : Callees) (kinds : ℕ → List Kind) (h
       fine_append image callees kinds height end place (condition_code c) (Negate ∷ []) (place + condition_size c) (ap (λ n. place + n) (condition_sized c)) inner
       (falls_on (place + condition_size c) Negate (Truth ∷ below) (Truth ∷ below) tt mid.0 (sym (ap kinds same) ∙ next) refl (λ to e. e) refl refl (λ callee e. cc) (omega (arith, room, high)) (omega (arith, room, high)), tt)
   condition_fine (And a b) place below has next fits room =
-      let high = condition_high b in
-      let ka = condition_kinds below a in
-      let kb = condition_kinds (Truth ∷ below) b in
-      let last = (Truth ∷ Truth ∷ below) ∷ [] in
-      let at = place + condition_size a in
-      let rest = kinds_right kinds place ka (kb ++ last) at (ap (λ n. place + n) (kinds_sized below a)) has in
-      let right = kinds_left kinds at kb last rest in
-      let mid = kinds_right kinds at kb last (at + condition_size b) (ap (λ n. at + n) (kinds_sized (Truth ∷ below) b)) rest in
-      let same : place + (condition_size a + condition_size b + 1) ≡ place + condition_size a + condition_size b + 1 = omega arith in
-      let first = condition_fine a place below (kinds_left kinds place ka (kb ++ last) has) (condition_starts kinds b at (Truth ∷ below) right) fits.0 (omega (arith, room)) in
-      let second = condition_fine b at (Truth ∷ below) right mid.0 fits.1 (omega (arith, room)) in
-      two_fine a b Both place below first second
-      (falls_on (at + condition_size b) Both (Truth ∷ Truth ∷ below) (Truth ∷ below) tt mid.0 (sym (ap kinds same) ∙ next) refl (λ to e. e) refl refl (λ callee e. cc) (omega (arith, room, high)) (omega (arith, room, high)))
+      joined_fine a b Both place below (condition_fine a) (condition_fine b)
+      (λ at here to low high. falls_on at Both (Truth ∷ Truth ∷ below) (Truth ∷ below) tt here to refl (λ to e. e) refl refl (λ callee e. cc) low high) has next fits room
   condition_fine (Or a b) place below has next fits room =
-      let high = condition_high b in
-      let ka = condition_kinds below a in
-      let kb = condition_kinds (Truth ∷ below) b in
-      let last = (Truth ∷ Truth ∷ below) ∷ [] in
-      let at = place + condition_size a in
-      let rest = kinds_right kinds place ka (kb ++ last) at (ap (λ n. place + n) (kinds_sized below a)) has in
-      let right = kinds_left kinds at kb last rest in
-      let mid = kinds_right kinds at kb last (at + condition_size b) (ap (λ n. at + n) (kinds_sized (Truth ∷ below) b)) rest in
-      let same : place + (condition_size a + condition_size b + 1) ≡ place + condition_size a + condition_size b + 1 = omega arith in
-      let first = condition_fine a place below (kinds_left kinds place ka (kb ++ last) has) (condition_starts kinds b at (Truth ∷ below) right) fits.0 (omega (arith, room)) in
-      let second = condition_fine b at (Truth ∷ below) right mid.0 fits.1 (omega (arith, room)) in
-      two_fine a b Either place below first second
-      (falls_on (at + condition_size b) Either (Truth ∷ Truth ∷ below) (Truth ∷ below) tt mid.0 (sym (ap kinds same) ∙ next) refl (λ to e. e) refl refl (λ callee e. cc) (omega (arith, room, high)) (omega (arith, room, high)))
+      joined_fine a b Either place below (condition_fine a) (condition_fine b)
+      (λ at here to low high. falls_on at Either (Truth ∷ Truth ∷ below) (Truth ∷ below) tt here to refl (λ to e. e) refl refl (λ callee e. cc) low high) has next fits room
 
   pub held_starts : (tests : List TestId) (place : ℕ) → HasKinds kinds place (held_kinds tests) → kinds (place + 2 * length tests) ≡ [] → kinds place ≡ []
   held_starts [] place has next = let same : place + 2 * 0 ≡ place = omega arith in sym (ap kinds same) ∙ next
   held_starts (test ∷ tests) place has next = has.0
 
-  -- what holds a body back: jumps to an end that lies further on
+  -- The tests that hold a body back, with jumps to a later end, are fine.
   pub held_fine : (tests : List TestId) (place target : ℕ) → HasKinds kinds place (held_kinds tests) → kinds (place + 2 * length tests) ≡ [] → kinds target ≡ []
       → EachBelow (length image.tests) tests → HasRoomFor height tests → place + 2 * length tests ≤ target → target ≤ end → AreFine image callees kinds height end place (held_code target tests)
   held_fine [] place target has next there below room before within = tt
@@ -177,33 +194,26 @@ module _ (image : ImageParts) (callees : Callees) (kinds : ℕ → List Kind) (h
         ),
       )
 
-  -- a height that no place passes is that of the tree at least
+  -- If no place exceeds a height, the tree does not.
   module _ (each : (place : ℕ) → place ≤ end → length (kinds place) ≤ height) where
+    abbrev Low : Condition → Type 0
+    Low c = (place : ℕ) (below : List Kind) → HasKinds kinds place (condition_kinds below c) → kinds (place + condition_size c) ≡ Truth ∷ below
+        → place + condition_size c ≤ end → condition_height c + length below ≤ height
+
+    joined_low : (a b : Condition) (place : ℕ) (below : List Kind) → Low a → Low b
+        → HasKinds kinds place (condition_kinds below a ++ (condition_kinds (Truth ∷ below) b ++ (Truth ∷ Truth ∷ below) ∷ [])) → place + (condition_size a + condition_size b + 1) ≤ end
+        → max (condition_height a) (condition_height b + 1) + length below ≤ height
+    joined_low a b place below low_a low_b has within =
+        let j = has_joined kinds a b place below has in
+        let first = low_a place below j.left j.left_end (omega (arith, within)) in
+        let second = low_b (place + condition_size a) (Truth ∷ below) j.right j.right_end (omega (arith, within)) in
+        omega (arith, first, second)
+
     pub condition_low : (c : Condition) (place : ℕ) (below : List Kind) → HasKinds kinds place (condition_kinds below c) → kinds (place + condition_size c) ≡ Truth ∷ below
         → place + condition_size c ≤ end → condition_height c + length below ≤ height
     condition_low (Leaf single) place below has next within = let h = each (place + 1) within in let e = ap length next in omega (arith, h, e)
     condition_low (NotSo c) place below has next within =
         let mid = kinds_right kinds place (condition_kinds below c) ((Truth ∷ below) ∷ []) (place + condition_size c) (ap (λ n. place + n) (kinds_sized below c)) has in
         condition_low c place below (kinds_left kinds place (condition_kinds below c) ((Truth ∷ below) ∷ []) has) mid.0 (omega (arith, within))
-    condition_low (And a b) place below has next within =
-        let ka = condition_kinds below a in
-        let kb = condition_kinds (Truth ∷ below) b in
-        let last = (Truth ∷ Truth ∷ below) ∷ [] in
-        let at = place + condition_size a in
-        let rest = kinds_right kinds place ka (kb ++ last) at (ap (λ n. place + n) (kinds_sized below a)) has in
-        let right = kinds_left kinds at kb last rest in
-        let mid = kinds_right kinds at kb last (at + condition_size b) (ap (λ n. at + n) (kinds_sized (Truth ∷ below) b)) rest in
-        let first = condition_low a place below (kinds_left kinds place ka (kb ++ last) has) (condition_starts kinds b at (Truth ∷ below) right) (omega (arith, within)) in
-        let second = condition_low b at (Truth ∷ below) right mid.0 (omega (arith, within)) in
-        omega (arith, first, second)
-    condition_low (Or a b) place below has next within =
-        let ka = condition_kinds below a in
-        let kb = condition_kinds (Truth ∷ below) b in
-        let last = (Truth ∷ Truth ∷ below) ∷ [] in
-        let at = place + condition_size a in
-        let rest = kinds_right kinds place ka (kb ++ last) at (ap (λ n. place + n) (kinds_sized below a)) has in
-        let right = kinds_left kinds at kb last rest in
-        let mid = kinds_right kinds at kb last (at + condition_size b) (ap (λ n. at + n) (kinds_sized (Truth ∷ below) b)) rest in
-        let first = condition_low a place below (kinds_left kinds place ka (kb ++ last) has) (condition_starts kinds b at (Truth ∷ below) right) (omega (arith, within)) in
-        let second = condition_low b at (Truth ∷ below) right mid.0 (omega (arith, within)) in
-        omega (arith, first, second)
+    condition_low (And a b) place below has next within = joined_low a b place below (condition_low a) (condition_low b) has within
+    condition_low (Or a b) place below has next within = joined_low a b place below (condition_low a) (condition_low b) has within

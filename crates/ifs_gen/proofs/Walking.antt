@@ -1,29 +1,29 @@
--- The conditions of statements in order, and of parts, are met one after the other.
+-- The conditions of blocks and of parts occur one by one.
 use Rattle.std.proofs.Common.{◌≡◌, ◌∙◌, ℕ, zero, suc, ◌+◌, ◌≤◌, ◌<◌, Bool, true, false, cond, ◌&&◌, List, length}
 use Rattle.std.proofs.Common.{[], ◌∷◌, ◌++◌, fold, refl, sym, ap, subst, append_assoc, arith, take, get_or, Result, Ok, Err, IfOk}
 use Rattle.std.specs.declared.alloc.AllocError.{AllocError}
 use Rattle.std.specs.Prelude.{filter, slice_get, nat_lt, Some}
 use Rattle.std.specs.List.{flat_map, list_any}
-use Rattle.std.proofs.lemmas.List.{append-nil, take_more}
+use Rattle.std.proofs.lemmas.List.{append-nil, take_more, take_all, length-take}
 use Rattle.std.proofs.lemmas.List.Elements.{filter-append}
 use Rattle.std.proofs.lemmas.Bool.{lt-ltb, le-ltb, ltb-true, ltb-false}
-use Rattle.std.proofs.lemmas.Option.{slice_get_within, get_or_from_slice_get}
 use Rattle.ifs_base.specs.declared.ids.CommandId.{CommandId}
 use Rattle.ifs_base.specs.declared.ids.StateId.{StateId}
 use Rattle.ifs_base.specs.declared.op.Op.{Op}
 use Rattle.ifs_parse.specs.Views.{block_of, statement_then}
 use Rattle.ifs_parse.specs.declared.block.Statement.{Statement}
 use Rattle.ifs_parse.specs.declared.block.Statement.TheVariants.{Run, SetState, If}
-use Rattle.ifs_gen.specs.Trees.{Single, Condition, Block, Part, Policy}
+use Rattle.ifs_gen.specs.Trees.{Single, Block, Part, Policy}
 use Rattle.ifs_gen.specs.PlainCode.{condition_code}
 use Rattle.ifs_gen.specs.Sharing.{same_code, conditions_of, conditions_in, most_shared}
 use Rattle.ifs_gen.specs.PlainSizes.{parts_of}
 use Rattle.ifs_gen.specs.declared.sharing.Met.{Met}
 use Rattle.ifs_gen.specs.inner.Meetings.{meet, met_nothing, statement_conditions, chosen, with_chosen, AreApart}
-use Rattle.ifs_gen.proofs.Chains.{take_past}
+use Rattle.ifs_policy.proofs.Lists.{flat_last}
+use Rattle.ifs_gen.proofs.Copying.{take_next}
 use Rattle.ifs_gen.proofs.Firsts.{has, none_before, none_kept}
 
--- The conditions of statements, one after the other.
+-- The conditions of a block are those of its statements.
 then_conditions : (s : Statement Single CommandId StateId) (rest : Block) → conditions_of (statement_then s rest) ≡ statement_conditions s ++ conditions_of rest
 then_conditions (Run command) rest = refl
 then_conditions (SetState state) rest = refl
@@ -33,16 +33,12 @@ statements_have : (items : List (Statement Single CommandId StateId)) → condit
 statements_have [] = refl
 statements_have (s ∷ rest) = then_conditions s (block_of rest) ∙ ap (λ xs. statement_conditions s ++ xs) (statements_have rest)
 
--- Codes in two lists are met one list after the other.
+-- The codes of two lists occur in sequence.
 met_append : (met : Met) (xs ys : List (List Op)) → fold meet met (xs ++ ys) ≡ fold meet (fold meet met xs) ys
 met_append met [] ys = refl
 met_append met (x ∷ xs) ys = met_append (meet met x) xs ys
 
-flat_last : {T : Type 0} (f : T → List (List Op)) (xs : List T) (x : T) → flat_map f (xs ++ x ∷ []) ≡ flat_map f xs ++ f x
-flat_last f [] x = append-nil (f x)
-flat_last f (y ∷ xs) x = ap (λ l. f y ++ l) (flat_last f xs x) ∙ sym (append_assoc (f y) (flat_map f xs) (f x))
-
--- one member more
+-- One more member.
 pub met_more : {T : Type 0} (f : T → List (List Op)) (start now next : Met) (items : List T) (i : ℕ) (item : T) → i < length items → item ≡ get_or items i item
     → now ≡ fold meet start (flat_map f (take i items)) → next ≡ fold meet now (f item) → next ≡ fold meet start (flat_map f (take (i + 1) items))
 met_more f start now next items i item lt at now_is next_is =
@@ -50,20 +46,12 @@ met_more f start now next items i item lt at now_is next_is =
     next_is ∙ ap (λ m. fold meet m (f item)) now_is ∙ sym (met_append start (flat_map f (take i items)) (f item))
     ∙ ap (fold meet start) (sym (flat_last f (take i items) item)) ∙ ap (λ xs. fold meet start (flat_map f xs)) (sym more)
 
--- all of them
+-- All members.
 pub met_end : (start now : Met) (block : Block) (items : List (Statement Single CommandId StateId)) (i : ℕ) → block ≡ block_of items → length items ≤ i
     → now ≡ fold meet start (flat_map statement_conditions (take i items)) → now ≡ fold meet start (conditions_of block)
 met_end start now block items i block_is le now_is =
-    now_is ∙ ap (λ xs. fold meet start (flat_map statement_conditions xs)) (take_past items i le)
+    now_is ∙ ap (λ xs. fold meet start (flat_map statement_conditions xs)) (take_all i items le)
     ∙ ap (fold meet start) (sym (ap conditions_of block_is ∙ statements_have items))
-
--- a condition, and then those of the block under it
-pub if_met : (start one two : Met) (s : Statement Single CommandId StateId) (c : Condition) (inner : Block) → s ≡ If c inner → one ≡ meet start (condition_code c)
-    → two ≡ fold meet one (conditions_of inner) → two ≡ fold meet start (statement_conditions s)
-if_met start one two s c inner is one_is two_is =
-    two_is ∙ ap (λ m. fold meet m (conditions_of inner)) one_is
-    ∙ ap (λ xs. fold meet (meet start (condition_code c)) xs) (sym (append-nil (conditions_of inner)))
-    ∙ ap (λ x. fold meet start (statement_conditions x)) (sym is)
 
 -- The conditions of a part.
 abbrev pub part_conditions : Part → List (List Op)
@@ -74,15 +62,15 @@ parts_have [] = refl
 parts_have (part ∷ parts) = ap (λ xs. conditions_of part.init ++ (conditions_of part.body ++ xs)) (parts_have parts)
     ∙ sym (append_assoc (conditions_of part.init) (conditions_of part.body) (flat_map part_conditions parts))
 
--- a part, and parts
+-- A part, and a list of parts.
 pub part_met : (start next : Met) (part : Part) → next ≡ fold meet (fold meet start (conditions_of part.init)) (conditions_of part.body) → next ≡ fold meet start (part_conditions part)
 part_met start next part next_is = next_is ∙ sym (met_append start (conditions_of part.init) (conditions_of part.body))
 
 pub parts_met : (start now : Met) (parts : List Part) (i : ℕ) → length parts ≤ i → now ≡ fold meet start (flat_map part_conditions (take i parts)) → now ≡ fold meet start (conditions_in parts)
 parts_met start now parts i le now_is =
-    now_is ∙ ap (λ xs. fold meet start (flat_map part_conditions xs)) (take_past parts i le) ∙ ap (fold meet start) (sym (parts_have parts))
+    now_is ∙ ap (λ xs. fold meet start (flat_map part_conditions xs)) (take_all i parts le) ∙ ap (fold meet start) (sym (parts_have parts))
 
--- the always part, and the others
+-- The always part, then the states.
 pub all_met : (start one two : Met) (always : Part) (states : List Part) → one ≡ fold meet (fold meet start (conditions_of always.init)) (conditions_of always.body)
     → two ≡ fold meet one (conditions_in states) → two ≡ fold meet start (conditions_in (always ∷ states))
 all_met start one two always states one_is two_is =
@@ -90,10 +78,7 @@ all_met start one two always states one_is two_is =
     ∙ sym (met_append (fold meet start (conditions_of always.init)) (conditions_of always.body) (conditions_in states))
     ∙ sym (met_append start (conditions_of always.init) (conditions_of always.body ++ conditions_in states))
 
-taken_more : (xs : List (List Op)) (i : ℕ) (x : List Op) → slice_get xs i ≡ Some x → take (i + 1) xs ≡ take i xs ++ x ∷ []
-taken_more xs i x at = take_more xs i x (slice_get_within xs i x at) ∙ ap (λ y. take i xs ++ y ∷ []) (get_or_from_slice_get xs i x x at)
-
--- all conditions of a policy
+-- All conditions of a policy.
 pub walked : (policy : Policy) (always : Part) (states : List Part) (start one two : Met) → start ≡ met_nothing → always ≡ policy.always → states ≡ policy.states
     → one ≡ fold meet (fold meet start (conditions_of always.init)) (conditions_of always.body) → two ≡ fold meet one (conditions_in states)
     → two ≡ fold meet met_nothing (conditions_in (parts_of policy))
@@ -103,11 +88,11 @@ walked policy always states start one two start_is always_is states_is one_is tw
     ∙ ap (λ (p : Part). fold meet met_nothing (conditions_in (p ∷ states))) always_is
     ∙ ap (λ (ps : List Part). fold meet met_nothing (conditions_in (policy.always ∷ ps))) states_is
 
--- Those of a list that a table has.
+-- The codes of a list that a table has.
 abbrev among : List (List Op) → List (List Op) → List (List Op)
 among again xs = filter (λ code. list_any (same_code code) again) xs
 
--- A front with one member more.
+-- A front with one more member.
 take_none : {T : Type 0} (n : ℕ) → take {A = T} n [] ≡ []
 take_none zero = refl
 take_none (suc n) = refl
@@ -129,13 +114,13 @@ take_last (suc n) (y ∷ xs) x = by (nat_lt (length (take n xs)) n) refl (take_l
         ap (λ l. y ∷ l) (more ∙ ap (λ c. cond c (take n xs ++ x ∷ []) (take n xs)) e)
         ∙ ap (λ c. cond c (y ∷ (take n xs ++ x ∷ [])) (y ∷ take n xs)) (sym (le-ltb (suc (length (take n xs))) (suc n) (omega (arith, not_less))))
 
--- the next entry is chosen where it was met again and there is room
+-- The next entry is chosen if it occurred again and there is room.
 pub chosen_more : (once again now next : List (List Op)) (i : ℕ) (code : List Op) → slice_get once i ≡ Some code → now ≡ take most_shared (among again (take i once))
     → next ≡ with_chosen again now code → next ≡ take most_shared (among again (take (i + 1) once))
 chosen_more once again now next i code at now_is next_is =
     next_is ∙ ap (λ l. with_chosen again l code) now_is ∙ by (has code again) refl
     ∙ ap (take most_shared) (sym (filter-append (λ code. has code again) (take i once) (code ∷ [])))
-    ∙ ap (λ l. take most_shared (among again l)) (sym (taken_more once i code at))
+    ∙ ap (λ l. take most_shared (among again l)) (sym (take_next once i code at))
   where
     by : (b : Bool) → has code again ≡ b → with_chosen again (take most_shared (among again (take i once))) code
         ≡ take most_shared (among again (take i once) ++ cond (has code again) (code ∷ []) [])
@@ -148,21 +133,18 @@ chosen_more once again now next i code at now_is next_is =
         ap (λ c. cond (c && nat_lt (length (take most_shared front)) most_shared) (take most_shared front ++ code ∷ []) (take most_shared front)) e
         ∙ ap (take most_shared) (sym (append-nil front)) ∙ ap (λ c. take most_shared (front ++ cond c (code ∷ []) [])) (sym e)
 
--- it is the same as none that was chosen
+-- It is the same as no chosen code.
 pub chosen_new : (once again now : List (List Op)) (i : ℕ) (code : List Op) → AreApart same_code once → slice_get once i ≡ Some code → now ≡ take most_shared (among again (take i once)) → has code now ≡ false
 chosen_new once again now i code apart at now_is =
     ap (has code) now_is ∙ none_kept code (λ other. has other again) most_shared (take i once) (none_before once i code apart at)
 
--- at the end of the table all are chosen
+-- At the end of the table all codes are chosen.
 pub chosen_all : (once again now : List (List Op)) (i : ℕ) → length once ≤ i → now ≡ take most_shared (among again (take i once)) → now ≡ take most_shared (among again once)
-chosen_all once again now i le now_is = now_is ∙ ap (λ l. take most_shared (among again l)) (take_past once i le)
+chosen_all once again now i le now_is = now_is ∙ ap (λ l. take most_shared (among again l)) (take_all i once le)
 
--- No more are chosen than may be.
+-- The number of chosen codes keeps its limit.
 few_taken : {T : Type 0} (n : ℕ) (xs : List T) → length (take n xs) ≤ n
-few_taken zero [] = omega arith
-few_taken zero (x ∷ xs) = omega arith
-few_taken (suc n) [] = omega arith
-few_taken (suc n) (x ∷ xs) = let h = few_taken n xs in omega (arith, h)
+few_taken n xs = let e = length-take n xs in omega (arith, e)
 
 pub few_chosen : (r : Result (List (List Op)) AllocError) (met : Met) → IfOk r (λ table. table ≡ chosen met) → IfOk r (λ table. length table ≤ most_shared)
 few_chosen (Ok table) met is = subst (λ l. length l ≤ most_shared) (sym is) (few_taken most_shared (among met.again met.once))

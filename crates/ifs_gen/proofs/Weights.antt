@@ -1,4 +1,4 @@
--- What the instructions of conditions, inits and bodies weigh together.
+-- The total weights of the instructions of conditions, inits and bodies.
 use Rattle.std.proofs.Common.{◌≡◌, ℕ, zero, ◌+◌, List, [], ◌∷◌, ◌++◌, length, Option, Some, None, refl, ap, ◌∙◌, arith, length-append}
 use Rattle.std.specs.Prelude.{slice_get}
 use Rattle.ifs_base.specs.Spelling.{IsReadBack}
@@ -10,7 +10,7 @@ use Rattle.ifs_base.specs.declared.op.Op.TheVariants.{Ret, Known, Negate, Both, 
 use Rattle.ifs_image.specs.declared.parts.ImageParts.{ImageParts}
 use Rattle.ifs_image.specs.Code.{code_in}
 use Rattle.ifs_verify.specs.Bounds.{cost_of, commands_of}
-use Rattle.ifs_gen.specs.Trees.{LinkIs, TestIs, Condition, Leaf, NotSo, And, Or, Block, Done, RunThen, WantThen, IfThen}
+use Rattle.ifs_gen.specs.Trees.{LinkIs, TestIs, Condition, Leaf, NotSo, And, Or, Block, Done, RunThen, SetStateThen, IfThen}
 use Rattle.ifs_parse.specs.Trees.{condition_size}
 use Rattle.ifs_gen.specs.PlainCode.{Coder, plain_coder, condition_code, block_code, code_size, block_limit}
 use Rattle.ifs_gen.specs.PlainCode.{block_runs, held_code, holding, body_start, body_end, body_code, init_code}
@@ -22,26 +22,27 @@ use Rattle.ifs_gen.proofs.Handlers.{held_sized}
 use Rattle.ifs_gen.proofs.Called.{placed}
 use Rattle.ifs_gen.proofs.GoodRoutines.{amount, amount_append, with_callee}
 
--- each instruction costs one
+-- Each instruction costs 1.
 pub cost_is_length : (code : List Op) → amount cost_of code zero ≡ length code
 cost_is_length [] = refl
 cost_is_length (op ∷ code) = let e = cost_is_length code in omega (arith, e)
 
--- conditions queue nothing
+joined_weighs : (weight : Op → ℕ) (a b : Condition) (op : Op)
+    → amount weight (condition_code a ++ (condition_code b ++ op ∷ [])) zero ≡ amount weight (condition_code a) zero + amount weight (condition_code b) zero + weight op
+joined_weighs weight a b op =
+    let e = amount_append weight (condition_code a) (condition_code b ++ op ∷ []) in
+    let f = amount_append weight (condition_code b) (op ∷ []) in
+    omega (arith, e, f)
+
+-- Conditions queue nothing.
 pub condition_queues : (c : Condition) → amount commands_of (condition_code c) zero ≡ 0
 condition_queues (Leaf (LinkIs n s)) = refl
 condition_queues (Leaf (TestIs n)) = refl
 condition_queues (NotSo c) = let e = amount_append commands_of (condition_code c) (Negate ∷ []) in let h = condition_queues c in omega (arith, e, h)
-condition_queues (And a b) =
-    let e = amount_append commands_of (condition_code a) (condition_code b ++ Both ∷ []) in
-    let f = amount_append commands_of (condition_code b) (Both ∷ []) in
-    omega (arith, e, f, condition_queues a, condition_queues b)
-condition_queues (Or a b) =
-    let e = amount_append commands_of (condition_code a) (condition_code b ++ Either ∷ []) in
-    let f = amount_append commands_of (condition_code b) (Either ∷ []) in
-    omega (arith, e, f, condition_queues a, condition_queues b)
+condition_queues (And a b) = let e = joined_weighs commands_of a b Both in omega (arith, e, condition_queues a, condition_queues b)
+condition_queues (Or a b) = let e = joined_weighs commands_of a b Either in omega (arith, e, condition_queues a, condition_queues b)
 
--- A weight counts the commands that are queued, calls aside.
+-- A weight counts queued commands, apart from calls.
 record Queues (weight : Op → ℕ) : Type 0 where
   commands : (n : CommandId) → weight (PushCommand n) ≡ 0
   states : (n : StateId) → weight (PushState n) ≡ 0
@@ -60,7 +61,7 @@ module _ (coder : Coder) (weight : Op → ℕ) (queues : Queues weight) (none : 
       let jump = queues.jumps end in
       omega (arith, h, known, jump)
 
-  -- a block queues as many as it has to run
+  -- A block queues as many commands as it has.
   block_queues : (place : ℕ) (block : Block) → amount weight (block_code coder place block) zero ≡ block_runs block
   block_queues place Done = refl
   block_queues place (RunThen n rest) =
@@ -68,7 +69,7 @@ module _ (coder : Coder) (weight : Op → ℕ) (queues : Queues weight) (none : 
       let push = queues.commands n in
       let queue = queues.queued in
       omega (arith, h, push, queue)
-  block_queues place (WantThen n rest) =
+  block_queues place (SetStateThen n rest) =
       let h = block_queues (place + 2) rest in
       let push = queues.states n in
       let want = queues.wanted in
@@ -101,7 +102,7 @@ module _ (coder : Coder) (weight : Op → ℕ) (queues : Queues weight) (none : 
 plain_queues : Queues commands_of
 plain_queues = record { commands = λ n. refl; states = λ n. refl; queued = refl; wanted = refl; known = λ n. refl; jumps = λ target. refl; ends = refl }
 
--- plain inits and bodies queue as many as their blocks have to run
+-- Plain inits and bodies queue as many commands as their blocks have.
 pub init_queues : (block : Block) → amount commands_of (init_code plain_coder block) zero ≡ block_runs block
 init_queues block = init_weighs plain_coder commands_of plain_queues condition_queues block
 
@@ -109,7 +110,7 @@ pub body_queues : (count : ℕ) (block : Block) → amount commands_of (body_cod
 body_queues count block = body_weighs plain_coder commands_of plain_queues condition_queues count block
 
 module _ (coder : Coder) (sized : (c : Condition) → length (coder.code c) ≡ coder.size c) where
-  -- inits and bodies are as long as their sizes
+  -- The lengths of inits and bodies are their sizes.
   pub init_long : (block : Block) → length (init_code coder block) ≡ init_size coder block
   init_long block = length-append (block_code coder 0 block) (Ret ∷ []) ∙ ap (λ n. n + 1) (block_sized coder sized 0 block)
 
@@ -121,9 +122,9 @@ module _ (coder : Coder) (sized : (c : Condition) → length (coder.code c) ≡ 
       let f = length-append code (Ret ∷ []) in
       omega (arith, e, f, held_sized end (holding count block), block_sized coder sized (body_start count block) block)
 
--- Over an image that has the routines of shared codes, with the weight of what is called.
+-- On an image with the routines of shared codes, with the weights of callees.
 module _ (image : ImageParts) where
-  -- plain code calls nothing
+  -- Plain code has no calls.
   plain_weighs : (weight : Op → ℕ) (c : Condition) → amount (with_callee weight image) (condition_code c) zero ≡ amount weight (condition_code c) zero
   plain_weighs weight (Leaf (LinkIs n s)) = omega arith
   plain_weighs weight (Leaf (TestIs n)) = omega arith
@@ -133,19 +134,11 @@ module _ (image : ImageParts) where
       let h = plain_weighs weight c in
       omega (arith, e, f, h)
   plain_weighs weight (And a b) =
-      let e = amount_append (with_callee weight image) (condition_code a) (condition_code b ++ Both ∷ []) in
-      let f = amount_append (with_callee weight image) (condition_code b) (Both ∷ []) in
-      let g = amount_append weight (condition_code a) (condition_code b ++ Both ∷ []) in
-      let h = amount_append weight (condition_code b) (Both ∷ []) in
-      omega (arith, e, f, g, h, plain_weighs weight a, plain_weighs weight b)
+      let e = joined_weighs (with_callee weight image) a b Both in let f = joined_weighs weight a b Both in omega (arith, e, f, plain_weighs weight a, plain_weighs weight b)
   plain_weighs weight (Or a b) =
-      let e = amount_append (with_callee weight image) (condition_code a) (condition_code b ++ Either ∷ []) in
-      let f = amount_append (with_callee weight image) (condition_code b) (Either ∷ []) in
-      let g = amount_append weight (condition_code a) (condition_code b ++ Either ∷ []) in
-      let h = amount_append weight (condition_code b) (Either ∷ []) in
-      omega (arith, e, f, g, h, plain_weighs weight a, plain_weighs weight b)
+      let e = joined_weighs (with_callee weight image) a b Either in let f = joined_weighs weight a b Either in omega (arith, e, f, plain_weighs weight a, plain_weighs weight b)
 
-  -- shared routines cost as much as they have instructions, and queue nothing
+  -- The cost of a shared routine is its number of instructions, and it queues nothing.
   pub shared_costs : (c : Condition) → amount (with_callee cost_of image) (condition_code c ++ Ret ∷ []) zero ≡ length (condition_code c) + 1
   shared_costs c =
       let e = amount_append (with_callee cost_of image) (condition_code c) (Ret ∷ []) in
@@ -159,7 +152,7 @@ module _ (image : ImageParts) where
       omega (arith, e, f)
 
   module _ (table : List (List Op)) (shared : HasShared image table) (back : IsReadBack) where
-    -- what is called weighs its code and its `ret`
+    -- The weight of a callee is that of its code and its `ret`.
     callee_weighs : (weight : Op → ℕ) (c : Condition) (k : ℕ) → place_in table (condition_code c) ≡ Some k
         → amount weight (code_in (slice_get image.routines k)) zero ≡ amount weight (condition_code c) zero + weight Ret
     callee_weighs weight c k e =
@@ -168,7 +161,7 @@ module _ (image : ImageParts) where
         let g = amount_append weight (condition_code c) (Ret ∷ []) in
         omega (arith, f, g)
 
-    -- what a condition costs and queues, called or plain
+    -- The cost of a condition, called or plain, and its commands.
     costs_in : (c : Condition) (o : Option ℕ) → place_in table (condition_code c) ≡ o → amount (with_callee cost_of image) (in_place (condition_code c) o) zero ≡ cost_in_place (condition_size c) o
     costs_in c None e = plain_weighs cost_of c ∙ cost_is_length (condition_code c) ∙ condition_sized c
     costs_in c (Some k) e =
@@ -189,7 +182,7 @@ module _ (image : ImageParts) where
     called_queues : Queues (with_callee commands_of image)
     called_queues = record { commands = λ n. refl; states = λ n. refl; queued = refl; wanted = refl; known = λ n. refl; jumps = λ target. refl; ends = refl }
 
-    -- inits and bodies queue as many as their blocks have to run, and cost no more than their limits
+    -- Inits and bodies queue as many commands as their blocks have, and cost no more than their limits.
     pub init_runs : (block : Block) → amount (with_callee commands_of image) (init_code coder block) zero ≡ block_runs block
     init_runs block = init_weighs coder (with_callee commands_of image) called_queues (λ c. queues_in c (place_in table (condition_code c)) refl) block
 
@@ -200,11 +193,11 @@ module _ (image : ImageParts) where
     held_costs end [] = refl
     held_costs end (test ∷ tests) = let h = held_costs end tests in omega (arith, h)
 
-    -- a block weighs what it executes where all conditions are true
+    -- The weight of a block is the number of instructions that it executes if all conditions are true.
     block_costs : (place : ℕ) (block : Block) → amount (with_callee cost_of image) (block_code coder place block) zero ≡ block_limit coder block
     block_costs place Done = refl
     block_costs place (RunThen n rest) = let h = block_costs (place + 2) rest in omega (arith, h)
-    block_costs place (WantThen n rest) = let h = block_costs (place + 2) rest in omega (arith, h)
+    block_costs place (SetStateThen n rest) = let h = block_costs (place + 2) rest in omega (arith, h)
     block_costs place (IfThen c inner rest) =
         let from = place + coder.size c + 1 in
         let past = from + code_size coder inner in

@@ -1,5 +1,5 @@
--- From a text to replies: the policy that a text has, what the bytes of its image mean, and what a refusal says.
--- A definition sees only what stands above it. The next files, in order: Events (the policy's own events, and costs aside), Refused (the limit that code passes first), Sizes (sizes and lengths), Acceptance, PolicyImage, Sharing and PlainCode (the image of a policy, and its code), PlainSizes (the limits). What a text has for a policy stands in Texts of `ifs_policy`, what its blocks yield in Meaning there.
+-- From a text to replies: the policy of a text, the meaning of the bytes of its image, and the meaning of an error.
+-- Next files to read: Events (the policy's own events, without costs), Refused (the first limit that code exceeds), Sizes (sizes and lengths), Acceptance, PolicyImage, Sharing and PlainCode (the image of a policy and its code), PlainSizes (the limits). In `ifs_policy`, Texts defines the policy of a text, and Meaning the yield of its blocks.
 use Rattle.std.specs.Prelude.{ℕ, ◌≡◌, ◌≢◌, List, map}
 use Rattle.ifs_policy.specs.Texts.{HasPolicy, IsTextRefused}
 use Rattle.ifs_policy.specs.declared.front.PolicyFault.{PolicyFault}
@@ -25,7 +25,7 @@ use Rattle.ifs_gen.specs.PlainSizes.{room_of, CodeFits}
 use Rattle.ifs_gen.specs.PolicyImage.{image_of}
 use Rattle.ifs_gen.specs.Events.{RunsAsPolicy}
 
--- The names and texts of an image are a policy's, each at its own number.
+-- The names and texts of an image are those of a policy, each at its own number.
 pub record HasNamesOf (policy : Policy) (image : ImageParts) : Type 0 where
   pub interfaces : image.interfaces ≡ policy.tables.interfaces
   pub tests : map (λ test. test.text) image.tests ≡ map (λ test. test.command) policy.tables.tests
@@ -34,28 +34,28 @@ pub record HasNamesOf (policy : Policy) (image : ImageParts) : Type 0 where
   pub states : names_of image.states ≡ policy.tables.states
   pub initial : image.initial ≡ policy.initial
 
--- What the bytes of a policy's image mean.
+-- Bytes are accepted as the image of a policy and run as the policy says.
 pub record MeansPolicy (bytes : List ℕ) (policy : Policy) : Type 0 where
-  -- the verifier accepts them, as the policy's image and no other
+  -- the verifier accepts them as the policy's image, and they spell no other
   pub verified : IsVerified bytes (image_of policy)
   pub only : (other : ImageParts) → image.Spells bytes other → other ≡ image_of policy
-  -- so it refuses them, as it refuses only what is not accepted, for nothing but memory
+  -- so the verifier rejects them only if an allocation fails
   pub refused : (fault : VerifyFault) → AreNotAccepted bytes fault → fault ≡ OutOfMemory
-  -- its readers answer the policy's names and texts
+  -- its readers return the policy's names and texts
   pub names : HasNamesOf policy (image_of policy)
-  -- a core that is opened on it is busy where its queue lacks the policy's room
+  -- a core that is opened on it is busy if its queue lacks the policy's room
   pub room : (image_of policy).budgets.commands ≡ room_of policy
-  -- its handlers have a behaviour on the machine, and whatever is known at the opening, for every list of steps the replies, the states, queues and traces are those of a run over the policy's own events, costs aside
+  -- its handlers have a behaviour on the machine; for all knowledge at the opening and every list of steps, the replies, states, queues and traces are those of a run over the policy's own events, apart from costs
   pub behaviour : (b : Behaviour) × IsBehaviour (image_of policy) b
   pub runs : (b : Behaviour) → IsBehaviour (image_of policy) b
       → (known : Known) → IsKnownOf (image_of policy) known → (steps : List Step) → RunsAsPolicy policy known b steps
 
--- A text has at most one policy; and where its code keeps the limits, bytes that spell its image mean that policy.
+-- A text has no policy but this one. If its code keeps the limits, bytes that spell its image mean the policy.
 pub record MeansThePolicy (text : List ℕ) (defs : List (List ℕ × List ℕ)) (policy : Policy) : Type 0 where
   pub one : (other : Policy) → HasPolicy text defs other → other ≡ policy
   pub means : CodeFits policy → (bytes : List ℕ) → image.Spells bytes (image_of policy) → MeansPolicy bytes policy
 
--- It holds of every text and of what is given beside it.
+-- This holds of every text and all definitions beside it.
 abbrev pub TextsMeanTheirPolicy : Type 0
 TextsMeanTheirPolicy = (text : List ℕ) (defs : List (List ℕ × List ℕ)) (policy : Policy) → HasPolicy text defs policy → MeansThePolicy text defs policy
 
@@ -65,7 +65,7 @@ pub record Compiles (text : List ℕ) (defs : List (List ℕ × List ℕ)) : Typ
   pub of_text : HasPolicy text defs policy
   pub code : CodeFits policy
 
--- Bytes are what a text compiles to: it has a policy, and no other, whose code keeps the limits; they spell its image, and mean it.
+-- A text compiles to these bytes: it has exactly one policy, whose code keeps the limits; they spell the image of the policy, and mean the policy.
 pub record IsCompiled (text : List ℕ) (defs : List (List ℕ × List ℕ)) (bytes : List ℕ) : Type 0 where
   pub policy : Policy
   pub of_text : HasPolicy text defs policy
@@ -74,26 +74,27 @@ pub record IsCompiled (text : List ℕ) (defs : List (List ℕ × List ℕ)) (by
   pub spelled : image.Spells bytes (image_of policy)
   pub means : MeansPolicy bytes policy
 
--- Bytes are those of a policy whose code keeps the limits: they spell its image.
+-- The code of a policy keeps the limits, and these bytes spell its image.
 pub record IsWritten (policy : Policy) (bytes : List ℕ) : Type 0 where
   pub code : CodeFits policy
   pub spelled : image.Spells bytes (image_of policy)
 
--- The refusals for faults of each step: want of memory stays want of memory.
+-- The fault of compiling from the fault of a text. A failed allocation stays one.
 abbrev pub of_policy : PolicyFault → CompileFault
 of_policy fronting.Memory = Memory
 of_policy fault = Text fault
 
+-- The fault of compiling from a limit of code. A failed allocation stays one.
 abbrev pub of_code : GenFault → CompileFault
 of_code generating.Memory = Memory
 of_code fault = Code fault
 
--- What a refusal says of a text: it has no policy, since it has that fault first; or the code of its policy passes that limit first. Want of memory says nothing of it.
+-- An error says of a text that it has no policy and this first fault, or that the code of its policy exceeds this limit first. A failed allocation says nothing.
 abbrev pub IsCompileRefusal : List ℕ → List (List ℕ × List ℕ) → CompileFault → Type 0
 IsCompileRefusal text defs (Text fault) = IsTextRefused text defs fault
 IsCompileRefusal text defs (Code fault) = (policy : Policy) × HasPolicy text defs policy × PassesFirst policy fault
 IsCompileRefusal text defs Memory = Unit {0}
 
--- A refusal of a policy: for a limit that its code passes first, or want of memory.
+-- An error says of a policy that its code exceeds this limit first. A failed allocation says nothing.
 abbrev pub IsCodeRefusal : Policy → CompileFault → Type 0
 IsCodeRefusal policy fault = (limit : GenFault) × (fault ≡ of_code limit) × (limit ≢ generating.Memory → PassesFirst policy limit)

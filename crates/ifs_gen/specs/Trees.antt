@@ -1,5 +1,5 @@
--- Trees: the conditions, the blocks and the parts of a policy, under short names.
-pub use Rattle.ifs_parse.specs.Trees.{Leaf, NotSo, And, Or, Done, RunThen, WantThen, IfThen}
+-- Short names for the conditions, the blocks and the parts of a policy.
+pub use Rattle.ifs_parse.specs.Trees.{Leaf, NotSo, And, Or, Done, RunThen, SetStateThen, IfThen}
 pub use Rattle.ifs_policy.specs.Meaning.{Condition, Block}
 pub use Rattle.ifs_policy.specs.declared.policy.Single.{Single}
 pub use Rattle.ifs_policy.specs.declared.policy.Single.TheVariants.{LinkIs, TestIs}

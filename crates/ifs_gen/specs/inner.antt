@@ -1,4 +1,4 @@
--- What only private functions promise one another.
+-- Definitions for the contracts of private functions.
 pub mod Emission
 pub mod Measures
 pub mod Marks

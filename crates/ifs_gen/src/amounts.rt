@@ -1,4 +1,4 @@
-//! What the routines of a policy come to, and the first limit that they pass.
+//! The amounts of a policy's routines, and the first limit that they exceed.
 
 ghost use Rattle.std.specs.Prelude.{◌≡◌, ◌+◌, ◌<◌, ◌≤◌, ◌++◌, length, map, sum, None, IfSome, IfOk, IfErr, OnOk};
 ghost use Rattle.ifs_gen.specs.declared.amounts.Amount.TheVariants.{Size, Height, Runs};
@@ -16,19 +16,19 @@ use ifs_image::limits::{CODE_OF_ROUTINE, COMMANDS_OF_EVENT, STACK, code_of_image
 use ifs_policy::Handlers;
 use std::alloc::{AllocError, Global};
 
-/// What a limit is of.
+/// An amount with a limit.
 #[derive(Clone, Copy, PartialEq, Eq)]
 pub(crate) enum Amount {
     /// Instructions.
     Size,
-    /// Values on the stack at most.
+    /// The greatest number of values on the stack.
     Height,
-    /// Commands that are run at most.
+    /// The greatest number of commands that run.
     Runs,
 }
 
 impl Amount {
-    /// That number of a routine.
+    /// This amount of a routine.
     fn of(self, measure: &BlockMeasure) -> u64
         ensures { result ≡ amount_in self measure.now }
     {
@@ -40,14 +40,14 @@ impl Amount {
     }
 }
 
-/// The measures of a part's routines.
+/// The measures of a part's two routines.
 #[derive(Clone, Copy)]
 pub(crate) struct PartMeasure {
     pub init: BlockMeasure,
     pub body: BlockMeasure,
 }
 
-/// Measures the routines of a part, in a policy of so many tests.
+/// Measures the routines of a part, in a policy with `count` tests.
 pub(crate) fn measure_part(
     alloc: Global,
     part: &Handlers,
@@ -72,7 +72,7 @@ pub(crate) fn measure_part(
     })
 }
 
-/// Adds the measures of parts' routines, in order.
+/// Appends the measures of the routines of parts, in order.
 pub(crate) fn measure_parts(
     alloc: Global,
     parts: &[Handlers],
@@ -88,7 +88,7 @@ pub(crate) fn measure_parts(
     Ok(())
 }
 
-/// The first routine of which a number is over a limit.
+/// The first routine whose amount exceeds a limit.
 fn first_over(measures: &[PartMeasure], amount: Amount, limit: u64) -> Option<RoutineId>
     requires { length measures.now ≤ 257 }
     ensures none { result ≡ None → AreWithin limit (numbers_of amount measures.now) }
@@ -107,7 +107,7 @@ fn first_over(measures: &[PartMeasure], amount: Amount, limit: u64) -> Option<Ro
     None
 }
 
-/// How many instructions all routines have together.
+/// The number of instructions of all routines.
 fn total_size(measures: &[PartMeasure]) -> u64
     ensures { result ≡ capped (sum (numbers_of Size measures.now)) }
 {
@@ -122,14 +122,14 @@ fn total_size(measures: &[PartMeasure]) -> u64
     total
 }
 
-/// The greatest numbers of inits and of bodies.
+/// The greatest amount of an init and of a body.
 #[derive(Clone, Copy)]
 struct Most {
     init: u64,
     body: u64,
 }
 
-/// The greatest number of inits, and that of bodies.
+/// The greatest amount of an init, and of a body.
 fn greatest(measures: &[PartMeasure], amount: Amount) -> Most
     ensures init { result.init ≡ most_of_inits amount measures.now }
     ensures body { result.body ≡ most_of_bodies amount measures.now }
@@ -146,7 +146,7 @@ fn greatest(measures: &[PartMeasure], amount: Amount) -> Most
     most
 }
 
-/// What one event may come to: an evaluation, or the opening.
+/// The greatest amount of one event, which is an evaluation or the opening.
 fn event_total(measures: &[PartMeasure], initial: StateId, amount: Amount) -> u64
     requires { 1 + initial.0 < length measures.now }
     ensures { result ≡ capped (event_in amount measures.now initial.0) }
@@ -166,16 +166,16 @@ fn event_total(measures: &[PartMeasure], initial: StateId, amount: Amount) -> u6
     evaluation.max(opening)
 }
 
-/// What plain code settles of the budgets.
+/// The budgets that follow from plain code.
 #[derive(Clone, Copy)]
 pub(crate) struct Bounds {
-    /// Values on the stack at most.
+    /// The greatest number of values on the stack.
     pub stack: u16,
-    /// Commands of one event at most.
+    /// The greatest number of commands of one event.
     pub commands: u16,
 }
 
-/// What routines of these measures settle of the budgets, or the first limit that they pass.
+/// The budgets that follow from these measures, or the first limit that they exceed.
 pub(crate) fn bounds_in(measures: &[PartMeasure], initial: StateId) -> Result<Bounds, GenFault>
     requires some { 1 + initial.0 < length measures.now }
     requires few { length measures.now ≤ 257 }

@@ -1,4 +1,4 @@
-//! Why a text is not compiled.
+//! Why a text does not compile.
 
 ghost use Rattle.std.specs.Prelude.{◌≡◌, Some};
 ghost use Rattle.ifs_base.specs.FaultTexts.{fault_words};
@@ -11,20 +11,19 @@ use ifs_policy::PolicyFault;
 use std::fmt::{self, Debug, Display, Formatter, Write};
 use thiserror::Error;
 
-/// The fault of the first step that refuses the text: that it has no policy, or that the code of its
-/// policy passes a limit.
+/// Why a text does not compile: it has no policy, or the code of its policy exceeds a limit.
 #[derive(Clone, Copy, PartialEq, Eq, Error)]
 pub enum CompileFault {
     /// P1 to P16: the text has no policy.
     Text(PolicyFault),
-    /// G1 to G4: the code of the policy passes a limit.
+    /// G1 to G4: the code of the policy exceeds a limit.
     Code(GenFault),
-    /// P0: no memory was found.
+    /// P0: an allocation failed.
     Memory,
 }
 
 impl CompileFault {
-    /// What is printed of the fault.
+    /// The code and the place, as they are printed.
     pub fn text(self) -> FaultText
         ensures { fault_words result ≡ compile_fault_words self }
     {
@@ -47,7 +46,7 @@ impl Display for CompileFault {
     }
 }
 
-/// As the fault is printed.
+/// The same as `Display`.
 impl Debug for CompileFault {
     fn fmt<W: Write>(&self, f: &mut Formatter<W>) -> fmt::Result {
         Display::fmt(self, f)

@@ -16,7 +16,7 @@ use ifs_parse::Tree;
 use ifs_policy::{Policy, PolicyText, policy_of};
 use std::alloc::Global;
 
-/// A text that is compiled: what it says by the grammar, with its notes, and the bytes of its image.
+/// The bytes of an image, beside the tree of its text and the notes on it.
 #[derive(Drop)]
 pub struct CompiledText {
     pub tree: Tree,
@@ -38,25 +38,25 @@ fn bytes_of(alloc: Global, policy: &Policy) -> Result<Vec<u8>, CompileFault>
     }
 }
 
-/// The bytes of the image of a text. `defs` are definitions that win over the text's: of two with one
-/// name the first holds.
+/// The bytes of the image of a text. `defs` define macros and override the definitions of the text. The first
+/// of two with one name holds.
 ///
-/// A refusal is the fault of the first step that refuses: of the tokens, of the grammar and of the names,
-/// each with its line, and then of the limits of code. P0, for want of memory, may come in place of
-/// another answer, but not of a fault of the text that is certain before anything is kept.
+/// An error is that of the first step that fails: the tokens, the grammar and the names, each with a line, and
+/// then the limits of code. P0 may come in place of any other result, except a fault that is certain before the
+/// first allocation.
 pub fn compile<'a>(
     alloc: Global,
     text: &'a str,
     defs: &'a [(&'a str, &'a str)],
 ) -> Result<Vec<u8>, CompileFault>
-    // What is answered is the image of the text's one policy, and means it; the verifier accepts it.
+    // The bytes spell the image of the text's one policy, and mean that policy. The verifier accepts them.
     ensures compiled { IfOk result (λ bytes. IsCompiled text.now (defined_by defs.now) bytes.items) }
-    // A refusal but for memory comes only where the text has no policy, or where the code of the policy
-    // passes the limit that it names,
+    // An error other than P0 comes only if the text has no policy, or if the code of its policy exceeds the
+    // limit of the error.
     ensures refused { IfErr result (λ fault. IsCompileRefusal text.now (defined_by defs.now) fault) }
-    // so that nothing is refused that compiles.
+    // So each text that compiles is compiled, unless an allocation fails.
     ensures none { IfErr result (λ fault. fault ≢ Memory → ¬ Compiles text.now (defined_by defs.now)) }
-    // What is certain of the text before anything is kept is told, and no want of memory in its place.
+    // A fault that is certain before the first allocation is returned, not P0.
     ensures at_once { (fault : LexFault) → certain_at_once text.now (defined_by defs.now) ≡ Some fault → result ≡ Err (of_policy (of_text fault)) }
 {
     match compile_with_notes(alloc, text, defs) {
@@ -65,7 +65,7 @@ pub fn compile<'a>(
     }
 }
 
-/// The same, with the tree of the text beside the bytes.
+/// The same as `compile`, with the tree of the text beside the bytes.
 pub fn compile_with_notes<'a>(
     alloc: Global,
     text: &'a str,

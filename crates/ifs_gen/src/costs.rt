@@ -1,4 +1,4 @@
-//! How many instructions an event executes at most, by the code that is written.
+//! The greatest number of instructions that an event executes, by the written code.
 
 ghost use Rattle.std.specs.Prelude.{◌≡◌, ◌+◌, ◌*◌, ◌<◌, length};
 ghost use Rattle.ifs_gen.specs.inner.Costs.{event_cost_in, most_of_bodies, most_of_inits, op_cost, routine_cost};
@@ -9,8 +9,8 @@ use ifs_base::{Op, StateId};
 use ifs_image::Routine;
 use ifs_policy::Table;
 
-/// How many instructions are executed for one of a handler: that one, and for a call those of the routine
-/// that it calls, with its `ret`.
+/// The number of instructions that one instruction of a handler executes: itself, and for a call those of the
+/// called routine with its `ret`.
 fn op_cost(op: Op, shared: &Table<ConditionCode>) -> u64
     ensures { result ≡ op_cost shared.now op }
 {
@@ -23,7 +23,7 @@ fn op_cost(op: Op, shared: &Table<ConditionCode>) -> u64
     }
 }
 
-/// How many a handler executes at most: each of its instructions once.
+/// The greatest number of instructions that a handler executes: each of its own once.
 fn routine_cost(routine: &Routine, shared: &Table<ConditionCode>) -> u64
     ensures { result ≡ routine_cost shared.now routine.now }
 {
@@ -36,14 +36,14 @@ fn routine_cost(routine: &Routine, shared: &Table<ConditionCode>) -> u64
     cost
 }
 
-/// The greatest costs of inits and of bodies.
+/// The greatest cost of an init and of a body.
 #[derive(Clone, Copy)]
 struct MostCosts {
     init: u64,
     body: u64,
 }
 
-/// The greatest cost of inits, and that of bodies, of the routines of parts.
+/// The greatest cost of an init, and of a body, among the routines of parts.
 fn greatest(handlers: &[Routine], shared: &Table<ConditionCode>) -> MostCosts
     ensures init { result.init ≡ most_of_inits shared.now handlers.now }
     ensures body { result.body ≡ most_of_bodies shared.now handlers.now }
@@ -60,7 +60,7 @@ fn greatest(handlers: &[Routine], shared: &Table<ConditionCode>) -> MostCosts
     most
 }
 
-/// What one event executes at most, of the routines of all parts: an evaluation, or the opening.
+/// The greatest cost of one event, which is an evaluation or the opening.
 pub(crate) fn event_cost(
     handlers: &[Routine],
     initial: StateId,

@@ -4,7 +4,7 @@ ghost use Rattle.std.specs.Prelude.{◌≡◌, ◌+◌, ◌<◌, ◌^◌, ◌++�
 ghost use Rattle.ifs_base.specs.declared.op.Op.TheVariants.{JumpFalse};
 ghost use Rattle.ifs_gen.specs.PlainCode.{block_code, code_size, condition_code, single_op as op_of};
 ghost use Rattle.ifs_gen.specs.Sharing.{shared_coder};
-ghost use Rattle.ifs_gen.specs.inner.Emission.{op_of_sign, statement_code, statement_size, test_code};
+ghost use Rattle.ifs_gen.specs.inner.Emission.{joining_op, statement_code, statement_size, test_code};
 
 use crate::keys::ConditionCode;
 use ifs_base::{CommandId, Op, RoutineId, StateId};
@@ -22,33 +22,25 @@ fn single_op(single: &Single) -> Op
     }
 }
 
-/// The sign between the operands of a chain.
-#[derive(Clone, Copy)]
-enum Sign {
-    /// `&&`.
-    And,
-    /// `||`.
-    Or,
-}
-
-/// The instruction of a sign, which makes one truth of two.
-fn sign_op(sign: Sign) -> Op
-    ensures { result ≡ op_of_sign sign }
+/// The instruction that joins the operands of a node: `or` for `||`, else `and`.
+fn joining_op(node: &Node<Single>) -> Op
+    ensures { result ≡ joining_op node.now }
 {
-    match sign {
-        Sign::And => Op::Both,
-        Sign::Or => Op::Either,
+    match node {
+        Node::Any(_, _, _) => Op::Either,
+        _ => Op::Both,
     }
 }
 
-/// Adds the code of a condition: each operand's, then the sign's.
+/// Appends the code of a condition: that of each operand, then the instruction of the sign.
 pub(crate) fn put_condition(
     condition: &Condition<Single>,
     code: &mut Vec<Op>,
 ) -> Result<(), AllocError>
     ensures { OnOk result (code.new.items ≡ code.old.items ++ condition_code condition.now) }
 {
-    match condition.node() {
+    let node = condition.node();
+    match node {
         Node::Leaf(single) => {
             code.push(single_op(single))?;
             Ok(())
@@ -58,30 +50,21 @@ pub(crate) fn put_condition(
             code.push(Op::Negate)?;
             Ok(())
         }
-        Node::All(first, second, rest) => {
+        Node::All(first, second, rest) | Node::Any(first, second, rest) => {
+            let op = joining_op(node);
             put_condition(first, code)?;
             put_condition(second, code)?;
-            code.push(sign_op(Sign::And))?;
+            code.push(op)?;
             for operand in rest {
                 put_condition(operand, code)?;
-                code.push(sign_op(Sign::And))?;
-            }
-            Ok(())
-        }
-        Node::Any(first, second, rest) => {
-            put_condition(first, code)?;
-            put_condition(second, code)?;
-            code.push(sign_op(Sign::Or))?;
-            for operand in rest {
-                put_condition(operand, code)?;
-                code.push(sign_op(Sign::Or))?;
+                code.push(op)?;
             }
             Ok(())
         }
     }
 }
 
-/// Adds the code of the condition of an `if`: a call, where it is one of the shared.
+/// Appends the code of the condition of an `if`, which is a call if the condition is shared.
 fn put_test(
     alloc: Global,
     condition: &Condition<Single>,
@@ -95,17 +78,19 @@ fn put_test(
     let mut plain = Vec::new(alloc);
     put_condition(condition, &mut plain)?;
     let plain = ConditionCode::new(plain);
-    let place = shared.place_of(&plain);
-    if place < shared.len() {
-        code.push(Op::Call(RoutineId(place as u16)))?;
-        return Ok(());
+    match shared.place_of(&plain) {
+        Some(place) => {
+            code.push(Op::Call(RoutineId(place as u16)))?;
+            Ok(())
+        }
+        None => {
+            code.extend_from_slice(plain.as_slice())?;
+            Ok(())
+        }
     }
-    code.extend_from_slice(plain.as_slice())?;
-    Ok(())
 }
 
-/// Adds the code of a block, which calls what is shared. Its places are those of the code that it is
-/// added to.
+/// Appends the code of a block, which calls shared conditions. Jump targets count from the start of `code`.
 #[cycle(put_block)]
 pub(crate) fn put_block(
     alloc: Global,
@@ -124,7 +109,7 @@ pub(crate) fn put_block(
     Ok(())
 }
 
-/// Adds the code of a statement: a jump over a block is set once its end is known.
+/// Appends the code of a statement. The jump over a block is set once the end of the block is known.
 #[cycle(put_block)]
 fn put_statement(
     alloc: Global,
@@ -159,7 +144,7 @@ fn put_statement(
     }
 }
 
-/// Lets the jump at a place lead to the end of the code, where a truth is false.
+/// Makes the jump at a place lead to the end of the code.
 pub(crate) fn set_jump(jump: usize, code: &mut Vec<Op>)
     requires place { jump < length code.old.items }
     requires room { length code.old.items < 2 ^ 16 }

@@ -10,24 +10,24 @@ use std::alloc::{AllocError, AllocFailed};
 use std::fmt::{self, Debug, Display, Formatter, Write};
 use thiserror::Error;
 
-/// The first limit that the plain code of a policy passes: each is looked for over all routines before
-/// the next.
+/// The first limit that the plain code of a policy exceeds. Each limit is checked over all routines before the
+/// next.
 #[derive(Clone, Copy, PartialEq, Eq, Error)]
 pub enum GenFault {
-    /// G1: a routine has over 1,024 instructions; the least such one.
+    /// G1: a routine has over 1,024 instructions. The first such routine.
     RoutineTooLong(RoutineId),
     /// G2: all routines together have over 8,192 instructions.
     CodeTooLong,
-    /// G3: a routine has over 32 values on the stack at some place; the least such one.
+    /// G3: a routine has over 32 values on the stack at some place. The first such routine.
     StackTooHigh(RoutineId),
     /// G4: one event, or the opening, may run over 64 commands.
     TooManyCommands,
-    /// P0: no memory was found.
+    /// P0: an allocation failed.
     Memory,
 }
 
 impl GenFault {
-    /// What is printed of the fault.
+    /// The code and the place, as they are printed.
     pub fn text(self) -> FaultText
         ensures { fault_words result ≡ gen_fault_words self }
     {
@@ -50,7 +50,7 @@ impl Display for GenFault {
     }
 }
 
-/// As the fault is printed.
+/// The same as `Display`.
 impl Debug for GenFault {
     fn fmt<W: Write>(&self, f: &mut Formatter<W>) -> fmt::Result {
         Display::fmt(self, f)

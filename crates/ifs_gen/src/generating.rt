@@ -25,20 +25,19 @@ use ifs_image::{Budgets, Handlers, Image, ImageParts, Routine, StateSpec, TestSp
 use ifs_policy::{ExternalTest, Handlers as Part, Policy, Table};
 use std::alloc::{AllocError, Global};
 
-/// The version of the images that are made.
+/// The version of generated images.
 pub(crate) const VERSION: u8 = 1;
 
-/// The image of a policy, of that version, with the least budgets that its code is accepted with. A fault other than want
-/// of memory is the first limit that the policy's plain code passes: of G1 over all routines, G2, G3 over
-/// all routines, and G4.
+/// The image of a policy, with the least budgets that the verifier accepts for its code. An error other than P0
+/// is the first limit that the policy's plain code exceeds: G1 over all routines, G2, G3 over all routines, G4.
 pub fn generate(alloc: Global, policy: &Policy) -> Result<Image, GenFault>
-    // What is answered is the image of the policy,
+    // The result is the image of the policy.
     ensures image { IfOk result (λ image. image ≡ image_of policy.now) }
-    // which is answered where plain code keeps the limits,
+    // There is a result only if plain code keeps the limits.
     ensures fits { OnOk result (CodeFits policy.now) }
-    // and which the verifier's rules accept.
+    // The rules of the verifier accept the image.
     ensures accepted { IfOk result (λ image. IsAccepted image) }
-    // A fault other than want of memory is the first limit that is passed.
+    // An error other than P0 is the first limit that is exceeded.
     ensures refused { IfErr result (λ fault. fault ≢ Memory → PassesFirst policy.now fault) }
 {
     let bounds = bounds_of(alloc, policy)?;
@@ -48,7 +47,7 @@ pub fn generate(alloc: Global, policy: &Policy) -> Result<Image, GenFault>
     Ok(Image::new(parts))
 }
 
-/// What plain code settles of the budgets, or the first limit that it passes.
+/// The budgets that follow from plain code, or the first limit that it exceeds.
 fn bounds_of(alloc: Global, policy: &Policy) -> Result<Bounds, GenFault>
     ensures bounds { IfOk result (λ bounds. bounds ≡ plain_bounds policy.now) }
     ensures fits { OnOk result (CodeFits policy.now) }
@@ -61,7 +60,7 @@ fn bounds_of(alloc: Global, policy: &Policy) -> Result<Bounds, GenFault>
     bounds_in(measures.as_slice(), policy.initial())
 }
 
-/// The parts of a policy's image.
+/// The content of a policy's image.
 fn image_of(
     alloc: Global,
     policy: &Policy,
@@ -103,7 +102,7 @@ fn image_of(
     })
 }
 
-/// The budgets: a second frame is wanted where something is called.
+/// The budgets. A second frame is needed if there is a routine to call.
 fn budgets_with(bounds: Bounds, cost: u64, shared: &Table<ConditionCode>) -> Budgets
     requires { cost < 2 ^ 32 }
     ensures { result ≡ (record { stack = bounds.stack; frames = frames_for shared.now; cost = cost; commands = bounds.commands }) }
@@ -147,7 +146,7 @@ fn specs_of(alloc: Global, table: &Table<ExternalTest>) -> Result<Items<TestSpec
     Ok(Items::new(specs))
 }
 
-/// The set of tests: the bit of weight 2^t is test t.
+/// The set of these tests, as a mask. The bit of weight 2^t is test t.
 fn mask_of(tests: &[TestId]) -> u64
     requires known { All (λ test. test.0 < 64) tests.now }
     requires set { mask_of tests.now < 2 ^ 64 }
@@ -162,8 +161,8 @@ fn mask_of(tests: &[TestId]) -> u64
     mask
 }
 
-/// The handlers of a part, by its number from 0: the always part, then the states. So many shared
-/// routines stand before them.
+/// The handlers of a part, by its number: 0 is the always part, then the states follow. `shared` routines come
+/// before them.
 fn handlers_of(shared: u16, part: u16, mask: u64) -> Handlers
     requires shared { shared ≤ most_shared }
     requires part { part ≤ 256 }
@@ -176,7 +175,7 @@ fn handlers_of(shared: u16, part: u16, mask: u64) -> Handlers
     }
 }
 
-/// Adds the routines of the shared conditions, in order.
+/// Appends the routines of the shared conditions, in order.
 fn put_shared(
     alloc: Global,
     shared: &Table<ConditionCode>,
@@ -193,7 +192,7 @@ fn put_shared(
     Ok(())
 }
 
-/// Adds the routines of a part, and answers the set of the tests that its body mentions.
+/// Appends the routines of a part. Returns the set of tests that its body mentions.
 #[tactic(auto, using(crate::proofs::Copying::below_64, crate::proofs::Copying::set_64, crate::proofs::Copying::init_short, crate::proofs::Copying::body_short))]
 fn put_routines(
     alloc: Global,
@@ -214,7 +213,7 @@ fn put_routines(
     Ok(mask_of(tests.as_slice()))
 }
 
-/// Adds the routines of the states' parts, and answers the states by their names.
+/// Appends the routines of the states. Returns the states with their names.
 fn put_states(
     alloc: Global,
     names: &Table<Text>,

@@ -1,4 +1,4 @@
-//! The code of a condition as an entry of a table, found by its bytes.
+//! The code of a condition as a table entry, found by its bytes.
 
 ghost use Rattle.std.specs.Prelude.{◌≡◌};
 ghost use Rattle.std.specs.Hash as fed;
@@ -11,7 +11,7 @@ use std::alloc::AllocError;
 use std::hash::{Hash, Hasher};
 use std::marker::Model;
 
-/// The code of a condition. Clauses see its instructions. Two are equal where they have the same bytes.
+/// The code of a condition. Clauses see its instructions. Two codes are equal if their bytes are.
 #[derive(Drop)]
 pub(crate) struct ConditionCode {
     ops: Vec<Op>,
@@ -27,14 +27,14 @@ impl Model for ConditionCode {
 }
 
 impl ConditionCode {
-    /// The code of these instructions. Takes no memory.
+    /// The code with these instructions. Does not allocate.
     pub fn new(ops: Vec<Op>) -> Self
         ensures { result ≡ ops.items }
     {
         ConditionCode { ops }
     }
 
-    /// Lends the instructions.
+    /// The instructions.
     pub fn as_slice(&self) -> &[Op]
         ensures { result.now ≡ self.now }
     {

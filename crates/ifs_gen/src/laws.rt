@@ -1,4 +1,4 @@
-//! What holds of every policy, its plain code and its image.
+//! Laws about every policy, its plain code and its image.
 
 ghost use Rattle.std.specs.Prelude.{IfOk};
 ghost use Rattle.ifs_gen.specs.Acceptance.{BudgetsAreLeast, ImageIsAccepted};
@@ -22,38 +22,37 @@ use ifs_policy::laws::{mentioned_are_mentions, one_policy, policies_fit};
 use ifs_verify::laws::one_typing;
 use std::alloc::{AllocError, Global};
 
-/// Wherever the plain code of a condition stands in a routine, it leads past itself and leaves the
-/// condition's truth on the stack, each instruction executed once.
+/// Anywhere in a routine, the plain code of a condition executes each of its instructions once, and leaves the
+/// condition's truth on the stack.
 pub fn truth_runs()
     ensures { TruthRuns }
 {}
 
-/// So does the code that calls shared conditions, with the instructions of the routine that it calls.
+/// Code that calls a shared condition does the same. It also executes the instructions of the called routine.
 pub fn shared_truth_runs()
     ensures { SharedTruthRuns }
 {
     instructions_are_read_back();
 }
 
-/// Wherever the code of a block stands in a routine, it leads past itself and brings about what the
-/// block reaches.
+/// Anywhere in a routine, the code of a block runs to its end and has the effects that the block reaches.
 pub fn block_runs()
     ensures { BlockRuns }
 {}
 
-/// The handlers of a policy do on the machine what their yields say.
+/// On the machine, the handlers of a policy have the effects of their yields.
 pub fn handlers_do()
     ensures { HandlersDo }
 {}
 
-/// The image of a policy is accepted, where its plain code keeps the limits.
+/// The verifier accepts the image of a policy whose plain code keeps the limits.
 pub fn plain_is_accepted()
     ensures { ImageIsAccepted }
 {
     instructions_are_read_back();
 }
 
-/// No budgets under those of the image are enough for its code.
+/// The code of the image is accepted with no lower budgets than those of the image.
 pub fn budgets_are_least()
     ensures { BudgetsAreLeast }
 {
@@ -61,9 +60,9 @@ pub fn budgets_are_least()
     one_typing();
 }
 
-/// The image of a policy means what the policy says: for every list of steps, the replies of a core
-/// that is opened on it, the states, queues and traces are those of a run over the policy's own events,
-/// costs aside, and it is busy where the queue lacks the policy's room.
+/// The image of a policy means what the policy says. For every list of steps, a core that is opened on the image
+/// has the replies, states, queues and traces of a run over the policy's own events, apart from costs. It is busy
+/// if the queue lacks the policy's room.
 pub fn image_means_policy()
     ensures { ImageMeansPolicy }
 {
@@ -71,48 +70,47 @@ pub fn image_means_policy()
     accepted_is_kept();
 }
 
-/// The plain code of each policy keeps the limits of images, or there is a first one that it passes.
+/// The plain code of each policy keeps the limits of images, or there is a first limit that it exceeds.
 pub fn fits_or_is_refused()
     ensures { FitsOrIsRefused }
 {}
 
-/// A policy whose code passes a limit first has no code that keeps the limits.
+/// Code that exceeds a limit first does not keep the limits.
 pub fn refused_do_not_fit()
     ensures { RefusedDoNotFit }
 {}
 
-/// The plain code of a policy passes one limit at most before all others: which it is, and of which
-/// routine, is settled by the policy.
+/// A policy determines the first limit that its plain code exceeds, with the routine.
 pub fn one_limit()
     ensures { OneLimitIsFirst }
 {}
 
-/// The sizes of conditions, blocks, inits and bodies, by which the limits are looked for, are the lengths
-/// of their plain code, and those of a policy the lengths of all its inits and bodies; its image has no
-/// more instructions.
+/// The limits are checked on sizes. The sizes of conditions, blocks, inits and bodies are the lengths of their
+/// plain code, and the sizes of a policy are the lengths of all its inits and bodies. Its image has no more
+/// instructions.
 pub fn sizes_are_lengths()
     ensures { SizesAreLengths }
 {
     instructions_are_read_back();
 }
 
-/// What blocks have to run, by which the room of a policy is counted, is what their code queues.
+/// The number of commands of a block, from which the room of a policy follows, is the number that its code queues.
 pub fn runs_are_queued()
     ensures { RunsAreQueued }
 {}
 
-/// The tests that are active with a part, by its mask, are exactly those that its body mentions.
+/// The mask of a part has exactly the tests that its body mentions.
 pub fn active_are_mentioned()
     ensures { ActiveAreMentioned }
 {
     mentioned_are_mentions();
 }
 
-/// From text to replies, for every text and whatever is given beside it. It has at most one policy; and
-/// where the code of that policy keeps the limits, the bytes that spell its image are accepted, and so
-/// refused for nothing but memory. For every list of steps, the replies of a core that is opened on that
-/// image, the states, queues and traces are those of a run over the policy's own events, costs aside; it
-/// is busy where the queue lacks the policy's room, and its readers answer the policy's names and texts.
+/// From text to replies, for every text and all definitions beside it. The text has at most one policy. If the
+/// code of that policy keeps the limits, the verifier accepts the bytes of its image, unless an allocation fails.
+/// For every list of steps, a core that is opened on the image has the replies, states, queues and traces of a
+/// run over the policy's own events, apart from costs. It is busy if the queue lacks the policy's room. Its
+/// readers return the policy's names and texts.
 pub fn means_the_policy()
     ensures { TextsMeanTheirPolicy }
 {
@@ -125,8 +123,8 @@ pub fn means_the_policy()
     accepted_is_kept();
 }
 
-/// What the policy of a text replies to steps, whatever they are: its core is opened, and the steps are
-/// made one after the other. An example of a caller of `compiled_core`.
+/// The replies of the policy of a text to any steps. It opens the core of the text and makes the steps in order.
+/// An example of a caller of `compiled_core`.
 pub fn replies_of_text<'a>(
     alloc: Global,
     text: &'a str,
@@ -146,7 +144,7 @@ pub fn replies_of_text<'a>(
     }
 }
 
-/// Makes steps of a core, one after the other, and answers the reply to each.
+/// Makes steps of a core in order. Returns the replies.
 fn make_steps(alloc: Global, core: &mut Core<'_>, steps: &[Step]) -> Result<Vec<Reply>, AllocError>
     ensures { IfOk result (λ replies. LeadsTo core.old.image steps.now replies.items core.old.state core.new.state) }
 {

@@ -1,11 +1,11 @@
 //! The compiler: from a policy to the image that runs it.
 //!
-//! Every operand of a condition is computed, and a body begins with a look at each test that it mentions. A
-//! condition of at least five instructions that stands twice is a routine, which is called in its place. Each
-//! part is measured in plain code, which calls nothing, before it is written.
-//! Contract: `generate` answers the image of a policy, which the verifier's rules accept, or the first limit
-//! that its plain code passes; `compile` the bytes of that of a text's one policy, and `compiled_core` a core
-//! that runs it. Laws: the image's budgets are the least, and it means what the policy says.
+//! The code computes every operand of a condition. A body first checks that each test that it mentions has a
+//! value. A condition of at least five instructions that occurs twice becomes a routine, which is called in its
+//! place. Each part is measured in plain code, without calls, before it is written.
+//! Contract: `generate` returns the image of a policy, which the verifier accepts, or the first limit that its
+//! plain code exceeds. `compile` returns the bytes of the image of a text, and `compiled_core` a core that runs
+//! the text. Laws: the budgets of the image are the least ones, and the image means what the policy says.
 #![tactic(auto)]
 
 mod amounts;

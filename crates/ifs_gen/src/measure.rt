@@ -1,4 +1,4 @@
-//! How large plain code is, before it is written. Each number stops at the greatest that a `u64` has.
+//! The size of plain code, before it is written. Each number saturates at the maximum of a `u64`.
 
 ghost use Rattle.std.specs.Prelude.{◌≡◌, ◌+◌, max};
 ghost use Rattle.ifs_gen.specs.inner.Measures.{capped, statement_height, statement_runs};
@@ -10,17 +10,17 @@ use ifs_base::{CommandId, StateId};
 use ifs_parse::{Condition, Node, Statement};
 use ifs_policy::{PolicyBlock, Single};
 
-/// The size of a condition's code.
+/// The measures of a condition's code.
 #[derive(Clone, Copy)]
 pub(crate) struct ConditionMeasure {
-    /// How many instructions it has.
+    /// The number of instructions.
     pub size: u64,
-    /// How many values it has on the stack at most.
+    /// The greatest number of values on the stack.
     pub height: u64,
 }
 
 impl ConditionMeasure {
-    /// That of two operands and the sign between them.
+    /// The measure of two operands and the sign that joins them.
     fn joined(self, right: ConditionMeasure) -> ConditionMeasure
         ensures size { result.size ≡ capped (self.size + right.size + 1) }
         ensures height { result.height ≡ max self.height (capped (right.height + 1)) }
@@ -56,19 +56,19 @@ pub(crate) fn measure_condition(condition: &Condition<Single>) -> ConditionMeasu
     }
 }
 
-/// The size of a block's code.
+/// The measures of a block's code.
 #[derive(Clone, Copy)]
 pub(crate) struct BlockMeasure {
-    /// How many instructions it has.
+    /// The number of instructions.
     pub size: u64,
-    /// How many values it has on the stack at most.
+    /// The greatest number of values on the stack.
     pub height: u64,
-    /// How many commands it runs at most.
+    /// The greatest number of commands that run.
     pub runs: u64,
 }
 
 impl BlockMeasure {
-    /// That of two blocks, one after the other.
+    /// The measure of two blocks in sequence.
     fn followed(self, next: BlockMeasure) -> BlockMeasure
         ensures size { result.size ≡ capped (self.size + next.size) }
         ensures height { result.height ≡ max self.height next.height }

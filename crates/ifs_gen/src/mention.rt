@@ -10,10 +10,10 @@ use ifs_parse::{Condition, Node, Statement};
 use ifs_policy::{PolicyBlock, Single};
 use std::alloc::{AllocError, Global};
 
-/// A mark for each test that a policy may have.
+/// The number of marks: one for each test that a policy may have.
 const MARKS: usize = limits::TESTS as usize;
 
-/// The tests that a body mentions at any depth, of so many, by index.
+/// The tests that a body mentions at any depth, by index. The policy has `count` tests.
 pub(crate) fn tests_of(
     alloc: Global,
     body: &PolicyBlock,
@@ -31,7 +31,7 @@ pub(crate) fn tests_of(
     Ok(tests)
 }
 
-/// Adds a test where it is marked.
+/// Appends a test if it is marked.
 fn put_test(index: usize, is_marked: bool, tests: &mut Vec<TestId>) -> Result<(), AllocError>
     requires { index < 2 ^ 16 }
     ensures { OnOk result (tests.new.items ≡ tests.old.items ++ test_where is_marked index) }
@@ -42,7 +42,7 @@ fn put_test(index: usize, is_marked: bool, tests: &mut Vec<TestId>) -> Result<()
     Ok(())
 }
 
-/// Marks a test, where it has a place.
+/// Marks a test, if it has a place.
 fn mark(test: TestId, marks: &mut [bool])
     ensures { marks.new ≡ slice_set marks.old test.0 true }
 {
@@ -91,7 +91,7 @@ fn mark_statement(statement: &Statement<Single, CommandId, StateId>, marks: &mut
     }
 }
 
-/// Marks the tests that a condition mentions, and those of the block under it.
+/// Marks the tests that a condition and the block under it mention.
 #[cycle(mark_block)]
 fn mark_if(condition: &Condition<Single>, inner: &PolicyBlock, marks: &mut [bool])
     ensures { marks.new ≡ with_marks (with_marks marks.old (mentioned_in condition.now)) (mentioned inner.now) }

@@ -1,4 +1,4 @@
-//! From a text to a core at work.
+//! From a text to a core that runs it.
 
 ghost use Rattle.std.specs.Prelude.{◌≡◌, ◌≢◌, ℕ, List, Some, Err, IfOk, IfErr};
 ghost use Rattle.ifs_lex.specs.declared.fault.LexFault.{LexFault};
@@ -18,26 +18,25 @@ use ifs_core::{Carried, Core};
 use ifs_verify::{Verified, VerifyFault, verify};
 use std::alloc::Global;
 
-/// Compiles a text, verifies its image and opens it: a core that runs what the text says. `defs` are
-/// definitions that win over the text's. The image's bytes, in which the core's texts and code lie, take
-/// the place of what `image` held; where the text is refused that stays.
+/// Compiles a text, verifies its image and opens a core on it, which runs what the text says. `defs` define macros
+/// and override the definitions of the text. The bytes of the image replace the content of `image`, and the core
+/// borrows its texts and code from them. If the text does not compile, `image` keeps its content.
 ///
-/// The text is refused as `compile` refuses it, and nothing that compiles is refused by the verifier. P0,
-/// for want of memory, may come in place of another answer, but not of a fault of the text that is certain before
-/// anything is kept.
+/// The errors are those of `compile`; the verifier rejects nothing that compiles. P0 may come in place of any
+/// other result, except a fault that is certain before the first allocation.
 pub fn compiled_core<'a, 'b>(
     alloc: Global,
     text: &'a str,
     defs: &'a [(&'a str, &'a str)],
     image: &'b mut Vec<u8>,
 ) -> Result<Core<'b>, CompileFault>
-    // The core runs the one policy of the text: names, texts, and for every list of steps the replies.
+    // The core runs the one policy of the text: it has its names, its texts and, for every list of steps, its replies.
     ensures runs { IfOk result (λ core. RunsText text.now (defined_by defs.now) (nothing_known core.image) core) }
-    // A refusal but for memory says that the text has no policy, or that the code of the policy passes a limit,
+    // An error other than P0 comes only if the text has no policy, or if its code exceeds a limit.
     ensures refused { IfErr result (λ fault. IsCompileRefusal text.now (defined_by defs.now) fault) }
-    // so that nothing is refused that compiles.
+    // So each text that compiles gets a core, unless an allocation fails.
     ensures none { IfErr result (λ fault. fault ≢ Memory → ¬ Compiles text.now (defined_by defs.now)) }
-    // What is certain of the text before anything is kept is told, and no want of memory in its place.
+    // A fault that is certain before the first allocation is returned, not P0.
     ensures at_once { (fault : LexFault) → certain_at_once text.now (defined_by defs.now) ≡ Some fault → result ≡ Err (of_policy (of_text fault)) }
 {
     match compile(alloc, text, defs) {
@@ -51,7 +50,7 @@ pub fn compiled_core<'a, 'b>(
     };
     match Core::open(alloc, verified) {
         Ok(core) => {
-            // The image, which is accepted, keeps what is promised of it.
+            // The accepted image keeps its promises.
             core.image();
             Ok(core)
         }
@@ -59,16 +58,16 @@ pub fn compiled_core<'a, 'b>(
     }
 }
 
-/// Opens an image in the place of a core that handed on what it knows, as [`Core::open_with`] does. Where the image
-/// is what a text compiles to, the core runs what that text says, from the links and the run number that were
-/// handed on. It takes no memory and always answers.
+/// Opens an image with the knowledge that another core carried, as [`Core::open_with`] does. If a text compiles to
+/// the image, the core runs what that text says, from the carried links and run number. It does not allocate and
+/// cannot fail.
 pub fn opened_with<'a>(next: Verified<'a>, carried: Carried) -> Core<'a>
     ensures image { result.image ≡ next.entry }
-    // Whatever text compiles to bytes of the image, the core runs its one policy.
+    // For each text that compiles to bytes of the image, the core runs the one policy of the text.
     ensures runs { (text : List ℕ) (defs : List (List ℕ × List ℕ)) (bytes : List ℕ) → IsCompiled text defs bytes → Spells bytes next.entry → RunsText text defs (known_by carried next.entry) result }
 {
     let core = Core::open_with(next, carried);
-    // The image, which is accepted, keeps what is promised of it.
+    // The accepted image keeps its promises.
     core.image();
     core
 }

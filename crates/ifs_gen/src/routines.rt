@@ -16,7 +16,7 @@ use ifs_image::{Kinds, Routine};
 use ifs_policy::{PolicyBlock, Table};
 use std::alloc::{AllocError, Global};
 
-/// The routine of a shared condition, which leaves its truth.
+/// The routine of a shared condition, whose result is the truth of the condition.
 pub(crate) fn shared_routine(alloc: Global, code: &ConditionCode) -> Result<Routine, AllocError>
     ensures { IfOk result (λ routine. routine ≡ shared_routine code.now) }
 {
@@ -26,7 +26,7 @@ pub(crate) fn shared_routine(alloc: Global, code: &ConditionCode) -> Result<Rout
     Ok(routine_leaving(one_truth(), ops))
 }
 
-/// A routine that takes nothing, with these results.
+/// A routine without parameters, with these results.
 fn routine_leaving(results: Kinds, code: Vec<Op>) -> Routine
     ensures { result ≡ routine_leaving results.items code.items }
 {
@@ -62,8 +62,8 @@ pub(crate) fn init_routine(
     Ok(routine_leaving(Kinds::new(), code))
 }
 
-/// The routine of a body, which is held back while one of these tests has no value: the jumps over the
-/// body are set once its end is known.
+/// The routine of a body, which is held back while one of these tests has no value. The jumps over the body are
+/// set once its end is known.
 pub(crate) fn body_routine(
     alloc: Global,
     body: &PolicyBlock,
@@ -87,7 +87,7 @@ pub(crate) fn body_routine(
     Ok(routine_leaving(Kinds::new(), code))
 }
 
-/// Lets the jumps of so many tests, with which the code begins, lead to its end.
+/// Makes the jumps of the first `count` tests lead to the end of the code.
 fn set_held(count: usize, code: &mut Vec<Op>)
     requires held { 2 * count ≤ length code.old.items }
     requires room { length code.old.items < 2 ^ 16 }

@@ -1,4 +1,4 @@
-//! Which conditions of a policy are shared.
+//! The choice of the shared conditions of a policy.
 
 ghost use Rattle.std.specs.Prelude.{◌≡◌, ◌≤◌, false, fold, length, IfOk, OnOk};
 ghost use Rattle.std.specs.List.{list_any};
@@ -14,22 +14,22 @@ use ifs_parse::{Condition, Statement};
 use ifs_policy::{Handlers, Policy, PolicyBlock, Single, Table};
 use std::alloc::{AllocError, Global};
 
-/// How many instructions a condition has at least that is shared.
+/// The least number of instructions of a shared condition.
 const LEAST: usize = 5;
 
-/// How many are shared at most.
+/// The greatest number of shared conditions.
 const MOST: usize = 510;
 
-/// The codes of conditions that are long enough to be shared.
+/// The codes of the conditions so far that are long enough to be shared.
 #[derive(Drop)]
 struct Met {
-    /// Those that were met, in the order of their first standing.
+    /// The codes that occurred, in the order of their first occurrence.
     once: Table<ConditionCode>,
-    /// Those that were met again.
+    /// The codes that occurred again.
     again: Table<ConditionCode>,
 }
 
-/// The codes of a policy's conditions that are shared, by their numbers.
+/// The codes of a policy's shared conditions, by number.
 pub(crate) fn shared_of(alloc: Global, policy: &Policy) -> Result<Table<ConditionCode>, AllocError>
     ensures shared { IfOk result (λ shared. shared ≡ shared_of policy.now) }
     ensures few { IfOk result (λ shared. length shared ≤ most_shared) }
@@ -43,7 +43,7 @@ pub(crate) fn shared_of(alloc: Global, policy: &Policy) -> Result<Table<Conditio
     chosen_of(alloc, &met)
 }
 
-/// Meets the conditions of parts, in order.
+/// Notes the conditions of parts, in order.
 fn meet_parts(alloc: Global, parts: &[Handlers], met: &mut Met) -> Result<(), AllocError>
     ensures { OnOk result (met.new ≡ fold meet met.old (conditions_in parts.now)) }
 {
@@ -53,7 +53,7 @@ fn meet_parts(alloc: Global, parts: &[Handlers], met: &mut Met) -> Result<(), Al
     Ok(())
 }
 
-/// Meets the conditions of a part: its init's, then its body's.
+/// Notes the conditions of a part: those of its init, then those of its body.
 fn meet_part(alloc: Global, part: &Handlers, met: &mut Met) -> Result<(), AllocError>
     ensures { OnOk result (met.new ≡ fold meet (fold meet met.old (conditions_of part.now.init)) (conditions_of part.now.body)) }
 {
@@ -62,7 +62,7 @@ fn meet_part(alloc: Global, part: &Handlers, met: &mut Met) -> Result<(), AllocE
     Ok(())
 }
 
-/// Meets the conditions of a block, from the top.
+/// Notes the conditions of a block, from the top.
 #[cycle(meet_block)]
 fn meet_block(alloc: Global, block: &PolicyBlock, met: &mut Met) -> Result<(), AllocError>
     ensures { OnOk result (met.new ≡ fold meet met.old (conditions_of block.now)) }
@@ -73,7 +73,7 @@ fn meet_block(alloc: Global, block: &PolicyBlock, met: &mut Met) -> Result<(), A
     Ok(())
 }
 
-/// Meets the conditions of a statement.
+/// Notes the conditions of a statement.
 #[cycle(meet_block)]
 fn meet_statement(
     alloc: Global,
@@ -92,7 +92,7 @@ fn meet_statement(
     }
 }
 
-/// Meets a condition.
+/// Notes a condition.
 fn meet_condition(
     alloc: Global,
     condition: &Condition<Single>,
@@ -114,7 +114,7 @@ fn meet_condition(
     Ok(())
 }
 
-/// Of the codes that were met those that were met again, the first ones.
+/// The first of the codes that occurred again, in the order of their first occurrence.
 fn chosen_of(alloc: Global, met: &Met) -> Result<Table<ConditionCode>, AllocError>
     requires { AreApart same_code met.now.once }
     ensures { IfOk result (λ shared. shared ≡ chosen met.now) }
@@ -129,7 +129,7 @@ fn chosen_of(alloc: Global, met: &Met) -> Result<Table<ConditionCode>, AllocErro
     Ok(shared)
 }
 
-/// Adds a code, where it was met again and there is room for it.
+/// Appends a code, if it occurred again and there is room.
 fn put_chosen(
     code: &ConditionCode,
     again: &Table<ConditionCode>,

@@ -1,4 +1,4 @@
--- Codes as entries of a table: sameness is an equivalence, and what is the same is hashed alike.
+-- Codes as table entries: being the same is an equivalence, and the same codes have the same hash.
 use Rattle.std.specs.Prelude.{◌≡◌, true, List, [], ◌∷◌}
 use Rattle.std.specs.Cmp.{IsEquivalence, on_equiv}
 use Rattle.std.specs.Cmp.Lexicographic.{lists_equiv, nat_list_eq_equiv, bytes_decides}
@@ -7,14 +7,14 @@ use Rattle.ifs_base.specs.Spelling.{spelling}
 use Rattle.ifs_base.specs.declared.op.Op.{Op}
 use Rattle.ifs_gen.specs.Sharing.{same_code}
 
--- What is the same is so by bytes.
+-- Being the same is an equivalence, as equality of bytes is one.
 pub same_code_laws : IsEquivalence same_code
 same_code_laws = lists_equiv (on_equiv spelling nat_list_eq_equiv)
 
--- An instruction is hashed by its four bytes.
+-- The hash of an instruction is that of its four bytes.
 abbrev pub fed_op : Op → HashWrites
 fed_op op = spelling op ∷ []
 
--- Codes that are the same are hashed alike.
+-- The same codes have the same hash.
 pub same_are_fed : (code other : List Op) → same_code code other ≡ true → slice fed_op code ≡ slice fed_op other
 same_are_fed = (items_Alike (on_Alike spelling (same_Alike (λ bytes. bytes ∷ []) bytes_decides))).fed

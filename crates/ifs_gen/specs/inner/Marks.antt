@@ -8,7 +8,7 @@ use Rattle.ifs_parse.specs.declared.block.Statement.{Statement}
 use Rattle.ifs_policy.specs.Meaning.{mentioned}
 use Rattle.ifs_gen.specs.Trees.{Single, Done}
 
--- The marks after these tests are marked; one that has no place changes nothing.
+-- The marks after these tests are marked. A test without a place changes nothing.
 abbrev pub with_marks : List Bool → List TestId → List Bool
 with_marks marks [] = marks
 with_marks marks (test ∷ tests) = with_marks (slice_set marks test.0 true) tests
@@ -17,7 +17,7 @@ with_marks marks (test ∷ tests) = with_marks (slice_set marks test.0 true) tes
 abbrev pub statement_tests : Statement Single CommandId StateId → List TestId
 statement_tests statement = mentioned (statement_then statement Done)
 
--- The test of an index, where it is marked.
+-- The test of an index, if it is marked.
 abbrev pub test_where : Bool → ℕ → List TestId
 test_where true index = record { 0 = index } ∷ []
 test_where false index = []

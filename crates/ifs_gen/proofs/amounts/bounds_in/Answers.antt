@@ -1,4 +1,4 @@
--- What is within the limits fits its field.
+-- Numbers within the limits fit their fields.
 use Rattle.std.proofs.Common.{◌≡◌, ◌≤◌, max, refl, subst, rules, arith}
 use Rattle.ifs_gen.specs.declared.amounts.Amount.TheVariants.{Height}
 use Rattle.ifs_gen.specs.PlainSizes.{most_of_stack}

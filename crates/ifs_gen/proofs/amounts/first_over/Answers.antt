@@ -1,4 +1,4 @@
--- A number over the limit is the first such one, and one that is not is passed.
+-- A number that exceeds the limit is the first one, and any other is passed over.
 use Rattle.std.proofs.Common.{◌<◌, ◌≤◌, subst, arith}
 use Rattle.std.proofs.lemmas.List.{drop_more}
 use Rattle.ifs_gen.proofs.Totals.{init_over, none_over}

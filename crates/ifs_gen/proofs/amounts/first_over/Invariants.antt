@@ -1,4 +1,4 @@
--- No number is over the limit so far.
+-- No number so far exceeds the limit.
 use Rattle.std.proofs.Common.{◌≡◌, ◌*◌, drop}
 use Rattle.ifs_gen.proofs.Totals.{Passes}
 use Rattle.ifs_gen.proofs.amounts.first_over.Given as goal

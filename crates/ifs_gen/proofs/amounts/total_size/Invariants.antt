@@ -1,4 +1,4 @@
--- The sum so far and what is left make the sum of all.
+-- The sum so far and that of the rest make the sum of all.
 use Rattle.std.proofs.Common.{◌≡◌, ◌+◌, ◌-◌, ◌≤◌, ◌^◌, length}
 use Rattle.std.specs.Prelude.{sum}
 use Rattle.ifs_gen.specs.declared.amounts.Amount.TheVariants.{Size}

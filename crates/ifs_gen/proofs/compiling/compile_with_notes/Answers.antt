@@ -1,7 +1,8 @@
--- What the steps found, said of the text.
+-- The results of the steps are those of the text.
 use Rattle.std.proofs.Common.{sym, subst, ap, ◌∙◌, Err}
 use Rattle.ifs_policy.specs.Texts.{of_text}
-use Rattle.ifs_gen.specs.Compiled.{IsCompileRefusal}
+use Rattle.ifs_policy.proofs.Unresolved.{same_error, not_error}
+use Rattle.ifs_gen.specs.Compiled.{IsCompileRefusal, of_policy}
 use Rattle.ifs_gen.proofs.Texts as texts
 use Rattle.ifs_gen.proofs.compiling.compile_with_notes.Goals as goal
 use Rattle.ifs_lex.specs.Expansion.{defined_by}
@@ -34,10 +35,10 @@ returns-in-Err-bytes_of-clause-none c =
     (texts.code_refusal c.in-Ok.it.policy c.args.text.now defs c.in-Ok.ensures.policy c.in-Err-bytes_of.fault c.in-Err-bytes_of.ensures.refused)
 
 pub returns-in-Err-clause-at_once : goal.returns-in-Err-clause-at_once
-returns-in-Err-clause-at_once c = λ fault h. ap (λ f. Err f) (c.from.ensures ∙ texts.same_refusal c.in-Err.fault (of_text fault) (c.in-Err.ensures.at_once fault h))
+returns-in-Err-clause-at_once c = λ fault h. ap (λ f. Err f) (c.from.ensures ∙ same_error of_policy c.in-Err.fault (of_text fault) (c.in-Err.ensures.at_once fault h))
 
 pub returns-in-Ok-bytes_of-clause-at_once : goal.returns-in-Ok-bytes_of-clause-at_once
-returns-in-Ok-bytes_of-clause-at_once c = λ fault h. texts.not_certain c.in-Ok.it (of_text fault) (c.in-Ok.ensures.at_once fault h)
+returns-in-Ok-bytes_of-clause-at_once c = λ fault h. not_error c.in-Ok.it (of_text fault) (c.in-Ok.ensures.at_once fault h)
 
 pub returns-in-Err-bytes_of-clause-at_once : goal.returns-in-Err-bytes_of-clause-at_once
-returns-in-Err-bytes_of-clause-at_once c = λ fault h. texts.not_certain c.in-Ok.it (of_text fault) (c.in-Ok.ensures.at_once fault h)
+returns-in-Err-bytes_of-clause-at_once c = λ fault h. not_error c.in-Ok.it (of_text fault) (c.in-Ok.ensures.at_once fault h)

@@ -1,4 +1,4 @@
--- The first state's init stands at twice its number.
+-- The init of the initial state is at twice its number.
 use Rattle.std.proofs.Common.{◌≡◌, ◌*◌, ◌∙◌, ap, take, drop, get_or, length, ◌-◌, subst, arith}
 use Rattle.ifs_gen.specs.inner.Costs.{most_of_inits, most_of_bodies}
 use Rattle.ifs_gen.proofs.EventCosts.{event_read, from_place}

@@ -1,4 +1,4 @@
--- The greatest so far and what is left make the greatest of all.
+-- The greatest so far and that of the rest make the greatest of all.
 use Rattle.std.proofs.Common.{◌≡◌, length, max}
 use Rattle.ifs_gen.specs.inner.Costs.{most_of_inits, most_of_bodies}
 use Rattle.ifs_gen.proofs.costs.greatest.Given as goal

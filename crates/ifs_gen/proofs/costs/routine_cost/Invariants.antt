@@ -1,4 +1,4 @@
--- The cost so far and that of what is left make the cost of all.
+-- The cost so far and that of the rest make the cost of all.
 use Rattle.std.proofs.Common.{◌≡◌, ◌+◌, ◌-◌, ◌≤◌, ◌^◌, length}
 use Rattle.std.specs.Prelude.{sum_by}
 use Rattle.ifs_gen.specs.inner.Costs.{op_cost}

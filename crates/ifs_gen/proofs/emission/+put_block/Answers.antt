@@ -1,4 +1,4 @@
--- A jump over a block leads to its end, and statements one after the other are the block's code.
+-- A jump over a block leads to its end, and the code of a block is that of its statements.
 use Rattle.std.proofs.Common.{◌≡◌, ◌∙◌, length, refl, rules, arith}
 use Rattle.ifs_base.specs.declared.op.Op.TheVariants.{JumpFalse}
 use Rattle.ifs_gen.specs.PlainCode.{plain_coder}

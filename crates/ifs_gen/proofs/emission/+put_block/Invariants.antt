@@ -1,4 +1,4 @@
--- Each call is of a smaller code, and the statements so far are added.
+-- Each call has a smaller argument, and the statements so far are appended.
 use Rattle.std.proofs.Common.{◌≡◌, ◌+◌, ◌*◌, ◌++◌, length, take}
 use Rattle.ifs_parse.specs.Views.{block_of}
 use Rattle.ifs_gen.specs.PlainCode.{plain_coder, block_code, code_size}

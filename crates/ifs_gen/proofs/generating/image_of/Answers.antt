@@ -1,4 +1,4 @@
--- The routines keep their limits, and what they cost is the budget.
+-- The routines keep their limits, and their cost is the budget.
 use Rattle.std.proofs.Common.{◌∙◌, ◌+◌, ◌*◌, ◌-◌, ◌<◌, ap, sym, subst, take, drop, length, map, ◌++◌, arith}
 use Rattle.ifs_gen.specs.PolicyImage.{shared_routine, routines_of, test_spec}
 use Rattle.ifs_gen.specs.Sharing.{shared_coder}

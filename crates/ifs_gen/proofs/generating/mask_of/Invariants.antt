@@ -1,4 +1,4 @@
--- The set so far and what is left make the whole set.
+-- The set so far and that of the rest make the whole set.
 use Rattle.std.proofs.Common.{◌≡◌, ◌+◌, ◌<◌, length, All}
 use Rattle.ifs_gen.specs.PlainSizes.{mask_of}
 use Rattle.ifs_gen.proofs.generating.mask_of.Given as goal

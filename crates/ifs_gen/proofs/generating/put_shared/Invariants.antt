@@ -1,4 +1,4 @@
--- The routines so far are added.
+-- The routines so far are appended.
 use Rattle.std.proofs.Common.{◌≡◌, ◌++◌, map, take}
 use Rattle.ifs_gen.specs.PolicyImage.{shared_routine}
 use Rattle.ifs_gen.proofs.generating.put_shared.Given as goal

@@ -1,4 +1,4 @@
--- One state more.
+-- One more state.
 use Rattle.std.proofs.Common.{◌≡◌, length, Some, rules}
 use Rattle.std.specs.Prelude.{slice_get}
 use Rattle.ifs_gen.specs.Sharing.{shared_coder}

@@ -1,4 +1,4 @@
--- The states so far stand, and their routines.
+-- The states so far and their routines are appended.
 use Rattle.std.proofs.Common.{◌≡◌, ◌+◌, ◌++◌, length, drop, take}
 use Rattle.ifs_gen.specs.PolicyImage.{routines_of, states_from}
 use Rattle.ifs_gen.specs.Sharing.{shared_coder}

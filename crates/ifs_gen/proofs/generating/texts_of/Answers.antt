@@ -1,4 +1,4 @@
--- One text more.
+-- One more text.
 use Rattle.std.proofs.Common.{rules}
 use Rattle.ifs_gen.proofs.Copying.{copied}
 use Rattle.ifs_gen.proofs.generating.texts_of.Goals as goal

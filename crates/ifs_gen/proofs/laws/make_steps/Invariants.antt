@@ -1,4 +1,4 @@
--- The steps so far were made of the core, and these are its replies.
+-- The core made the steps so far, with these replies.
 use Rattle.std.proofs.Common.{◌≡◌, take}
 use Rattle.ifs_gen.specs.CompiledCore.{LeadsTo}
 use Rattle.ifs_gen.proofs.laws.make_steps.Given as goal

@@ -1,4 +1,4 @@
--- One statement more.
+-- One more statement.
 use Rattle.std.proofs.Common.{arith}
 use Rattle.ifs_gen.proofs.Measuring.{more}
 use Rattle.ifs_gen.proofs.measure.+measure_block.Goals as goal

@@ -1,9 +1,9 @@
--- One operand more, and the chain at its end.
-use Rattle.std.proofs.Common.{◌≡◌, ◌+◌, ◌⊎◌, inl, inr, max, ap, sym, ◌∙◌, refl, arith}
-use Rattle.ifs_parse.specs.Trees as tree
-use Rattle.ifs_parse.specs.Views.{condition_of, all_of, any_of}
+-- One more operand, and the end of the chain.
+use Rattle.std.proofs.Common.{◌+◌, max, ap, refl, arith}
+use Rattle.ifs_parse.specs.Views.{condition_of}
 use Rattle.ifs_parse.specs.Trees.{condition_size}
 use Rattle.ifs_gen.specs.PlainCode.{condition_height}
+use Rattle.ifs_policy.proofs.Joined.{chain_of}
 use Rattle.ifs_gen.proofs.Measuring.{size_more, height_more, size_all, height_all}
 use Rattle.ifs_gen.proofs.measure.+measure_condition.Goals as goal
 
@@ -28,12 +28,9 @@ returns-after-loop-operand-clause-size t c =
     let first = c.in-All.first.value in
     let second = c.in-All.second.value in
     let n = condition_size first + condition_size second + 1 in
-    let chain : (c.args.condition.now ≡ all_of (tree.And first second) c.deref-operand-items.result.now) ⊎ (c.args.condition.now ≡ any_of (tree.Or first second) c.deref-operand-items.result.now) =
-    elim c.in-All.is [
-      | inl e ↦ inl (c.node.ensures.value ∙ ap condition_of e ∙ ap (all_of (tree.And first second)) (sym c.deref-operand-items.ensures.value))
-      | inr e ↦ inr (c.node.ensures.value ∙ ap condition_of e ∙ ap (any_of (tree.Or first second)) (sym c.deref-operand-items.ensures.value))
-    ] in
-    let whole = size_all c.args.condition.now first second c.deref-operand-items.result.now c.loop-operand.operand-index n chain c.loop-operand-test.false refl in
+    let items = c.deref-operand-items.result.now in
+    let chain = chain_of condition_of _ _ _ c.args.condition.now first second c.in-All.rest.items items c.in-All.is refl refl c.node.ensures.value c.deref-operand-items.ensures.value in
+    let whole = size_all c.args.condition.now first second items c.loop-operand.operand-index n chain c.loop-operand-test.false refl in
     let one = c.measure_condition.ensures.size in
     let two = c.measure_condition-in-All.ensures.size in
     let joined = c.joined-measure.ensures.size in
@@ -47,12 +44,9 @@ returns-after-loop-operand-clause-height t c =
     let first = c.in-All.first.value in
     let second = c.in-All.second.value in
     let n = max (condition_height first) (condition_height second + 1) in
-    let chain : (c.args.condition.now ≡ all_of (tree.And first second) c.deref-operand-items.result.now) ⊎ (c.args.condition.now ≡ any_of (tree.Or first second) c.deref-operand-items.result.now) =
-    elim c.in-All.is [
-      | inl e ↦ inl (c.node.ensures.value ∙ ap condition_of e ∙ ap (all_of (tree.And first second)) (sym c.deref-operand-items.ensures.value))
-      | inr e ↦ inr (c.node.ensures.value ∙ ap condition_of e ∙ ap (any_of (tree.Or first second)) (sym c.deref-operand-items.ensures.value))
-    ] in
-    let whole = height_all c.args.condition.now first second c.deref-operand-items.result.now c.loop-operand.operand-index n chain c.loop-operand-test.false refl in
+    let items = c.deref-operand-items.result.now in
+    let chain = chain_of condition_of _ _ _ c.args.condition.now first second c.in-All.rest.items items c.in-All.is refl refl c.node.ensures.value c.deref-operand-items.ensures.value in
+    let whole = height_all c.args.condition.now first second items c.loop-operand.operand-index n chain c.loop-operand-test.false refl in
     let one = c.measure_condition.ensures.height in
     let two = c.measure_condition-in-All.ensures.height in
     let joined = c.joined-measure.ensures.height in

@@ -1,4 +1,4 @@
--- The measures so far are those of the chain so far, whatever it began with.
+-- The measures so far are those of the chain so far, for any start.
 use Rattle.std.proofs.Common.{◌≡◌, ℕ, take}
 use Rattle.ifs_gen.specs.inner.Measures.{capped}
 use Rattle.ifs_gen.proofs.Measuring.{chain_size, chain_height}

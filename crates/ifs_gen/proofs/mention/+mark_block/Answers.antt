@@ -1,4 +1,4 @@
--- One statement more, and the block at its end.
+-- One more statement, and the end of the block.
 use Rattle.std.proofs.Common.{ap, sym, refl, ◌∙◌, arith}
 use Rattle.ifs_policy.specs.Meaning.{mentioned, mentioned_in}
 use Rattle.ifs_gen.specs.inner.Marks.{with_marks, statement_tests}

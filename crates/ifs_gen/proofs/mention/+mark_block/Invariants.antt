@@ -1,4 +1,4 @@
--- Each call is of a smaller code, and the statements so far are marked.
+-- Each call has a smaller argument, and the statements so far are marked.
 use Rattle.std.proofs.Common.{◌≡◌, ◌+◌, ◌*◌, take}
 use Rattle.std.specs.List.{flat_map}
 use Rattle.ifs_gen.specs.inner.Marks.{with_marks, statement_tests}

@@ -1,4 +1,4 @@
--- One index more.
+-- One more index.
 use Rattle.std.proofs.Common.{arith}
 use Rattle.ifs_policy.specs.Meaning.{mentioned}
 use Rattle.ifs_gen.proofs.Marking.{below_next, mark_is}

@@ -1,4 +1,4 @@
--- One test more, room for the statements, and the whole.
+-- One more test, room for the statements, and the whole code.
 use Rattle.std.proofs.Common.{◌∙◌, arith, refl}
 use Rattle.ifs_gen.specs.PolicyImage.{routine_leaving}
 use Rattle.ifs_gen.specs.Sharing.{shared_coder}

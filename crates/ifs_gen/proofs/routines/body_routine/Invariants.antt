@@ -1,4 +1,4 @@
--- The tests so far are added.
+-- The tests so far are appended.
 use Rattle.std.proofs.Common.{◌≡◌, take}
 use Rattle.ifs_gen.specs.PlainCode.{held_code}
 use Rattle.ifs_gen.proofs.routines.body_routine.Given as goal

@@ -1,4 +1,4 @@
--- One jump more, and all of them.
+-- One more jump, and all jumps.
 use Rattle.std.proofs.Common.{◌∙◌, ◌+◌, ◌*◌, ◌<◌, ap, subst, length}
 use Rattle.std.specs.Prelude.{slice_set}
 use Rattle.std.proofs.Math.ListN.{length-set}

@@ -1,4 +1,4 @@
--- One statement more, and the block at its end.
+-- One more statement, and the end of the block.
 use Rattle.std.proofs.Common.{arith}
 use Rattle.ifs_gen.specs.inner.Meetings.{statement_conditions}
 use Rattle.ifs_gen.specs.PlainCode.{plain_coder}

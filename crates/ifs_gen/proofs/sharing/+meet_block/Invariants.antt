@@ -1,4 +1,4 @@
--- Each call is of a smaller code, and the conditions of the statements so far are met.
+-- Each call has a smaller argument, and the conditions of the statements so far are noted.
 use Rattle.std.proofs.Common.{◌≡◌, ◌+◌, ◌*◌, take, fold}
 use Rattle.std.specs.List.{flat_map}
 use Rattle.ifs_gen.specs.inner.Meetings.{meet, statement_conditions}

@@ -1,4 +1,4 @@
--- One entry more, which is the same as none before it, and all of them.
+-- One more entry, which differs from all before it, and all entries.
 use Rattle.std.proofs.Common.{◌≡◌, ◌≤◌, Some, rules, subst}
 use Rattle.std.specs.Prelude.{slice_get}
 use Rattle.ifs_gen.proofs.Walking.{chosen_more, chosen_new, chosen_all}

@@ -1,4 +1,4 @@
--- Those so far that are chosen are kept.
+-- The chosen codes so far are kept.
 use Rattle.std.proofs.Common.{◌≡◌, take}
 use Rattle.std.specs.Prelude.{filter}
 use Rattle.std.specs.List.{list_any}

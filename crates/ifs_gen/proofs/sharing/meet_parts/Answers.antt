@@ -1,4 +1,4 @@
--- One part more, and all of them.
+-- One more part, and all parts.
 use Rattle.ifs_gen.proofs.Walking.{parts_met, part_conditions, met_more, part_met}
 use Rattle.ifs_gen.proofs.sharing.meet_parts.Goals as goal
 

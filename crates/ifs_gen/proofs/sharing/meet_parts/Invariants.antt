@@ -1,4 +1,4 @@
--- The conditions of the parts so far are met.
+-- The conditions of the parts so far are noted.
 use Rattle.std.proofs.Common.{◌≡◌, take, fold}
 use Rattle.std.specs.List.{flat_map}
 use Rattle.ifs_gen.specs.inner.Meetings.{meet}

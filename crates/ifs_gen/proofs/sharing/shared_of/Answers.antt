@@ -1,4 +1,4 @@
--- All conditions are met, and those are chosen that are shared.
+-- All conditions occur, and the shared ones are chosen.
 use Rattle.std.proofs.Common.{◌≡◌, ◌∙◌, sym, subst, ap, fold}
 use Rattle.std.specs.Result.{IfOk}
 use Rattle.ifs_gen.specs.Sharing.{same_code, conditions_in}

@@ -1,4 +1,4 @@
--- All instructions are fed, behind their number.
+-- The hash takes the number of instructions, then all instructions.
 use Rattle.ifs_gen.proofs.CodeKeys.{all_fed}
 use Rattle.ifs_gen.proofs.keys.ConditionCodeHash.hash.Goals as goal
 

@@ -1,4 +1,4 @@
--- The instructions so far are fed.
+-- The hash has taken the instructions so far.
 use Rattle.std.proofs.Common.{◌≡◌, fold, take}
 use Rattle.std.specs.List.{flat_map}
 use Rattle.ifs_gen.specs.inner.Keys.{fed_op}

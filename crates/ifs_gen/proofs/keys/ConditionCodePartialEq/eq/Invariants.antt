@@ -1,4 +1,4 @@
--- What is left of both is the same where all is.
+-- The rests of both are the same exactly if the whole codes are.
 use Rattle.std.proofs.Common.{◌≡◌, length}
 use Rattle.ifs_gen.specs.Sharing.{same_code}
 use Rattle.ifs_gen.proofs.keys.ConditionCodePartialEq.eq.Given as goal
