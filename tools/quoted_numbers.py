@@ -1,9 +1,9 @@
 #!/usr/bin/env python3
-"""Compares the numbers that pages quote with the files in which the tools that count keep them: tools/numbers.py
+"""Compares the numbers that pages quote with the files in which the tools that count keep them: tools/quoted_numbers.py
 
 Each row of QUOTED is a page, a pattern of what it says, a file, and a pattern of what the file says; a pattern has one group, the
 number. A pattern of a file without a group is counted. The table of minutes in docs/PROVING.md is made of tools/measured_minutes,
-which tools/minutes --keep writes: tools/numbers.py --write puts it in. Prints what differs, and ends with status 1 then."""
+which tools/minutes --keep writes: tools/quoted_numbers.py --write puts it in. Prints what differs, and ends with status 1 then."""
 import re
 import sys
 from pathlib import Path
@@ -20,7 +20,7 @@ QUOTED = [
     ("docs/TESTED.md", r"writes and ([\d,]+) runs of `serve_one`", CALLS, r"^serve_one, runs that failed: (\d+)$"),
 ]
 MINUTES, PROVING, ORDER = TOP / "tools" / "measured_minutes", TOP / "docs" / "PROVING.md", TOP / "crates.txt"
-BEGIN, END = "<!-- minutes, by tools/numbers.py --write -->\n", "<!-- end of minutes -->\n"
+BEGIN, END = "<!-- minutes, by tools/quoted_numbers.py --write -->\n", "<!-- end of minutes -->\n"
 KINDS = ("proof", "tests", "edits", "all")
 
 
@@ -81,7 +81,7 @@ def main(arguments):
         return 0
     lines = list(wrong_quotes())
     if now != table():
-        lines.append("docs/PROVING.md: its table of minutes is out of date: tools/numbers.py --write")
+        lines.append("docs/PROVING.md: its table of minutes is out of date: tools/quoted_numbers.py --write")
     print("\n".join(lines), end="\n" if lines else "")
     return 1 if lines else 0
 
