@@ -8,16 +8,16 @@ use thiserror::Error;
 #[derive(Clone, Copy, Debug, PartialEq, Eq, Error)]
 pub enum Came {
     /// It answered, although the allocation was refused.
-    #[error("answered, although the growth was refused")]
+    #[error("an answer, although an allocation was refused")]
     Answer,
     /// It returned another answer than before with ample memory.
     #[error("another answer than the usual one")]
     Another,
     /// It reported that memory ran out, although no allocation was refused.
-    #[error("want of memory, although no growth was refused")]
+    #[error("out of memory, although no allocation was refused")]
     Want,
     /// It has more allocations than the program tries.
-    #[error("there is no end of growths")]
+    #[error("there is no end of allocations")]
     Unending,
 }
 
@@ -25,13 +25,13 @@ pub enum Came {
 #[derive(Debug, Drop, Error)]
 pub enum Failure {
     /// A call broke its promise in the turn of an allocation.
-    #[error("growth {growth}: {came}")]
+    #[error("allocation {growth}: {came}")]
     Turn { growth: u32, came: Came },
     /// A call reported another fault in the turn of an allocation.
-    #[error("growth {growth}: told {code}")]
+    #[error("allocation {growth}: reported {code}")]
     Fault { growth: u32, code: Code },
     /// A session broke its promise. The number counts the calls before the one that failed, or the bytes before the cut.
-    #[error("session {0}: something else than what is promised")]
+    #[error("session {0}: not as promised")]
     Session(usize),
     /// The inputs of the calls could not be made.
     #[error("nothing to begin with: {0}")]

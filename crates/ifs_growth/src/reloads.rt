@@ -53,7 +53,7 @@ fn code_of_kept(alloc: Global, core: &Core<'_>, bytes: &[u8], code: Code) -> Cod
     if is_unchanged(alloc, core, bytes) {
         code
     } else {
-        code_of("a core that does not stand as it did")
+        code_of("a core that has changed")
     }
 }
 
