@@ -111,7 +111,7 @@ part_fits : (tables : Tables) (owner : Owner) (parts : List Part) → AreListed 
     → HandlersFit (sizes_of tables) (place_part tables parts)
 part_fits tables owner parts h = record { init = init_fits tables owner parts h; body = body_fits tables owner parts h }
 
-always_listed : (tables : Tables) (items : List Item) → AreListed tables (mentions_of items)
+pub always_listed : (tables : Tables) (items : List Item) → AreListed tables (mentions_of items)
     → AreListed tables (flat_map (part_mentions whose.Always) (always_of items))
 always_listed tables [] h = tt
 always_listed tables (InitState span name ∷ rest) h = always_listed tables rest h.1.1

@@ -14,5 +14,6 @@ pub mod FirstUses
 mod Running
 mod Ordered
 mod Whole
+mod Named
 pub mod Unresolved
 mod MentionedTests

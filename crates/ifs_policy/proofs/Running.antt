@@ -303,7 +303,7 @@ abbrev Apart : List (List ℕ) → Type 0
 Apart [] = Unit {0}
 Apart (x ∷ xs) = AllByRecursion (λ y. text_eq y x ≡ false) xs × Apart xs
 
-text_from : (xs ys : List ℕ) → text_eq xs ys ≡ true → xs ≡ ys
+pub text_from : (xs ys : List ℕ) → text_eq xs ys ≡ true → xs ≡ ys
 text_from xs ys h = (slice_eq-Decides Decides-eqb xs ys (text_eq xs ys) refl).0 h
 
 apart_from : (xs : List (List ℕ)) → AllPairs (λ name other. name ≢ other) xs → Apart xs

@@ -7,5 +7,6 @@ pub mod Texts
 pub mod Meaning
 pub mod Whole
 pub mod Order
+pub mod Named
 pub mod inner
 pub mod FaultWords

@@ -13,6 +13,7 @@ ghost use Rattle.ifs_policy.specs.Faults.{IsTreeRefused};
 ghost use Rattle.ifs_policy.specs.Resolution.{Resolves};
 ghost use Rattle.ifs_policy.specs.Fits.{PolicyFits};
 ghost use Rattle.ifs_policy.specs.Meaning.{body_yield, is_held, mentioned, reached, Block, IsHeld, Mentions};
+ghost use Rattle.ifs_policy.specs.Named.{SaysTree};
 ghost use Rattle.ifs_policy.specs.Order.{InOrder};
 ghost use Rattle.ifs_policy.specs.Whole.{KeepsRules};
 
@@ -36,6 +37,12 @@ pub fn tree_has_a_policy()
 /// definitions.
 pub fn numbered_by_first_use()
     ensures { (items : List Item) (policy : PolicyParts) → Resolves items policy → InOrder items policy.tables }
+{}
+
+/// With the names that its tables have for its numbers, a policy says what its tree says: each part has its `init` and
+/// its other statements, with commands, conditions and order, and the initial state is the one that the tree names.
+pub fn names_give_the_tree()
+    ensures { (items : List Item) (policy : PolicyParts) → Resolves items policy → SaysTree items policy }
 {}
 
 /// A policy of a parsed tree keeps the limits, and its numbers refer to entries of its tables.
