@@ -1,17 +1,21 @@
 -- The known link states of interfaces, with one more interface.
 use Rattle.std.proofs.Common.{◌≡◌, ◌≢◌, ℕ, zero, suc, ◌+◌, Bool, true, false, List, [], ◌∷◌, ◌++◌, ◌<◌, Some, length, All, take, get_or, refl, sym}
 use Rattle.std.proofs.Common.{ap, subst, ◌∙◌, arith, append_assoc, append-nil}
-use Rattle.std.specs.Prelude.{slice_get, if◌then◌else◌}
+use Rattle.std.specs.Prelude.{slice_get, if◌then◌else◌, map, option_map}
 use Rattle.std.specs.List.{AllByRecursion}
 use Rattle.std.specs.Str.{bytes_eq}
 use Rattle.std.proofs.lemmas.Slice.Eq.{bytes_eq-Decides}
 use Rattle.std.proofs.lemmas.List.Elements.{recursion_from_All}
-use Rattle.std.proofs.lemmas.Option.{none-some, same_Some}
+use Rattle.std.proofs.lemmas.Option.{none-some, same_Some, slice_get-map}
 use Rattle.ifs_base.specs.declared.op.LinkState.{LinkState}
 use Rattle.ifs_base.specs.declared.op.LinkState.TheVariants.{Unknown, Down, Up}
 use Rattle.ifs_core.specs.declared.carried.NamedLink.{NamedLink}
 use Rattle.ifs_image.specs.Limits.{AreDistinct}
-use Rattle.ifs_core.specs.Carrying.{known_link, known_links, link_named, LinksStand}
+use Rattle.ifs_image.specs.declared.parts.ImageParts.{ImageParts}
+use Rattle.ifs_sched.specs.Schedule.{run_from, entered, all_off}
+use Rattle.ifs_core.specs.Event.{Behaviour}
+use Rattle.ifs_core.specs.Gateway.{Known, opened}
+use Rattle.ifs_core.specs.Carrying.{known_link, known_links, known_by, link_named, LinksStand}
 use Rattle.ifs_core.proofs.Tables.{after_suc}
 
 pub known_links-more : (names : List (List ℕ)) (links : List LinkState) (i : ℕ) (name : List ℕ) → slice_get names i ≡ Some name → i < length links
@@ -77,8 +81,24 @@ each_found (n ∷ names) (l ∷ links) distinct same (suc k) name e =
     each_found names links (rest_distinct n names distinct) (omega (arith, same)) k name e
     ∙ ap Some (sym (passed n l (known_links names links) name (λ q. apart (sym q))))
 
+-- The next run has the carried number.
+opened_runs : (b : Behaviour) (image : ImageParts) (known : Known) → (opened b image known).position.schedule.next_run ≡ run_from known.first_run
+unfolding entered all_off
+opened_runs b image known = refl
+
 pub links_stand : LinksStand
-links_stand image links fits same = record {
-  each = each_found image.interfaces links fits.interfaces.distinct same;
-  others = λ name h. none_known image.interfaces links name (recursion_from_All (λ other. other ≢ name) image.interfaces h);
+links_stand b core carried next fits same from = record {
+  links = record {
+    kept = λ i k name at of.
+        found_at i name at ∙ ap (λ (known : List NamedLink). Some (link_named known name)) from.links
+        ∙ sym (each_found core.image.interfaces core.state.position.facts.links fits.interfaces.distinct same k name of);
+    unknown = λ i name at none.
+        found_at i name at ∙ ap (λ (known : List NamedLink). Some (link_named known name)) from.links
+        ∙ ap Some (none_known core.image.interfaces core.state.position.facts.links name (recursion_from_All (λ other. other ≢ name) core.image.interfaces none));
+  };
+  runs = opened_runs b next (known_by carried next) ∙ from.next_run;
 }
+  where
+    found_at : (i : ℕ) (name : List ℕ) → slice_get next.interfaces i ≡ Some name
+        → slice_get (map (link_named carried.links) next.interfaces) i ≡ Some (link_named carried.links name)
+    found_at i name at = slice_get-map (link_named carried.links) next.interfaces i ∙ ap (option_map (link_named carried.links)) at

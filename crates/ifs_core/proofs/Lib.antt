@@ -10,3 +10,4 @@ pub mod Keeping
 pub mod Tables
 pub mod Upgrades
 pub mod KnownLinks
+pub mod Traces

@@ -10,7 +10,9 @@ use Rattle.ifs_sched.specs.Schedule.{run_from}
 use Rattle.ifs_core.specs.declared.carried.CarryCause.{CarryCause}
 use Rattle.ifs_core.specs.declared.carried.CarryCause.TheVariants as causes
 use Rattle.ifs_core.specs.declared.carried.NamedLink.{NamedLink}
-use Rattle.ifs_core.specs.Gateway.{OpenCore, Known}
+use Rattle.ifs_core.specs.Event.{Behaviour}
+use Rattle.ifs_core.specs.Gateway.{OpenCore, Known, opened}
+use Rattle.ifs_core.specs.Steps.{CoreState}
 
 -- What is carried: the known link states by the names of their interfaces, and the number of the next run, 0 if none is left.
 pub record Carrying : Type 0 where
@@ -46,11 +48,17 @@ link_named (known ∷ links) name = if bytes_eq known.name name then known.link 
 abbrev pub known_by : Carrying → ImageParts → Known
 known_by carried image = record { links = map (link_named carried.links) image.interfaces; first_run = carried.next_run }
 
--- The link state of each interface is found by its name, and that of any other name is unknown.
-pub record AreFoundByName (names : List (List ℕ)) (links : List LinkState) : Type 0 where
-  pub each : (k : ℕ) (name : List ℕ) → slice_get names k ≡ Some name → slice_get links k ≡ Some (link_named (known_links names links) name)
-  pub others : (name : List ℕ) → All (λ other. other ≢ name) names → link_named (known_links names links) name ≡ Unknown
+-- The links of these interfaces are those of a core: each is that of the core's interface of the same name, and unknown if the core has none.
+pub record AreLinksOf (core : OpenCore) (names : List (List ℕ)) (links : List LinkState) : Type 0 where
+  pub kept : (i k : ℕ) (name : List ℕ) → slice_get names i ≡ Some name → slice_get core.image.interfaces k ≡ Some name → slice_get links i ≡ slice_get core.state.position.facts.links k
+  pub unknown : (i : ℕ) (name : List ℕ) → slice_get names i ≡ Some name → All (λ other. other ≢ name) core.image.interfaces → slice_get links i ≡ Some Unknown
 
--- The carried link states of an image are found by the names of its interfaces.
+-- A state of an image goes on from a core: its links are those of the core, and its next run has the number that the core's would have had.
+pub record GoesOn (core : OpenCore) (image : ImageParts) (state : CoreState) : Type 0 where
+  pub links : AreLinksOf core image.interfaces state.position.facts.links
+  pub runs : state.position.schedule.next_run ≡ core.state.position.schedule.next_run
+
+-- An image that is opened with what was carried from a core goes on from that core.
 abbrev pub LinksStand : Type 0
-LinksStand = (image : ImageParts) (links : List LinkState) → Fits image → length links ≡ length image.interfaces → AreFoundByName image.interfaces links
+LinksStand = (b : Behaviour) (core : OpenCore) (carried : Carrying) (next : ImageParts) → Fits core.image
+    → length core.state.position.facts.links ≡ length core.image.interfaces → IsCarriedFrom core carried → GoesOn core next (opened b next (known_by carried next))

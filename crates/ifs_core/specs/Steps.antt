@@ -74,6 +74,11 @@ ChangesNothing _ = ⊥
 abbrev pub traced : Record → List Record → List Record
 traced r trace = keep_last 256 (trace ++ r ∷ [])
 
+-- The first 256 records are all kept, and then the oldest one makes room.
+pub record TraceKeeps256 : Type 0 where
+  pub room : (r : Record) (trace : List Record) → length trace ≡ 255 → traced r trace ≡ trace ++ r ∷ []
+  pub full : (r oldest : Record) (trace : List Record) → length trace ≡ 255 → traced r (oldest ∷ trace) ≡ trace ++ r ∷ []
+
 -- The state after the commands of a step are appended to the queue and the step is recorded in the trace.
 abbrev pub settled : Step → Answer → List CommandId → ℕ → CoreState → CoreState
 settled step answer commands cost s = record {

@@ -3,7 +3,7 @@
 ghost use Rattle.std.specs.Prelude.{◌≡◌, ◌≤◌};
 ghost use Rattle.ifs_core.specs.Event.{Behaviour};
 ghost use Rattle.ifs_core.specs.Machine.{IsBehaviour};
-ghost use Rattle.ifs_core.specs.Steps.{cost_told, turn};
+ghost use Rattle.ifs_core.specs.Steps.{cost_told, turn, TraceKeeps256};
 ghost use Rattle.ifs_core.specs.Headline.{AcceptedIsKept, Headline};
 ghost use Rattle.ifs_core.specs.Carrying.{LinksStand};
 ghost use Rattle.ifs_core.specs.UpgradeKeeps.{UpgradeKeeps, UpgradeKeepsBytes};
@@ -54,11 +54,17 @@ pub fn upgrade_keeps_bytes()
     upgrade_keeps();
 }
 
-/// Carried link states are found by the names of their interfaces. So an image with the same interfaces, in any
-/// order, begins with the same link states, and any other interface begins as unknown.
-#[tactic(auto, using(crate::proofs::KnownLinks::links_stand))]
+/// An image that is opened with what was carried from a core goes on from that core. Each interface has the link
+/// state that the core knew under its name, and is unknown if the core had no such interface. The next run has the
+/// number that the core's next run would have had.
 pub fn links_stand()
     ensures { LinksStand }
+{}
+
+/// A trace of 255 records has room for one more. With 256 records it loses the oldest one.
+#[tactic(auto, using(crate::proofs::Traces::trace_keeps_256))]
+pub fn trace_keeps_256()
+    ensures { TraceKeeps256 }
 {}
 
 /// Makes a step of a borrowed core, and returns the number of executed instructions. It is at most the stated cost,
