@@ -35,5 +35,7 @@ pub mod CoreOfText
 pub mod CodeKeys
 pub mod Called
 pub mod Among
+pub mod FirstShared
+pub mod Heights
 pub mod Shrinks
 pub mod CalledTypes

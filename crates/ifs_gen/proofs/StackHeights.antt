@@ -12,52 +12,41 @@ use Rattle.ifs_gen.specs.Trees.{LinkIs, TestIs, Condition, Leaf, NotSo, And, Or,
 use Rattle.ifs_gen.specs.PlainCode.{plain_coder, condition_code, condition_height, code_size, block_height}
 use Rattle.ifs_gen.specs.PlainSizes.{greatest, part_height, PartCodeFits}
 use Rattle.ifs_gen.specs.Sharing.{conditions_of, conditions_in}
+use Rattle.ifs_gen.specs.Heights.{values_after, most_values}
 use Rattle.ifs_policy.proofs.Lists.{each_both}
 use Rattle.ifs_gen.proofs.Simulation.{condition_sized, condition_high}
 
--- The number of values after an instruction of a condition, and the greatest number during a code, given the number before.
-abbrev after_op : Op → ℕ → ℕ
-after_op (Link n s) now = now + 1
-after_op (Test n) now = now + 1
-after_op Both now = now - 1
-after_op Either now = now - 1
-after_op op now = now
-
-abbrev rise : List Op → ℕ → ℕ
-rise [] now = now
-rise (op ∷ ops) now = max now (rise ops (after_op op now))
-
 -- The stack height of a code.
 abbrev pub tall : List Op → ℕ
-tall code = rise code 0
+tall code = most_values code 0
 
 -- The greatest number is no less than the first.
-rise_some : (ops : List Op) (now : ℕ) → now ≤ rise ops now
+pub rise_some : (ops : List Op) (now : ℕ) → now ≤ most_values ops now
 rise_some [] now = omega arith
 rise_some (op ∷ ops) now = omega arith
 
--- Two operands rise to the height of both, and their sign leaves one value.
+-- Two operands most_values to the height of both, and their sign leaves one value.
 rise_joined : (a b : Condition) (op : Op) (rest : List Op) (now : ℕ)
-    → ((rest : List Op) (now : ℕ) → rise (condition_code a ++ rest) now ≡ max (now + condition_height a) (rise rest (now + 1)))
-    → ((rest : List Op) (now : ℕ) → rise (condition_code b ++ rest) now ≡ max (now + condition_height b) (rise rest (now + 1))) → after_op op (now + 1 + 1) ≡ now + 1 + 1 - 1
-    → rise ((condition_code a ++ (condition_code b ++ op ∷ [])) ++ rest) now ≡ max (now + max (condition_height a) (condition_height b + 1)) (rise rest (now + 1))
+    → ((rest : List Op) (now : ℕ) → most_values (condition_code a ++ rest) now ≡ max (now + condition_height a) (most_values rest (now + 1)))
+    → ((rest : List Op) (now : ℕ) → most_values (condition_code b ++ rest) now ≡ max (now + condition_height b) (most_values rest (now + 1))) → values_after op (now + 1 + 1) ≡ now + 1 + 1 - 1
+    → most_values ((condition_code a ++ (condition_code b ++ op ∷ [])) ++ rest) now ≡ max (now + max (condition_height a) (condition_height b + 1)) (most_values rest (now + 1))
 rise_joined a b op rest now over_a over_b leaves =
-    let e = ap (λ ops. rise ops now) (append_assoc (condition_code a) (condition_code b ++ op ∷ []) rest) in
-    let g = ap (λ ops. rise (condition_code a ++ ops) now) (append_assoc (condition_code b) (op ∷ []) rest) in
+    let e = ap (λ ops. most_values ops now) (append_assoc (condition_code a) (condition_code b ++ op ∷ []) rest) in
+    let g = ap (λ ops. most_values (condition_code a ++ ops) now) (append_assoc (condition_code b) (op ∷ []) rest) in
     let f = over_a (condition_code b ++ op ∷ rest) now in
     let h = over_b (op ∷ rest) (now + 1) in
     let same : now + 1 + 1 - 1 ≡ now + 1 = omega arith in
-    let last = ap (rise rest) (leaves ∙ same) in
+    let last = ap (most_values rest) (leaves ∙ same) in
     let some = rise_some rest (now + 1) in
     let high = condition_high b in
     omega (arith, e, g, f, h, last, some, high)
 
 -- A condition rises to its height, and leaves one value.
-rise_over : (c : Condition) (rest : List Op) (now : ℕ) → rise (condition_code c ++ rest) now ≡ max (now + condition_height c) (rise rest (now + 1))
+pub rise_over : (c : Condition) (rest : List Op) (now : ℕ) → most_values (condition_code c ++ rest) now ≡ max (now + condition_height c) (most_values rest (now + 1))
 rise_over (Leaf (LinkIs n s)) rest now = let some = rise_some rest (now + 1) in omega (arith, some)
 rise_over (Leaf (TestIs n)) rest now = let some = rise_some rest (now + 1) in omega (arith, some)
 rise_over (NotSo c) rest now =
-    let e = ap (λ ops. rise ops now) (append_assoc (condition_code c) (Negate ∷ []) rest) in
+    let e = ap (λ ops. most_values ops now) (append_assoc (condition_code c) (Negate ∷ []) rest) in
     let f = rise_over c (Negate ∷ rest) now in
     let some = rise_some rest (now + 1) in
     let high = condition_high c in
@@ -68,7 +57,7 @@ rise_over (Or a b) rest now = rise_joined a b Either rest now (rise_over a) (ris
 -- The stack height of the code of a condition is that of the condition.
 pub tall_is : (c : Condition) → tall (condition_code c) ≡ condition_height c
 tall_is c =
-    let e = ap (λ ops. rise ops 0) (sym (append-nil (condition_code c))) in
+    let e = ap (λ ops. most_values ops 0) (sym (append-nil (condition_code c))) in
     let f = rise_over c [] 0 in
     let high = condition_high c in
     omega (arith, e, f, high)

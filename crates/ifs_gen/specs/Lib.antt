@@ -3,10 +3,12 @@ pub mod PlainCode
 pub mod Sharing
 pub mod PlainSizes
 pub mod PolicyImage
+pub mod FirstShared
 pub mod Runs
 pub mod Acceptance
 pub mod Refused
 pub mod Sizes
+pub mod Heights
 pub mod Events
 pub mod Compiled
 pub mod CompiledCore

@@ -1,6 +1,6 @@
 //! From a text to the bytes of its image.
 
-ghost use Rattle.std.specs.Prelude.{◌≡◌, ◌≢◌, Some, Err, IfOk, IfErr};
+ghost use Rattle.std.specs.Prelude.{◌≡◌, ◌≢◌, Some, Err, IfOk, IfErr, slice_get};
 ghost use Rattle.ifs_lex.specs.declared.fault.LexFault.{LexFault};
 ghost use Rattle.ifs_lex.specs.AtOnce.{certain_at_once};
 ghost use Rattle.ifs_gen.specs.declared.compile_fault.CompileFault.TheVariants.{Memory};
@@ -51,6 +51,8 @@ pub fn compile<'a>(
 ) -> Result<Vec<u8>, CompileFault>
     // The bytes spell the image of the text's one policy, and mean that policy. The verifier accepts them.
     ensures compiled { IfOk result (λ bytes. IsCompiled text.now (defined_by defs.now) bytes.items) }
+    // The image has version 1, which is in the byte behind the four letters.
+    ensures version { IfOk result (λ bytes. slice_get bytes.items 4 ≡ Some 1) }
     // An error other than P0 comes only if the text has no policy, or if the code of its policy exceeds the
     // limit of the error.
     ensures refused { IfErr result (λ fault. IsCompileRefusal text.now (defined_by defs.now) fault) }

@@ -1,10 +1,13 @@
 //! Laws about every policy, its plain code and its image.
 
-ghost use Rattle.std.specs.Prelude.{IfOk};
+ghost use Rattle.std.specs.Prelude.{◌≢◌, IfOk, IfErr};
 ghost use Rattle.ifs_gen.specs.Acceptance.{BudgetsAreLeast, ImageIsAccepted};
-ghost use Rattle.ifs_gen.specs.Compiled.{TextsMeanTheirPolicy};
+ghost use Rattle.ifs_gen.specs.declared.compile_fault.CompileFault.TheVariants.{Memory};
+ghost use Rattle.ifs_gen.specs.Compiled.{Compiles, IsCompileRefusal, TextsMeanTheirPolicy};
 ghost use Rattle.ifs_gen.specs.CompiledCore.{LeadsTo, RepliesAsText};
 ghost use Rattle.ifs_gen.specs.Events.{ActiveAreMentioned, ImageMeansPolicy};
+ghost use Rattle.ifs_gen.specs.FirstShared.{FirstAreShared};
+ghost use Rattle.ifs_gen.specs.Heights.{HeightsAreGreatest};
 ghost use Rattle.ifs_gen.specs.Refused.{FitsOrIsRefused, OneLimitIsFirst, RefusedDoNotFit};
 ghost use Rattle.ifs_gen.specs.Runs.{TruthRuns, SharedTruthRuns, BlockRuns, HandlersDo};
 ghost use Rattle.ifs_gen.specs.Sizes.{RunsAreQueued, SizesAreLengths};
@@ -94,10 +97,24 @@ pub fn sizes_are_lengths()
     instructions_are_read_back();
 }
 
+/// The heights of a policy are the greatest numbers of values on the stack of its inits and bodies in plain code, in
+/// order.
+pub fn heights_are_greatest()
+    ensures { HeightsAreGreatest }
+{}
+
 /// The number of commands of a block, from which the room of a policy follows, is the number that its code queues.
 pub fn runs_are_queued()
     ensures { RunsAreQueued }
 {}
+
+/// The shared conditions of a policy are distinct, have five instructions or more and are those of two `if`s or more.
+/// They are in the order of their first occurrence. Any other such condition occurs behind 510 shared ones.
+pub fn first_are_shared()
+    ensures { FirstAreShared }
+{
+    instructions_are_read_back();
+}
 
 /// The mask of a part has exactly the tests that its body mentions.
 pub fn active_are_mentioned()
@@ -131,7 +148,11 @@ pub fn replies_of_text<'a>(
     defs: &'a [(&'a str, &'a str)],
     steps: &[Step],
 ) -> Result<Vec<Reply>, CompileFault>
-    ensures { IfOk result (λ replies. RepliesAsText text.now (defined_by defs.now) steps.now replies.items) }
+    ensures replies { IfOk result (λ replies. RepliesAsText text.now (defined_by defs.now) steps.now replies.items) }
+    // An error other than P0 comes only if the text has no policy, or if its code exceeds a limit.
+    ensures refused { IfErr result (λ fault. IsCompileRefusal text.now (defined_by defs.now) fault) }
+    // So each text that compiles gets replies, unless an allocation fails.
+    ensures none { IfErr result (λ fault. fault ≢ Memory → ¬ Compiles text.now (defined_by defs.now)) }
 {
     let mut image = Vec::new(alloc);
     let mut core = match compiled_core(alloc, text, defs, &mut image) {
