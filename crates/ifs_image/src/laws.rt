@@ -2,7 +2,7 @@
 
 ghost use Rattle.std.specs.Prelude.{◌≡◌, List, ℕ, ◌++◌, []};
 ghost use Rattle.ifs_image.specs.declared.parts.ImageParts.{ImageParts};
-ghost use Rattle.ifs_image.specs.Limits.{Fits, InRange};
+ghost use Rattle.ifs_image.specs.Limits.{code_limit, Fits, InRange};
 ghost use Rattle.ifs_image.specs.Spelling.{Spells, image_bytes};
 
 /// No spelling is a prefix of another.
@@ -22,4 +22,10 @@ pub fn one_spelling()
     ensures some { (image : ImageParts) → Fits image → InRange image → Spells (image_bytes image) image }
     ensures only { (image : ImageParts) (bytes other : List ℕ)
         → Spells bytes image → Spells other image → bytes ≡ other }
+{}
+
+/// All routines together have at most 8,192 instructions in version 1, and at most 65,535 in version 2.
+pub fn code_limits()
+    ensures first { code_limit 1 ≡ 8192 }
+    ensures second { code_limit 2 ≡ 65535 }
 {}

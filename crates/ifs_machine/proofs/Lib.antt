@@ -7,3 +7,4 @@ pub mod Shift
 pub mod Loop
 pub mod Within
 pub mod Upgraded
+pub mod Worked

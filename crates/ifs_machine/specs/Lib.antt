@@ -1,5 +1,6 @@
 pub mod Table
 pub mod Run
+pub mod Worked
 pub mod Views
 pub mod inner
 pub use Rattle.ifs_base.specs.Facts

@@ -2,6 +2,7 @@
 
 ghost use Rattle.ifs_machine.specs.Run.{RunsAreUnique, RunsFollow, RunsStayWithin, HandlersEnd};
 ghost use Rattle.ifs_machine.specs.Run.{EmptyQueueHasRoom, UpgradeKeepsRuns};
+ghost use Rattle.ifs_machine.specs.Worked.{JumpsAreWorked};
 
 /// A handler run has one cost and one end.
 #[tactic(auto, using(crate::proofs::After::runs_are_unique))]
@@ -38,4 +39,10 @@ pub fn empty_queue_has_room()
 #[tactic(auto, using(crate::proofs::Upgraded::upgrade_keeps_runs))]
 pub fn upgrade_keeps_runs()
     ensures { UpgradeKeepsRuns }
+{}
+
+/// The conditional jumps, worked out: `jf` takes a truth and jumps if it is false, and `jt` jumps if it is true.
+#[tactic(auto, using(crate::proofs::Worked::jumps_are_worked))]
+pub fn jumps_are_worked()
+    ensures { JumpsAreWorked }
 {}
