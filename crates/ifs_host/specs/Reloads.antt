@@ -1,5 +1,6 @@
 -- Reloads: the core that is opened in place of another, and why there is none.
 use Rattle.std.specs.Prelude.{ℕ, ◌≡◌, List, [], codes}
+use Rattle.ifs_image.specs.declared.parts.ImageParts.{ImageParts}
 use Rattle.ifs_image.specs.Spelling.{Spells}
 use Rattle.ifs_verify.specs.Accepted.{IsAccepted}
 use Rattle.ifs_verify.specs.Refused.{AreNotAccepted, IsRefusal}
@@ -21,10 +22,10 @@ pub record IsTakenOver (core : OpenCore) (bytes : List ℕ) (next : OpenCore) : 
   pub handed_on : IsCarriedFrom core carried
   pub state : (b : Behaviour) → IsBehaviour next.image b → next.state ≡ opened b next.image (known_by carried next.image)
 
--- Why a reload of these bytes is refused: the verifier rejects them with this fault or runs out of memory, or the core cannot carry what it knows.
+-- Why a reload of these bytes is refused: the verifier rejects them with this fault or runs out of memory, or it accepts them and the core cannot carry what it knows.
 abbrev pub IsReloadRefusal : OpenCore → List ℕ → ReloadFault → Type 0
 IsReloadRefusal core bytes (reloads.Image fault) = AreNotAccepted bytes fault × IsRefusal bytes fault
-IsReloadRefusal core bytes (reloads.Carry cause) = CannotCarry core.state.queue cause
+IsReloadRefusal core bytes (reloads.Carry cause) = ((image : ImageParts) × Spells bytes image × IsAccepted image) × CannotCarry core.state.queue cause
 IsReloadRefusal core bytes _ = ⊥
 
 -- The words of a refused reload.

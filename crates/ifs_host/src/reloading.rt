@@ -1,9 +1,10 @@
 //! Reloads: an image is opened in place of the core that runs.
 
-ghost use Rattle.std.specs.Prelude.{◌≡◌, Some, IfOk, IfErr};
+ghost use Rattle.std.specs.Prelude.{◌≡◌, ◌≢◌, ◌≤◌, ◌<◌, ℕ, List, Some, IfOk, IfErr, OnOk};
 ghost use Rattle.ifs_base.specs.FaultTexts.{fault_words};
 ghost use Rattle.ifs_verify.specs.Refused.{AreNotAccepted, IsRefusal};
 ghost use Rattle.ifs_host.specs.Reloads.{IsTakenOver, IsReloadRefusal, reload_words};
+ghost use Rattle.ifs_host.specs.declared.reloading.ReloadFault.TheVariants.{File, TooMany};
 
 use crate::files::{FileFault, regular};
 use bumpalo::Bump;
@@ -73,7 +74,15 @@ pub fn reload<'m, R: Files + Alloc<A = Global>>(
     reloads: u32,
     core: Core<'m>,
 ) -> Result<Core<'m>, ReloadRefused<'m>>
+    // The core of some bytes is opened, as `take_over` says.
+    ensures taken_over { IfOk result (λ next. (bytes : List ℕ) × IsTakenOver core.entry bytes next) }
+    ensures few { OnOk result (reloads < 64) }
     ensures back { IfErr result (λ refused. refused.core ≡ core.entry) }
+    // L3 comes exactly if there were 64 reloads.
+    ensures too_many { IfErr result (λ refused. 64 ≤ reloads → refused.fault ≡ TooMany) }
+    ensures not_too_many { IfErr result (λ refused. refused.fault ≡ TooMany → 64 ≤ reloads) }
+    // Any other fault but L2 is that of some bytes.
+    ensures refused { IfErr result (λ refused. refused.fault ≢ TooMany → refused.fault ≢ File → (bytes : List ℕ) × IsReloadRefusal core.entry bytes refused.fault) }
 {
     if reloads >= RELOADS {
         return Err(ReloadRefused {

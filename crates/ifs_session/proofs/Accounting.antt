@@ -1,6 +1,7 @@
 -- Accounts: each action changes them by its function.
 use Rattle.std.proofs.Common.{◌≡◌, ℕ, ◌-◌, Bool, true, false, cond, nat_lt, ◌<◌, ◌≤◌, length, List, [], ◌∷◌, ◌++◌}
 use Rattle.std.proofs.Common.{Option, Some, None, refl, sym, ap, ◌∙◌, subst, arith}
+use Rattle.std.specs.Prelude.{if◌then◌else◌}
 use Rattle.std.proofs.lemmas.Bool.Decides.{nat_tests}
 use Rattle.ifs_image.specs.declared.parts.ImageParts.{ImageParts}
 use Rattle.ifs_core.specs.declared.step.Step.{Step}
@@ -10,7 +11,7 @@ use Rattle.ifs_core.specs.Event.{Behaviour}
 use Rattle.ifs_core.specs.Steps.{CoreState, turn, after_steps}
 use Rattle.ifs_session.specs.Hosts.{Ending, HostLog, Adds, ran, launched, polled}
 use Rattle.ifs_session.specs.Accounts.{Account, Exchange, attended, listened, takes_of, texts_of, launches_told, made}
-use Rattle.ifs_session.specs.Accounts.{emptied, acted, heard, heard_out, run_ended, runs_ended, served, all_served}
+use Rattle.ifs_session.specs.Accounts.{emptied, acted, heard, heard_out, run_ended, runs_ended, served, all_served, AsksWithRoomFor130}
 use Rattle.ifs_session.specs.inner.Connections.{Progress, HasComeTo, Carries, HasFollowed}
 use Rattle.ifs_session.proofs.Logs.{adds_both}
 
@@ -124,3 +125,9 @@ not_few false steps answer e w few is = is_many steps w
 -- If a poll returned the end of a test, there is enough room.
 pub room_asked : (steps : ℕ) (answer : Option Ending) (e : Ending) → (512 - steps < 130 → answer ≡ None) → answer ≡ Some e → 130 ≤ 512 - steps
 room_asked steps answer e few is = not_few (nat_lt (512 - steps) 130) steps answer e refl few is
+
+pub asks_with_room_for_130 : AsksWithRoomFor130
+asks_with_room_for_130 = record {
+  room = λ a e. ap (λ n. if nat_lt (512 - n) 130 then a else heard None a) e;
+  no_room = λ a e. ap (λ n. if nat_lt (512 - n) 130 then a else heard None a) e;
+}

@@ -1,5 +1,5 @@
 -- Accounts: the effect of a connection's requests and of ends of tests on a core and on a host.
-use Rattle.std.specs.Prelude.{ℕ, ◌-◌, nat_lt, Bool, ◌||◌, if◌then◌else◌, List, [], ◌∷◌, ◌++◌, length, map, slice_get}
+use Rattle.std.specs.Prelude.{ℕ, ◌≡◌, ◌-◌, nat_lt, Bool, ◌||◌, if◌then◌else◌, List, [], ◌∷◌, ◌++◌, length, map, slice_get}
 use Rattle.std.specs.Prelude.{codes, Option, Some, None, unwrap_or, option_map}
 use Rattle.std.specs.Str.{bytes_eq}
 use Rattle.ifs_base.specs.declared.ids.CommandId.{CommandId}
@@ -107,6 +107,11 @@ runs_ended b image (e ∷ es) a = runs_ended b image es (run_ended b image e a)
 -- The last poll, if there is room for at least 130 steps: the host reports no further end.
 abbrev pub heard_out : Account → Account
 heard_out a = if nat_lt (512 - length a.steps) 130 then a else heard None a
+
+-- After 382 of 512 steps there is room for 130, and the host is asked; after 383 it is not.
+pub record AsksWithRoomFor130 : Type 0 where
+  pub room : (a : Account) → length a.steps ≡ 382 → heard_out a ≡ heard None a
+  pub no_room : (a : Account) → length a.steps ≡ 383 → heard_out a ≡ a
 
 -- The step of a request, if it has one, is made, and the queue is emptied.
 abbrev pub acted : Behaviour → ImageParts → Option Step → Account → Account
