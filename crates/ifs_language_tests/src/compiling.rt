@@ -57,6 +57,17 @@ fn opens_a_core(rt: HostRuntime) -> Result<(), Fail> {
     Ok(())
 }
 
+/// A text without a policy gets no core, and leaves the buffer for its image as it was.
+#[test]
+fn a_refused_text_leaves_the_buffer(rt: HostRuntime) -> Result<(), Fail> {
+    let mut image = Vec::new(rt.alloc());
+    image.push(b'x')?;
+    let is_refused = compiled_core(rt.alloc(), "state", &[], &mut image).is_err();
+    same(&rt, is_refused, true);
+    same(&rt, image.as_slice(), b"x".as_slice());
+    Ok(())
+}
+
 fn check_core(rt: &impl Abort, core: &Core<'_>) {
     same(rt, core.image().budgets().cost, 7);
     same(rt, core.state_name(core.state()), Some("a"));
