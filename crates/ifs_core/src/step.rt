@@ -100,7 +100,7 @@ pub enum Outcome {
     NoSuch,
 }
 
-/// The lists of a reply, in a place that the caller lends to each step. A list that the reply does not have is
+/// The lists of a reply, in a place that each step borrows from its caller. A list that the reply does not have is
 /// unspecified.
 #[derive(Debug, Drop)]
 pub struct Lists {

@@ -42,7 +42,7 @@ impl<'a> Core<'a> {
     }
 
     /// Makes the same step, with a reply in two parts: it puts the lists into a borrowed place, and returns the rest.
-    /// A caller that makes many steps lends one place to all of them, and moves no list.
+    /// A caller that makes many steps can pass the same place to each of them, and moves no list.
     pub fn step_into(&mut self, step: Step, lists: &mut Lists) -> Outcome
         ensures image { self.new.image ≡ self.old.image }
         ensures run { (b : Behaviour) → IsBehaviour self.old.image b

@@ -81,7 +81,8 @@ pub fn parse(alloc: Global, tokens: &[Token]) -> Result<Tree, ParseFault>
     // A file that the tokens say is returned, unless an allocation fails.
     ensures only { (file : File) → Says tokens.now file → result ≢ Err Memory → IsOkAnd result (λ tree. tree ≡ file) }
     // Any other fault is at the first token that cannot go on: the tokens before it can, and with it nothing can.
-    // It is P7 or P8 if the token could go on without that limit, and P6 if it could not within any limits.
+    // It is P7 or P8 if the token could go on without that limit. It is P6 if the grammar cannot go on with this token
+    // under any limits.
     ensures stops { IfErr result (λ fault. fault ≢ Memory → StopsAt tokens.now fault) }
     // A fault that is certain before the first allocation is returned, even if allocations fail.
     ensures at_once { (fault : ParseFault) → at_once.certain_of_tokens tokens.now ≡ Some fault → result ≡ Err fault }

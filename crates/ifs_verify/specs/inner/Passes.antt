@@ -251,7 +251,7 @@ pub record LeastDepths (image : ImageParts) (depths : List ℕ) (done : ℕ) : T
   pub held : (routine : ℕ) → routine < done → HoldsDepth image (slice_index depths) routine (slice_index depths routine)
   pub least : (all : ℕ → ℕ) → AreDepths image all → (routine : ℕ) → routine < done → slice_index depths routine ≤ all routine
 
--- Amounts at the places of a routine, the first of which is the routine's.
+-- Amounts at the places of a routine, each large enough. The one at place 0 is that of the routine.
 abbrev pub IsCounted : (Op → ℕ) → ImageParts → (ℕ → ℕ) → ℕ → (ℕ → ℕ) → Type 0
 IsCounted weight image amounts routine by_place = (by_place 0 ≡ amounts routine) × HoldsByPlace weight image amounts routine by_place
 
