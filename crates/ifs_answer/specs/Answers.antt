@@ -20,6 +20,8 @@ use Rattle.ifs_verify.specs.FaultWords.{verify_fault_words}
 use Rattle.ifs_verify.specs.Accepted.{IsAccepted}
 use Rattle.ifs_verify.specs.Refused as verifying
 use Rattle.ifs_verify.specs.declared.fault.VerifyFault.TheVariants.{OutOfMemory}
+use Rattle.ifs_answer.specs.declared.reading.Made.{Made}
+use Rattle.ifs_answer.specs.declared.reading.Made.TheVariants as makes
 use Rattle.ifs_answer.specs.declared.task.Task.{Task}
 use Rattle.ifs_answer.specs.declared.task.Task.TheVariants.{Check, Compile, Verify, Disasm, Asm, Upgrade, Graph}
 use Rattle.ifs_answer.specs.Lines.{budgets_line, size_line, note_lines, counts_line, refusal_line}
@@ -51,6 +53,11 @@ IsAssembled text bytes = (image : ImageParts) × TextSpells text image × Spells
 -- Bytes spell the upgrade of the image that other bytes spell.
 abbrev pub IsUpgraded : List ℕ → List ℕ → Type 0
 IsUpgraded bytes file = (image : ImageParts) × Spells bytes image × Spells file (upgraded image)
+
+-- What is made of the image that bytes spell: its canonical text and no file, or its upgrade as a file, whose text is its length.
+abbrev pub IsMade : Made → List ℕ → Option (List ℕ) → List ℕ → Type 0
+IsMade makes.Listing bytes file text = IsListing bytes text × (file ≡ None)
+IsMade makes.Upgrade bytes file text = IsSomeAnd file (IsUpgraded bytes) × IsSomeAnd file (λ image. text ≡ size_line (length image))
 
 -- Bytes are a text that has a policy under these definitions.
 abbrev pub ArePolicy : List ℕ → List (List ℕ × List ℕ) → Type 0

@@ -2,7 +2,6 @@
 
 ghost use Rattle.std.specs.Prelude.{◌≡◌, ◌≢◌, ◌≤◌, None, option_map, string_bytes, IfOk};
 ghost use Rattle.ifs_answer.specs.Answers.{AreAccepted, AreGood, IsGiven, IsPrinted, IsRefusedBy, Tells, TellsBudgets};
-ghost use Rattle.ifs_answer.specs.Lines.{budgets_line};
 ghost use Rattle.ifs_verify.specs.FaultWords.{verify_fault_words};
 ghost use Rattle.ifs_verify.specs.Refused.{IsRefusal};
 ghost use Rattle.ifs_verify.specs.declared.fault.VerifyFault.TheVariants.{OutOfMemory};
@@ -11,11 +10,9 @@ ghost use Rattle.ifs_lex.specs.Expansion.{defined_by};
 use crate::assembling::asm;
 use crate::checking::{Shown, show};
 use crate::compiling::compile;
-use crate::disassembling::disasm;
 use crate::lines::of_budgets;
+use crate::reading::{Made, make};
 use crate::task::{Answer, Task};
-use crate::upgrading::upgrade;
-use ifs_image::Budgets;
 use ifs_verify::{VerifyFault, verify};
 use std::alloc::{AllocError, Global};
 
@@ -43,9 +40,9 @@ pub fn answer(
         Task::Check => show(alloc, Shown::Counts, input, defs),
         Task::Compile => compile(alloc, input, defs),
         Task::Verify => verified(alloc, input),
-        Task::Disasm => disasm(alloc, input),
+        Task::Disasm => make(alloc, Made::Listing, input),
         Task::Asm => asm(alloc, input),
-        Task::Upgrade => upgrade(alloc, input),
+        Task::Upgrade => make(alloc, Made::Upgrade, input),
         Task::Graph => show(alloc, Shown::Picture, input, defs),
     }
 }
@@ -60,16 +57,8 @@ fn verified(alloc: Global, image: &[u8]) -> Result<Answer, AllocError>
     ensures file { IfOk result (λ answer. answer.file ≡ None) }
 {
     match verify(alloc, image) {
-        Ok(verified) => budgeted(alloc, verified.budgets()),
+        Ok(verified) => Answer::printed(of_budgets(alloc, verified.budgets())),
         Err(VerifyFault::OutOfMemory) => Err(AllocError),
         Err(fault) => Answer::refused(alloc, fault),
     }
-}
-
-/// The answer with an image's budgets.
-fn budgeted(alloc: Global, budgets: Budgets) -> Result<Answer, AllocError>
-    ensures good { IfOk result (λ answer. (answer.status ≡ 0) × (answer.file ≡ None)) }
-    ensures text { IfOk result (λ answer. string_bytes answer.text ≡ budgets_line budgets) }
-{
-    Ok(Answer::good(of_budgets(alloc, budgets)?, None))
 }

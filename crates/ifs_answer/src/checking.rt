@@ -10,7 +10,7 @@ ghost use Rattle.ifs_answer.specs.declared.checking.Shown.TheVariants.{Counts};
 ghost use Rattle.ifs_answer.specs.Lines.{note_lines, counts_line};
 ghost use Rattle.ifs_lex.specs.Expansion.{defined_by};
 
-use crate::graphing::drawn;
+use crate::graphing::picture_of;
 use crate::lines::{of_notes, put_counts};
 use crate::task::Answer;
 use ifs_policy::{PolicyFault, PolicyText, policy_of};
@@ -97,32 +97,30 @@ fn answered(
     ensures good { IfOk result (λ answer. (answer.status ≡ 0) × (answer.file ≡ None)) }
     ensures counts { shown ≡ Counts → IfOk result (λ answer. string_bytes answer.text ≡ note_lines found.tree.notes ++ counts_line found.policy.tables) }
 {
-    told(alloc, shown, text, defs, &found)
+    Answer::printed(shown_text(alloc, shown, text, defs, &found))
 }
 
-/// The same for a policy that is borrowed.
-fn told(
+/// What is printed of a policy.
+fn shown_text(
     alloc: Global,
     shown: Shown,
     text: &str,
     defs: &[(&str, &str)],
     found: &PolicyText,
-) -> Result<Answer, AllocError>
-    ensures good { IfOk result (λ answer. (answer.status ≡ 0) × (answer.file ≡ None)) }
-    ensures counts { shown ≡ Counts → IfOk result (λ answer. string_bytes answer.text ≡ note_lines found.now.tree.notes ++ counts_line found.now.policy.tables) }
+) -> Result<String, AllocError>
+    ensures { shown ≡ Counts → IfOk result (λ lines. string_bytes lines ≡ note_lines found.now.tree.notes ++ counts_line found.now.policy.tables) }
 {
     match shown {
-        Shown::Counts => counted(alloc, found),
-        Shown::Picture => drawn(alloc, text, defs, &found.policy),
+        Shown::Counts => counts_of(alloc, found),
+        Shown::Picture => picture_of(alloc, text, defs, &found.policy),
     }
 }
 
-/// The answer with the notes on a policy and the numbers of its names.
-fn counted(alloc: Global, found: &PolicyText) -> Result<Answer, AllocError>
-    ensures good { IfOk result (λ answer. (answer.status ≡ 0) × (answer.file ≡ None)) }
-    ensures text { IfOk result (λ answer. string_bytes answer.text ≡ note_lines found.now.tree.notes ++ counts_line found.now.policy.tables) }
+/// The notes on a policy and the numbers of its names.
+fn counts_of(alloc: Global, found: &PolicyText) -> Result<String, AllocError>
+    ensures { IfOk result (λ lines. string_bytes lines ≡ note_lines found.now.tree.notes ++ counts_line found.now.policy.tables) }
 {
     let mut lines = of_notes(alloc, found.tree.notes())?;
     put_counts(&mut lines, &found.policy)?;
-    Ok(Answer::good(lines, None))
+    Ok(lines)
 }

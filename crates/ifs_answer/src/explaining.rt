@@ -94,7 +94,7 @@ impl<'r> Story<'r> {
         self.text.push_str(if changed { "* at " } else { "  at " })?;
         self.text.push_str(self.moment)?;
         self.text.push(' ')?;
-        put_happened(&mut self.text, image, entry.happened)?;
+        entry.happened.put_named(&mut self.text, image)?;
         self.put_outcome(&entry, changed)?;
         self.know(entry.state)
     }
@@ -135,7 +135,8 @@ fn requests_of(alloc: Global, image: &ImageView<'_>, reply: &str) -> Result<Stri
     let mut requests = String::new(alloc);
     for line in reply.lines() {
         if let Some(entry) = entry_of(line) {
-            put_request(&mut requests, image, entry.happened)?;
+            entry.happened.put_request(&mut requests, image)?;
+            requests.push('\n')?;
         }
     }
     Ok(requests)
@@ -200,47 +201,40 @@ fn happened_of(step: &str) -> Option<Happened<'_>> {
     }
 }
 
-/// Adds a step, with names.
-fn put_happened(
-    text: &mut String,
-    image: &ImageView<'_>,
-    happened: Happened<'_>,
-) -> Result<(), AllocError> {
-    match happened {
-        Happened::Link { interface, state } => match interface_of(image, interface) {
-            Some(name) => write!(text, "link {} {state}", Quoted(name))?,
-            None => write!(text, "link {interface} {state}")?,
-        },
-        Happened::Result { test, run } => match test_of(image, test) {
-            Some((command, period)) => write!(
-                text,
-                "result {} every {period} run {run}",
-                Quoted(command)
-            )?,
-            None => write!(text, "result {test} run {run}")?,
-        },
-        Happened::Tick { moment } => write!(text, "tick {moment}")?,
-        Happened::Take => text.push_str("take")?,
-    }
-    Ok(())
-}
-
-/// Adds the request line that makes a step.
-fn put_request(
-    requests: &mut String,
-    image: &ImageView<'_>,
-    happened: Happened<'_>,
-) -> Result<(), AllocError> {
-    match happened {
-        Happened::Link { interface, state } => {
-            let name = interface_of(image, interface).unwrap_or(interface);
-            writeln!(requests, "link {name} {state}")?;
+impl Happened<'_> {
+    /// Adds the step, with names.
+    fn put_named(self, text: &mut String, image: &ImageView<'_>) -> Result<(), AllocError> {
+        match self {
+            Happened::Link { interface, state } => match interface_of(image, interface) {
+                Some(name) => write!(text, "link {} {state}", Quoted(name))?,
+                None => write!(text, "link {interface} {state}")?,
+            },
+            Happened::Result { test, run } => match test_of(image, test) {
+                Some((command, period)) => write!(
+                    text,
+                    "result {} every {period} run {run}",
+                    Quoted(command)
+                )?,
+                None => write!(text, "result {test} run {run}")?,
+            },
+            Happened::Tick { .. } | Happened::Take => self.put_request(text, image)?,
         }
-        Happened::Result { test, run } => writeln!(requests, "result {test} {run}")?,
-        Happened::Tick { moment } => writeln!(requests, "tick {moment}")?,
-        Happened::Take => requests.push_str("take\n")?,
+        Ok(())
     }
-    Ok(())
+
+    /// Adds the request that makes the step.
+    fn put_request(self, text: &mut String, image: &ImageView<'_>) -> Result<(), AllocError> {
+        match self {
+            Happened::Link { interface, state } => {
+                let name = interface_of(image, interface).unwrap_or(interface);
+                write!(text, "link {name} {state}")?;
+            }
+            Happened::Result { test, run } => write!(text, "result {test} {run}")?,
+            Happened::Tick { moment } => write!(text, "tick {moment}")?,
+            Happened::Take => text.push_str("take")?,
+        }
+        Ok(())
+    }
 }
 
 /// The name of the interface of this number.

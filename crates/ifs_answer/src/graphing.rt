@@ -1,28 +1,14 @@
 //! Pictures of the states of a policy, in the language of graphviz.
 
-ghost use Rattle.std.specs.Prelude.{◌≡◌, None, IfOk};
-
 use crate::edges::{Edges, Source};
 use crate::labels::put_label;
-use crate::task::Answer;
 use ifs_lex::tokens;
 use ifs_policy::Policy;
 use std::alloc::{AllocError, Global};
 
-/// The answer with a policy's picture: a node for each state, with two borders for the initial one, and an edge for each
-/// `set-state`, with its conditions. Those outside any state start at one node.
-pub(crate) fn drawn(
-    alloc: Global,
-    text: &str,
-    defs: &[(&str, &str)],
-    policy: &Policy,
-) -> Result<Answer, AllocError>
-    ensures good { IfOk result (λ answer. (answer.status ≡ 0) × (answer.file ≡ None)) }
-{
-    Ok(Answer::good(picture_of(alloc, text, defs, policy)?, None))
-}
-
-fn picture_of(
+/// A policy's picture: a node for each state, with two borders for the initial one, and an edge for each `set-state`, with its
+/// conditions. Those outside any state start at one node.
+pub(crate) fn picture_of(
     alloc: Global,
     text: &str,
     defs: &[(&str, &str)],

@@ -8,14 +8,13 @@ mod answering;
 mod assembling;
 mod checking;
 mod compiling;
-mod disassembling;
 mod edges;
 mod explaining;
 mod graphing;
 mod labels;
 mod lines;
+mod reading;
 mod task;
-mod upgrading;
 
 pub use answering::answer;
 pub use explaining::{Explained, explain};

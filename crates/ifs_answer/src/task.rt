@@ -1,6 +1,6 @@
 //! Tasks on the bytes of a file, and their answers.
 
-ghost use Rattle.std.specs.Prelude.{◌≡◌, None, length, option_map, string_bytes, IfOk, IfSome, IsSomeAnd};
+ghost use Rattle.std.specs.Prelude.{◌≡◌, None, Ok, length, option_map, string_bytes, IfOk, IfSome, IsSomeAnd};
 ghost use Rattle.ifs_image.specs.Spelling.{Spells};
 ghost use Rattle.ifs_answer.specs.Faults.{memory_words};
 ghost use Rattle.ifs_answer.specs.Lines.{refusal_line, size_line};
@@ -63,6 +63,13 @@ impl Answer {
             text,
             file,
         }
+    }
+
+    /// The answer to valid bytes with this text and no file. It fails if making the text did.
+    pub(crate) fn printed(text: Result<String, AllocError>) -> Result<Answer, AllocError>
+        ensures { IfOk result (λ answer. (answer.status ≡ 0) × (Ok answer.text ≡ text) × (answer.file ≡ None)) }
+    {
+        Ok(Answer::good(text?, None))
     }
 
     /// The answer with the bytes of an image as its file. Its text is their number.
