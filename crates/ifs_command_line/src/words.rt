@@ -46,7 +46,7 @@ const READ: &str = "a file of at most 16,777,216 bytes";
 
 /// The help on a file to write.
 const WRITTEN: &str =
-    "the file that is written, whole or not at all; what is no regular file is written as it stands";
+    "the file that is written, whole or not at all; what is no regular file is written in place";
 
 /// The help on the time limit of a reply.
 const WAITED: &str = "end with status 3 where the reply does not come whole in this time";
@@ -86,7 +86,7 @@ const NEW_IMAGE: Part = Part::Operand {
 const WORDS: &[Word] = &[
     Word {
         name: "check",
-        about: "Tell whether a file is a policy, with notes on what is easily misread",
+        about: "Check whether a file is a policy, with notes on what is easily misread",
         parts: &[POLICY, Part::Definitions],
     },
     Word {
@@ -180,7 +180,7 @@ const WORDS: &[Word] = &[
     },
     Word {
         name: "explain",
-        about: "Print where the daemon of a Unix socket stands and what it did, with the names of its image",
+        about: "Print the state of the daemon of a Unix socket and what it did, with the names of its image",
         parts: &[
             IMAGE_FILE,
             Part::Socket {
