@@ -123,27 +123,22 @@ class TextChanger(Changer):
         place = self.chance.choice(self.places_of(b"{}()"))
         self.replaced(place, 0, self.data[place : place + 1])
 
-    def lines(self):
-        """A line dropped, doubled, or exchanged with another one."""
-        lines = self.data.split(b"\n")
-        one, other = self.below(len(lines)), self.below(len(lines))
+    def parts(self, sign):
+        """One of the parts between such signs dropped, doubled, or exchanged with another one."""
+        parts = self.data.split(sign)
+        one, other = self.below(len(parts)), self.below(len(parts))
         kind = self.below(3)
         if kind < 2:
-            lines[one : one + 1] = [lines[one]] * (2 * kind)
+            parts[one : one + 1] = [parts[one]] * (2 * kind)
         else:
-            lines[one], lines[other] = lines[other], lines[one]
-        self.data = b"\n".join(lines)
+            parts[one], parts[other] = parts[other], parts[one]
+        self.data = sign.join(parts)
+
+    def lines(self):
+        self.parts(b"\n")
 
     def words(self):
-        """A word dropped, doubled, or exchanged with another one."""
-        words = self.data.split(b" ")
-        one, other = self.below(len(words)), self.below(len(words))
-        kind = self.below(3)
-        if kind < 2:
-            words[one : one + 1] = [words[one]] * (2 * kind)
-        else:
-            words[one], words[other] = words[other], words[one]
-        self.data = b" ".join(words)
+        self.parts(b" ")
 
     def piece(self):
         """A piece put in, at a blank or anywhere."""

@@ -53,6 +53,7 @@ SMALLEST_LINES = [
 # without a routine, which the verifier and not the assembler refuses
 WITHOUT_ROUTINES = SMALLEST[:23] + b"\0\0" + SMALLEST[25:-7]
 OLD = b"what stood there"
+TOO_LARGE = "too large"
 MISSING = "No such file or directory (os error 2)"
 FULL = "No space left on device (os error 28)"
 NOTE = "note line 1: || and && without parentheses\n"
@@ -105,78 +106,90 @@ def undefined(word):
             f"\n\nUsage: ifsvm [COMMAND]{TRY}")
 
 
-# words; what stands in the folder before; status, standard output, standard error; what stands there then
-WRITING = [
-    ("compile first made/image", {}, 0, "ok 113 bytes\n", "", {"image": FIRST}),
-    ("compile first made/image", {"image": OLD}, 0, "ok 113 bytes\n", "", {"image": FIRST}),
-    ("compile first made/image", {"image.1.new": OLD}, 0, "ok 113 bytes\n", "", {"image": FIRST, "image.1.new": OLD}),
-    ("compile made/first made/first", {"first": TEXTS["first"].encode()}, 0, "ok 113 bytes\n", "", {"first": FIRST}),
-    ("compile twice made/image", {"image": OLD}, 1, "refused P10 line 2\n", "", {"image": OLD}),
-    ("compile twice nowhere/image", {}, 1, "refused P10 line 2\n", "", {}),
-    ("compile one_over made/image", {"image": OLD}, 1, "refused G4\n", "", {"image": OLD}),
-    ("compile long made/image", {}, 1, "refused G1 routine 2\n", "", {}),
-    ("compile waiting made/image", {}, 1, "refused G3 routine 3\n", "", {}),
-    ("compile empty made/image", {}, 1, "refused P9 line 1\n", "", {}),
-    ("compile bytes made/image", {"image": OLD}, 1, "refused P1 line 3\n", "", {"image": OLD}),
-    ("compile bytes made/image -D x=&", {}, 1, "refused P1 line 3\n", "", {}),
-    ("compile longest made/image", {}, 1, "refused P5 line 1\n", "", {}),
-    ("compile outside made/image -D y=&", {}, 1, "refused P4 line 0\n", "", {}),
-    ("compile longer made/image", {"image": OLD}, 3, "", "device longer: too large\n", {"image": OLD}),
-    ("compile missing made/image", {}, 3, "", f"device missing: {MISSING}\n", {}),
-    ("compile first nowhere/image", {}, 3, "", f"device nowhere/image: {MISSING}\n", {}),
-    ("compile first made", {}, 3, "", "device made: Is a directory (os error 21)\n", {}),
-    ("compile first first/image", {}, 3, "", "device first/image: Not a directory (os error 20)\n", {}),
-    ("compile first /dev/full", {}, 3, "", f"device /dev/full: {FULL}\n", {}),
-    ("compile first /dev/null", {}, 0, "ok 113 bytes\n", "", {}),
-    ("compile binding /dev/full", {}, 3, "", f"device /dev/full: {FULL}\n", {}),
-    ("compile", {}, 2, "", missing("compile", "<FILE> <IMAGE>", "FILE", "IMAGE"), {}),
-    ("compile first", {}, 2, "", missing("compile", "<FILE> <IMAGE>", "IMAGE"), {}),
-    ("compile missing nowhere/image -D x", {}, 2, "", undefined("x"), {}),
-    ("compile first made/image -D 1x=a", {"image": OLD}, 2, "", undefined("1x=a"), {"image": OLD}),
-    ("asm smallest made/image", {}, 0, "ok 61 bytes\n", "", {"image": SMALLEST}),
-    ("asm smallest made/image", {"image": OLD}, 0, "ok 61 bytes\n", "", {"image": SMALLEST}),
-    ("asm loose made/image", {}, 0, "ok 61 bytes\n", "", {"image": SMALLEST}),
-    ("asm eight made/image", {}, 0, "ok 54 bytes\n", "", {"image": WITHOUT_ROUTINES}),
-    ("asm empty made/image", {"image": OLD}, 1, "refused A3 line 1\n", "", {"image": OLD}),
-    ("asm version made/image", {}, 1, "refused A1 line 9\n", "", {}),
-    ("asm third made/image", {}, 1, "refused A1 line 1\n", "", {}),
-    ("asm second made/image", {}, 0, "ok 62 bytes\n", "", {"image": UPGRADED}),
-    ("asm first_form made/image", {"image": OLD}, 1, "refused A1 line 9\n", "", {"image": OLD}),
-    ("asm given made/image", {}, 0, "ok 106 bytes\n", "", {"image": GIVEN}),
-    ("asm given_five made/image", {}, 1, "refused A2 line 11\n", "", {}),
-    ("asm given_what made/image", {}, 1, "refused A1 line 11\n", "", {}),
-    ("asm stack made/image", {}, 1, "refused A2 line 2\n", "", {}),
-    ("asm no_stack made/image", {}, 1, "refused A3 line 2\n", "", {}),
-    ("asm seven made/image", {}, 1, "refused A3 line 8\n", "", {}),
-    ("asm capital nowhere/image", {}, 1, "refused A1 line 10\n", "", {}),
-    ("asm bytes made/image", {"image": OLD}, 1, "refused A1 line 3\n", "", {"image": OLD}),
-    ("asm longest made/image", {}, 1, "refused A1 line 1\n", "", {}),
-    ("asm longer made/image", {}, 3, "", "device longer: too large\n", {}),
-    ("asm missing made/image", {}, 3, "", f"device missing: {MISSING}\n", {}),
-    ("asm smallest nowhere/image", {}, 3, "", f"device nowhere/image: {MISSING}\n", {}),
-    ("asm smallest /dev/full", {}, 3, "", f"device /dev/full: {FULL}\n", {}),
-    ("asm smallest", {}, 2, "", missing("asm", "<FILE> <IMAGE>", "IMAGE"), {}),
-    ("asm smallest made/image more", {}, 2, "", "error: unexpected argument 'more' found\n\n"
-     f"Usage: ifsvm asm <FILE> <IMAGE>{TRY}", {}),
-    ("upgrade good made/image", {}, 0, "ok 62 bytes\n", "", {"image": UPGRADED}),
-    ("upgrade good made/image", {"image": OLD}, 0, "ok 62 bytes\n", "", {"image": UPGRADED}),
-    ("upgrade made/image made/image", {"image": SMALLEST}, 0, "ok 62 bytes\n", "", {"image": UPGRADED}),
-    ("upgrade made/old made/image", {"old": UPGRADED}, 0, "ok 62 bytes\n", "", {"old": UPGRADED, "image": UPGRADED}),
-    ("upgrade made/old made/image", {"old": GIVEN}, 0, "ok 106 bytes\n", "", {"old": GIVEN, "image": GIVEN}),
-    ("upgrade cheap made/image", {}, 0, "ok 62 bytes\n", "", {"image": UPGRADED[:12] + b"\2" + UPGRADED[13:]}),
-    ("upgrade made/old made/image", {"old": WITHOUT_ROUTINES}, 0, "ok 54 bytes\n", "",
+def unexpected(usage):
+    return f"error: unexpected argument 'more' found\n\nUsage: ifsvm {usage}{TRY}"
+
+
+# runs that write a file: words; what stands in the folder before; the bytes that are told; what stands there then
+WRITTEN = [
+    ("compile first made/image", {}, 113, {"image": FIRST}),
+    ("compile first made/image", {"image": OLD}, 113, {"image": FIRST}),
+    ("compile first made/image", {"image.1.new": OLD}, 113, {"image": FIRST, "image.1.new": OLD}),
+    ("compile made/first made/first", {"first": TEXTS["first"].encode()}, 113, {"first": FIRST}),
+    ("compile first /dev/null", {}, 113, {}),
+    ("asm smallest made/image", {}, 61, {"image": SMALLEST}),
+    ("asm smallest made/image", {"image": OLD}, 61, {"image": SMALLEST}),
+    ("asm loose made/image", {}, 61, {"image": SMALLEST}),
+    ("asm eight made/image", {}, 54, {"image": WITHOUT_ROUTINES}),
+    ("asm second made/image", {}, 62, {"image": UPGRADED}),
+    ("asm given made/image", {}, 106, {"image": GIVEN}),
+    ("upgrade good made/image", {}, 62, {"image": UPGRADED}),
+    ("upgrade good made/image", {"image": OLD}, 62, {"image": UPGRADED}),
+    ("upgrade made/image made/image", {"image": SMALLEST}, 62, {"image": UPGRADED}),
+    ("upgrade made/old made/image", {"old": UPGRADED}, 62, {"old": UPGRADED, "image": UPGRADED}),
+    ("upgrade made/old made/image", {"old": GIVEN}, 106, {"old": GIVEN, "image": GIVEN}),
+    ("upgrade cheap made/image", {}, 62, {"image": UPGRADED[:12] + b"\2" + UPGRADED[13:]}),
+    ("upgrade made/old made/image", {"old": WITHOUT_ROUTINES}, 54,
      {"old": WITHOUT_ROUTINES, "image": WITHOUT_ROUTINES[:4] + b"\2" + WITHOUT_ROUTINES[5:]}),
-    ("upgrade empty made/image", {"image": OLD}, 1, "refused I1 byte 0\n", "", {"image": OLD}),
-    ("upgrade made/old made/image", {"old": SMALLEST[:4] + b"\3"}, 1, "refused I3 byte 4\n", "", {"old": SMALLEST[:4] + b"\3"}),
-    ("upgrade longest made/image", {}, 1, "refused I2 byte 0\n", "", {}),
-    ("upgrade longer made/image", {"image": OLD}, 3, "", "device longer: too large\n", {"image": OLD}),
-    ("upgrade missing made/image", {}, 3, "", f"device missing: {MISSING}\n", {}),
-    ("upgrade good nowhere/image", {}, 3, "", f"device nowhere/image: {MISSING}\n", {}),
-    ("upgrade good /dev/full", {}, 3, "", f"device /dev/full: {FULL}\n", {}),
-    ("upgrade", {}, 2, "", missing("upgrade", "<IMAGE> <OUT>", "IMAGE", "OUT"), {}),
-    ("upgrade good", {}, 2, "", missing("upgrade", "<IMAGE> <OUT>", "OUT"), {}),
-    ("upgrade good made/image more", {}, 2, "", "error: unexpected argument 'more' found\n\n"
-     f"Usage: ifsvm upgrade <IMAGE> <OUT>{TRY}", {}),
+]
+# runs that write nothing, so that the folder stays as it is: words; what stands in the folder
+# the refusal
+REFUSED = [
+    ("compile twice made/image", {"image": OLD}, "P10 line 2"),
+    ("compile twice nowhere/image", {}, "P10 line 2"),
+    ("compile one_over made/image", {"image": OLD}, "G4"),
+    ("compile long made/image", {}, "G1 routine 2"),
+    ("compile waiting made/image", {}, "G3 routine 3"),
+    ("compile empty made/image", {}, "P9 line 1"),
+    ("compile bytes made/image", {"image": OLD}, "P1 line 3"),
+    ("compile bytes made/image -D x=&", {}, "P1 line 3"),
+    ("compile longest made/image", {}, "P5 line 1"),
+    ("compile outside made/image -D y=&", {}, "P4 line 0"),
+    ("asm empty made/image", {"image": OLD}, "A3 line 1"),
+    ("asm version made/image", {}, "A1 line 9"),
+    ("asm third made/image", {}, "A1 line 1"),
+    ("asm first_form made/image", {"image": OLD}, "A1 line 9"),
+    ("asm given_five made/image", {}, "A2 line 11"),
+    ("asm given_what made/image", {}, "A1 line 11"),
+    ("asm stack made/image", {}, "A2 line 2"),
+    ("asm no_stack made/image", {}, "A3 line 2"),
+    ("asm seven made/image", {}, "A3 line 8"),
+    ("asm capital nowhere/image", {}, "A1 line 10"),
+    ("asm bytes made/image", {"image": OLD}, "A1 line 3"),
+    ("asm longest made/image", {}, "A1 line 1"),
+    ("upgrade empty made/image", {"image": OLD}, "I1 byte 0"),
+    ("upgrade made/old made/image", {"old": SMALLEST[:4] + b"\3"}, "I3 byte 4"),
+    ("upgrade longest made/image", {}, "I2 byte 0"),
+]
+# the file at fault, and what is wrong with it
+FAILED = [
+    ("compile longer made/image", {"image": OLD}, "longer", TOO_LARGE),
+    ("compile missing made/image", {}, "missing", MISSING),
+    ("compile first nowhere/image", {}, "nowhere/image", MISSING),
+    ("compile first made", {}, "made", "Is a directory (os error 21)"),
+    ("compile first first/image", {}, "first/image", "Not a directory (os error 20)"),
+    ("compile first /dev/full", {}, "/dev/full", FULL),
+    ("compile binding /dev/full", {}, "/dev/full", FULL),
+    ("asm longer made/image", {}, "longer", TOO_LARGE),
+    ("asm missing made/image", {}, "missing", MISSING),
+    ("asm smallest nowhere/image", {}, "nowhere/image", MISSING),
+    ("asm smallest /dev/full", {}, "/dev/full", FULL),
+    ("upgrade longer made/image", {"image": OLD}, "longer", TOO_LARGE),
+    ("upgrade missing made/image", {}, "missing", MISSING),
+    ("upgrade good nowhere/image", {}, "nowhere/image", MISSING),
+    ("upgrade good /dev/full", {}, "/dev/full", FULL),
+]
+# what is said of the words
+MISUSED = [
+    ("compile", {}, missing("compile", "<FILE> <IMAGE>", "FILE", "IMAGE")),
+    ("compile first", {}, missing("compile", "<FILE> <IMAGE>", "IMAGE")),
+    ("compile missing nowhere/image -D x", {}, undefined("x")),
+    ("compile first made/image -D 1x=a", {"image": OLD}, undefined("1x=a")),
+    ("asm smallest", {}, missing("asm", "<FILE> <IMAGE>", "IMAGE")),
+    ("asm smallest made/image more", {}, unexpected("asm <FILE> <IMAGE>")),
+    ("upgrade", {}, missing("upgrade", "<IMAGE> <OUT>", "IMAGE", "OUT")),
+    ("upgrade good", {}, missing("upgrade", "<IMAGE> <OUT>", "OUT")),
+    ("upgrade good made/image more", {}, unexpected("upgrade <IMAGE> <OUT>")),
 ]
 # policies with notes, which stand before the last line
 NOTED = [("compile binding made/image", NOTE + "ok 131 bytes\n"), ("compile none_told made/image", "ok 597 bytes\n")]
@@ -210,8 +223,20 @@ def mode(path):
     return stat.S_IMODE(os.stat(path).st_mode)
 
 
+def rows():
+    """Words; what stands in the folder before; status, standard output, standard error; what stands there then."""
+    for words, before, size, after in WRITTEN:
+        yield words, before, 0, f"ok {size} bytes\n", "", after
+    for words, before, refusal in REFUSED:
+        yield words, before, 1, f"refused {refusal}\n", "", before
+    for words, before, error in MISUSED:
+        yield words, before, 2, "", error, before
+    for words, before, file, cause in FAILED:
+        yield words, before, 3, "", f"device {file}: {cause}\n", before
+
+
 def table(program):
-    for words, before, status, output, error, after in WRITING:
+    for words, before, status, output, error, after in rows():
         make(before)
         ran = run(program, words, stdin=subprocess.DEVNULL, stdout=subprocess.PIPE)
         yield f"ifsvm {words}", (*ran, made()), (status, output.encode(), error.encode(), after)
