@@ -132,8 +132,7 @@ WRITTEN = [
     ("upgrade made/old made/image", {"old": WITHOUT_ROUTINES}, 54,
      {"old": WITHOUT_ROUTINES, "image": WITHOUT_ROUTINES[:4] + b"\2" + WITHOUT_ROUTINES[5:]}),
 ]
-# runs that write nothing, so that the folder stays as it is: words; what stands in the folder
-# the refusal
+# runs that are refused, and leave the folder as it is: words; what stands in the folder; the refusal
 REFUSED = [
     ("compile twice made/image", {"image": OLD}, "P10 line 2"),
     ("compile twice nowhere/image", {}, "P10 line 2"),
@@ -161,7 +160,7 @@ REFUSED = [
     ("upgrade made/old made/image", {"old": SMALLEST[:4] + b"\3"}, "I3 byte 4"),
     ("upgrade longest made/image", {}, "I2 byte 0"),
 ]
-# the file at fault, and what is wrong with it
+# the same of runs that fail at a file: its name, and what is wrong with it
 FAILED = [
     ("compile longer made/image", {"image": OLD}, "longer", TOO_LARGE),
     ("compile missing made/image", {}, "missing", MISSING),
@@ -179,7 +178,7 @@ FAILED = [
     ("upgrade good nowhere/image", {}, "nowhere/image", MISSING),
     ("upgrade good /dev/full", {}, "/dev/full", FULL),
 ]
-# what is said of the words
+# the same of words that are no request: what is said of them
 MISUSED = [
     ("compile", {}, missing("compile", "<FILE> <IMAGE>", "FILE", "IMAGE")),
     ("compile first", {}, missing("compile", "<FILE> <IMAGE>", "IMAGE")),
