@@ -71,27 +71,33 @@ def smallest(number=0, *others):
     return lines(*changed)
 
 
+# texts that are refused: the word, the name of the file, the text, the refusal
+REFUSED_TEXTS = [
+    ("compile", "long", 'state a { init { ' + 'run "x" ' * 512 + "} }\n", "G1 routine 2"),
+    ("compile", "waiting", "state a { if " + "x.link.up && ( " * 31 + "y.link.up && z.link.up" + " )" * 31 + ' run "x" }\n',
+     "G3 routine 3"),
+    ("asm", "version", smallest(1, "ifsv 2"), "A1 line 9"),
+    ("asm", "third", smallest(1, "ifsv 3"), "A1 line 1"),
+    ("asm", "given_five", lines(*GIVEN_LINES).replace("params command", "params command,command,truth,truth,state"),
+     "A2 line 11"),
+    ("asm", "given_what", lines(*GIVEN_LINES).replace("params command", "params commands"), "A1 line 11"),
+    ("asm", "stack", smallest(2, "stack 33"), "A2 line 2"),
+    ("asm", "no_stack", smallest(2), "A3 line 2"),
+    ("asm", "seven", lines(*SMALLEST_LINES[:7]), "A3 line 8"),
+]
 # texts of files by their names
 TEXTS = {
     "first": 'state a { if carp0.link.up run "echo m" }\n',
     "none_told": 'state a { init { ' + 'run "x" ' * 64 + "} }\n",
     "one_over": 'state a { init { ' + 'run "x" ' * 65 + "} }\n",
-    "long": 'state a { init { ' + 'run "x" ' * 512 + "} }\n",
-    "waiting": "state a { if " + "x.link.up && ( " * 31 + "y.link.up && z.link.up" + " )" * 31 + ' run "x" }\n',
     "smallest": smallest(),
     "loose": "; the smallest\n\n" + smallest().replace(" ", " \t").replace("init 0", "init 000").rstrip("\n"),
-    "version": smallest(1, "ifsv 2"),
-    "third": smallest(1, "ifsv 3"),
     "second": smallest(1, "ifsv 2").replace("routine results 0", "routine params - results -"),
     "first_form": smallest(9, "routine params - results -"),
     "given": lines(*GIVEN_LINES),
-    "given_five": lines(*GIVEN_LINES).replace("params command", "params command,command,truth,truth,state"),
-    "given_what": lines(*GIVEN_LINES).replace("params command", "params commands"),
-    "stack": smallest(2, "stack 33"),
-    "no_stack": smallest(2),
     "capital": smallest(10, "Ret"),
-    "seven": lines(*SMALLEST_LINES[:7]),
     "eight": lines(*SMALLEST_LINES[:8]),
+    **{name: text for _, name, text, _ in REFUSED_TEXTS},
 }
 TRY = "\n\nFor more information, try '--help'.\n"
 
@@ -132,27 +138,18 @@ WRITTEN = [
     ("upgrade made/old made/image", {"old": WITHOUT_ROUTINES}, 54,
      {"old": WITHOUT_ROUTINES, "image": WITHOUT_ROUTINES[:4] + b"\2" + WITHOUT_ROUTINES[5:]}),
 ]
-# runs that are refused, and leave the folder as it is: words; what stands in the folder; the refusal
+# further runs that are refused, and leave the folder as it is: words; what stands in the folder; the refusal
 REFUSED = [
     ("compile twice made/image", {"image": OLD}, "P10 line 2"),
     ("compile twice nowhere/image", {}, "P10 line 2"),
     ("compile one_over made/image", {"image": OLD}, "G4"),
-    ("compile long made/image", {}, "G1 routine 2"),
-    ("compile waiting made/image", {}, "G3 routine 3"),
     ("compile empty made/image", {}, "P9 line 1"),
     ("compile bytes made/image", {"image": OLD}, "P1 line 3"),
     ("compile bytes made/image -D x=&", {}, "P1 line 3"),
     ("compile longest made/image", {}, "P5 line 1"),
     ("compile outside made/image -D y=&", {}, "P4 line 0"),
     ("asm empty made/image", {"image": OLD}, "A3 line 1"),
-    ("asm version made/image", {}, "A1 line 9"),
-    ("asm third made/image", {}, "A1 line 1"),
     ("asm first_form made/image", {"image": OLD}, "A1 line 9"),
-    ("asm given_five made/image", {}, "A2 line 11"),
-    ("asm given_what made/image", {}, "A1 line 11"),
-    ("asm stack made/image", {}, "A2 line 2"),
-    ("asm no_stack made/image", {}, "A3 line 2"),
-    ("asm seven made/image", {}, "A3 line 8"),
     ("asm capital nowhere/image", {}, "A1 line 10"),
     ("asm bytes made/image", {"image": OLD}, "A1 line 3"),
     ("asm longest made/image", {}, "A1 line 1"),
@@ -226,7 +223,8 @@ def rows():
     """Words; what stands in the folder before; status, standard output, standard error; what stands there then."""
     for words, before, size, after in WRITTEN:
         yield words, before, 0, f"ok {size} bytes\n", "", after
-    for words, before, refusal in REFUSED:
+    refused = [(f"{word} {name} made/image", {}, refusal) for word, name, _, refusal in REFUSED_TEXTS]
+    for words, before, refusal in refused + REFUSED:
         yield words, before, 1, f"refused {refusal}\n", "", before
     for words, before, error in MISUSED:
         yield words, before, 2, "", error, before
