@@ -31,6 +31,11 @@ impl Turn {
         Turn { alloc, growth }
     }
 
+    /// The number of the allocation.
+    pub fn growth(self) -> u32 {
+        self.growth
+    }
+
     /// The allocator before and after the call.
     pub fn alloc(self) -> Global {
         self.alloc

@@ -1,66 +1,39 @@
 //! Calls of `answer` for each word on files, and of `whole`, which reads a file.
 
 use crate::allocations::{Code, Turn, code_of, no_memory};
-use crate::calls::{Given, Listed};
+use crate::calls::tried;
+use crate::failure::Failure;
 use crate::images::Images;
 use crate::policies::{definitions, text};
 use ifs_answer::{Answer, Task, answer};
 use ifs_host::files::{FileFault, whole};
-use std::alloc::Global;
 
-/// A call.
+/// A task on the bytes of a file.
 #[derive(Clone, Copy)]
-pub enum Call {
-    Answer(Task),
-    Whole,
+struct Asked<'a> {
+    task: Task,
+    input: &'a [u8],
 }
 
-/// All calls.
-pub fn calls() -> [Listed<Call>; 8] {
-    [
-        Listed::new(Call::Answer(Task::Check), "answer on check", "AllocError"),
-        Listed::new(
-            Call::Answer(Task::Compile),
-            "answer on compile",
-            "AllocError",
-        ),
-        Listed::new(Call::Answer(Task::Verify), "answer on verify", "AllocError"),
-        Listed::new(Call::Answer(Task::Disasm), "answer on disasm", "AllocError"),
-        Listed::new(Call::Answer(Task::Asm), "answer on asm", "AllocError"),
-        Listed::new(
-            Call::Answer(Task::Upgrade),
-            "answer on upgrade",
-            "AllocError",
-        ),
-        Listed::new(Call::Answer(Task::Graph), "answer on graph", "AllocError"),
-        Listed::new(Call::Whole, "files::whole", "Memory"),
-    ]
-}
-
-/// Their inputs.
-#[derive(Drop)]
-pub struct Files<'a> {
-    /// The policy's image.
-    pub images: &'a Images,
-}
-
-impl Given for Files<'_> {
-    type Call = Call;
-
-    fn make(&self, call: &Call, turn: Turn) -> Result<Vec<u8>, Code> {
-        let image = self.images.bytes.as_slice();
-        match *call {
-            Call::Answer(Task::Check) => answered(turn, Task::Check, text().as_bytes()),
-            Call::Answer(Task::Graph) => answered(turn, Task::Graph, text().as_bytes()),
-            Call::Answer(Task::Compile) => answered(turn, Task::Compile, text().as_bytes()),
-            Call::Answer(Task::Asm) => answered(turn, Task::Asm, self.images.listing()),
-            Call::Answer(task) => answered(turn, task, image),
-            Call::Whole => read_whole(turn, image),
-        }
+/// Tries each call on the policy's text, its image and its assembly text.
+pub fn try_calls(rt: &HostRuntime, images: &Images) -> Result<(), Failure> {
+    let (policy, image) = (text().as_bytes(), images.bytes());
+    for (name, task, input) in [
+        ("answer on check", Task::Check, policy),
+        ("answer on compile", Task::Compile, policy),
+        ("answer on verify", Task::Verify, image),
+        ("answer on disasm", Task::Disasm, image),
+        ("answer on asm", Task::Asm, images.listing()),
+        ("answer on upgrade", Task::Upgrade, image),
+        ("answer on graph", Task::Graph, policy),
+    ] {
+        tried(rt, &Asked { task, input }, name, &["AllocError"], answered)?;
     }
+    tried(rt, images, "files::whole", &["Memory"], read_whole)
 }
 
-fn answered(turn: Turn, task: Task, input: &[u8]) -> Result<Vec<u8>, Code> {
+fn answered(asked: &Asked<'_>, turn: Turn) -> Result<Vec<u8>, Code> {
+    let Asked { task, input } = *asked;
     let answer = turn.ended(answer(turn.begun(), task, input, definitions()));
     let Answer { status, text, file } = answer.map_err(no_memory)?;
     let mut bytes = text.into_bytes();
@@ -81,8 +54,8 @@ pub fn followed(mut bytes: Vec<u8>, more: &[u8]) -> Result<Vec<u8>, Code> {
     }
 }
 
-fn read_whole(turn: Turn, bytes: &[u8]) -> Result<Vec<u8>, Code> {
-    match turn.ended(whole(turn.begun(), bytes)) {
+fn read_whole(images: &Images, turn: Turn) -> Result<Vec<u8>, Code> {
+    match turn.ended(whole(turn.begun(), images.bytes())) {
         Ok(read) => Ok(read),
         Err(FileFault::Memory) => Err(code_of("Memory")),
         Err(fault) => Err(code_of(fault)),

@@ -7,64 +7,46 @@ use std::alloc::Global;
 /// A call has to have fewer allocations than this.
 const MOST: u32 = 65_536;
 
-/// A public call that allocates.
-#[derive(Drop)]
-pub struct Listed<C> {
-    /// The call.
-    pub call: C,
-    /// Its name in the output.
-    pub name: &'static str,
-    /// The text of its out-of-memory fault.
-    pub code: &'static str,
-    /// The text of its other out-of-memory fault. If it has only one, the same text.
-    pub other: &'static str,
-}
-
-impl<C> Listed<C> {
-    /// A call with one out-of-memory fault.
-    pub fn new(call: C, name: &'static str, code: &'static str) -> Self {
-        Listed {
-            call,
-            name,
-            code,
-            other: code,
-        }
-    }
-
-    /// Whether a code is that of an out-of-memory fault of this call.
-    fn is_own(&self, code: &Code) -> bool {
-        self.code == code.as_str() || self.other == code.as_str()
-    }
-}
-
-/// The inputs of calls, and how to make each call.
-pub trait Given {
-    /// The call.
-    type Call;
-
-    /// Makes a call in a turn. Returns bytes that distinguish its answer from others, or the code of its fault.
-    fn make(&self, call: &Self::Call, turn: Turn) -> Result<Vec<u8>, Code>;
-}
-
 /// How the turns of a call went.
 #[derive(Clone, Copy)]
-pub struct Turns {
+struct Turns {
     /// How many allocations were refused.
-    pub growths: u32,
+    growths: u32,
     /// How many bytes represent its answer.
-    pub bytes: usize,
+    bytes: usize,
+}
+
+/// Refuses the allocations of a call on these inputs in turn, and prints a line with its name. `codes` are the texts of the call's
+/// out-of-memory faults. `make` makes the call in a turn. It returns bytes that distinguish the call's answer from others, or the
+/// code of its fault.
+pub fn tried<G, F: Fn(&G, Turn) -> Result<Vec<u8>, Code>>(
+    rt: &HostRuntime,
+    given: &G,
+    name: &str,
+    codes: &[&str],
+    make: F,
+) -> Result<(), Failure>
+    requires { F.IsAlwaysCallable make }
+{
+    print!(rt; "{name}: ")?;
+    let Turns { growths, bytes } = refuse_in_turn(rt.alloc(), given, codes, &make)?;
+    println!(rt; "{growths} growths refused, then {bytes} bytes")?;
+    Ok(())
 }
 
 /// Refuses allocation 1, 2, 3 and so on of a call, until a turn refuses none.
-pub fn refuse_in_turn<G: Given>(
+fn refuse_in_turn<G, F: Fn(&G, Turn) -> Result<Vec<u8>, Code>>(
     alloc: Global,
     given: &G,
-    listed: &Listed<G::Call>,
-) -> Result<Turns, Failure> {
-    let usual = given.make(&listed.call, Turn::ample(alloc))?;
+    codes: &[&str],
+    make: &F,
+) -> Result<Turns, Failure>
+    requires { F.IsAlwaysCallable make.now }
+{
+    let usual = make(given, Turn::ample(alloc))?;
     for growth in 1..MOST {
         let turn = Turn::refusing(alloc, growth);
-        if !is_refused(given, listed, turn, growth, usual.as_slice())? {
+        if !is_refused(given, codes, make, turn, usual.as_slice())? {
             return Ok(Turns {
                 growths: growth - 1,
                 bytes: usual.len(),
@@ -76,39 +58,46 @@ pub fn refuse_in_turn<G: Given>(
 
 /// Makes a call in the turn of an allocation. If the allocation was refused, makes the call again with ample memory. Returns
 /// whether it was refused.
-fn is_refused<G: Given>(
+fn is_refused<G, F: Fn(&G, Turn) -> Result<Vec<u8>, Code>>(
     given: &G,
-    listed: &Listed<G::Call>,
+    codes: &[&str],
+    make: &F,
     turn: Turn,
-    growth: u32,
     usual: &[u8],
-) -> Result<bool, Failure> {
-    let answer = given.make(&listed.call, turn);
+) -> Result<bool, Failure>
+    requires { F.IsAlwaysCallable make.now }
+{
+    let answer = make(given, turn);
     let met = turn.is_met();
     match answer {
-        Ok(_) if met => Err(failure(growth, Came::Answer)),
+        Ok(_) if met => Err(failure(turn.growth(), Came::Answer)),
         Ok(bytes) => {
-            same(growth, bytes.as_slice(), usual)?;
+            same(turn.growth(), bytes.as_slice(), usual)?;
             Ok(false)
         }
         Err(code) => {
-            check_fault(listed, growth, met, code)?;
-            let again = given.make(&listed.call, Turn::ample(turn.alloc()))?;
-            same(growth, again.as_slice(), usual)?;
+            check_fault(codes, turn.growth(), met, code)?;
+            let again = make(given, Turn::ample(turn.alloc()))?;
+            same(turn.growth(), again.as_slice(), usual)?;
             Ok(true)
         }
     }
 }
 
 /// Checks that a fault is an out-of-memory fault of the call, and that an allocation was refused.
-fn check_fault<C>(listed: &Listed<C>, growth: u32, met: bool, code: Code) -> Result<(), Failure> {
-    if !listed.is_own(&code) {
+fn check_fault(codes: &[&str], growth: u32, met: bool, code: Code) -> Result<(), Failure> {
+    if !is_own(codes, code.as_str()) {
         Err(Failure::Fault { growth, code })
     } else if met {
         Ok(())
     } else {
         Err(failure(growth, Came::Want))
     }
+}
+
+/// Whether a code is one of these.
+fn is_own(codes: &[&str], code: &str) -> bool {
+    codes.iter().any(|own| *own == code)
 }
 
 /// Checks that an answer is the usual one.

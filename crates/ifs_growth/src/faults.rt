@@ -231,10 +231,7 @@ fn run_fails(alloc: Global, image: &[u8], calls: usize) -> Result<Went, Code> {
 
 /// The statuses of runs: `calls` that end with 1, and then one that fails.
 fn failing_after(alloc: Global, calls: usize) -> Result<Vec<Result<i32, HostFault>>, AllocError> {
-    let mut statuses = Vec::new(alloc);
-    for _ in 0..calls {
-        statuses.push(Ok(1))?;
-    }
+    let mut statuses = vec![in alloc; Ok(1); calls]?;
     statuses.push(Err(HostFault))?;
     Ok(statuses)
 }

@@ -19,13 +19,10 @@ mod reloads;
 mod sessions;
 mod talks;
 
-use answers::Files;
-use calls::{Given, Listed, Turns, refuse_in_turn};
 use failure::Failure;
 use images::Images;
 use policies::Policies;
 use sessions::Sessions;
-use std::alloc::Global;
 use std::process::ExitCode;
 
 fn main(rt: HostRuntime) -> ExitCode {
@@ -47,19 +44,18 @@ fn all(rt: &HostRuntime) -> Result<(), Failure> {
 
 fn try_policies(rt: &HostRuntime) -> Result<(), Failure> {
     let policies = Policies::new(rt.alloc())?;
-    tried(rt, &policies, &policies::calls())
+    policies.try_calls(rt)
 }
 
 fn try_images(rt: &HostRuntime, images: &Images) -> Result<(), Failure> {
-    tried(rt, images, &images::calls())?;
-    let files = Files { images };
-    tried(rt, &files, &answers::calls())?;
-    let sessions = Sessions::new(rt.alloc(), images.bytes.as_slice())?;
+    images.try_calls(rt)?;
+    answers::try_calls(rt, images)?;
+    let sessions = Sessions::new(rt.alloc(), images.bytes())?;
     try_sessions(rt, &sessions)
 }
 
 fn try_sessions(rt: &HostRuntime, sessions: &Sessions) -> Result<(), Failure> {
-    tried(rt, sessions, &sessions::calls())?;
+    sessions.try_calls(rt)?;
     talked(rt, sessions.image())
 }
 
@@ -69,20 +65,6 @@ fn talked(rt: &HostRuntime, image: &[u8]) -> Result<(), Failure> {
         print!(rt; "{name}: ")?;
         let failed = faults::tried(rt.alloc(), image, trial)?;
         println!(rt; "{failed}")?;
-    }
-    Ok(())
-}
-
-/// Refuses the allocations of these calls in turn, and prints a line for each call.
-fn tried<R: Print + Alloc<A = Global>, G: Given>(
-    rt: &R,
-    given: &G,
-    calls: &[Listed<G::Call>],
-) -> Result<(), Failure> {
-    for listed in calls {
-        print!(rt; "{}: ", listed.name)?;
-        let Turns { growths, bytes } = refuse_in_turn(rt.alloc(), given, listed)?;
-        println!(rt; "{growths} growths refused, then {bytes} bytes")?;
     }
     Ok(())
 }

@@ -1,7 +1,8 @@
 //! Calls on a policy's text, its tokens, its tree and the policy itself.
 
 use crate::allocations::{Code, Turn, code_of, no_memory};
-use crate::calls::{Given, Listed};
+use crate::calls::tried;
+use crate::failure::Failure;
 use crate::readings::readings;
 use ifs_core::Step;
 use ifs_gen::laws::replies_of_text;
@@ -71,36 +72,7 @@ const STEPS: [Step; 5] = [
     Step::Take,
 ];
 
-/// A call.
-#[derive(Clone, Copy)]
-pub enum Call {
-    Tokens,
-    Parse,
-    Resolve,
-    PolicyOf,
-    Generate,
-    Compile,
-    CompileWithNotes,
-    CompiledCore,
-    RepliesOfText,
-}
-
-/// All calls.
-pub fn calls() -> [Listed<Call>; 9] {
-    [
-        Listed::new(Call::Tokens, "ifs_lex::tokens", "P0"),
-        Listed::new(Call::Parse, "ifs_parse::parse", "P0"),
-        Listed::new(Call::Resolve, "ifs_policy::resolve", "P0"),
-        Listed::new(Call::PolicyOf, "ifs_policy::policy_of", "P0"),
-        Listed::new(Call::Generate, "ifs_gen::generate", "P0"),
-        Listed::new(Call::Compile, "ifs_gen::compile", "P0"),
-        Listed::new(Call::CompileWithNotes, "ifs_gen::compile_with_notes", "P0"),
-        Listed::new(Call::CompiledCore, "ifs_gen::compiled_core", "P0"),
-        Listed::new(Call::RepliesOfText, "ifs_gen::laws::replies_of_text", "P0"),
-    ]
-}
-
-/// Their inputs beside the text.
+/// The inputs of the calls beside the text.
 #[derive(Drop)]
 pub struct Policies {
     tree: Tree,
@@ -115,35 +87,40 @@ impl Policies {
         let policy = resolve(alloc, &tree).map_err(code_of)?;
         Ok(Policies { tree, policy })
     }
-}
 
-impl Given for Policies {
-    type Call = Call;
+    /// Tries each call.
+    pub fn try_calls(&self, rt: &HostRuntime) -> Result<(), Failure> {
+        self.tried(rt, "ifs_lex::tokens", made_tokens)?;
+        self.tried(rt, "ifs_parse::parse", made_tree)?;
+        self.tried(rt, "ifs_policy::resolve", made_policy)?;
+        self.tried(rt, "ifs_policy::policy_of", made_policy_of_text)?;
+        self.tried(rt, "ifs_gen::generate", made_image)?;
+        self.tried(rt, "ifs_gen::compile", made_bytes)?;
+        self.tried(rt, "ifs_gen::compile_with_notes", made_with_notes)?;
+        self.tried(rt, "ifs_gen::compiled_core", made_core)?;
+        self.tried(rt, "ifs_gen::laws::replies_of_text", made_replies)
+    }
 
-    fn make(&self, call: &Call, turn: Turn) -> Result<Vec<u8>, Code> {
-        match *call {
-            Call::Tokens => made_tokens(turn),
-            Call::Parse => made_tree(turn),
-            Call::Resolve => made_policy(turn, &self.tree),
-            Call::PolicyOf => made_policy_of_text(turn),
-            Call::Generate => made_image(turn, &self.policy),
-            Call::Compile => turn
-                .ended(compile(turn.begun(), text(), definitions()))
-                .map_err(code_of),
-            Call::CompileWithNotes => made_with_notes(turn),
-            Call::CompiledCore => made_core(turn),
-            Call::RepliesOfText => made_replies(turn),
-        }
+    /// Tries a call. All of these calls report P0.
+    fn tried<F: Fn(&Policies, Turn) -> Result<Vec<u8>, Code>>(
+        &self,
+        rt: &HostRuntime,
+        name: &str,
+        make: F,
+    ) -> Result<(), Failure>
+        requires { F.IsAlwaysCallable make }
+    {
+        tried(rt, self, name, &["P0"], make)
     }
 }
 
-fn made_tokens(turn: Turn) -> Result<Vec<u8>, Code> {
+fn made_tokens(_policies: &Policies, turn: Turn) -> Result<Vec<u8>, Code> {
     let tokens = turn.ended(tokens(turn.begun(), text(), definitions()));
     text_of(turn.alloc(), &tokens.map_err(code_of)?)
 }
 
 /// The image of its policy and its notes represent a tree.
-fn made_tree(turn: Turn) -> Result<Vec<u8>, Code> {
+fn made_tree(_policies: &Policies, turn: Turn) -> Result<Vec<u8>, Code> {
     let tokens = tokens(turn.alloc(), text(), definitions()).map_err(code_of)?;
     let tree = turn.ended(parse(turn.begun(), tokens.as_slice()));
     bytes_of_tree(turn.alloc(), &tree.map_err(code_of)?)
@@ -159,35 +136,40 @@ fn bytes_and_notes(alloc: Global, policy: &Policy, tree: &Tree) -> Result<Vec<u8
     with_notes(bytes_of_policy(alloc, policy)?, tree)
 }
 
-fn made_policy(turn: Turn, tree: &Tree) -> Result<Vec<u8>, Code> {
-    let policy = turn.ended(resolve(turn.begun(), tree)).map_err(code_of)?;
-    bytes_of_policy(turn.alloc(), &policy)
+fn made_policy(policies: &Policies, turn: Turn) -> Result<Vec<u8>, Code> {
+    let policy = turn.ended(resolve(turn.begun(), &policies.tree));
+    bytes_of_policy(turn.alloc(), &policy.map_err(code_of)?)
 }
 
-fn made_policy_of_text(turn: Turn) -> Result<Vec<u8>, Code> {
+fn made_policy_of_text(_policies: &Policies, turn: Turn) -> Result<Vec<u8>, Code> {
     let made = turn.ended(policy_of(turn.begun(), text(), definitions()));
     let found = made.map_err(code_of)?;
     bytes_and_notes(turn.alloc(), &found.policy, &found.tree)
 }
 
-fn made_image(turn: Turn, policy: &Policy) -> Result<Vec<u8>, Code> {
-    let image = turn.ended(generate(turn.begun(), policy));
+fn made_image(policies: &Policies, turn: Turn) -> Result<Vec<u8>, Code> {
+    let image = turn.ended(generate(turn.begun(), &policies.policy));
     written(turn.alloc(), &image.map_err(code_of)?)
 }
 
-fn made_with_notes(turn: Turn) -> Result<Vec<u8>, Code> {
+fn made_bytes(_policies: &Policies, turn: Turn) -> Result<Vec<u8>, Code> {
+    turn.ended(compile(turn.begun(), text(), definitions()))
+        .map_err(code_of)
+}
+
+fn made_with_notes(_policies: &Policies, turn: Turn) -> Result<Vec<u8>, Code> {
     let made = turn.ended(compile_with_notes(turn.begun(), text(), definitions()));
     let CompiledText { tree, bytes } = made.map_err(code_of)?;
     with_notes(bytes, &tree)
 }
 
-fn made_core(turn: Turn) -> Result<Vec<u8>, Code> {
+fn made_core(_policies: &Policies, turn: Turn) -> Result<Vec<u8>, Code> {
     let mut image = Vec::new(turn.alloc());
     let core = turn.ended(compiled_core(turn.begun(), text(), definitions(), &mut image));
     readings(turn.alloc(), &core.map_err(code_of)?)
 }
 
-fn made_replies(turn: Turn) -> Result<Vec<u8>, Code> {
+fn made_replies(_policies: &Policies, turn: Turn) -> Result<Vec<u8>, Code> {
     let replies = turn.ended(replies_of_text(turn.begun(), text(), definitions(), &STEPS));
     text_of(turn.alloc(), &replies.map_err(code_of)?)
 }

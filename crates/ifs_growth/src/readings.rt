@@ -23,6 +23,14 @@ pub fn readings_after(alloc: Global, image: &[u8], steps: &[Step]) -> Result<Vec
     readings(alloc, &core)
 }
 
+/// Whether a core has these readings.
+pub fn has_readings(alloc: Global, core: &Core<'_>, wanted: Result<Vec<u8>, Code>) -> bool {
+    match (readings(alloc, core), wanted) {
+        (Ok(found), Ok(wanted)) => found.as_slice() == wanted.as_slice(),
+        _ => false,
+    }
+}
+
 /// The readings of a core: all that its readers return.
 pub fn readings(alloc: Global, core: &Core<'_>) -> Result<Vec<u8>, Code> {
     text_of(alloc, core).map_err(no_memory)

@@ -1,7 +1,8 @@
 //! Calls of a reload: `Core::carry` and `take_over`.
 
 use crate::allocations::{Code, Turn, code_of, no_memory};
-use crate::readings::{opened, readings};
+use crate::images::Images;
+use crate::readings::{has_readings, opened, readings};
 use bumpalo::Bump;
 use ifs_base::{IfaceId, LinkState};
 use ifs_core::{Carried, CarryFault, Core, Step};
@@ -29,7 +30,8 @@ fn take_all(core: &mut Core<'_>) {
 
 /// The readings of a core that is opened with what another one carried. If the carrying fails, the returned core has to be
 /// unchanged.
-pub fn carried(turn: Turn, bytes: &[u8]) -> Result<Vec<u8>, Code> {
+pub fn carried(images: &Images, turn: Turn) -> Result<Vec<u8>, Code> {
+    let bytes = images.bytes();
     let core = knowing(turn.alloc(), bytes)?;
     match turn.ended(core.carry(turn.begun())) {
         Ok(carried) => opened_with(turn.alloc(), bytes, carried),
@@ -50,34 +52,28 @@ fn opened_with(alloc: Global, bytes: &[u8], carried: Carried) -> Result<Vec<u8>,
 
 /// The code of a failure. If the core has changed, a code that says so.
 fn code_of_kept(alloc: Global, core: &Core<'_>, bytes: &[u8], code: Code) -> Code {
-    if is_unchanged(alloc, core, bytes) {
+    if has_readings(alloc, core, readings_before(alloc, bytes)) {
         code
     } else {
         code_of("a core that has changed")
     }
 }
 
-/// Whether a core is as `knowing` returns it.
-fn is_unchanged(alloc: Global, core: &Core<'_>, bytes: &[u8]) -> bool {
-    match (readings(alloc, core), readings_of(alloc, bytes)) {
-        (Ok(one), Ok(other)) => one.as_slice() == other.as_slice(),
-        _ => false,
-    }
-}
-
-fn readings_of(alloc: Global, bytes: &[u8]) -> Result<Vec<u8>, Code> {
+/// The readings of the core that `knowing` returns.
+fn readings_before(alloc: Global, bytes: &[u8]) -> Result<Vec<u8>, Code> {
     readings(alloc, &knowing(alloc, bytes)?)
 }
 
 /// The readings of the core after a reload with the image of the same bytes. If the reload fails, the returned core has to be
 /// unchanged.
-pub fn reloaded(turn: Turn, bytes: &[u8]) -> Result<Vec<u8>, Code> {
+pub fn reloaded(images: &Images, turn: Turn) -> Result<Vec<u8>, Code> {
+    let bytes = images.bytes();
     // the arena gets its room first: if a large allocation fails, it makes a smaller one and reports nothing
     let room = bytes.len().saturating_mul(4).saturating_add(4_096);
-    let images = Bump::try_with_capacity(turn.alloc(), room).map_err(no_memory)?;
-    let kept = images.try_alloc_slice_copy(bytes).map_err(no_memory)?;
-    let core = knowing(turn.alloc(), kept)?;
-    match turn.ended(take_over(turn.begun(), &images, bytes, core)) {
+    let kept = Bump::try_with_capacity(turn.alloc(), room).map_err(no_memory)?;
+    let first = kept.try_alloc_slice_copy(bytes).map_err(no_memory)?;
+    let core = knowing(turn.alloc(), first)?;
+    match turn.ended(take_over(turn.begun(), &kept, bytes, core)) {
         Ok(next) => readings(turn.alloc(), &next),
         Err(ReloadRefused { core, fault }) => Err(code_of_kept(
             turn.alloc(),

@@ -2,7 +2,8 @@
 
 use crate::allocations::{Code, Turn, code_of, no_memory};
 use crate::answers::followed;
-use crate::calls::{Given, Listed};
+use crate::calls::tried;
+use crate::failure::Failure;
 use crate::policies::text_of;
 use crate::readings::{opened, readings};
 use crate::talks::{REQUESTS, SERVED, is_cut_session, is_served_session};
@@ -24,35 +25,7 @@ const REFUSED: &[u8] = b"refused V0\n";
 /// How many notes a host has room for.
 const NOTES: usize = 64;
 
-/// A call.
-#[derive(Clone, Copy)]
-pub enum Call {
-    RunHex,
-    RunHexInMemory,
-    Put,
-    Simulate,
-    ServeOne,
-    Reserve,
-}
-
-/// All calls.
-pub fn calls() -> [Listed<Call>; 6] {
-    [
-        Listed::new(Call::RunHex, "run_hex", "V0"),
-        Listed {
-            call: Call::RunHexInMemory,
-            name: "run_hex to a MemoryOut",
-            code: "V0",
-            other: "S2",
-        },
-        Listed::new(Call::Put, "MemoryOut::put", "DeviceFault"),
-        Listed::new(Call::Simulate, "simulate to a MemoryOut", "S2"),
-        Listed::new(Call::ServeOne, "serve_one to a MemoryOut", "S2"),
-        Listed::new(Call::Reserve, "ScriptHost::reserve", "AllocError"),
-    ]
-}
-
-/// Their inputs.
+/// The inputs of the calls.
 #[derive(Drop)]
 pub struct Sessions {
     /// The policy's image as a line of digits, and requests after it.
@@ -73,6 +46,22 @@ impl Sessions {
     pub fn image(&self) -> &[u8] {
         self.image.as_slice()
     }
+
+    /// Tries each call.
+    pub fn try_calls(&self, rt: &HostRuntime) -> Result<(), Failure> {
+        tried(rt, self, "run_hex", &["V0"], run_to_place)?;
+        tried(
+            rt,
+            self,
+            "run_hex to a MemoryOut",
+            &["V0", "S2"],
+            run_to_memory,
+        )?;
+        tried(rt, self, "MemoryOut::put", &["DeviceFault"], put)?;
+        tried(rt, self, "simulate to a MemoryOut", &["S2"], simulated)?;
+        tried(rt, self, "serve_one to a MemoryOut", &["S2"], served)?;
+        tried(rt, self, "ScriptHost::reserve", &["AllocError"], reserved)
+    }
 }
 
 /// The line of an image, and requests after it.
@@ -83,21 +72,6 @@ fn input_of(alloc: Global, bytes: &[u8]) -> Result<Vec<u8>, AllocError> {
     }
     write!(input, "\n{LINES}")?;
     Ok(input.into_bytes())
-}
-
-impl Given for Sessions {
-    type Call = Call;
-
-    fn make(&self, call: &Call, turn: Turn) -> Result<Vec<u8>, Code> {
-        match *call {
-            Call::RunHex => run_to_place(turn, self.input.as_slice()),
-            Call::RunHexInMemory => run_to_memory(turn, self.input.as_slice()),
-            Call::Put => put(turn, self.image.as_slice()),
-            Call::Simulate => simulated(turn, self.image.as_slice()),
-            Call::ServeOne => served(turn, self.image.as_slice()),
-            Call::Reserve => reserved(turn),
-        }
-    }
 }
 
 /// A writer into an array of its own. It allocates nothing.
@@ -119,18 +93,18 @@ impl ByteOut for Place {
     }
 }
 
-fn run_to_place(turn: Turn, input: &[u8]) -> Result<Vec<u8>, Code> {
+fn run_to_place(sessions: &Sessions, turn: Turn) -> Result<Vec<u8>, Code> {
     let mut writer = Place {
         bytes: ArrayVec::new(),
     };
-    let mut reader = MemoryIn::new(input);
+    let mut reader = MemoryIn::new(sessions.input.as_slice());
     let answer = turn.ended(run_hex(turn.begun(), &mut reader, &mut writer));
     bytes_of_run(turn.alloc(), answer, writer.bytes.as_slice())
 }
 
-fn run_to_memory(turn: Turn, input: &[u8]) -> Result<Vec<u8>, Code> {
+fn run_to_memory(sessions: &Sessions, turn: Turn) -> Result<Vec<u8>, Code> {
     let mut writer = MemoryOut::new(turn.alloc());
-    let mut reader = MemoryIn::new(input);
+    let mut reader = MemoryIn::new(sessions.input.as_slice());
     let answer = turn.ended(run_hex(turn.begun(), &mut reader, &mut writer));
     bytes_of_run(turn.alloc(), answer, writer.written())
 }
@@ -150,7 +124,8 @@ fn bytes_of_run(
 }
 
 /// The second of two writes runs out of memory. It writes nothing then. When it is made again, it writes everything.
-fn put(turn: Turn, bytes: &[u8]) -> Result<Vec<u8>, Code> {
+fn put(sessions: &Sessions, turn: Turn) -> Result<Vec<u8>, Code> {
+    let bytes = sessions.image();
     let mut writer = MemoryOut::new(turn.begun());
     turn.ended(());
     if writer.put(REFUSED).is_err() {
@@ -177,7 +152,8 @@ fn copied(alloc: Global, bytes: &[u8]) -> Result<Vec<u8>, Code> {
 }
 
 /// After a failed write the core is as after some of the lines, and the output is a prefix of the replies.
-fn simulated(turn: Turn, image: &[u8]) -> Result<Vec<u8>, Code> {
+fn simulated(sessions: &Sessions, turn: Turn) -> Result<Vec<u8>, Code> {
+    let image = sessions.image();
     let mut core = opened(turn.alloc(), image)?;
     let mut reader = MemoryIn::new(REQUESTS);
     let mut writer = MemoryOut::new(turn.begun());
@@ -204,7 +180,8 @@ fn session_came_to(
 }
 
 /// After a failed write the steps are those of some of the lines, and the core is as after them.
-fn served(turn: Turn, image: &[u8]) -> Result<Vec<u8>, Code> {
+fn served(sessions: &Sessions, turn: Turn) -> Result<Vec<u8>, Code> {
+    let image = sessions.image();
     let mut host = ScriptHost::new(turn.alloc(), Vec::new(turn.alloc()), Vec::new(turn.alloc()));
     host.reserve(NOTES).map_err(no_memory)?;
     let mut core = opened(turn.alloc(), image)?;
@@ -232,7 +209,7 @@ fn service_came_to(
     }
 }
 
-fn reserved(turn: Turn) -> Result<Vec<u8>, Code> {
+fn reserved(_sessions: &Sessions, turn: Turn) -> Result<Vec<u8>, Code> {
     let mut host = ScriptHost::new(turn.begun(), Vec::new(turn.alloc()), Vec::new(turn.alloc()));
     let reserved = turn.ended(host.reserve(NOTES));
     reserved.map_err(no_memory)?;
