@@ -21,7 +21,6 @@ mod talks;
 
 use failure::Failure;
 use images::Images;
-use policies::Policies;
 use sessions::Sessions;
 use std::process::ExitCode;
 
@@ -43,8 +42,8 @@ fn all(rt: &HostRuntime) -> Result<(), Failure> {
 }
 
 fn try_policies(rt: &HostRuntime) -> Result<(), Failure> {
-    let policies = Policies::new(rt.alloc())?;
-    policies.try_calls(rt)
+    let given = policies::policy_given(rt.alloc())?;
+    policies::try_calls(rt, &given)
 }
 
 fn try_images(rt: &HostRuntime, images: &Images) -> Result<(), Failure> {

@@ -10,7 +10,7 @@ use ifs_gen::{CompiledText, compile, compile_with_notes, compiled_core, generate
 use ifs_image::{Image, write};
 use ifs_lex::tokens;
 use ifs_parse::{Tree, parse};
-use ifs_policy::{Policy, policy_of, resolve};
+use ifs_policy::{Policy, PolicyText, policy_of, resolve};
 use std::alloc::Global;
 use std::fmt::Debug;
 use std::io::Write;
@@ -72,55 +72,43 @@ const STEPS: [Step; 5] = [
     Step::Take,
 ];
 
-/// The inputs of the calls beside the text.
-#[derive(Drop)]
-pub struct Policies {
-    tree: Tree,
-    policy: Policy,
+/// Tries each call on the policy of the text.
+pub fn try_calls(rt: &HostRuntime, given: &PolicyText) -> Result<(), Failure> {
+    tried_p0(rt, given, "ifs_lex::tokens", made_tokens)?;
+    tried_p0(rt, given, "ifs_parse::parse", made_tree)?;
+    tried_p0(rt, given, "ifs_policy::resolve", made_policy)?;
+    tried_p0(rt, given, "ifs_policy::policy_of", policy_of_text)?;
+    tried_p0(rt, given, "ifs_gen::generate", made_image)?;
+    tried_p0(rt, given, "ifs_gen::compile", made_bytes)?;
+    tried_p0(rt, given, "ifs_gen::compile_with_notes", with_tree)?;
+    tried_p0(rt, given, "ifs_gen::compiled_core", made_core)?;
+    tried_p0(rt, given, "ifs_gen::laws::replies_of_text", replies)
 }
 
-impl Policies {
-    /// The tree and the policy of the text.
-    pub fn new(alloc: Global) -> Result<Self, Code> {
-        let tokens = tokens(alloc, text(), definitions()).map_err(code_of)?;
-        let tree = parse(alloc, tokens.as_slice()).map_err(code_of)?;
-        let policy = resolve(alloc, &tree).map_err(code_of)?;
-        Ok(Policies { tree, policy })
-    }
-
-    /// Tries each call.
-    pub fn try_calls(&self, rt: &HostRuntime) -> Result<(), Failure> {
-        self.tried(rt, "ifs_lex::tokens", made_tokens)?;
-        self.tried(rt, "ifs_parse::parse", made_tree)?;
-        self.tried(rt, "ifs_policy::resolve", made_policy)?;
-        self.tried(rt, "ifs_policy::policy_of", made_policy_of_text)?;
-        self.tried(rt, "ifs_gen::generate", made_image)?;
-        self.tried(rt, "ifs_gen::compile", made_bytes)?;
-        self.tried(rt, "ifs_gen::compile_with_notes", made_with_notes)?;
-        self.tried(rt, "ifs_gen::compiled_core", made_core)?;
-        self.tried(rt, "ifs_gen::laws::replies_of_text", made_replies)
-    }
-
-    /// Tries a call. All of these calls report P0.
-    fn tried<F: Fn(&Policies, Turn) -> Result<Vec<u8>, Code>>(
-        &self,
-        rt: &HostRuntime,
-        name: &str,
-        make: F,
-    ) -> Result<(), Failure>
-        requires { F.IsAlwaysCallable make }
-    {
-        tried(rt, self, name, &["P0"], make)
-    }
+/// Tries a call whose out-of-memory fault is P0.
+fn tried_p0<F: Fn(&PolicyText, Turn) -> Result<Vec<u8>, Code>>(
+    rt: &HostRuntime,
+    given: &PolicyText,
+    name: &str,
+    make: F,
+) -> Result<(), Failure>
+    requires { F.IsAlwaysCallable make }
+{
+    tried(rt, given, name, &["P0"], make)
 }
 
-fn made_tokens(_policies: &Policies, turn: Turn) -> Result<Vec<u8>, Code> {
+/// The policy of the text, beside its tree.
+pub fn policy_given(alloc: Global) -> Result<PolicyText, Code> {
+    policy_of(alloc, text(), definitions()).map_err(code_of)
+}
+
+fn made_tokens(_given: &PolicyText, turn: Turn) -> Result<Vec<u8>, Code> {
     let tokens = turn.ended(tokens(turn.begun(), text(), definitions()));
     text_of(turn.alloc(), &tokens.map_err(code_of)?)
 }
 
 /// The image of its policy and its notes represent a tree.
-fn made_tree(_policies: &Policies, turn: Turn) -> Result<Vec<u8>, Code> {
+fn made_tree(_given: &PolicyText, turn: Turn) -> Result<Vec<u8>, Code> {
     let tokens = tokens(turn.alloc(), text(), definitions()).map_err(code_of)?;
     let tree = turn.ended(parse(turn.begun(), tokens.as_slice()));
     bytes_of_tree(turn.alloc(), &tree.map_err(code_of)?)
@@ -136,40 +124,40 @@ fn bytes_and_notes(alloc: Global, policy: &Policy, tree: &Tree) -> Result<Vec<u8
     with_notes(bytes_of_policy(alloc, policy)?, tree)
 }
 
-fn made_policy(policies: &Policies, turn: Turn) -> Result<Vec<u8>, Code> {
-    let policy = turn.ended(resolve(turn.begun(), &policies.tree));
+fn made_policy(given: &PolicyText, turn: Turn) -> Result<Vec<u8>, Code> {
+    let policy = turn.ended(resolve(turn.begun(), &given.tree));
     bytes_of_policy(turn.alloc(), &policy.map_err(code_of)?)
 }
 
-fn made_policy_of_text(_policies: &Policies, turn: Turn) -> Result<Vec<u8>, Code> {
+fn policy_of_text(_given: &PolicyText, turn: Turn) -> Result<Vec<u8>, Code> {
     let made = turn.ended(policy_of(turn.begun(), text(), definitions()));
     let found = made.map_err(code_of)?;
     bytes_and_notes(turn.alloc(), &found.policy, &found.tree)
 }
 
-fn made_image(policies: &Policies, turn: Turn) -> Result<Vec<u8>, Code> {
-    let image = turn.ended(generate(turn.begun(), &policies.policy));
+fn made_image(given: &PolicyText, turn: Turn) -> Result<Vec<u8>, Code> {
+    let image = turn.ended(generate(turn.begun(), &given.policy));
     written(turn.alloc(), &image.map_err(code_of)?)
 }
 
-fn made_bytes(_policies: &Policies, turn: Turn) -> Result<Vec<u8>, Code> {
+fn made_bytes(_given: &PolicyText, turn: Turn) -> Result<Vec<u8>, Code> {
     turn.ended(compile(turn.begun(), text(), definitions()))
         .map_err(code_of)
 }
 
-fn made_with_notes(_policies: &Policies, turn: Turn) -> Result<Vec<u8>, Code> {
+fn with_tree(_given: &PolicyText, turn: Turn) -> Result<Vec<u8>, Code> {
     let made = turn.ended(compile_with_notes(turn.begun(), text(), definitions()));
     let CompiledText { tree, bytes } = made.map_err(code_of)?;
     with_notes(bytes, &tree)
 }
 
-fn made_core(_policies: &Policies, turn: Turn) -> Result<Vec<u8>, Code> {
+fn made_core(_given: &PolicyText, turn: Turn) -> Result<Vec<u8>, Code> {
     let mut image = Vec::new(turn.alloc());
     let core = turn.ended(compiled_core(turn.begun(), text(), definitions(), &mut image));
     readings(turn.alloc(), &core.map_err(code_of)?)
 }
 
-fn made_replies(_policies: &Policies, turn: Turn) -> Result<Vec<u8>, Code> {
+fn replies(_given: &PolicyText, turn: Turn) -> Result<Vec<u8>, Code> {
     let replies = turn.ended(replies_of_text(turn.begun(), text(), definitions(), &STEPS));
     text_of(turn.alloc(), &replies.map_err(code_of)?)
 }
