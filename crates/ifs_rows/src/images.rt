@@ -1,13 +1,23 @@
 //! Images that are accepted, in hexadecimal, a line for each entry of a table.
 
-/// One state `a`; every handler is the one routine, `ret`.
-pub const SMALLEST_IMAGE: &str = "
-    49465356 01 0000 0001 00000003 0000
-    0000 0000 0000 0001 0001 0000
-    0000 0000 0000000000000000
-    0001 61 0000 0000 0000000000000000
-    00 0001 00000000
-";
+/// An image with one state `a` and empty tables, by its budgets and its one routine. The routine is every handler.
+macro_rules! one_routine {
+    ($budgets:literal, $routine:literal) => {
+        concat!(
+            "49465356 01 ",
+            $budgets,
+            "
+            0000 0000 0000 0001 0001 0000
+            0000 0000 0000000000000000
+            0001 61 0000 0000 0000000000000000
+            00 ",
+            $routine,
+        )
+    };
+}
+
+/// The routine is `ret`.
+pub const SMALLEST_IMAGE: &str = one_routine!("0000 0001 00000003 0000", "0001 00000000");
 
 /// Body of `a`: `link 0 up, pop, cmd 0, queue, ret`.
 pub const FIRST_RUN: &str = "
@@ -84,22 +94,16 @@ pub const STALE: &str = "
 ";
 
 /// Every handler: `true, jf 4, true, jump 5, false, pop, ret`.
-pub const WAYS_THAT_MEET: &str = "
-    49465356 01 0001 0001 00000012 0000
-    0000 0000 0000 0001 0001 0000
-    0000 0000 0000000000000000
-    0001 61 0000 0000 0000000000000000
-    00 0007 01000000 0e000004 01000000 0d000005 02000000 11000000 00000000
-";
+pub const WAYS_THAT_MEET: &str = one_routine!(
+    "0001 0001 00000012 0000",
+    "0007 01000000 0e000004 01000000 0d000005 02000000 11000000 00000000"
+);
 
 /// Every handler: `true, jf 2, ret`.
-pub const SHORT_JUMP: &str = "
-    49465356 01 0001 0001 00000009 0000
-    0000 0000 0000 0001 0001 0000
-    0000 0000 0000000000000000
-    0001 61 0000 0000 0000000000000000
-    00 0003 01000000 0e000002 00000000
-";
+pub const SHORT_JUMP: &str = one_routine!(
+    "0001 0001 00000009 0000",
+    "0003 01000000 0e000002 00000000"
+);
 
 /// The upgrade of the smallest image.
 pub const SMALLEST_UPGRADED: &str = "

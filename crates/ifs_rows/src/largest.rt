@@ -37,7 +37,8 @@ pub fn largest_listing(alloc: Global) -> Result<String, AllocError> {
     Ok(listing)
 }
 
-fn repeated(alloc: Global, part: &str, count: u32) -> Result<String, AllocError> {
+/// A text `count` times.
+pub fn repeated(alloc: Global, part: &str, count: u32) -> Result<String, AllocError> {
     let mut text = String::new(alloc);
     for _ in 0..count {
         text.push_str(part)?;

@@ -11,7 +11,7 @@ pub mod sessions;
 pub use hexadecimal::{bytes_of, digits_of};
 pub use largest::{
     LARGEST_BYTES, LARGEST_COMPILED, SMALLEST, definitions_in, largest_definitions,
-    largest_listing, largest_policy, longest_line_listing,
+    largest_listing, largest_policy, longest_line_listing, repeated,
 };
 
 /// An image that is accepted, with a session on it.
