@@ -3,9 +3,9 @@
 
 use crate::checks::{holds, same};
 use crate::policies::counted;
+use crate::trees::parsed;
 use ifs_answer::{Answer, Task, answer};
 use ifs_lex::tokens;
-use ifs_parse::parse;
 use ifs_policy::{Counts, policy_of};
 use ifs_rows::{
     LARGEST_BYTES, LARGEST_COMPILED, definitions_in, largest_definitions, largest_listing,
@@ -22,9 +22,7 @@ fn tokens_in(alloc: Global, text: &str, defs: &[(&str, &str)]) -> Result<usize, 
 
 /// The number of items of a text's tree.
 fn items_in(alloc: Global, text: &str, defs: &[(&str, &str)]) -> Result<usize, Fail> {
-    let tokens = tokens(alloc, text, defs)?;
-    let tree = parse(alloc, tokens.as_slice())?;
-    Ok(tree.items().len())
+    Ok(parsed(alloc, text, defs)??.items().len())
 }
 
 /// The numbers of entries of a text's tables, by one call.

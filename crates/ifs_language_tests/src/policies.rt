@@ -1,9 +1,9 @@
 //! Policies of texts and their refusals, by the rules of names.
 
 use crate::checks::{holds, holds_in, same, same_in};
+use crate::trees::parsed;
 use ifs_base::{CommandId, IfaceId, LinkState, StateId, TestId, Text};
-use ifs_lex::tokens;
-use ifs_parse::{Condition, Node, Statement, parse};
+use ifs_parse::{Condition, Node, Statement};
 use ifs_policy::{Counts, Policy, PolicyBlock, ResolveFault, Single, resolve};
 use std::alloc::{AllocError, Global};
 use std::process::Abort;
@@ -15,8 +15,7 @@ fn resolved(
     text: &str,
     defs: &[(&str, &str)],
 ) -> Result<Result<Policy, ResolveFault>, Fail> {
-    let tokens = tokens(alloc, text, defs)?;
-    let tree = parse(alloc, tokens.as_slice())?;
+    let tree = parsed(alloc, text, defs)??;
     Ok(resolve(alloc, &tree))
 }
 

@@ -1,7 +1,10 @@
 //! Texts with their tokens and faults, by the rules of the language.
 
-use crate::checks::{same, same_in};
+use crate::cases::check_cases;
+use crate::checks::same_in;
+use ifs_lex::LexFault::{BadMacro, OverLimit, Unclosed};
 use ifs_lex::{LexFault, Token, What, tokens};
+use ifs_rows::repeated;
 use std::alloc::{AllocError, Global};
 use std::process::Abort;
 use std::test::Fail;
@@ -58,66 +61,167 @@ fn placed(alloc: Global, text: &str, defs: &[(&str, &str)]) -> Result<String, Fa
     Ok(shown_placed(alloc, all.as_slice())?)
 }
 
-fn check_rows(rt: &impl Abort, alloc: Global, rows: &[(&str, &str, &str)]) -> Result<(), Fail> {
-    for (name, text, expected) in rows {
-        let line = told(alloc, text, &[])?;
-        same_in(rt, name, line.as_str(), *expected);
-    }
-    Ok(())
-}
+/// Texts without tabs and carriage returns.
+const TEXTS: &str = r#"
+-- empty text
+=> end
+-- braces
+{}
+=> { } end
+-- parentheses
+()
+=> ( ) end
+-- dot, equals, bang
+.=!
+=> . = ! end
+-- and, or
+&&||
+=> && || end
+-- comment to the newline
+a # b
+c
+=> a c end
+-- comment to the end
+a # b
+=> a end
+-- comment without blank
+a#b
+c
+=> a c end
+-- continued comment
+a # b \
+ c
+d
+=> a d end
+-- comment continued twice
+a # b\
+c\
+d
+e
+=> a e end
+-- two backslashes in a comment
+a # b\\
+c
+d
+=> a d end
+-- backslash inside a comment
+a # \ b
+c
+=> a c end
+-- every character
+aZ09_/-:+@%*~ b
+=> aZ09_/-:+@%*~ b end
+-- digit first
+0a
+=> 0a end
+-- underscore first
+_a
+=> _a end
+-- slash first
+/bin/sh
+=> /bin/sh end
+-- dot parts
+em0.link.up
+=> em0 . link . up end
+-- equals parts
+1=b
+=> 1 = b end
+-- quote parts
+a"b"c
+=> a [b] c end
+-- reserved words
+state init-state init if run set-state every
+=> state init-state init if run set-state every end
+-- double quotes
+"a b"
+=> [a b] end
+-- single quotes
+'a b'
+=> [a b] end
+-- empty quotes
+"" ''
+=> [] [] end
+-- other quote
+"it's" 'say "x"'
+=> [it's] [say "x"] end
+-- escaped double
+"a\"b"
+=> [a"b] end
+-- escaped single
+'a\'b'
+=> [a'b] end
+-- other escape
+"a\nb\'"
+=> [a\nb\'] end
+-- newline in quotes
+"a
+b"
+=> [ab] end
+-- backslash and newline in quotes
+"a\
+b"
+=> [ab] end
+-- dollar and hash in quotes
+"$x # y"
+=> [$x # y] end
+-- two backslashes in quotes
+"a\\b"
+=> [a\\b] end
+-- macro taken out
+x = y
+=> end
+-- macro used
+x = 'a b' $x c
+=> a b c end
+-- word as value
+x = em0 $x.link
+=> em0 . link end
+-- quoted value of a quoted text
+x = '"a b"' $x
+=> [a b] end
+-- empty value of a macro
+x = '' a $x b
+=> a b end
+-- comment in a value
+x = 'a # b' $x c
+=> a c end
+-- inside a block
+state a { x = b run $x }
+=> state a { run b } end
+-- macro redefined
+x = a $x x = b $x
+=> a b end
+-- redefined with itself
+x = a x = '$x b' $x
+=> a b end
+-- as known then
+x = a y = '$x $x' x = b $y
+=> a a end
+-- one use as known then
+x = a y = '$x' x = b $y
+=> a end
+-- reserved name
+if = c
+=> if = c end
+-- no macro name
+a-b = c
+=> a-b = c end
+-- reserved value
+x = run
+=> x = run end
+-- use as value
+y = b x = $y
+=> x = b end
+-- sign as value
+x = {
+=> x = { end
+"#;
 
-const SIGNS_AND_BLANKS: [(&str, &str, &str); 6] = [
-    ("empty", "", "end "),
-    ("braces", "{}", "{ } end "),
-    ("parentheses", "()", "( ) end "),
-    ("dot, equals, bang", ".=!", ". = ! end "),
-    ("and, or", "&&||", "&& || end "),
+/// Texts with characters that a list does not show.
+const UNSEEN: [(&str, &str, &str); 4] = [
     ("each blank", " \t\r\na\\\nb", "a b end "),
-];
-
-const COMMENTS: [(&str, &str, &str); 8] = [
-    ("to the newline", "a # b\nc", "a c end "),
-    ("to the end", "a # b", "a end "),
-    ("without blank", "a#b\nc", "a c end "),
-    ("continued", "a # b \\\n c\nd", "a d end "),
-    ("continued twice", "a # b\\\nc\\\nd\ne", "a e end "),
-    ("two backslashes", "a # b\\\\\nc\nd", "a d end "),
     ("backslash and carriage return", "a # b\\\r\nc", "a c end "),
-    ("backslash inside", "a # \\ b\nc", "a c end "),
-];
-
-const WORDS: [(&str, &str, &str); 8] = [
-    ("every character", "aZ09_/-:+@%*~ b", "aZ09_/-:+@%*~ b end "),
-    ("digit first", "0a", "0a end "),
-    ("underscore first", "_a", "_a end "),
-    ("slash first", "/bin/sh", "/bin/sh end "),
-    ("dot parts", "em0.link.up", "em0 . link . up end "),
-    ("equals parts", "1=b", "1 = b end "),
-    ("quote parts", "a\"b\"c", "a [b] c end "),
-    (
-        "reserved",
-        "state init-state init if run set-state every",
-        "state init-state init if run set-state every end ",
-    ),
-];
-
-const QUOTES: [(&str, &str, &str); 13] = [
-    ("double", "\"a b\"", "[a b] end "),
-    ("single", "'a b'", "[a b] end "),
-    ("empty", "\"\" ''", "[] [] end "),
-    (
-        "other quote",
-        "\"it's\" 'say \"x\"'",
-        "[it's] [say \"x\"] end ",
-    ),
-    ("escaped double", "\"a\\\"b\"", "[a\"b] end "),
-    ("escaped single", "'a\\'b'", "[a'b] end "),
     ("escaped space and tab", "\"a\\ b\\\tc\"", "[a b\tc] end "),
-    ("other escape", "\"a\\nb\\'\"", "[a\\nb\\'] end "),
-    ("newline", "\"a\nb\"", "[ab] end "),
-    ("backslash and newline", "\"a\\\nb\"", "[ab] end "),
-    ("dollar and hash", "\"$x # y\"", "[$x # y] end "),
-    ("two backslashes and more", "\"a\\\\b\"", "[a\\\\b] end "),
     (
         "over ASCII",
         "\"\u{e4}\\ \u{20ac}\"",
@@ -125,56 +229,13 @@ const QUOTES: [(&str, &str, &str); 13] = [
     ),
 ];
 
-const DEFINITIONS: [(&str, &str, &str); 16] = [
-    ("taken out", "x = y", "end "),
-    ("used", "x = 'a b' $x c", "a b c end "),
-    ("word as value", "x = em0 $x.link", "em0 . link end "),
-    (
-        "quoted value of a quoted text",
-        "x = '\"a b\"' $x",
-        "[a b] end ",
-    ),
-    ("empty value", "x = '' a $x b", "a b end "),
-    ("comment in a value", "x = 'a # b' $x c", "a c end "),
-    (
-        "inside a block",
-        "state a { x = b run $x }",
-        "state a { run b } end ",
-    ),
-    ("redefined", "x = a $x x = b $x", "a b end "),
-    ("redefined with itself", "x = a x = '$x b' $x", "a b end "),
-    ("as known then", "x = a y = '$x $x' x = b $y", "a a end "),
-    ("one use as known then", "x = a y = '$x' x = b $y", "a end "),
-    ("reserved name", "if = c", "if = c end "),
-    ("no macro name", "a-b = c", "a-b = c end "),
-    ("reserved value", "x = run", "x = run end "),
-    ("use as value", "y = b x = $y", "x = b end "),
-    ("sign as value", "x = {", "x = { end "),
-];
-
 #[test]
-fn signs_and_blanks(rt: HostRuntime) -> Result<(), Fail> {
-    check_rows(&rt, rt.alloc(), &SIGNS_AND_BLANKS)
-}
-
-#[test]
-fn comments(rt: HostRuntime) -> Result<(), Fail> {
-    check_rows(&rt, rt.alloc(), &COMMENTS)
-}
-
-#[test]
-fn words(rt: HostRuntime) -> Result<(), Fail> {
-    check_rows(&rt, rt.alloc(), &WORDS)
-}
-
-#[test]
-fn quotes(rt: HostRuntime) -> Result<(), Fail> {
-    check_rows(&rt, rt.alloc(), &QUOTES)
-}
-
-#[test]
-fn definitions(rt: HostRuntime) -> Result<(), Fail> {
-    check_rows(&rt, rt.alloc(), &DEFINITIONS)
+fn texts_have_their_tokens(rt: HostRuntime) -> Result<(), Fail> {
+    check_cases(&rt, TEXTS, |text| told(rt.alloc(), text, &[]))?;
+    for (name, text, expected) in UNSEEN {
+        check_given(&rt, rt.alloc(), name, text, &[], expected)?;
+    }
+    Ok(())
 }
 
 #[test]
@@ -258,14 +319,6 @@ fn given_definitions(rt: HostRuntime) -> Result<(), Fail> {
     Ok(())
 }
 
-fn repeated(alloc: Global, part: &str, count: usize) -> Result<String, AllocError> {
-    let mut text = String::new(alloc);
-    for _ in 0..count {
-        text.push_str(part)?;
-    }
-    Ok(text)
-}
-
 fn check_count(
     rt: &impl Abort,
     alloc: Global,
@@ -295,30 +348,20 @@ fn tokens_in_all(rt: HostRuntime) -> Result<(), Fail> {
     let full = repeated(rt.alloc(), "a ", 16_384)?;
     for (name, before, after, expected) in [
         ("16,384 words", "", "", Ok(16_385)),
-        (
-            "16,385 words",
-            "",
-            "\nb",
-            Err(LexFault::OverLimit { line: 2 }),
-        ),
-        (
-            "a lower number",
-            "",
-            "\n\"b",
-            Err(LexFault::Unclosed { line: 2 }),
-        ),
+        ("16,385 words", "", "\nb", Err(OverLimit { line: 2 })),
+        ("a lower number", "", "\n\"b", Err(Unclosed { line: 2 })),
         ("a value of 16,384", "x = '", "' $x", Ok(16_385)),
         (
             "a value of 16,385",
             "x = '",
             "b'",
-            Err(LexFault::BadMacro { line: 1 }),
+            Err(BadMacro { line: 1 }),
         ),
         (
             "at the use",
             "x = '",
             "'\n$x\n$x",
-            Err(LexFault::OverLimit { line: 3 }),
+            Err(OverLimit { line: 3 }),
         ),
         ("an empty macro more", "e = '' ", " $e", Ok(16_385)),
     ] {
@@ -348,12 +391,8 @@ fn names_in_all(rt: HostRuntime) -> Result<(), Fail> {
     for (name, after, expected) in [
         ("256 names", "", Ok(1)),
         ("a name again", "n7 = b $n7", Ok(2)),
-        ("257 names", "m = a", Err(LexFault::OverLimit { line: 257 })),
-        (
-            "a bad value first",
-            "m = '&'",
-            Err(LexFault::BadMacro { line: 257 }),
-        ),
+        ("257 names", "m = a", Err(OverLimit { line: 257 })),
+        ("a bad value first", "m = '&'", Err(BadMacro { line: 257 })),
     ] {
         check_around(&rt, rt.alloc(), name, ("", text.as_str(), after), expected)?;
     }
@@ -405,7 +444,7 @@ fn as_many_names_are_given(rt: HostRuntime) -> Result<(), Fail> {
 fn bytes_in_all(rt: HostRuntime) -> Result<(), Fail> {
     let full = repeated(rt.alloc(), "\n", 1_048_576)?;
     check_count(&rt, rt.alloc(), "1,048,576 bytes", full.as_str(), Ok(1));
-    let expected = Err(LexFault::OverLimit { line: 1 });
+    let expected = Err(OverLimit { line: 1 });
     check_around(
         &rt,
         rt.alloc(),
@@ -445,12 +484,5 @@ fn values_that_grow(rt: HostRuntime) -> Result<(), Fail> {
         ("x = a\n", longer.as_str(), "$x"),
         Ok(16_385),
     )?;
-    Ok(())
-}
-
-#[test]
-fn want_of_memory_has_no_line(rt: HostRuntime) -> Result<(), Fail> {
-    let text = format!(in rt.alloc(); "{}", LexFault::Memory)?;
-    same(&rt, text.as_str(), "P0");
     Ok(())
 }

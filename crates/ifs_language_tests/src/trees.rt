@@ -1,8 +1,9 @@
 //! Texts with their trees, notes and faults, by the rules of the grammar.
 
-use crate::checks::{holds, holds_in, same, same_in};
+use crate::cases::check_cases;
+use crate::checks::{holds, holds_in, same_in};
 use ifs_base::LinkState;
-use ifs_lex::tokens;
+use ifs_lex::{LexFault, tokens};
 use ifs_parse::{
     Action, Actions, Condition, Item, Name, Node, ParseFault, Part, Statement, Test, Tree, Wish,
     parse,
@@ -63,15 +64,20 @@ fn show_wish(out: &mut String, wish: &Wish) -> Result<(), AllocError> {
     write!(out, "set {name} at {at} ")
 }
 
+/// Puts what opens the block of an `if`.
+fn show_if(out: &mut String, condition: &Condition<Test>) -> Result<(), AllocError> {
+    out.push_str("if ")?;
+    show_condition(out, condition)?;
+    out.push_str(" { ")
+}
+
 fn show_block(out: &mut String, block: &Actions) -> Result<(), AllocError> {
     for action in block.statements() {
         match action {
             Statement::Run(command) => show_run(out, command)?,
             Statement::SetState(wish) => show_wish(out, wish)?,
             Statement::If(condition, inner) => {
-                out.push_str("if ")?;
-                show_condition(out, condition)?;
-                out.push_str(" { ")?;
+                show_if(out, condition)?;
                 show_block(out, inner)?;
                 out.push_str("} ")?;
             }
@@ -85,9 +91,7 @@ fn show_action(out: &mut String, action: &Action) -> Result<(), AllocError> {
         Statement::Run(command) => show_run(out, command),
         Statement::SetState(wish) => show_wish(out, wish),
         Statement::If(condition, inner) => {
-            out.push_str("if ")?;
-            show_condition(out, condition)?;
-            out.push_str(" { ")?;
+            show_if(out, condition)?;
             show_block(out, inner)?;
             out.push_str("} ")
         }
@@ -124,7 +128,7 @@ fn show_item(out: &mut String, item: &Item) -> Result<(), AllocError> {
 }
 
 /// The tree of a text that has tokens, or its refusal.
-fn parsed(
+pub(crate) fn parsed(
     alloc: Global,
     text: &str,
     definitions: &[(&str, &str)],
@@ -153,135 +157,93 @@ fn told(alloc: Global, text: &str) -> Result<String, Fail> {
     }
 }
 
-fn check_rows(rt: &impl Abort, alloc: Global, rows: &[(&str, &str, &str)]) -> Result<(), Fail> {
-    for (name, text, expected) in rows {
-        let line = told(alloc, text)?;
-        same_in(rt, name, line.as_str(), *expected);
-    }
-    Ok(())
-}
+const BINDING: &str = r#"
+-- binding
+state s { if a.link.up || b.link.up && c.link.up run "echo y" }
+=> state s at 6 { if (a.up | (b.up & c.up)) { run echo y } } note 1
+-- binding with parentheses
+state s { if ( a.link.up || b.link.up ) && c.link.up run "echo y" }
+=> state s at 6 { if ((a.up | b.up) & c.up) { run echo y } }
+-- chain in parentheses
+if a.link.up || (b.link.up && c.link.up) run x
+=> if (a.up | (b.up & c.up)) { run x }
+-- chains of three
+if a.link.up && b.link.down && c.link.unknown run x
+=> if (a.up & b.down & c.unknown) { run x }
+-- alternatives of four
+if a.link.up || b.link.up || c.link.up || d.link.up run x
+=> if (a.up | b.up | c.up | d.up) { run x }
+-- bang binds one
+if ! a.link.up && ! ! "t" every 007 run x
+=> if (!a.up & !!t/7) { run x }
+-- two that have to hold
+if em0.link.up && em1.link.up run x
+=> if (em0.up & em1.up) { run x }
+-- two of which one has to hold
+if em0.link.up || em1.link.up run x
+=> if (em0.up | em1.up) { run x }
+-- a link that is neither up nor down
+if em0.link.unknown run x
+=> if em0.unknown { run x }
+-- the first operand is a chain
+if a.link.up && b.link.up || c.link.up run x
+=> if ((a.up & b.up) | c.up) { run x } note 1
+-- notes in the order of their first sign
+if a.link.up && ( b.link.up
+|| c.link.up && d.link.up )
+|| e.link.up || ( f.link.up
+|| g.link.up && h.link.up ) run x
+=> if ((a.up & (b.up | (c.up & d.up))) | e.up | (f.up | (g.up & h.up))) { run x } note 2 note 3 note 4
+-- a note before one within
+if a.link.up && b.link.up
+|| ( c.link.up
+|| d.link.up && e.link.up ) run x
+=> if ((a.up & b.up) | (c.up | (d.up & e.up))) { run x } note 2 note 3
+"#;
 
-const BINDING: [(&str, &str, &str); 12] = [
-    (
-        "binding",
-        "state s { if a.link.up || b.link.up && c.link.up run \"echo y\" }",
-        "state s at 6 { if (a.up | (b.up & c.up)) { run echo y } } note 1 ",
-    ),
-    (
-        "binding with parentheses",
-        "state s { if ( a.link.up || b.link.up ) && c.link.up run \"echo y\" }",
-        "state s at 6 { if ((a.up | b.up) & c.up) { run echo y } } ",
-    ),
-    (
-        "chain in parentheses",
-        "if a.link.up || (b.link.up && c.link.up) run x",
-        "if (a.up | (b.up & c.up)) { run x } ",
-    ),
-    (
-        "chains of three",
-        "if a.link.up && b.link.down && c.link.unknown run x",
-        "if (a.up & b.down & c.unknown) { run x } ",
-    ),
-    (
-        "alternatives of four",
-        "if a.link.up || b.link.up || c.link.up || d.link.up run x",
-        "if (a.up | b.up | c.up | d.up) { run x } ",
-    ),
-    (
-        "bang binds one",
-        "if ! a.link.up && ! ! \"t\" every 007 run x",
-        "if (!a.up & !!t/7) { run x } ",
-    ),
-    (
-        "two that have to hold",
-        "if em0.link.up && em1.link.up run x",
-        "if (em0.up & em1.up) { run x } ",
-    ),
-    (
-        "two of which one has to hold",
-        "if em0.link.up || em1.link.up run x",
-        "if (em0.up | em1.up) { run x } ",
-    ),
-    (
-        "a link that is neither up nor down",
-        "if em0.link.unknown run x",
-        "if em0.unknown { run x } ",
-    ),
-    (
-        "the first operand is a chain",
-        "if a.link.up && b.link.up || c.link.up run x",
-        "if ((a.up & b.up) | c.up) { run x } note 1 ",
-    ),
-    (
-        "notes in the order of their first sign",
-        "if a.link.up && ( b.link.up\n|| c.link.up && d.link.up )\n|| e.link.up || ( f.link.up\n|| g.link.up && h.link.up ) run x",
-        "if ((a.up & (b.up | (c.up & d.up))) | e.up | (f.up | (g.up & h.up))) { run x } note 2 note 3 note 4 ",
-    ),
-    (
-        "a note before one within",
-        "if a.link.up && b.link.up\n|| ( c.link.up\n|| d.link.up && e.link.up ) run x",
-        "if ((a.up & b.up) | (c.up | (d.up & e.up))) { run x } note 2 note 3 ",
-    ),
-];
-
-const PLACES: [(&str, &str, &str); 11] = [
-    ("empty", "", ""),
-    (
-        "every item",
-        "init-state a state a { init run x if b.link.up set-state a } init { } run y",
-        "init-state a at 0 state a at 19 { init at 23 { run x } if b.up { set a at 47 } } init at 61 { } run y ",
-    ),
-    (
-        "one action in an init",
-        "state a { init run \"x\" }",
-        "state a at 6 { init at 10 { run x } } ",
-    ),
-    (
-        "two actions in an init",
-        "state a { init { run \"x\" run \"y\" } }",
-        "state a at 6 { init at 10 { run x run y } } ",
-    ),
-    (
-        "an initial state",
-        "init-state b state a { } state b { }",
-        "init-state b at 0 state a at 19 { } state b at 31 { } ",
-    ),
-    (
-        "a command of three words",
-        "run \"ifconfig carp0 advskew 10\"",
-        "run ifconfig carp0 advskew 10 ",
-    ),
-    (
-        "two actions of an if",
-        "if em0.link.up { run \"x\" set-state b }",
-        "if em0.up { run x set b at 25 } ",
-    ),
-    (
-        "words read by place are names",
-        "state link { if up.link.up run down set-state unknown }",
-        "state link at 6 { if up.up { run down } set unknown at 36 } ",
-    ),
-    ("a quoted reserved word is a name", "run \"if\"", "run if "),
-    (
-        "a block of blocks",
-        "if a.link.up { if b.link.up if c.link.up { } run x }",
-        "if a.up { if b.up { if c.up { } } run x } ",
-    ),
-    (
-        "longest period",
-        "if t every 604800 run x if t every 1 run x",
-        "if t/604800 { run x } if t/1 { run x } ",
-    ),
-];
+const PLACES: &str = r#"
+-- empty
+=>
+-- every item
+init-state a state a { init run x if b.link.up set-state a } init { } run y
+=> init-state a at 0 state a at 19 { init at 23 { run x } if b.up { set a at 47 } } init at 61 { } run y
+-- one action in an init
+state a { init run "x" }
+=> state a at 6 { init at 10 { run x } }
+-- two actions in an init
+state a { init { run "x" run "y" } }
+=> state a at 6 { init at 10 { run x run y } }
+-- an initial state
+init-state b state a { } state b { }
+=> init-state b at 0 state a at 19 { } state b at 31 { }
+-- a command of three words
+run "ifconfig carp0 advskew 10"
+=> run ifconfig carp0 advskew 10
+-- two actions of an if
+if em0.link.up { run "x" set-state b }
+=> if em0.up { run x set b at 25 }
+-- words read by place are names
+state link { if up.link.up run down set-state unknown }
+=> state link at 6 { if up.up { run down } set unknown at 36 }
+-- a quoted reserved word is a name
+run "if"
+=> run if
+-- a block of blocks
+if a.link.up { if b.link.up if c.link.up { } run x }
+=> if a.up { if b.up { if c.up { } } run x }
+-- longest period
+if t every 604800 run x if t every 1 run x
+=> if t/604800 { run x } if t/1 { run x }
+"#;
 
 #[test]
 fn conditions_bind_by_rule(rt: HostRuntime) -> Result<(), Fail> {
-    check_rows(&rt, rt.alloc(), &BINDING)
+    check_cases(&rt, BINDING, |text| told(rt.alloc(), text))
 }
 
 #[test]
 fn parts_stand_in_their_places(rt: HostRuntime) -> Result<(), Fail> {
-    check_rows(&rt, rt.alloc(), &PLACES)
+    check_cases(&rt, PLACES, |text| told(rt.alloc(), text))
 }
 
 fn repeat(out: &mut String, part: &str, times: u32) -> Result<(), AllocError> {
@@ -481,7 +443,9 @@ fn a_tree_of_16384_tokens(rt: HostRuntime) -> Result<(), Fail> {
 
 #[test]
 fn want_of_memory_has_no_line(rt: HostRuntime) -> Result<(), Fail> {
-    let text = format!(in rt.alloc(); "{}", ParseFault::Memory)?;
-    same(&rt, text.as_str(), "P0");
+    let of_lexer = format!(in rt.alloc(); "{}", LexFault::Memory)?;
+    same_in(&rt, "lexer", of_lexer.as_str(), "P0");
+    let of_parser = format!(in rt.alloc(); "{}", ParseFault::Memory)?;
+    same_in(&rt, "parser", of_parser.as_str(), "P0");
     Ok(())
 }
