@@ -5,6 +5,8 @@ use Rattle.std.specs.Prelude.{All}
 use Rattle.std.specs.List.{AllByRecursion}
 use Rattle.std.proofs.lemmas.List.{append-nil}
 use Rattle.std.proofs.lemmas.List.Elements.{All-head, All-tail}
+use Rattle.ifs_base.specs.declared.ids.CommandId.{CommandId}
+use Rattle.ifs_base.specs.declared.ids.StateId.{StateId}
 use Rattle.ifs_base.specs.declared.op.Op.{Op}
 use Rattle.ifs_base.specs.declared.op.Op.TheVariants.{Link, Test, Negate, Both, Either}
 use Rattle.ifs_policy.specs.Fits.{Sizes, ConditionFits, BlockFits, HandlersFit}
@@ -90,14 +92,20 @@ module _ (sizes : Sizes) where
 abbrev pub IsShort : ℕ → List Op → Type 0
 IsShort n code = length code + 1 ≤ n
 
+-- Each condition of a block has a property if a bound of the block gives it, and bounds all that follows or is inside.
+block_has : (P : List Op → Type 0) (Low : Block → Type 0) → ((m : CommandId) (rest : Block) → Low (RunThen m rest) → Low rest) → ((m : StateId) (rest : Block) → Low (SetStateThen m rest) → Low rest)
+    → ((c : Condition) (inner rest : Block) → Low (IfThen c inner rest) → P (condition_code c) × Low inner × Low rest) → (block : Block) → Low block → AllByRecursion P (conditions_of block)
+block_has P Low run set test Done low = tt
+block_has P Low run set test (RunThen m rest) low = block_has P Low run set test rest (run m rest low)
+block_has P Low run set test (SetStateThen m rest) low = block_has P Low run set test rest (set m rest low)
+block_has P Low run set test (IfThen c inner rest) low =
+    let all = test c inner rest low in
+    (all.0, each_both P (conditions_of inner) (conditions_of rest) (block_has P Low run set test inner all.1) (block_has P Low run set test rest all.2))
+
 block_short : (n : ℕ) (block : Block) → code_size plain_coder block ≤ n → AllByRecursion (IsShort n) (conditions_of block)
-block_short n Done low = tt
-block_short n (RunThen m rest) low = block_short n rest (omega (arith, low))
-block_short n (SetStateThen m rest) low = block_short n rest (omega (arith, low))
-block_short n (IfThen c inner rest) low = (
-  let long = condition_sized c in omega (arith, long, low),
-  each_both (IsShort n) (conditions_of inner) (conditions_of rest) (block_short n inner (omega (arith, low))) (block_short n rest (omega (arith, low))),
-)
+block_short n =
+    block_has (IsShort n) (λ block. code_size plain_coder block ≤ n) (λ m rest low. omega (arith, low)) (λ m rest low. omega (arith, low))
+    (λ c inner rest low. let long = condition_sized c in (omega (arith, long, low), omega (arith, low), omega (arith, low)))
 
 -- The codes are shorter than the limit of a routine, if the routines of their parts keep it.
 pub all_short : (count : ℕ) (parts : List Part) → All (PartCodeFits count) parts → AllByRecursion (IsShort 1023) (conditions_in parts)
@@ -114,13 +122,9 @@ abbrev pub IsLow : ℕ → List Op → Type 0
 IsLow n code = tall code ≤ n
 
 block_tall : (n : ℕ) (block : Block) → block_height plain_coder block ≤ n → AllByRecursion (IsLow n) (conditions_of block)
-block_tall n Done low = tt
-block_tall n (RunThen m rest) low = block_tall n rest (omega (arith, low))
-block_tall n (SetStateThen m rest) low = block_tall n rest (omega (arith, low))
-block_tall n (IfThen c inner rest) low = (
-  let high = tall_is c in omega (arith, high, low),
-  each_both (IsLow n) (conditions_of inner) (conditions_of rest) (block_tall n inner (omega (arith, low))) (block_tall n rest (omega (arith, low))),
-)
+block_tall n =
+    block_has (IsLow n) (λ block. block_height plain_coder block ≤ n) (λ m rest low. omega (arith, low)) (λ m rest low. omega (arith, low))
+    (λ c inner rest low. let high = tall_is c in (omega (arith, high, low), omega (arith, low), omega (arith, low)))
 
 -- The codes are no higher than the parts.
 pub all_tall : (n : ℕ) (parts : List Part) → greatest part_height parts ≤ n → AllByRecursion (IsLow n) (conditions_in parts)

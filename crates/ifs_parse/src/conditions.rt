@@ -20,18 +20,10 @@ use ifs_base::Span;
 use std::alloc::Global;
 
 /// The operands after the first two, and whether any operand is a chain.
+#[derive(Drop)]
 struct Others {
     rest: Vec<Condition<Test>>,
     is_mixed: bool,
-}
-
-impl Drop for Others {
-    fn drop(self) {
-        let Others {
-            rest: _rest,
-            is_mixed: _is_mixed,
-        } = self;
-    }
 }
 
 impl Others {

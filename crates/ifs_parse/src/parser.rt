@@ -29,18 +29,10 @@ pub struct Parser<'a> {
 }
 
 /// An operand of `||`, and whether it is two or more joined by `&&`.
+#[derive(Drop)]
 pub struct Operand {
     pub condition: Condition<Test>,
     pub is_chain: bool,
-}
-
-impl Drop for Operand {
-    fn drop(self) {
-        let Operand {
-            condition: _condition,
-            is_chain: _is_chain,
-        } = self;
-    }
 }
 
 impl Operand {

@@ -59,23 +59,27 @@ test_from one other h =
 test_found : (tests : List ExternalTest) (test : ExternalTest) → list_any (test_eq test) tests ≡ true → slice_get tests (position_or_len (test_eq test) tests) ≡ Some test
 test_found tests test h = found test_eq test (test_from test) tests h
 
+-- Two operands under a sign have their names if both do.
+named_both : (tables : Tables) (half : Half) (left right : tree.Condition Test) (sign : tree.Condition NamedSingle → tree.Condition NamedSingle → tree.Condition NamedSingle)
+    → (AreListed tables (condition_mentions half left) → with_leaves (named_single tables) (place_condition tables left) ≡ with_leaves text_single left)
+    → (AreListed tables (condition_mentions half right) → with_leaves (named_single tables) (place_condition tables right) ≡ with_leaves text_single right)
+    → AreListed tables (condition_mentions half left ++ condition_mentions half right)
+    → sign (with_leaves (named_single tables) (place_condition tables left)) (with_leaves (named_single tables) (place_condition tables right))
+        ≡ sign (with_leaves text_single left) (with_leaves text_single right)
+named_both tables half left right sign one two h =
+    let first = condition_mentions half left in
+    let second = condition_mentions half right in
+    let on_left = one (each_left (IsListed tables) first second h) in
+    let on_right = two (each_right (IsListed tables) first second h) in
+    λ i. sign (on_left i) (on_right i)
+
 named_condition : (tables : Tables) (half : Half) (c : tree.Condition Test) → AreListed tables (condition_mentions half c)
     → with_leaves (named_single tables) (place_condition tables c) ≡ with_leaves text_single c
 named_condition tables half (tree.Leaf (Link name state)) h = ap (λ (entry : Option (List ℕ)). tree.Leaf (NamedLink entry state)) (text_found tables.interfaces name.text h.0)
 named_condition tables half (tree.Leaf (External command period)) h = ap (λ (entry : Option ExternalTest). tree.Leaf (NamedTest entry)) (test_found tables.tests (test_of command period) h.0)
 named_condition tables half (tree.NotSo operand) h = ap (λ (c : tree.Condition NamedSingle). tree.NotSo c) (named_condition tables half operand h)
-named_condition tables half (tree.And left right) h =
-    let first = condition_mentions half left in
-    let second = condition_mentions half right in
-    let one = named_condition tables half left (each_left (IsListed tables) first second h) in
-    let two = named_condition tables half right (each_right (IsListed tables) first second h) in
-    λ i. tree.And (one i) (two i)
-named_condition tables half (tree.Or left right) h =
-    let first = condition_mentions half left in
-    let second = condition_mentions half right in
-    let one = named_condition tables half left (each_left (IsListed tables) first second h) in
-    let two = named_condition tables half right (each_right (IsListed tables) first second h) in
-    λ i. tree.Or (one i) (two i)
+named_condition tables half (tree.And left right) h = named_both tables half left right (λ a b. tree.And a b) (named_condition tables half left) (named_condition tables half right) h
+named_condition tables half (tree.Or left right) h = named_both tables half left right (λ a b. tree.Or a b) (named_condition tables half left) (named_condition tables half right) h
 
 named : (tables : Tables) (half : Half) (b : TextBlock) → AreListed tables (block_mentions half b) → named_block tables (place_block tables b) ≡ text_block b
 named tables half tree.Done h = refl
