@@ -99,7 +99,7 @@ skipped bytes rest n len back =
     let left = length-drop (prefix_len goes_on bytes) bytes in
     rw is (omega (arith, le, left, skips bytes))
 
--- ---- what stands behind a run
+-- ---- what follows a run
 
 behind_run : (test : ℕ → Bool) (bs : List ℕ) → prefix_len test (drop (prefix_len test bs) bs) ≡ 0
 behind_run test bs = by_prefix test (λ n xs. prefix_len test (drop n xs) ≡ 0) refl (λ b xs e. rw e refl) (λ b n xs e ih. ih) bs

@@ -212,7 +212,7 @@ writes_inside (b ∷ text) a = record { front = quoted_byte b; rest = flat_map q
 pub quoted_is : (text : List ℕ) → AllByRecursion (λ byte. 0 < byte) text → IsQuoted text (quoted text)
 quoted_is text a = record { inside = flat_map quoted_byte text; stand = writes_inside text a; whole = refl }
 
--- ---- no NUL stands in a text
+-- ---- no text has a NUL
 
 plain_some : (b : ℕ) → is_plain b ≡ true → b ≡ 0 → ⊥
 plain_some b e z = grind (arith, nat_tests)

@@ -138,7 +138,7 @@ IsOver said _ = ⊥
 abbrev pub IsOneTooMany : List Line → Line → Type 0
 IsOneTooMany said line = IsOver said line × (HasNoForm said line → ⊥)
 
--- Bytes say a line in its ranges that has a form and for which there is room: only its place is wrong.
+-- Bytes say a line that is in its ranges, has a form and has room. Only its place is wrong.
 pub record IsOutOfPlace (said : List Line) (bytes : List ℕ) : Type 0 where
   pub line : Line
   pub says : SaysLine bytes line
