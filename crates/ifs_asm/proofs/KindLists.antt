@@ -1,21 +1,21 @@
 -- Lists of kinds: reading one gives the kinds that it lists.
 use Rattle.std.proofs.Common.{◌≡◌, ℕ, ◌+◌, ◌<◌, ◌≤◌, true, false, List, [], ◌∷◌, ◌++◌, length, map}
 use Rattle.std.proofs.Common.{Option, Some, None, refl, sym, ap, subst, ◌∙◌, arith, codes, append_assoc, length-append}
-use Rattle.std.specs.Prelude.{◌==◌, nat_lt, option_and_then}
-use Rattle.std.specs.List.{flat_map, slice_split, AllByRecursion}
+use Rattle.std.specs.Prelude.{◌==◌, nat_lt}
+use Rattle.std.specs.List.{flat_map, slice_split, AllByRecursion, AllZip}
 use Rattle.std.specs.Str.{bytes_eq}
 use Rattle.std.proofs.lemmas.Bool.{cond_both, cond-false, ltb-true, lt-ltb, ne_eqb, or_from}
 use Rattle.std.proofs.lemmas.List.{append-nil}
 use Rattle.std.proofs.lemmas.List.Elements.{All-from_recursion}
 use Rattle.std.proofs.lemmas.List.Splits.{slice_split_none, slice_split_at}
-use Rattle.std.proofs.lemmas.Option.{option_and_then_some, cond_some, same_Some}
+use Rattle.std.proofs.lemmas.Option.{cond_some, same_Some}
 use Rattle.ifs_base.specs.Words.{listed}
 use Rattle.ifs_base.specs.declared.op.Kind.{Kind}
 use Rattle.ifs_base.specs.declared.op.Kind.TheVariants.{Truth, Command, StateName}
 use Rattle.ifs_asm.specs.Texts.{kind_word, kinds_word}
 use Rattle.ifs_asm.specs.inner.Words.{Bare, kind_in, with_kind, kinds_from, kinds_in}
 use Rattle.ifs_asm.proofs.Bytes.{each_weaker, each_listed, same_word}
-use Rattle.ifs_asm.proofs.MaskLists.{IsSolid, joined, runs_solid}
+use Rattle.ifs_asm.proofs.MaskLists.{Added, added_found, IsSolid, joined, runs_solid}
 use Rattle.ifs_asm.proofs.Cutting.{runs}
 
 -- ---- one kind
@@ -42,28 +42,25 @@ kind_some kinds more kind h =
     let c = cond_some (nat_lt (length kinds) 4) (kinds ++ kind ∷ []) more h in
     (ltb-true _ _ c.0, c.1)
 
--- The kinds that were read from parts, after some kinds.
-record Found (before : List Kind) (parts : List (List ℕ)) (all : List Kind) : Type 0 where
-  more : List Kind
-  words : map kind_word more ≡ parts
-  are : all ≡ before ++ more
+-- Kinds that were added to at most four kinds, so that there are at most four.
+record Grow (before kinds all : List Kind) : Type 0 where
+  are : all ≡ before ++ kinds
   few : length before ≤ 4 → length all ≤ 4
 
-found_from : (parts : List (List ℕ)) (before all : List Kind) → kinds_from before parts ≡ Some all → Found before parts all
-found_from [] before all h =
-    let same : before ≡ all = same_Some before all h in
-    record { more = []; words = refl; are = sym same ∙ sym (append-nil before); few = λ le. subst (λ (ks : List Kind). length ks ≤ 4) same le }
-found_from (part ∷ parts) before all h =
-    option_and_then_some (λ kind. option_and_then (λ more. kinds_from more parts) (with_kind before kind)) (kind_in part) all h (λ kind is_kind rest.
-    option_and_then_some (λ more. kinds_from more parts) (with_kind before kind) all rest (λ more is_more last.
+found_from : (parts : List (List ℕ)) (before all : List Kind) → kinds_from before parts ≡ Some all → Added kind_in Grow before parts all
+found_from = added_found kind_in with_kind Grow (λ before. record { are = sym (append-nil before); few = λ le. le }) (λ before more all kind kinds is_more grow.
     let k = kind_some before more kind is_more in
-    let f = found_from parts more all last in
     record {
-      more = kind ∷ f.more;
-      words = ap (λ (word : List ℕ). word ∷ map kind_word f.more) (sym (kind_found part kind is_kind)) ∙ ap (λ (words : List (List ℕ)). part ∷ words) f.words;
-      are = f.are ∙ ap (λ (ks : List Kind). ks ++ f.more) (sym k.1) ∙ append_assoc before (kind ∷ []) f.more;
-      few = λ le. f.few (omega (arith, k.0, ap length k.1, length-append before (kind ∷ [])));
-    }))
+      are = grow.are ∙ ap (λ (ks : List Kind). ks ++ kinds) (sym k.1) ∙ append_assoc before (kind ∷ []) kinds;
+      few = λ le. grow.few (omega (arith, k.0, ap length k.1, length-append before (kind ∷ [])));
+    })
+
+words_are : (parts : List (List ℕ)) (kinds : List Kind) → AllZip (λ part kind. kind_in part ≡ Some kind) parts kinds → parts ≡ map kind_word kinds
+words_are [] [] each = refl
+words_are [] (kind ∷ kinds) each = absurd each
+words_are (part ∷ parts) [] each = absurd each
+words_are (part ∷ parts) (kind ∷ kinds) each =
+    ap (λ (word : List ℕ). word ∷ parts) (kind_found part kind each.0) ∙ ap (λ (words : List (List ℕ)). kind_word kind ∷ words) (words_are parts kinds each.1)
 
 pub kinds_found : (word : List ℕ) (kinds : List Kind) → kinds_in word ≡ Some kinds → (word ≡ kinds_word kinds) × (length kinds ≤ 4)
 kinds_found word kinds h =
@@ -73,7 +70,7 @@ kinds_found word kinds h =
     (same_word word (codes "-") e ∙ ap kinds_word same, subst (λ (ks : List Kind). length ks ≤ 4) same (omega arith)))
     (λ e g.
     let f = found_from (slice_split (λ byte. byte == 44) word) [] kinds g in
-    (sym (joined word) ∙ ap listed (sym f.words) ∙ ap kinds_word (sym f.are), f.few (omega arith))) h
+    (sym (joined word) ∙ ap listed (words_are (slice_split (λ byte. byte == 44) word) f.items f.each) ∙ ap kinds_word (sym f.fact.are), f.fact.few (omega arith))) h
 
 -- ---- what lists kinds is read as them
 

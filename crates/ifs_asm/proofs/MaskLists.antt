@@ -19,7 +19,7 @@ use Rattle.ifs_base.specs.Words.{listed}
 use Rattle.ifs_base.specs.Numbers.{number_of}
 use Rattle.ifs_asm.specs.Texts.{tests_from, tests_of}
 use Rattle.ifs_asm.specs.Spellings.{is_space_or_tab, IsList}
-use Rattle.ifs_asm.specs.inner.Words.{Bare, with_test, masked, mask_in}
+use Rattle.ifs_asm.specs.inner.Words.{Bare, all_added, with_test, masked, mask_in}
 use Rattle.ifs_asm.proofs.Bytes.{IsDigit, number_digits, number_nonempty, number_decimal}
 use Rattle.ifs_asm.proofs.Bytes.{digit_is_not, each_weaker, each_listed, same_word}
 use Rattle.ifs_asm.proofs.Cutting.{runs, IsOneWord}
@@ -89,28 +89,30 @@ test_some mask test more h =
     let p = and_parts (nat_lt test 64) (nat_lt mask (2 ^ test)) c.0 in
     (ltb-true _ _ p.0, ltb-true _ _ p.1, sym c.1)
 
--- The numbers that were read from parts, after a mask.
-pub record Listed (mask : ℕ) (parts : List (List ℕ)) (all : ℕ) : Type 0 where
-  pub numbers : List ℕ
-  pub each : AllZip IsNumber parts numbers
-  pub are : tests_of all ≡ tests_of mask ++ numbers
+-- What was read from parts, and a fact on what there was before, what was read and what there is then.
+pub record Added {S X : Type 0} (read : List ℕ → Option X) (P : S → List X → S → Type 0) (before : S) (parts : List (List ℕ)) (all : S) : Type 0 where
+  pub items : List X
+  pub each : AllZip (λ part x. read part ≡ Some x) parts items
+  pub fact : P before items all
 
-listed_found : (parts : List (List ℕ)) (mask all : ℕ) → masked mask parts ≡ Some all → Listed mask parts all
-listed_found [] mask all h =
-    let same : mask ≡ all = grind arith in
-    record { numbers = []; each = tt; are = ap tests_of (sym same) ∙ sym (append-nil (tests_of mask)) }
-listed_found (part ∷ parts) mask all h =
-    option_and_then_some (λ test. option_and_then (λ more. masked more parts) (with_test mask test)) (number_of part) all h (λ test is_test rest.
-    option_and_then_some (λ more. masked more parts) (with_test mask test) all rest (λ more is_more last.
+pub added_found : {S X : Type 0} (read : List ℕ → Option X) (add : S → X → Option S) (P : S → List X → S → Type 0)
+    → ((s : S) → P s [] s) → ((s next all : S) (x : X) (xs : List X) → add s x ≡ Some next → P next xs all → P s (x ∷ xs) all)
+    → (parts : List (List ℕ)) (before all : S) → all_added read add before parts ≡ Some all → Added read P before parts all
+added_found {S} {X} read add P none more [] before all h = record { items = []; each = tt; fact = subst (λ (s : S). P before [] s) (same_Some before all h) (none before) }
+added_found read add P none more (part ∷ parts) before all h =
+    option_and_then_some (λ x. option_and_then (λ next. all_added read add next parts) (add before x)) (read part) all h (λ x is_x rest.
+    option_and_then_some (λ next. all_added read add next parts) (add before x) all rest (λ next is_next last.
+    let f = added_found read add P none more parts next all last in
+    record { items = x ∷ f.items; each = (is_x, f.each); fact = more before next all x f.items is_next f.fact }))
+
+-- A mask lists the tests of the mask before it, and then those that were added.
+abbrev Lists : ℕ → List ℕ → ℕ → Type 0
+Lists mask numbers all = tests_of all ≡ tests_of mask ++ numbers
+
+listed_found : (parts : List (List ℕ)) (mask all : ℕ) → masked mask parts ≡ Some all → Added number_of Lists mask parts all
+listed_found = added_found number_of with_test Lists (λ mask. sym (append-nil (tests_of mask))) (λ mask more all test numbers is_more are.
     let t = test_some mask test more is_more in
-    let f = listed_found parts more all last in
-    record {
-      numbers = test ∷ f.numbers;
-      each = (is_test, f.each);
-      are =
-          f.are ∙ ap (λ (m : ℕ). tests_of m ++ f.numbers) t.2 ∙ ap (λ (ns : List ℕ). ns ++ f.numbers) (tests_push test mask t.1 t.0)
-          ∙ append_assoc (tests_of mask) (test ∷ []) f.numbers;
-    }))
+    are ∙ ap (λ (m : ℕ). tests_of m ++ numbers) t.2 ∙ ap (λ (ns : List ℕ). ns ++ numbers) (tests_push test mask t.1 t.0) ∙ append_assoc (tests_of mask) (test ∷ []) numbers)
 
 -- Parts that were split at commas, joined again.
 joined_first : (b : ℕ) (parts : List (List ℕ)) → 0 < length parts → listed (onto_first b parts) ≡ b ∷ listed parts
@@ -144,25 +146,25 @@ mask_found word mask h =
     record { parts = []; each = subst (λ (ns : List ℕ). AllZip IsNumber [] ns) (sym no_tests ∙ ap tests_of same) tt; whole = same_word word (codes "-") e })
     (λ e g.
     let f = listed_found (slice_split (λ byte. byte == 44) word) 0 mask g in
-    let are : f.numbers ≡ tests_of mask = sym (f.are ∙ ap (λ (ns : List ℕ). ns ++ f.numbers) no_tests) in
+    let are : f.items ≡ tests_of mask = sym (f.fact ∙ ap (λ (ns : List ℕ). ns ++ f.items) no_tests) in
     record { parts = slice_split (λ byte. byte == 44) word; each = subst (λ (ns : List ℕ). AllZip IsNumber (slice_split (λ byte. byte == 44) word) ns) are f.each; whole = sym (joined word) }) h
 
 -- A mask that is read is below 2 ^ 64.
-masked_small : (parts : List (List ℕ)) (mask all : ℕ) → mask < 2 ^ 64 → masked mask parts ≡ Some all → all < 2 ^ 64
-masked_small [] mask all small h = subst (λ (m : ℕ). m < 2 ^ 64) (same_Some mask all h) small
-masked_small (part ∷ parts) mask all small h =
-    option_and_then_some (λ test. option_and_then (λ more. masked more parts) (with_test mask test)) (number_of part) all h (λ test is_test rest.
-    option_and_then_some (λ more. masked more parts) (with_test mask test) all rest (λ more is_more last.
+abbrev StaysSmall : ℕ → List ℕ → ℕ → Type 0
+StaysSmall mask numbers all = mask < 2 ^ 64 → all < 2 ^ 64
+
+masked_small : (parts : List (List ℕ)) (mask all : ℕ) → masked mask parts ≡ Some all → Added number_of StaysSmall mask parts all
+masked_small = added_found number_of with_test StaysSmall (λ mask small. small) (λ mask more all test numbers is_more small _.
     let t = test_some mask test more is_more in
     let double : 2 ^ suc test ≡ 2 ^ test * 2 = pow-suc 2 test in
     let most : 2 ^ suc test ≤ 2 ^ 64 = pow-le-pow_right {n = 2} (omega arith) {i = suc test} {j = 64} (omega (arith, t.0)) in
-    masked_small parts more all (omega (arith, t.1, t.2, double, most)) last))
+    small (omega (arith, t.1, t.2, double, most)))
 
 pub mask_small : (word : List ℕ) (mask : ℕ) → mask_in word ≡ Some mask → mask < 2 ^ 64
 mask_small word mask h =
     cond_both (bytes_eq word (codes "-")) (Some 0) (masked 0 (slice_split (λ byte. byte == 44) word)) (λ (o : Option ℕ). o ≡ Some mask → mask < 2 ^ 64)
     (λ e g. subst (λ (m : ℕ). m < 2 ^ 64) (same_Some 0 mask g) (omega arith))
-    (λ e g. masked_small (slice_split (λ byte. byte == 44) word) 0 mask (omega arith) g) h
+    (λ e g. (masked_small (slice_split (λ byte. byte == 44) word) 0 mask g).fact (omega arith)) h
 
 -- ---- what lists the tests of a mask is read as the mask
 

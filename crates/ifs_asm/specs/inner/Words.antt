@@ -153,6 +153,13 @@ pub record TakesRun (old new left rest : List ℕ) : Type 0 where
   pub shorter : length rest ≤ length left
   pub whole : prefix_len is_plain rest ≡ 0
 
+-- ---- lists
+
+-- What a list gives after some of its parts: each part is read, and what is read is added. None if a part cannot be read or added.
+abbrev pub all_added : {S X : Type 0} → (List ℕ → Option X) → (S → X → Option S) → S → List (List ℕ) → Option S
+all_added read add so_far [] = Some so_far
+all_added read add so_far (part ∷ parts) = option_and_then (λ x. option_and_then (λ more. all_added read add more parts) (add so_far x)) (read part)
+
 -- ---- lists of tests
 
 -- A mask with one more test, if that is greater than all its tests.
@@ -161,8 +168,7 @@ with_test mask test = if nat_lt test 64 && nat_lt mask (2 ^ test) then Some (2 ^
 
 -- A mask with further tests, given as numbers in digits.
 abbrev pub masked : ℕ → List (List ℕ) → Option ℕ
-masked mask [] = Some mask
-masked mask (part ∷ parts) = option_and_then (λ test. option_and_then (λ more. masked more parts) (with_test mask test)) (number_of part)
+masked mask parts = all_added number_of with_test mask parts
 
 -- The mask that a list spells.
 abbrev pub mask_in : List ℕ → Option ℕ
@@ -183,8 +189,7 @@ with_kind kinds kind = if nat_lt (length kinds) 4 then Some (kinds ++ kind ∷ [
 
 -- Kinds with further ones, given as words.
 abbrev pub kinds_from : List Kind → List (List ℕ) → Option (List Kind)
-kinds_from kinds [] = Some kinds
-kinds_from kinds (part ∷ parts) = option_and_then (λ kind. option_and_then (λ more. kinds_from more parts) (with_kind kinds kind)) (kind_in part)
+kinds_from kinds parts = all_added kind_in with_kind kinds parts
 
 -- The kinds that a list spells.
 abbrev pub kinds_in : List ℕ → Option (List Kind)
