@@ -21,13 +21,10 @@ pub(crate) fn run_in_quotes(bytes: &[u8]) -> usize
     ensures value { result ≡ prefix_len goes_on bytes.now }
     ensures within { result ≤ length bytes.now }
 {
-    if let Some((block, _)) = bytes.split_first_chunk::<BLOCK>() {
-        let ends = quotes_in_block(block);
-        if ends != 0 {
-            return ends.trailing_zeros() as usize;
-        }
+    match near_quote::<BLOCK>(bytes) {
+        Some(run) => run,
+        None => far_run(bytes),
     }
-    far_run(bytes)
 }
 
 /// The same for a run that may be long: compares a large block, and then searches.
@@ -36,32 +33,36 @@ fn far_run(bytes: &[u8]) -> usize
     ensures value { result ≡ prefix_len goes_on bytes.now }
     ensures within { result ≤ length bytes.now }
 {
-    if let Some((block, _)) = bytes.split_first_chunk::<LARGE>() {
-        let ends = quotes_in_large(block);
-        if ends != 0 {
-            return ends.trailing_zeros() as usize;
-        }
+    match near_quote::<LARGE>(bytes) {
+        Some(run) => run,
+        None => memchr2(b'"', b'\\', bytes).unwrap_or(bytes.len()),
     }
-    memchr2(b'"', b'\\', bytes).unwrap_or(bytes.len())
+}
+
+/// The same if the run ends in the first block, and `None` otherwise.
+#[inline(always)]
+fn near_quote<const N: usize>(bytes: &[u8]) -> Option<usize>
+    requires { N ≤ 64 }
+    ensures value { IfSome result (λ run. run ≡ prefix_len goes_on bytes.now) }
+    ensures within { IfSome result (λ run. run ≤ length bytes.now) }
+{
+    let (block, _) = bytes.split_first_chunk::<N>()?;
+    let ends = quotes_in(block);
+    if ends == 0 {
+        None
+    } else {
+        Some(ends.trailing_zeros() as usize)
+    }
 }
 
 /// The quotes and backslashes of a block, one bit for each byte.
 #[inline(always)]
-fn quotes_in_block(block: &[u8; BLOCK]) -> u64
+fn quotes_in<const N: usize>(block: &[u8; N]) -> u64
+    requires { N ≤ 64 }
     ensures { result ≡ mask_l (map (λ byte. not (goes_on byte)) block.now) }
 {
-    let bytes = u8x16::from_array(*block);
-    let ends = bytes.simd_eq(u8x16::splat(b'"')) | bytes.simd_eq(u8x16::splat(b'\\'));
-    ends.to_bitmask()
-}
-
-/// The quotes and backslashes of a large block, one bit for each byte.
-#[inline(always)]
-fn quotes_in_large(block: &[u8; LARGE]) -> u64
-    ensures { result ≡ mask_l (map (λ byte. not (goes_on byte)) block.now) }
-{
-    let bytes = u8x32::from_array(*block);
-    let ends = bytes.simd_eq(u8x32::splat(b'"')) | bytes.simd_eq(u8x32::splat(b'\\'));
+    let bytes = Simd::from_array(*block);
+    let ends = bytes.simd_eq(Simd::splat(b'"')) | bytes.simd_eq(Simd::splat(b'\\'));
     ends.to_bitmask()
 }
 
@@ -87,7 +88,7 @@ pub(crate) fn near_end(bytes: &[u8]) -> Option<usize>
     ensures within { IfSome result (λ run. run ≤ length bytes.now) }
 {
     let (block, _) = bytes.split_first_chunk::<BLOCK>()?;
-    let ends = others_in_block(block);
+    let ends = others_in(block);
     if ends == 0 {
         None
     } else {
@@ -103,7 +104,7 @@ pub(crate) fn far_plain(bytes: &[u8]) -> usize
 {
     let mut left = bytes;
     while let Some((block, rest)) = left.split_first_chunk::<LARGE>() {
-        let ends = others_in_large(block);
+        let ends = others_in(block);
         if ends != 0 {
             return bytes.len() - left.len() + ends.trailing_zeros() as usize;
         }
@@ -125,27 +126,15 @@ fn last_plain(bytes: &[u8]) -> usize
 
 /// The bytes of a block that are not plain, one bit for each byte.
 #[inline(always)]
-fn others_in_block(block: &[u8; BLOCK]) -> u64
+fn others_in<const N: usize>(block: &[u8; N]) -> u64
+    requires { N ≤ 64 }
     ensures { result ≡ mask_l (map (λ byte. not (is_plain byte)) block.now) }
 {
-    let bytes = u8x16::from_array(*block);
-    let ends = bytes.simd_lt(u8x16::splat(32))
-        | bytes.simd_eq(u8x16::splat(127))
-        | bytes.simd_eq(u8x16::splat(b'"'))
-        | bytes.simd_eq(u8x16::splat(b'\\'));
-    ends.to_bitmask()
-}
-
-/// The bytes of a large block that are not plain, one bit for each byte.
-#[inline(always)]
-fn others_in_large(block: &[u8; LARGE]) -> u64
-    ensures { result ≡ mask_l (map (λ byte. not (is_plain byte)) block.now) }
-{
-    let bytes = u8x32::from_array(*block);
-    let ends = bytes.simd_lt(u8x32::splat(32))
-        | bytes.simd_eq(u8x32::splat(127))
-        | bytes.simd_eq(u8x32::splat(b'"'))
-        | bytes.simd_eq(u8x32::splat(b'\\'));
+    let bytes = Simd::from_array(*block);
+    let ends = bytes.simd_lt(Simd::splat(32))
+        | bytes.simd_eq(Simd::splat(127))
+        | bytes.simd_eq(Simd::splat(b'"'))
+        | bytes.simd_eq(Simd::splat(b'\\'));
     ends.to_bitmask()
 }
 

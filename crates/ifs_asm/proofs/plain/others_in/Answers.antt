@@ -1,0 +1,12 @@
+use Rattle.std.proofs.Common.{not, arith}
+use Rattle.std.specs.Prelude.{◌==◌, nat_lt}
+use Rattle.std.proofs.lemmas.Simd.{zip2_splat, zip2_of_maps}
+use Rattle.ifs_asm.specs.Spellings.{is_plain}
+use Rattle.ifs_asm.proofs.Blocks.{marks_are, one_of_four}
+use Rattle.ifs_asm.proofs.plain.others_in.Goals as goal
+
+pub returns : goal.returns
+returns g c =
+    let v = c.args.block.now in
+    let long = c.told-block in
+    marks_are (λ byte. not (is_plain byte)) v _ _ (omega (arith, long, c.requires)) (zip2_of_maps _ _ _ v (zip2_of_maps _ _ _ v (zip2_of_maps _ _ _ v (zip2_splat _ v g.row.N 32 long) (zip2_splat _ v g.row.N 127 long)) (zip2_splat _ v g.row.N 34 long)) (zip2_splat _ v g.row.N 92 long)) (λ byte. one_of_four (nat_lt byte 32) (byte == 127) (byte == 34) (byte == 92))
