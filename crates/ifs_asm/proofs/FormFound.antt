@@ -19,13 +19,15 @@ use Rattle.ifs_base.specs.declared.op.Kind.{Kind}
 use Rattle.ifs_asm.specs.declared.line.Version.TheVariants.{One, Two}
 use Rattle.ifs_asm.specs.declared.line.Head.TheVariants.{Plain, Signature}
 use Rattle.ifs_asm.specs.declared.line.Line.{Line}
+use Rattle.ifs_asm.specs.declared.forms.Field.{Field}
+use Rattle.ifs_asm.specs.declared.forms.Field.TheVariants.{Stack, Frames, Cost, Commands, Start}
 use Rattle.ifs_asm.specs.declared.line.Line.TheVariants as lines
 use Rattle.ifs_asm.specs.Texts.{words_of, handlers_words, truths, kinds_word}
 use Rattle.ifs_asm.specs.Spellings.{IsQuoted}
 use Rattle.ifs_asm.specs.inner.Words.{Start, text_from, in_utf8, mask_in, kinds_in}
 use Rattle.ifs_asm.specs.inner.Forms.{plain_op, indexed_op, link_state_in, up_to, number_up_to, text_within, sized_text}
 use Rattle.ifs_asm.specs.inner.Forms.{period_within, period_in, number_line, two_words, routine_line, signed_line, signature_line, link_line}
-use Rattle.ifs_asm.specs.inner.Forms.{test_line}
+use Rattle.ifs_asm.specs.inner.Forms.{test_line, field_in, most_of, field_line, numbered_line}
 use Rattle.ifs_asm.specs.inner.Forms.{three_words, numbered_handlers, handlers_in, state_line, long_line, line_of}
 use Rattle.ifs_asm.proofs.Bytes.{same_word}
 use Rattle.ifs_asm.proofs.Quotes.{text_found, no_nul}
@@ -127,21 +129,37 @@ indexed_found name word n is small =
     pick_op (name ∷ word ∷ []) name (codes "jt") _ _ (λ e. ((e, (is, tt)), small)) (
     pick_op (name ∷ word ∷ []) name (codes "call") _ _ (λ e. ((e, (is, tt)), small)) tt)))))))
 
--- A fixed word and a number up to a limit.
-numbered : (name key word : List ℕ) (most : ℕ) (f : ℕ → Line) → ((n : ℕ) → name ≡ key → number_of word ≡ Some n → n ≤ most → Has (name ∷ word ∷ []) (f n)) → name ≡ key → Gives (name ∷ word ∷ []) (option_map f (number_up_to most word))
-numbered name key word most f h e = up_cases most word (λ o. Gives (name ∷ word ∷ []) (option_map f o)) tt (λ n is le. h n e is le)
-
 texted : (name key word : List ℕ) (f : List ℕ → Line) → ((t : List ℕ) → name ≡ key → IsQuoted t word → TextGood t → Has (name ∷ word ∷ []) (f t)) → name ≡ key → Gives (name ∷ word ∷ []) (option_map f (sized_text word))
 texted name key word f h e = text_cases word (λ o. Gives (name ∷ word ∷ []) (option_map f o)) tt (λ t is good. h t e is good)
 
+-- The name of a field.
+abbrev field_word : Field → List ℕ
+field_word Stack = codes "stack"
+field_word Frames = codes "frames"
+field_word Cost = codes "cost"
+field_word Commands = codes "commands"
+field_word Start = codes "start"
+
+field_cases : (name : List ℕ) (H : Option Field → Type 0) → H None → ((field : Field) → name ≡ field_word field → H (Some field)) → H (field_in name)
+field_cases name H none some =
+    cond_both (bytes_eq name (codes "stack")) _ _ H (λ e. some Stack (same_word name (codes "stack") e)) (λ _.
+    cond_both (bytes_eq name (codes "frames")) _ _ H (λ e. some Frames (same_word name (codes "frames") e)) (λ _.
+    cond_both (bytes_eq name (codes "cost")) _ _ H (λ e. some Cost (same_word name (codes "cost") e)) (λ _.
+    cond_both (bytes_eq name (codes "commands")) _ _ H (λ e. some Commands (same_word name (codes "commands") e)) (λ _.
+    cond_both (bytes_eq name (codes "start")) _ _ H (λ e. some Start (same_word name (codes "start") e)) (λ _. none)))))
+
+field_has : (field : Field) (name word : List ℕ) (n : ℕ) → name ≡ field_word field → number_of word ≡ Some n → n ≤ most_of field → Has (name ∷ word ∷ []) (field_line field n)
+field_has Stack name word n e is le = ((e, (is, tt)), le)
+field_has Frames name word n e is le = ((e, (is, tt)), le)
+field_has Cost name word n e is le = ((e, (is, tt)), le)
+field_has Commands name word n e is le = ((e, (is, tt)), le)
+field_has Start name word n e is le = ((e, (is, tt)), omega (arith, le))
+
 number_found : (name word : List ℕ) → Gives (name ∷ word ∷ []) (number_line name word)
 number_found name word =
-    pick (name ∷ word ∷ []) name (codes "stack") _ _ (numbered name (codes "stack") word 32 lines.Stack (λ n e is le. ((e, (is, tt)), le))) (
-    pick (name ∷ word ∷ []) name (codes "frames") _ _ (numbered name (codes "frames") word 32 lines.Frames (λ n e is le. ((e, (is, tt)), le))) (
-    pick (name ∷ word ∷ []) name (codes "cost") _ _ (numbered name (codes "cost") word 300000 lines.Cost (λ n e is le. ((e, (is, tt)), le))) (
-    pick (name ∷ word ∷ []) name (codes "commands") _ _ (numbered name (codes "commands") word 64 lines.Commands (λ n e is le. ((e, (is, tt)), le))) (
-    pick (name ∷ word ∷ []) name (codes "start") _ _ (numbered name (codes "start") word 65535 (λ n. lines.Start (record { 0 = n })) (λ n e is le. ((e, (is, tt)), omega (arith, le))))
-    (up_cases 65535 word (λ o. Gives (name ∷ word ∷ []) (option_and_then (λ n. option_map lines.Instruction (indexed_op name n)) o)) tt (λ n is le. indexed_found name word n is (omega (arith, le))))))))
+    field_cases name (λ o. Gives (name ∷ word ∷ []) (numbered_line o name word))
+    (up_cases 65535 word (λ o. Gives (name ∷ word ∷ []) (option_and_then (λ n. option_map lines.Instruction (indexed_op name n)) o)) tt (λ n is le. indexed_found name word n is (omega (arith, le))))
+    (λ field e. up_cases (most_of field) word (λ o. Gives (name ∷ word ∷ []) (option_map (field_line field) o)) tt (λ n is le. field_has field name word n e is le))
 
 two_found : (name word : List ℕ) → Gives (name ∷ word ∷ []) (two_words name word)
 two_found name word =

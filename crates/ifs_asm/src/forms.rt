@@ -5,7 +5,7 @@ ghost use Rattle.std.specs.Str.{bytes_eq};
 ghost use Rattle.ifs_asm.specs.declared.line.Line.TheVariants as lines;
 ghost use Rattle.ifs_asm.specs.inner.Forms.{plain_op, indexed_op, link_state_in, number_up_to, sized_text, period_in};
 ghost use Rattle.ifs_asm.specs.inner.Forms.{version, indexed_line, number_line, two_words, routine_line, link_line};
-ghost use Rattle.ifs_asm.specs.inner.Forms.{signed_line, signature_line};
+ghost use Rattle.ifs_asm.specs.inner.Forms.{field_in, most_of, field_line, signed_line, signature_line};
 ghost use Rattle.ifs_asm.specs.inner.Forms.{test_line, three_words, handlers_in, numbered_handlers, long_line};
 ghost use Rattle.ifs_asm.specs.inner.Forms.{state_line, line_of, formed, bounded, sized_by, handlers_by};
 
@@ -13,6 +13,7 @@ use crate::kinds::{KindsForm, kinds_of};
 use crate::line::{Head, Line, Version};
 use crate::lists::{ListForm, list_of};
 use crate::quoting::text_of;
+use crate::words::{is, value_of};
 use ifs_base::{
     CommandId, IfaceId, LinkState, Number, Op, RoutineId, StateId, TestId, Text, parse_number,
 };
@@ -78,54 +79,34 @@ fn one_word(name: &[u8]) -> Option<Formed>
 fn plain_op(name: &[u8]) -> Option<Op>
     ensures { result ≡ plain_op name.now }
 {
-    if name == b"ret".as_slice() {
-        Some(Op::Ret)
-    } else if name == b"true".as_slice() {
-        Some(Op::Yes)
-    } else if name == b"false".as_slice() {
-        Some(Op::No)
-    } else if name == b"not".as_slice() {
-        Some(Op::Negate)
-    } else if name == b"and".as_slice() {
-        Some(Op::Both)
-    } else if name == b"or".as_slice() {
-        Some(Op::Either)
-    } else if name == b"queue".as_slice() {
-        Some(Op::Queue)
-    } else if name == b"want".as_slice() {
-        Some(Op::Want)
-    } else if name == b"pop".as_slice() {
-        Some(Op::Pop)
-    } else if name == b"dup".as_slice() {
-        Some(Op::Dup)
-    } else {
-        None
-    }
+    value_of!(name;
+        b"ret" => Op::Ret,
+        b"true" => Op::Yes,
+        b"false" => Op::No,
+        b"not" => Op::Negate,
+        b"and" => Op::Both,
+        b"or" => Op::Either,
+        b"queue" => Op::Queue,
+        b"want" => Op::Want,
+        b"pop" => Op::Pop,
+        b"dup" => Op::Dup,
+    )
 }
 
 /// An instruction with an operand.
 fn indexed_op(name: &[u8], operand: u16) -> Option<Op>
     ensures { result ≡ indexed_op name.now operand }
 {
-    if name == b"test".as_slice() {
-        Some(Op::Test(TestId(operand)))
-    } else if name == b"known".as_slice() {
-        Some(Op::Known(TestId(operand)))
-    } else if name == b"cmd".as_slice() {
-        Some(Op::PushCommand(CommandId(operand)))
-    } else if name == b"state".as_slice() {
-        Some(Op::PushState(StateId(operand)))
-    } else if name == b"jump".as_slice() {
-        Some(Op::Jump(operand))
-    } else if name == b"jf".as_slice() {
-        Some(Op::JumpFalse(operand))
-    } else if name == b"jt".as_slice() {
-        Some(Op::JumpTrue(operand))
-    } else if name == b"call".as_slice() {
-        Some(Op::Call(RoutineId(operand)))
-    } else {
-        None
-    }
+    value_of!(name;
+        b"test" => Op::Test(TestId(operand)),
+        b"known" => Op::Known(TestId(operand)),
+        b"cmd" => Op::PushCommand(CommandId(operand)),
+        b"state" => Op::PushState(StateId(operand)),
+        b"jump" => Op::Jump(operand),
+        b"jf" => Op::JumpFalse(operand),
+        b"jt" => Op::JumpTrue(operand),
+        b"call" => Op::Call(RoutineId(operand)),
+    )
 }
 
 /// Reads a number up to a limit. Returns `None` if the word is no number.
@@ -178,9 +159,9 @@ fn is_sized(text: &Text) -> bool
 fn version(word: &[u8]) -> Option<Formed>
     ensures { formed result ≡ version word.now }
 {
-    let version = if word == b"1".as_slice() {
+    let version = if is(word, b"1") {
         Version::One
-    } else if word == b"2".as_slice() {
+    } else if is(word, b"2") {
         Version::Two
     } else {
         return None;
@@ -205,23 +186,62 @@ fn indexed_line(name: &[u8], word: &[u8]) -> Option<Formed>
 fn number_line(name: &[u8], word: &[u8]) -> Option<Formed>
     ensures { formed result ≡ number_line name.now word.now }
 {
-    if name == b"stack".as_slice() {
-        let number = number_up_to(word, u32::from(limits::STACK))?;
-        Some(number.says(Line::Stack(number.value as u16)))
-    } else if name == b"frames".as_slice() {
-        let number = number_up_to(word, u32::from(limits::FRAMES))?;
-        Some(number.says(Line::Frames(number.value as u16)))
-    } else if name == b"cost".as_slice() {
-        let number = number_up_to(word, limits::EVENT_COST)?;
-        Some(number.says(Line::Cost(number.value)))
-    } else if name == b"commands".as_slice() {
-        let number = number_up_to(word, u32::from(limits::COMMANDS_OF_EVENT))?;
-        Some(number.says(Line::Commands(number.value as u16)))
-    } else if name == b"start".as_slice() {
-        let number = number_up_to(word, INDEX)?;
-        Some(number.says(Line::Start(StateId(number.value as u16))))
-    } else {
-        indexed_line(name, word)
+    let Some(field) = Field::of(name) else {
+        return indexed_line(name, word);
+    };
+    let number = number_up_to(word, field.most())?;
+    Some(number.says(field.line(number.value)))
+}
+
+/// A number that a line before the tables states.
+#[derive(Clone, Copy)]
+pub(crate) enum Field {
+    Stack,
+    Frames,
+    Cost,
+    Commands,
+    Start,
+}
+
+impl Field {
+    /// The field that a name begins the line of.
+    fn of(name: &[u8]) -> Option<Field>
+        ensures { result ≡ field_in name.now }
+    {
+        value_of!(name;
+            b"stack" => Field::Stack,
+            b"frames" => Field::Frames,
+            b"cost" => Field::Cost,
+            b"commands" => Field::Commands,
+            b"start" => Field::Start,
+        )
+    }
+
+    /// Its greatest number.
+    fn most(self) -> u32
+        ensures { result ≡ most_of self }
+    {
+        match self {
+            Field::Stack => u32::from(limits::STACK),
+            Field::Frames => u32::from(limits::FRAMES),
+            Field::Cost => limits::EVENT_COST,
+            Field::Commands => u32::from(limits::COMMANDS_OF_EVENT),
+            Field::Start => INDEX,
+        }
+    }
+
+    /// Its line with a number in its range.
+    fn line(self, number: u32) -> Line
+        requires { number ≤ most_of self }
+        ensures { result ≡ field_line self number }
+    {
+        match self {
+            Field::Stack => Line::Stack(number as u16),
+            Field::Frames => Line::Frames(number as u16),
+            Field::Cost => Line::Cost(number),
+            Field::Commands => Line::Commands(number as u16),
+            Field::Start => Line::Start(StateId(number as u16)),
+        }
     }
 }
 
@@ -242,11 +262,11 @@ impl Bounded {
 fn two_words(alloc: Global, name: &[u8], word: &[u8]) -> Result<Option<Formed>, AllocError>
     ensures { IfOk result (λ form. formed form ≡ two_words name.now word.now) }
 {
-    if name == b"ifsv".as_slice() {
+    if is(name, b"ifsv") {
         Ok(version(word))
-    } else if name == b"iface".as_slice() {
+    } else if is(name, b"iface") {
         interface_line(alloc, word)
-    } else if name == b"command".as_slice() {
+    } else if is(name, b"command") {
         command_line(alloc, word)
     } else {
         Ok(number_line(name, word))
@@ -282,11 +302,11 @@ fn three_words(
 ) -> Result<Option<Formed>, AllocError>
     ensures { IfOk result (λ form. formed form ≡ three_words name.now first.now second.now) }
 {
-    if name == b"routine".as_slice() {
+    if is(name, b"routine") {
         Ok(routine_line(first, second))
-    } else if name == b"link".as_slice() {
+    } else if is(name, b"link") {
         Ok(link_line(first, second))
-    } else if name == b"test".as_slice() {
+    } else if is(name, b"test") {
         test_line(alloc, first, second)
     } else {
         Ok(None)
@@ -297,7 +317,7 @@ fn three_words(
 fn routine_line(word: &[u8], results: &[u8]) -> Option<Formed>
     ensures { formed result ≡ routine_line word.now results.now }
 {
-    if word != b"results".as_slice() {
+    if !is(word, b"results") {
         return None;
     }
     let number = number_up_to(results, u32::from(limits::TRUTHS))?;
@@ -308,11 +328,11 @@ fn routine_line(word: &[u8], results: &[u8]) -> Option<Formed>
 fn long_line(alloc: Global, name: &[u8], words: &[&[u8]]) -> Result<Option<Formed>, AllocError>
     ensures { IfOk result (λ form. formed form ≡ long_line name.now (map (λ word. word.now) words.now)) }
 {
-    if name == b"routine".as_slice() {
+    if is(name, b"routine") {
         Ok(signature_line(words))
-    } else if name == b"always".as_slice() {
+    } else if is(name, b"always") {
         Ok(always_line(words))
-    } else if name == b"state".as_slice() {
+    } else if is(name, b"state") {
         state_line(alloc, words)
     } else {
         Ok(None)
@@ -326,10 +346,10 @@ fn signature_line(words: &[&[u8]]) -> Option<Formed>
     let [a, params, b, results] = words else {
         return None;
     };
-    if *a != b"params".as_slice() {
+    if !is(a, b"params") {
         return None;
     }
-    if *b != b"results".as_slice() {
+    if !is(b, b"results") {
         return None;
     }
     signed_line(params, results)
@@ -361,15 +381,11 @@ fn link_line(number: &[u8], state: &[u8]) -> Option<Formed>
 fn link_state(word: &[u8]) -> Option<LinkState>
     ensures { result ≡ link_state_in word.now }
 {
-    if word == b"unknown".as_slice() {
-        Some(LinkState::Unknown)
-    } else if word == b"down".as_slice() {
-        Some(LinkState::Down)
-    } else if word == b"up".as_slice() {
-        Some(LinkState::Up)
-    } else {
-        None
-    }
+    value_of!(word;
+        b"unknown" => LinkState::Unknown,
+        b"down" => LinkState::Down,
+        b"up" => LinkState::Up,
+    )
 }
 
 /// The line of an external test.
@@ -408,7 +424,7 @@ fn handlers_in(words: &[&[u8]]) -> Option<HandlersForm>
 fn are_keys(a: &[u8], b: &[u8], c: &[u8]) -> bool
     ensures { result ≡ (bytes_eq a.now (codes "init") && (bytes_eq b.now (codes "body") && bytes_eq c.now (codes "tests"))) }
 {
-    a == b"init".as_slice() && b == b"body".as_slice() && c == b"tests".as_slice()
+    is(a, b"init") && is(b, b"body") && is(c, b"tests")
 }
 
 /// Reads handlers from two numbers and a list.

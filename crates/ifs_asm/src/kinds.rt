@@ -6,6 +6,7 @@ ghost use Rattle.ifs_asm.specs.inner.Words.{kind_in, kinds_in, kinds_from, with_
 ghost use Rattle.ifs_asm.specs.inner.Forms.{kinds_by, parts_left};
 
 use crate::lists::cut_at_comma;
+use crate::words::{is, value_of};
 use ifs_base::Kind;
 use ifs_image::Kinds;
 
@@ -22,7 +23,7 @@ pub(crate) struct KindsForm {
 pub(crate) fn kinds_of(word: &[u8]) -> Option<KindsForm>
     ensures { kinds_by result ≡ kinds_in word.now }
 {
-    if word == b"-".as_slice() {
+    if is(word, b"-") {
         return Some(KindsForm::new());
     }
     each_of(word)
@@ -46,15 +47,11 @@ fn each_of(word: &[u8]) -> Option<KindsForm>
 fn kind_of(word: &[u8]) -> Option<Kind>
     ensures { result ≡ kind_in word.now }
 {
-    if word == b"truth".as_slice() {
-        Some(Kind::Truth)
-    } else if word == b"command".as_slice() {
-        Some(Kind::Command)
-    } else if word == b"state".as_slice() {
-        Some(Kind::StateName)
-    } else {
-        None
-    }
+    value_of!(word;
+        b"truth" => Kind::Truth,
+        b"command" => Kind::Command,
+        b"state" => Kind::StateName,
+    )
 }
 
 impl KindsForm {

@@ -5,6 +5,7 @@ ghost use Rattle.std.specs.List.{slice_split, position};
 ghost use Rattle.ifs_asm.specs.inner.Words.{mask_in, masked, with_test};
 ghost use Rattle.ifs_asm.specs.inner.Forms.{mask_by, listed_by, parts_left};
 
+use crate::words::is;
 use ifs_base::{Number, parse_number};
 
 /// A list of tests.
@@ -20,7 +21,7 @@ pub(crate) enum ListForm {
 pub(crate) fn list_of(word: &[u8]) -> Option<ListForm>
     ensures { listed_by result ≡ mask_in word.now }
 {
-    if word == b"-".as_slice() {
+    if is(word, b"-") {
         return Some(ListForm::Mask(0));
     }
     numbers_of(word)

@@ -10,6 +10,7 @@ ghost use Rattle.ifs_asm.specs.inner.Words.{in_utf8, quote_turn, after_turn, giv
 ghost use Rattle.ifs_base.specs.Words.{quoted_byte, quoted};
 
 use crate::plain::{far_plain, near_end, plain_run};
+use crate::words::is;
 use ifs_base::{QuotedByte, Text, digit_value, limits, quote_byte};
 use std::alloc::{AllocError, Global};
 
@@ -140,7 +141,7 @@ fn unquoted_inside(alloc: Global, inside: &[u8]) -> Result<Option<Vec<u8>>, Allo
         bytes.push(escape.byte)?;
         left = take_run(&mut bytes, escape.rest)?;
     }
-    if left == b"\"".as_slice() {
+    if is(left, b"\"") {
         Ok(Some(bytes))
     } else {
         Ok(None)

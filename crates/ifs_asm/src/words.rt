@@ -2,6 +2,7 @@
 
 ghost use Rattle.std.specs.Prelude.{◌≡◌, ◌≤◌, ◌+◌, length, map};
 ghost use Rattle.std.specs.List.{prefix_len};
+ghost use Rattle.std.specs.Str.{bytes_eq};
 ghost use Rattle.ifs_asm.specs.Spellings.{is_space_or_tab, is_silent};
 ghost use Rattle.ifs_asm.specs.inner.Words.{Bare, Inside, mode_after, goes_on, word_len, after_blanks, words_up_to};
 
@@ -13,6 +14,30 @@ const WORDS: usize = 9;
 
 /// The first words of a line, nine at most.
 pub(crate) type Words<'a> = ArrayVec<&'a [u8], WORDS>;
+
+/// The value beside the key that a word is, and `None` if the word is none of the keys.
+macro_rules! value_of {
+    ($word:expr; $($key:literal => $value:expr),+ $(,)?) => {
+        $(if $crate::words::is($word, $key) {
+            Some($value)
+        } else)+ {
+            None
+        }
+    };
+}
+
+pub(crate) use value_of;
+
+/// Whether a word is this key. Arrays of one length are compared at once, where slices of unknown length cost a call.
+#[inline(always)]
+pub(crate) fn is<const N: usize>(word: &[u8], key: &[u8; N]) -> bool
+    ensures { result ≡ bytes_eq word.now key.now }
+{
+    match <&[u8; N]>::try_from(word) {
+        Ok(same_length) => *same_length == *key,
+        Err(_) => false,
+    }
+}
 
 /// Whether a line is empty or a comment.
 pub(crate) fn is_silent(line: &[u8]) -> bool

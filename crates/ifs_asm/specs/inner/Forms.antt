@@ -16,6 +16,8 @@ use Rattle.ifs_asm.specs.declared.line.Version.TheVariants.{One, Two}
 use Rattle.ifs_asm.specs.declared.line.Head.TheVariants.{Plain, Signature}
 use Rattle.ifs_asm.specs.declared.line.Line.{Line}
 use Rattle.ifs_asm.specs.declared.line.Line.TheVariants as lines
+use Rattle.ifs_asm.specs.declared.forms.Field.{Field}
+use Rattle.ifs_asm.specs.declared.forms.Field.TheVariants.{Stack, Frames, Cost, Commands, Start}
 use Rattle.ifs_asm.specs.declared.forms.Formed.{Formed}
 use Rattle.ifs_asm.specs.declared.forms.Bounded.{Bounded}
 use Rattle.ifs_asm.specs.declared.forms.SizedText.{SizedText}
@@ -92,15 +94,39 @@ version word =
 abbrev pub indexed_line : List ℕ → List ℕ → Option Line
 indexed_line name word = option_and_then (λ n. option_map lines.Instruction (indexed_op name n)) (number_up_to 65535 word)
 
+-- The field that a name begins the line of.
+abbrev pub field_in : List ℕ → Option Field
+field_in name =
+    if bytes_eq name (codes "stack") then Some Stack else
+    if bytes_eq name (codes "frames") then Some Frames else
+    if bytes_eq name (codes "cost") then Some Cost else
+    if bytes_eq name (codes "commands") then Some Commands else
+    if bytes_eq name (codes "start") then Some Start else None
+
+-- The greatest number of a field.
+abbrev pub most_of : Field → ℕ
+most_of Stack = 32
+most_of Frames = 32
+most_of Cost = 300000
+most_of Commands = 64
+most_of Start = 65535
+
+-- The line of a field with a number.
+abbrev pub field_line : Field → ℕ → Line
+field_line Stack n = lines.Stack n
+field_line Frames n = lines.Frames n
+field_line Cost n = lines.Cost n
+field_line Commands n = lines.Commands n
+field_line Start n = lines.Start (record { 0 = n })
+
+-- A line of a name and a number, given the field of the name.
+abbrev pub numbered_line : Option Field → List ℕ → List ℕ → Option Line
+numbered_line None name word = indexed_line name word
+numbered_line (Some field) name word = option_map (field_line field) (number_up_to (most_of field) word)
+
 -- A line of a name and a number.
 abbrev pub number_line : List ℕ → List ℕ → Option Line
-number_line name word =
-    if bytes_eq name (codes "stack") then option_map lines.Stack (number_up_to 32 word) else
-    if bytes_eq name (codes "frames") then option_map lines.Frames (number_up_to 32 word) else
-    if bytes_eq name (codes "cost") then option_map lines.Cost (number_up_to 300000 word) else
-    if bytes_eq name (codes "commands") then option_map lines.Commands (number_up_to 64 word) else
-    if bytes_eq name (codes "start") then option_map (λ n. lines.Start (record { 0 = n })) (number_up_to 65535 word) else
-    indexed_line name word
+number_line name word = numbered_line (field_in name) name word
 
 -- A line of a name and a word.
 abbrev pub two_words : List ℕ → List ℕ → Option Line
