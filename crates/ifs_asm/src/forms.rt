@@ -406,7 +406,8 @@ fn test_line(alloc: Global, number: &[u8], text: &[u8]) -> Result<Option<Formed>
     Ok(Some(Formed { line, fits }))
 }
 
-/// Reads handlers from their words.
+/// Reads handlers from their words. It is inlined, since the words of each line are copied if a call takes their address.
+#[inline(always)]
 fn handlers_in(words: &[&[u8]]) -> Option<HandlersForm>
     ensures { handlers_by result ≡ handlers_in (map (λ word. word.now) words.now) }
 {
