@@ -255,12 +255,13 @@ def modes(program):
 
 
 def links(program):
-    """The file that a link leads to is replaced; a link that leads nowhere is a fault, and stays."""
+    """The file that a link leads to is replaced, and keeps its mode; a link that leads nowhere is a fault, and stays."""
     make({"image": OLD})
+    os.chmod("made/image", 0o604)
     os.symlink("image", "made/link")
     ran = run(program, "compile first made/link", stdout=subprocess.PIPE)
-    gave = (*ran, os.readlink("made/link"), made())
-    yield "a link", gave, (0, b"ok 113 bytes\n", b"", "image", {"image": FIRST, "link": FIRST})
+    gave = (*ran, os.readlink("made/link"), mode("made/image"), made())
+    yield "a link", gave, (0, b"ok 113 bytes\n", b"", "image", 0o604, {"image": FIRST, "link": FIRST})
     make({})
     os.symlink("missing", "made/link")
     ran = run(program, "compile first made/link", stdout=subprocess.PIPE)

@@ -142,6 +142,11 @@ class Daemon:
         with open(f"/proc/{self.process.pid}/status") as file:
             return [int(kilobytes) for kilobytes in re.findall(r"(?:VmRSS|VmData):\s*(\d+) kB", file.read())]
 
+    def sleeps(self):
+        """Whether it waits for the system, as for a connection."""
+        with open(f"/proc/{self.process.pid}/stat") as file:
+            return file.read().rsplit(")", 1)[1].split()[0] == "S"
+
     def processor_seconds(self):
         with open(f"/proc/{self.process.pid}/stat") as file:
             fields = file.read().rsplit(")", 1)[1].split()

@@ -418,6 +418,19 @@ def test_how_send_checks(program):
         same("a request of two lines", (ran.returncode, ran.stdout), (2, b""))
 
 
+def test_seconds_of_options(program):
+    """They are from 1 to 604,800: then what is at fault is the file or the socket that is missing."""
+    with tempfile.TemporaryDirectory(dir=".") as folder:
+        none = os.path.join(folder, "none")
+        for word, option, *operands in (
+            ("serve", "--command-limit", none, none), ("serve", "--test-limit", none, none),
+            ("send", "--wait", none, "status"), ("explain", "--wait", none, none),
+        ):
+            for seconds, status in ((0, 2), (1, 3), (604_800, 3), (604_801, 2)):
+                ran = subprocess.run([program, word, option, str(seconds), *operands], capture_output=True, timeout=SOON)
+                same(f"{word} {option} {seconds}", (ran.returncode, ran.stdout), (status, b""))
+
+
 def test_order_of_those_that_do_not_wait(program):
     with Daemon(program, commanding([], ["sleep 1"])) as daemon:
         send(program, daemon.socket, "--no-wait", "link carp0 up")

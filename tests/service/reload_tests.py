@@ -1,5 +1,6 @@
 """Tests of `reload`: an image takes over in a daemon that runs."""
 import contextlib
+import fcntl
 import os
 import socket
 import tempfile
@@ -109,6 +110,42 @@ def test_reload_that_is_refused(program):
         same("notes", [it for it in daemon.changes() if it[0] == "WARN"], refused)
 
 
+def test_refused_images_are_not_kept(program):
+    """However often a client asks, the memory is the same."""
+    with Daemon(program, PLAIN) as daemon:
+        # a good image, and then bytes without which it would be accepted
+        size = os.path.getsize(daemon.image)
+        with open(daemon.image, "ab") as file:
+            file.write(bytes(1_000_000))
+
+        def refuses(times):
+            for _ in range(times):
+                same("reload", daemon.ask(b"reload\n"), f"refused I7 byte {size}\n")
+            return daemon.memory()
+
+        before, after = refuses(8), refuses(64)
+        holds(f"memory grew from {before} to {after} kB", all(b <= a + 4_096 for a, b in zip(before, after)))
+        daemon.stop()
+
+
+def test_refusal_is_told_at_once(program):
+    """The line of a refused reload goes out before the next note, for which standard error has no room here."""
+    reader, writer = os.pipe()
+    with open(reader, "rb", buffering=0) as notes, Daemon(program, PLAIN, stderr=writer) as daemon, daemon.connect() as client:
+        room_of_notes = fcntl.fcntl(writer, fcntl.F_SETPIPE_SZ, 4_096)
+        first = b"[WARN  ifsvm] image refused: L2\n"
+        os.write(writer, bytes(room_of_notes - len(first)))
+        os.close(writer)
+        os.remove(daemon.image)
+        client.settimeout(SOON)
+        client.sendall(b"reload\n")
+        same("line", client.recv(65_536), b"refused L2\n")
+        same("notes", notes.read(room_of_notes).lstrip(b"\0"), first)
+        same("what is told after it", read_all(client), b"")
+        daemon.stop()
+        same("later notes", notes.read(room_of_notes), b"[INFO  ifsvm] reload\n[INFO  ifsvm] stop\n")
+
+
 def test_reload_while_tests_run(program):
     """The end of a test of the image before is not taken for one of the new image's, whose runs go on in number."""
     with room() as folder, Daemon(program, testing([f"until [ -e {folder}/end ]; do sleep 0.02; done"])) as daemon:
@@ -144,6 +181,24 @@ def room():
         yield os.path.abspath(folder)
 
 
+def lines_of(path):
+    """The lines of a file, none if it is not there."""
+    with contextlib.suppress(FileNotFoundError), open(path) as file:
+        return file.readlines()
+    return []
+
+
+def test_commands_of_the_first_opening(program):
+    """They run in their order, and wait for no client."""
+    with room() as folder:
+        log = f"{folder}/log"
+        with Daemon(program, commanding([f"echo 1 >> {log}", f"echo 2 >> {log}"], [])) as daemon:
+            until("both commands", lambda: len(lines_of(log)) == 2)
+            same("order of commands", lines_of(log), ["1\n", "2\n"])
+            same("ends of connections", daemon.ends(), [])
+            daemon.stop()
+
+
 def test_commands_of_the_opening(program):
     """The reply comes before the opening's commands run, which wait in the queue till then, in their order."""
     with room() as folder, Daemon(program, PLAIN) as daemon:
@@ -154,8 +209,8 @@ def test_commands_of_the_opening(program):
             client.shutdown(socket.SHUT_WR)
             began = time.monotonic()
             told = b""
-            while told.count(b"\n") < 2:
-                told += client.recv(65_536)
+            while told.count(b"\n") < 2 and (part := client.recv(65_536)):
+                told += part
             holds("the reply came after the commands", time.monotonic() - began < 0.9 and not os.path.exists(log))
             same("what is told", told, b'status "a" owed yes queue 0 running 0 now 0\nreloaded "a" queue 2\n')
             same("what is told after it", read_all(client), b"")
@@ -177,9 +232,10 @@ def test_reload_of_a_client_that_is_gone(program):
                 client.sendall(b"reload\n")
                 client.shutdown(socket.SHUT_RDWR)
                 client.close()
+            # no other client comes before
+            until("the command", lambda: len(lines_of(f"{folder}/log")) == number)
             same("status", daemon.send("status"), 'status "x" owed yes queue 0 running 0 now 0\n')
-            with open(f"{folder}/log") as file:
-                same("how often the command ran", len(file.readlines()), number)
+            same("how often the command ran", len(lines_of(f"{folder}/log")), number)
         daemon.stop()
         same("notes", [it for it in daemon.ends() if it != "closed"], ["reload"] * 3 + ["stop"])
 
