@@ -1,4 +1,4 @@
-//! Comparisons of results with what is expected. They print what differs.
+//! The trial of a case: it compares results with what is expected, and prints what differs.
 
 use crate::cases::{Case, Section};
 use crate::repeating::text_of;
@@ -8,42 +8,81 @@ use ifs_rows::bytes_of;
 use std::alloc::Global;
 use std::{io, str};
 
-/// A case of a file.
+/// A case of a file, and the runtime of its trial.
 #[derive(Clone, Copy)]
-pub struct Place<'a> {
+pub struct Trial<'a> {
+    pub rt: &'a HostRuntime,
     pub file: &'a str,
     pub case: Case<'a>,
 }
 
-/// Whether something holds. If not, prints the case, the section and what is wrong.
-pub fn holds<R: Print>(
-    rt: &R,
-    place: Place<'_>,
-    word: &str,
-    is_so: bool,
-    what: &str,
-) -> io::Result<bool> {
-    if !is_so {
-        println!(rt; "{}: {}: {word}: {what}", place.file, place.case.name)?;
+impl Trial<'_> {
+    /// The allocator.
+    pub fn alloc(self) -> Global {
+        self.rt.alloc()
     }
-    Ok(is_so)
-}
 
-/// Whether a text is the expected one. If not, prints both.
-pub fn same<R: Print>(
-    rt: &R,
-    place: Place<'_>,
-    word: &str,
-    found: &[u8],
-    wanted: &[u8],
-) -> io::Result<bool> {
-    let is_same = found == wanted;
-    if !is_same {
-        let (file, name) = (place.file, place.case.name);
-        let (found, wanted) = (shown(found), shown(wanted));
-        println!(rt; "{file}: {name}: {word}: expected {wanted:?}, found {found:?}")?;
+    /// Whether something holds. If not, prints the case, the section and what is wrong.
+    pub fn holds(self, word: &str, is_so: bool, what: &str) -> io::Result<bool> {
+        if !is_so {
+            println!(self.rt; "{}: {}: {word}: {what}", self.file, self.case.name)?;
+        }
+        Ok(is_so)
     }
-    Ok(is_same)
+
+    /// Whether a text is the expected one. If not, prints both.
+    pub fn same(self, word: &str, found: &[u8], wanted: &[u8]) -> io::Result<bool> {
+        let is_same = found == wanted;
+        if !is_same {
+            let (file, name) = (self.file, self.case.name);
+            let (found, wanted) = (shown(found), shown(wanted));
+            println!(self.rt; "{file}: {name}: {word}: expected {wanted:?}, found {found:?}")?;
+        }
+        Ok(is_same)
+    }
+
+    /// Whether an answer prints the section of a word, if the case has it. The status has to be 1 exactly if the answer is a
+    /// refusal.
+    pub fn expected(self, word: &str, answer: &Answer) -> io::Result<bool> {
+        let text = answer.text.as_str();
+        let status = u8::from(text.starts_with("refused "));
+        let is_status = self.holds(word, answer.status == status, "another status")?;
+        let is_text = self.is_text(word, text.as_bytes())?;
+        Ok(is_status && is_text)
+    }
+
+    /// Whether a text is that of the section of a word, if the case has it.
+    pub fn is_text(self, word: &str, found: &[u8]) -> io::Result<bool> {
+        match self.case.section(word) {
+            Some(section) => {
+                let wanted = text_of(self.alloc(), section)?;
+                self.same(word, found, wanted.as_slice())
+            }
+            None => Ok(true),
+        }
+    }
+
+    /// Whether bytes are those of the section of a word, if the case has it.
+    pub fn is_file(self, word: &str, found: &[u8]) -> Result<bool> {
+        match self.case.section(word) {
+            Some(section) => {
+                let wanted = bytes_in(self.alloc(), section)?;
+                Ok(self.holds(word, found == wanted.as_slice(), "other bytes")?)
+            }
+            None => Ok(true),
+        }
+    }
+
+    /// Whether an answer with a file prints these notes and then the file's length.
+    pub fn tells_length(self, word: &str, answer: &Answer, notes: &str) -> io::Result<bool> {
+        match &answer.file {
+            Some(file) => {
+                let line = format!(in self.alloc(); "{notes}ok {} bytes\n", file.len())?;
+                self.same(word, answer.text.as_bytes(), line.as_bytes())
+            }
+            None => Ok(true),
+        }
+    }
 }
 
 /// Bytes as text, or `other bytes` if they are not UTF-8.
@@ -51,67 +90,13 @@ fn shown(bytes: &[u8]) -> &str {
     str::from_utf8(bytes).unwrap_or("other bytes")
 }
 
-/// Whether an answer prints the section of a word, if the case has it. The status has to be 1 exactly if the answer is a refusal.
-pub fn expected<R: Print + AllocGlobal>(
-    rt: &R,
-    place: Place<'_>,
-    word: &str,
-    answer: &Answer,
-) -> Result<bool> {
-    let text = answer.text.as_str();
-    let status = u8::from(text.starts_with("refused "));
-    let is_status = holds(rt, place, word, answer.status == status, "another status")?;
-    let is_text = match place.case.section(word) {
-        Some(section) => is_text(rt, place, section, text.as_bytes())?,
-        None => true,
-    };
-    Ok(is_status && is_text)
-}
-
-/// Whether a text is that of a section.
-pub fn is_text<R: Print + AllocGlobal>(
-    rt: &R,
-    place: Place<'_>,
-    section: Section<'_>,
-    found: &[u8],
-) -> Result<bool> {
-    let wanted = text_of(rt.alloc(), section)?;
-    Ok(same(rt, place, section.word, found, wanted.as_slice())?)
-}
-
-/// Whether bytes are those of the section of a word, if the case has it. The section has them in hexadecimal digits.
-pub fn expected_bytes<R: Print + AllocGlobal>(
-    rt: &R,
-    place: Place<'_>,
-    word: &str,
-    found: &[u8],
-) -> Result<bool> {
-    let Some(section) = place.case.section(word) else {
-        return Ok(true);
-    };
-    let text = text_of(rt.alloc(), section)?;
-    let wanted = hexadecimal(rt.alloc(), text.as_slice())?;
-    let is_so = found == wanted.as_slice();
-    Ok(holds(rt, place, word, is_so, "other bytes")?)
+/// The bytes that a section has in hexadecimal digits.
+pub fn bytes_in(alloc: Global, section: Section<'_>) -> Result<Vec<u8>> {
+    let digits = text_of(alloc, section)?;
+    hexadecimal(alloc, digits.as_slice())
 }
 
 /// The bytes that a text of hexadecimal digits spells.
 pub fn hexadecimal(alloc: Global, text: &[u8]) -> Result<Vec<u8>> {
     Ok(bytes_of(alloc, str::from_utf8(text)?)?)
-}
-
-/// Whether an answer with a file prints these notes and then the file's length.
-pub fn tells_length<R: Print + AllocGlobal>(
-    rt: &R,
-    place: Place<'_>,
-    word: &str,
-    answer: &Answer,
-    notes: &str,
-) -> Result<bool> {
-    let Some(file) = &answer.file else {
-        return Ok(true);
-    };
-    let line = format!(in rt.alloc(); "{notes}ok {} bytes\n", file.len())?;
-    let text = answer.text.as_bytes();
-    Ok(same(rt, place, word, text, line.as_bytes())?)
 }

@@ -16,20 +16,11 @@ pub enum Kind {
 }
 
 /// A text, and lines of definitions beside it.
+#[derive(Drop)]
 pub struct Given {
     pub kind: Kind,
     pub text: Vec<u8>,
     pub definitions: Vec<u8>,
-}
-
-impl Drop for Given {
-    fn drop(self) {
-        let Given {
-            kind: _kind,
-            text: _text,
-            definitions: _definitions,
-        } = self;
-    }
 }
 
 impl Kind {

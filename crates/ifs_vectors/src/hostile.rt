@@ -9,11 +9,9 @@ mod fields;
 mod tally;
 
 use crate::cases::case_named;
-use crate::comparing::hexadecimal;
-use crate::repeating::text_of;
+use crate::comparing::bytes_in;
 use anyhow::{Context, Result};
 use std::fs;
-use std::rt::Files;
 use tally::Tally;
 
 /// The file and the case of each image.
@@ -31,7 +29,7 @@ const IMAGES: [(&str, &str); 10] = [
 ];
 
 /// Tries the changes of all images, and returns the number of wrong answers.
-pub fn try_images<R: Files + Print + AllocGlobal>(rt: &R) -> Result<u64> {
+pub fn try_images(rt: &HostRuntime) -> Result<u64> {
     let mut total = Tally::default();
     for (file, name) in IMAGES {
         let mut image = image_of(rt, file, name)?;
@@ -42,16 +40,15 @@ pub fn try_images<R: Files + Print + AllocGlobal>(rt: &R) -> Result<u64> {
 }
 
 /// The image that a case has in hexadecimal digits.
-fn image_of<R: Files + AllocGlobal>(rt: &R, file: &str, name: &str) -> Result<Vec<u8>> {
+fn image_of(rt: &HostRuntime, file: &str, name: &str) -> Result<Vec<u8>> {
     let text = fs::read_to_string(rt, file)?;
     let case = case_named(text.as_str(), name).context("no such case")?;
     let section = case.section("image").context("no image")?;
-    let digits = text_of(rt.alloc(), section)?;
-    hexadecimal(rt.alloc(), digits.as_slice())
+    bytes_in(rt.alloc(), section)
 }
 
 /// Tries each change of an image, and prints how many there were.
-fn try_image<R: Print + AllocGlobal>(rt: &R, name: &str, bytes: &mut [u8]) -> Result<Tally> {
+fn try_image(rt: &HostRuntime, name: &str, bytes: &mut [u8]) -> Result<Tally> {
     let cuts = changes::try_cuts(rt, name, bytes)?;
     let longer = changes::try_longer(rt, name, bytes)?;
     let values = changes::try_bytes(rt, name, bytes)?;

@@ -26,7 +26,6 @@ mod verdict;
 use anyhow::{Result, ensure};
 use running::Tally;
 use std::fs;
-use std::rt::Files;
 
 /// The files, in the order in which they are run.
 const FILES: [&str; 13] = [
@@ -53,7 +52,7 @@ fn main(rt: HostRuntime) -> Result<()> {
     Ok(())
 }
 
-fn run<R: Files + Print + AllocGlobal>(rt: &R) -> Result<Tally> {
+fn run(rt: &HostRuntime) -> Result<Tally> {
     let mut total = Tally::default();
     for file in FILES {
         total = total.and(run_file(rt, file)?);
@@ -62,7 +61,7 @@ fn run<R: Files + Print + AllocGlobal>(rt: &R) -> Result<Tally> {
     Ok(total)
 }
 
-fn run_file<R: Files + Print + AllocGlobal>(rt: &R, file: &str) -> Result<Tally> {
+fn run_file(rt: &HostRuntime, file: &str) -> Result<Tally> {
     let text = fs::read_to_string(rt, file)?;
     let tally = running::run_cases(rt, file, text.as_str())?;
     println!(rt; "{file}: {} cases", tally.cases)?;

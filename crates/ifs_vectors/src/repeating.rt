@@ -12,18 +12,10 @@ struct Form {
 }
 
 /// The lines of a repetition that is open, and how often they appear.
+#[derive(Drop)]
 struct Block<'a> {
     times: Option<u32>,
     lines: Vec<&'a str>,
-}
-
-impl Drop for Block<'_> {
-    fn drop(self) {
-        let Block {
-            times: _times,
-            lines: _lines,
-        } = self;
-    }
 }
 
 /// The text of a section: that of its lines, without the last newline if it is cut.

@@ -69,12 +69,12 @@ fn is_of_image(word: &str) -> bool {
     matches!(word, "verify" | "disasm" | "code" | "upgrade" | "session")
 }
 
-/// Whether a case expects something of an image.
-pub fn expects_image(case: Case<'_>, kind: Kind) -> bool {
-    for word in ["verify", "disasm", "code", "upgrade", "session"] {
+/// Whether a case of a policy or an assembly text expects something of its image.
+pub fn expects_image(case: Case<'_>) -> bool {
+    for word in ["image", "verify", "disasm", "code", "upgrade", "session"] {
         if case.has_section(word) {
             return true;
         }
     }
-    kind != Kind::Image && case.has_section("image")
+    false
 }

@@ -1,12 +1,13 @@
 //! The cases of a file, in turn.
 
 use crate::cases::{CASE, Case, cases_named};
-use crate::comparing::{Place, hexadecimal};
+use crate::comparing::{Trial, hexadecimal};
 use crate::given::{Given, Kind, given_of};
 use crate::images::is_image;
 use crate::policies::{is_assembly, is_policy};
 use crate::rules::check_sections;
 use anyhow::{Result, ensure};
+use std::io;
 
 /// How many cases there are, and how many fail.
 #[derive(Clone, Copy, Default)]
@@ -26,20 +27,20 @@ impl Tally {
 }
 
 /// Runs the cases of a file's text, and prints what fails.
-pub fn run_cases<R: Print + AllocGlobal>(rt: &R, file: &str, text: &str) -> Result<Tally> {
+pub fn run_cases(rt: &HostRuntime, file: &str, text: &str) -> Result<Tally> {
     let mut tally = Tally::default();
     for piece in text.split(CASE).skip(1) {
         let case = Case::new(piece);
-        tally = tally.and(run_case(rt, text, Place { file, case })?);
+        tally = tally.and(run_case(Trial { rt, file, case }, text)?);
     }
     Ok(tally)
 }
 
-fn run_case<R: Print + AllocGlobal>(rt: &R, text: &str, place: Place<'_>) -> Result<Tally> {
-    let is_good = match is_case(rt, text, place) {
+fn run_case(trial: Trial<'_>, text: &str) -> io::Result<Tally> {
+    let is_good = match is_case(trial, text) {
         Ok(is_good) => is_good,
         Err(error) => {
-            println!(rt; "{}: {}: {error}", place.file, place.case.name)?;
+            println!(trial.rt; "{}: {}: {error}", trial.file, trial.case.name)?;
             false
         }
     };
@@ -50,27 +51,27 @@ fn run_case<R: Print + AllocGlobal>(rt: &R, text: &str, place: Place<'_>) -> Res
 }
 
 /// Whether a case of a file's text is as expected.
-fn is_case<R: Print + AllocGlobal>(rt: &R, text: &str, place: Place<'_>) -> Result<bool> {
+fn is_case(trial: Trial<'_>, text: &str) -> Result<bool> {
     ensure!(
-        cases_named(text, place.case.name) == 1,
+        cases_named(text, trial.case.name) == 1,
         "the name appears twice"
     );
-    let given = given_of(rt.alloc(), text, place.case)?;
-    check_sections(place.case, given.kind)?;
-    is_given(rt, place, &given)
+    let given = given_of(trial.alloc(), text, trial.case)?;
+    is_given(trial, &given)
 }
 
 /// Whether a given text is as expected.
-fn is_given<R: Print + AllocGlobal>(rt: &R, place: Place<'_>, given: &Given) -> Result<bool> {
+fn is_given(trial: Trial<'_>, given: &Given) -> Result<bool> {
+    check_sections(trial.case, given.kind)?;
     match given.kind {
-        Kind::Policy => is_policy(rt, place, given),
-        Kind::Assembly => is_assembly(rt, place, given),
-        Kind::Image => is_bytes(rt, place, given),
+        Kind::Policy => is_policy(trial, given),
+        Kind::Assembly => is_assembly(trial, given),
+        Kind::Image => is_bytes(trial, given),
     }
 }
 
 /// Whether bytes that are given in hexadecimal digits are as expected.
-fn is_bytes<R: Print + AllocGlobal>(rt: &R, place: Place<'_>, given: &Given) -> Result<bool> {
-    let image = hexadecimal(rt.alloc(), given.text.as_slice())?;
-    is_image(rt, place, image.as_slice())
+fn is_bytes(trial: Trial<'_>, given: &Given) -> Result<bool> {
+    let image = hexadecimal(trial.alloc(), given.text.as_slice())?;
+    is_image(trial, image.as_slice())
 }

@@ -7,7 +7,7 @@
 use crate::slow::bounds::check_bounds;
 use crate::slow::budgets::check_budgets;
 use crate::slow::kinds::check_kinds;
-use crate::slow::listing::Listing;
+use crate::slow::listing::{Line, Listing};
 use crate::slow::plain::check_plain;
 use ifs_image::{ImageParts, read};
 use ifs_verify::VerifyFault;
@@ -39,20 +39,38 @@ fn judge_listing(alloc: Global, parts: &ImageParts, listing: &Listing) -> Result
     check_budgets(parts, listing, bounds.as_slice())
 }
 
-/// Repeats a round on the result of the last one. It stops if a round changes nothing, or after `rounds` repetitions.
-fn settled<T: PartialEq + Drop, F: Fn(&[T]) -> Result<Vec<T>, AllocError>>(
-    rounds: usize,
-    round: F,
+/// A value for each line, by rounds over all lines until a round changes nothing. Ways lead forward and calls to lower routines, so
+/// no more rounds are needed than there are lines.
+fn settled<T: PartialEq + Drop, F: Fn(usize, &Line, &[T]) -> T>(
+    alloc: Global,
+    lines: &[Line],
+    value: F,
 ) -> Result<Vec<T>, AllocError>
-    requires { F.IsAlwaysCallable round }
+    requires { F.IsAlwaysCallable value }
 {
-    let mut found = round(&[])?;
-    for _round in 0..rounds {
-        let next = round(found.as_slice())?;
+    let mut found = round(alloc, lines, &[], &value)?;
+    for _round in 0..lines.len() {
+        let next = round(alloc, lines, found.as_slice(), &value)?;
         if next.as_slice() == found.as_slice() {
             break;
         }
         found = next;
+    }
+    Ok(found)
+}
+
+/// One round: a value for each line, by its index and the last round's values.
+fn round<T: Drop, F: Fn(usize, &Line, &[T]) -> T>(
+    alloc: Global,
+    lines: &[Line],
+    last: &[T],
+    value: &F,
+) -> Result<Vec<T>, AllocError>
+    requires { F.IsAlwaysCallable value.now }
+{
+    let mut found = Vec::with_capacity(alloc, lines.len())?;
+    for (index, line) in lines.iter().enumerate() {
+        found.push(value(index, line, last))?;
     }
     Ok(found)
 }

@@ -9,14 +9,14 @@ use ifs_verify::VerifyFault;
 use std::io;
 
 /// Cuts an image before each byte. The field of that byte is then incomplete.
-pub fn try_cuts<R: Print + AllocGlobal>(rt: &R, name: &str, bytes: &[u8]) -> Result<Tally> {
+pub fn try_cuts(rt: &HostRuntime, name: &str, bytes: &[u8]) -> Result<Tally> {
     let image = read(rt.alloc(), bytes)?;
     let lengths = field_lengths(rt.alloc(), image.parts())?;
     Ok(try_each_cut(rt, name, bytes, lengths.as_slice())?)
 }
 
-fn try_each_cut<R: Print + AllocGlobal>(
-    rt: &R,
+fn try_each_cut(
+    rt: &HostRuntime,
     name: &str,
     bytes: &[u8],
     lengths: &[usize],
@@ -32,14 +32,14 @@ fn try_each_cut<R: Print + AllocGlobal>(
 }
 
 /// Adds a byte of each value after an image. That byte is left over.
-pub fn try_longer<R: Print + AllocGlobal>(rt: &R, name: &str, bytes: &[u8]) -> Result<Tally> {
+pub fn try_longer(rt: &HostRuntime, name: &str, bytes: &[u8]) -> Result<Tally> {
     let mut longer = Vec::from_slice(rt.alloc(), bytes)?;
     longer.push(0)?;
     Ok(try_each_longer(rt, name, longer.as_mut_slice(), bytes.len())?)
 }
 
-fn try_each_longer<R: Print + AllocGlobal>(
-    rt: &R,
+fn try_each_longer(
+    rt: &HostRuntime,
     name: &str,
     longer: &mut [u8],
     at: usize,
@@ -55,11 +55,7 @@ fn try_each_longer<R: Print + AllocGlobal>(
 }
 
 /// Sets each byte of an image to each other value.
-pub fn try_bytes<R: Print + AllocGlobal>(
-    rt: &R,
-    name: &str,
-    bytes: &mut [u8],
-) -> io::Result<Tally> {
+pub fn try_bytes(rt: &HostRuntime, name: &str, bytes: &mut [u8]) -> io::Result<Tally> {
     let mut tally = Tally::default();
     for at in 0..bytes.len() {
         let was = bytes[at];
@@ -70,8 +66,8 @@ pub fn try_bytes<R: Print + AllocGlobal>(
 }
 
 /// Sets a byte to each value except its own.
-fn try_values<R: Print + AllocGlobal>(
-    rt: &R,
+fn try_values(
+    rt: &HostRuntime,
     name: &str,
     bytes: &mut [u8],
     at: usize,

@@ -45,7 +45,7 @@ impl Tally {
 
 /// Counts one byte string by whether it is accepted, and prints what is wrong with an answer.
 pub fn counted(
-    rt: &impl Print,
+    rt: &HostRuntime,
     name: &str,
     change: Change,
     answer: Result<bool, Mismatch>,

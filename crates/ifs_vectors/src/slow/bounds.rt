@@ -1,12 +1,12 @@
 //! What the code uses from each place on, and the limits of a routine.
 
 use crate::fault::{Check, code_at};
-use crate::slow::kinds::{Kinds, left_by};
+use crate::slow::kinds::{Kinds, kinds_at, left_by};
 use crate::slow::listing::{Line, Listing};
 use crate::slow::settled;
 use ifs_base::{Op, RoutineId};
 use ifs_verify::VerifyFault;
-use std::alloc::{AllocError, Global};
+use std::alloc::Global;
 
 /// The most that may be used from a place on. A number that does not fit is the greatest one.
 #[derive(Clone, Copy, Default, PartialEq, Eq)]
@@ -80,32 +80,16 @@ pub fn check_bounds(
     listing: &Listing,
     kinds: &[Option<Kinds>],
 ) -> Result<Vec<Bounds>, VerifyFault> {
-    // ways lead forward and calls to lower routines, so there are no more rounds than lines
-    let bounds = settled(
-        listing.lines().len(),
-        |last| round(alloc, listing, kinds, last),
-    )?;
+    let bounds = settled(alloc, listing.lines(), |index, line, last| {
+        let here = kinds_at(kinds, index).unwrap_or_default();
+        used_from(listing, line, here, last)
+    })?;
     judge_bounds(listing, bounds.as_slice())?;
     Ok(bounds)
 }
 
-/// One round: what is used from each line on. It takes the last round's results for the line's successors and for the routine that
-/// the line calls.
-fn round(
-    alloc: Global,
-    listing: &Listing,
-    kinds: &[Option<Kinds>],
-    last: &[Bounds],
-) -> Result<Vec<Bounds>, AllocError> {
-    listing
-        .lines()
-        .iter()
-        .zip(kinds)
-        .map(|(line, here)| used_from(listing, line, here.unwrap_or_default(), last))
-        .collect(alloc)
-}
-
-/// What is used from a line on, if its instruction finds these kinds.
+/// What is used from a line on, if its instruction finds these kinds. It takes the last round's results for the line's successors
+/// and for the routine that the line calls.
 fn used_from(listing: &Listing, line: &Line, here: Kinds, last: &[Bounds]) -> Bounds {
     let mut after = Bounds::default();
     for place in line.successors().iter().flatten() {

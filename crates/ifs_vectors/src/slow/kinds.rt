@@ -6,7 +6,7 @@ use crate::slow::settled;
 use ifs_base::{Kind, Op};
 use ifs_image::Routine;
 use ifs_verify::VerifyFault;
-use std::alloc::{AllocError, Global};
+use std::alloc::Global;
 
 /// How many kinds fit on the stack.
 const MOST: usize = 32;
@@ -145,41 +145,31 @@ fn called(signature: Option<Signature>, kinds: Kinds) -> Result<Kinds, Check> {
 
 /// The kinds at each line, if all ways to a line agree and each instruction fits what it finds.
 pub fn check_kinds(alloc: Global, listing: &Listing) -> Result<Vec<Option<Kinds>>, VerifyFault> {
-    // ways lead forward, so there are fewer rounds than lines
-    let kinds = settled(listing.lines().len(), |last| round(alloc, listing, last))?;
+    let kinds = settled(
+        alloc,
+        listing.lines(),
+        |index, line, last| found(listing, index, line, last),
+    )?;
     judge_kinds(listing, kinds.as_slice())?;
     Ok(kinds)
 }
 
-/// One round: the kinds at each line. It takes the last round's kinds at the first line that leads there.
-fn round(
-    alloc: Global,
-    listing: &Listing,
-    last: &[Option<Kinds>],
-) -> Result<Vec<Option<Kinds>>, AllocError> {
-    listing
-        .lines()
-        .iter()
-        .zip(listing.origins())
-        .map(|(line, origin)| found(listing, line, *origin, last))
-        .collect(alloc)
+/// The kinds at the line of an index, if there is such a line and they are known.
+pub fn kinds_at(kinds: &[Option<Kinds>], index: usize) -> Option<Kinds> {
+    kinds.get(index).copied().flatten()
 }
 
 /// The kinds at a line. At a routine's first place they are its parameters. Elsewhere the first line that leads there leaves them.
-fn found(
-    listing: &Listing,
-    line: &Line,
-    origin: Option<usize>,
-    last: &[Option<Kinds>],
-) -> Option<Kinds> {
+/// The kinds at that line are those of the last round.
+fn found(listing: &Listing, index: usize, line: &Line, last: &[Option<Kinds>]) -> Option<Kinds> {
     if line.place == 0 {
         return listing
             .signature_at(line.routine)
             .map(|signature| signature.params);
     }
-    let before = listing.lines().get(origin?)?;
-    let kinds = last.get(origin?).copied().flatten()?;
-    left_by(listing, before, kinds).ok()
+    let origin = listing.origin_of(index)?;
+    let before = listing.lines().get(origin)?;
+    left_by(listing, before, kinds_at(last, origin)?).ok()
 }
 
 /// Reports the first place whose instruction does not fit what it finds, or leaves other kinds than a successor has. A line without
@@ -202,5 +192,5 @@ fn agrees(listing: &Listing, line: &Line, left: Kinds, kinds: &[Option<Kinds>]) 
         .iter()
         .flatten()
         .filter_map(|place| listing.index_of(line, *place))
-        .all(|index| kinds.get(index).copied().flatten() == Some(left))
+        .all(|index| kinds_at(kinds, index) == Some(left))
 }

@@ -83,6 +83,11 @@ impl Listing {
         self.origins.as_slice()
     }
 
+    /// The index of the first line that leads to the line of an index.
+    pub fn origin_of(&self, index: usize) -> Option<usize> {
+        self.origins.as_slice().get(index).copied().flatten()
+    }
+
     /// The index of the first line of a routine.
     pub fn first_of(&self, routine: RoutineId) -> Option<usize> {
         self.firsts.as_slice().get(usize::from(routine.0)).copied()
