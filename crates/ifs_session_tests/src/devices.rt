@@ -1,6 +1,7 @@
 //! Files over readers that give little at once, are interrupted, and fail.
 
 use crate::checks::{holds, holds_in, same};
+use crate::pieces::{NEVER, Pieces};
 use ifs_host::files::{FileFault, whole};
 use ifs_rows::bytes_of;
 use ifs_rows::images::SMALLEST_IMAGE;
@@ -8,31 +9,15 @@ use std::alloc::Global;
 use std::io::{self, ErrorKind, Read};
 use std::test::Fail;
 
-/// No read fails.
-const NEVER: u32 = u32::MAX;
-
-/// A reader that gives three bytes at most. It is interrupted before each read that gives some, and fails at this read.
-#[derive(Drop)]
-struct Pieces<'a> {
-    left: &'a [u8],
-    reads: u32,
-    fails_at: u32,
-}
-
-impl Read for Pieces<'_> {
-    fn read(&mut self, buffer: &mut [u8]) -> io::Result<usize> {
-        let read = self.reads;
-        self.reads = self.reads.saturating_add(1);
-        if read == self.fails_at {
-            return Err(io::Error::from(ErrorKind::ConnectionReset));
-        }
-        if read % 2 == 0 {
-            return Err(io::Error::from(ErrorKind::Interrupted));
-        }
-        let count = self.left.len().min(3).min(buffer.len());
-        buffer[..count].copy_from_slice(&self.left[..count]);
-        self.left = &self.left[count..];
-        Ok(count)
+/// A reader that gives three bytes at most, and is interrupted before each read that gives some. It fails at this read.
+fn slow(bytes: &[u8], fails_at: u32) -> Pieces<'_> {
+    Pieces {
+        left: bytes,
+        most: 3,
+        reads: 0,
+        fails_at,
+        kind: ErrorKind::ConnectionReset,
+        interrupted: true,
     }
 }
 
@@ -40,12 +25,7 @@ impl Read for Pieces<'_> {
 #[test]
 fn files_in_pieces(rt: HostRuntime) -> Result<(), Fail> {
     let bytes = bytes_of(rt.alloc(), SMALLEST_IMAGE)?;
-    let reader = Pieces {
-        left: bytes.as_slice(),
-        reads: 0,
-        fails_at: NEVER,
-    };
-    let Ok(taken) = whole(rt.alloc(), reader) else {
+    let Ok(taken) = whole(rt.alloc(), slow(bytes.as_slice(), NEVER)) else {
         return Err(Fail::from("a file in pieces"));
     };
     same(&rt, taken.as_slice(), bytes.as_slice());
@@ -56,12 +36,7 @@ fn files_in_pieces(rt: HostRuntime) -> Result<(), Fail> {
 #[test]
 fn files_cut_off(rt: HostRuntime) {
     for fails_at in 0..12 {
-        let reader = Pieces {
-            left: b"sixteen bytes ..",
-            reads: 0,
-            fails_at,
-        };
-        let fault = whole(rt.alloc(), reader).err();
+        let fault = whole(rt.alloc(), slow(b"sixteen bytes ..", fails_at)).err();
         holds_in(
             &rt,
             fails_at,

@@ -13,6 +13,8 @@ mod hosts;
 #[cfg(test)]
 mod images;
 #[cfg(test)]
+mod pieces;
+#[cfg(test)]
 mod reloads;
 #[cfg(test)]
 mod talks;

@@ -4,13 +4,14 @@ ghost use Rattle.std.specs.Prelude.{Some};
 
 use super::{BROKEN, first_replies, input_of, row_input};
 use crate::checks::{holds, holds_in, same, same_in};
+use crate::pieces::{NEVER, Pieces};
 use ifs_rows::sessions;
 use ifs_session::{
     ByteIn, ByteOut, DeviceFault, FromRead, RunFault, SessionFault, ToWrite, run_hex,
 };
 use std::alloc::{AllocError, Global};
 use std::cell::Cell;
-use std::io::{self, ErrorKind, Read, Write};
+use std::io::{self, ErrorKind, Write};
 use std::process::Abort;
 use std::test::Fail;
 
@@ -22,33 +23,6 @@ fn pattern(alloc: Global, count: u32) -> Result<Vec<u8>, AllocError> {
     }
     Ok(bytes)
 }
-
-/// A reader of std that gives at most `most` bytes at each read. It fails once, at this read.
-#[derive(Drop)]
-struct Pieces<'a> {
-    left: &'a [u8],
-    most: usize,
-    reads: u32,
-    fails_at: u32,
-    kind: ErrorKind,
-}
-
-impl Read for Pieces<'_> {
-    fn read(&mut self, buffer: &mut [u8]) -> io::Result<usize> {
-        let read = self.reads;
-        self.reads = self.reads.saturating_add(1);
-        if read == self.fails_at {
-            return Err(io::Error::from(self.kind));
-        }
-        let count = self.left.len().min(self.most).min(buffer.len());
-        buffer[..count].copy_from_slice(&self.left[..count]);
-        self.left = &self.left[count..];
-        Ok(count)
-    }
-}
-
-/// No read fails.
-const NEVER: u32 = u32::MAX;
 
 /// How many bytes a read gives at most, which read fails and how, and how often the reader fails.
 const READERS: [(&str, usize, u32, ErrorKind, u32); 6] = [
@@ -99,6 +73,7 @@ fn bytes_over_several_buffers(rt: HostRuntime) -> Result<(), Fail> {
             reads: 0,
             fails_at,
             kind,
+            interrupted: false,
         });
         let failed = failures_of(&rt, name, &mut input, bytes.as_slice());
         same_in(&rt, name, failed, failures);
@@ -206,6 +181,7 @@ fn a_failed_read_ends_the_session(rt: HostRuntime) -> Result<(), Fail> {
             reads: 0,
             fails_at: 1,
             kind: ErrorKind::Other,
+            interrupted: false,
         }),
         &mut ToWrite::new(&mut log),
     );
