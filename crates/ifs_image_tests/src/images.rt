@@ -1,6 +1,6 @@
 //! Images as values, their bytes, and images that are cut off.
 
-use crate::checks::{holds, same};
+use crate::checks::{holds, same, same_in};
 use ifs_base::{CommandId, IfaceId, Items, Kind, LinkState, Op, RoutineId, StateId, Text};
 use ifs_image::{
     Budgets, Handlers, Image, ImageFault, ImageParts, Kinds, Routine, StateSpec, read, upgrade,
@@ -288,35 +288,57 @@ fn kinds_of(kind: Kind, count: usize) -> Kinds {
     kinds
 }
 
-/// In each row: a version, the kinds that a routine takes and leaves with their numbers, and whether that fits.
-const FITTING: [(u8, (Kind, usize), (Kind, usize), bool); 13] = [
-    (0, (Kind::Truth, 0), (Kind::Truth, 0), false),
-    (1, (Kind::Truth, 0), (Kind::Truth, 0), true),
-    (1, (Kind::Truth, 0), (Kind::Truth, 1), true),
-    (1, (Kind::Truth, 0), (Kind::Truth, 2), false),
-    (1, (Kind::Truth, 0), (Kind::Command, 1), false),
-    (1, (Kind::Truth, 0), (Kind::StateName, 1), false),
-    (1, (Kind::Truth, 1), (Kind::Truth, 0), false),
-    (1, (Kind::Command, 1), (Kind::Truth, 1), false),
-    (2, (Kind::Truth, 0), (Kind::Truth, 0), true),
-    (2, (Kind::Truth, 4), (Kind::StateName, 4), true),
-    (2, (Kind::Command, 1), (Kind::Command, 2), true),
-    (3, (Kind::Truth, 0), (Kind::Truth, 0), false),
-    (255, (Kind::Truth, 0), (Kind::Truth, 0), false),
+/// The versions of the format, and numbers of no version.
+const VERSIONS: [u8; 5] = [0, 1, 2, 3, 255];
+
+/// A kind, and how often a routine takes or leaves it.
+type Counted = (Kind, usize);
+
+/// In each row: what a routine takes, what it leaves, and the versions that this fits.
+const FITTING: [(Counted, Counted, &[u8]); 9] = [
+    ((Kind::Truth, 0), (Kind::Truth, 0), &[1, 2]),
+    ((Kind::Truth, 0), (Kind::Truth, 1), &[1, 2]),
+    ((Kind::Truth, 0), (Kind::Truth, 2), &[2]),
+    ((Kind::Truth, 0), (Kind::Command, 1), &[2]),
+    ((Kind::Truth, 0), (Kind::StateName, 1), &[2]),
+    ((Kind::Truth, 1), (Kind::Truth, 0), &[2]),
+    ((Kind::Command, 1), (Kind::Truth, 1), &[2]),
+    ((Kind::Truth, 4), (Kind::StateName, 4), &[2]),
+    ((Kind::Command, 1), (Kind::Command, 2), &[2]),
 ];
 
-/// Whether parts fit if their only routine takes and leaves these kinds.
-fn version_fits(alloc: Global, version: u8, taken: Kinds, left: Kinds) -> Result<bool, Fail> {
-    Ok(parts_with(alloc, 0, version, taken, left)?.fits())
+/// Whether parts fit if their only routine takes and leaves this.
+fn version_fits(alloc: Global, version: u8, taken: Counted, left: Counted) -> Result<bool, Fail> {
+    let params = kinds_of(taken.0, taken.1);
+    let results = kinds_of(left.0, left.1);
+    Ok(parts_with(alloc, 0, version, params, results)?.fits())
+}
+
+/// Asserts that what a routine takes and leaves fits these versions and no other one.
+fn check_versions(
+    rt: &impl Abort,
+    alloc: Global,
+    taken: Counted,
+    left: Counted,
+    fitting: &[u8],
+) -> Result<(), Fail> {
+    for version in VERSIONS {
+        let fits = version_fits(alloc, version, taken, left)?;
+        let wanted = fitting.contains(&version);
+        same_in(
+            rt,
+            format_args!("{version} {taken:?} {left:?}"),
+            fits,
+            wanted,
+        );
+    }
+    Ok(())
 }
 
 #[test]
 fn what_fits_a_version(rt: HostRuntime) -> Result<(), Fail> {
-    for (version, (param, params), (result, results), fits) in FITTING {
-        let taken = kinds_of(param, params);
-        let left = kinds_of(result, results);
-        let found = version_fits(rt.alloc(), version, taken, left)?;
-        assert_eq!(rt; found, fits, "{version} {params} {results}");
+    for (taken, left, fitting) in FITTING {
+        check_versions(&rt, rt.alloc(), taken, left, fitting)?;
     }
     Ok(())
 }

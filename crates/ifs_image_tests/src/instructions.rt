@@ -57,37 +57,43 @@ fn every_instruction(rt: HostRuntime) {
     }
 }
 
+/// Asserts that a code with any of these three bytes after it spells no instruction.
+fn check_none(rt: &impl Abort, code: u8, rests: &[[u8; 3]]) {
+    for [one, two, three] in rests {
+        let bytes = [code, *one, *two, *three];
+        assert_eq!(rt; decode_op(bytes), None, "{bytes:?}");
+    }
+}
+
+/// The same for several codes.
+fn check_all_none(rt: &impl Abort, codes: &[u8], rests: &[[u8; 3]]) {
+    for code in codes {
+        check_none(rt, *code, rests);
+    }
+}
+
 #[test]
 fn unknown_codes(rt: HostRuntime) {
     for code in 0x13..=0xff {
-        same_in(&rt, code, decode_op([code, 0, 0, 0]), None);
+        check_none(&rt, code, &[[0, 0, 0]]);
     }
 }
 
 #[test]
 fn byte_one_where_there_is_none(rt: HostRuntime) {
-    for code in PLAIN_CODES {
-        same_in(&rt, code, decode_op([code, 1, 0, 0]), None);
-        same_in(&rt, code, decode_op([code, 255, 0, 0]), None);
-    }
-    for code in INDEXED_CODES {
-        same_in(&rt, code, decode_op([code, 1, 0, 0]), None);
-        same_in(&rt, code, decode_op([code, 2, 1, 1]), None);
-    }
+    check_all_none(&rt, &PLAIN_CODES, &[[1, 0, 0], [255, 0, 0]]);
+    check_all_none(&rt, &INDEXED_CODES, &[[1, 0, 0], [2, 1, 1]]);
 }
 
 #[test]
 fn operand_where_there_is_none(rt: HostRuntime) {
-    for code in PLAIN_CODES {
-        same_in(&rt, code, decode_op([code, 0, 0, 1]), None);
-        same_in(&rt, code, decode_op([code, 0, 1, 0]), None);
-    }
+    check_all_none(&rt, &PLAIN_CODES, &[[0, 0, 1], [0, 1, 0]]);
 }
 
 #[test]
 fn link_states_over_two(rt: HostRuntime) {
     for state in 3..=255 {
-        same_in(&rt, state, decode_op([0x03, state, 0, 0]), None);
+        check_none(&rt, 0x03, &[[state, 0, 0]]);
     }
 }
 
