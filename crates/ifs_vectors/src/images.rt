@@ -113,7 +113,7 @@ fn is_upgraded(trial: Trial<'_>, image: &[u8], lines: &str) -> Result<bool> {
     Ok(is_told && is_so)
 }
 
-/// Whether an upgrade has the expected bytes and is its own upgrade, of which `verify` prints the same lines.
+/// Whether an upgrade has the expected bytes and is its own upgrade, and `verify` prints the same lines of it.
 fn is_upgrade(trial: Trial<'_>, upgrade: &[u8], lines: &str) -> Result<bool> {
     let is_same = trial.is_file("upgrade", upgrade)?;
     let is_own = makes(trial.alloc(), Task::Upgrade, upgrade, upgrade)?;
