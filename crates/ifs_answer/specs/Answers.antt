@@ -54,7 +54,7 @@ IsAssembled text bytes = (image : ImageParts) × TextSpells text image × Spells
 abbrev pub IsUpgraded : List ℕ → List ℕ → Type 0
 IsUpgraded bytes file = (image : ImageParts) × Spells bytes image × Spells file (upgraded image)
 
--- What is made of the image that bytes spell: its canonical text and no file, or its upgrade as a file, whose text is its length.
+-- What is made of the image that bytes spell: its canonical text and no file, or its upgrade as the file and the line of the file's length.
 abbrev pub IsMade : Made → List ℕ → Option (List ℕ) → List ℕ → Type 0
 IsMade makes.Listing bytes file text = IsListing bytes text × (file ≡ None)
 IsMade makes.Upgrade bytes file text = IsSomeAnd file (IsUpgraded bytes) × IsSomeAnd file (λ image. text ≡ size_line (length image))

@@ -4,4 +4,3 @@ pub mod Parsing
 pub mod Reading
 pub mod Serving
 pub mod Connections
-pub mod Writing

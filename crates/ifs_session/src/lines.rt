@@ -86,6 +86,7 @@ fn newline(bytes: &[u8]) -> Option<usize>
 /// Flushes the writer, and then reads the next line byte by byte. Returns `None` at the end of input.
 ///
 /// It fails if a read or the flush fails, and if there is a byte after the budget is spent.
+#[tactic(auto, using(crate::proofs::LineReading::awaits, crate::proofs::Known::written_laws))]
 #[cold]
 #[inline(never)]
 pub(crate) fn awaited_line<R: ByteIn, W: ByteOut>(

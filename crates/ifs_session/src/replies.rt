@@ -10,7 +10,6 @@ ghost use Rattle.ifs_session.specs.Replies.{state_name, evaluation_words, start_
 ghost use Rattle.ifs_session.specs.Replies.{before_starts, taken_line, reply_line, status_numbers, status_line};
 ghost use Rattle.ifs_session.specs.Replies.{yes_or_no, step_words, answer_word, answer_words, record_line};
 ghost use Rattle.ifs_session.specs.Replies.{reloaded_line, trace_lines, fault_line};
-ghost use Rattle.ifs_session.specs.inner.Writing.{word_line};
 
 use crate::device::{ByteOut, DeviceFault};
 use crate::fault::SessionFault;
@@ -113,22 +112,12 @@ pub(crate) fn put_reply<W: ByteOut>(
             exhausted,
         } => put_ticked(out, core, lists, evaluated, state, cost, exhausted),
         Outcome::Taken(command) => put_taken(out, core, command),
-        _ => out.put(word_line(outcome)),
-    }
-}
-
-/// The line of a reply that is a word alone. For other replies it is empty.
-fn word_line(outcome: Outcome) -> &'static [u8]
-    ensures { result.now ≡ word_line outcome }
-{
-    match outcome {
-        Outcome::Same => b"same\n",
-        Outcome::Empty => b"empty\n",
-        Outcome::Busy => b"busy\n",
-        Outcome::Stale => b"stale\n",
-        Outcome::Backwards => b"backwards\n",
-        Outcome::NoSuch => b"nosuch\n",
-        _ => b"",
+        Outcome::Same => out.put(b"same\n"),
+        Outcome::Empty => out.put(b"empty\n"),
+        Outcome::Busy => out.put(b"busy\n"),
+        Outcome::Stale => out.put(b"stale\n"),
+        Outcome::Backwards => out.put(b"backwards\n"),
+        Outcome::NoSuch => out.put(b"nosuch\n"),
     }
 }
 
