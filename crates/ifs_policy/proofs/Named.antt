@@ -65,7 +65,7 @@ named_both : (tables : Tables) (half : Half) (left right : tree.Condition Test) 
     → (AreListed tables (condition_mentions half right) → with_leaves (named_single tables) (place_condition tables right) ≡ with_leaves text_single right)
     → AreListed tables (condition_mentions half left ++ condition_mentions half right)
     → sign (with_leaves (named_single tables) (place_condition tables left)) (with_leaves (named_single tables) (place_condition tables right))
-        ≡ sign (with_leaves text_single left) (with_leaves text_single right)
+    ≡ sign (with_leaves text_single left) (with_leaves text_single right)
 named_both tables half left right sign one two h =
     let first = condition_mentions half left in
     let second = condition_mentions half right in
