@@ -111,6 +111,18 @@ def test_starts_only_where_it_can_work(program):
             daemon.stop()
 
 
+def test_starts_only_where_the_shell_works(program):
+    # dash fails where OPTIND is no number; other shells do not look at it
+    odd = os.environ | {"OPTIND": "x"}
+    if subprocess.run(["/bin/sh", "-c", ":"], env=odd, stderr=subprocess.DEVNULL).returncode == 0:
+        return
+    with Daemon(program, PLAIN) as daemon:
+        ran = serve(program, daemon.image, daemon.file("other"), env=odd)
+        told = b"device /bin/sh: it did not end with success\n"
+        same("serve with a shell that fails", (ran.returncode, ran.stdout, ran.stderr), (3, b"", told))
+        daemon.stop()
+
+
 def one_process():
     resource.setrlimit(resource.RLIMIT_NPROC, (1, 1))
     if os.getuid() == 0:
@@ -383,6 +395,16 @@ def test_limits_of_commands_and_tests(program):
         until("the other one", lambda: ("0", "1", "fail") in results(daemon.send("trace")))
         same("notes", daemon.changes(), [("WARN", 'test "exec sleep 30": killed at its limit')])
         same("children", daemon.children(), [])
+        daemon.stop()
+
+
+def test_end_of_a_command_with_a_limit(program):
+    """It is noticed soon, however long the command ran."""
+    with Daemon(program, commanding([], ["sleep 2.2"]), "--command-limit", "60") as daemon:
+        begun = time.monotonic()
+        same("link", daemon.send("link carp0 up"), UP)
+        took = time.monotonic() - begun
+        holds(f"a command of 2.2 seconds took {took:.1f}", 2.2 <= took < 3.5)
         daemon.stop()
 
 

@@ -1,5 +1,6 @@
 """What explain tells of a daemon. Parts of tests/service/run_service_tests."""
 import os
+import re
 import subprocess
 
 from daemons import SOON, Daemon, answered, same, until
@@ -32,6 +33,21 @@ take
 """
 
 
+# states that are named like parts of a trace's line
+LIKE_LINES = """\
+state "a cost 7 queue 1" { if em0.link.up set-state "link 0 -> b cost 2" }
+state "link 0 -> b cost 2" { if em0.link.down set-state "a cost 7 queue 1" }
+"""
+STEPS_LIKE_LINES = """\
+status "a cost 7 queue 1" owed yes queue 0 running 0 now 4
+trace 5
+  at 3 tick 3 -> ticked "a cost 7 queue 1" cost N queue 0
+* at 4 link "em0" up -> done "a cost 7 queue 1" => "link 0 -> b cost 2" cost N queue 0
+  at 4 link "em0" up -> same "link 0 -> b cost 2" cost 0 queue 0
+* at 4 link "em0" down -> done "link 0 -> b cost 2" => "a cost 7 queue 1" cost N queue 0
+"""
+
+
 def explain(program, *words):
     ran = subprocess.run([program, "explain", *words], capture_output=True, timeout=SOON)
     return ran.returncode, ran.stdout.decode(), ran.stderr.decode()
@@ -58,6 +74,17 @@ def test_steps_with_names(program):
         words = [program, "sim", daemon.image]
         ran = subprocess.run(words, input=(REQUESTS + "trace\n").encode(), capture_output=True, timeout=SOON)
         same("the trace of these requests by sim", ran.stdout.decode().split("trace 7\n")[-1], steps)
+        daemon.stop()
+
+
+def test_names_like_lines(program):
+    """The name of a state is whole, whatever words it has."""
+    with Daemon(program, LIKE_LINES) as daemon:
+        for request in ("tick 3", "tick 4", "link em0 up", "link em0 up", "link em0 down"):
+            daemon.send(request)
+        status, told, error = explain(program, daemon.image, daemon.socket)
+        told = re.sub(r" cost [1-9]\d* queue 0$", " cost N queue 0", told, flags=re.M)
+        same("explain", (status, told, error), (0, STEPS_LIKE_LINES, ""))
         daemon.stop()
 
 
