@@ -1,5 +1,5 @@
 -- A line that was read: the host was polled, and the line was done and replied to.
-use Rattle.std.proofs.Common.{◌≡◌, ◌≢◌, ℕ, Bool, false, List, Option, None, Err, inl, refl, sym, ap, ◌∙◌, subst}
+use Rattle.std.proofs.Common.{◌≡◌, ◌≢◌, ℕ, Bool, false, List, [], Option, None, Err, refl, sym, ap, ◌∙◌, subst}
 use Rattle.std.specs.Io.KnownBytes.{append_known}
 use Rattle.ifs_image.specs.declared.parts.ImageParts.{ImageParts}
 use Rattle.ifs_core.specs.Event.{Behaviour}
@@ -15,19 +15,19 @@ use Rattle.ifs_session.specs.Sessions.{is_stop}
 use Rattle.ifs_session.specs.Hosts.{Ending}
 use Rattle.ifs_session.specs.Accounts.{client_asked, step_asked, acted, runs_ended, heard_out, answered, listened}
 use Rattle.ifs_session.specs.Service.{leave_of, left_by}
-use Rattle.ifs_session.specs.inner.Reading.{ReadsText, AwaitGives}
+use Rattle.ifs_session.specs.inner.Reading.{ReadsText, LineGives}
+use Rattle.ifs_session.specs.inner.Serving.{OnlyReads}
 use Rattle.ifs_session.specs.inner.Connections.{Progress, HasComeTo, Carries, ConnectionPoint, progress_of, taken_in}
 use Rattle.ifs_session.specs.inner.Connections.{Idles}
 use Rattle.ifs_session.specs.inner.Connections.{ServesExchange, AnswersExchange, ExchangeFails}
+use Rattle.ifs_session.proofs.Known.{append_known-nil}
 
 -- No line was read.
-pub not_read : (b : Behaviour) (fault : SessionFault) (before after : ConnectionPoint) (held held' : Option (List ℕ))
-    → AwaitGives (Err fault) (taken_in before) (taken_in after) (record { written = before.moment.written; held = held; faults = before.moment.write_faults }) (record { written = after.moment.written; held = held'; faults = after.moment.write_faults })
-    → after.moment.core ≡ before.moment.core → Idles before after → ExchangeFails b fault false before after
-not_read b ReadFailed before after held held' ((text, r), f) same idle = (text, r, record { core = same; written = f.written; same_faults = f.same_faults }, idle, refl)
-not_read b TooMuchInput before after held held' ((text, byte, r), f) same idle = (text, byte, r, record { core = same; written = f.written; same_faults = f.same_faults }, idle, refl)
-not_read b WriteFailed before after held held' (unread, one) same idle =
-    (one, inl (record { core = same; left = ap (λ i. i.left) unread; same_faults = ap (λ i. i.faults) unread }, idle, refl))
+pub not_read : (b : Behaviour) (fault : SessionFault) (before after : ConnectionPoint) → LineGives (Err fault) (taken_in before) (taken_in after)
+    → OnlyReads before.moment after.moment → Idles before after → ExchangeFails b fault false before after
+not_read b ReadFailed before after (text, r) o idle = (text, r, o, idle, refl)
+not_read b TooMuchInput before after (text, byte, r) o idle = (text, byte, r, o, idle, refl)
+not_read b WriteFailed before after r o idle = absurd r
 
 -- The reply could not be written.
 pub no_reply : (b : Behaviour) (broken : Break) (stop : Bool) (before after : ConnectionPoint) → broken ≡ record { fault = WriteFailed; stopped = stop }
@@ -74,13 +74,13 @@ exchange_attended b text ended leave endings before after middle image a r same 
 
 -- The line was replied to.
 pub exchange_answered : (b : Behaviour) (text : List ℕ) (endings : List Ending) (before after : ConnectionPoint) (middle : Progress) (image : ImageParts) (a : Asked) (written : Option (List ℕ)) (faults : Option ℕ)
-    → written ≡ before.moment.written → faults ≡ before.moment.write_faults → image ≡ before.moment.core.image → a ≡ client_asked text
+    → written ≡ append_known before.moment.written [] → faults ≡ before.moment.write_faults → image ≡ before.moment.core.image → a ≡ client_asked text
     → Carries (λ account. heard_out (runs_ended b before.moment.core.image endings account)) (progress_of before) middle
     → (after.moment.written ≡ append_known written (answered b image a middle.state)) × (after.moment.write_faults ≡ faults)
     → AnswersExchange b (record { line = text; endings = endings }) before after
 exchange_answered b text endings before after middle image a written faults out same_faults same asks heard put = record {
   written = λ origin account h.
-      put.0 ∙ ap (λ k. append_known k (answered b image a middle.state)) out
+      put.0 ∙ ap (λ k. append_known k (answered b image a middle.state)) (out ∙ append_known-nil before.moment.written)
       ∙ ap (λ i. append_known before.moment.written (answered b i a middle.state)) same
       ∙ ap (λ x. append_known before.moment.written (answered b before.moment.core.image x middle.state)) asks
       ∙ ap (λ s. append_known before.moment.written (answered b before.moment.core.image (client_asked text) s)) (heard origin account h).state_is;

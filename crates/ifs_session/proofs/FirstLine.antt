@@ -3,13 +3,19 @@ use Rattle.std.proofs.Common.{ℕ, List, Result, Ok, Err, inl, inr, subst, sym}
 use Rattle.ifs_session.specs.declared.fault.SessionFault.{SessionFault}
 use Rattle.ifs_session.specs.declared.fault.SessionFault.TheVariants.{ReadFailed, WriteFailed, TooMuchInput}
 use Rattle.ifs_session.specs.declared.fault.RunFault.{RunFault}
+use Rattle.ifs_session.specs.declared.fault.RunFault.TheVariants.{Session}
 use Rattle.ifs_session.specs.declared.refusal.Refusal.{Refusal}
 use Rattle.ifs_session.specs.declared.refusal.Refusal.TheVariants.{Broken, NotAccepted, Memory}
 use Rattle.ifs_session.specs.Device.{Feed}
 use Rattle.ifs_session.specs.Hexadecimal.{HexGives}
-use Rattle.ifs_session.specs.inner.Opening.{ImageGives, RefuseGives, run_result}
+use Rattle.ifs_session.specs.inner.Opening.{ImageGives, RefuseGives}
 use Rattle.ifs_session.specs.declared.session.Summary.{Summary}
 use Rattle.ifs_session.specs.Runs.{Streams, Runs, RunGives, LineRefused}
+
+-- The result of a run, from the result of its session.
+abbrev pub run_result : Result Summary SessionFault → Result Summary RunFault
+run_result (Ok summary) = Ok summary
+run_result (Err fault) = Err (Session fault)
 
 -- A run whose session has ended.
 pub run_served : (before after : Streams) (result : Result Summary SessionFault) → Runs result before after → RunGives (run_result result) before after

@@ -1,17 +1,13 @@
 -- Reading a line byte by byte.
 use Rattle.std.proofs.Common.{◌≡◌, ◌≢◌, ℕ, ◌+◌, ◌-◌, ◌<◌, ◌≤◌, Bool, true, false, ◌==◌, nat_lt, List, [], ◌∷◌, ◌++◌}
-use Rattle.std.proofs.Common.{length, take, Option, Some, None, Result, Ok, Err, IfOk, IfSome, refl, sym, subst, ap, ◌∙◌}
-use Rattle.std.proofs.Common.{append-nil, take_all, arith, length-append, length-take}
+use Rattle.std.proofs.Common.{length, take, Option, refl, sym, subst, ap, ◌∙◌, append-nil, take_all, arith}
+use Rattle.std.proofs.Common.{length-append, length-take}
 use Rattle.std.proofs.lemmas.Bool.Decides.{nat_tests}
 use Rattle.std.proofs.lemmas.List.{take-append-le}
 use Rattle.std.specs.Io.KnownBytes.{Keeps, Consumes, IsAtEnd}
 use Rattle.arrayvec.specs.ArrayVec.{ArrayVec}
-use Rattle.ifs_session.specs.declared.fault.SessionFault.{SessionFault}
-use Rattle.ifs_session.specs.declared.fault.SessionFault.TheVariants.{ReadFailed, WriteFailed, TooMuchInput}
-use Rattle.ifs_session.specs.declared.lines.Line.{Line}
-use Rattle.ifs_session.specs.Device.{counted, Sink}
-use Rattle.ifs_session.specs.inner.Reading.{HasNoNewline, Intake, ReadsText, ReadsLine, ReadsNothing, ReadFails, ReadsTooMuch}
-use Rattle.ifs_session.specs.inner.Reading.{LineGives, AwaitGives, Flushes}
+use Rattle.ifs_session.specs.Device.{counted}
+use Rattle.ifs_session.specs.inner.Reading.{HasNoNewline, Intake, ReadsLine, ReadsNothing, ReadFails, ReadsTooMuch}
 use Rattle.ifs_session.proofs.Known.{consumes_nothing, consumes_more, consumes_kept, keeps_nothing_read}
 
 -- In the middle of a line: this text was read, and this part of it is kept.
@@ -155,21 +151,3 @@ too_much {text = text} {before} {at} byte left faults h none given same = record
   spent = omega (arith, h.spent);
   same_faults = same ∙ h.same_faults;
 }
-
--- ---- after the writer was flushed
-
-pub awaits : (result : Result (Option Line) SessionFault) (before after : Intake) (out out' : Sink) → LineGives result before after → Flushes out out' → AwaitGives result before after out out'
-awaits (Ok next) before after out out' reads flushes = (reads, flushes)
-awaits (Err ReadFailed) before after out out' reads flushes = (reads, flushes)
-awaits (Err TooMuchInput) before after out out' reads flushes = (reads, flushes)
-awaits (Err WriteFailed) before after out out' reads flushes = absurd reads
-
--- A line has at least one byte, with the newline that ends it.
-takes_some : (text : List ℕ) (ended : Bool) (before after : Intake) → ReadsText text ended before after → after.budget < before.budget
-takes_some text true before after r = omega (arith, r.spent, length-append text (10 ∷ []))
-takes_some text false before after r = omega (arith, r.spent, ap length (append-nil text), (r.last refl).0)
-
-pub line_counts : (result : Result (Option Line) SessionFault) (before after : Intake) → LineGives result before after → IfOk result (λ next. IfSome next (λ _. after.budget < before.budget))
-line_counts (Ok (Some line)) before after (text, r) = takes_some text line.is_ended before after r.read
-line_counts (Ok None) before after reads = tt
-line_counts (Err fault) before after reads = tt

@@ -1,51 +1,44 @@
 -- Serving the next line, in place or read.
 use Rattle.std.proofs.Common.{◌≡◌, ℕ, ◌+◌, ◌-◌, ◌≤◌, Bool, true, List, [], ◌∷◌, ◌++◌, length, take, Option, Some, None}
-use Rattle.std.proofs.Common.{Result, Ok, Err, inl, inr, subst, sym, ap, ◌∙◌, append_assoc, arith, length-append}
+use Rattle.std.proofs.Common.{Ok, Err, inr, subst, sym, ap, ◌∙◌, append_assoc, arith, length-append}
 use Rattle.std.proofs.Math.Seq.{take-append_seam}
 use Rattle.std.specs.Io.KnownBytes.{append_known, Consumes}
 use Rattle.ifs_core.specs.Event.{Behaviour}
-use Rattle.ifs_session.specs.declared.device.DeviceFault.{DeviceFault}
-use Rattle.ifs_session.specs.declared.fault.SessionFault.{SessionFault}
-use Rattle.ifs_session.specs.declared.fault.SessionFault.TheVariants.{ReadFailed, WriteFailed, TooMuchInput}
+use Rattle.ifs_session.specs.declared.fault.SessionFault.TheVariants.{WriteFailed}
 use Rattle.ifs_session.specs.declared.session.LineKind.{LineKind}
-use Rattle.ifs_session.specs.declared.session.Served.{Served}
 use Rattle.ifs_session.specs.Device.{counted, AreAtHand, MaySkip, SkipGives}
 use Rattle.ifs_session.specs.Requests.{Asked, asked}
 use Rattle.ifs_session.specs.Sessions.{Moment, deed}
-use Rattle.ifs_session.specs.inner.Reading.{ReadsText, AwaitGives, StandsFirst}
-use Rattle.ifs_session.specs.inner.Serving.{intake, kind_of, served_line, NextServed, ServeGives}
+use Rattle.ifs_session.specs.inner.Reading.{ReadsText, StandsFirst}
+use Rattle.ifs_session.specs.inner.Serving.{intake, kind_of, NextServed, ServeGives}
+use Rattle.ifs_session.proofs.Known.{append_known-nil}
 
--- A line was read, and it was served or its reply could not be written. Writes before it are kept.
-pub line_served : (b : Behaviour) (served : Result LineKind DeviceFault) (result : Result (Option Served) SessionFault) (text : List ℕ) (ended : Bool) (before : Moment) (budget : ℕ) (after : Moment) (budget' : ℕ) (a : Asked) (written : Option (List ℕ)) (faults : Option ℕ)
+-- A line was read and served, and the writes before it are kept.
+pub line_served : (b : Behaviour) (kind : LineKind) (text : List ℕ) (ended : Bool) (before : Moment) (budget : ℕ) (after : Moment) (budget' : ℕ) (a : Asked) (written : Option (List ℕ)) (faults : Option ℕ)
     → ReadsText text ended (intake before budget) (intake after budget') → a ≡ asked text
-    → written ≡ before.written → faults ≡ before.write_faults → result ≡ served_line ended served → after.core.image ≡ before.core.image
-    → ServeGives (deed b before.core.image a before.core.state) (kind_of before.core.image a) served after.core.state written after.written faults after.write_faults
-    → NextServed b result before budget after budget'
-line_served b (Ok kind) result text ended before budget after budget' a written faults r asks out same is image (state, put, kind_is) =
-    subst (λ (x : Result (Option Served) SessionFault). NextServed b x before budget after budget') (sym is) (
-      text,
-      record { read = r; image = image; state = state ∙ ap (λ x. (deed b before.core.image x before.core.state).next) asks },
-      record {
-        written = put.0 ∙ ap (λ k. append_known k (deed b before.core.image a before.core.state).reply) out
-            ∙ ap (λ x. append_known before.written (deed b before.core.image x before.core.state).reply) asks;
-        same_faults = put.1 ∙ same;
-        kind_is = kind_is ∙ ap (kind_of before.core.image) asks;
-      },
-    )
-line_served b (Err fault) result text ended before budget after budget' a written faults r asks out same is image (state, one, none) =
-    subst (λ (x : Result (Option Served) SessionFault). NextServed b x before budget after budget') (sym is) (
-      one ∙ ap counted same,
-      inr (text, ended, record { read = r; image = image; state = state ∙ ap (λ x. (deed b before.core.image x before.core.state).next) asks }),
-    )
+    → written ≡ append_known before.written [] → faults ≡ before.write_faults → after.core.image ≡ before.core.image
+    → ServeGives (deed b before.core.image a before.core.state) (kind_of before.core.image a) (Ok kind) after.core.state written after.written faults after.write_faults
+    → NextServed b (Ok (Some (record { kind = kind; is_ended = ended }))) before budget after budget'
+line_served b kind text ended before budget after budget' a written faults r asks out same image (state, put, is) = (
+  text,
+  record { read = r; image = image; state = state ∙ ap (λ x. (deed b before.core.image x before.core.state).next) asks },
+  record {
+    written = put.0 ∙ ap (λ k. append_known k (deed b before.core.image a before.core.state).reply) (out ∙ append_known-nil before.written)
+        ∙ ap (λ x. append_known before.written (deed b before.core.image x before.core.state).reply) asks;
+    same_faults = put.1 ∙ same;
+    kind_is = is ∙ ap (kind_of before.core.image) asks;
+  },
+)
 
--- No line was read, since a read or the flush before it failed, or the input was too long.
-pub not_awaited : (b : Behaviour) (fault : SessionFault) (before : Moment) (budget : ℕ) (after : Moment) (budget' : ℕ) (held held' : Option (List ℕ))
-    → AwaitGives (Err fault) (intake before budget) (intake after budget') (record { written = before.written; held = held; faults = before.write_faults }) (record { written = after.written; held = held'; faults = after.write_faults })
-    → after.core ≡ before.core → NextServed b (Err fault) before budget after budget'
-not_awaited b ReadFailed before budget after budget' held held' ((text, r), f) same = (text, r, record { core = same; written = f.written; same_faults = f.same_faults })
-not_awaited b TooMuchInput before budget after budget' held held' ((text, byte, r), f) same = (text, byte, r, record { core = same; written = f.written; same_faults = f.same_faults })
-not_awaited b WriteFailed before budget after budget' held held' (unread, one) same =
-    (one, inl (record { core = same; left = ap (λ i. i.left) unread; same_faults = ap (λ i. i.faults) unread }))
+-- The reply to a line could not be written.
+pub line_unreplied : (b : Behaviour) (text : List ℕ) (ended : Bool) (before : Moment) (budget : ℕ) (after : Moment) (budget' : ℕ) (a : Asked) (faults : Option ℕ)
+    → ReadsText text ended (intake before budget) (intake after budget') → a ≡ asked text
+    → faults ≡ before.write_faults → after.core.image ≡ before.core.image → after.core.state ≡ (deed b before.core.image a before.core.state).next → after.write_faults ≡ counted faults
+    → NextServed b (Err WriteFailed) before budget after budget'
+line_unreplied b text ended before budget after budget' a faults r asks same image state one = (
+  one ∙ ap counted same,
+  inr (text, ended, record { read = r; image = image; state = state ∙ ap (λ x. (deed b before.core.image x before.core.state).next) asks }),
+)
 
 -- ---- a line at hand
 

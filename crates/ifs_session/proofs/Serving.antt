@@ -1,6 +1,6 @@
 -- The loop over lines: what was read so far, and its effect.
 use Rattle.std.proofs.Common.{◌≡◌, ◌≢◌, ◌⊎◌, ℕ, ◌+◌, ◌<◌, ◌≤◌, Bool, true, false, ◌==◌, cond, not, List, [], ◌∷◌, ◌++◌}
-use Rattle.std.proofs.Common.{length, count_by, Option, None, Result, Ok, Err, inl, inr, subst, refl, sym, ap, ◌∙◌}
+use Rattle.std.proofs.Common.{length, count_by, Option, None, Ok, Err, inl, inr, subst, refl, sym, ap, ◌∙◌}
 use Rattle.std.proofs.Common.{append_assoc, append-nil, arith, length-append}
 use Rattle.std.specs.List.{onto_first}
 use Rattle.std.proofs.lemmas.Bool.Decides.{nat_tests}
@@ -23,7 +23,8 @@ use Rattle.ifs_session.specs.Sessions.{SessionGives, deed, replies_to, after_lin
 use Rattle.ifs_session.specs.Sessions.{OnlyLastMayStop, Moment, HasServed, HasReplied, EndsWell, EndsLine, EndsLines}
 use Rattle.ifs_session.specs.Sessions.{Completes, BreaksReading, BreaksWriting, ReadsPast}
 use Rattle.ifs_session.specs.inner.Serving.{kind_of, with_request, intake, MakesLine, RepliesToLine, OnlyReads}
-use Rattle.ifs_session.specs.inner.Serving.{OnlyWrites, CloseGives, NextServed}
+use Rattle.ifs_session.specs.inner.Serving.{OnlyWrites}
+use Rattle.ifs_session.specs.inner.Serving.{NextServed}
 use Rattle.ifs_session.proofs.Known.{consumes_nothing, consumes_more, consumes_kept, append_known-append}
 use Rattle.ifs_session.proofs.Known.{append_known-nil}
 
@@ -435,6 +436,23 @@ ends_alike : (stopped : Bool) (input : List ℕ) (now after : Moment) → after.
 ends_alike false input now after same end = (end.0, subst IsAtEnd (sym same) end.1)
 ends_alike true input now after same end = (end.0, end.1, end.2, end.3, end.4, subst (EndsLine input) (sym same) end.5)
 
+-- The replies of a session that has ended have gone out.
+pub out_flushed : {b : Behaviour} {summary : Summary} {before now : Moment} (written : Option (List ℕ)) (faults : Option ℕ)
+    → (input : List ℕ) × Completes b summary input before now → (written ≡ append_known now.written []) × (faults ≡ now.write_faults)
+    → (input : List ℕ) × Completes b summary input before (record { core = now.core; left = now.left; written = written; read_faults = now.read_faults; write_faults = faults })
+out_flushed {summary = summary} {now = now} written faults (input, done) put = (
+  input,
+  record {
+    read = record { given = done.read.given; within = done.read.within };
+    served = record { image = done.served.image; state = done.served.state };
+    replied = record { written = put.0 ∙ append_known-nil now.written ∙ done.replied.written; same_faults = put.1 ∙ done.replied.same_faults };
+    same_faults = done.same_faults;
+    requests = done.requests;
+    steps = done.steps;
+    end = ends_alike summary.stopped input now _ refl done.end;
+  },
+)
+
 -- The input of a session that ended was read to the end of a line, and only its last line may be `stop`.
 ends_lines : (stopped : Bool) (input : List ℕ) (now : Moment) → EndsWell stopped input now → EndsLines input now.left
 ends_lines false input now end = inr (inr end.1)
@@ -444,34 +462,18 @@ ends_may_stop : (stopped : Bool) (input : List ℕ) (now : Moment) → EndsWell 
 ends_may_stop false input now end = NoneStops-may_stop (input_lines input) end.0
 ends_may_stop true input now end = subst OnlyLastMayStop (sym end.2) (may_stop-push end.0 end.1 end.3)
 
--- The replies of a session that has ended have gone out, or could not go out.
-pub session_closed : {b : Behaviour} {summary : Summary} {input : List ℕ} {before now : Moment} (result : Result Summary SessionFault) (written : Option (List ℕ)) (faults : Option ℕ)
-    → Completes b summary input before now → CloseGives summary result now.written written now.write_faults faults
-    → SessionGives b result before (record { core = now.core; left = now.left; written = written; read_faults = now.read_faults; write_faults = faults })
-session_closed {b} {summary} {input} {before} {now} (Ok other) written faults done (same, put, kept) =
-    let after : Moment = record { core = now.core; left = now.left; written = written; read_faults = now.read_faults; write_faults = faults } in
-    subst (λ (x : Summary). SessionGives b (Ok x) before after) (sym same) (
-      input,
-      record {
-        read = record { given = done.read.given; within = done.read.within };
-        served = record { image = done.served.image; state = done.served.state };
-        replied = record { written = put ∙ append_known-nil now.written ∙ done.replied.written; same_faults = kept ∙ done.replied.same_faults };
-        same_faults = done.same_faults;
-        requests = done.requests;
-        steps = done.steps;
-        end = ends_alike summary.stopped input now after refl done.end;
-      },
-    )
-session_closed {b} {summary} {input} {before} {now} (Err fault) written faults done (same, one) =
-    let after : Moment = record { core = now.core; left = now.left; written = written; read_faults = now.read_faults; write_faults = faults } in
-    subst (λ (x : SessionFault). SessionGives b (Err x) before after) (sym same) (
-      input,
-      record {
-        read = record { given = done.read.given; within = done.read.within };
-        whole = ends_lines summary.stopped input now done.end;
-        served = record { image = done.served.image; state = done.served.state };
-        same_faults = done.same_faults;
-        one_fault = one ∙ ap counted done.replied.same_faults;
-        go_on = ends_may_stop summary.stopped input now done.end;
-      },
-    )
+-- The replies could not go out.
+pub out_fails : {b : Behaviour} {summary : Summary} {before now : Moment} (written : Option (List ℕ)) (faults : Option ℕ)
+    → (input : List ℕ) × Completes b summary input before now → faults ≡ counted now.write_faults
+    → (input : List ℕ) × BreaksWriting b input before (record { core = now.core; left = now.left; written = written; read_faults = now.read_faults; write_faults = faults })
+out_fails {summary = summary} {now = now} written faults (input, done) one = (
+  input,
+  record {
+    read = record { given = done.read.given; within = done.read.within };
+    whole = ends_lines summary.stopped input now done.end;
+    served = record { image = done.served.image; state = done.served.state };
+    same_faults = done.same_faults;
+    one_fault = one ∙ ap counted done.replied.same_faults;
+    go_on = ends_may_stop summary.stopped input now done.end;
+  },
+)

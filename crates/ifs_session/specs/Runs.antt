@@ -1,7 +1,9 @@
 -- Runs of an image that is the first line of the input, in hexadecimal digits.
-use Rattle.std.specs.Prelude.{◌≡◌, ◌≢◌, ◌⊎◌, ℕ, List, ◌++◌, codes, Result, Ok, Err}
+use Rattle.std.specs.Prelude.{◌≡◌, ◌≢◌, ◌⊎◌, ℕ, List, ◌++◌, codes, decimal, Result, Ok, Err}
 use Rattle.std.specs.Io.KnownBytes.{append_known}
 use Rattle.ifs_image.specs.Spelling.{Spells}
+use Rattle.ifs_verify.specs.declared.fault.VerifyFault.{VerifyFault}
+use Rattle.ifs_verify.specs.declared.fault.VerifyFault.TheVariants as faults
 use Rattle.ifs_verify.specs.FaultWords.{verify_fault_words}
 use Rattle.ifs_verify.specs.Accepted.{IsAccepted}
 use Rattle.ifs_verify.specs.Refused.{IsRefusal, AreNotAccepted}

@@ -1,12 +1,11 @@
 //! Lines of input.
 
-ghost use Rattle.std.specs.Prelude.{◌≡◌, ◌≢◌, ◌<◌, ◌==◌, IfOk, IfSome, MatchResult, option_map};
+ghost use Rattle.std.specs.Prelude.{◌≡◌, ◌==◌, IfSome, option_map};
 ghost use Rattle.std.specs.List.{position};
 ghost use Rattle.ifs_session.specs.Accounts.{asks_of_hosts};
-ghost use Rattle.ifs_session.specs.Device.{HoldsNothing};
-ghost use Rattle.ifs_session.specs.inner.Reading.{LineGives, AwaitGives, StandsFirst, first_line};
+ghost use Rattle.ifs_session.specs.inner.Reading.{LineGives, StandsFirst, first_line};
 
-use crate::device::{ByteIn, ByteOut};
+use crate::device::ByteIn;
 use crate::fault::SessionFault;
 use crate::request::{LINE, Request, RequestFault, parse_request};
 use arrayvec::ArrayVec;
@@ -83,35 +82,13 @@ fn newline(bytes: &[u8]) -> Option<usize>
     bytes.iter().position(|byte| *byte == b'\n')
 }
 
-/// Flushes the writer, and then reads the next line byte by byte. Returns `None` at the end of input.
-///
-/// It fails if a read or the flush fails, and if there is a byte after the budget is spent.
-#[tactic(auto, using(crate::proofs::LineReading::awaits, crate::proofs::Known::written_laws))]
-#[cold]
-#[inline(never)]
-pub(crate) fn awaited_line<R: ByteIn, W: ByteOut>(
-    reader: &mut R,
-    writer: &mut W,
-    budget: &mut u32,
-) -> Result<Option<Line>, SessionFault>
-    ensures reads { AwaitGives result
-        (record { left = R.left reader.old; faults = R.faults reader.old; budget = budget.old })
-        (record { left = R.left reader.new; faults = R.faults reader.new; budget = budget.new })
-        (record { written = W.written writer.old; held = W.held writer.old; faults = W.faults writer.old })
-        (record { written = W.written writer.new; held = W.held writer.new; faults = W.faults writer.new }) }
-    ensures counts { IfOk result (λ next. IfSome next (λ _. budget.new < budget.old)) }
-    ensures out { MatchResult result (λ _. HoldsNothing (W.held writer.new)) (λ fault. fault ≢ SessionFault.WriteFailed → HoldsNothing (W.held writer.new)) }
-{
-    let Ok(()) = writer.flush() else {
-        return Err(SessionFault::WriteFailed);
-    };
-    next_line(reader, budget)
-}
-
 /// Reads the next line, and subtracts its bytes and its newline from the budget. Returns `None` at the end of input.
 ///
 /// It fails if a read fails, and if there is a byte after the budget is spent.
-fn next_line<R: ByteIn>(reader: &mut R, budget: &mut u32) -> Result<Option<Line>, SessionFault>
+pub(crate) fn next_line<R: ByteIn>(
+    reader: &mut R,
+    budget: &mut u32,
+) -> Result<Option<Line>, SessionFault>
     ensures { LineGives result
         (record { left = R.left reader.old; faults = R.faults reader.old; budget = budget.old })
         (record { left = R.left reader.new; faults = R.faults reader.new; budget = budget.new }) }

@@ -8,7 +8,7 @@ ghost use Rattle.ifs_session.specs.inner.Opening.{RefuseGives};
 
 use crate::device::{ByteOut, DeviceFault};
 use crate::fault::{RunFault, SessionFault};
-use crate::words::{put_numbered, send_line};
+use crate::words::put_numbered;
 use ifs_base::{FaultPlace, FaultText};
 use ifs_verify::VerifyFault;
 
@@ -64,7 +64,10 @@ pub fn write_refused<W: ByteOut>(fault: FaultText, writer: &mut W) -> Result<(),
     ensures out { OnOk result (HoldsNothing (W.held writer.new)) }
     ensures fault { IfErr result (λ fault. fault ≡ SessionFault.WriteFailed) }
 {
-    put_refused(writer, fault).map_err(|_| SessionFault::WriteFailed)
+    match put_refused(writer, fault) {
+        Ok(()) => Ok(()),
+        Err(_) => Err(SessionFault::WriteFailed),
+    }
 }
 
 /// Writes and flushes the line of a refusal.
@@ -75,7 +78,8 @@ fn put_refused<W: ByteOut>(out: &mut W, fault: FaultText) -> Result<(), DeviceFa
 {
     out.put(b"refused ")?;
     put_fault_text(out, fault)?;
-    send_line(out)?;
+    out.put(b"\n")?;
+    out.flush()?;
     Ok(())
 }
 

@@ -1,97 +1,110 @@
 //! Reply lines, written in pieces without allocation.
 
-ghost use Rattle.std.specs.Prelude.{◌≡◌, ◌<◌, ◌++◌, if◌then◌else◌, codes, map, length, IfErr, OnOk};
+ghost use Rattle.std.specs.Prelude.{◌≡◌, ◌<◌, decimal, map, length, IfErr, OnOk};
 ghost use Rattle.std.specs.List.{flat_map};
 ghost use Rattle.ifs_core.specs.Gateway.{IsListed, IsReplyOf};
 ghost use Rattle.ifs_core.specs.Steps.{reply_of};
 ghost use Rattle.ifs_session.specs.Device.{HoldsNothing, PutGives};
 ghost use Rattle.ifs_base.specs.Words.{link_word, listed, quoted};
-ghost use Rattle.ifs_session.specs.Replies.{state_name, evaluation_words, start_word, starts_words, ended_line, tick_line};
+ghost use Rattle.ifs_session.specs.Replies.{state_name, command_text, evaluation_words, start_word, starts_words};
 ghost use Rattle.ifs_session.specs.Replies.{before_starts, taken_line, reply_line, status_numbers, status_line};
-ghost use Rattle.ifs_session.specs.Replies.{yes_or_no, step_words, answer_word, answer_words, record_line};
+ghost use Rattle.ifs_session.specs.Replies.{yes_or_no, value_word, step_words, answer_word, answer_words, record_line};
 ghost use Rattle.ifs_session.specs.Replies.{reloaded_line, trace_lines, fault_line};
 
 use crate::device::{ByteOut, DeviceFault};
 use crate::fault::SessionFault;
 use crate::request::RequestFault;
-use crate::words::{put_numbered, put_queue, put_quoted, send_line};
+use crate::words::{put_commands, put_number, put_numbered, put_quoted};
 use ifs_base::{CommandId, LinkState, StateId};
 use ifs_core::{Answer, Core, Lists, Outcome, Record, Step};
 use ifs_sched::Start;
 
-/// Writes words and then the name of a state in quotes.
-fn put_state<W: ByteOut>(
-    out: &mut W,
-    words: &[u8],
-    core: &Core<'_>,
-    state: StateId,
-) -> Result<(), DeviceFault>
+/// Writes the name of a state in quotes.
+fn put_state<W: ByteOut>(out: &mut W, core: &Core<'_>, state: StateId) -> Result<(), DeviceFault>
     requires { IsListed core.now.image state }
-    ensures { PutGives result (words.now ++ quoted (state_name core.now.image state.0)) (W.written out.old) (W.written out.new) (W.faults out.old) (W.faults out.new) }
+    ensures { PutGives result (quoted (state_name core.now.image state.0)) (W.written out.old) (W.written out.new) (W.faults out.old) (W.faults out.new) }
 {
     let Some(name) = core.state_name(state) else {
         unreachable!()
     };
-    put_quoted(out, words, name.as_bytes())
+    put_quoted(out, name.as_bytes())
 }
 
-/// Writes the state, the cost and the queued commands of an evaluation between two texts.
+/// Writes the text of a command in quotes.
+fn put_command<W: ByteOut>(
+    out: &mut W,
+    core: &Core<'_>,
+    command: CommandId,
+) -> Result<(), DeviceFault>
+    requires { command.0 < length core.now.image.commands }
+    ensures { PutGives result (quoted (command_text core.now.image command.0)) (W.written out.old) (W.written out.new) (W.faults out.old) (W.faults out.new) }
+{
+    let Some(text) = core.command_text(command) else {
+        unreachable!()
+    };
+    put_quoted(out, text.as_bytes())
+}
+
+/// Writes the state, the cost and the queued commands of an evaluation.
 #[tactic(auto, using(crate::proofs::Known::written_laws))]
 fn put_evaluation<W: ByteOut>(
     out: &mut W,
-    before: &[u8],
     core: &Core<'_>,
-    lists: &Lists,
     state: StateId,
     cost: u32,
-    after: &[u8],
+    queued: &[CommandId],
 ) -> Result<(), DeviceFault>
     requires { IsListed core.now.image state }
-    ensures { PutGives result (before.now ++ evaluation_words core.now.image state.0 cost lists.now.effects.queued.items ++ after.now) (W.written out.old) (W.written out.new) (W.faults out.old) (W.faults out.new) }
+    ensures { PutGives result (evaluation_words core.now.image state.0 cost queued.now) (W.written out.old) (W.written out.new) (W.faults out.old) (W.faults out.new) }
 {
-    put_state(out, before, core, state)?;
+    put_state(out, core, state)?;
     put_numbered(out, b" cost ", u64::from(cost))?;
-    put_queue(out, lists.effects.queued.as_slice())?;
-    out.put(after)?;
+    out.put(b" queue ")?;
+    put_commands(out, queued)?;
     Ok(())
 }
 
-/// Writes words, a test and the number of its run.
+/// Writes a test and the number of its run.
 #[tactic(auto, using(crate::proofs::Known::written_laws))]
-fn put_start<W: ByteOut>(out: &mut W, words: &[u8], start: &Start) -> Result<(), DeviceFault>
-    ensures { PutGives result (words.now ++ start_word start.now) (W.written out.old) (W.written out.new) (W.faults out.old) (W.faults out.new) }
+fn put_start<W: ByteOut>(out: &mut W, start: &Start) -> Result<(), DeviceFault>
+    ensures { PutGives result (start_word start.now) (W.written out.old) (W.written out.new) (W.faults out.old) (W.faults out.new) }
 {
-    put_numbered(out, words, u64::from(start.test.0))?;
+    put_number(out, u64::from(start.test.0))?;
     put_numbered(out, b":", start.run)?;
     Ok(())
 }
 
-/// Writes the word `starts`, and the starts of a tick, separated by commas, or a dash if there are none.
+/// Writes the starts of a tick, separated by commas, or a dash if there are none.
 #[tactic(auto, using(crate::proofs::Known::written_laws))]
 fn put_start_list<W: ByteOut>(out: &mut W, starts: &[Start]) -> Result<(), DeviceFault>
-    ensures { PutGives result (codes "starts " ++ listed (map start_word starts.now)) (W.written out.old) (W.written out.new) (W.faults out.old) (W.faults out.new) }
+    ensures { PutGives result (listed (map start_word starts.now)) (W.written out.old) (W.written out.new) (W.faults out.old) (W.faults out.new) }
 {
     let Some((first, others)) = starts.split_first() else {
-        return out.put(b"starts -");
+        return out.put(b"-");
     };
-    put_start(out, b"starts ", first)?;
+    put_start(out, first)?;
     for start in others {
-        put_start(out, b",", start)?;
+        out.put(b",")?;
+        put_start(out, start)?;
     }
     Ok(())
 }
 
-/// Writes the starts of a tick, and whether there was no run number left for a test that was due. Ends the line.
+/// Writes the starts of a tick, and whether there was no run number left for a test that was due.
 #[tactic(auto, using(crate::proofs::Known::written_laws))]
 fn put_starts<W: ByteOut>(out: &mut W, starts: &[Start], exhausted: bool) -> Result<(), DeviceFault>
-    ensures { PutGives result (ended_line (starts_words starts.now exhausted)) (W.written out.old) (W.written out.new) (W.faults out.old) (W.faults out.new) }
+    ensures { PutGives result (starts_words starts.now exhausted) (W.written out.old) (W.written out.new) (W.faults out.old) (W.faults out.new) }
 {
+    out.put(b"starts ")?;
     put_start_list(out, starts)?;
-    put_either(out, exhausted, b" exhausted\n", b"\n")?;
+    if exhausted {
+        out.put(b" exhausted")?;
+    }
     Ok(())
 }
 
 /// Writes the reply line of a step, from its outcome and its lists.
+#[tactic(auto, using(crate::proofs::Known::written_laws))]
 pub(crate) fn put_reply<W: ByteOut>(
     out: &mut W,
     core: &Core<'_>,
@@ -101,16 +114,26 @@ pub(crate) fn put_reply<W: ByteOut>(
     requires { IsReplyOf core.now.image (reply_of outcome lists.now) }
     ensures { PutGives result (reply_line core.now.image (reply_of outcome lists.now)) (W.written out.old) (W.written out.new) (W.faults out.old) (W.faults out.new) }
 {
+    let queued = lists.effects.queued.as_slice();
     match outcome {
         Outcome::Done { state, cost } => {
-            put_evaluation(out, b"done ", core, lists, state, cost, b"\n")
+            out.put(b"done ")?;
+            put_evaluation(out, core, state, cost, queued)?;
+            out.put(b"\n")?;
+            Ok(())
         }
         Outcome::Ticked {
             evaluated,
             state,
             cost,
             exhausted,
-        } => put_ticked(out, core, lists, evaluated, state, cost, exhausted),
+        } => {
+            out.put(b"tick ")?;
+            put_before_starts(out, core, evaluated, state, cost, queued)?;
+            put_starts(out, lists.starts.as_slice(), exhausted)?;
+            out.put(b"\n")?;
+            Ok(())
+        }
         Outcome::Taken(command) => put_taken(out, core, command),
         Outcome::Same => out.put(b"same\n"),
         Outcome::Empty => out.put(b"empty\n"),
@@ -121,42 +144,25 @@ pub(crate) fn put_reply<W: ByteOut>(
     }
 }
 
-/// Writes the reply line of a tick.
+/// Writes the evaluation of a tick, if it made one, and a space.
 #[tactic(auto, using(crate::proofs::Known::written_laws))]
-fn put_ticked<W: ByteOut>(
-    out: &mut W,
-    core: &Core<'_>,
-    lists: &Lists,
-    evaluated: bool,
-    state: StateId,
-    cost: u32,
-    exhausted: bool,
-) -> Result<(), DeviceFault>
-    requires { IsListed core.now.image state }
-    ensures { PutGives result (tick_line evaluated (evaluation_words core.now.image state.0 cost lists.now.effects.queued.items) (starts_words lists.now.starts.items exhausted)) (W.written out.old) (W.written out.new) (W.faults out.old) (W.faults out.new) }
-{
-    put_before_starts(out, evaluated, core, lists, state, cost)?;
-    put_starts(out, lists.starts.as_slice(), exhausted)?;
-    Ok(())
-}
-
-/// Writes the word `tick`, the evaluation of the tick, if it made one, and a space.
 fn put_before_starts<W: ByteOut>(
     out: &mut W,
-    evaluated: bool,
     core: &Core<'_>,
-    lists: &Lists,
+    evaluated: bool,
     state: StateId,
     cost: u32,
+    queued: &[CommandId],
 ) -> Result<(), DeviceFault>
     requires { IsListed core.now.image state }
-    ensures { PutGives result (codes "tick " ++ before_starts evaluated (evaluation_words core.now.image state.0 cost lists.now.effects.queued.items)) (W.written out.old) (W.written out.new) (W.faults out.old) (W.faults out.new) }
+    ensures { PutGives result (before_starts evaluated (evaluation_words core.now.image state.0 cost queued.now)) (W.written out.old) (W.written out.new) (W.faults out.old) (W.faults out.new) }
 {
-    if evaluated {
-        put_evaluation(out, b"tick ", core, lists, state, cost, b" ")
-    } else {
-        out.put(b"tick ")
+    if !evaluated {
+        return Ok(());
     }
+    put_evaluation(out, core, state, cost, queued)?;
+    out.put(b" ")?;
+    Ok(())
 }
 
 /// Writes the reply line of a taken command.
@@ -169,11 +175,9 @@ fn put_taken<W: ByteOut>(
     requires { command.0 < length core.now.image.commands }
     ensures { PutGives result (taken_line core.now.image command.0) (W.written out.old) (W.written out.new) (W.faults out.old) (W.faults out.new) }
 {
-    let Some(text) = core.command_text(command) else {
-        unreachable!()
-    };
     put_numbered(out, b"taken ", u64::from(command.0))?;
-    put_quoted(out, b" ", text.as_bytes())?;
+    out.put(b" ")?;
+    put_command(out, core, command)?;
     out.put(b"\n")?;
     Ok(())
 }
@@ -183,19 +187,12 @@ fn put_taken<W: ByteOut>(
 pub(crate) fn put_status<W: ByteOut>(out: &mut W, core: &Core<'_>) -> Result<(), DeviceFault>
     ensures { PutGives result (status_line core.now.image core.now.state) (W.written out.old) (W.written out.new) (W.faults out.old) (W.faults out.new) }
 {
-    put_status_state(out, core)?;
+    out.put(b"status ")?;
+    put_state(out, core, core.state())?;
+    out.put(b" owed ")?;
+    put_yes_or_no(out, core.owed())?;
     put_status_numbers(out, core)?;
     out.put(b"\n")?;
-    Ok(())
-}
-
-/// Writes the beginning of the status line: the state, and whether an evaluation is owed.
-#[tactic(auto, using(crate::proofs::Known::written_laws))]
-fn put_status_state<W: ByteOut>(out: &mut W, core: &Core<'_>) -> Result<(), DeviceFault>
-    ensures { PutGives result (codes "status " ++ quoted (state_name core.now.image core.now.state.position.current.0) ++ codes " owed " ++ yes_or_no core.now.state.position.owed) (W.written out.old) (W.written out.new) (W.faults out.old) (W.faults out.new) }
-{
-    put_state(out, b"status ", core, core.state())?;
-    put_either(out, core.owed(), b" owed yes", b" owed no")?;
     Ok(())
 }
 
@@ -219,7 +216,10 @@ pub fn write_reloaded<W: ByteOut>(core: &Core<'_>, writer: &mut W) -> Result<(),
     ensures out { OnOk result (HoldsNothing (W.held writer.new)) }
     ensures fault { IfErr result (λ fault. fault ≡ SessionFault.WriteFailed) }
 {
-    put_reloaded(writer, core).map_err(|_| SessionFault::WriteFailed)
+    match put_reloaded(writer, core) {
+        Ok(()) => Ok(()),
+        Err(_) => Err(SessionFault::WriteFailed),
+    }
 }
 
 /// Writes and flushes the reply to a `reload` that was done.
@@ -228,9 +228,11 @@ fn put_reloaded<W: ByteOut>(out: &mut W, core: &Core<'_>) -> Result<(), DeviceFa
     ensures puts { PutGives result (reloaded_line core.now.image core.now.state) (W.written out.old) (W.written out.new) (W.faults out.old) (W.faults out.new) }
     ensures out { OnOk result (HoldsNothing (W.held out.new)) }
 {
-    put_state(out, b"reloaded ", core, core.state())?;
+    out.put(b"reloaded ")?;
+    put_state(out, core, core.state())?;
     put_numbered(out, b" queue ", core.queue_len() as u64)?;
-    send_line(out)?;
+    out.put(b"\n")?;
+    out.flush()?;
     Ok(())
 }
 
@@ -242,13 +244,15 @@ fn put_step<W: ByteOut>(out: &mut W, step: Step) -> Result<(), DeviceFault>
     match step {
         Step::Link(interface, link) => {
             put_numbered(out, b"link ", u64::from(interface.0))?;
-            out.put(link_ending(link))?;
+            out.put(b" ")?;
+            put_link(out, link)?;
             Ok(())
         }
         Step::Finished(test, run, value) => {
             put_numbered(out, b"result ", u64::from(test.0))?;
             put_numbered(out, b" ", run)?;
-            put_either(out, value, b" ok", b" fail")?;
+            out.put(b" ")?;
+            put_value(out, value)?;
             Ok(())
         }
         Step::Tick(now) => {
@@ -259,42 +263,48 @@ fn put_step<W: ByteOut>(out: &mut W, step: Step) -> Result<(), DeviceFault>
     }
 }
 
-/// A space and the word of a link state.
-fn link_ending(link: LinkState) -> &'static [u8]
-    ensures { result.now ≡ codes " " ++ link_word link }
+/// Writes a link state.
+fn put_link<W: ByteOut>(out: &mut W, link: LinkState) -> Result<(), DeviceFault>
+    ensures { PutGives result (link_word link) (W.written out.old) (W.written out.new) (W.faults out.old) (W.faults out.new) }
 {
     match link {
-        LinkState::Unknown => b" unknown",
-        LinkState::Down => b" down",
-        LinkState::Up => b" up",
+        LinkState::Unknown => out.put(b"unknown"),
+        LinkState::Down => out.put(b"down"),
+        LinkState::Up => out.put(b"up"),
     }
 }
 
-/// Writes the first of two texts if a condition holds, and otherwise the second.
-fn put_either<W: ByteOut>(
-    out: &mut W,
-    condition: bool,
-    first: &[u8],
-    second: &[u8],
-) -> Result<(), DeviceFault>
-    ensures { PutGives result (if condition then first.now else second.now) (W.written out.old) (W.written out.new) (W.faults out.old) (W.faults out.new) }
+/// Writes the value of a test.
+fn put_value<W: ByteOut>(out: &mut W, value: bool) -> Result<(), DeviceFault>
+    ensures { PutGives result (value_word value) (W.written out.old) (W.written out.new) (W.faults out.old) (W.faults out.new) }
 {
-    if condition {
-        out.put(first)
+    if value {
+        out.put(b"ok")
     } else {
-        out.put(second)
+        out.put(b"fail")
     }
 }
 
-/// The name of an answer and a space.
-fn answer_beginning(answer: Answer) -> &'static [u8]
-    ensures { result.now ≡ answer_word answer ++ codes " " }
+/// Writes whether something is so.
+fn put_yes_or_no<W: ByteOut>(out: &mut W, answer: bool) -> Result<(), DeviceFault>
+    ensures { PutGives result (yes_or_no answer) (W.written out.old) (W.written out.new) (W.faults out.old) (W.faults out.new) }
+{
+    if answer {
+        out.put(b"yes")
+    } else {
+        out.put(b"no")
+    }
+}
+
+/// Writes the name of an answer.
+fn put_answer<W: ByteOut>(out: &mut W, answer: Answer) -> Result<(), DeviceFault>
+    ensures { PutGives result (answer_word answer) (W.written out.old) (W.written out.new) (W.faults out.old) (W.faults out.new) }
 {
     match answer {
-        Answer::Done => b"done ",
-        Answer::Same => b"same ",
-        Answer::Ticked => b"ticked ",
-        Answer::Taken => b"taken ",
+        Answer::Done => out.put(b"done"),
+        Answer::Same => out.put(b"same"),
+        Answer::Ticked => out.put(b"ticked"),
+        Answer::Taken => out.put(b"taken"),
     }
 }
 
@@ -321,7 +331,9 @@ fn put_answer_words<W: ByteOut>(
     requires { IsListed core.now.image item.now.state }
     ensures { PutGives result (answer_words core.now.image item.now) (W.written out.old) (W.written out.new) (W.faults out.old) (W.faults out.new) }
 {
-    put_state(out, answer_beginning(item.answer), core, item.state)?;
+    put_answer(out, item.answer)?;
+    out.put(b" ")?;
+    put_state(out, core, item.state)?;
     put_numbered(out, b" cost ", u64::from(item.cost))?;
     put_numbered(out, b" queue ", u64::from(item.queued))?;
     Ok(())

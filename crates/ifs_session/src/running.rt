@@ -1,7 +1,7 @@
 //! Runs of an image that is the first line of the input.
 
 ghost use Rattle.std.specs.Prelude.{◌≡◌, Ok};
-ghost use Rattle.ifs_session.specs.inner.Opening.{ImageGives, LineGives, run_result};
+ghost use Rattle.ifs_session.specs.inner.Opening.{ImageGives, LineGives};
 ghost use Rattle.ifs_session.specs.Device.{Feed};
 ghost use Rattle.ifs_session.specs.Hexadecimal.{HexGives};
 ghost use Rattle.ifs_session.specs.Runs.{RunGives};
@@ -28,9 +28,9 @@ pub(crate) enum Unopened {
 /// Runs the image of the first line of the input, and then serves request lines as `simulate` does. The first line is an
 /// even number of at most 131,072 lower-case hexadecimal digits. It does not count toward the bytes of requests.
 ///
-/// An invalid first line is refused at its first invalid byte, and nothing after that byte is read. An image is refused too
-/// if the verifier rejects it, or if an allocation for it fails. A refusal writes its line. If that write fails, the fault
-/// is S2.
+/// An invalid first line is refused at its first invalid byte, and nothing after that byte is read. An image that the
+/// verifier rejects is refused too. If an allocation for the image fails, it is refused as well. A refusal writes its
+/// line. If that write fails, the fault is S2.
 pub fn run_hex<R: ByteIn, W: ByteOut>(
     alloc: Global,
     reader: &mut R,
@@ -93,17 +93,10 @@ fn run_image<R: ByteIn, W: ByteOut>(
             let told = refuse(writer, refusal);
             Err(told)
         }
-        Ok(mut core) => run_result(simulate(&mut core, reader, writer)),
-    }
-}
-
-/// The result of a run, from that of its session.
-fn run_result(session: Result<Summary, SessionFault>) -> Result<Summary, RunFault>
-    ensures { result ≡ run_result session }
-{
-    match session {
-        Ok(summary) => Ok(summary),
-        Err(fault) => Err(RunFault::Session(fault)),
+        Ok(mut core) => match simulate(&mut core, reader, writer) {
+            Ok(summary) => Ok(summary),
+            Err(fault) => Err(RunFault::Session(fault)),
+        },
     }
 }
 

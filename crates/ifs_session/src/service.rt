@@ -19,7 +19,7 @@ ghost use Rattle.ifs_session.specs.inner.Connections.{Carries, HasFollowed, Exch
 use crate::device::{ByteIn, ByteOut, DeviceFault};
 use crate::fault::SessionFault;
 use crate::host::Host;
-use crate::lines::awaited_line;
+use crate::lines::next_line;
 use crate::question::put_reply_to;
 use crate::queue::empty_queue;
 use crate::replies::{put_fault, put_reply};
@@ -243,7 +243,13 @@ fn next_exchange<H: Host, R: ByteIn, W: ByteOut>(
     ensures out { MatchResult result (λ next. next ≡ None → HoldsNothing (W.held writer.new)) (λ broken. broken.fault ≢ SessionFault.WriteFailed → HoldsNothing (W.held writer.new)) }
     ensures few { length steps.new.items ≤ 512 }
 {
-    let line = match awaited_line(reader, writer, budget) {
+    let Ok(()) = writer.flush() else {
+        return Err(Break {
+            fault: SessionFault::WriteFailed,
+            stopped: false,
+        });
+    };
+    let line = match next_line(reader, budget) {
         Err(fault) => {
             return Err(Break {
                 fault,
@@ -352,7 +358,7 @@ fn start_tests<H: Host>(core: &Core<'_>, host: &mut H, starts: &[Start])
     }
 }
 
-/// Makes the step of a line, if it has one, empties the queue, and then writes the reply. A reload has none.
+/// Makes the step of a line, if it has one, and writes the reply. A reload has none.
 fn answer<H: Host, W: ByteOut>(
     core: &mut Core<'_>,
     host: &mut H,
@@ -373,11 +379,30 @@ fn answer<H: Host, W: ByteOut>(
 {
     match step_of(core, asked) {
         None => tell(core, writer, asked),
-        Some(step) => {
-            let outcome = make(core, host, lists, steps, step);
-            reply(core, host, lists, writer, outcome)
-        }
+        Some(step) => answer_step(core, host, lists, steps, writer, step),
     }
+}
+
+/// Makes a step, empties the queue, and then writes the reply.
+fn answer_step<H: Host, W: ByteOut>(
+    core: &mut Core<'_>,
+    host: &mut H,
+    lists: &mut Lists,
+    steps: &mut ArrayVec<Step, STEPS>,
+    writer: &mut W,
+    step: Step,
+) -> Result<(), DeviceFault>
+    requires { length steps.old.items + 65 ≤ 512 }
+    ensures image { core.new.image ≡ core.old.image }
+    ensures acts { (b : Behaviour) → IsBehaviour core.old.image b → Carries (acted b core.old.image (Some step))
+        (record { state = core.old.state; steps = steps.old.items; told = H.told host.old })
+        (record { state = core.new.state; steps = steps.new.items; told = H.told host.new }) }
+    ensures replies { (b : Behaviour) → IsBehaviour core.old.image b
+        → PutGives result (reply_line core.old.image (turn b core.old.image.budgets.commands step core.old.state).reply) (W.written writer.old) (W.written writer.new) (W.faults writer.old) (W.faults writer.new) }
+    ensures few { length steps.new.items ≤ 512 }
+{
+    let outcome = make(core, host, lists, steps, step);
+    reply(core, host, lists, writer, outcome)
 }
 
 /// Writes the reply to a step, after the host started its tests and ran its commands.

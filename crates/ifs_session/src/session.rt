@@ -7,11 +7,11 @@ ghost use Rattle.ifs_session.specs.Device.{HoldsNothing};
 ghost use Rattle.ifs_session.specs.Requests.{ALink};
 ghost use Rattle.ifs_session.specs.inner.Parsing.{told_by};
 ghost use Rattle.ifs_session.specs.Sessions.{deed, step_deed, SessionGives};
-ghost use Rattle.ifs_session.specs.inner.Serving.{kind_of, with_request, served_line, CloseGives, ServeGives, NextServed};
+ghost use Rattle.ifs_session.specs.inner.Serving.{kind_of, with_request, ServeGives, NextServed};
 
 use crate::device::{ByteIn, ByteOut, DeviceFault};
 use crate::fault::SessionFault;
-use crate::lines::{awaited_line, line_at_hand};
+use crate::lines::{line_at_hand, next_line};
 use crate::question::put_reply_to;
 use crate::replies::{put_fault, put_reply};
 use crate::request::{Request, RequestFault, request_of};
@@ -81,19 +81,11 @@ pub fn simulate<R: ByteIn, W: ByteOut>(
         };
         count(&mut summary, served.kind);
         if summary.stopped || !served.is_ended {
-            return closed(writer, summary);
+            let Ok(()) = writer.flush() else {
+                return Err(SessionFault::WriteFailed);
+            };
+            return Ok(summary);
         }
-    }
-}
-
-/// The result of a session that went like this: its replies are sent out. A failed write is S2.
-fn closed<W: ByteOut>(writer: &mut W, summary: Summary) -> Result<Summary, SessionFault>
-    ensures gives { CloseGives summary result (W.written writer.old) (W.written writer.new) (W.faults writer.old) (W.faults writer.new) }
-    ensures out { result ≢ Err SessionFault.WriteFailed → HoldsNothing (W.held writer.new) }
-{
-    match writer.flush() {
-        Ok(()) => Ok(summary),
-        Err(_) => Err(SessionFault::WriteFailed),
     }
 }
 
@@ -111,31 +103,49 @@ fn serve_next<R: ByteIn, W: ByteOut>(
     ensures counts { IfOk result (λ next. IfSome next (λ _. budget.new < budget.old)) }
     ensures out { MatchResult result (λ next. next ≡ None → HoldsNothing (W.held writer.new)) (λ fault. fault ≢ SessionFault.WriteFailed → HoldsNothing (W.held writer.new)) }
 {
-    if let Some(line) = line_at_hand(reader.peek(), *budget) {
-        let length = line.len() + 1;
-        let served = serve(core, lists, writer, request_of(line));
-        reader.skip(length);
-        *budget -= length as u32;
-        return served_line(served, true);
-    }
-    let line = match awaited_line(reader, writer, budget) {
-        Err(fault) => return Err(fault),
-        Ok(None) => return Ok(None),
-        Ok(Some(line)) => line,
+    let Some(line) = line_at_hand(reader.peek(), *budget) else {
+        return serve_read(core, lists, reader, writer, budget);
     };
-    let served = serve(core, lists, writer, line.request());
-    served_line(served, line.is_ended)
+    let length = line.len() + 1;
+    let served = serve(core, lists, writer, request_of(line));
+    reader.skip(length);
+    *budget -= length as u32;
+    match served {
+        Ok(kind) => Ok(Some(Served {
+            kind,
+            is_ended: true,
+        })),
+        Err(_) => Err(SessionFault::WriteFailed),
+    }
 }
 
-/// The result of serving a line, from that of its request. A failed write is S2.
-fn served_line(
-    served: Result<LineKind, DeviceFault>,
-    is_ended: bool,
+/// Flushes the writer, reads the next line byte by byte, and serves it. Returns `None` at the end of input.
+#[cold]
+#[inline(never)]
+fn serve_read<R: ByteIn, W: ByteOut>(
+    core: &mut Core<'_>,
+    lists: &mut Lists,
+    reader: &mut R,
+    writer: &mut W,
+    budget: &mut u32,
 ) -> Result<Option<Served>, SessionFault>
-    ensures { result ≡ served_line is_ended served }
+    ensures next { (b : Behaviour) → IsBehaviour core.old.image b → NextServed b result
+        (record { core = core.old; left = R.left reader.old; written = W.written writer.old; read_faults = R.faults reader.old; write_faults = W.faults writer.old }) budget.old
+        (record { core = core.new; left = R.left reader.new; written = W.written writer.new; read_faults = R.faults reader.new; write_faults = W.faults writer.new }) budget.new }
+    ensures counts { IfOk result (λ next. IfSome next (λ _. budget.new < budget.old)) }
+    ensures out { MatchResult result (λ next. next ≡ None → HoldsNothing (W.held writer.new)) (λ fault. fault ≢ SessionFault.WriteFailed → HoldsNothing (W.held writer.new)) }
 {
-    match served {
-        Ok(kind) => Ok(Some(Served { kind, is_ended })),
+    let Ok(()) = writer.flush() else {
+        return Err(SessionFault::WriteFailed);
+    };
+    let Some(line) = next_line(reader, budget)? else {
+        return Ok(None);
+    };
+    match serve(core, lists, writer, line.request()) {
+        Ok(kind) => Ok(Some(Served {
+            kind,
+            is_ended: line.is_ended,
+        })),
         Err(_) => Err(SessionFault::WriteFailed),
     }
 }

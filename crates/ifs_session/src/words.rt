@@ -1,17 +1,17 @@
 //! Parts of replies: numbers, quoted texts and lists.
 
-ghost use Rattle.std.specs.Prelude.{◌≡◌, ◌<◌, ◌≤◌, [], ◌∷◌, ◌++◌, length, take, codes, decimal, map, OnOk};
+ghost use Rattle.std.specs.Prelude.{◌≡◌, ◌<◌, ◌≤◌, [], ◌∷◌, ◌++◌, length, take, decimal, map};
 ghost use Rattle.std.specs.Bool.{OnTrue};
 ghost use Rattle.std.specs.List.{flat_map};
 ghost use Rattle.ifs_base.specs.Words.{quoted_byte, quoted, listed};
-ghost use Rattle.ifs_session.specs.Device.{HoldsNothing, PutGives};
+ghost use Rattle.ifs_session.specs.Device.{PutGives};
 
 use crate::device::{ByteOut, DeviceFault};
 use ifs_base::{CommandId, QuotedByte, quote_byte};
 use itoa::Buffer;
 
 /// Writes a number in decimal digits.
-fn put_number<W: ByteOut>(out: &mut W, number: u64) -> Result<(), DeviceFault>
+pub(crate) fn put_number<W: ByteOut>(out: &mut W, number: u64) -> Result<(), DeviceFault>
     ensures { PutGives result (decimal number) (W.written out.old) (W.written out.new) (W.faults out.old) (W.faults out.new) }
 {
     if number < 10 {
@@ -43,16 +43,10 @@ pub(crate) fn put_numbered<W: ByteOut>(
     Ok(())
 }
 
-/// Writes words and then a text in quotes.
-#[tactic(auto, using(crate::proofs::Known::written_laws))]
-pub(crate) fn put_quoted<W: ByteOut>(
-    out: &mut W,
-    words: &[u8],
-    text: &[u8],
-) -> Result<(), DeviceFault>
-    ensures { PutGives result (words.now ++ quoted text.now) (W.written out.old) (W.written out.new) (W.faults out.old) (W.faults out.new) }
+/// Writes a text in quotes.
+pub(crate) fn put_quoted<W: ByteOut>(out: &mut W, text: &[u8]) -> Result<(), DeviceFault>
+    ensures { PutGives result (quoted text.now) (W.written out.old) (W.written out.new) (W.faults out.old) (W.faults out.new) }
 {
-    out.put(words)?;
     out.put(b"\"")?;
     put_escaped(out, text)?;
     out.put(b"\"")?;
@@ -107,27 +101,20 @@ fn put_quoted_byte<W: ByteOut>(out: &mut W, byte: u8) -> Result<(), DeviceFault>
     }
 }
 
-/// Writes the word `queue`, and the numbers of its commands, separated by commas, or a dash if there are none.
-pub(crate) fn put_queue<W: ByteOut>(out: &mut W, commands: &[CommandId]) -> Result<(), DeviceFault>
-    ensures { PutGives result (codes " queue " ++ listed (map (λ c. decimal c.0) commands.now)) (W.written out.old) (W.written out.new) (W.faults out.old) (W.faults out.new) }
+/// Writes the numbers of commands, separated by commas, or a dash if there are none.
+pub(crate) fn put_commands<W: ByteOut>(
+    out: &mut W,
+    commands: &[CommandId],
+) -> Result<(), DeviceFault>
+    ensures { PutGives result (listed (map (λ c. decimal c.0) commands.now)) (W.written out.old) (W.written out.new) (W.faults out.old) (W.faults out.new) }
 {
     let Some((first, others)) = commands.split_first() else {
-        return out.put(b" queue -");
+        return out.put(b"-");
     };
-    put_numbered(out, b" queue ", u64::from(first.0))?;
+    put_number(out, u64::from(first.0))?;
     for command in others {
-        put_numbered(out, b",", u64::from(command.0))?;
+        out.put(b",")?;
+        put_number(out, u64::from(command.0))?;
     }
-    Ok(())
-}
-
-/// Ends a line, and sends out what the writer holds back.
-#[tactic(auto, using(crate::proofs::Known::written_laws))]
-pub(crate) fn send_line<W: ByteOut>(out: &mut W) -> Result<(), DeviceFault>
-    ensures puts { PutGives result (codes "\n") (W.written out.old) (W.written out.new) (W.faults out.old) (W.faults out.new) }
-    ensures out { OnOk result (HoldsNothing (W.held out.new)) }
-{
-    out.put(b"\n")?;
-    out.flush()?;
     Ok(())
 }

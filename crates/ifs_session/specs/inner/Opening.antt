@@ -3,7 +3,6 @@ use Rattle.std.specs.Prelude.{◌≡◌, ◌⊎◌, ℕ, List, Result, Ok, Err}
 use Rattle.std.specs.Io.KnownBytes.{append_known}
 use Rattle.ifs_verify.specs.Refused.{IsRefusal, AreNotAccepted}
 use Rattle.ifs_core.specs.Gateway.{OpenCore}
-use Rattle.ifs_session.specs.declared.fault.SessionFault.{SessionFault}
 use Rattle.ifs_session.specs.declared.fault.SessionFault.TheVariants.{WriteFailed}
 use Rattle.ifs_session.specs.declared.fault.RunFault.{RunFault}
 use Rattle.ifs_session.specs.declared.fault.RunFault.TheVariants.{Session}
@@ -12,7 +11,6 @@ use Rattle.ifs_session.specs.declared.refusal.Refusal.TheVariants.{Broken, NotAc
 use Rattle.ifs_session.specs.declared.running.Unopened.{Unopened}
 use Rattle.ifs_session.specs.declared.running.Unopened.TheVariants.{Refused, NotRead}
 use Rattle.ifs_session.specs.declared.hexadecimal.HexFault.TheVariants as hex_faults
-use Rattle.ifs_session.specs.declared.session.Summary.{Summary}
 use Rattle.ifs_session.specs.Device.{counted, Feed, Sink, HoldsNothing}
 use Rattle.ifs_session.specs.Hexadecimal.{HexGives}
 use Rattle.ifs_session.specs.Runs.{refusal_words, refused_line, run_fault, LineRefused, OpensImage}
@@ -35,8 +33,3 @@ abbrev pub LineGives : Result (List ℕ) Unopened → Feed → Feed → Type 0
 LineGives (Ok bytes) before after = HexGives (Ok bytes) before after
 LineGives (Err (Refused refusal)) before after = LineRefused refusal before after
 LineGives (Err NotRead) before after = HexGives (Err hex_faults.NotRead) before after
-
--- The result of a run, from that of its session.
-abbrev pub run_result : Result Summary SessionFault → Result Summary RunFault
-run_result (Ok summary) = Ok summary
-run_result (Err fault) = Err (Session fault)

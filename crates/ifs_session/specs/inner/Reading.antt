@@ -8,7 +8,7 @@ use Rattle.ifs_session.specs.declared.fault.SessionFault.TheVariants.{ReadFailed
 use Rattle.ifs_session.specs.declared.hexadecimal.HexFault.{HexFault}
 use Rattle.ifs_session.specs.declared.hexadecimal.HexFault.TheVariants.{Broken, Memory, NotRead}
 use Rattle.ifs_session.specs.declared.lines.Line.{Line}
-use Rattle.ifs_session.specs.Device.{counted, HoldsNothing, Feed, Sink}
+use Rattle.ifs_session.specs.Device.{counted, Feed}
 use Rattle.ifs_base.specs.Words.{hex_digit, IsNoDigit}
 use Rattle.ifs_session.specs.Lines.{line_end}
 use Rattle.ifs_session.specs.Hexadecimal.{Takes, EndsAt, hex_text, HexGives}
@@ -77,19 +77,6 @@ LineGives (Ok None) before after = ReadsNothing before after
 LineGives (Err ReadFailed) before after = (text : List ℕ) × ReadFails text before after
 LineGives (Err TooMuchInput) before after = (text : List ℕ) × (byte : ℕ) × ReadsTooMuch text byte before after
 LineGives (Err WriteFailed) before after = ⊥
-
--- What a writer held back has gone out, and nothing else was written.
-pub record Flushes (before after : Sink) : Type 0 where
-  pub written : after.written ≡ before.written
-  pub same_faults : after.faults ≡ before.faults
-  pub out : HoldsNothing after.held
-
--- The result of flushing a writer and then reading the next line. If the writer could not be flushed, nothing was read.
-abbrev pub AwaitGives : Result (Option Line) SessionFault → Intake → Intake → Sink → Sink → Type 0
-AwaitGives (Ok next) before after out out' = LineGives (Ok next) before after × Flushes out out'
-AwaitGives (Err ReadFailed) before after out out' = LineGives (Err ReadFailed) before after × Flushes out out'
-AwaitGives (Err TooMuchInput) before after out out' = LineGives (Err TooMuchInput) before after × Flushes out out'
-AwaitGives (Err WriteFailed) before after out out' = (after ≡ before) × (out'.faults ≡ counted out.faults)
 
 -- The result of reading a digit: the digit, or none at the end of the line.
 abbrev pub DigitGives : Result (Option ℕ) HexFault → Feed → Feed → Type 0

@@ -1,5 +1,5 @@
 -- Contracts of the functions that serve a line.
-use Rattle.std.specs.Prelude.{◌≡◌, ◌⊎◌, ℕ, ◌+◌, Bool, true, if◌then◌else◌, List, [], Option, Some, None, Result, Ok, Err}
+use Rattle.std.specs.Prelude.{◌≡◌, ◌⊎◌, ℕ, ◌+◌, Bool, true, if◌then◌else◌, List, Option, Some, None, Result, Ok, Err}
 use Rattle.std.specs.Prelude.{IfOk}
 use Rattle.std.specs.Io.KnownBytes.{append_known}
 use Rattle.ifs_image.specs.declared.parts.ImageParts.{ImageParts}
@@ -69,16 +69,6 @@ NextServed b (Err ReadFailed) before budget after budget' = (text : List ℕ) ×
 NextServed b (Err TooMuchInput) before budget after budget' = (text : List ℕ) × (byte : ℕ) × ReadsTooMuch text byte (intake before budget) (intake after budget') × OnlyReads before after
 NextServed b (Err WriteFailed) before budget after budget' =
     (after.write_faults ≡ counted before.write_faults) × (OnlyWrites before after ⊎ ((text : List ℕ) × (ended : Bool) × MakesLine b text ended before budget after budget'))
-
--- The result of serving a line, from that of its request.
-abbrev pub served_line : Bool → Result LineKind DeviceFault → Result (Option Served) SessionFault
-served_line ended (Ok kind) = Ok (Some (record { kind = kind; is_ended = ended }))
-served_line ended (Err fault) = Err WriteFailed
-
--- The result of sending out the replies of a session that went like this.
-abbrev pub CloseGives : Summary → Result Summary SessionFault → Option (List ℕ) → Option (List ℕ) → Option ℕ → Option ℕ → Type 0
-CloseGives summary (Ok other) written written' faults faults' = (other ≡ summary) × (written' ≡ append_known written []) × (faults' ≡ faults)
-CloseGives summary (Err fault) written written' faults faults' = (fault ≡ WriteFailed) × (faults' ≡ counted faults)
 
 -- A summary with one more line of this kind.
 abbrev pub with_request : LineKind → Summary → Summary

@@ -1,4 +1,4 @@
-use Rattle.std.proofs.Common.{refl}
+use Rattle.std.proofs.Common.{Err, refl}
 use Rattle.ifs_session.specs.Runs.{Streams}
 use Rattle.ifs_session.proofs.FirstLine.{run_served, image_refused, run_refused}
 use Rattle.ifs_session.proofs.running.run_image.Goals as goal
@@ -15,8 +15,24 @@ returns-in-Err g c = λ feed line.
     } in
     run_refused c.in-Err.refusal c.refuse-told.result before after (image_refused c.args.bytes.now c.in-Err.refusal feed after.feed line c.in-Err.ensures) c.refuse-told.ensures
 
-pub returns-in-Ok : goal.returns-in-Ok
-returns-in-Ok g c = λ feed line.
+pub returns-in-Ok-simulate : goal.returns-in-Ok-simulate
+returns-in-Ok-simulate g c = λ feed line. record {
+  opening = c.in-Ok.core;
+  ending = c.simulate.new.core;
+  start = record {
+    feed = record { left = g.R.ByteIn.left c.args.reader.now; faults = g.R.ByteIn.faults c.args.reader.now };
+    sink = record { written = g.W.ByteOut.written c.args.writer.now; held = g.W.ByteOut.held c.args.writer.now; faults = g.W.ByteOut.faults c.args.writer.now };
+  };
+  bytes = c.args.bytes.now;
+  line = line;
+  opens = c.in-Ok.ensures;
+  same_sink = refl;
+  session = c.in-Ok-simulate.ensures.session;
+  out = c.in-Ok-simulate.ensures.out;
+}
+
+pub returns : goal.returns
+returns g c = λ feed line.
     let start : Streams = record {
       feed = record { left = g.R.ByteIn.left c.args.reader.now; faults = g.R.ByteIn.faults c.args.reader.now };
       sink = record { written = g.W.ByteOut.written c.args.writer.now; held = g.W.ByteOut.held c.args.writer.now; faults = g.W.ByteOut.faults c.args.writer.now };
@@ -26,7 +42,7 @@ returns-in-Ok g c = λ feed line.
       feed = record { left = g.R.ByteIn.left c.simulate.new.reader; faults = g.R.ByteIn.faults c.simulate.new.reader };
       sink = record { written = g.W.ByteOut.written c.simulate.new.writer; held = g.W.ByteOut.held c.simulate.new.writer; faults = g.W.ByteOut.faults c.simulate.new.writer };
     } in
-    rw c.run_result.ensures (run_served before after c.simulate.result (record {
+    run_served before after (Err c.in-Err-simulate.fault) (record {
       opening = c.in-Ok.core;
       ending = c.simulate.new.core;
       start = start;
@@ -34,6 +50,6 @@ returns-in-Ok g c = λ feed line.
       line = line;
       opens = c.in-Ok.ensures;
       same_sink = refl;
-      session = c.simulate.ensures.session;
-      out = c.simulate.ensures.out;
-    }))
+      session = c.in-Err-simulate.ensures.session;
+      out = c.in-Err-simulate.ensures.out;
+    })
