@@ -134,7 +134,7 @@ number_field w limit wide = record { again = λ n at rest lt. number_again w lim
 
 -- ---- limits, bytes and texts
 
-within_field : (w : Width) (limit least most : ℕ) → IsWide w limit → most < limit → IsField (number_within w least most) (to_be_bytes w) (λ n. (least ≤ n) × (n ≤ most))
+pub within_field : (w : Width) (limit least most : ℕ) → IsWide w limit → most < limit → IsField (number_within w least most) (to_be_bytes w) (λ n. (least ≤ n) × (n ≤ most))
 unfolding number_within
 within_field w limit least most wide small = record {
   again = λ n at rest fits.

@@ -41,11 +41,11 @@ use Rattle.ifs_image.proofs.PartLaws.{test_field, StateGood, state_field, Routin
 
 -- ---- magic, version, budgets, counts
 
-magic_again : (at : ℕ) (rest : List ℕ) → magic_at (cursor at (codes "IFSV" ++ rest)) ≡ Ok (tt, cursor (at + 4) rest)
+pub magic_again : (at : ℕ) (rest : List ℕ) → magic_at (cursor at (codes "IFSV" ++ rest)) ≡ Ok (tt, cursor (at + 4) rest)
 unfolding magic_at
 magic_again at rest = again_bind _ _ _ _ (bytes_again (codes "IFSV") rest at 4 refl) refl
 
-magic_taken : (p : Cursor) (y : Unit {0} × Cursor) → IsBytes p.left → magic_at p ≡ Ok y → Took p.left (codes "IFSV") y.1.left
+pub magic_taken : (p : Cursor) (y : Unit {0} × Cursor) → IsBytes p.left → magic_at p ≡ Ok y → Took p.left (codes "IFSV") y.1.left
 unfolding magic_at
 magic_taken p y fits e =
     let b = bind_ok (bytes_at 4 p) (λ bytes. cond (bytes_eq bytes.0 (codes "IFSV")) (Ok (tt, bytes.1)) (Err (WrongMagic p.at))) y e in
@@ -53,6 +53,9 @@ magic_taken p y fits e =
     let g = passed_ok (bytes_eq b.0.0 (codes "IFSV")) (WrongMagic p.at) (tt, b.0.1) y b.2 in
     let same : b.0.0 ≡ codes "IFSV" = (bytes_eq-Decides b.0.0 (codes "IFSV")).0 g.0 in
     subst (λ (z : Unit {0} × Cursor). Took p.left (codes "IFSV") z.1.left) g.1 (subst (λ (text : List ℕ). Took p.left text b.0.1.left) same t.0)
+
+pub magic_field : IsField magic_at (λ _. codes "IFSV") (λ _. Unit {0})
+magic_field = record { again = λ x at rest good. magic_again at rest; taken = λ p y fits e. (magic_taken p y fits e, tt) }
 
 version_tests : (version : ℕ) → IsVersion version → ((version == 1) || (version == 2)) ≡ true
 version_tests version is =
@@ -68,18 +71,21 @@ version_is version e =
       | inr two ↦ let is = eqb-true version 2 two in (omega (arith, is), omega (arith, is))
     ]
 
-version_again : (version at : ℕ) (rest : List ℕ) → IsVersion version → version_at (cursor at (version ∷ rest)) ≡ Ok (version, cursor (at + 1) rest)
+pub version_again : (version at : ℕ) (rest : List ℕ) → IsVersion version → version_at (cursor at (version ∷ rest)) ≡ Ok (version, cursor (at + 1) rest)
 unfolding version_at
 version_again version at rest is = again_bind _ _ _ _ (byte_again version at rest) (rw (version_tests version is) refl)
 
-version_taken : (p : Cursor) (y : ℕ × Cursor) → IsBytes p.left → version_at p ≡ Ok y → Took p.left (y.0 ∷ []) y.1.left × IsVersion y.0
+pub version_taken : (p : Cursor) (y : ℕ × Cursor) → IsBytes p.left → version_at p ≡ Ok y → Took p.left (y.0 ∷ []) y.1.left × IsVersion y.0
 unfolding version_at
 version_taken p y fits e =
     let b = bind_ok (byte_at p) (λ version. cond ((version.0 == 1) || (version.0 == 2)) (Ok version) (Err (WrongVersion p.at))) y e in
     let g = passed_ok ((b.0.0 == 1) || (b.0.0 == 2)) (WrongVersion p.at) b.0 y b.2 in
     subst (λ (z : ℕ × Cursor). Took p.left (z.0 ∷ []) z.1.left × IsVersion z.0) g.1 (byte_taken p b.0 fits b.1, version_is b.0.0 g.0)
 
-budgets_field : IsField budgets_at budgets_bytes BudgetsFit
+pub version_field : IsField version_at (λ version. version ∷ []) IsVersion
+version_field = record { again = λ version at rest is. version_again version at rest is; taken = λ p y fits e. version_taken p y fits e }
+
+pub budgets_field : IsField budgets_at budgets_bytes BudgetsFit
 unfolding budgets_at budgets_bytes
 budgets_field = record {
   again = λ b at rest fits.
@@ -111,7 +117,7 @@ pub record CountsGood (c : Counts) : Type 0 where
   pub states : c.states ≤ 256
   pub routines : c.routines ≤ 1024
 
-counts_field : IsField counts_at counts_bytes CountsGood
+pub counts_field : IsField counts_at counts_bytes CountsGood
 unfolding counts_at counts_bytes
 counts_field = record {
   again = λ c at rest fits.
@@ -147,10 +153,19 @@ pub record HeadGood (h : Head) : Type 0 where
   pub initial : h.initial.0 < 2 ^ 16
   pub always : HandlersInRange h.always
 
-abbrev head_bytes : Head → List ℕ
+abbrev pub head_bytes : Head → List ℕ
 head_bytes h = front_bytes h.version ++ budgets_bytes h.budgets ++ counts_bytes h.counts ++ to_be_bytes w16 h.initial.0 ++ handlers_bytes h.always
 
-head_again : (h : Head) (at : ℕ) (rest : List ℕ) → HeadGood h → (after : ℕ) × (head_at (cursor at (head_bytes h ++ rest)) ≡ Ok (h, cursor after rest))
+length-head_bytes : (h : Head) (at : ℕ) → at + 4 + 1 + length (budgets_bytes h.budgets) + length (counts_bytes h.counts) + 2 + length (handlers_bytes h.always) ≡ at + length (head_bytes h)
+unfolding front_bytes
+length-head_bytes h at =
+    let f1 = front_bytes h.version in
+    let f2 = f1 ++ budgets_bytes h.budgets in
+    let f3 = f2 ++ counts_bytes h.counts in
+    let f4 = f3 ++ to_be_bytes w16 h.initial.0 in
+    omega (arith, length-append f4 (handlers_bytes h.always), length-append f3 (to_be_bytes w16 h.initial.0), length-append f2 (counts_bytes h.counts), length-append f1 (budgets_bytes h.budgets))
+
+head_again : (h : Head) (at : ℕ) (rest : List ℕ) → HeadGood h → head_at (cursor at (head_bytes h ++ rest)) ≡ Ok (h, cursor (at + length (head_bytes h)) rest)
 unfolding head_at front_bytes
 head_again h at rest good =
     let r6 = handlers_bytes h.always ++ rest in
@@ -165,13 +180,11 @@ head_again h at rest good =
     let a3 = budgets_field.again h.budgets (at + 4 + 1) r4 good.budgets in
     let a4 = counts_field.again h.counts k4 r5 good.counts in
     let a5 = (number_field w16 (2 ^ 16) wide16).again h.initial.0 k5 r6 good.initial in
-    let a6 = handlers_field.again h.always (k5 + 2) rest good.always in (
-      k5 + 2 + length (handlers_bytes h.always),
-      ap (λ (bytes : List ℕ). head_at (cursor at bytes)) regrouped
-          ∙ again_bind _ _ _ _ a1 (again_bind _ _ _ _ a2 (again_bind _ _ _ _ a3 (again_bind _ _ _ _ a4 (again_bind _ _ _ _ a5 (again_bind _ _ _ _ a6 refl))))),
-    )
+    let a6 = handlers_field.again h.always (k5 + 2) rest good.always in
+    ap (λ (bytes : List ℕ). head_at (cursor at bytes)) regrouped
+    ∙ again_bind _ _ _ _ a1 (again_bind _ _ _ _ a2 (again_bind _ _ _ _ a3 (again_bind _ _ _ _ a4 (again_bind _ _ _ _ a5 (again_bind _ _ _ _ a6 (ap (λ (k : ℕ). Ok (h, cursor k rest)) (length-head_bytes h at)))))))
 
-head_taken : (p : Cursor) (y : Head × Cursor) → IsBytes p.left → head_at p ≡ Ok y → Took p.left (head_bytes y.0) y.1.left × HeadGood y.0
+pub head_taken : (p : Cursor) (y : Head × Cursor) → IsBytes p.left → head_at p ≡ Ok y → Took p.left (head_bytes y.0) y.1.left × HeadGood y.0
 unfolding head_at front_bytes
 head_taken p y fits e =
     let a = bind_ok (magic_at p) (λ magic. version_at magic.1 >>= λ version. budgets_at version.1 >>= λ budgets. counts_at budgets.1 >>= λ counts. number_at w16 counts.1 >>= λ initial. handlers_at initial.1 >>= λ always. Ok (record { version = version.0; budgets = budgets.0; counts = counts.0; initial = record { 0 = initial.0 }; always = always.0 }, always.1)) y e in
@@ -189,6 +202,9 @@ head_taken p y fits e =
     let made : Head × Cursor = (record { version = b.0.0; budgets = c.0.0; counts = d.0.0; initial = record { 0 = i.0.0 }; always = h.0.0 }, h.0.1) in
     subst (λ (z : Head × Cursor). Took p.left (head_bytes z.0) z.1.left × HeadGood z.0) (ok_is made y h.2)
     (Took-then (Took-then (Took-then (Took-then (Took-then t1 t2.0) t3.0) t4.0) t5.0) t6.0, record { version = t2.1; budgets = t3.1; counts = t4.1; initial = t5.1; always = t6.1 })
+
+pub head_field : IsField head_at head_bytes HeadGood
+head_field = record { again = λ h at rest good. head_again h at rest good; taken = λ p y fits e. head_taken p y fits e }
 
 -- ---- tables: facts of each entry, and facts of an entry after earlier ones
 
@@ -272,19 +288,19 @@ IsGood version before r = RoutineGood version (room_after version before) r
 
 -- ---- the five tables
 
-interfaces_table : (n : ℕ) → IsField (items_at name_at n []) (flat_map text_bytes) (λ xs. (length xs ≡ n) × AllAfter (λ before t. TextGood t × (stands_in t before ≡ false)) [] xs)
+pub interfaces_table : (n : ℕ) → IsField (items_at name_at n []) (flat_map text_bytes) (λ xs. (length xs ≡ n) × AllAfter (λ before t. TextGood t × (stands_in t before ≡ false)) [] xs)
 interfaces_table n = table_field name_at text_bytes (λ before t. TextGood t × (stands_in t before ≡ false)) name_field n
 
-tests_table : (n : ℕ) → IsField (items_at (λ _. test_at) n []) (flat_map test_bytes) (λ xs. (length xs ≡ n) × AllAfter (λ _. TestGood) [] xs)
+pub tests_table : (n : ℕ) → IsField (items_at (λ _. test_at) n []) (flat_map test_bytes) (λ xs. (length xs ≡ n) × AllAfter (λ _. TestGood) [] xs)
 tests_table n = table_field (λ _. test_at) test_bytes (λ _. TestGood) (λ _. test_field) n
 
-commands_table : (n : ℕ) → IsField (items_at (λ _. text_at) n []) (flat_map text_bytes) (λ xs. (length xs ≡ n) × AllAfter (λ _. TextGood) [] xs)
+pub commands_table : (n : ℕ) → IsField (items_at (λ _. text_at) n []) (flat_map text_bytes) (λ xs. (length xs ≡ n) × AllAfter (λ _. TextGood) [] xs)
 commands_table n = table_field (λ _. text_at) text_bytes (λ _. TextGood) (λ _. text_field) n
 
-states_table : (n : ℕ) → IsField (items_at state_at n []) (flat_map state_bytes) (λ xs. (length xs ≡ n) × AllAfter StateGood [] xs)
+pub states_table : (n : ℕ) → IsField (items_at state_at n []) (flat_map state_bytes) (λ xs. (length xs ≡ n) × AllAfter StateGood [] xs)
 states_table n = table_field state_at state_bytes StateGood state_field n
 
-routines_table : (version n : ℕ) → IsVersion version → IsField (items_at (routine_after version) n []) (flat_map (routine_bytes version)) (λ xs. (length xs ≡ n) × AllAfter (IsGood version) [] xs)
+pub routines_table : (version n : ℕ) → IsVersion version → IsField (items_at (routine_after version) n []) (flat_map (routine_bytes version)) (λ xs. (length xs ≡ n) × AllAfter (IsGood version) [] xs)
 routines_table version n is = table_field (routine_after version) (routine_bytes version) (IsGood version) (λ before. routine_field version (room_after version before) is) n
 
 -- The tables of an image are good, entry by entry.
@@ -295,10 +311,10 @@ pub record TablesGood (p : ImageParts) : Type 0 where
   pub states : AllAfter StateGood [] p.states
   pub routines : AllAfter (IsGood p.version) [] p.routines
 
-no_names : AreDistinct []
+pub no_names : AreDistinct []
 no_names i j d lt below = absurd (omega arith)
 
-fits_from_tables : (p : ImageParts) → IsVersion p.version → BudgetsFit p.budgets → CountsFit p → TablesGood p → Fits p
+pub fits_from_tables : (p : ImageParts) → IsVersion p.version → BudgetsFit p.budgets → CountsFit p → TablesGood p → Fits p
 fits_from_tables p version budgets counts t = record {
   version = version;
   budgets = budgets;
@@ -319,7 +335,7 @@ fits_from_tables p version budgets counts t = record {
   };
 }
 
-in_range_from_tables : (p : ImageParts) → p.initial.0 < 2 ^ 16 → HandlersInRange p.always → TablesGood p → InRange p
+pub in_range_from_tables : (p : ImageParts) → p.initial.0 < 2 ^ 16 → HandlersInRange p.always → TablesGood p → InRange p
 in_range_from_tables p initial always t = record {
   initial = initial;
   always = always;
@@ -330,7 +346,7 @@ in_range_from_tables p initial always t = record {
   routines = all_after (IsGood p.version) RoutineInRange (λ before r good. record { params = good.params; results = good.results; code = all_after (λ _. HasSpelling) HasSpelling (λ _ op has. has) r.code [] good.code }) p.routines [] t.routines;
 }
 
-tables_from_fits : (p : ImageParts) → Fits p → InRange p → TablesGood p
+pub tables_from_fits : (p : ImageParts) → Fits p → InRange p → TablesGood p
 tables_from_fits p f r = record {
   interfaces = after_all IsFirst TextGood (λ before t. TextGood t × (stands_in t before ≡ false)) (λ before t good first. (good, first)) p.interfaces [] (λ k d lt. record { fits = f.interfaces.texts k d lt; utf8 = r.interfaces k d lt }) (names_first p.interfaces [] f.interfaces.distinct);
   tests = each_after TestGood p.tests [] (λ k d lt. record { fits = f.tests k d lt; utf8 = r.tests k d lt });
@@ -348,7 +364,7 @@ bind_elim : {A B : Type 0} (r : Result A ImageFault) (f : A → Result B ImageFa
 bind_elim (Ok x) f y P e go = go x refl e
 bind_elim (Err d) f y P e go = absurd cc
 
-counts_same : (c : Counts) (p : ImageParts) → c.interfaces ≡ length p.interfaces → c.tests ≡ length p.tests → c.commands ≡ length p.commands → c.states ≡ length p.states → c.routines ≡ length p.routines → c ≡ counts p
+pub counts_same : (c : Counts) (p : ImageParts) → c.interfaces ≡ length p.interfaces → c.tests ≡ length p.tests → c.commands ≡ length p.commands → c.states ≡ length p.states → c.routines ≡ length p.routines → c ≡ counts p
 counts_same c p a b d s r = rw (← a, ← b, ← d, ← s, ← r) refl
 
 -- An image that was read: its bytes were taken, and it fits.
@@ -407,33 +423,58 @@ steps_taken p y fits s =
 pub parts_taken : (p : Cursor) (y : ImageParts × Cursor) → IsBytes p.left → parts_at p ≡ Ok y → TookImage p.left y.0 y.1.left
 parts_taken p y fits e = steps_taken p y fits (steps_of p y e)
 
+-- What an image has before its tables.
+abbrev pub head_of : ImageParts → Head
+head_of p = record { version = p.version; budgets = p.budgets; counts = counts p; initial = p.initial; always = p.always }
+
+pub good_head : (p : ImageParts) → Fits p → InRange p → HeadGood (head_of p)
+good_head p f r = record {
+  version = f.version;
+  budgets = f.budgets;
+  counts = record { interfaces = f.counts.interfaces; tests = f.counts.tests; commands = f.counts.commands; some_state = f.counts.some_state; states = f.counts.states; routines = f.counts.routines };
+  initial = r.initial;
+  always = r.always;
+}
+
+-- The bytes of the tables.
+abbrev pub tables_bytes : ImageParts → List ℕ
+tables_bytes p = flat_map text_bytes p.interfaces ++ (flat_map test_bytes p.tests ++ (flat_map text_bytes p.commands ++ (flat_map state_bytes p.states ++ flat_map (routine_bytes p.version) p.routines)))
+
+pub head_then_tables : (p : ImageParts) → image_bytes p ≡ head_bytes (head_of p) ++ tables_bytes p
+unfolding image_bytes
+head_then_tables p = simp append_assoc
+
 -- The spelling of an image is read as that image, at any place, whatever follows.
-pub parts_again : (p : ImageParts) (at : ℕ) (rest : List ℕ) → Fits p → InRange p → (after : ℕ) × (parts_at (cursor at (image_bytes p ++ rest)) ≡ Ok (p, cursor after rest))
-unfolding parts_at image_bytes
+pub parts_again : (p : ImageParts) (at : ℕ) (rest : List ℕ) → Fits p → InRange p → parts_at (cursor at (image_bytes p ++ rest)) ≡ Ok (p, cursor (at + length (image_bytes p)) rest)
+unfolding parts_at
 parts_again p at rest f r =
     let t = tables_from_fits p f r in
-    let r11 = flat_map (routine_bytes p.version) p.routines ++ rest in
-    let r10 = flat_map state_bytes p.states ++ r11 in
-    let r9 = flat_map text_bytes p.commands ++ r10 in
-    let r8 = flat_map test_bytes p.tests ++ r9 in
-    let r7 = flat_map text_bytes p.interfaces ++ r8 in
-    let head : Head = record { version = p.version; budgets = p.budgets; counts = counts p; initial = p.initial; always = p.always } in
-    let regrouped : image_bytes p ++ rest ≡ head_bytes head ++ r7 = simp append_assoc in
-    let limits : CountsGood (counts p) = record { interfaces = f.counts.interfaces; tests = f.counts.tests; commands = f.counts.commands; some_state = f.counts.some_state; states = f.counts.states; routines = f.counts.routines } in
-    let a6 = head_again head at r7 (record { version = f.version; budgets = f.budgets; counts = limits; initial = r.initial; always = r.always }) in
-    let k8 = a6.0 + length (flat_map text_bytes p.interfaces) in
-    let k9 = k8 + length (flat_map test_bytes p.tests) in
-    let k10 = k9 + length (flat_map text_bytes p.commands) in
-    let k11 = k10 + length (flat_map state_bytes p.states) in
-    let a7 = (interfaces_table (length p.interfaces)).again p.interfaces a6.0 r8 (refl, t.interfaces) in
+    let routines = flat_map (routine_bytes p.version) p.routines in
+    let states = flat_map state_bytes p.states in
+    let commands = flat_map text_bytes p.commands in
+    let tests = flat_map test_bytes p.tests in
+    let interfaces = flat_map text_bytes p.interfaces in
+    let r11 = routines ++ rest in
+    let r10 = states ++ r11 in
+    let r9 = commands ++ r10 in
+    let r8 = tests ++ r9 in
+    let r7 = interfaces ++ r8 in
+    let head = head_of p in
+    let regrouped : image_bytes p ++ rest ≡ head_bytes head ++ r7 = ap (λ (b : List ℕ). b ++ rest) (head_then_tables p) ∙ simp append_assoc in
+    let k7 = at + length (head_bytes head) in
+    let k8 = k7 + length interfaces in
+    let k9 = k8 + length tests in
+    let k10 = k9 + length commands in
+    let k11 = k10 + length states in
+    let a6 = head_again head at r7 (good_head p f r) in
+    let a7 = (interfaces_table (length p.interfaces)).again p.interfaces k7 r8 (refl, t.interfaces) in
     let a8 = (tests_table (length p.tests)).again p.tests k8 r9 (refl, t.tests) in
     let a9 = (commands_table (length p.commands)).again p.commands k9 r10 (refl, t.commands) in
     let a10 = (states_table (length p.states)).again p.states k10 r11 (refl, t.states) in
-    let a11 = (routines_table p.version (length p.routines) f.version).again p.routines k11 rest (refl, t.routines) in (
-      k11 + length (flat_map (routine_bytes p.version) p.routines),
-      ap (λ (bytes : List ℕ). parts_at (cursor at bytes)) regrouped
-          ∙ again_bind _ _ _ _ a6.1 (again_bind _ _ _ _ a7 (again_bind _ _ _ _ a8 (again_bind _ _ _ _ a9 (again_bind _ _ _ _ a10 (again_bind _ _ _ _ a11 refl))))),
-    )
+    let a11 = (routines_table p.version (length p.routines) f.version).again p.routines k11 rest (refl, t.routines) in
+    let sums : k11 + length routines ≡ at + length (image_bytes p) = omega (arith, ap length (head_then_tables p), length-append (head_bytes head) (tables_bytes p), length-append interfaces (tests ++ (commands ++ (states ++ routines))), length-append tests (commands ++ (states ++ routines)), length-append commands (states ++ routines), length-append states routines) in
+    ap (λ (bytes : List ℕ). parts_at (cursor at bytes)) regrouped
+    ∙ again_bind _ _ _ _ a6 (again_bind _ _ _ _ a7 (again_bind _ _ _ _ a8 (again_bind _ _ _ _ a9 (again_bind _ _ _ _ a10 (again_bind _ _ _ _ a11 (ap (λ (k : ℕ). Ok (p, cursor k rest)) sums))))))
 
 -- ---- the laws
 
@@ -450,9 +491,8 @@ image_found bytes p fits e =
 pub image_again : (bytes : List ℕ) (p : ImageParts) → Spells bytes p → image_of bytes ≡ Ok p
 unfolding image_of
 image_again bytes p s =
-    let a = parts_again p 0 [] s.fits s.in_range in
     let e : bytes ≡ image_bytes p ++ [] = s.bytes_are ∙ sym (append-nil (image_bytes p)) in
-    again_bind _ _ _ _ (ap (λ (b : List ℕ). parts_at (cursor 0 b)) e ∙ a.1) refl
+    again_bind _ _ _ _ (ap (λ (b : List ℕ). parts_at (cursor 0 b)) e ∙ parts_again p 0 [] s.fits s.in_range) refl
 
 -- ---- results of the functions that read
 
@@ -480,5 +520,7 @@ Spells-prefix bytes more p q a b =
     let second = parts_again q 0 [] b.fits b.in_range in
     let one : bytes ++ more ≡ image_bytes p ++ more = ap (λ (x : List ℕ). x ++ more) a.bytes_are in
     let two : bytes ++ more ≡ image_bytes q ++ [] = b.bytes_are ∙ sym (append-nil (image_bytes q)) in
-    let same : done (p, cursor first.0 more) ≡ done (q, cursor second.0 []) = sym first.1 ∙ ap (λ (x : List ℕ). parts_at (cursor 0 x)) (sym one ∙ two) ∙ second.1 in
-    ap (λ (y : ImageParts × Cursor). y.1.left) (ok_is (p, cursor first.0 more) (q, cursor second.0 []) same)
+    let n = 0 + length (image_bytes p) in
+    let m = 0 + length (image_bytes q) in
+    let same : done (p, cursor n more) ≡ done (q, cursor m []) = sym first ∙ ap (λ (x : List ℕ). parts_at (cursor 0 x)) (sym one ∙ two) ∙ second in
+    ap (λ (y : ImageParts × Cursor). y.1.left) (ok_is (p, cursor n more) (q, cursor m []) same)

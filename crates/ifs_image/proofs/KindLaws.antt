@@ -24,7 +24,7 @@ ok_or_ok {A} (Some x) d y e = ap (λ (z : A). Some z) (ok_is x y e)
 
 -- ---- a number of one byte, up to a limit
 
-byte_field : (most : ℕ) → IsField (byte_within most) (λ n. n ∷ []) (λ n. n ≤ most)
+pub byte_field : (most : ℕ) → IsField (byte_within most) (λ n. n ∷ []) (λ n. n ≤ most)
 unfolding byte_within
 byte_field most = record {
   again = λ n at rest fits. again_bind _ _ _ _ (byte_again n at rest) (let few : ltb most n ≡ false = le-ltb _ _ fits in rw few refl);
@@ -60,13 +60,13 @@ kind_taken code kind e =
       ]
     ]
 
-abbrev kind_bytes : Kind → List ℕ
+abbrev pub kind_bytes : Kind → List ℕ
 kind_bytes kind = code_of_kind kind ∷ []
 
-abbrev IsAny : Kind → Type 0
+abbrev pub IsAny : Kind → Type 0
 IsAny kind = Unit {0}
 
-kind_field : IsField kind_at kind_bytes IsAny
+pub kind_field : IsField kind_at kind_bytes IsAny
 unfolding kind_at
 kind_field = record {
   again = λ kind at rest good. again_bind _ _ _ _ (byte_again (code_of_kind kind) at rest) (rw (kind_again kind) refl);
@@ -80,21 +80,21 @@ kind_field = record {
 
 -- ---- a number of kinds, and the kinds
 
-codes_are : (kinds : List Kind) → flat_map kind_bytes kinds ≡ map code_of_kind kinds
+pub codes_are : (kinds : List Kind) → flat_map kind_bytes kinds ≡ map code_of_kind kinds
 codes_are [] = refl
 codes_are (kind ∷ kinds) = ap (λ (bytes : List ℕ). code_of_kind kind ∷ bytes) (codes_are kinds)
 
-any_after : (kinds before : List Kind) → AllAfter (λ _. IsAny) before kinds
+pub any_after : (kinds before : List Kind) → AllAfter (λ _. IsAny) before kinds
 any_after [] before = tt
 any_after (kind ∷ kinds) before = (tt, any_after kinds (before ++ kind ∷ []))
 
-so_many : (n : ℕ) → IsField (items_at (λ _. kind_at) n []) (flat_map kind_bytes) (λ kinds. (length kinds ≡ n) × AllAfter (λ _. IsAny) [] kinds)
+pub so_many : (n : ℕ) → IsField (items_at (λ _. kind_at) n []) (flat_map kind_bytes) (λ kinds. (length kinds ≡ n) × AllAfter (λ _. IsAny) [] kinds)
 so_many n = table_field (λ _. kind_at) kind_bytes (λ _. IsAny) (λ _. kind_field) n
 
-abbrev AreFew : List Kind → Type 0
+abbrev pub AreFew : List Kind → Type 0
 AreFew kinds = length kinds ≤ 4
 
-kinds_field : IsField kinds_at kinds_bytes AreFew
+pub kinds_field : IsField kinds_at kinds_bytes AreFew
 unfolding kinds_at kinds_bytes
 kinds_field = record {
   again = λ kinds at rest few.
@@ -120,16 +120,16 @@ kinds_field = record {
 abbrev pub AreTruths : List Kind → Type 0
 AreTruths kinds = (kinds ≡ []) ⊎ (kinds ≡ Truth ∷ [])
 
-truths_again : (kinds : List Kind) → AreTruths kinds → (length kinds ≤ 1) × (replicate (length kinds) Truth ≡ kinds)
+pub truths_again : (kinds : List Kind) → AreTruths kinds → (length kinds ≤ 1) × (replicate (length kinds) Truth ≡ kinds)
 truths_again kinds (inl none) = rw none (omega arith, refl)
 truths_again kinds (inr one) = rw one (omega arith, refl)
 
-truths_taken : (n : ℕ) → n ≤ 1 → (length (replicate n Truth) ≡ n) × AreTruths (replicate n Truth)
+pub truths_taken : (n : ℕ) → n ≤ 1 → (length (replicate n Truth) ≡ n) × AreTruths (replicate n Truth)
 truths_taken zero le = (refl, inl refl)
 truths_taken (suc zero) le = (refl, inr refl)
 truths_taken (suc (suc n)) le = absurd (omega (arith, le))
 
-truths_field : IsField truths_at (λ kinds. length kinds ∷ []) AreTruths
+pub truths_field : IsField truths_at (λ kinds. length kinds ∷ []) AreTruths
 unfolding truths_at
 truths_field = record {
   again = λ kinds at rest are.
@@ -156,7 +156,7 @@ abbrev AreBy : (List Kind → Type 0) → ℕ → List Kind → Type 0
 AreBy Form version kinds = AreFew kinds × ((version ≡ 2) ⊎ Form kinds)
 
 -- In version 1 the form holds.
-form_of : {P : Type 0} → (◌≡◌ {A = ℕ} 1 2) ⊎ P → P
+pub form_of : {P : Type 0} → (◌≡◌ {A = ℕ} 1 2) ⊎ P → P
 form_of (inl e) = absurd (omega (arith, e))
 form_of (inr p) = p
 
@@ -187,7 +187,7 @@ params_field version is =
       | inr two ↦ subst (λ (v : ℕ). IsField (params_at v) (params_bytes v) (AreBy AreNone v)) (sym two) params_two
     ]
 
-truths_few : (kinds : List Kind) → AreTruths kinds → AreFew kinds
+pub truths_few : (kinds : List Kind) → AreTruths kinds → AreFew kinds
 truths_few kinds (inl none) = rw none (omega arith)
 truths_few kinds (inr one) = rw one (omega arith)
 

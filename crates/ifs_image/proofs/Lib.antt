@@ -8,3 +8,9 @@ pub mod ImageLaws
 pub mod Loops
 pub mod Words
 pub mod Puts
+pub mod Stops
+pub mod StopFields
+pub mod StopParts
+pub mod StopTables
+pub mod StopImages
+pub mod OneFault

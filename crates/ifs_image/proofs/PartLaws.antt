@@ -46,20 +46,20 @@ nul_free t e k d lt at =
     not_from_Decides (list_any (λ byte. byte == 0) t) (Decides-by_or (λ byte. byte == 0) (λ byte. byte ≡ 0) (λ bytes. list_any (λ byte. byte == 0) bytes) (λ byte. Decides-eqb byte 0) refl (λ _ _. refl) t) e
     (k, lt, λ d'. get_or_default t k d' d lt ∙ at)
 
-free_nul : (t : List ℕ) → All (λ byte. byte ≢ 0) t → list_any (λ byte. byte == 0) t ≡ false
+pub free_nul : (t : List ℕ) → All (λ byte. byte ≢ 0) t → list_any (λ byte. byte == 0) t ≡ false
 free_nul t free = list_any_none (λ byte. byte == 0) t (λ k d lt. false_from_ne_true (get_or t k d == 0) (λ e. free k d lt (eqb-true _ _ e)))
 
-text_true : (t : List ℕ) → TextGood t → is_text t ≡ true
+pub text_true : (t : List ℕ) → TextGood t → is_text t ≡ true
 unfolding is_text
 text_true t good = rw (is_utf8-from_IsUtf8 t good.utf8, free_nul t good.fits.no_nul) refl
 
-text_parts : (t : List ℕ) → is_text t ≡ true → IsUtf8 t × All (λ byte. byte ≢ 0) t
+pub text_parts : (t : List ℕ) → is_text t ≡ true → IsUtf8 t × All (λ byte. byte ≢ 0) t
 unfolding is_text
 text_parts t e =
     let s = and_parts (is_utf8 t) (not (list_any (λ byte. byte == 0) t)) e in
     (IsUtf8-from_is_utf8 t s.0, nul_free t (not-true _ s.1))
 
-length_field : IsField length_at (to_be_bytes w16) (λ n. (1 ≤ n) × (n ≤ 1024))
+pub length_field : IsField length_at (to_be_bytes w16) (λ n. (1 ≤ n) × (n ≤ 1024))
 unfolding length_at
 length_field = record {
   again = λ n at rest fits.
@@ -81,7 +81,7 @@ text_of_again : (t rest : List ℕ) (at n : ℕ) → length t ≡ n → is_text 
 unfolding text_sized
 text_of_again t rest at n len good = rw (bytes_again t rest at n len, good) refl
 
-text_of_taken : (n : ℕ) (p : Cursor) (y : List ℕ × Cursor) → IsBytes p.left → text_sized n p ≡ Ok y → Took p.left y.0 y.1.left × (length y.0 ≡ n) × (is_text y.0 ≡ true)
+pub text_of_taken : (n : ℕ) (p : Cursor) (y : List ℕ × Cursor) → IsBytes p.left → text_sized n p ≡ Ok y → Took p.left y.0 y.1.left × (length y.0 ≡ n) × (is_text y.0 ≡ true)
 unfolding text_sized
 text_of_taken n p y fits e =
     let b = bind_ok (bytes_at n p) (λ bytes. cond (is_text bytes.0) (Ok bytes) (Err (BadText p.at))) y e in
@@ -208,7 +208,7 @@ state_field before = record {
 
 -- ---- instructions and routines
 
-length-spelling : (op : Op) → length (spelling op) ≡ 4
+pub length-spelling : (op : Op) → length (spelling op) ≡ 4
 length-spelling Ret = refl
 length-spelling op = refl
 
@@ -239,16 +239,16 @@ pub code_field : (n : ℕ) → IsField (items_at (λ _. instruction_at) n []) (f
 code_field n = table_field (λ _. instruction_at) spelling (λ _. HasSpelling) (λ _. op_field) n
 
 -- A routine is plain or of version 2, by its two lists.
-plain_or : (version : ℕ) (r : Routine) → (version ≡ 2) ⊎ (r.params.items ≡ []) → (version ≡ 2) ⊎ AreTruths r.results.items → (version ≡ 2) ⊎ IsPlain r
+pub plain_or : (version : ℕ) (r : Routine) → (version ≡ 2) ⊎ (r.params.items ≡ []) → (version ≡ 2) ⊎ AreTruths r.results.items → (version ≡ 2) ⊎ IsPlain r
 plain_or version r (inl two) b = inl two
 plain_or version r (inr none) (inl two) = inl two
 plain_or version r (inr none) (inr truths) = inr (record { params = none; results = truths })
 
-or_params : (version : ℕ) (r : Routine) → (version ≡ 2) ⊎ IsPlain r → (version ≡ 2) ⊎ (r.params.items ≡ [])
+pub or_params : (version : ℕ) (r : Routine) → (version ≡ 2) ⊎ IsPlain r → (version ≡ 2) ⊎ (r.params.items ≡ [])
 or_params version r (inl two) = inl two
 or_params version r (inr plain) = inr plain.params
 
-or_results : (version : ℕ) (r : Routine) → (version ≡ 2) ⊎ IsPlain r → (version ≡ 2) ⊎ AreTruths r.results.items
+pub or_results : (version : ℕ) (r : Routine) → (version ≡ 2) ⊎ IsPlain r → (version ≡ 2) ⊎ AreTruths r.results.items
 or_results version r (inl two) = inl two
 or_results version r (inr plain) = inr plain.results
 

@@ -7,3 +7,5 @@ pub mod Answers
 pub mod Lent
 pub use Rattle.ifs_base.specs.Facts
 pub mod FaultWords
+pub mod Fields
+pub mod Faults

@@ -1,9 +1,10 @@
 //! Bytes to an image in memory of its own.
 
-ghost use Rattle.std.specs.Prelude.{◌≡◌, ◌≢◌, Err, IfOk};
+ghost use Rattle.std.specs.Prelude.{◌≡◌, ◌≢◌, Err, IfOk, IfErr};
 ghost use Rattle.ifs_image.specs.declared.parts.ImageParts.{ImageParts};
 ghost use Rattle.ifs_image.specs.declared.fault.ImageFault.TheVariants.{Memory};
 ghost use Rattle.ifs_image.specs.Spelling.{Spells};
+ghost use Rattle.ifs_image.specs.Faults.{IsFirstFault};
 ghost use Rattle.ifs_image.specs.Reading.{image_of, cursor};
 ghost use Rattle.ifs_image.specs.Answers.{Answers, RefusesHead};
 
@@ -27,6 +28,7 @@ pub fn read(alloc: Global, bytes: &[u8]) -> Result<Image, ImageFault>
     ensures only { (image : ImageParts) → Spells bytes.now image → result ≢ Err Memory → result ≡ Ok image }
     // Any other error is the first fault.
     ensures first_fault { Answers result (image_of bytes.now) }
+    ensures why { IfErr result (λ fault. fault ≢ Memory → IsFirstFault bytes.now fault) }
     // A fault before the tables is reported even if an allocation fails.
     ensures at_once { RefusesHead result (cursor 0 bytes.now) }
 {

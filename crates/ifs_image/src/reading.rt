@@ -1,10 +1,11 @@
 //! Bytes to an image in place, field by field in the order of the format.
 
-ghost use Rattle.std.specs.Prelude.{◌≡◌, ◌≢◌, ◌≤◌, length, [], Err, IfOk};
+ghost use Rattle.std.specs.Prelude.{◌≡◌, ◌≢◌, ◌≤◌, length, [], Err, IfOk, IfErr};
 ghost use Rattle.std.specs.Int.{w16};
 ghost use Rattle.ifs_image.specs.declared.parts.ImageParts.{ImageParts};
 ghost use Rattle.ifs_image.specs.declared.fault.ImageFault.TheVariants.{Memory};
 ghost use Rattle.ifs_image.specs.Spelling.{Spells};
+ghost use Rattle.ifs_image.specs.Faults.{IsFirstFault};
 ghost use Rattle.ifs_image.specs.Reading.{magic_at, version_at, budgets_at, counts_at, handlers_at};
 ghost use Rattle.ifs_image.specs.Reading.{name_at, test_at, state_at, text_at, instruction_at};
 ghost use Rattle.ifs_image.specs.Reading.{kind_at, kinds_at, truths_at, params_at, results_at, routine_at, routine_after};
@@ -36,6 +37,7 @@ pub fn view<'a>(alloc: Global, bytes: &'a [u8]) -> Result<ImageView<'a>, ImageFa
     ensures only { (image : ImageParts) → Spells bytes.now image → result ≢ Err Memory → result ≡ Ok image }
     // Any other error is the first fault.
     ensures first_fault { Answers result (image_of bytes.now) }
+    ensures why { IfErr result (λ fault. fault ≢ Memory → IsFirstFault bytes.now fault) }
     // A fault before the tables is reported even if an allocation fails.
     ensures at_once { RefusesHead result (cursor 0 bytes.now) }
 {

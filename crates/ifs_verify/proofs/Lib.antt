@@ -12,3 +12,4 @@ pub mod Entering
 pub mod Verdict
 pub mod Versions
 pub mod Ways
+pub mod Worked

@@ -6,6 +6,7 @@ pub mod Accepted
 pub mod Refused
 pub mod inner
 pub mod Laws
+pub mod Worked
 pub mod FaultWords
 pub use Rattle.ifs_image.specs.Code
 pub use Rattle.ifs_image.specs.Limits

@@ -1,6 +1,7 @@
 //! Laws of acceptance: each is the contract of an empty function.
 
 ghost use Rattle.ifs_verify.specs.Laws.{HasOneTyping, RefusedAreNotAccepted, UpgradeKeepsAcceptance};
+ghost use Rattle.ifs_verify.specs.Worked.{CallsAreWorked};
 
 use ifs_image::laws::one_image;
 
@@ -20,4 +21,9 @@ pub fn refused_are_not_accepted()
 /// An image and its upgrade to version 2 are accepted alike, with the same least budgets.
 pub fn upgrade_keeps_acceptance()
     ensures { UpgradeKeepsAcceptance }
+{}
+
+/// A routine takes two truths and has four at most. One that calls it with three on the stack has five at most.
+pub fn calls_are_worked()
+    ensures { CallsAreWorked }
 {}
