@@ -22,8 +22,8 @@ use Rattle.ifs_gen.proofs.Simulation.{condition_high}
 use Rattle.ifs_gen.proofs.Called.{placed, coder_sized}
 use Rattle.ifs_gen.proofs.StackHeights.{tall, tall_is}
 use Rattle.ifs_gen.proofs.Fine.{Callees, AreFine, CallsWithin}
-use Rattle.ifs_gen.proofs.TypedTrees.{condition_kinds, kinds_sized, HasKinds, condition_starts, falls_on, condition_fine, condition_low}
-use Rattle.ifs_gen.proofs.TypedBlocks.{IsTypedCoder}
+use Rattle.ifs_gen.proofs.Typed.Trees.{condition_kinds, kinds_sized, HasKinds, condition_starts, falls_on, condition_fine, condition_low}
+use Rattle.ifs_gen.proofs.Typed.Blocks.{IsTypedCoder}
 
 -- The codes of a table may be called, each at its height.
 pub record MayBeCalled (callees : Callees) (table : List (List Op)) : Type 0 where

@@ -17,11 +17,11 @@ use Rattle.ifs_gen.proofs.Simulation.{condition_sized, condition_high, block_siz
 use Rattle.ifs_gen.proofs.Mentions.{each_below, body_room}
 use Rattle.ifs_gen.proofs.Handlers.{held_sized}
 use Rattle.ifs_gen.proofs.Fine.{Callees, AreFine, fine_append, calls_right, IsGood}
-use Rattle.ifs_gen.proofs.TypedTrees.{condition_kinds, kinds_sized, held_kinds, held_kinds_sized, HasKinds}
-use Rattle.ifs_gen.proofs.TypedTrees.{kinds_left, kinds_right, condition_starts, condition_fine, condition_low}
-use Rattle.ifs_gen.proofs.TypedTrees.{held_starts, held_fine}
-use Rattle.ifs_gen.proofs.TypedBlocks.{IsTypedCoder, kinds_of_block, kinds_of_block_sized}
-use Rattle.ifs_gen.proofs.TypedBlocks.{block_starts, block_fine, block_low}
+use Rattle.ifs_gen.proofs.Typed.Trees.{condition_kinds, kinds_sized, held_kinds, held_kinds_sized, HasKinds}
+use Rattle.ifs_gen.proofs.Typed.Trees.{kinds_left, kinds_right, condition_starts, condition_fine, condition_low}
+use Rattle.ifs_gen.proofs.Typed.Trees.{held_starts, held_fine}
+use Rattle.ifs_gen.proofs.Typed.Blocks.{IsTypedCoder, kinds_of_block, kinds_of_block_sized}
+use Rattle.ifs_gen.proofs.Typed.Blocks.{block_starts, block_fine, block_low}
 
 -- The kinds at a place of a list; none after its end.
 abbrev pub listed : List (List Kind) → ℕ → List Kind

@@ -23,7 +23,7 @@ use Rattle.ifs_policy.proofs.Lists.{each_both}
 use Rattle.ifs_gen.proofs.Among.{each_at}
 use Rattle.ifs_gen.proofs.StackHeights.{tall, tall_is, IsConditionCode, IsLow}
 use Rattle.ifs_gen.proofs.GoodRoutines.{EachGood, heights_in}
-use Rattle.ifs_gen.proofs.TypedBlocks.{IsTypedCoder}
+use Rattle.ifs_gen.proofs.Typed.Blocks.{IsTypedCoder}
 use Rattle.ifs_gen.proofs.CalledTypes.{MayBeCalled, shared_typed}
 use Rattle.ifs_gen.proofs.GoodCode.{shared_good, init_good, body_good}
 

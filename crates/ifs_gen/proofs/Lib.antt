@@ -4,8 +4,7 @@ pub mod Mentions
 pub mod Handlers
 pub mod Fine
 pub mod GoodRoutines
-pub mod TypedTrees
-pub mod TypedBlocks
+pub mod Typed
 pub mod GoodCode
 pub mod Weights
 pub mod Images
@@ -35,7 +34,6 @@ pub mod CoreOfText
 pub mod CodeKeys
 pub mod Called
 pub mod Among
-pub mod FirstShared
-pub mod Heights
+pub mod InOtherWords
 pub mod Shrinks
 pub mod CalledTypes

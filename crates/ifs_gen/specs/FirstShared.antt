@@ -20,6 +20,8 @@ pub record AreShared (all shared : List (List Op)) : Type 0 where
   pub distinct : AllPairs (λ code other. code ≢ other) shared
   pub long : All (λ code. 5 ≤ length code) shared
   pub twice : All (OccursTwice all) shared
+  -- they are at most 510
+  pub few : length shared ≤ 510
   -- they are in the order of their first occurrence
   pub order : (k l j : ℕ) (code other : List Op) → k < l → slice_get shared k ≡ Some code → slice_get shared l ≡ Some other
       → slice_get all j ≡ Some other → OccursBefore all j code

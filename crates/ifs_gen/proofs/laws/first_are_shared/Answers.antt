@@ -1,4 +1,4 @@
-use Rattle.ifs_gen.proofs.FirstShared.{shared_are_first}
+use Rattle.ifs_gen.proofs.InOtherWords.FirstShared.{shared_are_first}
 use Rattle.ifs_gen.proofs.laws.first_are_shared.Goals as goal
 
 pub returns : goal.returns

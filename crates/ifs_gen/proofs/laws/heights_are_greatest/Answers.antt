@@ -1,4 +1,4 @@
-use Rattle.ifs_gen.proofs.Heights.{heights_are_greatest}
+use Rattle.ifs_gen.proofs.InOtherWords.Heights.{heights_are_greatest}
 use Rattle.ifs_gen.proofs.laws.heights_are_greatest.Goals as goal
 
 pub returns : goal.returns

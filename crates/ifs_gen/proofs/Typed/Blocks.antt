@@ -11,7 +11,7 @@ use Rattle.ifs_policy.specs.Fits.{ConditionFits, BlockFits}
 use Rattle.ifs_gen.specs.Runs.{image_sizes}
 use Rattle.ifs_gen.proofs.Simulation.{block_sized}
 use Rattle.ifs_gen.proofs.Fine.{Callees, IsFine, AreFine, CallsWithin, calls_left, calls_right, fine_append}
-use Rattle.ifs_gen.proofs.TypedTrees.{HasKinds, kinds_left, kinds_right, falls_on, jumps_on}
+use Rattle.ifs_gen.proofs.Typed.Trees.{HasKinds, kinds_left, kinds_right, falls_on, jumps_on}
 
 -- The code of conditions, on an empty stack, has these kinds and sizes. It is fine, and needs the height of the coder.
 pub record IsTypedCoder (image : ImageParts) (callees : Callees) (coder : Coder) : Type 0 where

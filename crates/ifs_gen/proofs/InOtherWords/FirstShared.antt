@@ -5,6 +5,7 @@ use Rattle.std.specs.Prelude.{slice_get, nat_le}
 use Rattle.std.specs.List.{AllByRecursion}
 use Rattle.std.proofs.lemmas.Bool.{and_parts, and_from, leb-true, le-leb}
 use Rattle.std.proofs.lemmas.Option.{none-some, same_Some}
+use Rattle.std.proofs.lemmas.List.{length-take}
 use Rattle.std.proofs.lemmas.List.Elements.{All-from_recursion}
 use Rattle.std.proofs.lemmas.List.Sums.{sum_by-cons}
 use Rattle.ifs_base.specs.Spelling.{IsReadBack}
@@ -221,6 +222,7 @@ module _ (back : IsReadBack) (all : List (List Op)) where
     distinct = apart_pairs same_code (code_decides back) (shared_among all) (shared_distinct all);
     long = All-from_recursion (λ code. 5 ≤ length code) (shared_among all) (each_weaker (λ code. is_shared all code ≡ true) (λ code. 5 ≤ length code) are_long (shared_among all) (shared_qualify all));
     twice = All-from_recursion (OccursTwice all) (shared_among all) (each_weaker (λ code. is_shared all code ≡ true) (OccursTwice all) are_twice (shared_among all) (shared_qualify all));
+    few = omega (arith, length-take 510 qualified);
     order = λ k l j code other before one two at. occurs j code other at (precedes_take 510 code other qualified (precedes_at (shared_among all) k l code other before one two));
     rest = λ j code at long twice.
         let there = filter_in (is_shared all) code (first_uses same_code all) (in_first_uses same_code (code_decides back) code all (in_at all j code at)) (qualifies code long twice) in

@@ -1,0 +1,3 @@
+-- Proofs of laws that say a definition in other words.
+pub mod FirstShared
+pub mod Heights
