@@ -13,6 +13,7 @@ mod hexadecimal;
 mod host;
 pub mod laws;
 mod lines;
+mod making;
 mod memory;
 mod question;
 mod queue;

@@ -4,6 +4,7 @@ ghost use Rattle.std.specs.Prelude.{◌≡◌, ◌<◌, decimal, map, length, If
 ghost use Rattle.std.specs.List.{flat_map};
 ghost use Rattle.ifs_core.specs.Gateway.{IsListed, IsReplyOf};
 ghost use Rattle.ifs_core.specs.Steps.{reply_of};
+ghost use Rattle.ifs_core.specs.declared.step.Outcome.{Outcome};
 ghost use Rattle.ifs_session.specs.Device.{HoldsNothing, PutGives};
 ghost use Rattle.ifs_base.specs.Words.{link_word, listed, quoted};
 ghost use Rattle.ifs_session.specs.Replies.{state_name, command_text, evaluation_words, start_word, starts_words};
@@ -103,19 +104,29 @@ fn put_starts<W: ByteOut>(out: &mut W, starts: &[Start], exhausted: bool) -> Res
     Ok(())
 }
 
-/// Writes the reply line of a step, from its outcome and its lists.
+/// A step that was made, with all that has to be done before its reply is written. A reply is written from such a value alone.
+pub(crate) trait Answerable: Drop {
+    // What came of the step.
+    ghost outcome: { Self → Outcome };
+
+    /// What came of the step.
+    fn outcome(&self) -> Outcome
+        ensures { result ≡ outcome self.now };
+}
+
+/// Writes the reply line of a step.
 #[tactic(auto, using(crate::proofs::Known::written_laws))]
-pub(crate) fn put_reply<W: ByteOut>(
+pub(crate) fn put_reply<W: ByteOut, A: Answerable>(
     out: &mut W,
     core: &Core<'_>,
-    outcome: Outcome,
+    step: A,
     lists: &Lists,
 ) -> Result<(), DeviceFault>
-    requires { IsReplyOf core.now.image (reply_of outcome lists.now) }
-    ensures { PutGives result (reply_line core.now.image (reply_of outcome lists.now)) (W.written out.old) (W.written out.new) (W.faults out.old) (W.faults out.new) }
+    requires { IsReplyOf core.now.image (reply_of (A.outcome step) lists.now) }
+    ensures { PutGives result (reply_line core.now.image (reply_of (A.outcome step) lists.now)) (W.written out.old) (W.written out.new) (W.faults out.old) (W.faults out.new) }
 {
     let queued = lists.effects.queued.as_slice();
-    match outcome {
+    match step.outcome() {
         Outcome::Done { state, cost } => {
             out.put(b"done ")?;
             put_evaluation(out, core, state, cost, queued)?;

@@ -1,14 +1,14 @@
 //! One served connection: requests of a client, ends of tests, and commands, in one order.
 
-ghost use Rattle.std.specs.Prelude.{◌≡◌, ◌≢◌, ◌+◌, ◌-◌, ◌<◌, ◌≤◌, ◌∷◌, [], List, All, length, map, None, Some, IfOk};
+ghost use Rattle.std.specs.Prelude.{◌≡◌, ◌≢◌, ◌+◌, ◌-◌, ◌<◌, ◌≤◌, [], List, All, length, None, Some, IfOk};
 ghost use Rattle.std.specs.Prelude.{IfSome, IsOk, MatchResult};
 ghost use Rattle.ifs_core.specs.Event.{Behaviour};
 ghost use Rattle.ifs_core.specs.Machine.{IsBehaviour};
 ghost use Rattle.ifs_core.specs.Gateway.{IsReplyOf};
 ghost use Rattle.ifs_core.specs.Steps.{turn, reply_of, replies, after_steps};
 ghost use Rattle.ifs_session.specs.Device.{HoldsNothing, PutGives};
-ghost use Rattle.ifs_session.specs.Hosts.{Ending, Adds, launched, polled};
-ghost use Rattle.ifs_session.specs.Accounts.{launch_of, launches_told, acted, runs_ended, heard_out, step_asked};
+ghost use Rattle.ifs_session.specs.Hosts.{Ending, Adds, polled};
+ghost use Rattle.ifs_session.specs.Accounts.{acted, runs_ended, heard_out, step_asked};
 ghost use Rattle.ifs_session.specs.Accounts.{told_line, answered};
 ghost use Rattle.ifs_session.specs.Service.{ConnectionGives, leave_of};
 ghost use Rattle.ifs_session.specs.Replies.{reply_line};
@@ -20,6 +20,7 @@ use crate::device::{ByteIn, ByteOut, DeviceFault};
 use crate::fault::SessionFault;
 use crate::host::Host;
 use crate::lines::next_line;
+use crate::making::{Made, make};
 use crate::question::put_reply_to;
 use crate::queue::empty_queue;
 use crate::replies::{put_fault, put_reply};
@@ -27,8 +28,7 @@ use crate::request::{Request, RequestFault};
 use crate::session::INPUT;
 use arrayvec::ArrayVec;
 use ifs_base::TestId;
-use ifs_core::{Core, Lists, Outcome, Reply, Step};
-use ifs_sched::Start;
+use ifs_core::{Core, Lists, Reply, Step};
 
 /// The most steps of a connection.
 pub(crate) const STEPS: usize = 512;
@@ -295,7 +295,7 @@ fn hear_endings<H: Host>(
         (record { state = core.new.state; steps = steps.new.items; told = H.told host.new }) }
 {
     'endings: while let Some((test, run, value)) = next_ending(host, steps.len()) {
-        make(core, host, lists, steps, Step::Finished(test, run, value));
+        let _made = make(core, host, lists, steps, Step::Finished(test, run, value));
     }
 }
 
@@ -310,52 +310,6 @@ fn next_ending<H: Host>(host: &mut H, steps: usize) -> Option<(TestId, u64, bool
         return None;
     }
     host.poll()
-}
-
-/// Makes a step, starts its tests at the host, and empties the queue.
-fn make<H: Host>(
-    core: &mut Core<'_>,
-    host: &mut H,
-    lists: &mut Lists,
-    steps: &mut ArrayVec<Step, STEPS>,
-    step: Step,
-) -> Outcome
-    requires { length steps.old.items + 65 ≤ 512 }
-    ensures image { core.new.image ≡ core.old.image }
-    ensures reply { (b : Behaviour) → IsBehaviour core.old.image b → reply_of result lists.new ≡ (turn b core.old.image.budgets.commands step core.old.state).reply }
-    ensures carries { (b : Behaviour) → IsBehaviour core.old.image b → Carries (acted b core.old.image (Some step))
-        (record { state = core.old.state; steps = steps.old.items; told = H.told host.old })
-        (record { state = core.new.state; steps = steps.new.items; told = H.told host.new }) }
-    ensures named { IsReplyOf core.old.image (reply_of result lists.new) }
-    ensures follows { HasFollowed core.new.image (reply_of result lists.new) (H.told host.new) }
-    ensures empty { core.new.state.queue ≡ [] }
-    ensures more { length steps.old.items < length steps.new.items }
-    ensures few { length steps.new.items ≤ length steps.old.items + 65 }
-{
-    let outcome = core.step_into(step, lists);
-    steps.push(step);
-    tell_starts(core, host, outcome, lists);
-    empty_queue(core, host, steps);
-    outcome
-}
-
-/// Starts the tests of a step at the host.
-fn tell_starts<H: Host>(core: &Core<'_>, host: &mut H, outcome: Outcome, lists: &Lists)
-    ensures { Adds (launched (launches_told core.now.image (reply_of outcome lists.now))) (H.told host.old) (H.told host.new) }
-{
-    if let Outcome::Ticked { .. } = outcome {
-        start_tests(core, host, lists.starts.as_slice());
-    }
-}
-
-/// Starts tests at the host.
-fn start_tests<H: Host>(core: &Core<'_>, host: &mut H, starts: &[Start])
-    ensures { Adds (launched (map (launch_of core.now.image) starts.now)) (H.told host.old) (H.told host.new) }
-{
-    for start in starts {
-        let text = core.test_text(start.test).unwrap_or("");
-        host.start(start.test, start.run, text);
-    }
 }
 
 /// Makes the step of a line, if it has one, and writes the reply. A reload has none.
@@ -401,8 +355,8 @@ fn answer_step<H: Host, W: ByteOut>(
         → PutGives result (reply_line core.old.image (turn b core.old.image.budgets.commands step core.old.state).reply) (W.written writer.old) (W.written writer.new) (W.faults writer.old) (W.faults writer.new) }
     ensures few { length steps.new.items ≤ 512 }
 {
-    let outcome = make(core, host, lists, steps, step);
-    reply(core, host, lists, writer, outcome)
+    let made = make(core, host, lists, steps, step);
+    reply(core, host, lists, writer, made)
 }
 
 /// Writes the reply to a step, after the host started its tests and ran its commands.
@@ -411,14 +365,14 @@ fn reply<H: Host, W: ByteOut>(
     _host: &H,
     lists: &Lists,
     writer: &mut W,
-    outcome: Outcome,
+    made: Made,
 ) -> Result<(), DeviceFault>
-    requires follows { HasFollowed core.now.image (reply_of outcome lists.now) (H.told _host.now) }
+    requires follows { HasFollowed core.now.image (reply_of made.outcome lists.now) (H.told _host.now) }
     requires empty { core.now.state.queue ≡ [] }
-    requires named { IsReplyOf core.now.image (reply_of outcome lists.now) }
-    ensures { PutGives result (reply_line core.now.image (reply_of outcome lists.now)) (W.written writer.old) (W.written writer.new) (W.faults writer.old) (W.faults writer.new) }
+    requires named { IsReplyOf core.now.image (reply_of made.outcome lists.now) }
+    ensures { PutGives result (reply_line core.now.image (reply_of made.outcome lists.now)) (W.written writer.old) (W.written writer.new) (W.faults writer.old) (W.faults writer.new) }
 {
-    put_reply(writer, core, outcome, lists)
+    put_reply(writer, core, made, lists)
 }
 
 /// The step of a line, if it has one.

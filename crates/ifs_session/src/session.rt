@@ -13,10 +13,10 @@ use crate::device::{ByteIn, ByteOut, DeviceFault};
 use crate::fault::SessionFault;
 use crate::lines::{line_at_hand, next_line};
 use crate::question::put_reply_to;
-use crate::replies::{put_fault, put_reply};
+use crate::replies::{Answerable, put_fault, put_reply};
 use crate::request::{Request, RequestFault, request_of};
 use ifs_base::LinkState;
-use ifs_core::{Core, Lists, Step};
+use ifs_core::{Core, Lists, Outcome, Step};
 
 /// The most bytes of requests that a session or a connection reads.
 pub(crate) const INPUT: u32 = 16_777_216;
@@ -30,6 +30,22 @@ pub struct Summary {
     pub steps: u32,
     /// Whether the last line was `stop`.
     pub stopped: bool,
+}
+
+/// A step of a session. A session has no host, so nothing is done before its reply.
+#[derive(Drop)]
+struct WithoutHost {
+    outcome: Outcome,
+}
+
+impl Answerable for WithoutHost {
+    ghost outcome = { λ step. step.outcome };
+
+    fn outcome(&self) -> Outcome
+        ensures { result ≡ self.now.outcome }
+    {
+        self.outcome
+    }
 }
 
 /// The kind of a line.
@@ -257,6 +273,6 @@ fn make_step<W: ByteOut>(
         (W.written writer.old) (W.written writer.new) (W.faults writer.old) (W.faults writer.new) }
 {
     let outcome = core.step_into(step, lists);
-    put_reply(writer, core, outcome, lists)?;
+    put_reply(writer, core, WithoutHost { outcome }, lists)?;
     Ok(LineKind::Step)
 }

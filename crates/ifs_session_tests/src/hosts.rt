@@ -20,8 +20,14 @@ use std::time::Duration;
 enum Fate {
     /// It has ended with these bits, as `waitpid` gives them.
     Ended(i32),
-    /// It still runs.
+    /// It runs until it is killed.
     Runs,
+    /// It runs until it is killed, and so many looks longer. The system does not end it sooner, unless it is killed twice.
+    Hangs(u32),
+    /// It was killed, and runs for so many looks.
+    Ends(u32),
+    /// It runs, and may not be killed.
+    Protected,
     /// It cannot be waited for.
     Lost,
 }
@@ -53,13 +59,34 @@ impl OpenProcess for Actor {
         match self.fate {
             Fate::Ended(bits) => Ok(Some(ExitStatus::from_raw(bits))),
             Fate::Runs => Ok(None),
+            Fate::Hangs(_looks) => Ok(None),
+            Fate::Ends(looks) => {
+                self.fate = after_a_look(looks);
+                Ok(None)
+            }
+            Fate::Protected => Ok(None),
             Fate::Lost => Err(io::Error::from(ErrorKind::NotFound)),
         }
     }
 
     fn kill(&mut self) -> io::Result<()> {
-        self.fate = Fate::Ended(9);
+        if self.fate == Fate::Protected {
+            return Err(io::Error::from(ErrorKind::PermissionDenied));
+        }
+        self.fate = match self.fate {
+            Fate::Hangs(looks) => Fate::Ends(looks),
+            _ => Fate::Ended(9),
+        };
         Ok(())
+    }
+}
+
+/// How a program that was killed goes on after a look at it.
+fn after_a_look(looks: u32) -> Fate {
+    match looks.checked_sub(1) {
+        None => Fate::Ended(9),
+        Some(0) => Fate::Ended(9),
+        Some(left) => Fate::Ends(left),
     }
 }
 
@@ -116,7 +143,12 @@ impl Processes for Stage {
             Some("exit 3") => Fate::Ended(3 * 256),
             Some("kill -9 $$") => Fate::Ended(9),
             Some("sleep 60") => Fate::Runs,
+            Some("sync") => Fate::Hangs(2),
+            Some("sync /frozen") => Fate::Hangs(u32::MAX),
+            Some("sudo sleep 60") => Fate::Protected,
             Some("lost") => Fate::Lost,
+            // the group of each program, whose number is 1
+            Some("kill -s KILL -- -1") => Fate::Ended(0),
             _ => return Err(io::Error::from(ErrorKind::NotFound)),
         };
         Ok(Child::from_parts(Actor { fate }, None, None, None))
@@ -206,10 +238,10 @@ fn ended_tests_in_order(rt: HostRuntime) -> Result<(), Fail> {
     Ok(())
 }
 
-/// Starts `count` runs, of each test in turn.
-fn start_runs(host: &mut Staged<'_>, count: u64) {
+/// Starts `count` runs of a text, of each test in turn.
+fn start_runs(host: &mut Staged<'_>, count: u64, text: &str) {
     for run in 0..count {
-        host.start(TestId((run % 64) as u16), run, "exit 0");
+        host.start(TestId((run % 64) as u16), run, text);
     }
 }
 
@@ -225,12 +257,37 @@ fn check_runs(rt: &impl Abort, host: &mut Staged<'_>, runs: Range<u64>, value: b
 #[test]
 fn places(rt: HostRuntime) -> Result<(), Fail> {
     notes_of(rt.alloc(), Limits::default(), |host, _stage| {
-        start_runs(host, 320);
+        start_runs(host, 320, "exit 0");
         check_runs(&rt, host, 256..320, false);
         check_runs(&rt, host, 0..256, true);
         check_polls(&rt, host, &[]);
         start_all(host, &[(0, 320, "exit 0")]);
         check_polls(&rt, host, &[(0, 320, true)]);
+    })?;
+    Ok(())
+}
+
+/// Starts `count` tests, one run each. None can be started.
+fn start_failing(host: &mut Staged<'_>, count: u16) {
+    for test in 0..count {
+        host.start(TestId(test), 1, "no program");
+    }
+}
+
+/// Asserts that the runs of these tests are reported as false, in order.
+fn check_failed(rt: &impl Abort, host: &mut Staged<'_>, tests: Range<u16>) {
+    for test in tests {
+        check_poll(rt, host, Some((TestId(test), 1, false)));
+    }
+}
+
+/// Of the tests that could not be started, the latest 64 are reported.
+#[test]
+fn failed_starts(rt: HostRuntime) -> Result<(), Fail> {
+    notes_of(rt.alloc(), Limits::default(), |host, _stage| {
+        start_failing(host, 65);
+        check_failed(&rt, host, 1..65);
+        check_polls(&rt, host, &[]);
     })?;
     Ok(())
 }
@@ -318,7 +375,7 @@ fn notes_of_ends(rt: HostRuntime) -> Result<(), Fail> {
 #[test]
 fn notes_of_places(rt: HostRuntime) -> Result<(), Fail> {
     let notes = notes_of(rt.alloc(), Limits::default(), |host, _stage| {
-        start_runs(host, 300);
+        start_runs(host, 300, "exit 0");
         check_runs(&rt, host, 256..300, false);
         check_runs(&rt, host, 0..1, true);
         host.start(TestId(0), 300, "exit 0");
@@ -328,7 +385,8 @@ fn notes_of_places(rt: HostRuntime) -> Result<(), Fail> {
     Ok(())
 }
 
-/// A command or a test that runs longer than its limit is killed and noted. A test is killed at the first poll after its limit.
+/// A command or a test that runs longer than its limit is killed and noted. A test is killed at the first poll after its limit,
+/// which reports it as false.
 #[test]
 fn limits(rt: HostRuntime) -> Result<(), Fail> {
     let limits = Limits {
@@ -339,7 +397,7 @@ fn limits(rt: HostRuntime) -> Result<(), Fail> {
         check_command(&rt, host, "sleep 60", Ok(137));
         check_command(&rt, host, "exit 0", Ok(0));
         start_all(host, &[(0, 1, "sleep 60")]);
-        for _early in 0..3 {
+        for _early in 0..2 {
             check_poll(&rt, host, None);
         }
         check_polls(&rt, host, &[(0, 1, false)]);
@@ -352,6 +410,98 @@ fn limits(rt: HostRuntime) -> Result<(), Fail> {
             "[INFO  ifs_host::shell] command \"exit 0\": exit 0 after 2000 ms",
             "[WARN  ifs_host::shell] test \"sleep 60\": killed at its limit",
         ],
+    );
+    Ok(())
+}
+
+/// The limits of programs that hang.
+fn one_second() -> Limits {
+    Limits {
+        command: Some(Duration::from_secs(1)),
+        test: Some(Duration::from_secs(1)),
+    }
+}
+
+/// A test that was killed at its limit and does not end is false at once. It is killed and noted once, however often it is looked
+/// at then. So is one that may not be killed.
+#[test]
+fn tests_are_killed_once(rt: HostRuntime) -> Result<(), Fail> {
+    let notes = notes_of(rt.alloc(), one_second(), |host, _stage| {
+        start_all(host, &[(0, 1, "sync /frozen"), (1, 2, "sudo sleep 60")]);
+        check_polls(&rt, host, &[(0, 1, false), (1, 2, false)]);
+        for _later in 0..5 {
+            check_poll(&rt, host, None);
+        }
+    })?;
+    check_notes(
+        &rt,
+        &notes,
+        &[
+            "[WARN  ifs_host::shell] test \"sync /frozen\": killed at its limit",
+            "[WARN  ifs_host::shell] test \"sudo sleep 60\": not killed at its limit: permission denied",
+        ],
+    );
+    Ok(())
+}
+
+/// A test that was killed holds its place until it has ended. Here the third look after it was killed finds that: a poll that
+/// reports none looks once.
+#[test]
+fn places_of_killed_tests(rt: HostRuntime) -> Result<(), Fail> {
+    notes_of(rt.alloc(), one_second(), |host, _stage| {
+        start_runs(host, 256, "sync");
+        check_runs(&rt, host, 0..256, false);
+        for run in 256..260 {
+            start_all(host, &[(0, run, "exit 0")]);
+            check_polls(&rt, host, &[(0, run, run == 259)]);
+        }
+    })?;
+    Ok(())
+}
+
+/// A command that does not end after it was killed is over for the host: the status is that of one that was killed. One that ends
+/// a little later has ended.
+#[test]
+fn commands_that_do_not_end(rt: HostRuntime) -> Result<(), Fail> {
+    let notes = notes_of(rt.alloc(), one_second(), |host, _stage| {
+        for text in ["sync", "sync /frozen", "sudo sleep 60"] {
+            check_command(&rt, host, text, Ok(137));
+        }
+        check_command(&rt, host, "exit 0", Ok(0));
+    })?;
+    check_notes(
+        &rt,
+        &notes,
+        &[
+            "[WARN  ifs_host::shell] command \"sync\": killed at its limit, exit 137 after 3000 ms",
+            "[WARN  ifs_host::shell] command \"sync /frozen\": not ended at its limit, exit 137 after 3000 ms",
+            "[WARN  ifs_host::shell] command \"sudo sleep 60\": not killed at its limit: permission denied",
+            "[WARN  ifs_host::shell] command \"sudo sleep 60\": not ended at its limit, exit 137 after 3000 ms",
+            "[INFO  ifs_host::shell] command \"exit 0\": exit 0 after 2000 ms",
+        ],
+    );
+    Ok(())
+}
+
+/// Runs a command that does not end, so often.
+fn hang(host: &mut Staged<'_>, count: u32) {
+    for _command in 0..count {
+        let _status = host.run("sync /frozen");
+    }
+}
+
+/// Of commands that do not end the latest 256 are kept. A note says so for each one that goes.
+#[test]
+fn most_commands_that_do_not_end(rt: HostRuntime) -> Result<(), Fail> {
+    let kept = notes_of(rt.alloc(), one_second(), |host, _stage| hang(host, 256))?;
+    same(&rt, kept.as_slice().len(), 256);
+    let notes = notes_of(rt.alloc(), one_second(), |host, _stage| hang(host, 257))?;
+    same(&rt, notes.as_slice().len(), 258);
+    let forgotten = notes.as_slice().get(256).map(|note| note.as_str());
+    same(
+        &rt,
+        forgotten,
+        Some("[WARN  ifs_host::shell] 256 commands have not ended: the oldest is not waited for"),
     );
     Ok(())
 }

@@ -4,7 +4,11 @@ use crate::checks::{holds_in, same, same_in};
 use bumpalo::Bump;
 use ifs_core::{CarryCause, Core};
 use ifs_gen::{compile, opened_with};
-use ifs_host::reloading::{RELOADS, ReloadFault, ReloadRefused, reload, take_over};
+use ifs_host::files::FileFault;
+use ifs_host::reasons::reason_of;
+use ifs_host::reloading::{
+    FileRefused, Found, RELOADS, ReloadFault, ReloadRefused, reload, take_over,
+};
 use ifs_image::ImageFault;
 use ifs_rows::reloads::{other_interfaces, reloads};
 use ifs_rows::{Row, bytes_of};
@@ -244,9 +248,15 @@ fn check_file<'m, R: Files + Alloc<A = Global> + Abort>(
 ) -> Result<Core<'m>, Fail> {
     match reload(rt, images, "/nowhere/image", reloads, core) {
         Ok(_) => Err(Fail::from("a file that is not there")),
-        Err(refused) => {
-            same_in(rt, reloads, refused.fault, fault);
-            Ok(refused.core)
+        Err(
+            FileRefused {
+                core,
+                fault: told,
+                found: _,
+            },
+        ) => {
+            same_in(rt, reloads, told, fault);
+            Ok(core)
         }
     }
 }
@@ -310,4 +320,68 @@ fn lines_that_are_not_written(rt: HostRuntime) {
             write_refused(ReloadFault::File.text(), &mut output).is_err(),
         );
     }
+}
+
+/// The words of refusals that are not those of an image.
+#[test]
+fn reasons_of_refusals(rt: HostRuntime) -> Result<(), Fail> {
+    let rows = [
+        (
+            ReloadFault::TooMany,
+            "there were 64 reloads since the start",
+        ),
+        (
+            ReloadFault::Carry(CarryCause::Memory),
+            "memory ran out for what the daemon knows",
+        ),
+        (
+            ReloadFault::Carry(CarryCause::Queued),
+            "a command waits in the queue",
+        ),
+        (
+            ReloadFault::Image(VerifyFault::OutOfMemory),
+            "memory ran out for the new image",
+        ),
+        (ReloadFault::File, "the file is not read"),
+    ];
+    for (fault, words) in rows {
+        check_reason(&rt, rt.alloc(), fault, &Found::Unasked, words)?;
+    }
+    check_file_reason(&rt, rt.alloc(), FileFault::TooLarge, "too large")?;
+    check_file_reason(&rt, rt.alloc(), FileFault::NotRegular, "not a regular file")
+}
+
+fn check_file_reason(
+    rt: &impl Abort,
+    alloc: Global,
+    fault: FileFault,
+    words: &str,
+) -> Result<(), Fail> {
+    check_reason(rt, alloc, ReloadFault::File, &Found::Fault(fault), words)
+}
+
+/// Asserts the words of a refusal.
+fn check_reason(
+    rt: &impl Abort,
+    alloc: Global,
+    fault: ReloadFault,
+    found: &Found,
+    words: &str,
+) -> Result<(), Fail> {
+    let reason = reason_of(alloc, fault, found)?;
+    let told = format!(in alloc; "{reason}")?;
+    same_in(rt, words, told.as_str(), words);
+    Ok(())
+}
+
+/// A refused image is said on one line, whatever its bytes are.
+#[test]
+fn reasons_of_images(rt: HostRuntime) -> Result<(), Fail> {
+    let fault = VerifyFault::NoImage(ImageFault::WrongMagic { at: 0 });
+    let bytes = b"IFSX\n".to_vec(rt.alloc())?;
+    let found = Found::Bytes(bytes);
+    let reason = reason_of(rt.alloc(), ReloadFault::Image(fault), &found)?;
+    let told = format!(in rt.alloc(); "{reason}")?;
+    holds_in(&rt, told.as_str(), !told.is_empty() && !told.contains('\n'));
+    Ok(())
 }

@@ -7,13 +7,13 @@ pub endings-preserved : goal.endings-preserved
 endings-preserved g c =
     let asked = room_asked c.len.result c.next_ending.result (c.in-Some.test, c.in-Some.run', c.in-Some.value) c.next_ending.ensures.few c.in-Some.is in
     record {
-      image = c.make.ensures.image ∙ c.endings.invariant.image;
-      room = omega (arith, c.make.ensures.few, asked, c.len.ensures.value);
+      image = c.make-made.ensures.image ∙ c.endings.invariant.image;
+      room = omega (arith, c.make-made.ensures.few, asked, c.len.ensures.value);
       heard = λ b h.
           let so_far = c.endings.invariant.heard b h in
           let answer = rw c.in-Some.is at (c.next_ending.ensures.asked asked) in (
             so_far.0 ++ (c.in-Some.test, c.in-Some.run', c.in-Some.value) ∷ [],
-            hear_more b _ _ so_far.0 _ _ _ _ _ c.endings.invariant.image so_far.1 answer (c.make.ensures.carries b (subst (λ i. IsBehaviour i b) (sym c.endings.invariant.image) h)),
+            hear_more b _ _ so_far.0 _ _ _ _ _ c.endings.invariant.image so_far.1 answer (c.make-made.ensures.carries b (subst (λ i. IsBehaviour i b) (sym c.endings.invariant.image) h)),
           );
     }
 
