@@ -1,7 +1,8 @@
 //! The steps of a daemon, with the names of its image.
 
-use ifs_base::{Number, Quoted, parse_number};
+use ifs_base::{Number, parse_number};
 use ifs_image::ImageView;
+use ifs_terminal::{Escaped, Shown};
 use std::alloc::{AllocError, Global};
 
 /// The most steps that a daemon reports.
@@ -20,17 +21,35 @@ pub enum Explained {
 /// is a failed allocation.
 ///
 /// The line of a step has its moment, or `-` if that is not known, and begins with `*` if the state changed. A number
-/// without a name in the image is unchanged. A line without a step is unchanged too, and `Requests` leaves it out.
+/// without a name in the image is unchanged. A line without a step is unchanged too, and `Requests` leaves it out. What a
+/// terminal may act on in the reply is escaped. Lines after the 256th step are left out.
 pub fn explain(
     alloc: Global,
     image: &ImageView<'_>,
     reply: &str,
     explained: Explained,
 ) -> Result<String, AllocError> {
+    let reply = escaped_lines(alloc, reply)?;
     match explained {
-        Explained::Steps => steps_of(alloc, image, reply),
-        Explained::Requests => requests_of(alloc, image, reply),
+        Explained::Steps => steps_of(alloc, image, reply.as_str()),
+        Explained::Requests => requests_of(alloc, image, reply.as_str()),
     }
+}
+
+/// The lines of a reply up to its 256th step, each with a newline. What a terminal may act on is escaped.
+fn escaped_lines(alloc: Global, reply: &str) -> Result<String, AllocError> {
+    let mut text = String::new(alloc);
+    let mut steps = 0usize;
+    for line in reply.lines() {
+        if steps == MOST_STEPS {
+            break;
+        }
+        if entry_of(line).is_some() {
+            steps = steps.saturating_add(1);
+        }
+        writeln!(text, "{}", Escaped(line.as_bytes()))?;
+    }
+    Ok(text)
 }
 
 fn steps_of(alloc: Global, image: &ImageView<'_>, reply: &str) -> Result<String, AllocError> {
@@ -57,7 +76,7 @@ fn initial_of(
         .filter(|line| entry_of(line).is_some())
         .count();
     if initial < image.states() && steps < MOST_STEPS {
-        let name = Quoted(image.state_name(initial));
+        let name = Shown(image.state_name(initial));
         Ok(Some(format!(in alloc; "{name}")?))
     } else {
         Ok(None)
@@ -206,14 +225,14 @@ impl Happened<'_> {
     fn put_named(self, text: &mut String, image: &ImageView<'_>) -> Result<(), AllocError> {
         match self {
             Happened::Link { interface, state } => match interface_of(image, interface) {
-                Some(name) => write!(text, "link {} {state}", Quoted(name))?,
+                Some(name) => write!(text, "link {} {state}", Shown(name))?,
                 None => write!(text, "link {interface} {state}")?,
             },
             Happened::Result { test, run } => match test_of(image, test) {
                 Some((command, period)) => write!(
                     text,
                     "result {} every {period} run {run}",
-                    Quoted(command)
+                    Shown(command)
                 )?,
                 None => write!(text, "result {test} run {run}")?,
             },

@@ -1,9 +1,10 @@
 //! Labels of a picture in graphviz's language.
 
+use ifs_terminal::acts_on_terminal;
 use std::alloc::AllocError;
 
-/// Adds a text to a label between `"`, so that it is shown unchanged. A newline begins a line, and the bytes 00 to 1f and
-/// 7f are shown as `\xHH`.
+/// Adds a text to a label between `"`, so that it is shown unchanged. A newline begins a line. Each byte of any other
+/// character that a terminal may act on is shown as `\xHH`.
 pub(crate) fn put_label(label: &mut String, text: &str) -> Result<(), AllocError> {
     let mut first = true;
     for piece in text.split('&') {
@@ -37,12 +38,15 @@ fn put_character(label: &mut String, character: char) -> Result<(), AllocError> 
         '\n' => label.push_str("\\n"),
         '"' => label.push_str("\\\""),
         '\\' => label.push_str("\\\\"),
-        '\0'..='\x1f' | '\x7f' => put_hexadecimal(label, u32::from(character)),
+        _ if acts_on_terminal(character) => put_hexadecimal(label, character),
         _ => label.push(character),
     }
 }
 
-fn put_hexadecimal(label: &mut String, code: u32) -> Result<(), AllocError> {
-    write!(label, "\\\\x{code:02x}")?;
+fn put_hexadecimal(label: &mut String, character: char) -> Result<(), AllocError> {
+    let mut room = [0u8; 4];
+    for byte in character.encode_utf8(&mut room).as_bytes() {
+        write!(label, "\\\\x{byte:02x}")?;
+    }
     Ok(())
 }

@@ -12,4 +12,4 @@ mod words;
 
 pub use definitions::definition_of;
 pub use reading::{Unasked, asked, read};
-pub use requests::{Asked, Explain, Explained, Manner, Notes, Request, Send, Serve};
+pub use requests::{Asked, Explain, Explained, Manner, Notes, Reports, Request, Send, Serve};

@@ -2,10 +2,10 @@
 
 use crate::definitions::definition_of;
 use crate::parts::DEFINITION;
-use crate::requests::{Asked, Explain, Explained, Manner, Notes, Request, Send, Serve};
+use crate::requests::{Asked, Explain, Explained, Manner, Notes, Reports, Request, Send, Serve};
 use crate::words::{
-    CHECK, COMMAND_LIMIT, FILE, IMAGE, NO_WAIT, NOTES, REQUEST, REQUESTS, SOCKET, TEST_LIMIT, WAIT,
-    command,
+    CHECK, COMMAND_LIMIT, ESCAPE, FILE, IMAGE, JSON, NO_WAIT, NOTES, QUIET, REQUEST, REQUESTS,
+    SOCKET, TEST_LIMIT, WAIT, command,
 };
 use clap::error::ErrorKind;
 use clap::{ArgMatches, Command, Error};
@@ -95,6 +95,7 @@ fn requested<'a>(
         return Ok(Request {
             asked: Asked::Session,
             definitions: Vec::new(alloc),
+            reports: Reports::Text,
         });
     };
     let Some(asked) = asked_with(word, operands) else {
@@ -104,6 +105,7 @@ fn requested<'a>(
     Ok(Request {
         asked,
         definitions: definitions_of(alloc, command, operands)?,
+        reports: reports_of(operands),
     })
 }
 
@@ -169,6 +171,7 @@ fn manner_of(operands: &ArgMatches<'_>) -> Manner {
         Manner::Wait {
             limit: seconds_of(operands, WAIT),
             check: operands.get_flag(CHECK),
+            escape: operands.get_flag(ESCAPE),
         }
     }
 }
@@ -180,6 +183,17 @@ fn notes_of(word: &str) -> Notes {
         "faults" => Notes::Faults,
         "off" => Notes::Off,
         _ => Notes::All,
+    }
+}
+
+/// The reports that the flags of a word ask for.
+fn reports_of(operands: &ArgMatches<'_>) -> Reports {
+    if operands.get_flag(QUIET) {
+        Reports::Quiet
+    } else if operands.get_flag(JSON) {
+        Reports::Json
+    } else {
+        Reports::Text
     }
 }
 

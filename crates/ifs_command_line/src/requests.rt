@@ -2,11 +2,24 @@
 
 use std::time::Duration;
 
-/// What a command line asks for, and its definitions: names of macros with their values, in order.
+/// What a command line asks for, its definitions, and which reports it wants.
 #[derive(Drop)]
 pub struct Request<'a> {
     pub asked: Asked<'a>,
+    /// Names of macros with their values, in order.
     pub definitions: Vec<(&'a str, &'a str)>,
+    pub reports: Reports,
+}
+
+/// How the reports on a file are written to standard error.
+#[derive(Clone, Copy, Debug, PartialEq, Eq)]
+pub enum Reports {
+    /// As text.
+    Text,
+    /// As JSON objects, one a line.
+    Json,
+    /// Not at all.
+    Quiet,
 }
 
 /// What a command line asks for, without its definitions.
@@ -82,6 +95,8 @@ pub enum Manner {
         limit: Option<Duration>,
         /// Whether the reply to a request that was not done is a refusal.
         check: bool,
+        /// Whether what a terminal may act on is escaped.
+        escape: bool,
     },
 }
 

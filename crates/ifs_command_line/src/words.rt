@@ -34,8 +34,17 @@ pub(crate) const NO_WAIT: &str = "no-wait";
 /// The flag of a client that checks the reply.
 pub(crate) const CHECK: &str = "check";
 
+/// The flag of a client that escapes the reply.
+pub(crate) const ESCAPE: &str = "escape";
+
 /// The flag that asks for request lines.
 pub(crate) const REQUESTS: &str = "requests";
+
+/// The flag that asks for no reports.
+pub(crate) const QUIET: &str = "quiet";
+
+/// The flag that asks for reports in JSON.
+pub(crate) const JSON: &str = "json";
 
 /// The help on the program.
 const ABOUT: &str =
@@ -43,6 +52,9 @@ const ABOUT: &str =
 
 /// The help on a file to read.
 const READ: &str = "a file of at most 16,777,216 bytes";
+
+/// The help on a file to read, or standard input.
+const READ_OR_INPUT: &str = "a file of at most 16,777,216 bytes; - is standard input";
 
 /// The help on a file to write.
 const WRITTEN: &str =
@@ -61,11 +73,11 @@ struct Word {
     parts: &'static [Part],
 }
 
-/// The policy to read.
-const POLICY: Part = Part::Operand {
+/// The text to read.
+const TEXT: Part = Part::Operand {
     id: FILE,
     name: "FILE",
-    help: READ,
+    help: READ_OR_INPUT,
 };
 
 /// The image to read.
@@ -75,6 +87,13 @@ const IMAGE_FILE: Part = Part::Operand {
     help: READ,
 };
 
+/// The image to read, or standard input.
+const IMAGE_OR_INPUT: Part = Part::Operand {
+    id: FILE,
+    name: "IMAGE",
+    help: READ_OR_INPUT,
+};
+
 /// The image to write.
 const NEW_IMAGE: Part = Part::Operand {
     id: IMAGE,
@@ -82,54 +101,70 @@ const NEW_IMAGE: Part = Part::Operand {
     help: WRITTEN,
 };
 
+/// Asks for no reports.
+const NO_REPORTS: Part = Part::Flag {
+    id: QUIET,
+    help: "write no report on the file to standard error",
+    conflicts: &[JSON],
+};
+
+/// Asks for reports in JSON.
+const JSON_REPORTS: Part = Part::Flag {
+    id: JSON,
+    help: "write each report on the file as a JSON object on a line",
+    conflicts: &[],
+};
+
 /// The words, in the order of the help.
 const WORDS: &[Word] = &[
     Word {
         name: "check",
         about: "Check whether a file is a policy, with notes on what is easily misread",
-        parts: &[POLICY, Part::Definitions],
+        parts: &[TEXT, Part::Definitions, NO_REPORTS, JSON_REPORTS],
     },
     Word {
         name: "compile",
         about: "Compile a policy and write its image, with the notes of check",
-        parts: &[POLICY, NEW_IMAGE, Part::Definitions],
+        parts: &[TEXT, NEW_IMAGE, Part::Definitions, NO_REPORTS, JSON_REPORTS],
     },
     Word {
         name: "verify",
         about: "Verify an image and print its stated budgets",
-        parts: &[IMAGE_FILE],
+        parts: &[IMAGE_OR_INPUT, NO_REPORTS, JSON_REPORTS],
     },
     Word {
         name: "disasm",
         about: "Print the assembly text of an image",
-        parts: &[IMAGE_FILE],
+        parts: &[IMAGE_OR_INPUT, NO_REPORTS, JSON_REPORTS],
     },
     Word {
         name: "asm",
         about: "Write the image that assembly text spells, which is not verified",
-        parts: &[POLICY, NEW_IMAGE],
+        parts: &[TEXT, NEW_IMAGE, NO_REPORTS, JSON_REPORTS],
     },
     Word {
         name: "upgrade",
         about: "Write the image of version 2 that says what an image says, which is not verified",
         parts: &[
-            IMAGE_FILE,
+            IMAGE_OR_INPUT,
             Part::Operand {
                 id: IMAGE,
                 name: "OUT",
                 help: WRITTEN,
             },
+            NO_REPORTS,
+            JSON_REPORTS,
         ],
     },
     Word {
         name: "graph",
         about: "Print the states of a policy as a picture, in the language of graphviz",
-        parts: &[POLICY, Part::Definitions],
+        parts: &[TEXT, Part::Definitions, NO_REPORTS, JSON_REPORTS],
     },
     Word {
         name: "sim",
         about: "Answer the request lines of standard input on an image",
-        parts: &[IMAGE_FILE],
+        parts: &[IMAGE_FILE, NO_REPORTS, JSON_REPORTS],
     },
     Word {
         name: "serve",
@@ -169,11 +204,16 @@ const WORDS: &[Word] = &[
             Part::Flag {
                 id: NO_WAIT,
                 help: "end once the request is written",
-                conflicts: &[WAIT, CHECK],
+                conflicts: &[WAIT, CHECK, ESCAPE],
             },
             Part::Flag {
                 id: CHECK,
                 help: "end with status 1 where the reply says that the request was not done",
+                conflicts: &[],
+            },
+            Part::Flag {
+                id: ESCAPE,
+                help: "print what a terminal may act on as \\xHH",
                 conflicts: &[],
             },
         ],

@@ -1,2 +1,3 @@
 mod Waiting
+mod Reaping
 mod Whole

@@ -1,14 +1,15 @@
--- Looking at programs that wait, and removing one.
+-- Looking at programs that run, and taking one out.
 use Rattle.std.proofs.Common.{◌≡◌, ℕ, zero, suc, ◌+◌, ◌<◌, Bool, List, [], ◌∷◌, ◌++◌, length, take, drop}
 use Rattle.std.proofs.Common.{Option, Some, None}
-use Rattle.std.proofs.Common.{map, remove, get_or, refl, ap, sym, subst, ◌∙◌, arith, rules, append_assoc, append-nil}
-use Rattle.std.proofs.lemmas.List.{length-map, map_more, get_or-map}
+use Rattle.std.proofs.Common.{map, remove, get_or, refl, ap, sym, subst, ◌∙◌, arith, rules, append_assoc}
+use Rattle.std.proofs.lemmas.List.{length-map, map_more, get_or-map, append_cancel_left}
 use Rattle.ifs_sched.specs.declared.start.Start.{Start}
 use Rattle.ifs_host.specs.declared.runner.Waited.{Waited}
-use Rattle.ifs_host.specs.declared.runner.Waited.TheVariants.{Runs, Succeeded, Failed, Lost}
+use Rattle.ifs_host.specs.declared.runner.Waited.TheVariants.{Runs, Succeeded, Failed, Late, Lost}
 use Rattle.ifs_host.specs.declared.runner.RunnerEvent.TheVariants.{Asked}
-use Rattle.ifs_host.specs.Runners.{RunnerLog, RunnerTells, asked_once, test_value}
-use Rattle.ifs_host.specs.Children.{Program, all_run, IsFirstEnded}
+use Rattle.ifs_host.specs.Runners.{RunnerLog, RunnerTells, asked_once, test_value, reached_limit}
+use Rattle.ifs_host.specs.Children.{Program, all_run, if_stays, IsFirstEnded}
+use Rattle.ifs_host.specs.inner.Looking.{IsFound, Takes}
 
 -- The log of a runner after some calls and then others.
 pub tells_both : (more last : RunnerLog) (a b c : Option RunnerLog) → RunnerTells more a b → RunnerTells last b c → RunnerTells (more ++ last) a c
@@ -22,6 +23,7 @@ pub still_runs : (answer : Waited) → test_value answer ≡ None → answer ≡
 still_runs Runs none = refl
 still_runs Succeeded none = search (rules, none)
 still_runs Failed none = search (rules, none)
+still_runs Late none = search (rules, none)
 still_runs Lost none = search (rules, none)
 
 -- A list is split at the place of a value.
@@ -53,22 +55,18 @@ under_now f old now i same under =
     let less : i < length (map f now) = subst (λ l. i < length l) (sym same) (stands_under f old i under) in
     omega (arith, less, length-map now f)
 
--- The first program that has ended is found.
+-- The first program that has a value is found.
 pub first_found : {A : Type 0} (f : A → Program) (old now : List A) (i : ℕ) (d : A) (value : Bool) (answer : Waited)
     (a b c : Option RunnerLog) → map f now ≡ map f old → i < length old → test_value answer ≡ Some value
     → RunnerTells (all_run (take i (map f old))) a b → RunnerTells (asked_once (f (get_or now i d)).1 answer) b c
-    → IsFirstEnded ((f (get_or now i d)).0, value) (map f old) (remove (map f old) i) a c
+    → IsFound i answer value (map f old) a c
 first_found f old now i d value answer a b c same under ended before last =
     let it = f (get_or now i d) in
     let stands : it ≡ get_or (map f old) i it = stands_at f old now i d same (under_now f old now i same under) in
     record {
-      front = take i (map f old);
-      number = it.1;
-      rest = drop (suc i) (map f old);
-      answer = answer;
+      program = it;
       stood = parted (map f old) i it (stands_under f old i under) stands;
-      left = refl;
-      value = ended;
+      value_is = ended;
       log = tells_both _ _ a b c before last;
     }
 
@@ -86,10 +84,35 @@ one_more_runs f old now i d answer a b c same under none before last =
     ∙ sym (map_more (λ p. Asked p.1 Runs) (map f old) i it (stands_under f old i under)) in
     subst (λ log. RunnerTells log a c) more (tells_both _ _ a b c before last)
 
--- The first program that has ended is removed.
-pub taken_by : {A : Type 0} (f : A → Program) (old now after : List A) (i : ℕ) (ended : Start × Bool) (a c : Option RunnerLog)
-    → map f now ≡ map f old → after ≡ remove now i → IsFirstEnded ended (map f old) (remove (map f old) i) a c
-    → IsFirstEnded ended (map f old) (map f after) a c
-taken_by f old now after i ended a c same left found =
-    subst (λ l. IsFirstEnded ended (map f old) l a c)
-    (ap (λ l. remove l i) (sym same) ∙ sym (map_removed f now i) ∙ ap (map f) (sym left)) found
+-- The program at an index is taken out of those that run.
+pub taken : {A : Type 0} (f : A → Program) (old now : List A) (i : ℕ) (it : A) (answer : Waited) (late late' : List Program)
+    → i < length old → it ≡ get_or old i it → now ≡ remove old i → late' ≡ late ++ if_stays (reached_limit answer) (f it)
+    → Takes i answer (f it).0 (map f old) late (map f now) late'
+taken f old now i it answer late late' under is removed kept =
+    record {
+      number = (f it).1;
+      stood = parted (map f old) i (f it) (stands_under f old i under) (ap f is ∙ sym (get_or-map f old i it (f it) under));
+      left = ap (map f) removed ∙ map_removed f old i;
+      past_limit = kept;
+    }
+
+-- The program that was found is the one that was taken out, and so it is the first that has ended.
+pub found_ends : (ended : Start × Bool) (i : ℕ) (answer : Waited) (value : Bool) (running late running' late' : List Program)
+    (a b : Option RunnerLog) → IsFound i answer value running a b → Takes i answer ended.0 running late running' late'
+    → ended.1 ≡ value → IsFirstEnded ended running late running' late' a b
+found_ends ended i answer value running late running' late' a b found takes is =
+    let tails : found.program ∷ drop (suc i) running ≡ (ended.0, takes.number) ∷ drop (suc i) running =
+    append_cancel_left (take i running) _ _ (sym found.stood ∙ takes.stood) in
+    let same : found.program ≡ (ended.0, takes.number) = cc in
+    record {
+      front = take i running;
+      number = takes.number;
+      rest = drop (suc i) running;
+      answer = answer;
+      stood = takes.stood;
+      left = takes.left;
+      past_limit = takes.past_limit;
+      value = found.value_is ∙ ap Some (sym is);
+      log =
+          subst (λ (it : Program). RunnerTells (all_run (take i running) ++ asked_once it.1 answer) a b) same found.log;
+    }

@@ -4,3 +4,5 @@ pub mod RunnerHosts
 pub mod Files
 pub mod Shells
 pub mod Reloads
+pub mod inner
+pub mod Hearing

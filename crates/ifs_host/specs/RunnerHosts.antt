@@ -1,10 +1,10 @@
 -- A host over a runner: its starts, its runner's log, and how each call changes both.
-use Rattle.std.specs.Prelude.{◌≡◌, ◌⊎◌, ◌<◌, ◌≤◌, ℕ, ℤ, Bool, List, [], ◌∷◌, length, Option, Some, None, Result}
+use Rattle.std.specs.Prelude.{◌≡◌, ◌⊎◌, ◌<◌, ◌≤◌, ℕ, ℤ, Bool, List, [], ◌∷◌, Option, Some, None, Result}
 use Rattle.ifs_base.specs.declared.ids.TestId.{TestId}
 use Rattle.ifs_sched.specs.declared.start.Start.{Start}
 use Rattle.ifs_host.specs.declared.runner.RunnerEvent.TheVariants.{Spawned}
 use Rattle.ifs_host.specs.Runners.{RunnerLog, RunnerTells, ran_once}
-use Rattle.ifs_host.specs.Children.{Waiting, with_running, with_failed, Ends}
+use Rattle.ifs_host.specs.Children.{Waiting, places_taken, with_running, with_failed, Ends}
 
 -- A host over a runner: its starts, and the runner's log.
 pub record HostState : Type 0 where
@@ -16,16 +16,16 @@ abbrev pub after_spawn : Start → Option ℕ → Waiting → Waiting
 after_spawn start (Some number) waiting = with_running (start, number) waiting
 after_spawn start None waiting = with_failed start waiting
 
--- A start finds no place: it fails, and the runner is not called.
+-- A start finds no place: it fails, and the runner is not called. Programs past their limits hold places too.
 pub record FindsNoPlace (start : Start) (before after : HostState) : Type 0 where
-  pub full : 256 ≤ length before.waiting.running
+  pub full : 256 ≤ places_taken before.waiting
   pub waits : after.waiting ≡ with_failed start before.waiting
   pub log : after.told ≡ before.told
 
 -- A start finds a place: the runner is called once to start the program of its text.
 pub record FindsPlace (start : Start) (text : List ℕ) (before after : HostState) : Type 0 where
   pub number : Option ℕ
-  pub place : length before.waiting.running < 256
+  pub place : places_taken before.waiting < 256
   pub waits : after.waiting ≡ after_spawn start number before.waiting
   pub log : RunnerTells (Spawned text number ∷ []) before.told after.told
 

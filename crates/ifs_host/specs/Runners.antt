@@ -3,11 +3,11 @@ use Rattle.std.specs.Prelude.{◌≡◌, ℕ, ℤ, Bool, true, false, List, [], 
 use Rattle.std.specs.Option.{option_map}
 use Rattle.std.specs.Result.{result_ok}
 use Rattle.ifs_host.specs.declared.runner.Waited.{Waited}
-use Rattle.ifs_host.specs.declared.runner.Waited.TheVariants.{Runs, Succeeded, Failed, Lost}
+use Rattle.ifs_host.specs.declared.runner.Waited.TheVariants.{Runs, Succeeded, Failed, Late, Lost}
 use Rattle.ifs_host.specs.declared.runner.RunnerEvent.{RunnerEvent}
-use Rattle.ifs_host.specs.declared.runner.RunnerEvent.TheVariants.{Spawned, Asked, Ran}
+use Rattle.ifs_host.specs.declared.runner.RunnerEvent.TheVariants.{Spawned, Asked, Reaped, Ran}
 
--- The calls of a runner with their results, in order: starts of programs, looks at programs, and runs of texts.
+-- The calls of a runner with their results, in order: starts of programs, looks at programs within and after their limits, and runs of texts.
 abbrev pub RunnerLog : Type 0
 RunnerLog = List (RunnerEvent (List ℕ))
 
@@ -19,6 +19,10 @@ spawned_once number text result = Spawned text (option_map number (result_ok res
 abbrev pub asked_once : ℕ → Waited → RunnerLog
 asked_once number answer = Asked number answer ∷ []
 
+-- One look at the program of a number after its limit.
+abbrev pub reaped_once : ℕ → Bool → RunnerLog
+reaped_once number gone = Reaped number gone ∷ []
+
 -- One run of a text, which has an exit status if it could be run.
 abbrev pub ran_once : {E : Type 0} → List ℕ → Result ℤ E → RunnerLog
 ran_once text result = Ran text (result_ok result) ∷ []
@@ -29,9 +33,18 @@ RunnerTells more told None = Unit {0}
 RunnerTells more None (Some after) = ⊥
 RunnerTells more (Some before) (Some after) = after ≡ before ++ more
 
--- The value of a test from the status of its program: none while that runs, and true only after success.
+-- The value of a test from the status of its program: none while that runs within its limit, and true only after success.
 abbrev pub test_value : Waited → Option Bool
 test_value Runs = None
 test_value Succeeded = Some true
 test_value Failed = Some false
+test_value Late = Some false
 test_value Lost = Some false
+
+-- Whether a program with this status has reached its limit, and its end is not known yet.
+abbrev pub reached_limit : Waited → Bool
+reached_limit Runs = false
+reached_limit Succeeded = false
+reached_limit Failed = false
+reached_limit Late = true
+reached_limit Lost = false

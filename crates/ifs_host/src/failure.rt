@@ -21,6 +21,8 @@ pub enum Failure<'a> {
     NoReply { socket: &'a str },
     /// The shell cannot be run: status 3.
     Shell(io::Error),
+    /// The stack of the process is too small for a daemon: status 3.
+    Stack { bytes: u64, needed: u64 },
     /// A write to standard output failed: status 3.
     Output(io::Error),
     /// A session failed: status 3.
@@ -93,6 +95,9 @@ impl Display for Failure<'_> {
             Failure::File { path, fault } => write!(f, "{path}: {fault}"),
             Failure::NoReply { socket } => write!(f, "{socket}: no reply"),
             Failure::Shell(error) => write!(f, "{SHELL}: {error}"),
+            Failure::Stack { bytes, needed } => {
+                write!(f, "stack: {bytes} bytes, and {needed} are needed")
+            }
             Failure::Output(error) => write!(f, "standard output: {error}"),
             Failure::Session(fault) => write!(f, "{fault}"),
         }

@@ -22,6 +22,9 @@ pub enum FileFault {
     /// It has more than 16,777,216 bytes.
     #[error("too large")]
     TooLarge,
+    /// It is a folder, a pipe or a device, and only a regular file is read.
+    #[error("not a regular file")]
+    NotRegular,
     /// An allocation for its bytes failed.
     #[error("no memory")]
     Memory,
@@ -47,15 +50,15 @@ pub fn contents<R: Files + Alloc<A = Global>>(rt: &R, path: &str) -> Result<Vec<
     whole(rt.alloc(), file)
 }
 
-/// Reads a regular file. A folder, a pipe or a device is a system error and is not opened, since its bytes may never come
-/// or never end. The file may be replaced between that check and its opening.
+/// Reads a regular file. A folder, a pipe or a device is not opened, since its bytes may never come or never end. The file may
+/// be replaced between that check and its opening.
 pub fn regular<R: Files + Alloc<A = Global>>(rt: &R, path: &str) -> Result<Vec<u8>, FileFault>
     ensures { IfOk result (λ bytes. IsWithinLimit bytes.items) }
 {
     if fs::metadata(rt, path)?.is_file() {
         contents(rt, path)
     } else {
-        Err(FileFault::System(ErrorKind::InvalidInput.into()))
+        Err(FileFault::NotRegular)
     }
 }
 

@@ -3,6 +3,7 @@
 ghost use Rattle.std.specs.Prelude.{OnOk};
 ghost use Rattle.std.specs.Io.KnownBytes.{Appends};
 
+use crate::room::check_length;
 use std::alloc::Global;
 use std::fs::{self, File, OpenFile, OpenOptions, Permissions};
 use std::io::{self, ErrorKind, Write};
@@ -109,6 +110,7 @@ fn fill<F: Write + OpenFile>(
     if let Some(mode) = mode {
         file.set_permissions(mode)?;
     }
+    check_length(image.len())?;
     put(file, image)?;
     file.sync_all()
 }

@@ -1,18 +1,23 @@
 //! The daemon and what it uses: files, the reload of images, and commands and tests as programs.
 //!
-//! Contract: a file is read and an image written whole, if the reader and the writer report their bytes. A started test
-//! waits until its end is reported, or until a later start of it fails. A reload opens an image only if its bytes are
-//! accepted, with what the core before it knew. Otherwise that core is unchanged. The host calls its runner once for each
-//! text, and reports the runner's results, if the runner reports its calls.
+//! Contract: a file is read and an image written whole, if the reader and the writer report their bytes. A started test waits
+//! until its end is reported, or until a later start of it fails. A program past its limit holds its place until it is gone. A
+//! reload opens an image only if its bytes are accepted, with what the core before it knew. Otherwise that core is unchanged. The
+//! host calls its runner once for each text, and reports the runner's results, if the runner reports its calls.
 #![tactic(auto)]
 
 mod children;
+mod client_lines;
+mod door;
 pub mod failure;
 pub mod files;
 pub mod images;
 mod noting;
 mod patience;
+pub mod reasons;
 pub mod reloading;
+pub mod reporting;
+mod room;
 pub mod runner;
 pub mod runner_host;
 pub mod sending;
@@ -20,3 +25,6 @@ pub mod serving;
 pub mod sessions;
 pub mod shell;
 mod sockets;
+mod standard_error;
+pub mod standard_output;
+pub mod standard_streams;

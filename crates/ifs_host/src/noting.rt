@@ -1,13 +1,14 @@
 //! The notes of the daemon, except for those of commands and tests.
 
-use crate::reloading::ReloadFault;
-use ifs_base::{IfaceId, LinkState, Quoted, StateId};
+use crate::reasons::reason_of;
+use crate::reloading::{Found, ReloadFault};
+use crate::standard_error::StandardError;
+use ifs_base::{IfaceId, LinkState, StateId};
 use ifs_core::{Core, Record, Step};
 use ifs_session::End;
-use log::kv::Source;
-use log::sink::Console;
-use log::span::Spans;
-use log::{LevelFilter, Log, Logged, Metadata, info, warn};
+use ifs_terminal::Shown;
+use log::{LevelFilter, Logged, info, warn};
+use std::alloc::Global;
 use std::fmt::{self, Display, Formatter, Write};
 
 /// The log of a daemon's notes.
@@ -46,42 +47,21 @@ fn word_of_end(end: End) -> &'static str {
 
 /// Notes a reload, and the state that it begins in.
 pub fn note_taken_over(notes: &Notebook, core: &Core<'_>) {
-    let state = Quoted(core.state_name(core.state()).unwrap_or_default());
+    let state = Shown(core.state_name(core.state()).unwrap_or_default());
     info!(notes; "image taken over in state {state}");
 }
 
-/// Notes a refused reload, and its cause.
-pub fn note_not_taken_over(notes: &Notebook, fault: ReloadFault) {
-    warn!(notes; "image refused: {fault}");
-}
-
-/// Standard error, with the program's name before each note.
-#[derive(Drop)]
-pub struct StandardError(Console<HostRuntime>);
-
-impl StandardError {
-    /// The standard error of a runtime.
-    pub fn new(rt: HostRuntime) -> Self {
-        StandardError(Console(rt))
+/// Notes a refused reload with its code, and says why in words unless memory runs out for them.
+pub fn note_not_taken_over(notes: &Notebook, alloc: Global, fault: ReloadFault, found: &Found) {
+    match reason_of(alloc, fault, found) {
+        Ok(reason) => warn!(notes; "image refused: {fault}: {reason}"),
+        Err(_memory) => warn!(notes; "image refused: {fault}"),
     }
 }
 
-impl Log for StandardError {
-    fn enabled(&self, metadata: &Metadata<'_>) -> bool {
-        self.0.enabled(metadata)
-    }
-
-    fn log<D: Display, K: Source, S: Spans>(&self, record: &log::Record<'_, D, K, S>) {
-        self.0.log(record);
-    }
-
-    fn flush(&self) {
-        self.0.flush();
-    }
-
-    fn target(&self) -> &str {
-        "ifsvm"
-    }
+/// Notes a connection that is closed and not served, since there is no memory for its replies.
+pub fn note_no_memory(notes: &Notebook) {
+    warn!(notes; "no connection: out of memory");
 }
 
 /// The state and the moment of a core before a connection.
@@ -184,8 +164,8 @@ fn made_by(core: &Core<'_>, before: Snapshot, steps: &[Step]) -> Made {
 
 /// Notes a change of state.
 fn note_change(notes: &Notebook, core: &Core<'_>, from: StateId, record: Record) {
-    let from = Quoted(core.state_name(from).unwrap_or_default());
-    let to = Quoted(core.state_name(record.state).unwrap_or_default());
+    let from = Shown(core.state_name(from).unwrap_or_default());
+    let to = Shown(core.state_name(record.state).unwrap_or_default());
     let cause = Cause::of(core, record.step);
     info!(notes; "state {from} -> {to} by {cause}");
 }
@@ -216,8 +196,8 @@ impl<'a> Cause<'a> {
 impl Display for Cause<'_> {
     fn fmt<W: Write>(&self, f: &mut Formatter<W>) -> fmt::Result {
         match *self {
-            Cause::Link(name, link) => write!(f, "link {} {}", Quoted(name), word_of(link)),
-            Cause::Test(text, value) => write!(f, "test {} {value}", Quoted(text)),
+            Cause::Link(name, link) => write!(f, "link {} {}", Shown(name), word_of(link)),
+            Cause::Test(text, value) => write!(f, "test {} {value}", Shown(text)),
             Cause::Tick(moment) => write!(f, "tick {moment}"),
             Cause::Take => f.write_str("take"),
         }

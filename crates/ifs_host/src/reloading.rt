@@ -4,7 +4,8 @@ ghost use Rattle.std.specs.Prelude.{◌≡◌, ◌≢◌, ◌≤◌, ◌<◌, �
 ghost use Rattle.ifs_base.specs.FaultTexts.{fault_words};
 ghost use Rattle.ifs_verify.specs.Refused.{AreNotAccepted, IsRefusal};
 ghost use Rattle.ifs_host.specs.Reloads.{IsTakenOver, IsReloadRefusal, reload_words};
-ghost use Rattle.ifs_host.specs.declared.reloading.ReloadFault.TheVariants.{File, TooMany};
+ghost use Rattle.ifs_host.specs.declared.reloading.ReloadFault.TheVariants.{File, Image, TooMany};
+ghost use Rattle.ifs_verify.specs.declared.fault.VerifyFault.TheVariants.{OutOfMemory};
 
 use crate::files::{FileFault, regular};
 use bumpalo::Bump;
@@ -65,6 +66,25 @@ pub struct ReloadRefused<'a> {
     pub fault: ReloadFault,
 }
 
+/// What a reload read of the image's file.
+#[derive(Debug, Drop)]
+pub enum Found {
+    /// Nothing: it did not ask for the file.
+    Unasked,
+    /// Nothing: the file has this fault.
+    Fault(FileFault),
+    /// The file's bytes.
+    Bytes(Vec<u8>),
+}
+
+/// A core that is unchanged, why the reload of a file is refused, and what was read of the file.
+#[derive(Drop)]
+pub struct FileRefused<'a> {
+    pub core: Core<'a>,
+    pub fault: ReloadFault,
+    pub found: Found,
+}
+
 /// Reads an image again, and opens it in place of a core. L3 if there were 64 reloads already, which comes before any fault
 /// of the file. L2 if the file is not regular, cannot be read, or is too large. Other refusals are those of `take_over`.
 pub fn reload<'m, R: Files + Alloc<A = Global>>(
@@ -73,7 +93,7 @@ pub fn reload<'m, R: Files + Alloc<A = Global>>(
     path: &str,
     reloads: u32,
     core: Core<'m>,
-) -> Result<Core<'m>, ReloadRefused<'m>>
+) -> Result<Core<'m>, FileRefused<'m>>
     // The core of some bytes is opened, as `take_over` says.
     ensures taken_over { IfOk result (λ next. (bytes : List ℕ) × IsTakenOver core.entry bytes next) }
     ensures few { OnOk result (reloads < 64) }
@@ -85,21 +105,37 @@ pub fn reload<'m, R: Files + Alloc<A = Global>>(
     ensures refused { IfErr result (λ refused. refused.fault ≢ TooMany → refused.fault ≢ File → (bytes : List ℕ) × IsReloadRefusal core.entry bytes refused.fault) }
 {
     if reloads >= RELOADS {
-        return Err(ReloadRefused {
+        return Err(FileRefused {
             core,
             fault: ReloadFault::TooMany,
+            found: Found::Unasked,
         });
     }
     match regular(rt, path) {
-        Ok(bytes) => take_over(rt.alloc(), images, bytes.as_slice(), core),
-        Err(FileFault::Memory) => Err(ReloadRefused {
+        Ok(bytes) => match take_over(rt.alloc(), images, bytes.as_slice(), core) {
+            Ok(next) => Ok(next),
+            Err(ReloadRefused { core, fault }) => Err(FileRefused {
+                core,
+                fault,
+                found: Found::Bytes(bytes),
+            }),
+        },
+        Err(cause) => Err(FileRefused {
             core,
-            fault: ReloadFault::Image(VerifyFault::OutOfMemory),
+            fault: fault_of(&cause),
+            found: Found::Fault(cause),
         }),
-        Err(_fault) => Err(ReloadRefused {
-            core,
-            fault: ReloadFault::File,
-        }),
+    }
+}
+
+/// The fault of a reload whose file cannot be read: V0 if memory ran out, else L2.
+fn fault_of(cause: &FileFault) -> ReloadFault
+    ensures not_too_many { result ≢ TooMany }
+    ensures refused { result ≢ File → result ≡ Image OutOfMemory }
+{
+    match cause {
+        FileFault::Memory => ReloadFault::Image(VerifyFault::OutOfMemory),
+        FileFault::System(_) | FileFault::TooLarge | FileFault::NotRegular => ReloadFault::File,
     }
 }
 

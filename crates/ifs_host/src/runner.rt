@@ -1,7 +1,8 @@
-//! Runners, which start programs for a host, wait for them, and run texts to their ends.
+//! Runners, which start programs for a host, wait for them, and run texts.
 
 ghost use Rattle.std.specs.Prelude.{◌≡◌, ℕ, Option, None};
-ghost use Rattle.ifs_host.specs.Runners.{RunnerLog, RunnerTells, spawned_once, asked_once, ran_once, test_value};
+ghost use Rattle.ifs_host.specs.Runners.{RunnerLog, RunnerTells, spawned_once, asked_once, reaped_once, ran_once};
+ghost use Rattle.ifs_host.specs.Runners.{test_value, reached_limit};
 
 use thiserror::Error;
 
@@ -19,12 +20,15 @@ pub enum Waited {
     Succeeded,
     /// It has ended without success.
     Failed,
+    /// It has reached its limit, and its end is not known yet.
+    Late,
     /// It cannot be waited for.
     Lost,
 }
 
 impl Waited {
-    /// The value of a test from the status of its program. It is `None` while the program runs, and true only after success.
+    /// The value of a test from the status of its program. It is `None` while the program runs within its limit, and true only
+    /// after success.
     pub fn value(self) -> Option<bool>
         ensures { result ≡ test_value self }
     {
@@ -32,8 +36,16 @@ impl Waited {
             Waited::Runs => None,
             Waited::Succeeded => Some(true),
             Waited::Failed => Some(false),
+            Waited::Late => Some(false),
             Waited::Lost => Some(false),
         }
+    }
+
+    /// Whether the program has reached its limit, and its end is not known yet.
+    pub fn reached_limit(self) -> bool
+        ensures { result ≡ reached_limit self }
+    {
+        matches!(self, Waited::Late)
     }
 }
 
@@ -44,7 +56,9 @@ pub enum RunnerEvent<T> {
     Spawned(T, Option<u64>),
     /// A look at the program of this number, with its status.
     Asked(u64, Waited),
-    /// The run of a text to its end, with its exit status if it could be run.
+    /// A look at the program of this number after its limit, and whether it is gone.
+    Reaped(u64, bool),
+    /// The run of a text to its end or to its limit, with its exit status if it could be run.
     Ran(T, Option<i32>),
 }
 
@@ -65,12 +79,18 @@ pub trait Runner {
     fn spawn(&mut self, text: &str) -> Result<Self::Child, RunFault>
         ensures log { RunnerTells (spawned_once number text.now result) (told self.old) (told self.new) };
 
-    /// Returns the status of a program.
+    /// Returns the status of a program. A program that has reached its limit is killed, and is late from then on. Its status is not
+    /// asked for again.
     fn try_wait(&mut self, child: &mut Self::Child) -> Waited
         ensures log { RunnerTells (asked_once (number child.old) result) (told self.old) (told self.new) }
         ensures number { number child.new ≡ number child.old };
 
-    /// Runs a text to its end, and returns its exit status.
+    /// Returns whether a late program is gone: it has ended, or it cannot be waited for.
+    fn reap(&mut self, child: &mut Self::Child) -> bool
+        ensures log { RunnerTells (reaped_once (number child.old) result) (told self.old) (told self.new) }
+        ensures number { number child.new ≡ number child.old };
+
+    /// Runs a text to its end or to its limit, and returns its exit status.
     fn run(&mut self, text: &str) -> Result<i32, RunFault>
         ensures log { RunnerTells (ran_once text.now result) (told self.old) (told self.new) };
 }

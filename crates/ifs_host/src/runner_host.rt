@@ -1,8 +1,8 @@
 //! A host over a runner. Tests are programs that the runner starts, and commands are texts that it runs.
 
-ghost use Rattle.std.specs.Prelude.{◌≡◌, ◌<◌, [], ◌∷◌, length, None, IfOk};
+ghost use Rattle.std.specs.Prelude.{◌≡◌, ◌<◌, [], ◌∷◌, None, IfOk};
 ghost use Rattle.ifs_session.specs.Hosts.{Adds, ran, launched, polled, RunCounts};
-ghost use Rattle.ifs_host.specs.Children.{none_waits};
+ghost use Rattle.ifs_host.specs.Children.{none_waits, places_taken};
 ghost use Rattle.ifs_host.specs.RunnerHosts.{FindsPlace, StartsTest, Polls, RunsOnce};
 
 use crate::children::Children;
@@ -13,7 +13,8 @@ use ifs_session::{Host, HostFault};
 use std::alloc::{AllocError, Global};
 use std::marker::Model;
 
-/// Runs at most 256 tests at once. If there is no place for a test, or its program cannot be started, it ends with false.
+/// Runs at most 256 tests at once. If there is no place for a test, or its program cannot be started, it ends with false. A test
+/// that reaches its limit ends with false too, and its program holds its place until it is gone.
 pub struct RunnerHost<Q: Runner> {
     runner: Q,
     children: Children<Q>,
@@ -51,7 +52,7 @@ impl<Q: Runner> RunnerHost<Q> {
 
     /// Starts the program of a test.
     fn spawn(&mut self, start: Start, text: &str)
-        requires { length self.old.waiting.running < 256 }
+        requires { places_taken self.old.waiting < 256 }
         ensures { FindsPlace start text.now self.old self.new }
     {
         match self.runner.spawn(text) {

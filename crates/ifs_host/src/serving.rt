@@ -1,38 +1,33 @@
 //! The daemon: serves one connection after another over a Unix socket, and reloads its image.
 
+use crate::client_lines::ClientLines;
+use crate::door::Door;
 use crate::failure::Failure;
 pub use crate::noting::Notes;
 use crate::noting::{
-    Backwards, Notebook, Snapshot, StandardError, note_changes, note_not_taken_over,
+    Backwards, Notebook, Snapshot, note_changes, note_no_memory, note_not_taken_over,
     note_taken_over,
 };
-use crate::patience::{Patience, PatientReader, PatientWriter, Waits};
-use crate::reloading::{ReloadRefused, reload};
+use crate::patience::{PatientWriter, Waits};
+use crate::reloading::{FileRefused, reload};
+use crate::reporting::Reports;
+use crate::room::prepare;
 use crate::sessions::{core_on, image_at};
 use crate::shell::{Limits, Shell, try_shell};
-use crate::sockets::{FileNumber, bound, keep_from_others, remove_made};
+use crate::sockets::{FileNumber, bound, remove_made};
+use crate::standard_error::StandardError;
 use bumpalo::Bump;
 use ifs_core::{Core, Step};
 use ifs_session::{
-    ByteOut, End, FromRead, Served, SessionFault, ToWrite, run_queue, serve_one, write_refused,
+    ByteOut, End, Served, SessionFault, ToWrite, run_queue, serve_one, write_refused,
     write_reloaded,
 };
-use log::{Logged, warn};
+use log::{Log, Logged};
 use std::alloc::AllocError;
 use std::io::{self, BufWriter};
 use std::net::Shutdown;
 use std::os::unix::net::{UnixListener, UnixStream};
-use std::thread;
-use std::time::Duration;
-
-/// The most seconds of waiting for a whole line, or for the writing of a piece of a reply.
-const ONCE: u64 = 5;
-
-/// The most seconds of waiting in one connection.
-const WHOLE: u64 = 30;
-
-/// The pause after an `accept` that failed, in milliseconds.
-const PAUSE: u64 = 100;
+use std::time::Instant;
 
 /// The most bytes of replies that are held back.
 const HELD: usize = 65_536;
@@ -52,8 +47,17 @@ pub struct Serving<'a> {
 
 /// Serves the image of a file over a socket until a client sends `stop`. If a client sends `reload`, it reads the file
 /// again and goes on with its image. It makes the socket's file, and removes it at the end. It fails if the file exists
-/// already. Notes go to standard error.
+/// already, or if stack or memory are too small. Notes go to standard error.
 pub fn serve<'a>(rt: &HostRuntime, asked: Serving<'a>) -> Result<(), Failure<'a>> {
+    match prepare(rt) {
+        Ok(()) => serve_prepared(rt, asked),
+        Err(failure) => Err(failure),
+    }
+}
+
+/// Serves the image. It is no part of `serve`, whose stack is to be small until the size of the stack is known.
+#[inline(never)]
+fn serve_prepared<'a>(rt: &HostRuntime, asked: Serving<'a>) -> Result<(), Failure<'a>> {
     let notes = Logged::new(*rt, asked.notes.level, StandardError::new(*rt));
     let images = Bump::new(rt.alloc());
     let Ok(mut host) = Shell::new(rt, &notes, asked.limits) else {
@@ -72,7 +76,7 @@ pub fn serve<'a>(rt: &HostRuntime, asked: Serving<'a>) -> Result<(), Failure<'a>
     service.run(core)
 }
 
-/// Opens the first core. Its image is the first of the images that are kept.
+/// Opens the first core. Its image is the first of the images that are kept. If it is refused, writes a report.
 fn first_core<'m, 'a>(
     rt: &HostRuntime,
     images: &'m Bump,
@@ -80,7 +84,7 @@ fn first_core<'m, 'a>(
 ) -> Result<Core<'m>, Failure<'a>> {
     let bytes = image_at(rt, path)?;
     match images.try_alloc_slice_copy(bytes.as_slice()) {
-        Ok(image) => core_on(rt, image),
+        Ok(image) => core_on(rt, path, image, Reports::Text),
         Err(AllocError) => Err(Failure::out_of_memory(rt, "V0")),
     }
 }
@@ -139,11 +143,8 @@ impl<'m, 'p, 'h, 'a> Service<'m, 'p, 'h, 'a> {
         }
     }
 
-    /// Restricts the socket's file, checks that commands can be run, and prints `ready`.
+    /// Checks that commands can be run, and prints `ready`.
     fn begin(&self, listener: &UnixListener) -> Result<(), Failure<'p>> {
-        if let Err(error) = keep_from_others(self.rt, self.asked.socket) {
-            return Err(Failure::of_system(self.asked.socket, error));
-        }
         if let Err(error) = try_host(self.rt, listener) {
             return Err(Failure::Shell(error));
         }
@@ -154,27 +155,37 @@ impl<'m, 'p, 'h, 'a> Service<'m, 'p, 'h, 'a> {
     /// Runs the commands of the opening, and then serves up to 4,294,967,295 connections, until one ends with `stop`.
     fn listen(&mut self, listener: &UnixListener, core: Core<'m>) {
         let mut core = core;
+        let mut door = Door::new(listener);
         run_queue(&mut core, self.host);
         for _ in 0..u32::MAX {
-            let Some(stream) = accepted(self.rt, self.notes, listener) else {
+            let Some(stream) = door.next(self.rt, self.notes) else {
                 break;
             };
-            match self.connection(&stream, &mut core) {
+            let began = Instant::now(self.rt).ok();
+            match self.connection(&stream, began, &mut door, &mut core) {
                 After::Next => {}
-                After::Reload => core = self.reload(&stream, core),
+                After::Reload => core = self.reload(&stream, began, core),
                 After::Stop => break,
             }
         }
     }
 
-    /// Serves one connection. If the allocation for its replies fails, that is a failed write.
-    fn connection(&mut self, stream: &UnixStream, core: &mut Core<'m>) -> After {
-        let waits = Waits::new(self.rt, stream, patience());
+    /// Serves one connection, whose turn came at this moment. If the allocation for its replies fails, it is noted and not
+    /// served. After a failed write it is looked for a line `stop` alone.
+    fn connection(
+        &mut self,
+        stream: &UnixStream,
+        began: Option<Instant>,
+        door: &mut Door<'_>,
+        core: &mut Core<'m>,
+    ) -> After {
+        let waits = Waits::new(self.rt, stream, began);
         let writer = PatientWriter::new(&waits);
         let Ok(writer) = BufWriter::with_capacity(self.rt.alloc(), HELD, writer) else {
-            return self.after(End::Fault(SessionFault::WriteFailed), false);
+            note_no_memory(self.notes);
+            return After::Next;
         };
-        let mut input = FromRead::new(PatientReader::new(&waits));
+        let mut input = ClientLines::new(&waits, door);
         let mut output = ToWrite::new(writer);
         let before = Snapshot::of(core);
         let Served {
@@ -187,13 +198,15 @@ impl<'m, 'p, 'h, 'a> Service<'m, 'p, 'h, 'a> {
             // so that dropping the writer does not write again
             let _closed = stream.shutdown(Shutdown::Write);
         }
-        self.after(end, stopped)
+        let is_cut = end == End::Fault(SessionFault::WriteFailed);
+        self.after(end, stopped || is_cut && input.asks_to_stop())
     }
 
-    /// Notes the effect of the steps of a connection.
+    /// Notes the effect of the steps of a connection, and how many notes found no room.
     fn note(&mut self, core: &Core<'_>, before: Snapshot, steps: &[Step]) {
         self.backwards.note(self.notes, before, steps);
         note_changes(self.notes, core, before, steps);
+        self.notes.flush();
     }
 
     /// Notes a connection's end, unless it is a reload, and returns what follows.
@@ -206,31 +219,33 @@ impl<'m, 'p, 'h, 'a> Service<'m, 'p, 'h, 'a> {
     }
 
     /// Reads the image again, and opens it in place of a core. If it is refused, that core goes on. Either way the client gets
-    /// a line.
-    fn reload(&mut self, stream: &UnixStream, core: Core<'m>) -> Core<'m> {
+    /// a line, and its connection is closed. Then the commands of the opening run, also if the client is gone.
+    fn reload(&mut self, stream: &UnixStream, began: Option<Instant>, core: Core<'m>) -> Core<'m> {
         let reloaded = reload(self.rt, self.images, self.asked.image, self.reloads, core);
-        let waits = Waits::new(self.rt, stream, patience());
+        let waits = Waits::new(self.rt, stream, began);
         let mut output = ToWrite::new(PatientWriter::new(&waits));
-        let core = match reloaded {
+        let mut core = match reloaded {
             Ok(core) => self.taken_over(core, &mut output),
-            Err(ReloadRefused { core, fault }) => {
-                note_not_taken_over(self.notes, fault);
+            Err(FileRefused { core, fault, found }) => {
+                note_not_taken_over(self.notes, self.rt.alloc(), fault, &found);
                 // the core goes on, also if the client is gone
                 let _written = write_refused(fault.text(), &mut output);
                 core
             }
         };
+        // so that the client waits for no command
+        let _closed = stream.shutdown(Shutdown::Both);
         self.asked.notes.note_end(self.notes, End::Reload);
+        // a core that goes on has an empty queue
+        run_queue(&mut core, self.host);
         core
     }
 
-    /// Counts a reload, and runs the commands of the opening, also if the client is gone.
+    /// Counts a reload, and writes its line.
     fn taken_over<W: ByteOut>(&mut self, core: Core<'m>, output: &mut W) -> Core<'m> {
-        let mut core = core;
         self.reloads = self.reloads.saturating_add(1);
         note_taken_over(self.notes, &core);
         let _written = write_reloaded(&core, output);
-        run_queue(&mut core, self.host);
         core
     }
 
@@ -247,14 +262,6 @@ impl<'m, 'p, 'h, 'a> Service<'m, 'p, 'h, 'a> {
     }
 }
 
-/// How long a client may keep the daemon waiting.
-fn patience() -> Patience {
-    Patience {
-        once: Duration::from_secs(ONCE),
-        whole: Duration::from_secs(WHOLE),
-    }
-}
-
 /// Drops a core. One function for all exits makes their proofs cheaper.
 fn let_go(_core: Core<'_>) {}
 
@@ -262,23 +269,4 @@ fn let_go(_core: Core<'_>) {}
 fn try_host(rt: &HostRuntime, listener: &UnixListener) -> io::Result<()> {
     let _as_a_connection = listener.try_clone()?;
     try_shell(rt)
-}
-
-/// Accepts the next connection. If that fails, it tries again after a pause. It notes the cause, once while it stays the
-/// same.
-fn accepted(rt: &HostRuntime, notes: &Notebook, listener: &UnixListener) -> Option<UnixStream> {
-    let mut noted = None;
-    for _ in 0..u64::MAX {
-        match listener.accept() {
-            Ok((stream, _address)) => return Some(stream),
-            Err(error) => {
-                if noted != Some(error.kind()) {
-                    warn!(notes; "no connection: {error}");
-                    noted = Some(error.kind());
-                }
-                thread::sleep(rt, Duration::from_millis(PAUSE));
-            }
-        }
-    }
-    None
 }

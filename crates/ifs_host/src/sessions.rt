@@ -2,11 +2,13 @@
 
 use crate::failure::Failure;
 use crate::files::contents;
+use crate::reporting::{Reports, image_source};
+use crate::standard_output::StandardOutput;
 use ifs_core::Core;
 use ifs_session::{FromRead, RunFault, ToWrite, run_hex, simulate};
 use ifs_verify::{VerifyFault, verify};
 use std::alloc::Global;
-use std::io::{self, BufWriter, Stdout};
+use std::io::BufWriter;
 
 /// The most bytes of replies that are held back until input is waited for.
 const HELD: usize = 65_536;
@@ -14,9 +16,10 @@ const HELD: usize = 65_536;
 /// The code of a failed allocation.
 const MEMORY: &str = "V0";
 
-/// Runs a session whose first line is the image.
+/// Runs a session whose first line is the image. It is no part of its caller, whose stack is to be small.
+#[inline(never)]
 pub fn by_hexadecimal<'a>(rt: &HostRuntime) -> Result<(), Failure<'a>> {
-    let Ok(writer) = BufWriter::with_capacity(rt.alloc(), HELD, io::writer(rt)) else {
+    let Ok(writer) = BufWriter::with_capacity(rt.alloc(), HELD, StandardOutput::new(rt)) else {
         return Err(Failure::out_of_memory(rt, MEMORY));
     };
     let mut input = FromRead::new(rt.reader());
@@ -28,15 +31,20 @@ pub fn by_hexadecimal<'a>(rt: &HostRuntime) -> Result<(), Failure<'a>> {
     }
 }
 
-/// Runs a session on the image of a file.
-pub fn on_file<'a>(rt: &HostRuntime, path: &'a str) -> Result<(), Failure<'a>> {
+/// Runs a session on the image of a file. If it is refused, writes a report.
+pub fn on_file<'a>(rt: &HostRuntime, path: &'a str, reports: Reports) -> Result<(), Failure<'a>> {
     let image = image_at(rt, path)?;
-    on_image(rt, image.as_slice())
+    on_image(rt, path, image.as_slice(), reports)
 }
 
-/// Runs a session on the image of these bytes.
-fn on_image<'a>(rt: &HostRuntime, image: &[u8]) -> Result<(), Failure<'a>> {
-    let mut core = core_on(rt, image)?;
+/// Runs a session on the image of a file, which has these bytes.
+fn on_image<'a>(
+    rt: &HostRuntime,
+    path: &'a str,
+    image: &[u8],
+    reports: Reports,
+) -> Result<(), Failure<'a>> {
+    let mut core = core_on(rt, path, image, reports)?;
     simulated(rt, &mut core)
 }
 
@@ -48,11 +56,17 @@ pub fn image_at<'a>(rt: &HostRuntime, path: &'a str) -> Result<Vec<u8>, Failure<
     }
 }
 
-/// Opens a core on the image of these bytes, in place. If they are refused, prints the line that says so.
-pub(crate) fn core_on<'a, 'p>(rt: &HostRuntime, image: &'a [u8]) -> Result<Core<'a>, Failure<'p>> {
+/// Opens a core on the image of a file, in the place of its bytes. If they are refused, prints the line that says so, and
+/// writes a report.
+pub(crate) fn core_on<'a, 'p>(
+    rt: &HostRuntime,
+    path: &'p str,
+    image: &'a [u8],
+    reports: Reports,
+) -> Result<Core<'a>, Failure<'p>> {
     match opened(rt.alloc(), image) {
         Ok(core) => Ok(core),
-        Err(fault) => Err(Failure::of_refusal(rt, fault.text())),
+        Err(fault) => Err(reports.refused(rt, image_source(path, image), fault)),
     }
 }
 
@@ -64,9 +78,10 @@ fn opened<'a>(alloc: Global, image: &'a [u8]) -> Result<Core<'a>, VerifyFault> {
     }
 }
 
-/// Runs a session on a core.
+/// Runs a session on a core. It is no part of its caller, whose stack is to be small.
+#[inline(never)]
 fn simulated<'a>(rt: &HostRuntime, core: &mut Core<'_>) -> Result<(), Failure<'a>> {
-    let Ok(writer) = BufWriter::with_capacity(rt.alloc(), HELD, io::writer(rt)) else {
+    let Ok(writer) = BufWriter::with_capacity(rt.alloc(), HELD, StandardOutput::new(rt)) else {
         return Err(Failure::out_of_memory(rt, MEMORY));
     };
     let mut input = FromRead::new(rt.reader());

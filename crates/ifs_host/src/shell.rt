@@ -1,14 +1,15 @@
 //! The daemon's host: it runs commands and tests by the shell, and notes what they did.
 
-ghost use Rattle.std.specs.Prelude.{◌≡◌, ◌⊎◌, [], ◌∷◌, Some, IfOk, IfSome};
+ghost use Rattle.std.specs.Prelude.{◌≡◌, ◌≢◌, ◌⊎◌, [], ◌∷◌, None, Some, IfOk, IfSome, IsTrue};
+ghost use Rattle.std.specs.Bool.{OnTrue};
 ghost use Rattle.std.specs.Process.{child_status, command_args, command_program};
-ghost use Rattle.ifs_host.specs.declared.runner.Waited.TheVariants.{Lost};
-ghost use Rattle.ifs_host.specs.Shells.{shell, dash_c, Agrees, shell_code};
+ghost use Rattle.ifs_host.specs.declared.runner.Waited.TheVariants.{Late, Lost};
+ghost use Rattle.ifs_host.specs.Shells.{shell, dash_c, in_own_group, Agrees, shell_code, ended_code};
 
 use crate::children::PLACES;
 use crate::runner::{RunFault, Runner, Waited};
 use crate::runner_host::RunnerHost;
-use ifs_base::Quoted;
+use ifs_terminal::Shown;
 use log::{Level, Log, error, log, warn};
 use std::alloc::{AllocError, Global};
 use std::marker::Model;
@@ -21,23 +22,36 @@ use std::{io, thread};
 /// The program that runs texts.
 pub const SHELL: &str = "/bin/sh";
 
+/// What the shell does first: it makes a process group of its own, if the system has `setsid`. The text is its argument.
+const IN_OWN_GROUP: &str =
+    "command -v setsid >/dev/null && exec setsid /bin/sh -c \"$1\"; exec /bin/sh -c \"$1\"";
+
 /// The first pause between two looks at a command that runs, in milliseconds.
 const SHORTEST_PAUSE: u64 = 1;
 
 /// The longest such pause, in milliseconds.
 const LONGEST_PAUSE: u64 = 64;
 
+/// The pauses before looks at a program that is to end, in milliseconds. After them the daemon goes on without its end.
+const LAST_PAUSES: [u64; 7] = [1, 2, 4, 8, 16, 32, 64];
+
+/// The exit status of a command that was killed: 128 and the number of SIGKILL.
+const KILLED: i32 = 137;
+
 /// How long the shell may run a text before it is killed. `None` is no limit.
 #[derive(Clone, Copy, Debug, Default)]
 pub struct Limits {
-    /// How long a command may run.
+    /// How long a command may run. If it runs longer, the host goes on, also if the system cannot end it.
     pub command: Option<Duration>,
-    /// How long a test may run. If it runs longer, it ends with false. The limit is checked when the host is polled.
+    /// How long a test may run. If it runs longer, it ends with false, also if the system cannot end it. The limit is checked
+    /// when the host is polled.
     pub test: Option<Duration>,
 }
 
-/// Runs each text by `/bin/sh -c`, with empty standard input and both outputs dropped. It notes each command with its end,
-/// what could not be started or waited for, what was killed, and that no place is left.
+/// Runs each text by `/bin/sh -c`, with empty standard input and both outputs dropped. Each has a process group of its own, if the
+/// system has `setsid`, and at a limit the whole group is killed. It notes each command with its end, what could not be started
+/// or waited for, what was killed, and that no place is left. It waits for no program that was killed: what the system cannot end
+/// yet is looked at later.
 ///
 /// It reports no log of its calls, since the programs of the system report none.
 #[derive(Drop)]
@@ -45,8 +59,10 @@ pub struct ShellRunner<'a, R: Processes, L> {
     runtime: &'a R,
     notes: &'a L,
     limits: Limits,
-    /// The number of tests that run.
+    /// The number of tests that hold a place.
     running: usize,
+    /// Commands that were killed and whose ends are not known, from the oldest on. There is room for 256.
+    unended: Vec<Child<R::Started>>,
 }
 
 /// A test that was started. Its model is the status of its program.
@@ -56,8 +72,6 @@ pub struct ShellTest<P: OpenProcess> {
     text: String,
     /// When it was started, if the clock worked.
     began: Option<Instant>,
-    /// Whether it has reached its limit.
-    late: bool,
 }
 
 impl<P: OpenProcess> Model for ShellTest<P> {
@@ -72,10 +86,35 @@ impl<P: OpenProcess> Model for ShellTest<P> {
 
 /// How a command ended.
 #[derive(Clone, Copy)]
-struct Ended {
-    status: ExitStatus,
-    /// Whether it was killed at its limit.
-    killed: bool,
+enum Ended {
+    /// It ended before its limit.
+    InTime(ExitStatus),
+    /// It was killed at its limit, and ended.
+    Killed(ExitStatus),
+    /// It was killed at its limit, and its end is not known yet.
+    Unended,
+}
+
+impl Ended {
+    /// Its exit status. A command whose end is not known has that of one that was killed.
+    fn code(self) -> i32
+        ensures { result ≡ ended_code self }
+    {
+        match self {
+            Ended::InTime(status) => code_of(status),
+            Ended::Killed(status) => code_of(status),
+            Ended::Unended => KILLED,
+        }
+    }
+
+    /// What a note says before its exit status.
+    fn words(self) -> &'static str {
+        match self {
+            Ended::InTime(_status) => "",
+            Ended::Killed(_status) => "killed at its limit, ",
+            Ended::Unended => "not ended at its limit, ",
+        }
+    }
 }
 
 /// The host of the daemon.
@@ -89,6 +128,7 @@ impl<'a, R: Processes + Clock + Alloc<A = Global>, L: Log> RunnerHost<ShellRunne
             notes,
             limits,
             running: 0,
+            unended: Vec::with_capacity(runtime.alloc(), PLACES)?,
         };
         RunnerHost::over(runtime.alloc(), runner)
     }
@@ -111,22 +151,68 @@ impl<'a, R: Processes + Clock + Alloc<A = Global>, L: Log> ShellRunner<'a, R, L>
             text: String::from_str(alloc, text)?,
             began: Instant::now(self.runtime).ok(),
             child: spawned(self.runtime, text)?,
-            late: false,
         })
     }
 
-    /// Runs a command to its end.
-    fn ended(&self, text: &str) -> io::Result<Ended> {
+    /// Runs a command to its end or to its limit.
+    fn ended(&mut self, text: &str) -> io::Result<Ended> {
         match self.limits.command {
-            Some(limit) => {
-                let mut child = spawned(self.runtime, text)?;
-                ended_within(self.runtime, &mut child, limit)
-            }
-            None => Ok(Ended {
-                status: status_of(self.runtime, text)?,
-                killed: false,
-            }),
+            Some(limit) => self.ended_within(text, limit),
+            None => Ok(Ended::InTime(status_of(self.runtime, text)?)),
         }
+    }
+
+    /// Runs a command, and kills it if it runs longer than the limit. If it does not end then either, it is looked at later.
+    fn ended_within(&mut self, text: &str, limit: Duration) -> io::Result<Ended> {
+        let mut child = spawned(self.runtime, text)?;
+        if let Some(status) = status_within(self.runtime, &mut child, limit)? {
+            return Ok(Ended::InTime(status));
+        }
+        let killed = self.kill(&mut child);
+        note_kill_of_command(self.notes, text, killed);
+        match status_soon(self.runtime, &mut child)? {
+            Some(status) => Ok(Ended::Killed(status)),
+            None => {
+                self.look_later(child);
+                Ok(Ended::Unended)
+            }
+        }
+    }
+
+    /// Kills a program that has reached its limit, and all of its process group. The error is of the program, or else of the group.
+    fn kill(&mut self, child: &mut Child<R::Started>) -> io::Result<()>
+        ensures { child_status child.new ≡ child_status child.old }
+    {
+        // the group comes first: its number is the program's as long as nobody has waited for that
+        let group = self.kill_group(child.id());
+        child.kill()?;
+        group
+    }
+
+    /// Kills the process group of a program, by a shell. It does nothing if the program has no group of its own.
+    fn kill_group(&mut self, leader: u32) -> io::Result<()> {
+        let text = format!(in self.runtime.alloc(); "kill -s KILL -- -{leader}")?;
+        let mut killer = spawned(self.runtime, text.as_str())?;
+        if status_soon(self.runtime, &mut killer)?.is_none() {
+            self.look_later(killer);
+        }
+        Ok(())
+    }
+
+    /// Keeps a command whose end is not known, to look at it later. If there are 256, the oldest of them goes: nobody looks at
+    /// its end then.
+    fn look_later(&mut self, child: Child<R::Started>) {
+        if self.unended.len() >= PLACES {
+            self.unended.remove(0);
+            note_forgotten(self.notes);
+        }
+        // there is room for it
+        let _pushed = self.unended.push(child);
+    }
+
+    /// Lets go of the commands that have ended since they were killed.
+    fn reap_commands(&mut self) {
+        self.unended.retain_mut(|child| is_there(child));
     }
 
     /// Counts a test that runs, and notes when the last place is taken.
@@ -142,16 +228,18 @@ impl<'a, R: Processes + Clock + Alloc<A = Global>, L: Log> ShellRunner<'a, R, L>
         self.running = self.running.saturating_sub(1);
     }
 
-    /// Kills a test that has reached its limit.
-    fn kill_if_late(&self, test: &mut ShellTest<R::Started>)
-        ensures { test.new ≡ test.old }
+    /// Kills a test whose end is not known if it has reached its limit, and returns its status.
+    fn kill_if_late(&mut self, test: &mut ShellTest<R::Started>) -> Waited
+        ensures same { test.new ≡ test.old }
+        ensures status { Agrees result None }
+        ensures limited { result ≡ Late → self.old.limits.test ≢ None }
     {
-        if test.late || !is_late(self.runtime, test.began, self.limits.test) {
-            return;
+        if !is_late(self.runtime, test.began, self.limits.test) {
+            return Waited::Runs;
         }
-        test.late = true;
-        let killed = test.child.kill();
-        note_kill(self.notes, test.text.as_str(), killed);
+        let killed = self.kill(&mut test.child);
+        note_kill_of_test(self.notes, test.text.as_str(), killed);
+        Waited::Late
     }
 
     /// Notes the end of a command that was started at this moment.
@@ -163,9 +251,21 @@ impl<'a, R: Processes + Clock + Alloc<A = Global>, L: Log> ShellRunner<'a, R, L>
     }
 }
 
-/// Notes whether a test could be killed.
-fn note_kill(notes: &impl Log, text: &str, killed: io::Result<()>) {
-    let text = Quoted(text);
+/// Notes that a command, or its process group, could not be killed.
+fn note_kill_of_command(notes: &impl Log, text: &str, killed: io::Result<()>) {
+    if let Err(error) = killed {
+        warn!(notes; "command {}: not killed at its limit: {error}", Shown(text));
+    }
+}
+
+/// Notes that nobody looks at the end of a command.
+fn note_forgotten(notes: &impl Log) {
+    warn!(notes; "{PLACES} commands have not ended: the oldest is not waited for");
+}
+
+/// Notes whether a test and its process group could be killed.
+fn note_kill_of_test(notes: &impl Log, text: &str, killed: io::Result<()>) {
+    let text = Shown(text);
     match killed {
         Ok(()) => warn!(notes; "test {text}: killed at its limit"),
         Err(error) => warn!(notes; "test {text}: not killed at its limit: {error}"),
@@ -174,56 +274,66 @@ fn note_kill(notes: &impl Log, text: &str, killed: io::Result<()>) {
 
 /// Notes the end of a command that ran this long.
 fn note_ended(notes: &impl Log, text: &str, ended: Ended, lasted: Duration) {
-    let text = Quoted(text);
-    let code = code_of(ended.status);
+    let text = Shown(text);
+    let code = ended.code();
+    let words = ended.words();
     let millis = lasted.as_millis();
-    let killed = if ended.killed {
-        "killed at its limit, "
-    } else {
-        ""
-    };
-    let level = if ended.killed || code != 0 {
-        Level::Warn
-    } else {
+    let level = if code == 0 && words.is_empty() {
         Level::Info
+    } else {
+        Level::Warn
     };
-    log!(notes; level, "command {text}: {killed}exit {code} after {millis} ms");
+    log!(notes; level, "command {text}: {words}exit {code} after {millis} ms");
 }
 
 /// Whether a program that was started at this moment has reached its limit.
-fn is_late(clock: &impl Clock, began: Option<Instant>, limit: Option<Duration>) -> bool {
+fn is_late(clock: &impl Clock, began: Option<Instant>, limit: Option<Duration>) -> bool
+    ensures { OnTrue result (limit ≢ None) }
+{
     let (Some(began), Some(limit)) = (began, limit) else {
         return false;
     };
     began.elapsed(clock).is_ok_and(|elapsed| elapsed >= limit)
 }
 
-/// Waits for the end of a program, and kills it if it runs longer than the limit.
-fn ended_within<P: OpenProcess + Drop>(
+/// Waits for the end of a program up to a limit. There is no status if it runs longer.
+fn status_within<P: OpenProcess + Drop>(
     clock: &impl Clock,
     child: &mut Child<P>,
     limit: Duration,
-) -> io::Result<Ended> {
+) -> io::Result<Option<ExitStatus>> {
     let began = Instant::now(clock).ok();
     let mut pause = SHORTEST_PAUSE;
     for _ in 0..u64::MAX {
-        if let Some(status) = child.try_wait()? {
-            return Ok(Ended {
-                status,
-                killed: false,
-            });
-        }
-        if is_late(clock, began, Some(limit)) {
-            break;
+        let status = child.try_wait()?;
+        if status.is_some() || is_late(clock, began, Some(limit)) {
+            return Ok(status);
         }
         thread::sleep(clock, Duration::from_millis(pause));
         pause = pause.saturating_mul(2).min(LONGEST_PAUSE);
     }
-    child.kill()?;
-    Ok(Ended {
-        status: child.wait()?,
-        killed: true,
-    })
+    Ok(None)
+}
+
+/// Waits for the end of a program, for an eighth of a second. There is no status if it does not end so soon, as in
+/// uninterruptible sleep.
+fn status_soon<P: OpenProcess + Drop>(
+    clock: &impl Clock,
+    child: &mut Child<P>,
+) -> io::Result<Option<ExitStatus>> {
+    for pause in LAST_PAUSES {
+        thread::sleep(clock, Duration::from_millis(pause));
+        let status = child.try_wait()?;
+        if status.is_some() {
+            return Ok(status);
+        }
+    }
+    Ok(None)
+}
+
+/// Whether a program that was killed has not ended yet, and can be waited for.
+fn is_there<P: OpenProcess + Drop>(child: &mut Child<P>) -> bool {
+    matches!(child.try_wait(), Ok(None))
 }
 
 /// The shell's call that runs a text.
@@ -241,12 +351,16 @@ impl ShellCall {
     /// The call that runs a text.
     fn new(alloc: Global, text: &str) -> Result<ShellCall, AllocError>
         ensures program { IfOk result (λ c. command_program c.command ≡ shell) }
-        ensures arguments { IfOk result (λ c. command_args c.command ≡ dash_c ∷ text.now ∷ []) }
+        ensures arguments { IfOk result (λ c. command_args c.command ≡ dash_c ∷ in_own_group ∷ shell ∷ text.now ∷ []) }
     {
         let mut call = ShellCall {
             command: Command::new(alloc, SHELL)?,
         };
-        call.command.arg("-c")?.arg(text)?;
+        call.command
+            .arg("-c")?
+            .arg(IN_OWN_GROUP)?
+            .arg(SHELL)?
+            .arg(text)?;
         call.command
             .stdin(Stdio::null())
             .stdout(Stdio::null())
@@ -269,7 +383,8 @@ fn status_of<R: Processes + Alloc<A = Global>>(rt: &R, text: &str) -> io::Result
 
 /// The status of a program from its exit status. It runs while it has none.
 fn waited(status: Option<ExitStatus>) -> Waited
-    ensures { Agrees result status }
+    ensures known { Agrees result status }
+    ensures in_time { result ≢ Late }
 {
     match status {
         None => Waited::Runs,
@@ -291,13 +406,14 @@ impl<'a, R: Processes + Clock + Alloc<A = Global>, L: Log> Runner for ShellRunne
     type Child = ShellTest<R::Started>;
 
     fn spawn(&mut self, text: &str) -> Result<ShellTest<R::Started>, RunFault> {
+        self.reap_commands();
         match self.started(text) {
             Ok(test) => {
                 self.take_place();
                 Ok(test)
             }
             Err(error) => {
-                warn!(self.notes; "test {}: not started: {error}", Quoted(text));
+                warn!(self.notes; "test {}: not started: {error}", Shown(text));
                 Err(RunFault)
             }
         }
@@ -307,33 +423,43 @@ impl<'a, R: Processes + Clock + Alloc<A = Global>, L: Log> Runner for ShellRunne
         ensures log { Unit {0} }
         ensures known { (result ≡ Lost) ⊎ Agrees result test.new }
         ensures again { IfSome test.old (λ status. Agrees result (Some status)) }
+        ensures limited { result ≡ Late → self.old.limits.test ≢ None }
     {
         match test.child.try_wait() {
-            Ok(None) => {
-                self.kill_if_late(test);
-                Waited::Runs
-            }
+            Ok(None) => self.kill_if_late(test),
             Ok(status) => {
                 self.free_place();
                 waited(status)
             }
             Err(error) => {
                 self.free_place();
-                warn!(self.notes; "test {}: its end is not known: {error}", Quoted(test.text.as_str()));
+                warn!(self.notes; "test {}: its end is not known: {error}", Shown(test.text.as_str()));
                 Waited::Lost
             }
         }
     }
 
+    fn reap(&mut self, test: &mut ShellTest<R::Started>) -> bool
+        ensures log { Unit {0} }
+        ensures stays { IsTrue result ⊎ (test.new ≡ None) }
+    {
+        if let Ok(None) = test.child.try_wait() {
+            return false;
+        }
+        self.free_place();
+        true
+    }
+
     fn run(&mut self, text: &str) -> Result<i32, RunFault> {
+        self.reap_commands();
         let began = Instant::now(self.runtime).ok();
         match self.ended(text) {
             Ok(ended) => {
                 self.note_end(text, ended, began);
-                Ok(code_of(ended.status))
+                Ok(ended.code())
             }
             Err(error) => {
-                error!(self.notes; "command {}: not run: {error}", Quoted(text));
+                error!(self.notes; "command {}: not run: {error}", Shown(text));
                 Err(RunFault)
             }
         }

@@ -2,11 +2,17 @@
 
 use std::fs::{self, Permissions};
 use std::io::{self, ErrorKind};
+use std::net::Net;
+use std::os::fd::{AsFd, AsRawFd, OwnedFd};
 use std::os::unix::fs::{MetadataExt, PermissionsExt};
-use std::os::unix::net::UnixListener;
+use std::os::unix::net::{SocketAddr, UnixListener};
+use std::rt::Files;
 
 /// The permissions that the socket's file may have: those of its owner and of its group.
 const RIGHTS: u32 = 0o770;
+
+/// As many connections may wait as the system allows.
+const WAITING: i32 = -1;
 
 /// The identity of a file.
 #[derive(Clone, Copy, PartialEq, Eq)]
@@ -26,18 +32,35 @@ impl FileNumber {
     }
 }
 
-/// Makes a socket, and returns the identity of its file. It fails if the file exists already.
+/// Makes a socket that clients can connect to, and returns the identity of its file. It fails if the file exists already.
+///
+/// The file gives no right to others, whatever the umask is. Nobody can connect before that holds: the socket listens last.
+/// On Linux the file never gives more rights than its socket has, so others have none from the start.
 pub fn bound(rt: &HostRuntime, path: &str) -> io::Result<(UnixListener, FileNumber)> {
-    let listener = UnixListener::bind(rt, path)?;
+    let address = SocketAddr::from_pathname(path)?;
+    let socket = rt.unix_socket()?;
+    // where the system refuses this, others have rights until they are removed below
+    let _restricted = libc::fchmod(socket.as_raw_fd(), RIGHTS);
+    rt.bind_unix(socket.as_fd(), &address)?;
     let made = FileNumber::at(rt, path)?;
-    Ok((listener, made))
+    match listening(rt, path, socket) {
+        Ok(listener) => Ok((listener, made)),
+        Err(error) => {
+            // the first failure is reported, also if the file cannot be removed
+            let _removed = remove_made(rt, path, made);
+            Err(error)
+        }
+    }
 }
 
-/// Removes the permissions of others on the socket's file, whatever the umask is. A client may connect before this call, so
-/// the file belongs in a folder that others cannot enter.
-pub fn keep_from_others(rt: &HostRuntime, path: &str) -> io::Result<()> {
+/// Removes the permissions of others on the file of a socket, and then lets clients connect.
+fn listening(rt: &HostRuntime, path: &str, socket: OwnedFd) -> io::Result<UnixListener> {
     let mode = fs::symlink_metadata(rt, path)?.permissions().mode();
-    fs::set_permissions(rt, path, Permissions::from_mode(mode & RIGHTS))
+    fs::set_permissions(rt, path, Permissions::from_mode(mode & RIGHTS))?;
+    if libc::net::listen(socket.as_raw_fd(), WAITING) < 0 {
+        return Err(io::Error::from_raw_os_error(os::errno()));
+    }
+    Ok(UnixListener::from(socket))
 }
 
 /// Removes the socket's file if it is still the file with this identity.

@@ -5,6 +5,7 @@ use ifs_base::{
     CommandId, IfaceId, Items, LinkState, Number, Op, QuotedByte, RoutineId, StateId, TestId, Text,
     decode_op, digit_value, encode_op, hex_digit, limits, parse_number, quote_byte,
 };
+use ifs_terminal::{Escaped, Shown, acts_on_terminal};
 use std::alloc::{AllocError, Global};
 use std::process::Abort;
 use std::test::Fail;
@@ -196,6 +197,42 @@ fn bytes_of_quoted_texts(rt: HostRuntime) {
         (0xff, QuotedByte::Plain(0xff)),
     ] {
         same_in(&rt, byte, quote_byte(byte), wanted);
+    }
+}
+
+#[test]
+fn texts_on_a_terminal(rt: HostRuntime) -> Result<(), Fail> {
+    let shown = Shown("\u{1}\n\u{9f}\u{a0}\"\u{2027}\u{2028}");
+    let shown = format!(in rt.alloc(); "{shown}")?;
+    same(
+        &rt,
+        shown.as_str(),
+        "\"\\x01\\x0a\\xc2\\x9f\u{a0}\\\"\u{2027}\\xe2\\x80\\xa8\"",
+    );
+    let escaped = Escaped(b"\x01\n\xff\\\"".as_slice());
+    let escaped = format!(in rt.alloc(); "{escaped}")?;
+    same(&rt, escaped.as_str(), "\\x01\n\\xff\\\"");
+    Ok(())
+}
+
+/// The first and the last character of each range that a terminal may act on, and those beside them.
+#[test]
+fn characters_of_a_terminal(rt: HostRuntime) {
+    for character in [
+        '\u{0}', '\u{1f}', '\u{7f}', '\u{9f}', '\u{61c}', '\u{200e}', '\u{200f}',
+    ] {
+        same_in(&rt, character, acts_on_terminal(character), true);
+    }
+    for character in ['\u{2028}', '\u{202e}', '\u{2066}', '\u{2069}'] {
+        same_in(&rt, character, acts_on_terminal(character), true);
+    }
+    for character in [
+        ' ', '~', '\u{a0}', '\u{61b}', '\u{61d}', '\u{200d}', '\u{2010}',
+    ] {
+        same_in(&rt, character, acts_on_terminal(character), false);
+    }
+    for character in ['\u{2027}', '\u{202f}', '\u{2065}', '\u{206a}'] {
+        same_in(&rt, character, acts_on_terminal(character), false);
     }
 }
 

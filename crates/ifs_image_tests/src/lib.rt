@@ -17,6 +17,8 @@ mod largest;
 #[cfg(test)]
 mod machine;
 #[cfg(test)]
+mod reports;
+#[cfg(test)]
 mod schedule;
 #[cfg(test)]
 mod steps;

@@ -464,6 +464,14 @@ fn bytes_of_what_is_given(rt: HostRuntime) -> Result<(), Fail> {
     check_given(&rt, alloc, "a text", over, &[("x", "&")], "P4 line 0")
 }
 
+/// A definition beside the text may have as many bytes as a text.
+#[test]
+fn bytes_of_a_given_value(rt: HostRuntime) -> Result<(), Fail> {
+    let full = repeated(rt.alloc(), "\n", 1_048_576)?;
+    let (alloc, full) = (rt.alloc(), full.as_str());
+    check_given(&rt, alloc, "a full value", "a", &[("x", full)], "a end ")
+}
+
 /// A value of many tokens occurs in another very many times, and is copied nowhere.
 #[test]
 fn values_are_not_copied(rt: HostRuntime) -> Result<(), Fail> {

@@ -18,6 +18,9 @@ mod scans;
 mod token;
 
 pub use characters::{is_macro_name, is_reserved};
+pub use cursor::{Cursor, Found};
 pub use fault::LexFault;
+pub use pieces::{Piece, Sign};
 pub use reading::tokens;
+pub use scans::is_dropped;
 pub use token::{Token, What};

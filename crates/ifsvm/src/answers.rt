@@ -1,16 +1,34 @@
-//! Commands on files: read a file, write the image of its answer, and print the answer.
+//! Commands on files: read a file, write the image of its answer, print the answer, and write reports on the file.
 
+use crate::reporting::reports_on;
 use ifs_answer::{Answer, Task, answer};
 use ifs_host::failure::Failure;
-use ifs_host::files::contents;
+use ifs_host::files::{FileFault, contents, whole};
 use ifs_host::images::write_image;
+use ifs_host::reporting::Reports;
+use ifs_host::standard_output::StandardOutput;
+use ifs_report::Source;
+use std::io::Write;
+
+/// The operand that is standard input.
+const INPUT: &str = "-";
 
 /// A task on a file, and the path of the image to write, if any.
 #[derive(Clone, Copy)]
 pub struct Job<'a> {
     task: Task,
+    /// The path of the file, or `-` for standard input.
     file: &'a str,
     image: Option<&'a str>,
+}
+
+/// What a task takes besides its file.
+#[derive(Clone, Copy)]
+pub struct Beside<'a> {
+    /// The definitions of macros.
+    pub definitions: &'a [(&'a str, &'a str)],
+    /// How reports are written.
+    pub reports: Reports,
 }
 
 impl<'a> Job<'a> {
@@ -32,17 +50,22 @@ impl<'a> Job<'a> {
         }
     }
 
-    /// Does the task: reads the file, writes the image of the answer, if any, and then prints the answer.
-    pub fn done(self, rt: &HostRuntime, definitions: &[(&str, &str)]) -> Result<(), Failure<'a>> {
+    /// Does the task: reads the file, writes the image of the answer, if any, prints the answer, and then writes the reports.
+    pub fn done(self, rt: &HostRuntime, beside: Beside<'_>) -> Result<(), Failure<'a>> {
         let input = self.input(rt)?;
-        self.answered(rt, input.as_slice(), definitions)
+        self.answered(rt, input.as_slice(), beside)
     }
 
     /// The bytes of the file.
     fn input(self, rt: &HostRuntime) -> Result<Vec<u8>, Failure<'a>> {
-        match contents(rt, self.file) {
+        let (name, input) = if self.file == INPUT {
+            ("standard input", whole(rt.alloc(), rt.stdin()))
+        } else {
+            (self.file, contents(rt, self.file))
+        };
+        match input {
             Ok(input) => Ok(input),
-            Err(fault) => Err(Failure::of_file(rt, self.task.memory_code(), self.file, fault)),
+            Err(fault) => Err(Failure::of_file(rt, self.task.memory_code(), name, fault)),
         }
     }
 
@@ -50,11 +73,20 @@ impl<'a> Job<'a> {
         self,
         rt: &HostRuntime,
         input: &[u8],
-        definitions: &[(&str, &str)],
+        beside: Beside<'_>,
     ) -> Result<(), Failure<'a>> {
-        match answer(rt.alloc(), self.task, input, definitions) {
-            Ok(answer) => self.told(rt, &answer),
-            Err(_memory) => Err(Failure::out_of_memory(rt, self.task.memory_code())),
+        let Ok(answer) = answer(rt.alloc(), self.task, input, beside.definitions) else {
+            return Err(Failure::out_of_memory(rt, self.task.memory_code()));
+        };
+        self.told(rt, &answer)?;
+        let is_accepted = answer.status == 0;
+        if beside.reports != Reports::Quiet {
+            self.report(rt, input, beside, is_accepted);
+        }
+        if is_accepted {
+            Ok(())
+        } else {
+            Err(Failure::Refused)
         }
     }
 
@@ -63,11 +95,26 @@ impl<'a> Job<'a> {
         if let (Some(path), Some(image)) = (self.image, &answer.file) {
             self.output(rt, path, image.as_slice())?;
         }
-        rt.write_all(answer.text.as_bytes())?;
-        if answer.status == 0 {
-            Ok(())
-        } else {
-            Err(Failure::Refused)
+        StandardOutput::new(rt).write_all(answer.text.as_bytes())?;
+        Ok(())
+    }
+
+    /// Writes the reports on the file. None is written if an allocation fails.
+    fn report(self, rt: &HostRuntime, input: &[u8], beside: Beside<'_>, is_accepted: bool) {
+        let Beside {
+            definitions,
+            reports,
+        } = beside;
+        let source = Source {
+            name: self.file,
+            text: input,
+            definitions,
+        };
+        let Ok(found) = reports_on(rt.alloc(), self.task, input, definitions, is_accepted) else {
+            return;
+        };
+        for report in found.as_slice() {
+            reports.write(rt, report, source);
         }
     }
 

@@ -4,17 +4,22 @@ use ifs_answer::{Explained, explain as explained};
 use ifs_command_line as words;
 use ifs_host::failure::Failure;
 use ifs_host::files::FileFault;
-use ifs_host::sending::{replied, send as sent, send_and_wait};
+use ifs_host::reporting::{Reports, image_source};
+use ifs_host::sending::{Printing, Reading, replied, send as sent, send_and_wait};
 use ifs_host::serving::{self, Notes, Serving};
 use ifs_host::sessions::image_at;
 use ifs_host::shell::Limits;
+use ifs_host::standard_output::StandardOutput;
 use ifs_verify::{Verified, verify};
 use log::LevelFilter;
-use std::io::ErrorKind;
+use std::io::{ErrorKind, Write};
 use std::str::from_utf8;
 
 /// The requests whose replies `explain` prints.
 const REQUESTS: &str = "status\ntrace";
+
+/// The most bytes of these replies.
+const MOST: usize = 1_048_576;
 
 /// Runs the daemon.
 pub fn serve<'a>(rt: &HostRuntime, asked: words::Serve<'a>) -> Result<(), Failure<'a>> {
@@ -47,9 +52,17 @@ fn notes_of(notes: words::Notes) -> Notes {
 pub fn send<'a>(rt: &HostRuntime, asked: words::Send<'a>) -> Result<(), Failure<'a>> {
     match asked.manner {
         words::Manner::NoWait => sent(rt, asked.socket, asked.request),
-        words::Manner::Wait { limit, check } => {
-            send_and_wait(rt, asked.socket, asked.request, limit, check)
-        }
+        words::Manner::Wait {
+            limit,
+            check,
+            escape,
+        } => send_and_wait(
+            rt,
+            asked.socket,
+            asked.request,
+            limit,
+            Printing { check, escape },
+        ),
     }
 }
 
@@ -66,7 +79,7 @@ fn explain_image<'a>(
 ) -> Result<(), Failure<'a>> {
     match verify(rt.alloc(), image) {
         Ok(verified) => explain_verified(rt, asked, &verified),
-        Err(fault) => Err(Failure::of_refusal(rt, fault.text())),
+        Err(fault) => Err(Reports::Text.refused(rt, image_source(asked.image, image), fault)),
     }
 }
 
@@ -75,7 +88,11 @@ fn explain_verified<'a>(
     asked: words::Explain<'a>,
     verified: &Verified<'_>,
 ) -> Result<(), Failure<'a>> {
-    let reply = replied(rt, asked.socket, REQUESTS, asked.limit)?;
+    let reading = Reading {
+        limit: asked.limit,
+        most: MOST,
+    };
+    let reply = replied(rt, asked.socket, REQUESTS, reading)?;
     let Ok(reply) = from_utf8(reply.as_slice()) else {
         return Err(Failure::File {
             path: asked.socket,
@@ -98,6 +115,6 @@ fn explain_reply<'a>(
     let Ok(text) = explained(rt.alloc(), verified.image(), reply, what) else {
         return Err(Failure::out_of_memory(rt, "V0"));
     };
-    rt.write_all(text.as_bytes())?;
+    StandardOutput::new(rt).write_all(text.as_bytes())?;
     Ok(())
 }

@@ -7,15 +7,21 @@
 
 mod answers;
 mod daemons;
+mod reporting;
 
-use answers::Job;
+use answers::{Beside, Job};
 use ifs_answer::Task;
-use ifs_command_line::{Asked, Request, Unasked, asked, read};
+use ifs_command_line::{self as words, Asked, Request, Unasked, asked, read};
 use ifs_host::failure::Failure;
+use ifs_host::reporting::Reports;
 use ifs_host::sessions;
+use ifs_host::standard_streams::{NULL, open_closed};
 use std::process::ExitCode;
 
 fn main(rt: HostRuntime) -> ExitCode {
+    if let Err(error) = open_closed(&rt) {
+        return Failure::of_system(NULL, error).reported(&rt);
+    }
     match read(&rt) {
         Ok(words) => ended(&rt, words.as_slice()),
         Err(unasked) => reported(&rt, unasked),
@@ -25,11 +31,29 @@ fn main(rt: HostRuntime) -> ExitCode {
 /// Does what these words ask for, and returns the exit status.
 fn ended(rt: &HostRuntime, words: &[String]) -> ExitCode {
     match asked(rt, words) {
-        Ok(Request { asked, definitions }) => match done(rt, asked, definitions.as_slice()) {
-            Ok(()) => ExitCode::SUCCESS,
-            Err(failure) => failure.reported(rt),
-        },
+        Ok(request) => status_of(rt, &request),
         Err(unasked) => reported(rt, unasked),
+    }
+}
+
+/// Does what a request asks for, and returns the exit status.
+fn status_of(rt: &HostRuntime, request: &Request<'_>) -> ExitCode {
+    let beside = Beside {
+        definitions: request.definitions.as_slice(),
+        reports: reports_of(request.reports),
+    };
+    match done(rt, request.asked, beside) {
+        Ok(()) => ExitCode::SUCCESS,
+        Err(failure) => failure.reported(rt),
+    }
+}
+
+/// The reports that the command line asks for.
+fn reports_of(reports: words::Reports) -> Reports {
+    match reports {
+        words::Reports::Text => Reports::Text,
+        words::Reports::Json => Reports::Json,
+        words::Reports::Quiet => Reports::Quiet,
     }
 }
 
@@ -43,27 +67,19 @@ fn reported(rt: &HostRuntime, unasked: Unasked) -> ExitCode {
 }
 
 /// Does what the command line asks for.
-fn done<'a>(
-    rt: &HostRuntime,
-    asked: Asked<'a>,
-    definitions: &[(&'a str, &'a str)],
-) -> Result<(), Failure<'a>> {
+fn done<'a>(rt: &HostRuntime, asked: Asked<'a>, beside: Beside<'_>) -> Result<(), Failure<'a>> {
     match asked {
         Asked::Session => sessions::by_hexadecimal(rt),
-        Asked::Check { file } => Job::reading(Task::Check, file).done(rt, definitions),
-        Asked::Compile { file, image } => Job::writing(Task::Compile, file, image).done(
-            rt,
-            definitions,
-        ),
-        Asked::Verify { image } => Job::reading(Task::Verify, image).done(rt, definitions),
-        Asked::Disasm { image } => Job::reading(Task::Disasm, image).done(rt, definitions),
-        Asked::Asm { file, image } => Job::writing(Task::Asm, file, image).done(rt, definitions),
-        Asked::Upgrade { image, upgraded } => Job::writing(Task::Upgrade, image, upgraded).done(
-            rt,
-            definitions,
-        ),
-        Asked::Graph { file } => Job::reading(Task::Graph, file).done(rt, definitions),
-        Asked::Sim { image } => sessions::on_file(rt, image),
+        Asked::Check { file } => Job::reading(Task::Check, file).done(rt, beside),
+        Asked::Compile { file, image } => Job::writing(Task::Compile, file, image).done(rt, beside),
+        Asked::Verify { image } => Job::reading(Task::Verify, image).done(rt, beside),
+        Asked::Disasm { image } => Job::reading(Task::Disasm, image).done(rt, beside),
+        Asked::Asm { file, image } => Job::writing(Task::Asm, file, image).done(rt, beside),
+        Asked::Upgrade { image, upgraded } => {
+            Job::writing(Task::Upgrade, image, upgraded).done(rt, beside)
+        }
+        Asked::Graph { file } => Job::reading(Task::Graph, file).done(rt, beside),
+        Asked::Sim { image } => sessions::on_file(rt, image, beside.reports),
         Asked::Serve(asked) => daemons::serve(rt, asked),
         Asked::Send(asked) => daemons::send(rt, asked),
         Asked::Explain(asked) => daemons::explain(rt, asked),

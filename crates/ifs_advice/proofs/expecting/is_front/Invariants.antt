@@ -1,0 +1,9 @@
+use Rattle.std.proofs.Common.{length}
+use Rattle.ifs_advice.specs.Expected.{IsFront}
+use Rattle.ifs_advice.proofs.expecting.is_front.Given as goal
+
+abbrev pub invariant-tokens : goal.invariant-tokens
+invariant-tokens l = IsFront l.left → IsFront l.tokens
+
+abbrev pub decreases-tokens : goal.decreases-tokens
+decreases-tokens l = length l.left

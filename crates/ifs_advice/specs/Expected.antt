@@ -1,0 +1,93 @@
+-- What can come behind the tokens of a text, by the grammar.
+use Rattle.std.specs.Prelude.{◌≡◌, ◌≢◌, ◌⊎◌, ℕ, List, [], ◌∷◌, ◌++◌, length, codes}
+use Rattle.std.specs.List.{AllByRecursion}
+use Rattle.ifs_base.specs.declared.span.Span.{Span}
+use Rattle.ifs_lex.specs.declared.token.Token.{Token}
+use Rattle.ifs_lex.specs.declared.token.What.{What}
+use Rattle.ifs_lex.specs.declared.token.What.TheVariants as what
+use Rattle.ifs_lex.specs.Expansion.{Endless, HasTokens}
+use Rattle.ifs_parse.specs.Files.{File}
+use Rattle.ifs_parse.specs.declared.fault.ParseFault.{ParseFault}
+use Rattle.ifs_parse.specs.Grammar.{GoesOn, IsAt, NoneGoesOn, Says, StopsAt}
+use Rattle.ifs_parse.specs.Words.{fits_period}
+use Rattle.ifs_advice.specs.declared.kind.Kind.{Kind}
+use Rattle.ifs_advice.specs.declared.kind.Kind.TheVariants as kind
+
+-- The token that is for a kind.
+abbrev pub what_of : Kind → What
+what_of kind.State = what.Word (codes "state")
+what_of kind.InitState = what.Word (codes "init-state")
+what_of kind.Init = what.Word (codes "init")
+what_of kind.If = what.Word (codes "if")
+what_of kind.Run = what.Word (codes "run")
+what_of kind.SetState = what.Word (codes "set-state")
+what_of kind.Every = what.Word (codes "every")
+what_of kind.Link = what.Word (codes "link")
+what_of kind.Up = what.Word (codes "up")
+what_of kind.Down = what.Word (codes "down")
+what_of kind.Unknown = what.Word (codes "unknown")
+what_of kind.Text = what.Quoted (codes "text")
+what_of kind.Number = what.Word (codes "1")
+what_of kind.BraceOpen = what.BraceOpen
+what_of kind.BraceClose = what.BraceClose
+what_of kind.ParenOpen = what.ParenOpen
+what_of kind.ParenClose = what.ParenClose
+what_of kind.Dot = what.Dot
+what_of kind.Bang = what.Bang
+what_of kind.And = what.And
+what_of kind.Or = what.Or
+what_of kind.End = what.End
+
+-- The same at a place of its own.
+abbrev pub token_of : Kind → Token
+token_of k = record { what = what_of k; span = record { line = 1; start = 0; end = 0 } }
+
+-- Some tokens that begin with these say a file.
+abbrev pub CanGoOn : List Token → Type 0
+CanGoOn front = (tail : List Token) × (file : File) × Says (front ++ tail) file
+
+-- No tokens that begin with these say a file.
+abbrev pub CannotGoOn : List Token → Type 0
+CannotGoOn front = (tail : List Token) (file : File) → ¬ Says (front ++ tail) file
+
+-- Tokens stop at a token of this line.
+abbrev pub StopsOn : List Token → ℕ → Type 0
+StopsOn tokens line = (fault : ParseFault) × StopsAt tokens fault × ((l : ℕ) → IsAt fault l → line ≡ l)
+
+-- A list has a kind.
+abbrev pub HasKind : Kind → List Kind → Type 0
+HasKind k [] = ⊥
+HasKind k (first ∷ rest) = (first ≡ k) ⊎ HasKind k rest
+
+-- A list has a kind exactly if a token of that kind can come behind the tokens.
+pub record AreExpected (front : List Token) (kinds : List Kind) : Type 0 where
+  pub listed : AllByRecursion (λ k. GoesOn fits_period 32 front (token_of k)) kinds
+  pub all : (k : Kind) → GoesOn fits_period 32 front (token_of k) → HasKind k kinds
+
+-- No token has line 0.
+abbrev pub ArePlaced : List Token → Type 0
+ArePlaced [] = Unit {0}
+ArePlaced (token ∷ rest) = (token.span.line ≢ 0) × ArePlaced rest
+
+-- Tokens before the end, each with its line.
+abbrev pub IsFront : List Token → Type 0
+IsFront tokens = ArePlaced tokens × Endless tokens
+
+-- Tokens stop at the token with this number, from 0, and with this place: those before it can go on, but not with it. These
+-- kinds can be there instead.
+pub record StopsBy (tokens : List Token) (index : ℕ) (span : Span) (kinds : List Kind) : Type 0 where
+  pub front : List Token
+  pub token : Token
+  pub rest : List Token
+  pub whole : tokens ≡ front ++ token ∷ rest
+  pub number : length front ≡ index
+  pub at : token.span ≡ span
+  pub can : CanGoOn front
+  pub cannot : NoneGoesOn fits_period 32 front token
+  pub expected : AreExpected front kinds
+
+-- The tokens of a text stop there.
+pub record IsStop (text : List ℕ) (defs : List (List ℕ × List ℕ)) (index : ℕ) (span : Span) (kinds : List Kind) : Type 0 where
+  pub tokens : List Token
+  pub has : HasTokens text defs tokens
+  pub stops : StopsBy tokens index span kinds

@@ -1,0 +1,2 @@
+-- Contracts of private functions.
+pub mod Looking

@@ -1,0 +1,94 @@
+//! Reports on standard error: what is wrong with a file, or looks wrong in it.
+
+use crate::failure::Failure;
+use crate::room::Stream;
+use ifs_inspect::of_verification;
+use ifs_report::{Report, Source, json, shown};
+use ifs_verify::VerifyFault;
+use std::env::FillError;
+use std::io::{self, IsTerminal, Write};
+use std::rt::Env;
+
+/// How reports are written to standard error.
+#[derive(Clone, Copy, Debug, PartialEq, Eq)]
+pub enum Reports {
+    /// As text, with colours if the user wants them and standard error is a terminal.
+    Text,
+    /// As JSON objects, one a line.
+    Json,
+    /// Not at all.
+    Quiet,
+}
+
+impl Reports {
+    /// Writes a report on a file. A report is lost if an allocation or a write fails: the answer of the program is there
+    /// already, and stays as it is.
+    pub fn write(self, rt: &HostRuntime, report: &Report, source: Source<'_>) {
+        let text = match self {
+            Reports::Text => shown(rt.alloc(), report, source, is_coloured(rt)),
+            Reports::Json => json(rt.alloc(), report, source),
+            Reports::Quiet => return,
+        };
+        if let Ok(text) = text {
+            let _written = ReportStream { rt }.write_all(text.as_bytes());
+        }
+    }
+
+    /// Prints the line of a refused image, and then writes the report on it. If memory ran out or the line is not printed,
+    /// there is no report.
+    #[inline(never)]
+    pub fn refused<'p>(
+        self,
+        rt: &HostRuntime,
+        image: Source<'_>,
+        fault: VerifyFault,
+    ) -> Failure<'p> {
+        let failure = Failure::of_refusal(rt, fault.text());
+        if self == Reports::Quiet || fault == VerifyFault::OutOfMemory {
+            return failure;
+        }
+        if let Failure::Refused = failure
+            && let Ok(report) = of_verification(rt.alloc(), image.text, fault)
+        {
+            self.write(rt, &report, image);
+        }
+        failure
+    }
+}
+
+/// The file of an image, for reports.
+pub fn image_source<'a>(name: &'a str, image: &'a [u8]) -> Source<'a> {
+    Source {
+        name,
+        text: image,
+        definitions: &[],
+    }
+}
+
+/// Whether reports have colours: if standard error is a terminal, and the variable NO_COLOR is not set or empty.
+fn is_coloured(rt: &HostRuntime) -> bool {
+    // a value that is longer than the room is not empty
+    let mut room = [0u8; 1];
+    let is_wanted = matches!(
+        rt.var("NO_COLOR", &mut room),
+        Ok(0) | Err(FillError::NotPresent)
+    );
+    is_wanted && rt.stderr().is_terminal()
+}
+
+/// Standard error as the place of reports. A write to a file that has the greatest length of files is an error, and no signal.
+#[derive(Clone, Copy)]
+struct ReportStream<'a> {
+    rt: &'a HostRuntime,
+}
+
+impl Write for ReportStream<'_> {
+    fn write(&mut self, buf: &[u8]) -> io::Result<usize> {
+        Stream::Error.check_growth(self.rt)?;
+        self.rt.stderr().write(buf)
+    }
+
+    fn flush(&mut self) -> io::Result<()> {
+        Ok(())
+    }
+}

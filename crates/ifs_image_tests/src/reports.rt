@@ -1,0 +1,50 @@
+//! What is said of refused images and refused assembly texts.
+
+use crate::checks::same_in;
+use ifs_report::{Place, Report};
+use std::alloc::{AllocError, Global};
+use std::process::Abort;
+
+mod assembly;
+mod bytes;
+mod verification;
+
+/// A report on one line: its code, its part of the text, and its words, without the rule.
+fn line_of(alloc: Global, report: &Report) -> Result<String, AllocError> {
+    let mut line = String::from_str(alloc, report.code)?;
+    if let Place::Text(part) = report.place {
+        write!(line, " {}..{}", part.start, part.end)?;
+    }
+    write!(line, " {}", report.message)?;
+    put_expected(&mut line, report.expected.as_slice())?;
+    if let Some(hint) = &report.hint {
+        write!(line, "; hint: {hint}")?;
+    }
+    Ok(line)
+}
+
+fn put_expected(line: &mut String, expected: &[&'static str]) -> Result<(), AllocError> {
+    let mut before = "; expected ";
+    for word in expected {
+        write!(line, "{before}{word}")?;
+        before = ", ";
+    }
+    Ok(())
+}
+
+/// Asserts that a report is this line.
+fn check_line(
+    rt: &impl Abort,
+    alloc: Global,
+    report: &Report,
+    wanted: &str,
+) -> Result<(), AllocError> {
+    let line = line_of(alloc, report)?;
+    same_in(rt, wanted, line.as_str(), wanted);
+    Ok(())
+}
+
+/// Whether a report has a message and a rule.
+fn has_words(report: &Report) -> bool {
+    !report.message.is_empty() && !report.rule.is_empty()
+}

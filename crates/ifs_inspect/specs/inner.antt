@@ -1,0 +1,2 @@
+-- Definitions for the contracts of private functions.
+pub mod Lines

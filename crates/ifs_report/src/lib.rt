@@ -1,0 +1,21 @@
+//! Reports on a file: what is wrong with it, where, and what would mend it. A reader gets lines with carets, a program JSON.
+//!
+//! Contract: the line and the column of each offset. Both texts are made safely, whatever a report says: a part outside of
+//! its text is cut to the text. What they print is tested, not proved.
+#![tactic(auto)]
+
+mod cells;
+mod excerpts;
+mod lines;
+mod objects;
+mod page;
+mod places;
+mod reports;
+mod showing;
+mod spots;
+mod window;
+
+pub use objects::json;
+pub use places::position;
+pub use reports::{Label, Part, Place, Position, Report, Severity, Source};
+pub use showing::shown;

@@ -1,0 +1,10 @@
+//! Texts as they are shown to a reader, whose terminal acts on some characters.
+//!
+//! Contract: which characters these are. How they are written is tested, not proved.
+#![tactic(auto)]
+
+mod characters;
+mod escaping;
+
+pub use characters::acts_on_terminal;
+pub use escaping::{Escaped, Shown};

@@ -1,0 +1,97 @@
+//! Reports on the file of a task: what is wrong with it, or looks wrong in it.
+
+use ifs_advice::{Until, notes, refusal};
+use ifs_answer::Task;
+use ifs_asm::{AsmFault, assemble};
+use ifs_image::{ImageFault, read};
+use ifs_inspect::{of_assembly, of_image, of_verification};
+use ifs_report::Report;
+use ifs_verify::{VerifyFault, verify};
+use std::alloc::{AllocError, Global};
+use std::str::from_utf8;
+
+/// The reports on a file with these bytes, which the task accepts or refuses. They are the error of a refused file, and the
+/// notes on an accepted policy. Nothing is computed for other accepted files.
+pub fn reports_on(
+    alloc: Global,
+    task: Task,
+    input: &[u8],
+    definitions: &[(&str, &str)],
+    is_accepted: bool,
+) -> Result<Vec<Report>, AllocError> {
+    match task {
+        Task::Check | Task::Graph | Task::Compile if is_accepted => notes(
+            alloc,
+            input,
+            definitions,
+        ),
+        _ if is_accepted => Ok(Vec::new(alloc)),
+        Task::Check | Task::Graph => refusal_of(alloc, input, definitions, Until::Policy),
+        Task::Compile => refusal_of(alloc, input, definitions, Until::Image),
+        Task::Verify => verify_reports(alloc, input),
+        Task::Disasm | Task::Upgrade => read_reports(alloc, input),
+        Task::Asm => assemble_reports(alloc, input),
+    }
+}
+
+/// The report on a refused policy.
+fn refusal_of(
+    alloc: Global,
+    bytes: &[u8],
+    definitions: &[(&str, &str)],
+    until: Until,
+) -> Result<Vec<Report>, AllocError> {
+    let mut reports = Vec::new(alloc);
+    if let Some(report) = refusal(alloc, bytes, definitions, until)? {
+        reports.push(report)?;
+    }
+    Ok(reports)
+}
+
+/// The report on a refused image of `verify`.
+fn verify_reports(alloc: Global, image: &[u8]) -> Result<Vec<Report>, AllocError> {
+    match verify(alloc, image) {
+        Ok(_verified) => Ok(Vec::new(alloc)),
+        Err(VerifyFault::OutOfMemory) => Err(AllocError),
+        Err(fault) => one(alloc, of_verification(alloc, image, fault)),
+    }
+}
+
+/// The report on bytes that are no image, of `disasm` and `upgrade`.
+fn read_reports(alloc: Global, bytes: &[u8]) -> Result<Vec<Report>, AllocError> {
+    match read(alloc, bytes) {
+        Ok(_image) => Ok(Vec::new(alloc)),
+        Err(ImageFault::Memory) => Err(AllocError),
+        Err(fault) => one(alloc, of_image(alloc, bytes, fault)),
+    }
+}
+
+/// The report on a refused text of `asm`.
+fn assemble_reports(alloc: Global, bytes: &[u8]) -> Result<Vec<Report>, AllocError> {
+    match assembly_fault(alloc, bytes) {
+        None => Ok(Vec::new(alloc)),
+        Some(AsmFault::Memory) => Err(AllocError),
+        Some(fault) => one(alloc, of_assembly(alloc, bytes, fault)),
+    }
+}
+
+/// The fault of an assembly text. A line with a byte that is not UTF-8 has an unknown form.
+fn assembly_fault(alloc: Global, bytes: &[u8]) -> Option<AsmFault> {
+    match from_utf8(bytes) {
+        Ok(text) => assemble(alloc, text).err(),
+        Err(error) => {
+            let (good, _rest) = bytes.split_at(error.valid_up_to());
+            let newlines = good.iter().filter(|byte| **byte == b'\n').count();
+            Some(AsmFault::Unknown {
+                line: 1 + newlines as u64,
+            })
+        }
+    }
+}
+
+/// A list of one report.
+fn one(alloc: Global, report: Result<Report, AllocError>) -> Result<Vec<Report>, AllocError> {
+    let mut reports = Vec::new(alloc);
+    reports.push(report?)?;
+    Ok(reports)
+}
