@@ -223,7 +223,15 @@ class Gateway:
         self.daemon.stdout.close()
         self.daemon = None
 
+    def start_reader(self):
+        """What reads keepalived's FIFO, and is started again whenever it ends, as by its unit."""
+        script = os.path.join(self.pair.system, "keepalived_fifo")
+        quiet = {"stdout": subprocess.DEVNULL, "stderr": subprocess.DEVNULL}
+        if self.pair.election == "keepalived" and os.path.exists(script):
+            self.start("sh", "-c", 'while :; do "$0" "$1"; sleep 0.2; done', script, self.file("fifo"), **quiet)
+
     def start_election(self):
+        self.start_reader()
         words = self.ucarp() if self.pair.election == "ucarp" else self.keepalived()
         with open(self.election_log, "wb") as log:
             self.election = self.start(*words, stdout=log, stderr=log)
@@ -236,11 +244,10 @@ class Gateway:
         return ["ucarp", *election, f"--advskew={50 * (self.number - 1)}", *scripts]
 
     def keepalived(self):
-        fifo = os.path.join(self.pair.system, "keepalived_fifo")
         notify = os.path.join(self.pair.system, "keepalived_notify")
         # where there is no reader, keepalived starts a process for each change
-        by_fifo = os.path.exists(fifo)
-        lines = f"\tvrrp_notify_fifo {self.folder}/fifo\n\tvrrp_notify_fifo_script {fifo} root" if by_fifo else ""
+        by_fifo = os.path.exists(os.path.join(self.pair.system, "keepalived_fifo"))
+        lines = f"\tenable_script_security\n\tvrrp_notify_fifo {self.folder}/fifo" if by_fifo else ""
         given = {"fifo": lines, "notify": "" if by_fifo else f"\tnotify {notify}", "priority": 200 - 50 * self.number}
         self.write("keepalived.conf", KEEPALIVED.format(name=self.name, folder=self.folder, shared=SHARED, **given))
         pids = [f"--pid={self.file('keepalived.pid')}", f"--vrrp_pid={self.file('vrrp.pid')}"]

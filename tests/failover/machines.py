@@ -1,11 +1,15 @@
 """Machines of their own for a trial: namespaces with systemd as the first process, over a copy of this machine's files that is
-thrown away, without the kit and this repository. They share a network. Wanted are root, systemd, iproute2 and util-linux."""
+thrown away, without the kit and this repository. They share a network. Wanted are root, systemd, iproute2, util-linux and control
+groups of version 2: each machine has one of its own, so that its systemd finds the processes of its units there and no others."""
+import contextlib
 import os
 import shutil
 import signal
 import subprocess
 import tempfile
 import time
+
+from waiting import wait_for
 
 # what a machine does before systemd runs there: ROOM NAME FOLDER.., the folders being empty there
 BOOT = r"""
@@ -25,6 +29,7 @@ for folder in run tmp dev root "$@"; do
 done
 mount -t proc proc proc
 mount --rbind /sys sys
+mount -t cgroup2 cgroup2 sys/fs/cgroup
 for device in null zero full random urandom tty; do
 	touch "dev/$device"
 	mount --bind "/dev/$device" "dev/$device"
@@ -70,6 +75,15 @@ def ran(*words):
     return done.stdout
 
 
+def control_groups():
+    """Where the control groups of version 2 are."""
+    with open("/proc/mounts") as file:
+        found = [line.split()[1] for line in file if line.split()[2] == "cgroup2"]
+    if not found:
+        raise Refused("there are no control groups of version 2")
+    return found[0]
+
+
 class Machine:
     """A machine with the name and the address of its interface eth0, which hangs on a network."""
 
@@ -79,9 +93,17 @@ class Machine:
         namespaces = ("--mount", "--pid", "--fork", "--uts", "--ipc", "--cgroup", "--net", "--kill-child")
         words = ["unshare", *namespaces, "sh", "-c", BOOT, "boot", self.room, name, *hidden_folders()]
         self.log = open(os.path.join(network.room, f"{name}.log"), "w")
-        self.outside = subprocess.Popen(words, stdout=self.log, stderr=self.log, stdin=subprocess.DEVNULL)
+        self.group = os.path.join(control_groups(), os.path.basename(self.room))
+        os.mkdir(self.group)
+        streams = {"stdout": self.log, "stderr": self.log, "stdin": subprocess.DEVNULL}
+        self.outside = subprocess.Popen(words, preexec_fn=self.enter_group, **streams)
         self.process = self.first_process()
         network.plug(self, address)
+
+    def enter_group(self):
+        """The process that unshare makes a machine of is in its control group by then."""
+        with open(os.path.join(self.group, "cgroup.procs"), "w") as file:
+            file.write("0\n")
 
     def first_process(self):
         """The number of the machine's first process, once systemd answers there."""
@@ -111,11 +133,22 @@ class Machine:
             words = self.words("sh", "-c", 'cat > "$0"', os.path.join(place, os.path.basename(path)))
             subprocess.run(words, stdin=file, check=True)
 
+    def is_empty(self):
+        """Whether no process of it is left."""
+        with open(os.path.join(self.group, "cgroup.events")) as file:
+            return "populated 0" in file.read()
+
     def end(self):
         if self.outside.poll() is None:
             self.outside.send_signal(signal.SIGKILL)
             self.outside.wait()
         self.log.close()
+        with contextlib.suppress(Refused):
+            wait_for(f"the end of {self.name}", self.is_empty, 10, Refused)
+        # from within: a control group that has another one is not removed
+        for folder, _, _ in os.walk(self.group, topdown=False):
+            with contextlib.suppress(OSError):
+                os.rmdir(folder)
         shutil.rmtree(self.room, ignore_errors=True)
 
 

@@ -2,7 +2,6 @@
 import os
 import resource
 import shutil
-import signal
 import stat
 import subprocess
 import threading
@@ -182,10 +181,10 @@ MISUSED = [
     ("compile missing nowhere/image -D x", {}, undefined("x")),
     ("compile first made/image -D 1x=a", {"image": OLD}, undefined("1x=a")),
     ("asm smallest", {}, missing("asm", "<FILE> <IMAGE>", "IMAGE")),
-    ("asm smallest made/image more", {}, unexpected("asm <FILE> <IMAGE>")),
+    ("asm smallest made/image more", {}, unexpected("asm [OPTIONS] <FILE> <IMAGE>")),
     ("upgrade", {}, missing("upgrade", "<IMAGE> <OUT>", "IMAGE", "OUT")),
     ("upgrade good", {}, missing("upgrade", "<IMAGE> <OUT>", "OUT")),
-    ("upgrade good made/image more", {}, unexpected("upgrade <IMAGE> <OUT>")),
+    ("upgrade good made/image more", {}, unexpected("upgrade [OPTIONS] <IMAGE> <OUT>")),
 ]
 # policies with notes, which stand before the last line
 NOTED = [("compile binding made/image", NOTE + "ok 131 bytes\n"), ("compile none_told made/image", "ok 597 bytes\n")]
@@ -225,7 +224,7 @@ def rows():
         yield words, before, 0, f"ok {size} bytes\n", "", after
     refused = [(f"{word} {name} made/image", {}, refusal) for word, name, _, refusal in REFUSED_TEXTS]
     for words, before, refusal in refused + REFUSED:
-        yield words, before, 1, f"refused {refusal}\n", "", before
+        yield f"{words} --quiet", before, 1, f"refused {refusal}\n", "", before
     for words, before, error in MISUSED:
         yield words, before, 2, "", error, before
     for words, before, file, cause in FAILED:
@@ -270,19 +269,43 @@ def links(program):
 
 
 def cut_off():
-    """Lets the program write 50 bytes to a file and no more."""
-    signal.signal(signal.SIGXFSZ, signal.SIG_IGN)
+    """Lets the program write 50 bytes to a file and no more. The system sends a signal that ends it where it tries to."""
     resource.setrlimit(resource.RLIMIT_FSIZE, (50, 50))
 
 
 def no_room(program):
-    """Where the bytes find no room the old image stands, and nothing else."""
+    """Where the bytes find no room the old image stands, and nothing else. An output that may not grow is as a full one."""
     for words in ("compile first made/image", "asm smallest made/image", "upgrade good made/image"):
         for before in ({}, {"image": OLD}):
             make(before)
-            ran = run(program, words, stdout=subprocess.PIPE, preexec_fn=cut_off, restore_signals=False)
+            ran = run(program, words, stdout=subprocess.PIPE, preexec_fn=cut_off)
             wanted = (3, b"", b"device made/image: File too large (os error 27)\n", before)
             yield f"ifsvm {words}, on {len(before)} files without room", (*ran, made()), wanted
+    for words, told in (("disasm good", "standard output: File too large (os error 27)"), ("sim good", "S2")):
+        make({})
+        with open("requests", "wb") as file:
+            file.write(b"status\n" * 9)
+        with open("made/output", "wb") as output, open("requests", "rb") as requests:
+            ran = run(program, words, stdin=requests, stdout=output, preexec_fn=cut_off)
+        size = os.path.getsize("made/output")
+        yield f"ifsvm {words}, to a file without room", (*ran, size), (3, b"", f"device {told}\n".encode(), 50)
+
+
+def closing(descriptors):
+    return lambda: [os.close(it) for it in descriptors]
+
+
+def closed_streams(program):
+    """Where standard streams are closed an image is as ever, and what has no place is lost."""
+    runs = (("compile first made/image", 0, b"ok 113 bytes\n", b"", {"image": FIRST}),
+            ("asm seven made/image --quiet", 1, b"refused A3 line 8\n", b"", {}),
+            ("compile missing made/image", 3, b"", f"device missing: {MISSING}\n".encode(), {}))
+    for descriptors in ((0,), (1,), (2,), (0, 1), (0, 2), (1, 2), (0, 1, 2)):
+        for words, status, output, error, after in runs:
+            make({})
+            ran = run(program, words, stdin=subprocess.DEVNULL, stdout=subprocess.PIPE, preexec_fn=closing(descriptors))
+            wanted = (status, b"" if 1 in descriptors else output, b"" if 2 in descriptors else error, after)
+            yield f"ifsvm {words}, without the streams {descriptors}", (*ran, made()), wanted
 
 
 def streams(program):
@@ -335,7 +358,7 @@ def there_and_back(program):
     ):
         make({})
         run(program, words, stdout=subprocess.PIPE)
-        verified = run(program, "verify made/image", stdout=subprocess.PIPE)
+        verified = run(program, "verify made/image --quiet", stdout=subprocess.PIPE)
         yield f"ifsvm {words}, verified", verified[1:], (told.encode(), b"")
         with open("made/text", "wb") as text:
             shown = run(program, "disasm made/image", stdout=text)
@@ -348,5 +371,5 @@ def there_and_back(program):
 
 def answers(program):
     """Each run's name, what it gave, and what it has to give."""
-    for runs in (table, modes, links, no_room, streams, starved, there_and_back):
+    for runs in (table, modes, links, no_room, closed_streams, streams, starved, there_and_back):
         yield from runs(program)

@@ -172,6 +172,22 @@ def read_all(client):
     return b"".join(parts)
 
 
+def asks_without_end(client):
+    """Asks for traces as fast as they go out, and reads the replies, until the connection ends."""
+
+    def ask():
+        with contextlib.suppress(OSError):
+            while True:
+                client.sendall(b"trace\n" * 1_000)
+
+    def read():
+        with contextlib.suppress(OSError):
+            read_all(client)
+
+    for target in (ask, read):
+        threading.Thread(target=target, daemon=True).start()
+
+
 def send(program, path, *words):
     """What send does with these words, options and then the request."""
     *options, request = words

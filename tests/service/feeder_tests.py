@@ -22,9 +22,37 @@ state a { if slow.link.up set-state b if carp0.link.up { } }
 state b { init run "sleep 5" if carp0.link.up { } }
 """
 
+# the interfaces 3 and 4 exchange their names, and the former name of 2 is a further name of it
+RENAMED = """\
+#!/bin/sh
+end='<BROADCAST,MULTICAST,UP,LOWER_UP> mtu 1500 qdisc fq state'
+case $* in
+"-o monitor link")
+	sleep 1.5
+	printf '%s\\n' "2: em8: $end UP" "3: em7: $end DOWN" "4: em1: $end UP" "3: em2: $end DOWN" "5: tun0: $end UP"
+	exec sleep 60 ;;
+"-o link show") printf '%s\\n' "2: em0: $end UP" "3: em1: $end UP" "4: em2: $end UP" ;;
+"-o link show dev em0") echo "2: em8: $end UP" ;;
+"-o link show dev em1") echo "4: em1: $end UP" ;;
+"-o link show dev em2") echo "3: em2: $end DOWN" ;;
+*) exit 1 ;;
+esac
+"""
+
+SYSTEMCTL = """\
+#!/bin/sh
+printf '%s\\n' "$*" >> "${0%/*}/../asked"
+"""
+
+# it does not end while the log is full, for half a minute at most
 LOGGER = """\
 #!/bin/sh
 printf '%s\\n' "$*" >> "${0%/*}/../logged"
+waits=300
+while [ -e "${0%/*}/../full" ] && [ "$waits" -gt 0 ]; do
+	sleep 0.1
+	waits=$((waits - 1))
+done
 """
 
 IP = """\
@@ -58,12 +86,12 @@ def heed_signals():
 class Feeders:
     """The scripts beside a daemon, with words of their own on their path."""
 
-    def __init__(self, daemon):
+    def __init__(self, daemon, ip=IP):
         self.daemon = daemon
         words = daemon.file("words")
         os.mkdir(words)
         os.symlink(daemon.program, os.path.join(words, "ifsvm"))
-        for name, text in (("logger", LOGGER), ("ip", IP)):
+        for name, text in (("logger", LOGGER), ("ip", ip), ("systemctl", SYSTEMCTL)):
             with open(os.path.join(words, name), "w") as file:
                 file.write(text)
             os.chmod(file.name, 0o755)
@@ -89,6 +117,17 @@ class Feeders:
             for stream in filter(None, (process.stdout, process.stderr)):
                 stream.close()
 
+    @contextlib.contextmanager
+    def reading(self, *words):
+        """keepalived_fifo with these words; at the end all of it is killed, as systemd does after a kill."""
+        process = self.start("keepalived_fifo", *words, start_new_session=True)
+        try:
+            yield process
+        finally:
+            with contextlib.suppress(ProcessLookupError):
+                os.killpg(process.pid, signal.SIGKILL)
+            process.wait()
+
     def call(self, *script):
         """The seconds that a script takes, which has to end with status 0."""
         start = time.monotonic()
@@ -101,8 +140,31 @@ class Feeders:
         """The links that the daemon was told, in order."""
         return re.findall(r"^link (\d) (\w+) ->", self.daemon.send("trace"), re.M)
 
+    def carp(self):
+        """The states of carp0 that the daemon was told, in order."""
+        return [to for number, to in self.links() if number == "0"]
+
     def logged(self):
-        with contextlib.suppress(FileNotFoundError), open(self.daemon.file("logged")) as file:
+        return self.lines_of("logged")
+
+    def noted(self, count):
+        """What was logged, once it is as much as that: no script waits until it is."""
+        until(f"{count} notes", lambda: len(self.logged()) >= count)
+        same("how much was logged", len(self.logged()), count)
+        return self.logged()
+
+    @contextlib.contextmanager
+    def full_log(self):
+        """From here on nobody reads the log, so what logs has to wait."""
+        with open(self.daemon.file("full"), "w"):
+            pass
+        try:
+            yield
+        finally:
+            os.remove(self.daemon.file("full"))
+
+    def lines_of(self, name):
+        with contextlib.suppress(FileNotFoundError), open(self.daemon.file(name)) as file:
             return file.read().splitlines()
         return []
 
@@ -134,10 +196,27 @@ class Feeders:
         same("first line of a new start", daemon.process.stdout.readline(), b"ready\n")
 
 
+class Keepalived:
+    """The FIFO as keepalived has it: open for reading too, so what is written while nobody reads waits there."""
+
+    def __init__(self, path):
+        self.path = path
+        with contextlib.suppress(FileExistsError):
+            os.mkfifo(path)
+        self.fifo = os.open(path, os.O_RDWR | os.O_NONBLOCK)
+
+    def says(self, *states):
+        for state in states:
+            os.write(self.fifo, f'INSTANCE "carp0" {state} 100\n'.encode())
+
+    def closes(self):
+        os.close(self.fifo)
+
+
 @contextlib.contextmanager
-def feeders(program, policy=POLICY):
+def feeders(program, policy=POLICY, ip=IP):
     with Daemon(program, policy) as daemon:
-        yield Feeders(daemon)
+        yield Feeders(daemon, ip)
 
 
 def test_ucarp_scripts(program):
@@ -145,6 +224,7 @@ def test_ucarp_scripts(program):
         for state, to in (("up", "up"), ("down", "down"), ("up", "up")):
             those.call(f"ucarp_{state}", "em0", "203.0.113.1", "carp0")
             same("the last link of ucarp's scripts", those.links()[-1:], [("0", to)])
+        until("the end of all tellers", lambda: not those.processes())
         same("what is odd in that", those.logged(), [])
 
 
@@ -153,13 +233,13 @@ def test_kept_while_the_daemon_is_away(program):
         those.call("ucarp_down", "em0", "203.0.113.1", "carp0")
         those.kill_daemon()
         those.call("ucarp_up", "em0", "203.0.113.1", "carp0")
-        same("notes while the daemon is away", len(those.logged()), 1)
-        holds(f"what they say: {those.logged()}", "link carp0 up: status 3 " in those.logged()[0])
+        holds(f"what is noted meanwhile: {those.noted(1)}", "link carp0 up: status 3 " in those.logged()[0])
         those.call("tell_link", "no interface", "down")
+        those.noted(2)
         those.start_daemon()
         those.call("tell_link", "--kept")
         same("links that the new daemon knows", those.links(), [("0", "up")])
-        same("a name that the policy lacks", those.logged()[2:], ["-t ifsvm -- link no interface down: status 1 fault C4"])
+        same("a name that the policy lacks", those.noted(3)[2], "-t ifsvm -- link no interface down: status 1 fault C4")
         those.call("tell_link", "--kept")
         same("told twice", those.links(), [("0", "up")] * 2)
 
@@ -184,7 +264,7 @@ def test_names_that_are_kept(program):
             those.call("tell_link", name, "up")
         wanted = [(number, "up") for number in "056"]
         same("links of odd names", those.links(), wanted)
-        same("names that are not kept", sum("no request can hold" in line for line in those.logged()), 4)
+        until("notes of the names that are not kept", lambda: sum("no request can hold" in line for line in those.logged()) == 4)
         those.kill_daemon()
         those.start_daemon()
         those.call("tell_link", "--kept")
@@ -259,6 +339,97 @@ def test_keepalived_fifo(program):
         same("what is odd in that", those.logged(), [])
 
 
+def test_keepalived_reader_that_is_killed(program):
+    """The next one tells what keepalived has by then, and nothing of what came and went meanwhile."""
+    with feeders(program) as those:
+        keepalived = Keepalived(those.daemon.file("fifo"))
+        with those.reading(keepalived.path):
+            keepalived.says("BACKUP", "MASTER")
+            until("the master", lambda: those.carp() == ["down", "up"])
+        with those.reading(keepalived.path):
+            until("what the second reader tells", lambda: len(those.carp()) > 2)
+            time.sleep(0.5)
+        keepalived.says("BACKUP", "MASTER", "BACKUP")
+        time.sleep(0.5)
+        same("links of carp0 without a reader", those.carp(), ["down", "up", "up"])
+        with those.reading(keepalived.path):
+            until("what the third reader tells", lambda: len(those.carp()) > 3)
+            keepalived.says("FAULT")
+            until("what is told next", lambda: len(those.carp()) > 4)
+        same("links of carp0", those.carp(), ["down", "up", "up", "down", "unknown"])
+        keepalived.closes()
+
+
+def closed_as_master(those):
+    """A keepalived that closed the FIFO as master; its reader has ended."""
+    keepalived = Keepalived(those.daemon.file("fifo"))
+    with those.reading(keepalived.path) as reader:
+        keepalived.says("MASTER")
+        until("the master", lambda: those.carp() == ["up"])
+        keepalived.closes()
+        same("status of a reader without keepalived", reader.wait(SOON), 0)
+    return keepalived
+
+
+def test_keepalived_that_ends(program):
+    """Nothing is told at once, as it may only reload; after 5 seconds its links are unknown."""
+    with feeders(program) as those:
+        keepalived = closed_as_master(those)
+        start = time.monotonic()
+        with those.reading(keepalived.path):
+            until("the end of keepalived", lambda: those.carp() == ["up", "unknown"])
+            taken = time.monotonic() - start
+            holds(f"it was told after {taken:.1f} s", 5 <= taken < 8)
+            again = Keepalived(keepalived.path)
+            again.says("BACKUP")
+            until("keepalived again", lambda: those.carp()[2:] == ["down"])
+            again.closes()
+
+
+def test_keepalived_that_reloads(program):
+    """It closes the FIFO for a moment and says nothing new: no link changes."""
+    with feeders(program) as those:
+        keepalived = closed_as_master(those)
+        with those.reading(keepalived.path):
+            time.sleep(1)
+            again = Keepalived(keepalived.path)
+            time.sleep(6)
+            same("links of carp0", set(those.carp()), {"up"})
+            again.closes()
+
+
+def test_keepalived_reader_that_stays_away(program):
+    """After 5 seconds its links are unknown; a reader that comes back tells what keepalived has by then."""
+    with feeders(program) as those:
+        keepalived = Keepalived(those.daemon.file("fifo"))
+        with those.reading("--guard", keepalived.path):
+            with those.reading(keepalived.path):
+                keepalived.says("MASTER")
+                until("the master", lambda: those.carp() == ["up"])
+                time.sleep(6)
+                same("links of carp0 with a reader", those.carp(), ["up"])
+            start = time.monotonic()
+            until("the loss of the reader", lambda: those.carp() == ["up", "unknown"])
+            taken = time.monotonic() - start
+            holds(f"it was told after {taken:.1f} s", 5 <= taken < 8)
+            with those.reading(keepalived.path):
+                until("the reader again", lambda: those.carp() == ["up", "unknown", "up"])
+        keepalived.closes()
+
+
+def test_lost_socket(program):
+    """The daemon's unit is started again if its socket is gone, and else left alone."""
+    with feeders(program) as those:
+        those.call("lost_socket")
+        same("what systemd is asked while the socket is there", those.lines_of("asked"), [])
+        os.remove(those.daemon.socket)
+        those.call("lost_socket")
+        units = "ifsvm ifsvm-keepalived ifsvm-keepalived-guard"
+        wanted = ["is-active --quiet ifsvm", f"--job-mode=fail --no-block try-restart {units}"]
+        same("what systemd is asked then", those.lines_of("asked"), wanted)
+        those.noted(1)
+
+
 def test_watch_links(program):
     with feeders(program) as those, those.running("watch_links", stdout=subprocess.PIPE, text=True) as watch:
         known = {"1": "up", "2": "down", "3": "unknown", "4": "up"}
@@ -267,6 +438,13 @@ def test_watch_links(program):
         told = [watch.stdout.readline().split(": ")[0] for _ in range(13)]
         same("what watch_links told", told, shown * 2 + ["link em1 down", "link em2 unknown", "link em0 up"])
         same("interfaces that the policy lacks are odd", those.logged(), [])
+
+
+def test_watch_links_of_renamed_interfaces(program):
+    with feeders(program, ip=RENAMED) as those, those.running("watch_links", stdout=subprocess.DEVNULL):
+        known = {"1": "unknown", "2": "up", "3": "down", "4": "up"}
+        until(f"what the daemon is to know, {known}", lambda: dict(those.links()) == known)
+        same("what is odd in that", those.logged(), [])
 
 
 def test_watch_links_ends_with_the_daemon(program):
@@ -346,9 +524,9 @@ def test_ticks(program):
         daemon.send(f"tick {moment() + 3}")
         ticks = those.start("ticks", stdout=subprocess.DEVNULL, stderr=subprocess.DEVNULL)
         until("two ticks after those that went backwards", lambda: daemon.send("trace").count("\ntick ") >= 2)
-        same("notes of a moment that was too late", [line.split(": ")[1] for line in those.logged()], ["backwards"])
+        same("notes of a moment that was too late", [line.split(": ")[1] for line in those.noted(1)], ["backwards"])
         daemon.send(f"tick {moment() + 3}")
-        until("a note of the next one", lambda: len(those.logged()) == 2)
+        those.noted(2)
         daemon.stop()
         same("the end of ticks without a daemon", ticks.wait(SOON), 0)
         same("notes", [line.split(": ")[1] for line in those.logged()], ["backwards"] * 2)

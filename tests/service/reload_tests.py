@@ -53,6 +53,22 @@ def test_reload_takes_over(program):
         same("notes of the images", taken, [f'image taken over in state "{it}"' for it in ("x", "a", "none", "a")])
 
 
+# why files cannot be read, in notes
+MISSING = "No such file or directory (os error 2)"
+NOT_REGULAR = "not a regular file"
+
+
+def check_refusals(daemon, wanted):
+    """The notes of refused reloads have the line of the reply, and then say why: in these words, or in some of the image's."""
+    notes = [note for level, note in daemon.changes() if level == "WARN"]
+    same("how many reloads are noted as refused", len(notes), len(wanted))
+    for note, (line, why) in zip(notes, wanted):
+        begins = f"image refused: {line}: "
+        holds(f"the note {note!r} does not begin with {begins!r}", note.startswith(begins))
+        said = note.removeprefix(begins)
+        holds(f"the note {note!r} does not say {why or 'why'!r}", said == why if why else said != "")
+
+
 def test_reload_that_is_refused(program):
     """The core goes on as it was, its waiting tests too."""
     with Daemon(program, testing(["sleep 1"])) as daemon:
@@ -62,52 +78,52 @@ def test_reload_that_is_refused(program):
         before = daemon.send("status")
         refused = []
 
-        def refuses(what, line):
+        def refuses(what, line, why=None):
             began = time.monotonic()
             same(what, daemon.send("reload"), f"refused {line}\n")
             holds(f"{what}: it took long", time.monotonic() - began < SOON)
             same(f"status after {what}", daemon.send("status").replace("running 0", "running 1"), before)
-            refused.append(("WARN", f"image refused: {line}"))
+            refused.append((line, why))
 
         def put(content):
             with open(daemon.image, "wb") as file:
                 file.write(content)
 
-        for what, content, line in (
-            ("another magic", b"IFSX", "I2 byte 0"),
-            ("an empty file", b"", "I1 byte 0"),
-            ("a cut image", good[:-1], f"I1 byte {len(good) - 4}"),
-            ("a byte more", good + b"\0", f"I7 byte {len(good)}"),
-            ("a budget too low", good[:9] + bytes(3) + b"\1" + good[13:], "V12 head"),
-            ("16,777,216 bytes", b"IFSX" + bytes(LIMIT - 4), "I2 byte 0"),
-            ("16,777,217 bytes", bytes(LIMIT + 1), "L2"),
+        for what, content, line, why in (
+            ("another magic", b"IFSX", "I2 byte 0", None),
+            ("an empty file", b"", "I1 byte 0", None),
+            ("a cut image", good[:-1], f"I1 byte {len(good) - 4}", None),
+            ("a byte more", good + b"\0", f"I7 byte {len(good)}", None),
+            ("a budget too low", good[:9] + bytes(3) + b"\1" + good[13:], "V12 head", None),
+            ("16,777,216 bytes", b"IFSX" + bytes(LIMIT - 4), "I2 byte 0", None),
+            ("16,777,217 bytes", bytes(LIMIT + 1), "L2", "too large"),
         ):
             put(content)
-            refuses(what, line)
+            refuses(what, line, why)
         os.remove(daemon.image)
-        refuses("no file", "L2")
+        refuses("no file", "L2", MISSING)
         os.mkdir(daemon.image)
-        refuses("a folder", "L2")
+        refuses("a folder", "L2", NOT_REGULAR)
         os.rmdir(daemon.image)
         os.mkfifo(daemon.image)
-        refuses("a pipe that nobody writes", "L2")
+        refuses("a pipe that nobody writes", "L2", NOT_REGULAR)
         with open(os.open(daemon.image, os.O_RDWR), "wb", buffering=0) as writer:
             writer.write(good)
-            refuses("a pipe that never ends", "L2")
+            refuses("a pipe that never ends", "L2", NOT_REGULAR)
         os.remove(daemon.image)
         os.symlink("/dev/zero", daemon.image)
-        refuses("a device that never ends", "L2")
+        refuses("a device that never ends", "L2", NOT_REGULAR)
         os.remove(daemon.image)
         os.symlink("nowhere", daemon.image)
-        refuses("a link that leads nowhere", "L2")
+        refuses("a link that leads nowhere", "L2", MISSING)
         os.remove(daemon.image)
         same("send --check of a refused reload", send(program, daemon.socket, "--check", "reload").returncode, 1)
-        refused.append(("WARN", "image refused: L2"))
+        refused.append(("L2", MISSING))
         until("the test's end", lambda: ("0", "1", "ok") in results(daemon.send("trace")))
         put(good)
         same("the image again", daemon.send("reload"), 'reloaded "a" queue 0\n')
         daemon.stop()
-        same("notes", [it for it in daemon.changes() if it[0] == "WARN"], refused)
+        check_refusals(daemon, refused)
 
 
 def test_refused_images_are_not_kept(program):
@@ -129,21 +145,24 @@ def test_refused_images_are_not_kept(program):
 
 
 def test_refusal_is_told_at_once(program):
-    """The line of a refused reload goes out before the next note, for which standard error has no room here."""
+    """The line of a refused reload goes out, and the connection ends, though standard error has no room for notes."""
     reader, writer = os.pipe()
     with open(reader, "rb", buffering=0) as notes, Daemon(program, PLAIN, stderr=writer) as daemon, daemon.connect() as client:
-        room_of_notes = fcntl.fcntl(writer, fcntl.F_SETPIPE_SZ, 4_096)
-        first = b"[WARN  ifsvm] image refused: L2\n"
-        os.write(writer, bytes(room_of_notes - len(first)))
+        room_of_notes = fcntl.fcntl(writer, fcntl.F_SETPIPE_SZ, 8_192)
+        os.write(writer, bytes(room_of_notes))
         os.close(writer)
         os.remove(daemon.image)
         client.settimeout(SOON)
         client.sendall(b"reload\n")
-        same("line", client.recv(65_536), b"refused L2\n")
-        same("notes", notes.read(room_of_notes).lstrip(b"\0"), first)
-        same("what is told after it", read_all(client), b"")
+        same("what is told", read_all(client), b"refused L2\n")
+        with daemon.connect() as second:
+            # who is answered comes after both notes of the first connection
+            second.sendall(b"status\n")
+            second.recv(65_536)
+            same("notes", notes.read(room_of_notes).strip(b"\0"), b"")
         daemon.stop()
-        same("later notes", notes.read(room_of_notes), b"[INFO  ifsvm] reload\n[INFO  ifsvm] stop\n")
+        told = b"[WARN  ifsvm] 2 notes dropped: no room on standard error\n[INFO  ifsvm] closed\n[INFO  ifsvm] stop\n"
+        same("later notes", notes.read(), told)
 
 
 def test_reload_while_tests_run(program):
@@ -214,10 +233,23 @@ def test_commands_of_the_opening(program):
             holds("the reply came after the commands", time.monotonic() - began < 0.9 and not os.path.exists(log))
             same("what is told", told, b'status "a" owed yes queue 0 running 0 now 0\nreloaded "a" queue 2\n')
             same("what is told after it", read_all(client), b"")
+            holds("the connection was closed after the commands", not os.path.exists(log))
         same("status", daemon.send("status"), 'status "a" owed yes queue 0 running 0 now 0\n')
         with open(log) as file:
             same("order of commands", file.read(), "1\n2\n")
         daemon.stop()
+
+
+def test_send_of_a_reload_waits_for_no_command(program):
+    """It has its reply and the end of the connection while the first command of the opening runs."""
+    with Daemon(program, PLAIN) as daemon:
+        daemon.compile(commanding(["sleep 4"], []))
+        began = time.monotonic()
+        ran = send(program, daemon.socket, "--check", "--wait", "2", "reload")
+        same("send --wait", (ran.returncode, ran.stdout, ran.stderr), (0, b'reloaded "a" queue 1\n', b""))
+        holds("the command was not running", time.monotonic() - began < 2 and daemon.children())
+        daemon.stop()
+        same("notes", daemon.ends(), ["reload", "stop"])
 
 
 def test_reload_of_a_client_that_is_gone(program):
@@ -249,8 +281,11 @@ def test_most_reloads(program):
             daemon.compile(policy)
             same(f"reload {number}", daemon.send("reload"), 'reloaded "a" queue 0\n')
             if number == 0:
+                # whoever is answered comes after the connection of the reload has ended
+                daemon.send("status")
                 descriptors, memory = daemon.descriptors(), daemon.memory()
             size += os.path.getsize(daemon.image)
+        daemon.send("status")
         same("descriptors", daemon.descriptors(), descriptors)
         # the arena takes its pieces twice as large as the one before
         least = 64 + 2 * size // 1024
@@ -263,7 +298,7 @@ def test_most_reloads(program):
         same("it is refused before the file is read", daemon.send("reload"), "refused L3\n")
         same("status", daemon.send("status"), before)
         daemon.stop()
-        same("warnings", [note for level, note in daemon.changes() if level == "WARN"], ["image refused: L3"] * 2)
+        check_refusals(daemon, [("L3", "there were 64 reloads since the start")] * 2)
 
 
 def test_image_replaced_while_it_is_read(program):

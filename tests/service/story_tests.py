@@ -3,7 +3,7 @@ import os
 import re
 import subprocess
 
-from daemons import SOON, Daemon, answered, same, until
+from daemons import SOON, Daemon, answered, holds, same, until
 
 POLICY = """\
 state backup { init { run "true" } if carp0.link.up && "true" every 5 set-state master }
@@ -92,7 +92,9 @@ def test_nothing_to_explain(program):
     with Daemon(program, POLICY) as daemon:
         with open(daemon.file("bad"), "wb") as file:
             file.write(b"IFSX")
-        same("no image", explain(program, daemon.file("bad"), daemon.socket), (1, "refused I2 byte 0\n", ""))
+        status, told, error = explain(program, daemon.file("bad"), daemon.socket)
+        same("no image", (status, told), (1, "refused I2 byte 0\n"))
+        holds("no report of the image", error.startswith(f"{daemon.file('bad')}: error: "))
         missing = f"device {daemon.file('none')}: No such file or directory (os error 2)\n"
         same("no file", explain(program, daemon.file("none"), daemon.socket), (3, "", missing))
         same("no daemon", explain(program, daemon.image, daemon.file("none")), (3, "", missing))

@@ -1,0 +1,200 @@
+"""Runs of a built program whose reports go to standard error: what is there, in which form, and that nothing else changes."""
+import contextlib
+import json
+import os
+import pty
+import re
+import resource
+import subprocess
+
+# a refused and an accepted file of each word that has the flags; what is written goes to /dev/null
+FILES = (
+    ("check twice", "check outside"),
+    ("check bytes", "check binding"),
+    ("compile twice /dev/null", "compile first /dev/null"),
+    ("compile one_over /dev/null", "compile none_told /dev/null"),
+    ("graph twice", "graph outside"),
+    ("asm seven /dev/null", "asm smallest /dev/null"),
+    ("asm bytes /dev/null", "asm loose /dev/null"),
+    ("verify cheap", "verify good"),
+    ("verify empty", "verify good"),
+    ("disasm empty", "disasm cheap"),
+    ("upgrade empty /dev/null", "upgrade good /dev/null"),
+    ("sim cheap", "sim good"),
+    ("sim empty", "sim good"),
+)
+# words whose file is standard input, if it is `-`
+OF_INPUT = ("check", "compile", "graph", "asm", "verify", "disasm", "upgrade")
+ESCAPE = b"\x1b"
+TRY = "\n\nFor more information, try '--help'.\n"
+
+
+def run(program, words, given=b"", environment=None, **streams):
+    """The status of a run, and the bytes of its output and error."""
+    streams = {"stdout": subprocess.PIPE, "stderr": subprocess.PIPE, **streams}
+    words = ["ifsvm", *words.split()]
+    ran = subprocess.run(words, executable=program, input=given, env=environment or {}, timeout=120, **streams)
+    return ran.returncode, ran.stdout, ran.stderr
+
+
+def file_of(words):
+    return words.split()[1]
+
+
+def flagged(words, flag):
+    return f"{words} {flag}"
+
+
+def is_text(error, name):
+    """Whether an error is a report on a file as text: its name, a place if there is one, and what is wrong."""
+    return re.match(rf"{re.escape(name)}(:\d+:\d+)?: error: \S.*\n", error.decode()) is not None and error.endswith(b"\n")
+
+
+def objects(error):
+    """The objects of reports in JSON, one a line."""
+    with contextlib.suppress(ValueError):
+        found = [json.loads(line) for line in error.decode().splitlines()]
+        if error.endswith(b"\n") and all(isinstance(it, dict) for it in found):
+            return found
+    return f"no objects: {error!r}"
+
+
+def refusal(output):
+    """The code of a refused file, by standard output."""
+    return output.decode().split()[1]
+
+
+def said(found):
+    """The file, severity and code of each object that has a message."""
+    if not isinstance(found, list):
+        return found
+    return [(it.get("file"), it.get("severity"), it.get("code")) for it in found if it.get("message")]
+
+
+def forms(program):
+    """Each form of the report on a refused file; on an accepted one there is none. Status and standard output stay the same."""
+    for refused, accepted in FILES:
+        status, output, error = run(program, refused)
+        yield f"ifsvm {refused}: its report", (status, is_text(error, file_of(refused)), ESCAPE in error), (1, True, False)
+        quiet = run(program, flagged(refused, "--quiet"))
+        yield f"ifsvm {refused} --quiet", quiet, (status, output, b"")
+        *answer, error = run(program, flagged(refused, "--json"))
+        wanted = (status, output), [(file_of(refused), "error", refusal(output))], False
+        yield f"ifsvm {refused} --json", (tuple(answer), said(objects(error)), ESCAPE in error), wanted
+        status, output, error = run(program, accepted)
+        yield f"ifsvm {accepted}: its reports", (status, error), (0, b"")
+        for flag in ("--quiet", "--json"):
+            yield f"ifsvm {accepted} {flag}", run(program, flagged(accepted, flag)), (status, output, b"")
+
+
+def explained(program):
+    """`explain` has the report as text."""
+    status, output, error = run(program, "explain cheap missing")
+    yield "ifsvm explain cheap missing", (status, output, is_text(error, "cheap")), (1, b"refused V12 head\n", True)
+
+
+def exclusive(program):
+    """The flags exclude each other, and other words have none of them."""
+    for words in ("check", "verify", "sim"):
+        usage = f"Usage: ifsvm {words} --quiet <{'FILE' if words == 'check' else 'IMAGE'}>"
+        told = f"error: the argument '--quiet' cannot be used with '--json'\n\n{usage}{TRY}"
+        yield f"ifsvm {words} with both flags", run(program, f"{words} good --quiet --json"), (2, b"", told.encode())
+    for words in ("serve good nowhere --quiet", "explain good nowhere --json", "send nowhere status --quiet"):
+        status, output, error = run(program, words)
+        yield f"ifsvm {words}", (status, output, b"unexpected argument" in error), (2, b"", True)
+
+
+def from_input(program):
+    """Standard input is read as the file would be, and the report has its name."""
+    for refused, accepted in FILES:
+        for words in (refused, accepted):
+            word, name, *rest = words.split()
+            if word not in OF_INPUT:
+                continue
+            with open(name, "rb") as file:
+                given = file.read()
+            there, here = run(program, words), run(program, " ".join([word, "-", *rest]), given)
+            yield f"ifsvm {word} - of {name}", here[:2], there[:2]
+            is_named = is_text(here[2], "standard input") if there[0] else here[2] == b""
+            yield f"ifsvm {word} - of {name}: its report", is_named, True
+    yield "ifsvm sim -", run(program, "sim -"), (3, b"", b"device -: No such file or directory (os error 2)\n")
+    too_large = b"device standard input: too large\n"
+    for word in ("check", "verify"):
+        yield f"ifsvm {word} - of too much", run(program, f"{word} -", bytes(16_777_217)), (3, b"", too_large)
+    folder = os.open("folder", os.O_RDONLY)
+    ran = subprocess.run(["ifsvm", "check", "-"], executable=program, stdin=folder, capture_output=True, env={}, timeout=120)
+    os.close(folder)
+    told = b"device standard input: Is a directory (os error 21)\n"
+    yield "ifsvm check - < folder", (ran.returncode, ran.stdout, ran.stderr), (3, b"", told)
+    with open("-", "wb") as file:
+        file.write(b"state a { }\n")
+    yield "ifsvm check ./-", run(program, "check ./-"), (0, b"ok 0 interfaces 0 tests 0 commands 1 states\n", b"")
+    os.remove("-")
+
+
+def to_terminal(program, words, environment):
+    """The status and output of a run whose standard error is a terminal, and what the terminal got."""
+    terminal, end = pty.openpty()
+    status, output, _ = run(program, words, environment=environment, stderr=end)
+    os.close(end)
+    parts = []
+    # the end of a terminal that nobody holds is an error
+    with contextlib.suppress(OSError):
+        while part := os.read(terminal, 65_536):
+            parts.append(part)
+    os.close(terminal)
+    return status, output, b"".join(parts)
+
+
+def colours(program):
+    """Colours go to a terminal alone, and only if NO_COLOR is empty or not set."""
+    for refused, accepted in FILES:
+        status, output, _ = run(program, refused)
+        for environment, flag, wanted in (
+            ({}, "", True),
+            ({"NO_COLOR": ""}, "", True),
+            ({"NO_COLOR": "1"}, "", False),
+            ({"NO_COLOR": "no"}, "", False),
+            ({}, "--json", False),
+        ):
+            *answer, told = to_terminal(program, flagged(refused, flag), environment)
+            name = f"ifsvm {refused} {flag} at a terminal with {environment}"
+            yield name, (answer, told != b"", ESCAPE in told), ([status, output], True, wanted)
+        told = to_terminal(program, flagged(refused, "--quiet"), {})
+        yield f"ifsvm {refused} --quiet at a terminal", told, (status, output, b"")
+        told = to_terminal(program, accepted, {})
+        yield f"ifsvm {accepted} at a terminal", told, (*run(program, accepted)[:2], b"")
+
+
+def cut_off():
+    """Lets the program write 50 bytes to a file and no more. The system sends a signal that ends it where it tries to."""
+    resource.setrlimit(resource.RLIMIT_FSIZE, (50, 50))
+
+
+def closed():
+    os.close(2)
+
+
+def nowhere(program):
+    """Where standard error takes nothing the status and standard output are the same."""
+    for refused, _ in FILES:
+        status, output, _ = run(program, refused)
+        with open("/dev/full", "wb") as full:
+            yield f"ifsvm {refused} 2> /dev/full", run(program, refused, stderr=full)[:2], (status, output)
+        yield f"ifsvm {refused} 2>&-", run(program, refused, preexec_fn=closed)[:2], (status, output)
+        reader, writer = os.pipe()
+        os.close(reader)
+        yield f"ifsvm {refused}, with an error that nobody reads", run(program, refused, stderr=writer)[:2], (status, output)
+        os.close(writer)
+        with open("told", "wb") as file:
+            file.write(b"x" * 40)
+            file.flush()
+            ran = run(program, refused, stderr=file, preexec_fn=cut_off)
+        yield f"ifsvm {refused}, with an error that may not grow", (*ran[:2], os.path.getsize("told")), (status, output, 50)
+    os.remove("told")
+
+
+def answers(program):
+    """Each run's name, what it gave, and what it has to give."""
+    for runs in (forms, explained, exclusive, from_input, colours, nowhere):
+        yield from runs(program)
