@@ -1,22 +1,25 @@
 //! The reports on a policy.
 
-ghost use Rattle.std.specs.Prelude.{IfOk, IfSome};
+ghost use Rattle.std.specs.Prelude.{◌≡◌, ◌≢◌, IfOk, IfSome, None};
 ghost use Rattle.std.specs.Str.{IsUtf8};
-ghost use Rattle.ifs_advice.specs.Places.{IsPlaced};
+ghost use Rattle.ifs_lex.specs.Expansion.{defined_by};
+ghost use Rattle.ifs_gen.specs.Compiled.{IsCompileRefusal};
+ghost use Rattle.ifs_gen.specs.FaultWords.{compile_fault_words};
+ghost use Rattle.ifs_place.specs.Places.{IsPlaced};
+ghost use Rattle.ifs_report.specs.Codes.{first_word};
+ghost use Rattle.ifs_advice.specs.Refusals.{IsAccepted, IsReportOn, line_of_fault};
 
 use crate::code::no_image;
+use crate::faults::{code_of, line_of};
 use crate::grammar::no_tree;
-use crate::lexemes::{MOST_BYTES, lexemes_of};
 use crate::names::no_policy;
 use crate::noting::notes_of;
-use crate::placing::placed;
 use crate::reading::Policy;
 use crate::texts::{no_text, no_tokens};
 use ifs_gen::{CompileFault, CompiledText, compile_with_notes};
-use ifs_lex::LexFault;
-use ifs_parse::ParseFault;
-use ifs_policy::{PolicyFault, PolicyText, ResolveFault, policy_of};
-use ifs_report::{Place, Report};
+use ifs_place::placed;
+use ifs_policy::{PolicyFault, PolicyText, policy_of};
+use ifs_report::Report;
 use std::alloc::{AllocError, Global};
 use std::str::from_utf8;
 
@@ -36,12 +39,14 @@ pub fn refusal<'a>(
     definitions: &'a [(&'a str, &'a str)],
     until: Until,
 ) -> Result<Option<Report>, AllocError>
-    // The place lies in the text, between characters, or in the value of a definition.
-    ensures { IsUtf8 bytes.now → IfOk result (λ found. IfSome found (λ report. IsPlaced bytes.now definitions.now report.place)) }
+    // Without a report the policy is accepted.
+    ensures accepted { IfOk result (λ found. found ≡ None → IsAccepted until bytes.now (defined_by definitions.now)) }
+    // A report is on the fault of the text, and names a place that the line of this fault allows.
+    ensures refused { IsUtf8 bytes.now → IfOk result (λ found. IfSome found (λ report. IsReportOn bytes.now definitions.now report)) }
 {
     let text = match from_utf8(bytes) {
         Ok(text) => text,
-        Err(error) => return Ok(Some(no_text(alloc, bytes, error.valid_up_to())?)),
+        Err(error) => return Ok(Some(on_bytes(alloc, bytes, error.valid_up_to())?)),
     };
     match fault_of(alloc, text, definitions, until)? {
         Some(fault) => Ok(Some(report_on(alloc, text, definitions, fault)?)),
@@ -67,65 +72,22 @@ fn fault_of<'a>(
     text: &'a str,
     definitions: &'a [(&'a str, &'a str)],
     until: Until,
-) -> Result<Option<CompileFault>, AllocError> {
-    let fault = match until {
+) -> Result<Option<CompileFault>, AllocError>
+    ensures accepted { IfOk result (λ found. found ≡ None → IsAccepted until text.now (defined_by definitions.now)) }
+    ensures refused { IfOk result (λ found. IfSome found (λ fault. IsCompileRefusal text.now (defined_by definitions.now) fault)) }
+    ensures certain { IfOk result (λ found. IfSome found (λ fault. fault ≢ CompileFault.Memory)) }
+{
+    match until {
         Until::Policy => match policy_of(alloc, text, definitions) {
-            Ok(PolicyText { .. }) => return Ok(None),
-            Err(fault) => CompileFault::from(fault),
+            Ok(PolicyText { .. }) => Ok(None),
+            Err(PolicyFault::Memory) => Err(AllocError),
+            Err(fault) => Ok(Some(CompileFault::Text(fault))),
         },
         Until::Image => match compile_with_notes(alloc, text, definitions) {
-            Ok(CompiledText { .. }) => return Ok(None),
-            Err(fault) => fault,
+            Ok(CompiledText { .. }) => Ok(None),
+            Err(CompileFault::Memory) => Err(AllocError),
+            Err(fault) => Ok(Some(fault)),
         },
-    };
-    match fault {
-        CompileFault::Memory => Err(AllocError),
-        fault => Ok(Some(fault)),
-    }
-}
-
-/// The line of a fault, if it has one.
-fn line_of(fault: CompileFault) -> Option<u32> {
-    match fault {
-        CompileFault::Text(PolicyFault::Text(fault)) => line_of_text(fault),
-        CompileFault::Text(PolicyFault::Tokens(fault)) => line_of_tokens(fault),
-        CompileFault::Text(PolicyFault::Names(fault)) => line_of_names(fault),
-        CompileFault::Text(PolicyFault::Memory) | CompileFault::Code(_) | CompileFault::Memory =>
-            None,
-    }
-}
-
-fn line_of_text(fault: LexFault) -> Option<u32> {
-    match fault {
-        LexFault::Stray { line }
-        | LexFault::Unclosed { line }
-        | LexFault::UnknownMacro { line }
-        | LexFault::BadMacro { line }
-        | LexFault::OverLimit { line } => Some(line),
-        LexFault::Memory => None,
-    }
-}
-
-fn line_of_tokens(fault: ParseFault) -> Option<u32> {
-    match fault {
-        ParseFault::Unexpected { line }
-        | ParseFault::Period { line }
-        | ParseFault::Nesting { line } => Some(line),
-        ParseFault::Memory => None,
-    }
-}
-
-fn line_of_names(fault: ResolveFault) -> Option<u32> {
-    match fault {
-        ResolveFault::NoState { line }
-        | ResolveFault::StateTwice { line }
-        | ResolveFault::SecondInit { line }
-        | ResolveFault::SetStateInInit { line }
-        | ResolveFault::TestInInit { line }
-        | ResolveFault::TableFull { line }
-        | ResolveFault::BadText { line }
-        | ResolveFault::UnknownState { line } => Some(line),
-        ResolveFault::Memory => None,
     }
 }
 
@@ -136,25 +98,23 @@ fn report_on<'a>(
     definitions: &'a [(&'a str, &'a str)],
     fault: CompileFault,
 ) -> Result<Report, AllocError>
-    ensures { IfOk result (λ report. IsPlaced text.now definitions.now report.place) }
+    ensures placed { IfOk result (λ report. IsPlaced text.now definitions.now (line_of_fault fault) report.place) }
+    ensures code { IfOk result (λ report. report.code.now ≡ first_word (compile_fault_words fault)) }
 {
     let mut report = drafted(alloc, text, definitions, fault)?;
-    report.place = if text.len() > MOST_BYTES {
-        Place::File
-    } else {
-        let lexemes = lexemes_of(alloc, text)?;
-        placed(
-            text,
-            lexemes.as_slice(),
-            definitions,
-            line_of(fault),
-            report.place,
-        )
-    };
+    report.code = code_of(fault);
+    report.place = placed(alloc, text, definitions, line_of(fault), report.place)?;
     Ok(report)
 }
 
-/// The report on a fault of a text, before its place was looked at once more.
+/// The report on bytes that are no text, from the first byte that belongs to no character.
+fn on_bytes(alloc: Global, bytes: &[u8], valid: usize) -> Result<Report, AllocError> {
+    let mut report = no_text(alloc, bytes, valid)?;
+    report.code = "P1";
+    Ok(report)
+}
+
+/// The report on a fault of a text, before its code, and before its place was looked at once more.
 fn drafted<'a>(
     alloc: Global,
     text: &'a str,

@@ -1,11 +1,11 @@
 //! Braces that are missing, and braces that are too many.
 
 use crate::grammar::Seen;
-use crate::kind::Kind;
 use crate::making::{hint, label};
 use crate::reading::{Policy, line_before, part_of};
 use crate::wording::has;
 use ifs_lex::What;
+use ifs_place::Kind;
 use ifs_report::Report;
 use std::alloc::{AllocError, Global};
 

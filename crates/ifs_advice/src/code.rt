@@ -20,7 +20,6 @@ pub(crate) fn no_image(
             policy,
             routine,
             Limit {
-                code: "G1",
                 words: "has over 1024 instructions",
                 rule: "`run` and `set-state` count as two instructions; `if`, a link, a test, `!`, `&&` and `||` as one",
                 hint: "let one script do several commands, or put one `if` around actions of the same condition",
@@ -31,7 +30,6 @@ pub(crate) fn no_image(
             policy,
             routine,
             Limit {
-                code: "G3",
                 words: "keeps over 32 truths of one condition at a time",
                 rule: "each `(` on the right of `&&` or `||` keeps one more truth",
                 hint: "write the parentheses first: `( a || b ) && c` keeps two",
@@ -39,13 +37,11 @@ pub(crate) fn no_image(
         ),
         GenFault::CodeTooLong => whole(
             alloc,
-            "G2",
             "the policy has over 8192 instructions",
             "move actions that states share out of the states",
         ),
         GenFault::TooManyCommands => whole(
             alloc,
-            "G4",
             "one event may run over 64 commands",
             "let one script do several commands",
         ),
@@ -56,11 +52,10 @@ pub(crate) fn no_image(
 /// A report on the policy as a whole.
 fn whole(
     alloc: Global,
-    code: &'static str,
     message: &str,
     hint: &str,
 ) -> Result<Report, AllocError> {
-    let mut report = error(alloc, code, Place::File, String::from_str(alloc, message)?);
+    let mut report = error(alloc, Place::File, String::from_str(alloc, message)?);
     report.hint = Some(String::from_str(alloc, hint)?);
     Ok(report)
 }
@@ -68,7 +63,6 @@ fn whole(
 /// A limit that a routine passes.
 #[derive(Clone, Copy)]
 struct Limit {
-    code: &'static str,
     words: &'static str,
     rule: &'static str,
     hint: &'static str,
@@ -87,7 +81,7 @@ fn of_routine(
     let mut report = match (number / 2).checked_sub(1) {
         None => {
             let message = format!(in alloc; "the {part} outside of states {words}")?;
-            error(alloc, limit.code, Place::File, message)
+            error(alloc, Place::File, message)
         }
         Some(state) => of_state(alloc, policy, state, part, limit)?,
     };
@@ -107,12 +101,12 @@ fn of_state(
     let words = limit.words;
     let Some(index) = state_at(policy, state) else {
         let message = format!(in alloc; "the {part} of a state {words}")?;
-        return Ok(error(alloc, limit.code, Place::File, message));
+        return Ok(error(alloc, Place::File, message));
     };
     let name = policy.what(index).and_then(text_of).unwrap_or("");
     let message = format!(in alloc; "the {part} of state `{name}` {words}")?;
     let spot = policy.spot(alloc, index)?;
-    let mut report = error(alloc, limit.code, spot.place, message);
+    let mut report = error(alloc, spot.place, message);
     label_other(&mut report, spot.other, "its name")?;
     Ok(report)
 }

@@ -2,13 +2,12 @@
 
 use crate::braces::put_brace;
 use crate::hints::hint_at;
-use crate::kind::Kind;
 use crate::making::{error, hint, label, label_other, quoted};
 use crate::reading::Policy;
-use crate::stopping::stop_of;
 use crate::wording::{has, words_of};
 use ifs_lex::What;
 use ifs_parse::ParseFault;
+use ifs_place::{Kind, stop_of};
 use ifs_report::{Place, Report};
 use std::alloc::{AllocError, Global};
 
@@ -33,13 +32,13 @@ pub(crate) fn no_tree<'a>(
 ) -> Result<Report, AllocError> {
     let Some(stop) = stop_of(alloc, policy.text, definitions)? else {
         let message = String::from_str(alloc, "the text does not follow the grammar")?;
-        return Ok(error(alloc, code_of(fault), Place::File, message));
+        return Ok(error(alloc, Place::File, message));
     };
     let spot = policy.spot(alloc, stop.index)?;
     let word = policy.word(spot.place, definitions);
     let kinds = stop.kinds.as_slice();
     let message = message_of(alloc, policy, stop.index, fault, word)?;
-    let mut report = error(alloc, code_of(fault), spot.place, message);
+    let mut report = error(alloc, spot.place, message);
     report.expected = words_of(alloc, kinds, policy.what_before(stop.index))?;
     label_other(&mut report, spot.other, "its value begins here")?;
     let seen = Seen {
@@ -74,15 +73,6 @@ fn put_hint(
     put_name(alloc, seen, report)?;
     report.hint = hint_at(alloc, seen)?;
     Ok(())
-}
-
-fn code_of(fault: ParseFault) -> &'static str {
-    match fault {
-        ParseFault::Unexpected { .. } => "P6",
-        ParseFault::Period { .. } => "P7",
-        ParseFault::Nesting { .. } => "P8",
-        ParseFault::Memory => "P0",
-    }
 }
 
 /// What is wrong, in a sentence.

@@ -1,11 +1,11 @@
 //! What would mend a text that does not follow the grammar.
 
 use crate::grammar::Seen;
-use crate::kind::Kind;
 use crate::nearest::is_near;
 use crate::reading::part_of;
 use crate::wording::has;
 use ifs_lex::What;
+use ifs_place::Kind;
 use std::alloc::{AllocError, Global};
 
 /// The words of the grammar, and their kinds.

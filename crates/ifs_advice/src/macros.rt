@@ -1,7 +1,7 @@
 //! The macros of a policy: where each is defined, and which tokens its value has.
 
-use crate::lexemes::{Spelled, behind, lexemes_of, value_of};
 use ifs_lex::{Found, Piece, is_dropped};
+use ifs_place::{Spelled, behind, lexemes_of, value_of};
 use ifs_report::{Part, Place};
 use std::alloc::{AllocError, Global};
 use std::collections::HashMap;
@@ -128,9 +128,16 @@ pub(crate) fn macros_of<'a>(
     definitions: &[(&'a str, &'a str)],
 ) -> Result<Vec<Macro<'a>>, AllocError> {
     let mut macros = given_macros(alloc, definitions)?;
+    // the sign `=` and the value of a definition begin none
+    let mut skipped = 0usize;
     for (index, first) in lexemes.iter().enumerate() {
+        if skipped > 0 {
+            skipped -= 1;
+            continue;
+        }
         if let Some(found) = macro_of(first, behind(lexemes, index)) {
             macros.push(found)?;
+            skipped = 2;
         }
     }
     Ok(macros)

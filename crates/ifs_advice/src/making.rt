@@ -7,28 +7,22 @@ use std::alloc::{AllocError, Global};
 /// The most characters of a word in a message.
 const MOST_CHARACTERS: usize = 40;
 
-/// An error at a place, with nothing else said.
-pub(crate) fn error(alloc: Global, code: &'static str, place: Place, message: String) -> Report {
-    report(alloc, Severity::Error, code, place, message)
+/// An error at a place, with nothing else said. It has no code yet.
+pub(crate) fn error(alloc: Global, place: Place, message: String) -> Report {
+    report(alloc, Severity::Error, place, message)
 }
 
 /// A note at a place, with a hint that says how to write what is meant.
 pub(crate) fn note(alloc: Global, place: Place, message: String, hint: String) -> Report {
-    let mut note = report(alloc, Severity::Note, "", place, message);
+    let mut note = report(alloc, Severity::Note, place, message);
     note.hint = Some(hint);
     note
 }
 
-fn report(
-    alloc: Global,
-    severity: Severity,
-    code: &'static str,
-    place: Place,
-    message: String,
-) -> Report {
+fn report(alloc: Global, severity: Severity, place: Place, message: String) -> Report {
     Report {
         severity,
-        code,
+        code: "",
         place,
         message,
         expected: Vec::new(alloc),

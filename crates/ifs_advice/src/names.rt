@@ -79,7 +79,7 @@ pub(crate) fn no_policy(
 fn no_state(alloc: Global, policy: &Policy<'_>) -> Result<Report, AllocError> {
     let place = Place::Text(Part { start: 0, end: 0 });
     let message = String::from_str(alloc, "the text has no state")?;
-    let mut report = error(alloc, "P9", place, message);
+    let mut report = error(alloc, place, message);
     report.expected.push("`state`")?;
     let text = policy.text;
     hint(
@@ -101,15 +101,14 @@ fn at(
     alloc: Global,
     policy: &Policy<'_>,
     index: Option<usize>,
-    code: &'static str,
     message: String,
     value: &'static str,
 ) -> Result<Report, AllocError> {
     let Some(index) = index else {
-        return Ok(error(alloc, code, Place::File, message));
+        return Ok(error(alloc, Place::File, message));
     };
     let Spot { place, other } = policy.spot(alloc, index)?;
-    let mut report = error(alloc, code, place, message);
+    let mut report = error(alloc, place, message);
     label_other(&mut report, other, value)?;
     Ok(report)
 }
@@ -119,19 +118,18 @@ fn at_use(
     alloc: Global,
     policy: &Policy<'_>,
     index: Option<usize>,
-    code: &'static str,
     message: String,
     value: &'static str,
 ) -> Result<Report, AllocError> {
     let Some(index) = index else {
-        return Ok(error(alloc, code, Place::File, message));
+        return Ok(error(alloc, Place::File, message));
     };
     let Spot { place, other } = policy.spot(alloc, index)?;
     let (place, other) = match other {
         Some(Other::Use(used)) => (used, Some(Other::Value(place))),
         other => (place, other),
     };
-    let mut report = error(alloc, code, place, message);
+    let mut report = error(alloc, place, message);
     label_other(&mut report, other, value)?;
     Ok(report)
 }
@@ -192,7 +190,7 @@ fn state_twice(alloc: Global, policy: &Policy<'_>, line: u32) -> Result<Report, 
     let name = text_at(policy, second);
     let shown = quoted(alloc, name)?;
     let message = format!(in alloc; "the state {shown} is defined twice")?;
-    let mut report = at(alloc, policy, second, "P10", message, "the name")?;
+    let mut report = at(alloc, policy, second, message, "the name")?;
     if let Some(first) = state_before(policy, states.as_slice(), name, second.unwrap_or(0)) {
         label(
             &mut report,
@@ -221,7 +219,7 @@ fn unknown_state(alloc: Global, policy: &Policy<'_>, line: u32) -> Result<Report
     let name = text_at(policy, found);
     let shown = quoted(alloc, name)?;
     let message = format!(in alloc; "no state has the name {shown}")?;
-    let mut report = at(alloc, policy, found, "P11", message, "the name")?;
+    let mut report = at(alloc, policy, found, message, "the name")?;
     report.expected.push("the name of a state")?;
     match near_state(alloc, policy, states.as_slice(), name)? {
         Some(near) => {
@@ -321,7 +319,6 @@ fn second_init(alloc: Global, policy: &Policy<'_>, line: u32) -> Result<Report, 
         alloc,
         policy,
         found.map(|pair| pair.0),
-        "P12",
         message,
         "in this value",
     )?;
@@ -347,7 +344,7 @@ fn set_state_in_init(alloc: Global, policy: &Policy<'_>, line: u32) -> Result<Re
         |index| is_word(policy.what(index), "set-state"),
     );
     let message = String::from_str(alloc, "`set-state` cannot stand in an `init`")?;
-    let mut report = at_use(alloc, policy, found, "P13", message, "in this value")?;
+    let mut report = at_use(alloc, policy, found, message, "in this value")?;
     report.expected.push("`if`")?;
     report.expected.push("`run`")?;
     hint(
@@ -365,7 +362,7 @@ fn test_in_init(alloc: Global, policy: &Policy<'_>, line: u32) -> Result<Report,
         |index| role_at(policy, index) == Some(Role::Test),
     );
     let message = String::from_str(alloc, "a test cannot stand in an `init`")?;
-    let mut report = at_use(alloc, policy, found, "P14", message, "the test")?;
+    let mut report = at_use(alloc, policy, found, message, "the test")?;
     report.expected.push("a link")?;
     hint(
         alloc,
@@ -430,7 +427,7 @@ fn table_full(alloc: Global, policy: &Policy<'_>, line: u32) -> Result<Report, A
         .unwrap_or(Role::Interface);
     let (names, most) = table_of(role);
     let message = format!(in alloc; "a policy has at most {most} {names}")?;
-    let mut report = at(alloc, policy, found, "P15", message, "one of them")?;
+    let mut report = at(alloc, policy, found, message, "one of them")?;
     hint(
         alloc,
         &mut report,
@@ -451,7 +448,7 @@ fn bad_text(alloc: Global, policy: &Policy<'_>, line: u32) -> Result<Report, All
         _ => false,
     };
     let message = bad_words(alloc, text, is_command)?;
-    let mut report = at(alloc, policy, found, "P16", message, "the text")?;
+    let mut report = at(alloc, policy, found, message, "the text")?;
     if text.is_empty() || text.len() > 1024 {
         report.expected.push(match (text.is_empty(), is_command) {
             (true, true) => "a command of 1 to 1024 bytes",

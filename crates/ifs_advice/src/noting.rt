@@ -1,10 +1,10 @@
 //! Notes on policies that are accepted, and look as if something else were meant.
 
-use crate::lexemes::{behind, lexemes_of, value_of};
 use crate::macros::{Macro, macros_of, part_of};
 use crate::making::{label, note};
 use crate::reading::line_before;
 use ifs_lex::{Found, Piece, Sign};
+use ifs_place::{behind, lexemes_of, value_of};
 use ifs_report::{Part, Place, Report};
 use std::alloc::{AllocError, Global};
 use std::collections::HashSet;

@@ -1,10 +1,9 @@
 //! A policy as it was read: its text, its tokens, and where each of them is.
 
-use crate::lexemes::lexemes_of;
 use crate::macros::{Macro, before, known, macros_of, place_within, with_counts};
-use crate::stopping::tokens_or_none;
 use ifs_base::Span;
 use ifs_lex::{Found, Token, What};
+use ifs_place::{lexemes_of, tokens_or_none};
 use ifs_report::{Part, Place};
 use std::alloc::{AllocError, Global};
 

@@ -1,15 +1,15 @@
 //! Reports on texts that have no tokens.
 
-use crate::expecting::{can_go_on, is_front, kinds_behind};
-use crate::lexemes::{MOST_BYTES, Spelled, lexemes_of};
 use crate::macros::{Macro, before, known, part_of};
 use crate::making::{error, hint, label};
 use crate::nearest::nearest;
 use crate::reading::{Policy, line_at};
-use crate::stopping::{stop_of, tokens_or_none};
 use crate::strays::{hint_for_character, named};
 use crate::wording::words_of;
 use ifs_lex::{Found, LexFault, Piece};
+use ifs_place::{
+    MOST_BYTES, Spelled, can_go_on, is_front, kinds_behind, lexemes_of, stop_of, tokens_or_none,
+};
 use ifs_report::{Part, Place, Report};
 use std::alloc::{AllocError, Global};
 
@@ -24,7 +24,7 @@ pub(crate) fn no_text(alloc: Global, bytes: &[u8], valid: usize) -> Result<Repor
     });
     let byte = bytes.get(valid).copied().unwrap_or(0);
     let message = format!(in alloc; "the byte {byte:02x} cannot stand here")?;
-    let mut report = error(alloc, "P1", place, message);
+    let mut report = error(alloc, place, message);
     report.expected.push("UTF-8")?;
     hint(
         alloc,
@@ -87,7 +87,7 @@ fn stray<'a>(
     let character = character.unwrap_or(' ');
     let shown = named(alloc, character)?;
     let message = format!(in alloc; "{shown} cannot stand here")?;
-    let mut report = error(alloc, "P1", Place::Text(part), message);
+    let mut report = error(alloc, Place::Text(part), message);
     report.hint = Some(hint_for_character(alloc, policy, part, character)?);
     put_expected(alloc, policy, definitions, part.start, &mut report)?;
     Ok(report)
@@ -152,7 +152,7 @@ fn put_earlier<'a>(
 fn unclosed(alloc: Global, policy: &Policy<'_>) -> Result<Report, AllocError> {
     let (part, quote) = character_at(policy.text, last_offset(policy));
     let message = String::from_str(alloc, "the text quoted from here on does not end")?;
-    let mut report = error(alloc, "P2", Place::Text(part), message);
+    let mut report = error(alloc, Place::Text(part), message);
     report.expected.push(another(quote))?;
     let own = quote.unwrap_or('"');
     if let Some(found) = policy
@@ -211,23 +211,22 @@ fn unknown(alloc: Global, policy: &Policy<'_>, line: u32) -> Result<Report, Allo
             .is_none()
         {
             let place = Place::Text(part_of(found));
-            return unknown_macro(alloc, policy, "P3", place, (name, line));
+            return unknown_macro(alloc, policy, place, (name, line));
         }
     }
     let message = String::from_str(alloc, "a macro is used that is not defined above")?;
-    Ok(error(alloc, "P3", Place::File, message))
+    Ok(error(alloc, Place::File, message))
 }
 
 /// The report on a use on a line of a macro that is not defined.
 fn unknown_macro(
     alloc: Global,
     policy: &Policy<'_>,
-    code: &'static str,
     place: Place,
     (name, line): (&str, u32),
 ) -> Result<Report, AllocError> {
     let message = format!(in alloc; "`${name}` cannot stand here")?;
-    let mut report = error(alloc, code, place, message);
+    let mut report = error(alloc, place, message);
     report.expected.push("a macro that is defined above")?;
     if let Some(later) = policy
         .macros
@@ -302,7 +301,7 @@ fn bad_value(alloc: Global, policy: &Policy<'_>, line: u32) -> Result<Report, Al
         }
     }
     let message = String::from_str(alloc, "a macro has a bad name or value")?;
-    Ok(error(alloc, "P4", Place::File, message))
+    Ok(error(alloc, Place::File, message))
 }
 
 /// Names the macro, if its name is on another line than the place of a report.
@@ -344,7 +343,7 @@ fn fault_of_value(
         let message = format!(in alloc;
             "the value of `{name}` has over {MOST_TOKENS} tokens or {MOST_BYTES} bytes"
         )?;
-        return Ok(Some(error(alloc, "P4", found.opening(), message)));
+        return Ok(Some(error(alloc, found.opening(), message)));
     }
     Ok(None)
 }
@@ -369,7 +368,7 @@ fn fault_of_lexeme(
     let report = match lexeme.piece {
         Piece::Use(used) if known(value.earlier, used).is_none() => {
             let place = found.place(part);
-            unknown_macro(alloc, value.policy, "P4", place, (used, found.line))?
+            unknown_macro(alloc, value.policy, place, (used, found.line))?
         }
         Piece::Equals => equals_in(alloc, value, part)?,
         Piece::Unclosed => unclosed_in(alloc, value, part.start)?,
@@ -392,7 +391,7 @@ fn equals_in(alloc: Global, value: Value<'_, '_>, part: Part) -> Result<Report, 
         && there > line
     {
         let message = format!(in alloc; "the value quoted from here on has a `=` on line {there}")?;
-        let mut report = error(alloc, "P4", found.opening(), message);
+        let mut report = error(alloc, found.opening(), message);
         let quote = char::from(quote);
         report.expected.push(another(Some(quote)))?;
         label(&mut report, here, "cannot stand in a value")?;
@@ -400,7 +399,7 @@ fn equals_in(alloc: Global, value: Value<'_, '_>, part: Part) -> Result<Report, 
         return Ok(report);
     }
     let message = format!(in alloc; "`=` cannot stand in the value of `{name}`")?;
-    let mut report = error(alloc, "P4", here, message);
+    let mut report = error(alloc, here, message);
     hint(
         alloc,
         &mut report,
@@ -416,7 +415,7 @@ fn unclosed_in(alloc: Global, value: Value<'_, '_>, start: usize) -> Result<Repo
     let message = format!(in alloc;
         "the text quoted from here on does not end in the value of `{name}`"
     )?;
-    let mut report = error(alloc, "P4", value.found.place(part), message);
+    let mut report = error(alloc, value.found.place(part), message);
     report.expected.push(another(quote))?;
     let quote = quote.unwrap_or('"');
     report.hint = Some(if value.text.find(" every ").is_some() {
@@ -434,7 +433,7 @@ fn stray_in(alloc: Global, value: Value<'_, '_>, start: usize) -> Result<Report,
     let character = character.unwrap_or(' ');
     let shown = named(alloc, character)?;
     let message = format!(in alloc; "{shown} cannot stand in the value of `{name}`")?;
-    let mut report = error(alloc, "P4", value.found.place(part), message);
+    let mut report = error(alloc, value.found.place(part), message);
     hint(
         alloc,
         &mut report,
@@ -448,7 +447,7 @@ fn over_limit(alloc: Global, policy: &Policy<'_>, line: u32) -> Result<Report, A
     let bytes = policy.text.len();
     if bytes > MOST_BYTES {
         let message = format!(in alloc; "the text has {bytes} bytes")?;
-        let mut report = error(alloc, "P5", Place::File, message);
+        let mut report = error(alloc, Place::File, message);
         report.rule = "a policy has at most 1048576 bytes";
         hint(alloc, &mut report, "let scripts do what the text repeats")?;
         return Ok(report);
@@ -461,7 +460,7 @@ fn over_limit(alloc: Global, policy: &Policy<'_>, line: u32) -> Result<Report, A
         alloc,
         "on this line the policy has too many tokens or macros",
     )?;
-    let mut report = error(alloc, "P5", place, message);
+    let mut report = error(alloc, place, message);
     report.rule = "a policy has at most 16384 tokens, and 256 macros";
     hint(alloc, &mut report, "let one script ask several things")?;
     Ok(report)

@@ -1,7 +1,7 @@
 //! Words for the kinds of tokens.
 
-use crate::kind::Kind;
 use ifs_lex::What;
+use ifs_place::Kind;
 use std::alloc::{AllocError, Global};
 
 /// The words for kinds that can come behind a token, with what is wanted most first.

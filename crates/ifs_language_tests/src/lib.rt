@@ -19,6 +19,8 @@ mod policies;
 #[cfg(test)]
 mod reports;
 #[cfg(test)]
+mod stops;
+#[cfg(test)]
 mod stories;
 #[cfg(test)]
 mod tokens;

@@ -8,7 +8,7 @@ use Rattle.ifs_parse.specs.declared.fault.ParseFault.TheVariants.{Unexpected, Pe
 use Rattle.ifs_parse.specs.Files.{File}
 use Rattle.ifs_parse.specs.Words.{fits_period}
 use Rattle.ifs_parse.specs.Grammar.{Says, IsAt, GoesOn, NoneGoesOn, StopsAt}
-use Rattle.ifs_advice.specs.Expected.{ArePlaced, CanGoOn, CannotGoOn, IsFront, StopsOn}
+use Rattle.ifs_place.specs.Expected.{ArePlaced, CanGoOn, CannotGoOn, IsFront, StopsOn}
 
 -- A list that stops at a token, and ends in another: it stops at its end, or before.
 abbrev Split : List Token → List Token → Token → Token → Type 0

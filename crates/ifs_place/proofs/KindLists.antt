@@ -1,13 +1,13 @@
 -- The list of kinds that can come behind tokens.
-use Rattle.std.proofs.Common.{◌≡◌, inl, inr, ◌⊎◌, refl, sym, subst, List, [], ◌∷◌, ◌++◌, length, ℕ}
+use Rattle.std.proofs.Common.{◌≡◌, inl, inr, ◌⊎◌, refl, sym, subst, List, [], ◌∷◌, ◌++◌, length}
 use Rattle.std.specs.List.{AllByRecursion}
 use Rattle.ifs_lex.specs.declared.token.Token.{Token}
 use Rattle.ifs_lex.specs.declared.token.What.{What}
 use Rattle.ifs_parse.specs.Grammar.{GoesOn, NoneGoesOn}
 use Rattle.ifs_parse.specs.Words.{fits_period}
-use Rattle.ifs_advice.specs.declared.kind.Kind.{Kind}
-use Rattle.ifs_advice.specs.declared.kind.Kind.TheVariants as kind
-use Rattle.ifs_advice.specs.Expected.{HasKind, token_of, what_of}
+use Rattle.ifs_place.specs.declared.kind.Kind.{Kind}
+use Rattle.ifs_place.specs.declared.kind.Kind.TheVariants as kind
+use Rattle.ifs_place.specs.Expected.{HasKind, token_of, what_of}
 
 -- A token of a kind can come behind these tokens.
 abbrev pub Can : List Token → Kind → Type 0

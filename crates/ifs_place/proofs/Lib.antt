@@ -1,3 +1,5 @@
 mod Fronts
 mod KindLists
+mod Lexing
 mod StopParts
+mod Values

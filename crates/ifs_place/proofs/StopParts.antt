@@ -1,5 +1,5 @@
 -- The tokens before a stop, and those after it.
-use Rattle.std.proofs.Common.{◌≡◌, ◌∙◌, ◌+◌, ◌<◌, ◌≤◌, ℕ, refl, sym, ap, List, [], ◌∷◌, ◌++◌, append_assoc, length, length-append, take, drop, arith}
+use Rattle.std.proofs.Common.{◌≡◌, ◌∙◌, ◌+◌, ◌<◌, ℕ, sym, ap, List, [], ◌∷◌, ◌++◌, append_assoc, length, length-append, take, drop, arith}
 use Rattle.std.proofs.lemmas.List.{take-append-drop, length-take-le}
 use Rattle.ifs_lex.specs.declared.token.Token.{Token}
 

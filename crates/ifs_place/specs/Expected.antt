@@ -10,8 +10,8 @@ use Rattle.ifs_parse.specs.Files.{File}
 use Rattle.ifs_parse.specs.declared.fault.ParseFault.{ParseFault}
 use Rattle.ifs_parse.specs.Grammar.{GoesOn, IsAt, NoneGoesOn, Says, StopsAt}
 use Rattle.ifs_parse.specs.Words.{fits_period}
-use Rattle.ifs_advice.specs.declared.kind.Kind.{Kind}
-use Rattle.ifs_advice.specs.declared.kind.Kind.TheVariants as kind
+use Rattle.ifs_place.specs.declared.kind.Kind.{Kind}
+use Rattle.ifs_place.specs.declared.kind.Kind.TheVariants as kind
 
 -- The token that is for a kind.
 abbrev pub what_of : Kind → What

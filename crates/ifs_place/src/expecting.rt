@@ -5,7 +5,7 @@ ghost use Rattle.ifs_lex.specs.Expansion.{EndsOnce, is_end};
 ghost use Rattle.ifs_parse.specs.Files.{File};
 ghost use Rattle.ifs_parse.specs.Grammar.{GoesOn, NoneGoesOn, Says};
 ghost use Rattle.ifs_parse.specs.Words.{fits_period};
-ghost use Rattle.ifs_advice.specs.Expected.{AreExpected, CanGoOn, CannotGoOn, IsFront, StopsOn};
+ghost use Rattle.ifs_place.specs.Expected.{AreExpected, CanGoOn, CannotGoOn, IsFront, StopsOn};
 
 use crate::kind::{KINDS, Kind, what_of};
 use ifs_base::Span;
@@ -28,7 +28,7 @@ const AFTER: Span = Span {
 };
 
 /// Whether each token has a line, and none is the end.
-pub(crate) fn is_front(tokens: &[Token]) -> bool
+pub fn is_front(tokens: &[Token]) -> bool
     ensures { IsTrue result → IsFront tokens.now }
 {
     let mut left = tokens;
@@ -82,7 +82,7 @@ pub(crate) fn fault_line(alloc: Global, front: &mut Vec<Token>) -> Result<Option
 }
 
 /// Whether tokens can go on.
-pub(crate) fn can_go_on(alloc: Global, front: &mut Vec<Token>) -> Result<bool, AllocError>
+pub fn can_go_on(alloc: Global, front: &mut Vec<Token>) -> Result<bool, AllocError>
     requires { IsFront front.old.items }
     ensures same { IfOk result (λ _. front.new.items ≡ front.old.items) }
     ensures can { IfOk result (λ yes. IsTrue yes → CanGoOn front.old.items) }
@@ -156,7 +156,7 @@ pub(crate) fn stands(
 }
 
 /// The kinds of tokens that can come behind tokens.
-pub(crate) fn kinds_behind(alloc: Global, front: &mut Vec<Token>) -> Result<Vec<Kind>, AllocError>
+pub fn kinds_behind(alloc: Global, front: &mut Vec<Token>) -> Result<Vec<Kind>, AllocError>
     requires { IsFront front.old.items }
     ensures same { IfOk result (λ _. front.new.items ≡ front.old.items) }
     ensures expected { IfOk result (λ kinds. AreExpected front.old.items kinds.items) }

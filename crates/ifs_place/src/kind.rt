@@ -1,7 +1,7 @@
 //! The kinds of tokens, each with one token that is for it.
 
 ghost use Rattle.std.specs.Prelude.{◌≡◌, IfOk};
-ghost use Rattle.ifs_advice.specs.Expected.{what_of};
+ghost use Rattle.ifs_place.specs.Expected.{what_of};
 
 use ifs_base::Text;
 use ifs_lex::What;

@@ -1,36 +1,44 @@
 //! Places that reports name: each is looked at once more before it is named.
 
-ghost use Rattle.std.specs.Prelude.{◌≤◌, ℕ, List, IsTrue};
-ghost use Rattle.ifs_advice.specs.Places.{IsPlaced, LiesIn};
+ghost use Rattle.std.specs.Prelude.{◌≡◌, ℕ, List, Option, Some, IsTrue, IfOk, map};
+ghost use Rattle.ifs_report.specs.Positions.{line_of};
+ghost use Rattle.ifs_lex.specs.Lexemes.{lexemes_of};
+ghost use Rattle.ifs_lex.specs.inner.Pieces.{spanned_of};
+ghost use Rattle.ifs_place.specs.Places.{Holds, IsInValue, IsOn, IsPlaced, LiesIn};
 
-use crate::lexemes::{behind, value_of};
+use crate::lexemes::{MOST_BYTES, lexemes_of, value_of};
 use ifs_lex::Found;
 use ifs_report::{Part, Place, position};
+use std::alloc::{AllocError, Global};
 
-/// The place, if it lies in the text or in the value of a definition, and there on the line of a fault or in the value of a
-/// macro. Otherwise the whole file.
-pub(crate) fn placed(
+/// The place, if it lies in the text or in the value of a definition, and in the text on the line of a fault or in the value of
+/// a macro. Otherwise the whole file. The only error is a failed allocation.
+pub fn placed(
+    alloc: Global,
     text: &str,
-    lexemes: &[Found<'_>],
     definitions: &[(&str, &str)],
     line: Option<u32>,
     place: Place,
-) -> Place
-    ensures { IsPlaced text.now definitions.now result }
+) -> Result<Place, AllocError>
+    ensures placed { IfOk result (λ found. IsPlaced text.now definitions.now line found) }
+    // A part of the text on the line of the fault is kept.
+    ensures kept { (part : Part) (on : ℕ) → place ≡ Place.Text part → LiesIn text.now part → line ≡ Some on → line_of text.now part.start ≡ on → IfOk result (λ found. found ≡ place) }
 {
     match place {
-        Place::File => Place::File,
-        Place::Text(part) if lies_in(text, part) && is_on(text, lexemes, line, part) => Place::Text(
-            part,
-        ),
-        Place::Text(_) => Place::File,
-        Place::Definition(number, part) => given(definitions, number, part),
+        Place::File => Ok(Place::File),
+        Place::Text(part) => {
+            if lies_in(text, part) && is_on(alloc, text, line, part)? {
+                return Ok(Place::Text(part));
+            }
+            Ok(Place::File)
+        }
+        Place::Definition(number, part) => Ok(given(definitions, number, part)),
     }
 }
 
 /// A part of the value of a definition, if there is such a definition and part. Otherwise the whole file.
 fn given(definitions: &[(&str, &str)], number: usize, part: Part) -> Place
-    ensures { (text : List ℕ) → IsPlaced text definitions.now result }
+    ensures { (text : List ℕ) (line : Option ℕ) → IsPlaced text definitions.now line result }
 {
     match definitions.get(number) {
         Some((_name, value)) if lies_in(value, part) => Place::Definition(number, part),
@@ -40,31 +48,54 @@ fn given(definitions: &[(&str, &str)], number: usize, part: Part) -> Place
 
 /// Whether a part lies in a text, between characters.
 fn lies_in(text: &str, part: Part) -> bool
-    ensures { IsTrue result → LiesIn text.now part }
+    ensures lies { IsTrue result → LiesIn text.now part }
+    ensures all { LiesIn text.now part → IsTrue result }
 {
     part.start <= part.end && text.is_char_boundary(part.start) && text.is_char_boundary(part.end)
 }
 
 /// Whether a part is on a line, if there is one, or in the value of a macro.
-fn is_on(text: &str, lexemes: &[Found<'_>], line: Option<u32>, part: Part) -> bool {
+fn is_on(alloc: Global, text: &str, line: Option<u32>, part: Part) -> Result<bool, AllocError>
+    ensures on { IfOk result (λ yes. IsTrue yes → IsOn text.now line part) }
+    ensures same { (on : ℕ) → line ≡ Some on → line_of text.now part.start ≡ on → IfOk result (λ yes. IsTrue yes) }
+{
     match line {
-        None => true,
+        None => Ok(true),
         Some(line) => {
-            position(text.as_bytes(), part.start).line == line as usize
-                || lies_in_value(lexemes, part)
+            if position(text.as_bytes(), part.start).line == line as usize {
+                return Ok(true);
+            }
+            if text.len() > MOST_BYTES {
+                return Ok(false);
+            }
+            let lexemes = lexemes_of(alloc, text)?;
+            Ok(is_in_value(lexemes.as_slice(), part))
         }
     }
 }
 
 /// Whether a part lies within the value of a macro, where that is defined.
-fn lies_in_value(lexemes: &[Found<'_>], part: Part) -> bool {
-    for (index, first) in lexemes.iter().enumerate() {
-        if let Some((_spelled, value)) = value_of(first, behind(lexemes, index))
-            && value.span.start as usize <= part.start
-            && part.end <= value.span.end as usize
-        {
+fn is_in_value(lexemes: &[Found<'_>], part: Part) -> bool
+    ensures { IsTrue result → IsInValue (map spanned_of lexemes.now) part }
+{
+    let mut left = lexemes;
+    'lexemes: while let [name, rest @ ..] = left {
+        if holds(name, rest, part) {
             return true;
         }
+        left = rest;
     }
     false
+}
+
+/// Whether a definition begins with a lexeme, and a part lies within its value.
+fn holds(name: &Found<'_>, rest: &[Found<'_>], part: Part) -> bool
+    ensures { IsTrue result → Holds (spanned_of name.now) (map spanned_of rest.now) part }
+{
+    match value_of(name, rest) {
+        Some((_spelled, value)) => {
+            value.span.start as usize <= part.start && part.end <= value.span.end as usize
+        }
+        None => false,
+    }
 }

@@ -4,7 +4,7 @@ ghost use Rattle.std.specs.Prelude.{◌≡◌, IfOk, IfSome};
 ghost use Rattle.ifs_lex.specs.Expansion.{HasTokens, defined_by};
 ghost use Rattle.ifs_parse.specs.Grammar.{NoneGoesOn};
 ghost use Rattle.ifs_parse.specs.Words.{fits_period};
-ghost use Rattle.ifs_advice.specs.Expected.{AreExpected, CanGoOn, IsStop, StopsBy};
+ghost use Rattle.ifs_place.specs.Expected.{AreExpected, CanGoOn, IsStop, StopsBy};
 
 use crate::expecting::{can_go_on, fault_line, is_front, kinds_behind, stands};
 use crate::kind::Kind;
@@ -45,7 +45,7 @@ pub fn stop_of<'a>(
 }
 
 /// The tokens of a text, if it has tokens.
-pub(crate) fn tokens_or_none<'a>(
+pub fn tokens_or_none<'a>(
     alloc: Global,
     text: &'a str,
     definitions: &'a [(&'a str, &'a str)],

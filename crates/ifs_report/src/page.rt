@@ -3,7 +3,7 @@
 use ifs_terminal::Escaped;
 use std::alloc::{AllocError, Global};
 
-/// How a piece of a page stands out.
+/// How a piece of a page is shown.
 #[derive(Clone, Copy)]
 pub(crate) enum Style {
     Error,

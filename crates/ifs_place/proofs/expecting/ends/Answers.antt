@@ -1,7 +1,7 @@
 use Rattle.std.proofs.Common.{◌∙◌, [], subst}
 use Rattle.ifs_parse.specs.Grammar.{Says}
-use Rattle.ifs_advice.proofs.Fronts.{some_cannot_end}
-use Rattle.ifs_advice.proofs.expecting.ends.Goals as goal
+use Rattle.ifs_place.proofs.Fronts.{some_cannot_end}
+use Rattle.ifs_place.proofs.expecting.ends.Goals as goal
 
 pub returns-in-None-clause-can : goal.returns-in-None-clause-can
 returns-in-None-clause-can c = λ yes.

@@ -1,7 +1,7 @@
 use Rattle.std.proofs.Common.{◌∙◌, refl, subst}
 use Rattle.ifs_parse.specs.Grammar.{Says}
-use Rattle.ifs_advice.proofs.Fronts.{some_can, some_cannot}
-use Rattle.ifs_advice.proofs.expecting.fault_line.Goals as goal
+use Rattle.ifs_place.proofs.Fronts.{some_can, some_cannot}
+use Rattle.ifs_place.proofs.expecting.fault_line.Goals as goal
 
 pub returns-clause-said : goal.returns-clause-said
 returns-clause-said c = λ none.

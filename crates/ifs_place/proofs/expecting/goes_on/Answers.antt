@@ -1,7 +1,7 @@
 use Rattle.std.proofs.Common.{sym, subst}
-use Rattle.ifs_advice.specs.Expected.{CannotGoOn, IsFront}
-use Rattle.ifs_advice.proofs.Fronts.{longer_front, none_goes_on}
-use Rattle.ifs_advice.proofs.expecting.goes_on.Goals as goal
+use Rattle.ifs_place.specs.Expected.{CannotGoOn, IsFront}
+use Rattle.ifs_place.proofs.Fronts.{longer_front, none_goes_on}
+use Rattle.ifs_place.proofs.expecting.goes_on.Goals as goal
 
 pub can_go_on-requires : goal.can_go_on-requires
 can_go_on-requires c = subst IsFront (sym c.in_ok-push.ensures.items) (longer_front c.args.front.now.items c.args.token c.requires.front c.requires.placed c.requires.inner)

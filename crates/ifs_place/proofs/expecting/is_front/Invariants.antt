@@ -1,6 +1,6 @@
 use Rattle.std.proofs.Common.{length}
-use Rattle.ifs_advice.specs.Expected.{IsFront}
-use Rattle.ifs_advice.proofs.expecting.is_front.Given as goal
+use Rattle.ifs_place.specs.Expected.{IsFront}
+use Rattle.ifs_place.proofs.expecting.is_front.Given as goal
 
 abbrev pub invariant-tokens : goal.invariant-tokens
 invariant-tokens l = IsFront l.left → IsFront l.tokens

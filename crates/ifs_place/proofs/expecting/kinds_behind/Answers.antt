@@ -1,8 +1,8 @@
 use Rattle.std.proofs.Common.{◌⊎◌, ◌∙◌, inl, refl, subst, sym}
 use Rattle.std.specs.List.{AllByRecursion}
-use Rattle.ifs_advice.specs.Expected.{HasKind}
-use Rattle.ifs_advice.proofs.KindLists.{Can, among, empty, listed_more, none_left, tried, tried_not, with_one, without_one}
-use Rattle.ifs_advice.proofs.expecting.kinds_behind.Goals as goal
+use Rattle.ifs_place.specs.Expected.{HasKind}
+use Rattle.ifs_place.proofs.KindLists.{Can, among, empty, listed_more, none_left, tried, tried_not, with_one, without_one}
+use Rattle.ifs_place.proofs.expecting.kinds_behind.Goals as goal
 
 pub kinds-init : goal.kinds-init
 kinds-init c = record { same = refl; listed = subst (AllByRecursion (Can c.args.front.now.items)) (sym c.new-kinds.ensures.items) tt; all = λ k can. inl (among k) }

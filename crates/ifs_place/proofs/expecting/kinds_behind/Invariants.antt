@@ -2,9 +2,9 @@ use Rattle.std.proofs.Common.{◌≡◌, ◌⊎◌, length}
 use Rattle.std.specs.List.{AllByRecursion}
 use Rattle.ifs_parse.specs.Grammar.{GoesOn}
 use Rattle.ifs_parse.specs.Words.{fits_period}
-use Rattle.ifs_advice.specs.declared.kind.Kind.{Kind}
-use Rattle.ifs_advice.specs.Expected.{HasKind, token_of}
-use Rattle.ifs_advice.proofs.expecting.kinds_behind.Given as goal
+use Rattle.ifs_place.specs.declared.kind.Kind.{Kind}
+use Rattle.ifs_place.specs.Expected.{HasKind, token_of}
+use Rattle.ifs_place.proofs.expecting.kinds_behind.Given as goal
 
 abbrev pub invariant-kinds : goal.invariant-kinds
 invariant-kinds l = record {

@@ -1,7 +1,7 @@
 use Rattle.std.proofs.Common.{subst}
 use Rattle.ifs_parse.specs.Grammar.{IsAt}
-use Rattle.ifs_advice.proofs.Fronts.{at_unexpected, at_period, at_nesting}
-use Rattle.ifs_advice.proofs.expecting.line_of_fault.Goals as goal
+use Rattle.ifs_place.proofs.Fronts.{at_unexpected, at_period, at_nesting}
+use Rattle.ifs_place.proofs.expecting.line_of_fault.Goals as goal
 
 pub returns-in-Err-Unexpected-clause-stops : goal.returns-in-Err-Unexpected-clause-stops
 returns-in-Err-Unexpected-clause-stops c =

@@ -1,4 +1,4 @@
-use Rattle.ifs_advice.proofs.placing.placed.Goals as goal
+use Rattle.ifs_place.proofs.placing.placed.Goals as goal
 
-pub returns-in-Definition : goal.returns-in-Definition
-returns-in-Definition c = c.given.ensures c.args.text.now
+pub returns-in-Definition-clause-placed : goal.returns-in-Definition-clause-placed
+returns-in-Definition-clause-placed c = c.given.ensures c.args.text.now c.args.line

@@ -1,6 +1,6 @@
 use Rattle.std.proofs.Common.{◌∙◌, ◌+◌, refl, sym, drop, arith}
-use Rattle.ifs_advice.proofs.StopParts.{number, parts}
-use Rattle.ifs_advice.proofs.stopping.stop_at.Goals as goal
+use Rattle.ifs_place.proofs.StopParts.{number, parts}
+use Rattle.ifs_place.proofs.stopping.stop_at.Goals as goal
 
 pub returns-in-Some-2 : goal.returns-in-Some-2
 returns-in-Some-2 c =
