@@ -27,7 +27,7 @@ later p rest part h = record {
   held = h.held;
 }
 
--- The same for the lexemes of a text, of which the first was looked at.
+-- The same for lexemes of the code: the first, and the rest behind it.
 pub here_first : (left : List Found) (other : Found) (part : Part) → 1 ≤ length left
     → Holds (spanned_of (get_or left 0 other)) (map spanned_of (take (length left - 1) (drop 1 left))) part → IsInValue (map spanned_of left) part
 here_first [] other part some h = absurd (omega (arith, some))
