@@ -11,6 +11,7 @@ import subprocess
 FILES = (
     ("check twice", "check outside"),
     ("check bytes", "check binding"),
+    ("check wordy", "check outside"),
     ("compile twice /dev/null", "compile first /dev/null"),
     ("compile one_over /dev/null", "compile none_told /dev/null"),
     ("graph twice", "graph outside"),
