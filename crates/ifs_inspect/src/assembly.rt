@@ -2,9 +2,10 @@
 
 ghost use Rattle.std.specs.Prelude.{ℕ, ◌≡◌, ◌≤◌, IfOk, Some, length};
 ghost use Rattle.ifs_asm.specs.FaultWords.{asm_fault_words};
-ghost use Rattle.ifs_inspect.specs.Codes.{first_word};
+ghost use Rattle.ifs_report.specs.Codes.{first_word};
 ghost use Rattle.ifs_inspect.specs.Places.{LiesOn, line_of};
 
+use crate::before::Before;
 use crate::finding::Finding;
 use crate::misplaced::{out_of_order, out_of_range};
 use crate::places::{cut, line_in};
@@ -14,8 +15,9 @@ use ifs_asm::AsmFault;
 use ifs_report::{Place, Report, Severity};
 use std::alloc::{AllocError, Global};
 
-/// The report on an assembly text that spells no image. Its place is the word that is wrong, as far as one can be told. If a
-/// part is missing at the end, it is the end of the text. The only error is a failed allocation.
+/// The report on an assembly text that spells no image. Its place is the word that is wrong, or the first word of the line
+/// if no other is known to be wrong. If a part is missing at the end, it is the end of the text. The only error is a failed
+/// allocation.
 pub fn of_assembly(alloc: Global, text: &[u8], fault: AsmFault) -> Result<Report, AllocError>
     ensures error { IfOk result (λ report. report.severity ≡ Severity.Error) }
     ensures code { IfOk result (λ report. report.code.now ≡ first_word (asm_fault_words fault)) }
@@ -48,9 +50,10 @@ fn on_line(alloc: Global, text: &[u8], fault: AsmFault, number: u64) -> Result<R
     let line = line_in(text, number);
     let (lines, rest) = text.split_at(line.start);
     let (bytes, _) = rest.split_at(line.end - line.start);
-    let finding = found(alloc, lines, bytes, fault)?;
-    let part = cut(line, finding.from, finding.to);
-    Ok(finding.report(code_of(fault), part))
+    let before = Before::of(lines);
+    let finding = found(alloc, &before, lines, bytes, fault)?;
+    let part = cut(line, finding.word.from, finding.word.to());
+    finding.report(alloc, &before, code_of(fault), part)
 }
 
 /// The code of a fault.
@@ -78,10 +81,16 @@ fn line_of(fault: AsmFault) -> Option<u64>
 }
 
 /// What is wrong with a line, after these lines.
-fn found(alloc: Global, lines: &[u8], line: &[u8], fault: AsmFault) -> Result<Finding, AllocError> {
+fn found<'a>(
+    alloc: Global,
+    before: &Before,
+    lines: &[u8],
+    line: &'a [u8],
+    fault: AsmFault,
+) -> Result<Finding<'a>, AllocError> {
     match fault {
-        AsmFault::Unknown { .. } => unformed(alloc, lines, line),
-        AsmFault::OutOfRange { .. } => out_of_range(alloc, lines, line),
-        AsmFault::OutOfOrder { .. } | AsmFault::Memory => out_of_order(alloc, lines, line),
+        AsmFault::Unknown { .. } => unformed(alloc, before, lines, line),
+        AsmFault::OutOfRange { .. } => Ok(out_of_range(before, line)),
+        AsmFault::OutOfOrder { .. } | AsmFault::Memory => Ok(out_of_order(before, line)),
     }
 }

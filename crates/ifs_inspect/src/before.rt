@@ -1,7 +1,7 @@
 //! What the lines before a line say.
 
-use crate::forms::{Form, Kind, form_named};
-use crate::words::Front;
+use crate::forms::{Form, Kind, form_named, kinds_of_lines, routine_form};
+use crate::words::{Front, is_newline};
 use ifs_image::limits;
 
 /// The number of lines before the tables.
@@ -25,7 +25,7 @@ pub(crate) struct Before {
 }
 
 /// The form of a line, by its first three words, as `asm` reads it. `None` if the first word begins no line.
-pub(crate) fn form_of(front: &Front<'_>) -> Option<Form> {
+pub(crate) fn form_of(front: &Front<'_>) -> Option<&'static Form> {
     form_named(front.first.bytes, !front.has_text())
 }
 
@@ -43,7 +43,7 @@ impl Before {
             code: 0,
             instructions: 0,
         };
-        for line in lines.split(|byte| *byte == b'\n') {
+        for line in lines.split(is_newline) {
             before.add(Front::of(line));
         }
         before
@@ -56,7 +56,7 @@ impl Before {
         }
         if let Some(form) = form_of(&line) {
             self.is_second = self.is_second || is_second(form, &line);
-            self.count(form.kind());
+            self.count(form.kind);
         }
     }
 
@@ -82,6 +82,20 @@ impl Before {
     /// Whether a line of this kind may come next.
     pub(crate) fn admits(&self, kind: Kind) -> bool {
         self.has_place(kind) && self.has_room(kind)
+    }
+
+    /// What has to come next, if it is one kind of line alone.
+    pub(crate) fn only_admitted(&self) -> Option<&'static str> {
+        let mut only = None;
+        for lines in kinds_of_lines() {
+            if self.admits(lines.kind) {
+                if only.is_some() {
+                    return None;
+                }
+                only = Some(lines.expected);
+            }
+        }
+        only
     }
 
     /// Whether a line of this kind may come next in the order of lines.
@@ -139,21 +153,16 @@ impl Before {
     }
 
     /// The form in which a routine begins. If the version is not known, it is the one with this second word.
-    pub(crate) fn routine_form(&self, second: &[u8]) -> Form {
-        let is_signature = if self.front == 0 {
+    pub(crate) fn routine_form(&self, second: &[u8]) -> &'static Form {
+        routine_form(if self.front == 0 {
             second == b"params".as_slice()
         } else {
             self.is_second
-        };
-        if is_signature {
-            Form::Signature
-        } else {
-            Form::Routine
-        }
+        })
     }
 }
 
 /// Whether a line says version 2.
-fn is_second(form: Form, line: &Front<'_>) -> bool {
-    form == Form::Version && line.second.bytes == b"2".as_slice()
+fn is_second(form: &Form, line: &Front<'_>) -> bool {
+    form.kind == Kind::Version && line.second.bytes == b"2".as_slice()
 }

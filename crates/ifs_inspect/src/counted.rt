@@ -1,61 +1,39 @@
 //! Numbers of things, and bytes, in words.
 
 use ifs_terminal::Escaped;
-use std::fmt::{self, Display, Formatter, Write};
+use std::alloc::AllocError;
 
 /// The most bytes of a word that are shown.
 const SHOWN: usize = 40;
 
-/// Prints how many things of a name there are, as `there are 4 states`.
-#[derive(Clone, Copy)]
-pub(crate) struct There(pub usize, pub &'static str);
-
-impl Display for There {
-    fn fmt<W: Write>(&self, f: &mut Formatter<W>) -> fmt::Result {
-        let There(count, name) = *self;
-        match count {
-            0 => write!(f, "there is no {name}"),
-            1 => write!(f, "there is 1 {name}"),
-            _ => write!(f, "there are {count} {name}s"),
-        }
+/// Adds how many things of a name there are, as `there are 4 states`.
+pub(crate) fn put_there(out: &mut String, count: usize, name: &str) -> Result<(), AllocError> {
+    match count {
+        0 => write!(out, "there is no {name}"),
+        1 => write!(out, "there is 1 {name}"),
+        _ => write!(out, "there are {count} {name}s"),
     }
 }
 
-/// Prints a number of things of a name, as `4 states`.
-#[derive(Clone, Copy)]
-pub(crate) struct Counted(pub usize, pub &'static str);
-
-impl Display for Counted {
-    fn fmt<W: Write>(&self, f: &mut Formatter<W>) -> fmt::Result {
-        let Counted(count, name) = *self;
-        let ending = if count == 1 { "" } else { "s" };
-        write!(f, "{count} {name}{ending}")
-    }
+/// Adds a number of things of a name, as `4 states`.
+pub(crate) fn put_counted(out: &mut String, count: usize, name: &str) -> Result<(), AllocError> {
+    let ending = if count == 1 { "" } else { "s" };
+    write!(out, "{count} {name}{ending}")
 }
 
-/// Prints bytes in two hexadecimal digits each.
-#[derive(Clone, Copy)]
-pub(crate) struct Hexadecimal<'a>(pub &'a [u8]);
-
-impl Display for Hexadecimal<'_> {
-    fn fmt<W: Write>(&self, f: &mut Formatter<W>) -> fmt::Result {
-        for byte in self.0 {
-            write!(f, "{byte:02x}")?;
-        }
-        Ok(())
+/// Adds bytes in two hexadecimal digits each.
+pub(crate) fn put_hexadecimal(out: &mut String, bytes: &[u8]) -> Result<(), AllocError> {
+    for byte in bytes {
+        write!(out, "{byte:02x}")?;
     }
+    Ok(())
 }
 
-/// Prints a word of a text between backticks. Of a long one it prints the first 40 bytes at most.
-#[derive(Clone, Copy)]
-pub(crate) struct Named<'a>(pub &'a [u8]);
-
-impl Display for Named<'_> {
-    fn fmt<W: Write>(&self, f: &mut Formatter<W>) -> fmt::Result {
-        let front = front_of(self.0);
-        let ending = if front.len() < self.0.len() { ".." } else { "" };
-        write!(f, "`{}{ending}`", Escaped(front))
-    }
+/// Adds a word of a text between backticks. Of a long one it adds the first 40 bytes at most.
+pub(crate) fn put_word(out: &mut String, word: &[u8]) -> Result<(), AllocError> {
+    let front = front_of(word);
+    let ending = if front.len() < word.len() { ".." } else { "" };
+    write!(out, "`{}{ending}`", Escaped(front))
 }
 
 /// The first bytes of a word, as many as are shown. It parts no character.

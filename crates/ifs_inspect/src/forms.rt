@@ -1,32 +1,119 @@
 //! The forms of lines, by their first words.
 
-use crate::slots::{Key, Range, Slot};
+use crate::slots::{
+    ANY_VERSION, BODY, COST, INDEX, INIT, KINDS, LINK_STATE, PARAMS, PERIOD, RESULTS, Slot,
+    TEST_LIST, TESTS, TEXT, TRUTHS, UP_TO_32, UP_TO_64,
+};
 
 /// A form of a line.
-#[derive(Clone, Copy, PartialEq, Eq)]
-pub(crate) enum Form {
-    Version,
-    Stack,
-    Frames,
-    Cost,
-    Commands,
-    Start,
-    Always,
-    Interface,
-    Test,
-    Command,
-    State,
-    /// The beginning of a routine in version 1.
-    Routine,
-    /// The beginning of a routine in version 2.
-    Signature,
-    /// An instruction without an operand.
-    Alone,
-    /// An instruction with a number as its operand.
-    Indexed,
-    /// The instruction on a link.
-    Link,
+#[derive(Clone, Copy)]
+pub(crate) struct Form {
+    pub kind: Kind,
+    /// What its words after the first one have to be.
+    pub slots: &'static [Slot],
+    /// The rule that its lines have this form.
+    pub rule: &'static str,
 }
+
+const VERSION: &Form = &Form {
+    kind: Kind::Version,
+    slots: &[ANY_VERSION],
+    rule: "an assembly text begins with `ifsv 1` or `ifsv 2`",
+};
+
+const STACK: &Form = &Form {
+    kind: Kind::Stack,
+    slots: &[UP_TO_32],
+    rule: "the stated stack is `stack N`",
+};
+
+const FRAMES: &Form = &Form {
+    kind: Kind::Frames,
+    slots: &[UP_TO_32],
+    rule: "the stated frames are `frames N`",
+};
+
+const STATED_COST: &Form = &Form {
+    kind: Kind::Cost,
+    slots: &[COST],
+    rule: "the stated cost is `cost N`",
+};
+
+const COMMANDS: &Form = &Form {
+    kind: Kind::Commands,
+    slots: &[UP_TO_64],
+    rule: "the stated commands are `commands N`",
+};
+
+const START: &Form = &Form {
+    kind: Kind::Start,
+    slots: &[INDEX],
+    rule: "the initial state is `start N`",
+};
+
+const ALWAYS: &Form = &Form {
+    kind: Kind::Always,
+    slots: &[INIT, INDEX, BODY, INDEX, TESTS, TEST_LIST],
+    rule: "the always part is `always init R body R tests LIST`",
+};
+
+const INTERFACE: &Form = &Form {
+    kind: Kind::Interface,
+    slots: &[TEXT],
+    rule: "an interface is `iface \"name\"`",
+};
+
+const TEST: &Form = &Form {
+    kind: Kind::Test,
+    slots: &[PERIOD, TEXT],
+    rule: "a test is `test PERIOD \"command\"`",
+};
+
+const COMMAND: &Form = &Form {
+    kind: Kind::Command,
+    slots: &[TEXT],
+    rule: "a command is `command \"text\"`",
+};
+
+const STATE: &Form = &Form {
+    kind: Kind::State,
+    slots: &[TEXT, INIT, INDEX, BODY, INDEX, TESTS, TEST_LIST],
+    rule: "a state is `state \"name\" init R body R tests LIST`",
+};
+
+/// The beginning of a routine in version 1.
+const ROUTINE: &Form = &Form {
+    kind: Kind::Routine,
+    slots: &[RESULTS, TRUTHS],
+    rule: "in version 1 a routine begins with `routine results N`",
+};
+
+/// The beginning of a routine in version 2.
+const SIGNATURE: &Form = &Form {
+    kind: Kind::Routine,
+    slots: &[PARAMS, KINDS, RESULTS, KINDS],
+    rule: "in version 2 a routine begins with `routine params KINDS results KINDS`",
+};
+
+/// An instruction without an operand.
+const ALONE: &Form = &Form {
+    kind: Kind::Instruction,
+    slots: &[],
+    rule: "this instruction has no operand",
+};
+
+/// An instruction with a number as its operand.
+const INDEXED: &Form = &Form {
+    kind: Kind::Instruction,
+    slots: &[INDEX],
+    rule: "this instruction has a number as its operand",
+};
+
+const LINK: &Form = &Form {
+    kind: Kind::Instruction,
+    slots: &[INDEX, LINK_STATE],
+    rule: "the instruction on a link is `link N STATE`",
+};
 
 /// What a line is in the order of lines.
 #[derive(Clone, Copy, PartialEq, Eq)]
@@ -50,134 +137,134 @@ pub(crate) enum Kind {
 #[derive(Clone, Copy)]
 pub(crate) struct Beginning {
     pub word: &'static str,
-    pub form: Form,
+    pub form: &'static Form,
 }
 
 /// The first words of lines. Those of tables come before those of instructions.
 const BEGINNINGS: &[Beginning] = &[
     Beginning {
         word: "ifsv",
-        form: Form::Version,
+        form: VERSION,
     },
     Beginning {
         word: "stack",
-        form: Form::Stack,
+        form: STACK,
     },
     Beginning {
         word: "frames",
-        form: Form::Frames,
+        form: FRAMES,
     },
     Beginning {
         word: "cost",
-        form: Form::Cost,
+        form: STATED_COST,
     },
     Beginning {
         word: "commands",
-        form: Form::Commands,
+        form: COMMANDS,
     },
     Beginning {
         word: "start",
-        form: Form::Start,
+        form: START,
     },
     Beginning {
         word: "always",
-        form: Form::Always,
+        form: ALWAYS,
     },
     Beginning {
         word: "iface",
-        form: Form::Interface,
+        form: INTERFACE,
     },
     Beginning {
         word: "test",
-        form: Form::Test,
+        form: TEST,
     },
     Beginning {
         word: "command",
-        form: Form::Command,
+        form: COMMAND,
     },
     Beginning {
         word: "state",
-        form: Form::State,
+        form: STATE,
     },
     Beginning {
         word: "routine",
-        form: Form::Routine,
+        form: ROUTINE,
     },
     Beginning {
         word: "ret",
-        form: Form::Alone,
+        form: ALONE,
     },
     Beginning {
         word: "true",
-        form: Form::Alone,
+        form: ALONE,
     },
     Beginning {
         word: "false",
-        form: Form::Alone,
+        form: ALONE,
     },
     Beginning {
         word: "link",
-        form: Form::Link,
+        form: LINK,
     },
     Beginning {
         word: "test",
-        form: Form::Indexed,
+        form: INDEXED,
     },
     Beginning {
         word: "known",
-        form: Form::Indexed,
+        form: INDEXED,
     },
     Beginning {
         word: "not",
-        form: Form::Alone,
+        form: ALONE,
     },
     Beginning {
         word: "and",
-        form: Form::Alone,
+        form: ALONE,
     },
     Beginning {
         word: "or",
-        form: Form::Alone,
+        form: ALONE,
     },
     Beginning {
         word: "cmd",
-        form: Form::Indexed,
+        form: INDEXED,
     },
     Beginning {
         word: "state",
-        form: Form::Indexed,
+        form: INDEXED,
     },
     Beginning {
         word: "queue",
-        form: Form::Alone,
+        form: ALONE,
     },
     Beginning {
         word: "want",
-        form: Form::Alone,
+        form: ALONE,
     },
     Beginning {
         word: "jump",
-        form: Form::Indexed,
+        form: INDEXED,
     },
     Beginning {
         word: "jf",
-        form: Form::Indexed,
+        form: INDEXED,
     },
     Beginning {
         word: "jt",
-        form: Form::Indexed,
+        form: INDEXED,
     },
     Beginning {
         word: "call",
-        form: Form::Indexed,
+        form: INDEXED,
     },
     Beginning {
         word: "pop",
-        form: Form::Alone,
+        form: ALONE,
     },
     Beginning {
         word: "dup",
-        form: Form::Alone,
+        form: ALONE,
     },
 ];
 
@@ -187,7 +274,7 @@ pub(crate) fn beginnings() -> &'static [Beginning] {
 }
 
 /// The form that a word begins. `test` and `state` begin two: that of an instruction if `in_code`, else that of a table.
-pub(crate) fn form_named(word: &[u8], in_code: bool) -> Option<Form> {
+pub(crate) fn form_named(word: &[u8], in_code: bool) -> Option<&'static Form> {
     let mut found = None;
     for beginning in beginnings() {
         let other = found.is_some() && beginning.form.is_instruction() != in_code;
@@ -199,129 +286,99 @@ pub(crate) fn form_named(word: &[u8], in_code: bool) -> Option<Form> {
 }
 
 impl Form {
-    /// What its lines are.
-    pub(crate) fn kind(self) -> Kind {
-        match self {
-            Form::Version => Kind::Version,
-            Form::Stack => Kind::Stack,
-            Form::Frames => Kind::Frames,
-            Form::Cost => Kind::Cost,
-            Form::Commands => Kind::Commands,
-            Form::Start => Kind::Start,
-            Form::Always => Kind::Always,
-            Form::Interface => Kind::Interface,
-            Form::Test => Kind::Test,
-            Form::Command => Kind::Command,
-            Form::State => Kind::State,
-            Form::Routine | Form::Signature => Kind::Routine,
-            Form::Alone | Form::Indexed | Form::Link => Kind::Instruction,
-        }
-    }
-
-    pub(crate) fn is_instruction(self) -> bool {
-        self.kind() == Kind::Instruction
-    }
-
-    /// What its words after the first one have to be.
-    pub(crate) fn slots(self) -> &'static [Slot] {
-        match self {
-            Form::Version => &[Slot::Version],
-            Form::Stack | Form::Frames => &[Slot::Number(Range::UpTo32)],
-            Form::Cost => &[Slot::Number(Range::Cost)],
-            Form::Commands => &[Slot::Number(Range::UpTo64)],
-            Form::Start | Form::Indexed => &[Slot::Number(Range::Index)],
-            Form::Always => &[
-                Slot::Key(Key::Init),
-                Slot::Number(Range::Index),
-                Slot::Key(Key::Body),
-                Slot::Number(Range::Index),
-                Slot::Key(Key::Tests),
-                Slot::Tests,
-            ],
-            Form::Interface | Form::Command => &[Slot::Text],
-            Form::Test => &[Slot::Number(Range::Period), Slot::Text],
-            Form::State => &[
-                Slot::Text,
-                Slot::Key(Key::Init),
-                Slot::Number(Range::Index),
-                Slot::Key(Key::Body),
-                Slot::Number(Range::Index),
-                Slot::Key(Key::Tests),
-                Slot::Tests,
-            ],
-            Form::Routine => &[Slot::Key(Key::Results), Slot::Number(Range::Truths)],
-            Form::Signature => &[
-                Slot::Key(Key::Params),
-                Slot::Kinds,
-                Slot::Key(Key::Results),
-                Slot::Kinds,
-            ],
-            Form::Alone => &[],
-            Form::Link => &[Slot::Number(Range::Index), Slot::LinkState],
-        }
-    }
-
-    /// The rule that its lines have this form.
-    pub(crate) fn rule(self) -> &'static str {
-        match self {
-            Form::Version => "an assembly text begins with `ifsv 1` or `ifsv 2`",
-            Form::Stack => "the stated stack is `stack N`",
-            Form::Frames => "the stated frames are `frames N`",
-            Form::Cost => "the stated cost is `cost N`",
-            Form::Commands => "the stated commands are `commands N`",
-            Form::Start => "the initial state is `start N`",
-            Form::Always => "the always part is `always init R body R tests LIST`",
-            Form::Interface => "an interface is `iface \"name\"`",
-            Form::Test => "a test is `test PERIOD \"command\"`",
-            Form::Command => "a command is `command \"text\"`",
-            Form::State => "a state is `state \"name\" init R body R tests LIST`",
-            Form::Routine => "in version 1 a routine begins with `routine results N`",
-            Form::Signature => {
-                "in version 2 a routine begins with `routine params KINDS results KINDS`"
-            }
-            Form::Alone => "this instruction has no operand",
-            Form::Indexed => "this instruction has a number as its operand",
-            Form::Link => "the instruction on a link is `link N STATE`",
-        }
+    pub(crate) fn is_instruction(&self) -> bool {
+        self.kind == Kind::Instruction
     }
 }
 
-impl Kind {
-    /// Its first word, or what it is if it has several.
-    pub(crate) fn expected(self) -> &'static str {
-        match self {
-            Kind::Version => "`ifsv`",
-            Kind::Stack => "`stack`",
-            Kind::Frames => "`frames`",
-            Kind::Cost => "`cost`",
-            Kind::Commands => "`commands`",
-            Kind::Start => "`start`",
-            Kind::Always => "`always`",
-            Kind::Interface => "`iface`",
-            Kind::Test => "`test`",
-            Kind::Command => "`command`",
-            Kind::State => "`state`",
-            Kind::Instruction => "an instruction",
-            Kind::Routine => "`routine`",
-        }
-    }
+/// The rule of instructions without an operand.
+pub(crate) fn no_operand() -> &'static str {
+    ALONE.rule
+}
 
-    /// The kinds, in the order of lines. A routine's line comes after its instructions here.
-    pub(crate) fn all() -> [Kind; 13] {
-        [
-            Kind::Version,
-            Kind::Stack,
-            Kind::Frames,
-            Kind::Cost,
-            Kind::Commands,
-            Kind::Start,
-            Kind::Always,
-            Kind::Interface,
-            Kind::Test,
-            Kind::Command,
-            Kind::State,
-            Kind::Instruction,
-            Kind::Routine,
-        ]
-    }
+/// The beginning of a routine.
+pub(crate) fn routine_form(is_second: bool) -> &'static Form {
+    if is_second { SIGNATURE } else { ROUTINE }
+}
+
+/// A kind of lines.
+#[derive(Clone, Copy)]
+pub(crate) struct Lines {
+    pub kind: Kind,
+    /// Their first word, or what they are if it differs.
+    pub expected: &'static str,
+    /// What is wrong with one that has no room left.
+    pub full: &'static str,
+    /// The rule that it breaks.
+    pub limit: &'static str,
+}
+
+/// A kind of lines that there is always room for.
+macro_rules! once {
+    ($kind:ident, $expected:literal) => {
+        Lines {
+            kind: Kind::$kind,
+            expected: $expected,
+            full: OUT_OF_RANGE,
+            limit: LIMITS,
+        }
+    };
+}
+
+/// What is wrong with a line that is out of range, if nothing else is known of it.
+pub(crate) const OUT_OF_RANGE: &str = "the line is out of range";
+
+/// The rule on numbers.
+pub(crate) const LIMITS: &str = "numbers have the limits of the image";
+
+/// The kinds of lines, in their order. A routine's line comes after its instructions here.
+const LINES: &[Lines] = &[
+    once!(Version, "`ifsv`"),
+    once!(Stack, "`stack`"),
+    once!(Frames, "`frames`"),
+    once!(Cost, "`cost`"),
+    once!(Commands, "`commands`"),
+    once!(Start, "`start`"),
+    once!(Always, "`always`"),
+    Lines {
+        kind: Kind::Interface,
+        expected: "`iface`",
+        full: "64 interfaces come before",
+        limit: "an image has at most 64 interfaces",
+    },
+    Lines {
+        kind: Kind::Test,
+        expected: "`test`",
+        full: "64 tests come before",
+        limit: "an image has at most 64 tests",
+    },
+    Lines {
+        kind: Kind::Command,
+        expected: "`command`",
+        full: "1,024 commands come before",
+        limit: "an image has at most 1,024 commands",
+    },
+    Lines {
+        kind: Kind::State,
+        expected: "`state`",
+        full: "256 states come before",
+        limit: "an image has at most 256 states",
+    },
+    Lines {
+        kind: Kind::Instruction,
+        expected: "an instruction",
+        full: "the image has no room for another instruction",
+        limit: "all routines have at most 8,192 instructions in version 1, and 65,535 in version 2",
+    },
+    Lines {
+        kind: Kind::Routine,
+        expected: "`routine`",
+        full: "1,024 routines come before",
+        limit: "an image has at most 1,024 routines",
+    },
+];
+
+/// The kinds of lines, in their order.
+pub(crate) fn kinds_of_lines() -> &'static [Lines] {
+    LINES
 }

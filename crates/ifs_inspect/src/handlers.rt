@@ -1,8 +1,8 @@
 //! The handlers of an image, by which routines are named.
 
+use crate::pieces::{Piece, put};
 use ifs_base::{Op, RoutineId};
 use ifs_image::{Handlers, ImageView};
-use ifs_terminal::Shown;
 use std::alloc::AllocError;
 
 /// What a handler belongs to.
@@ -28,7 +28,7 @@ struct Handler {
     role: Role,
 }
 
-/// How a handler stands to a routine.
+/// What a handler is to a routine.
 #[derive(Clone, Copy)]
 enum Relation {
     /// The routine is its own.
@@ -53,13 +53,28 @@ pub(crate) fn put_routine(
     routine: RoutineId,
 ) -> Result<(), AllocError> {
     match first_handler(image, Relation::Is, routine) {
-        Some(handler) => {
-            put_owner(out, image, handler.owner)?;
-            write!(out, ", {} routine {}", handler.role.word(), routine.0)?;
-            Ok(())
-        }
+        Some(handler) => put_handler(out, image, handler, routine),
         None => put_called(out, image, routine),
     }
+}
+
+/// Adds the routine of a handler.
+fn put_handler(
+    out: &mut String,
+    image: &ImageView<'_>,
+    handler: Handler,
+    routine: RoutineId,
+) -> Result<(), AllocError> {
+    put_owner(out, image, handler.owner)?;
+    put(
+        out,
+        &[
+            Piece::Words(", "),
+            Piece::Words(handler.role.word()),
+            Piece::Words(" routine "),
+            Piece::Number(u64::from(routine.0)),
+        ],
+    )
 }
 
 /// Adds a routine that is no handler.
@@ -68,13 +83,31 @@ fn put_called(
     image: &ImageView<'_>,
     routine: RoutineId,
 ) -> Result<(), AllocError> {
-    write!(out, "routine {}", routine.0)?;
-    if let Some(handler) = first_handler(image, Relation::Calls, routine) {
-        write!(out, ", which the {} of ", handler.role.word())?;
-        put_owner(out, image, handler.owner)?;
-        out.push_str(" calls")?;
+    put(
+        out,
+        &[
+            Piece::Words("routine "),
+            Piece::Number(u64::from(routine.0)),
+        ],
+    )?;
+    match first_handler(image, Relation::Calls, routine) {
+        Some(handler) => put_caller(out, image, handler),
+        None => Ok(()),
     }
-    Ok(())
+}
+
+/// Adds which handler calls a routine.
+fn put_caller(out: &mut String, image: &ImageView<'_>, handler: Handler) -> Result<(), AllocError> {
+    put(
+        out,
+        &[
+            Piece::Words(", which the "),
+            Piece::Words(handler.role.word()),
+            Piece::Words(" of "),
+        ],
+    )?;
+    put_owner(out, image, handler.owner)?;
+    out.push_str(" calls")
 }
 
 fn put_owner(out: &mut String, image: &ImageView<'_>, owner: Owner) -> Result<(), AllocError> {
@@ -90,11 +123,20 @@ pub(crate) fn put_state(
     image: &ImageView<'_>,
     state: usize,
 ) -> Result<(), AllocError> {
-    write!(out, "state {state}")?;
-    if state < image.states() {
-        write!(out, " {}", Shown(image.state_name(state)))?;
-    }
-    Ok(())
+    let (blank, name) = if state < image.states() {
+        (" ", Piece::Name(image.state_name(state)))
+    } else {
+        ("", Piece::Words(""))
+    };
+    put(
+        out,
+        &[
+            Piece::Words("state "),
+            Piece::Number(state as u64),
+            Piece::Words(blank),
+            name,
+        ],
+    )
 }
 
 /// The first handler that has a relation to a routine. The always part comes before the states.

@@ -2,15 +2,15 @@
 
 ghost use Rattle.std.specs.Prelude.{◌≡◌, IfOk};
 ghost use Rattle.ifs_image.specs.FaultWords.{image_fault_words};
-ghost use Rattle.ifs_inspect.specs.Codes.{first_word};
+ghost use Rattle.ifs_report.specs.Codes.{first_word};
 
-use crate::counted::{Hexadecimal, There};
-use crate::field::{Budget, Field, Table};
+use crate::causes::cause_of;
+use crate::field::Role;
+use crate::pieces::{Piece, put};
 use crate::refusal::refusal;
-use crate::walk::{Found, first_named, found_at};
+use crate::walk::{Found, first_same, found_at};
 use ifs_image::ImageFault;
 use ifs_report::{Place, Report, Severity};
-use ifs_terminal::Shown;
 use std::alloc::{AllocError, Global};
 use std::str::from_utf8;
 
@@ -62,80 +62,16 @@ fn offset_of(fault: ImageFault) -> Option<usize> {
     }
 }
 
-/// What is wrong, where no field is known.
+/// What is wrong, if no field is known.
 fn general(fault: ImageFault) -> &'static str {
-    match fault {
-        ImageFault::Truncated { .. } => "the image ends within a field",
-        ImageFault::WrongMagic { .. } => "the magic is another one",
-        ImageFault::WrongVersion { .. } => "there is no such version",
-        ImageFault::OutOfLimit { .. } => "a number is outside its limits",
-        ImageFault::BadText { .. } => "a text is none, or too long",
-        ImageFault::RepeatedName { .. } => "a name is that of an earlier entry",
-        ImageFault::Trailing { .. } => "there are more bytes after the last routine",
-        ImageFault::NoInstruction { .. } => "there is no such instruction",
-        ImageFault::Memory => "memory ran out",
-    }
+    cause_of(code_of(fault)).general
 }
 
-/// The rule that the field breaks.
+/// The rule that the field breaks. If its number is outside its limits, it is those.
 fn rule_of(fault: ImageFault, found: Option<Found<'_>>) -> &'static str {
-    match fault {
-        ImageFault::Truncated { .. } => "an image has each of its fields in full",
-        ImageFault::WrongMagic { .. } => "an image begins with the bytes 49465356, `IFSV`",
-        ImageFault::WrongVersion { .. } => "the version is 1 or 2",
-        ImageFault::OutOfLimit { .. } => limit_of(found),
-        ImageFault::BadText { .. } => {
-            "a name or a command has from 1 to 1,024 bytes of UTF-8 without NUL"
-        }
-        ImageFault::RepeatedName { .. } => {
-            "the names of interfaces differ, and so do the names of states"
-        }
-        ImageFault::Trailing { .. } => "an image ends with its last routine",
-        ImageFault::NoInstruction { .. } => {
-            "an instruction has a code from 00 to 12, and the bytes that it does not use are 0"
-        }
-        ImageFault::Memory => "reading an image takes memory",
-    }
-}
-
-/// The limits of a field.
-fn limit_of(found: Option<Found<'_>>) -> &'static str {
-    let Some(found) = found else {
-        return "a number is within its limits";
-    };
-    match found.field {
-        Field::Stated(budget) => limit_of_budget(budget),
-        Field::Count(table) => limit_of_table(table),
-        Field::Period(_) => "a period is from 1 to 604,800 seconds",
-        Field::Params(_) => "a routine has at most 4 parameters",
-        Field::Leaves(_) if found.version == 1 => "in version 1 a routine has no result, or 1",
-        Field::Leaves(_) => "a routine has at most 4 results",
-        Field::Param(_, _) | Field::Leaf(_, _) => {
-            "a kind is 0 (a truth), 1 (a command) or 2 (the name of a state)"
-        }
-        Field::CodeLength(_) => {
-            "a routine has at most 1,024 instructions, and all have at most 8,192 in version 1 and 65,535 in version 2"
-        }
-        _ => "a number is within its limits",
-    }
-}
-
-fn limit_of_budget(budget: Budget) -> &'static str {
-    match budget {
-        Budget::Stack => "the stated stack is at most 32",
-        Budget::Frames => "the stated frames are at most 32",
-        Budget::Cost => "the stated cost is at most 300,000",
-        Budget::Commands => "the stated commands are at most 64",
-    }
-}
-
-fn limit_of_table(table: Table) -> &'static str {
-    match table {
-        Table::Interfaces => "an image has at most 64 interfaces",
-        Table::Tests => "an image has at most 64 tests",
-        Table::Commands => "an image has at most 1,024 commands",
-        Table::States => "an image has from 1 to 256 states",
-        Table::Routines => "an image has at most 1,024 routines",
+    match (fault, found) {
+        (ImageFault::OutOfLimit { .. }, Some(found)) => found.field.row.limit,
+        _ => cause_of(code_of(fault)).rule,
     }
 }
 
@@ -165,14 +101,31 @@ fn message_of(
     found: Option<Found<'_>>,
 ) -> Result<String, AllocError> {
     let mut message = String::new(alloc);
+    put_message(&mut message, image, fault, found)?;
+    Ok(message)
+}
+
+/// Adds the offset, and what is wrong there.
+fn put_message(
+    out: &mut String,
+    image: &[u8],
+    fault: ImageFault,
+    found: Option<Found<'_>>,
+) -> Result<(), AllocError> {
     if let Some(at) = offset_of(fault) {
-        write!(message, "byte {at}: ")?;
+        put(
+            out,
+            &[
+                Piece::Words("byte "),
+                Piece::Number(at as u64),
+                Piece::Words(": "),
+            ],
+        )?;
     }
     match found {
-        Some(found) => put_found(&mut message, image, fault, found)?,
-        None => message.push_str(general(fault))?,
+        Some(found) => put_found(out, image, fault, found),
+        None => out.push_str(general(fault)),
     }
-    Ok(message)
 }
 
 /// Adds what is wrong with a field.
@@ -195,28 +148,39 @@ fn put_found(
 }
 
 fn put_truncated(out: &mut String, found: Found<'_>) -> Result<(), AllocError> {
-    let side = if found.bytes.is_empty() {
-        "before"
+    let words = if found.bytes.is_empty() {
+        "the image ends before "
     } else {
-        "within"
+        "the image ends within "
     };
-    write!(out, "the image ends {side} {}", found.field)?;
-    Ok(())
+    put(out, &[Piece::Words(words), Piece::Field(found.field)])
 }
 
 fn put_version(out: &mut String, found: Found<'_>) -> Result<(), AllocError> {
-    write!(out, "version {}", number_in(found.bytes))?;
-    Ok(())
+    let version = number_in(found.bytes);
+    put(out, &[Piece::Words("version "), Piece::Number(version)])
 }
 
 fn put_number(out: &mut String, found: Found<'_>) -> Result<(), AllocError> {
-    write!(out, "{} is {}", found.field, number_in(found.bytes))?;
-    Ok(())
+    let number = number_in(found.bytes);
+    put(
+        out,
+        &[
+            Piece::Field(found.field),
+            Piece::Words(" is "),
+            Piece::Number(number),
+        ],
+    )
 }
 
 fn put_trailing(out: &mut String, more: usize) -> Result<(), AllocError> {
-    write!(out, "after the last routine {}", There(more, "more byte"))?;
-    Ok(())
+    put(
+        out,
+        &[
+            Piece::Words("after the last routine "),
+            Piece::There(more, "more byte"),
+        ],
+    )
 }
 
 /// The number that bytes spell, the high one first. Of more than eight bytes it is that of the last eight.
@@ -230,53 +194,106 @@ fn number_in(bytes: &[u8]) -> u64 {
 
 /// Adds the bytes of the magic or of an instruction, and which of them is wrong.
 fn put_bytes(out: &mut String, found: Found<'_>) -> Result<(), AllocError> {
-    write!(out, "{} is {}", found.field, Hexadecimal(found.bytes))?;
-    let Field::Instruction(_, _) = found.field else {
+    put(
+        out,
+        &[
+            Piece::Field(found.field),
+            Piece::Words(" is "),
+            Piece::Bytes(found.bytes),
+        ],
+    )?;
+    match found.field.row.role {
+        Role::Instruction => put_wrong_byte(out, found.bytes),
+        _ => Ok(()),
+    }
+}
+
+/// Adds which byte of an instruction is wrong.
+fn put_wrong_byte(out: &mut String, bytes: &[u8]) -> Result<(), AllocError> {
+    let [code, state, _, _] = bytes else {
         return Ok(());
     };
-    match found.bytes {
-        [code, _, _, _] if *code > 0x12 => write!(out, ", and {code:02x} is no code")?,
-        [3, state, _, _] => write!(out, ", and {state:02x} is no link state")?,
-        [code, (1..=255), _, _] => write!(out, ", and code {code:02x} has no link state")?,
-        [code, _, _, _] => write!(out, ", and code {code:02x} has no operand")?,
-        _ => {}
+    if *code > 0x12 {
+        put_byte(out, ", and ", *code, " is no code")
+    } else if *code == 3 {
+        put_byte(out, ", and ", *state, " is no link state")
+    } else if *state != 0 {
+        put_byte(out, ", and code ", *code, " has no link state")
+    } else {
+        put_byte(out, ", and code ", *code, " has no operand")
     }
-    Ok(())
+}
+
+/// Adds a byte between words.
+fn put_byte(
+    out: &mut String,
+    before: &'static str,
+    byte: u8,
+    after: &'static str,
+) -> Result<(), AllocError> {
+    write!(out, "{before}{byte:02x}{after}")
 }
 
 /// Adds what is wrong with the length of a text, or with the text.
 fn put_text(out: &mut String, found: Found<'_>) -> Result<(), AllocError> {
-    let Field::Text(_, _) = found.field else {
+    let Role::Text = found.field.row.role else {
         return put_number(out, found);
     };
     let (words, place) = match from_utf8(found.bytes) {
-        Ok(text) => ("has a NUL", first_nul(text.as_bytes())),
-        Err(error) => ("is not UTF-8", error.valid_up_to()),
+        Ok(text) => (" has a NUL at byte ", first_nul(text.as_bytes())),
+        Err(error) => (" is not UTF-8 at byte ", error.valid_up_to()),
     };
     let at = found.at.saturating_add(place);
-    write!(out, "{} {words} at byte {at}", found.field)?;
-    Ok(())
+    put(
+        out,
+        &[
+            Piece::Field(found.field),
+            Piece::Words(words),
+            Piece::Number(at as u64),
+        ],
+    )
 }
 
 /// The place of the first NUL, or the number of bytes if there is none.
 fn first_nul(bytes: &[u8]) -> usize {
-    bytes.iter().take_while(|byte| **byte != 0).count()
+    for (place, byte) in bytes.iter().enumerate() {
+        if *byte == 0 {
+            return place;
+        }
+    }
+    bytes.len()
 }
 
 /// Adds a name, and the earlier entry that has it.
 fn put_repeated(out: &mut String, image: &[u8], found: Found<'_>) -> Result<(), AllocError> {
-    match (found.field, from_utf8(found.bytes)) {
-        (Field::Text(table, _), Ok(name)) => {
-            write!(out, "{} is {}", found.field, Shown(name))?;
-            put_earlier(out, first_named(image, table, found.bytes))
+    match (found.field.row.role, from_utf8(found.bytes)) {
+        (Role::Text, Ok(name)) => {
+            let earlier = first_same(image, found.field.row, found.bytes);
+            put_name(out, found, name, earlier)
         }
         _ => put_number(out, found),
     }
 }
 
-fn put_earlier(out: &mut String, earlier: Option<Found<'_>>) -> Result<(), AllocError> {
-    if let Some(earlier) = earlier {
-        write!(out, ", and so is {}", earlier.field)?;
+fn put_name(
+    out: &mut String,
+    found: Found<'_>,
+    name: &str,
+    earlier: Option<Found<'_>>,
+) -> Result<(), AllocError> {
+    put(
+        out,
+        &[
+            Piece::Field(found.field),
+            Piece::Words(" is "),
+            Piece::Name(name),
+        ],
+    )?;
+    match earlier {
+        Some(earlier) => put(
+            out,
+            &[Piece::Words(", and so is "), Piece::Field(earlier.field)],
+        ),
+        None => Ok(()),
     }
-    Ok(())
 }

@@ -1,98 +1,97 @@
 //! Instructions in words: as `disasm` prints them, and what they take.
 
-use ifs_base::{Kind, LinkState, Op};
-use std::fmt::{self, Display, Formatter, Write};
+use ifs_base::{Kind, LinkState, Op, encode_op};
+use std::alloc::AllocError;
 
-/// Prints an instruction between backticks, with the words of its assembly text.
-#[derive(Clone, Copy)]
-pub(crate) struct Written(pub Op);
-
-/// The words of an instruction: its name, its operand, and the link state that follows.
+/// What is said of instructions of one code.
 #[derive(Clone, Copy)]
 struct Words {
     name: &'static str,
-    operand: Option<u16>,
-    state: &'static str,
+    has_operand: bool,
+    /// The values that it takes off the stack. It is empty if it takes none, and for `call`.
+    taken: &'static str,
 }
 
-impl Display for Written {
-    fn fmt<W: Write>(&self, f: &mut Formatter<W>) -> fmt::Result {
-        let Words {
-            name,
-            operand,
-            state,
-        } = words_of(self.0);
-        match operand {
-            Some(operand) => write!(f, "`{name} {operand}{state}`"),
-            None => write!(f, "`{name}`"),
+macro_rules! alone {
+    ($name:literal, $taken:literal) => {
+        Words {
+            name: $name,
+            has_operand: false,
+            taken: $taken,
         }
-    }
+    };
 }
 
+macro_rules! indexed {
+    ($name:literal, $taken:literal) => {
+        Words {
+            name: $name,
+            has_operand: true,
+            taken: $taken,
+        }
+    };
+}
+
+/// The instructions, in the order of their codes.
+const INSTRUCTIONS: &[Words] = &[
+    alone!("ret", ""),
+    alone!("true", ""),
+    alone!("false", ""),
+    indexed!("link", ""),
+    indexed!("test", ""),
+    indexed!("known", ""),
+    alone!("not", "a truth"),
+    alone!("and", "two truths"),
+    alone!("or", "two truths"),
+    indexed!("cmd", ""),
+    indexed!("state", ""),
+    alone!("queue", "a command"),
+    alone!("want", "the name of a state"),
+    indexed!("jump", ""),
+    indexed!("jf", "a truth"),
+    indexed!("jt", "a truth"),
+    indexed!("call", ""),
+    alone!("pop", "a value"),
+    alone!("dup", "a value"),
+];
+
+fn instructions() -> &'static [Words] {
+    INSTRUCTIONS
+}
+
+/// The words of an instruction.
 fn words_of(op: Op) -> Words {
+    let [code, _, _, _] = encode_op(op);
+    match instructions().get(usize::from(code)) {
+        Some(words) => *words,
+        None => alone!("", ""),
+    }
+}
+
+/// Adds an instruction between backticks, with the words of its assembly text.
+pub(crate) fn put_op(out: &mut String, op: Op) -> Result<(), AllocError> {
+    let words = words_of(op);
+    if !words.has_operand {
+        return write!(out, "`{}`", words.name);
+    }
+    let [_, _, high, low] = encode_op(op);
+    let operand = u16::from_be_bytes([high, low]);
+    write!(out, "`{} {operand}{}`", words.name, link_word(op))
+}
+
+/// The link state of an instruction on a link.
+fn link_word(op: Op) -> &'static str {
     match op {
-        Op::Ret => alone("ret"),
-        Op::Yes => alone("true"),
-        Op::No => alone("false"),
-        Op::Link(iface, state) => Words {
-            name: "link",
-            operand: Some(iface.0),
-            state: link_word(state),
-        },
-        Op::Test(test) => indexed("test", test.0),
-        Op::Known(test) => indexed("known", test.0),
-        Op::Negate => alone("not"),
-        Op::Both => alone("and"),
-        Op::Either => alone("or"),
-        Op::PushCommand(command) => indexed("cmd", command.0),
-        Op::PushState(state) => indexed("state", state.0),
-        Op::Queue => alone("queue"),
-        Op::Want => alone("want"),
-        Op::Jump(place) => indexed("jump", place),
-        Op::JumpFalse(place) => indexed("jf", place),
-        Op::JumpTrue(place) => indexed("jt", place),
-        Op::Call(routine) => indexed("call", routine.0),
-        Op::Pop => alone("pop"),
-        Op::Dup => alone("dup"),
+        Op::Link(_, LinkState::Unknown) => " unknown",
+        Op::Link(_, LinkState::Down) => " down",
+        Op::Link(_, LinkState::Up) => " up",
+        _ => "",
     }
 }
 
-/// An instruction without an operand.
-fn alone(name: &'static str) -> Words {
-    Words {
-        name,
-        operand: None,
-        state: "",
-    }
-}
-
-/// An instruction with an operand alone.
-fn indexed(name: &'static str, operand: u16) -> Words {
-    Words {
-        name,
-        operand: Some(operand),
-        state: "",
-    }
-}
-
-fn link_word(state: LinkState) -> &'static str {
-    match state {
-        LinkState::Unknown => " unknown",
-        LinkState::Down => " down",
-        LinkState::Up => " up",
-    }
-}
-
-/// The values that an instruction other than `call` takes off the stack, and `None` if it takes none.
-pub(crate) fn taken_by(op: Op) -> Option<&'static str> {
-    match op {
-        Op::Negate | Op::JumpFalse(_) | Op::JumpTrue(_) => Some("a truth"),
-        Op::Both | Op::Either => Some("two truths"),
-        Op::Queue => Some("a command"),
-        Op::Want => Some("the name of a state"),
-        Op::Pop | Op::Dup => Some("a value"),
-        _ => None,
-    }
+/// The values that an instruction other than `call` takes off the stack. It is empty if it takes none.
+pub(crate) fn taken_by(op: Op) -> &'static str {
+    words_of(op).taken
 }
 
 /// The place that a jump leads to.
@@ -103,20 +102,14 @@ pub(crate) fn target_of(op: Op) -> Option<u16> {
     }
 }
 
-/// Prints kinds between backticks, as assembly text has them: with commas between them, the topmost last.
-#[derive(Clone, Copy)]
-pub(crate) struct Kinds<'a>(pub &'a [Kind]);
-
-impl Display for Kinds<'_> {
-    fn fmt<W: Write>(&self, f: &mut Formatter<W>) -> fmt::Result {
-        let mut before = "`";
-        for kind in self.0 {
-            f.write_str(before)?;
-            f.write_str(kind_word(*kind))?;
-            before = ",";
-        }
-        f.write_str(if self.0.is_empty() { "`-`" } else { "`" })
+/// Adds kinds between backticks, as assembly text has them: with commas between them, the topmost last.
+pub(crate) fn put_kinds(out: &mut String, kinds: &[Kind]) -> Result<(), AllocError> {
+    let mut before = "`";
+    for kind in kinds {
+        write!(out, "{before}{}", kind_word(*kind))?;
+        before = ",";
     }
+    out.push_str(if kinds.is_empty() { "`-`" } else { "`" })
 }
 
 fn kind_word(kind: Kind) -> &'static str {

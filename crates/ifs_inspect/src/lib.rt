@@ -1,7 +1,7 @@
 //! Reports on refused images and on refused assembly texts, in words.
 //!
 //! The refusal itself, its code and its place, comes from `ifs_image`, `ifs_verify` and `ifs_asm`. This crate reads the
-//! image or the text again, up to that place, and says what stands there, what is wrong with it and which rule it breaks.
+//! image or the text again, up to that place, and says what is there, what is wrong with it and which rule it breaks.
 //! It takes any bytes and any fault. If they do not belong together, the words are general.
 //!
 //! Contract: a report is an error with the code of the fault. The place in an assembly text lies on the line of the fault.
@@ -10,6 +10,7 @@
 
 mod assembly;
 mod before;
+mod causes;
 mod counted;
 mod field;
 mod finding;
@@ -18,6 +19,7 @@ mod handlers;
 mod image_bytes;
 mod instruction;
 mod misplaced;
+mod pieces;
 mod places;
 mod quoting;
 mod refusal;

@@ -1,148 +1,131 @@
 //! A2 and A3: lines that have a form, and are out of range or out of order.
 
 use crate::before::{Before, form_of};
-use crate::counted::Named;
-use crate::finding::{Finding, admitted, listed};
-use crate::forms::{Form, Kind};
+use crate::finding::{Expected, Finding, Sentence};
+use crate::forms::{Form, Kind, LIMITS, OUT_OF_RANGE, form_named, kinds_of_lines, no_operand};
+use crate::pieces::Piece;
 use crate::quoting::length_of;
-use crate::slots::{Fit, Slot};
-use crate::unformed::{first_misfit, said};
-use crate::words::{Front, Word, words_of};
-use std::alloc::{AllocError, Global};
+use crate::slots::{Fit, Item, Slot};
+use crate::unformed::{alone, first_misfit, named};
+use crate::words::{Front, Unread, Word};
 
 /// The rule of the order of lines.
 const ORDER: &str =
     "the order of lines is `ifsv`, `stack`, `frames`, `cost`, `commands`, `start`, `always`, `iface`, `test`, `command`, `state`, `routine`";
 
 /// What is wrong with a line that is out of range, after these lines.
-pub(crate) fn out_of_range(
-    alloc: Global,
-    lines: &[u8],
-    line: &[u8],
-) -> Result<Finding, AllocError> {
-    let before = Before::of(lines);
+pub(crate) fn out_of_range<'a>(before: &Before, line: &'a [u8]) -> Finding<'a> {
     let front = Front::of(line);
-    let words = words_of(alloc, line)?;
-    let form = match form_of(&front) {
-        Some(Form::Routine) => before.routine_form(front.second.bytes),
-        Some(form) => form,
-        None => return said(alloc, front.first, "the line is out of range", Form::Alone),
-    };
-    match first_misfit(form.slots(), words.as_slice(), Fit::OutOfRange) {
-        Some((slot, Some(word))) => excess(alloc, slot, word),
-        _ => one_too_many(alloc, &before, form, front.first),
+    match form_of(&front) {
+        Some(form) if form.kind == Kind::Routine => {
+            beyond(
+                before,
+                before.routine_form(front.second.bytes),
+                line,
+                front.first,
+            )
+        }
+        Some(form) => beyond(before, form, line, front.first),
+        None => alone(front.first, Sentence::Words(OUT_OF_RANGE), no_operand()),
+    }
+}
+
+/// What is out of range: a word of the line, or the line itself, since its first word begins one line too many.
+fn beyond<'a>(before: &Before, form: &Form, line: &'a [u8], first: Word<'a>) -> Finding<'a> {
+    let mut unread = Unread::after_first(line);
+    match first_misfit(&mut unread, form.slots, Fit::OutOfRange) {
+        Some((slot, word)) => excess(slot, word),
+        None => one_too_many(before, form.kind, first),
     }
 }
 
 /// What is wrong with a word that is out of its range.
-fn excess(alloc: Global, slot: Slot, word: Word<'_>) -> Result<Finding, AllocError> {
-    let message = match (slot, length_of(word.bytes)) {
-        (Slot::Text, Ok(0)) => String::from_str(alloc, "the text is empty")?,
-        (Slot::Text, Ok(length)) => format!(in alloc; "the text has {length} bytes")?,
-        _ => format!(in alloc; "{} {}", Named(word.bytes), slot.excess())?,
+fn excess<'a>(slot: &'static Slot, word: Word<'a>) -> Finding<'a> {
+    let message = match (slot.item, length_of(word.bytes)) {
+        (Item::Text, Ok(0)) => Sentence::Words("the text is empty"),
+        (Item::Text, Ok(length)) => Sentence::About(
+            "the text has ",
+            Piece::Number(length as u64),
+            " bytes",
+        ),
+        _ => named(word, slot.excess()),
     };
-    let expected = listed(alloc, slot.expected())?;
-    Ok(Finding::on(alloc, word, message, expected, slot.rule()))
+    Finding::on(word, message, Expected::Words(slot.expected), slot.rule())
 }
 
-/// What is wrong with a line for which there is no room.
-fn one_too_many(
-    alloc: Global,
-    before: &Before,
-    form: Form,
-    word: Word<'_>,
-) -> Result<Finding, AllocError> {
-    let (message, rule) = limit_of(before, form.kind());
-    let message = String::from_str(alloc, message)?;
-    let expected = admitted(alloc, before)?;
-    Ok(Finding::on(alloc, word, message, expected, rule))
+/// What is wrong with a line of a kind that has no room left.
+fn one_too_many<'a>(before: &Before, kind: Kind, word: Word<'a>) -> Finding<'a> {
+    let (message, rule) = limit_of(before, kind);
+    Finding::on(word, Sentence::Words(message), Expected::Line, rule)
 }
 
 /// The limit that a line of this kind passes.
 fn limit_of(before: &Before, kind: Kind) -> (&'static str, &'static str) {
     if before.has_room(kind) {
-        return (
-            "the line is out of range",
-            "numbers have the limits of the image",
-        );
+        return (OUT_OF_RANGE, LIMITS);
     }
-    match kind {
-        Kind::Interface => (
-            "64 interfaces come before",
-            "an image has at most 64 interfaces",
-        ),
-        Kind::Test => ("64 tests come before", "an image has at most 64 tests"),
-        Kind::Command => (
-            "1,024 commands come before",
-            "an image has at most 1,024 commands",
-        ),
-        Kind::State => ("256 states come before", "an image has at most 256 states"),
-        Kind::Routine => (
-            "1,024 routines come before",
-            "an image has at most 1,024 routines",
-        ),
-        _ if !before.has_room_in_routine() => (
+    if kind == Kind::Instruction && !before.has_room_in_routine() {
+        return (
             "the routine has 1,024 instructions before",
             "a routine has at most 1,024 instructions",
-        ),
-        _ => (
-            "the image has no room for another instruction",
-            "all routines have at most 8,192 instructions in version 1, and 65,535 in version 2",
-        ),
+        );
     }
+    for lines in kinds_of_lines() {
+        if lines.kind == kind {
+            return (lines.full, lines.limit);
+        }
+    }
+    (OUT_OF_RANGE, LIMITS)
 }
 
 /// What is wrong with a line that is out of order, or with a text that ends too early. These lines come before.
-pub(crate) fn out_of_order(
-    alloc: Global,
-    lines: &[u8],
-    line: &[u8],
-) -> Result<Finding, AllocError> {
-    let before = Before::of(lines);
+pub(crate) fn out_of_order<'a>(before: &Before, line: &'a [u8]) -> Finding<'a> {
     let front = Front::of(line);
     if front.is_silent() {
-        return ends_early(alloc, &before, front.first);
+        return ends_early(before, front.first);
     }
-    let is_instruction = match form_of(&front) {
-        Some(form) => form.is_instruction(),
-        None => false,
-    };
-    let name = Named(front.first.bytes);
-    let message = if is_instruction {
-        format!(in alloc; "the instruction {name} cannot stand before the first routine")?
-    } else {
-        format!(in alloc; "{name} cannot stand here")?
-    };
-    let expected = admitted(alloc, &before)?;
-    let mut finding = Finding::on(alloc, front.first, message, expected, ORDER);
-    finding.hint = hint_on_tables(alloc, &before, front.first.bytes, is_instruction)?;
-    Ok(finding)
+    let word = front.first;
+    match form_of(&front) {
+        Some(form) if form.is_instruction() => early_instruction(before, word),
+        _ => out_of_place(word, named(word, " cannot stand here")),
+    }
+}
+
+/// What is wrong with a word that is not the next one in the order of lines.
+fn out_of_place<'a>(word: Word<'a>, message: Sentence<'a>) -> Finding<'a> {
+    Finding::on(word, message, Expected::Line, ORDER)
+}
+
+/// What is wrong with an instruction before the first routine.
+fn early_instruction<'a>(before: &Before, word: Word<'a>) -> Finding<'a> {
+    let name = Piece::Word(word.bytes);
+    let message = Sentence::About(
+        "the instruction ",
+        name,
+        " cannot stand before the first routine",
+    );
+    Finding {
+        hint: hint_on_tables(before, word.bytes),
+        ..out_of_place(word, message)
+    }
 }
 
 /// The form of a table's line, for an instruction that begins with the same word.
-fn hint_on_tables(
-    alloc: Global,
-    before: &Before,
-    word: &[u8],
-    is_instruction: bool,
-) -> Result<Option<String>, AllocError> {
-    if !is_instruction || !before.has_front() || before.has_routine() {
-        return Ok(None);
+fn hint_on_tables(before: &Before, word: &[u8]) -> Option<Sentence<'static>> {
+    if !before.has_front() || before.has_routine() {
+        return None;
     }
-    let form = match word {
-        b"test" => Form::Test,
-        b"state" => Form::State,
-        _ => return Ok(None),
-    };
-    Ok(Some(String::from_str(alloc, form.rule())?))
+    match form_named(word, false) {
+        Some(form) if !form.is_instruction() => Some(Sentence::Words(form.rule)),
+        _ => None,
+    }
 }
 
 /// What is missing at the end of a text.
-fn ends_early(alloc: Global, before: &Before, word: Word<'_>) -> Result<Finding, AllocError> {
-    let expected = admitted(alloc, before)?;
-    let message = match expected.as_slice() {
-        [only] => format!(in alloc; "the text ends, and {only} is missing")?,
-        _ => String::from_str(alloc, "the text ends, and a state is missing")?,
+fn ends_early<'a>(before: &Before, word: Word<'a>) -> Finding<'a> {
+    let message = match before.only_admitted() {
+        Some(line) => Sentence::About("the text ends, and ", Piece::Words(line), " is missing"),
+        None => Sentence::Words("the text ends, and a state is missing"),
     };
-    Ok(Finding::on(alloc, word, message, expected, ORDER))
+    out_of_place(word, message)
 }

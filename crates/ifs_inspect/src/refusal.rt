@@ -5,7 +5,7 @@ ghost use Rattle.std.specs.Prelude.{◌≡◌};
 use ifs_report::{Place, Report, Severity};
 use std::alloc::Global;
 
-/// The report of a refusal, without other places and without what could stand there.
+/// The report of a refusal, without other places and without what could be there.
 pub(crate) fn refusal(
     alloc: Global,
     code: &'static str,

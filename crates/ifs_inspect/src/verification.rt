@@ -2,15 +2,16 @@
 
 ghost use Rattle.std.specs.Prelude.{◌≡◌, ◌<◌, IfOk, length};
 ghost use Rattle.ifs_verify.specs.FaultWords.{verify_fault_words};
-ghost use Rattle.ifs_inspect.specs.Codes.{first_word};
+ghost use Rattle.ifs_report.specs.Codes.{first_word};
 
-use crate::counted::{Counted, There};
+use crate::causes::cause_of;
 use crate::handlers::{put_routine, put_state};
 use crate::image_bytes::{code_of as image_code, of_image};
-use crate::instruction::{Kinds, Written, taken_by, target_of};
+use crate::instruction::{taken_by, target_of};
+use crate::pieces::{Piece, put};
 use crate::refusal::refusal;
-use ifs_base::{Op, RoutineId};
-use ifs_image::{Handlers, ImageFault, ImageView, view};
+use ifs_base::{Kind, Op, RoutineId};
+use ifs_image::{Budgets, Handlers, ImageFault, ImageView, view};
 use ifs_report::{Place, Report, Severity};
 use ifs_verify::{At, VerifyFault};
 use std::alloc::{AllocError, Global};
@@ -59,54 +60,16 @@ fn code_of(fault: VerifyFault) -> &'static str
 
 /// The rule that is broken.
 fn rule_of(fault: VerifyFault) -> &'static str {
-    match fault {
-        VerifyFault::NoImage(_) => "only bytes that spell an image can be verified",
-        VerifyFault::NoEntry(_) => {
-            "each index is in its table, and each mask has only tests of the table"
-        }
-        VerifyFault::JumpTarget(_) => "a jump goes to a later place of its own routine",
-        VerifyFault::LeftAtEnd(_) => "a routine has instructions, and the last one is `ret`",
-        VerifyFault::Unreached(_) => "each place other than 0 follows an earlier one",
-        VerifyFault::WrongOperand(_) => {
-            "an instruction finds its operands on the stack, each of its kind"
-        }
-        VerifyFault::WaysDisagree(_) => "all ways to a place lead there with the same stack",
-        VerifyFault::CallNotLower(_) => "a routine calls only routines of lower numbers",
-        VerifyFault::WrongResults(_) => "at `ret` the stack has the results of the routine alone",
-        VerifyFault::StackOver(At::Head) => "each handler keeps to the stated stack",
-        VerifyFault::StackOver(_) => "a stack has at most 32 values, those of callees counted",
-        VerifyFault::FramesOver(At::Head) => "each handler keeps to the stated frames",
-        VerifyFault::FramesOver(_) => "a routine has at most 32 frames, those of callees counted",
-        VerifyFault::CostOver(At::Head) => "each event keeps to the stated cost",
-        VerifyFault::CostOver(_) => "a routine costs at most 100,000, callees counted",
-        VerifyFault::CommandsOver(At::Head) => "each event keeps to the stated commands",
-        VerifyFault::CommandsOver(_) => "a routine queues at most 64 commands, callees counted",
-        VerifyFault::HandlerLeaves(_) => {
-            "the routine of a handler has no parameters and no results"
-        }
-        VerifyFault::OutOfMemory => "verifying an image takes memory",
+    let cause = cause_of(code_of(fault));
+    match place_of(fault) {
+        Some(At::Head) => cause.rule_of_head,
+        _ => cause.rule,
     }
 }
 
-/// What is wrong, where nothing is known of the place.
+/// What is wrong, if nothing is known of the place.
 fn general(fault: VerifyFault) -> &'static str {
-    match fault {
-        VerifyFault::NoImage(_) => "the bytes spell no image",
-        VerifyFault::NoEntry(_) => "an index is not in its table",
-        VerifyFault::JumpTarget(_) => "the target of a jump is no later place of the routine",
-        VerifyFault::LeftAtEnd(_) => "the routine does not end with `ret`",
-        VerifyFault::Unreached(_) => "no earlier place leads here",
-        VerifyFault::WrongOperand(_) => "an operand on the stack is missing or of another kind",
-        VerifyFault::WaysDisagree(_) => "two ways lead to one place with different stacks",
-        VerifyFault::CallNotLower(_) => "the called routine has no lower number",
-        VerifyFault::WrongResults(_) => "the stack at `ret` is not the results of the routine",
-        VerifyFault::StackOver(_) => "the stack has over 32 values",
-        VerifyFault::FramesOver(_) => "there are over 32 frames",
-        VerifyFault::CostOver(_) => "the cost is over 100,000",
-        VerifyFault::CommandsOver(_) => "over 64 commands are queued",
-        VerifyFault::HandlerLeaves(_) => "a handler has parameters or results",
-        VerifyFault::OutOfMemory => "memory ran out",
-    }
+    cause_of(code_of(fault)).general
 }
 
 /// The place of a fault.
@@ -159,20 +122,20 @@ fn put_refused(
     fault: VerifyFault,
     at: At,
 ) -> Result<(), AllocError> {
+    put_record(out, image, at)?;
     match at {
-        At::Head => {
-            out.push_str("head: ")?;
-            put_at_head(out, image, fault)
-        }
-        At::State(state) => {
-            put_state(out, image, usize::from(state.0))?;
-            out.push_str(": ")?;
-            put_in_state(out, image, fault, usize::from(state.0))
-        }
-        At::Code(routine, place) => {
-            put_routine(out, image, routine)?;
-            put_in_routine(out, image, fault, routine, place)
-        }
+        At::Head => put_at_head(out, image, fault),
+        At::State(state) => put_in_state(out, image, fault, usize::from(state.0)),
+        At::Code(routine, place) => put_in_routine(out, image, fault, routine, place),
+    }
+}
+
+/// Adds the head, a state or a routine.
+fn put_record(out: &mut String, image: &ImageView<'_>, at: At) -> Result<(), AllocError> {
+    match at {
+        At::Head => out.push_str("head"),
+        At::State(state) => put_state(out, image, usize::from(state.0)),
+        At::Code(routine, _) => put_routine(out, image, routine),
     }
 }
 
@@ -182,41 +145,65 @@ fn put_at_head(
     image: &ImageView<'_>,
     fault: VerifyFault,
 ) -> Result<(), AllocError> {
-    let budgets = image.budgets();
     match fault {
-        VerifyFault::NoEntry(_) => put_no_entry_of_head(out, image)?,
-        VerifyFault::HandlerLeaves(_) => put_kinds_of(out, image, "always ", image.always())?,
+        VerifyFault::NoEntry(_) => put_no_entry_of_head(out, image),
+        VerifyFault::HandlerLeaves(_) => put_kinds_of(out, image, ": always ", image.always()),
+        _ => put_over(out, image.budgets(), fault),
+    }
+}
+
+/// Adds which budget is not kept to.
+fn put_over(out: &mut String, stated: Budgets, fault: VerifyFault) -> Result<(), AllocError> {
+    let Budgets {
+        stack,
+        frames,
+        cost,
+        commands,
+    } = stated;
+    match fault {
         VerifyFault::StackOver(_) => {
-            write!(
-                out,
-                "the stated stack is {}, and a handler has more",
-                budgets.stack
-            )?
+            put_stated(out, "stack is ", u64::from(stack), "a handler has more")
         }
         VerifyFault::FramesOver(_) => {
-            write!(
-                out,
-                "the stated frames are {}, and a handler has more",
-                budgets.frames
-            )?
+            put_stated(out, "frames are ", u64::from(frames), "a handler has more")
         }
         VerifyFault::CostOver(_) => {
-            write!(
-                out,
-                "the stated cost is {}, and an event costs more",
-                budgets.cost
-            )?
+            put_stated(out, "cost is ", u64::from(cost), "an event costs more")
         }
         VerifyFault::CommandsOver(_) => {
-            write!(
+            put_stated(
                 out,
-                "the stated commands are {}, and an event queues more",
-                budgets.commands
-            )?
+                "commands are ",
+                u64::from(commands),
+                "an event queues more",
+            )
         }
-        _ => out.push_str(general(fault))?,
+        _ => put_general(out, fault),
     }
-    Ok(())
+}
+
+/// Adds a stated budget, and what takes more.
+fn put_stated(
+    out: &mut String,
+    budget: &'static str,
+    number: u64,
+    more: &'static str,
+) -> Result<(), AllocError> {
+    put(
+        out,
+        &[
+            Piece::Words(": the stated "),
+            Piece::Words(budget),
+            Piece::Number(number),
+            Piece::Words(", and "),
+            Piece::Words(more),
+        ],
+    )
+}
+
+/// Adds what is wrong with a record, where nothing else is known of it.
+fn put_general(out: &mut String, fault: VerifyFault) -> Result<(), AllocError> {
+    put(out, &[Piece::Words(": "), Piece::Words(general(fault))])
 }
 
 /// Adds what is wrong with a state.
@@ -227,13 +214,13 @@ fn put_in_state(
     state: usize,
 ) -> Result<(), AllocError> {
     if state >= image.states() {
-        return out.push_str(general(fault));
+        return put_general(out, fault);
     }
     let handlers = image.state_handlers(state);
     match fault {
-        VerifyFault::NoEntry(_) => put_no_entry(out, image, "", handlers),
-        VerifyFault::HandlerLeaves(_) => put_kinds_of(out, image, "", handlers),
-        _ => out.push_str(general(fault)),
+        VerifyFault::NoEntry(_) => put_no_entry(out, image, ": ", handlers),
+        VerifyFault::HandlerLeaves(_) => put_kinds_of(out, image, ": ", handlers),
+        _ => put_general(out, fault),
     }
 }
 
@@ -241,38 +228,64 @@ fn put_in_state(
 fn put_no_entry_of_head(out: &mut String, image: &ImageView<'_>) -> Result<(), AllocError> {
     let initial = image.initial().0;
     if usize::from(initial) < image.states() {
-        return put_no_entry(out, image, "always ", image.always());
+        put_no_entry(out, image, ": always ", image.always())
+    } else {
+        put_index(
+            out,
+            ": ",
+            "initial state ",
+            initial,
+            image.states(),
+            "state",
+        )
     }
-    write!(
-        out,
-        "initial state {initial}, and {}",
-        There(image.states(), "state")
-    )?;
-    Ok(())
 }
 
 /// Adds which index of handlers is in no table. `owner` comes before it.
 fn put_no_entry(
     out: &mut String,
     image: &ImageView<'_>,
-    owner: &str,
+    owner: &'static str,
     handlers: Handlers,
 ) -> Result<(), AllocError> {
+    let Handlers { init, body, mask } = handlers;
     let routines = image.routines();
-    let (what, index, table) = if usize::from(handlers.init.0) >= routines {
-        ("init routine", handlers.init.0, There(routines, "routine"))
-    } else if usize::from(handlers.body.0) >= routines {
-        ("body routine", handlers.body.0, There(routines, "routine"))
+    if usize::from(init.0) >= routines {
+        put_index(out, owner, "init routine ", init.0, routines, "routine")
+    } else if usize::from(body.0) >= routines {
+        put_index(out, owner, "body routine ", body.0, routines, "routine")
     } else {
         let tests = image.tests();
-        (
+        put_index(
+            out,
+            owner,
+            "test ",
+            first_test_from(mask, tests),
+            tests,
             "test",
-            first_test_from(handlers.mask, tests),
-            There(tests, "test"),
         )
-    };
-    write!(out, "{owner}{what} {index}, and {table}")?;
-    Ok(())
+    }
+}
+
+/// Adds an index, and the size of its table.
+fn put_index(
+    out: &mut String,
+    owner: &'static str,
+    what: &'static str,
+    index: u16,
+    size: usize,
+    table: &'static str,
+) -> Result<(), AllocError> {
+    put(
+        out,
+        &[
+            Piece::Words(owner),
+            Piece::Words(what),
+            Piece::Number(u64::from(index)),
+            Piece::Words(", and "),
+            Piece::There(size, table),
+        ],
+    )
 }
 
 /// The first test of a mask from a test on, or 64 if there is none.
@@ -289,16 +302,15 @@ fn first_test_from(mask: u64, first: usize) -> u16 {
 fn put_kinds_of(
     out: &mut String,
     image: &ImageView<'_>,
-    owner: &str,
+    owner: &'static str,
     handlers: Handlers,
 ) -> Result<(), AllocError> {
-    let (role, RoutineId(routine)) = if has_kinds(image, handlers.init) {
-        ("init", handlers.init)
+    let Handlers { init, body, .. } = handlers;
+    if has_kinds(image, init) {
+        put_kinds(out, image, owner, "init routine ", init)
     } else {
-        ("body", handlers.body)
-    };
-    write!(out, "{owner}{role} routine {routine}")?;
-    put_kinds(out, image, usize::from(routine))
+        put_kinds(out, image, owner, "body routine ", body)
+    }
 }
 
 /// Whether a routine has parameters or results.
@@ -308,15 +320,44 @@ fn has_kinds(image: &ImageView<'_>, routine: RoutineId) -> bool {
         && !(image.params(routine).is_empty() && image.results(routine).is_empty())
 }
 
-/// Adds the parameters and the results of a routine.
-fn put_kinds(out: &mut String, image: &ImageView<'_>, routine: usize) -> Result<(), AllocError> {
-    if routine >= image.routines() {
+/// Adds the routine of a handler, and its parameters and results.
+fn put_kinds(
+    out: &mut String,
+    image: &ImageView<'_>,
+    owner: &'static str,
+    role: &'static str,
+    routine: RoutineId,
+) -> Result<(), AllocError> {
+    put_handler(out, owner, role, routine)?;
+    let index = usize::from(routine.0);
+    if index >= image.routines() {
         return Ok(());
     }
-    let params = Kinds(image.params(routine));
-    let results = Kinds(image.results(routine));
-    write!(out, " has parameters {params} and results {results}")?;
-    Ok(())
+    put(
+        out,
+        &[
+            Piece::Words(" has parameters "),
+            Piece::Kinds(image.params(index)),
+            Piece::Words(" and results "),
+            Piece::Kinds(image.results(index)),
+        ],
+    )
+}
+
+fn put_handler(
+    out: &mut String,
+    owner: &'static str,
+    role: &'static str,
+    routine: RoutineId,
+) -> Result<(), AllocError> {
+    put(
+        out,
+        &[
+            Piece::Words(owner),
+            Piece::Words(role),
+            Piece::Number(u64::from(routine.0)),
+        ],
+    )
 }
 
 /// Adds the place in a routine, and what is wrong there. Bounds are those of the whole routine.
@@ -329,33 +370,53 @@ fn put_in_routine(
 ) -> Result<(), AllocError> {
     match fault {
         VerifyFault::FramesOver(_) | VerifyFault::CostOver(_) | VerifyFault::CommandsOver(_) => {
-            write!(out, ": {}, callees counted", general(fault))?
+            put_whole(out, fault, ", callees counted")
         }
         VerifyFault::StackOver(_) if place == 0 => {
-            write!(out, ": {}, those of callees counted", general(fault))?
+            put_whole(out, fault, ", those of callees counted")
         }
-        _ => {
-            write!(out, ", place {place}: ")?;
-            put_in_code(
-                out,
-                image,
-                fault,
-                usize::from(routine.0),
-                usize::from(place),
-            )?;
-        }
+        _ => put_at_place(
+            out,
+            image,
+            fault,
+            usize::from(routine.0),
+            usize::from(place),
+        ),
     }
-    Ok(())
 }
 
-/// Adds what is wrong at a place of a routine, if there is an instruction.
-fn put_in_code(
+/// Adds what is wrong with a whole routine.
+fn put_whole(
+    out: &mut String,
+    fault: VerifyFault,
+    counted: &'static str,
+) -> Result<(), AllocError> {
+    put(
+        out,
+        &[
+            Piece::Words(": "),
+            Piece::Words(general(fault)),
+            Piece::Words(counted),
+        ],
+    )
+}
+
+/// Adds a place of a routine, and what is wrong there.
+fn put_at_place(
     out: &mut String,
     image: &ImageView<'_>,
     fault: VerifyFault,
     routine: usize,
     place: usize,
 ) -> Result<(), AllocError> {
+    put(
+        out,
+        &[
+            Piece::Words(", place "),
+            Piece::Number(place as u64),
+            Piece::Words(": "),
+        ],
+    )?;
     if routine >= image.routines() || place >= image.code_len(routine) {
         return out.push_str(general(fault));
     }
@@ -378,7 +439,7 @@ fn put_op(
         VerifyFault::JumpTarget(_) => put_target(out, op, place, image.code_len(routine)),
         VerifyFault::WrongOperand(_) => put_taken(out, image, op),
         VerifyFault::WaysDisagree(_) => put_ways(out, op, place),
-        VerifyFault::WrongResults(_) => put_results(out, Kinds(image.results(routine))),
+        VerifyFault::WrongResults(_) => put_results(out, image.results(routine)),
         _ => put_words(out, fault, op, routine),
     }
 }
@@ -390,56 +451,77 @@ fn put_words(
     op: Op,
     routine: usize,
 ) -> Result<(), AllocError> {
-    let op = Written(op);
+    let op = Piece::Op(op);
     match fault {
-        VerifyFault::LeftAtEnd(_) => write!(out, "the last instruction is {op}")?,
-        VerifyFault::Unreached(_) => write!(out, "no earlier place leads to {op}")?,
-        VerifyFault::CallNotLower(_) => write!(out, "{op} calls no lower routine than {routine}")?,
-        VerifyFault::StackOver(_) => write!(out, "{op} leaves over 32 values")?,
-        _ => out.push_str(general(fault))?,
+        VerifyFault::LeftAtEnd(_) => put(out, &[Piece::Words("the last instruction is "), op]),
+        VerifyFault::Unreached(_) => put(out, &[Piece::Words("no earlier place leads to "), op]),
+        VerifyFault::CallNotLower(_) => put(
+            out,
+            &[
+                op,
+                Piece::Words(" calls no lower routine than "),
+                Piece::Number(routine as u64),
+            ],
+        ),
+        VerifyFault::StackOver(_) => put(out, &[op, Piece::Words(" leaves over 32 values")]),
+        _ => out.push_str(general(fault)),
     }
-    Ok(())
 }
 
 /// Adds an instruction whose operand is in no table, and the size of that table.
 fn put_operand(out: &mut String, image: &ImageView<'_>, op: Op) -> Result<(), AllocError> {
     let table = match op {
-        Op::Link(_, _) => There(image.interfaces(), "interface"),
-        Op::Test(_) | Op::Known(_) => There(image.tests(), "test"),
-        Op::PushCommand(_) => There(image.commands(), "command"),
-        Op::PushState(_) => There(image.states(), "state"),
-        _ => There(image.routines(), "routine"),
+        Op::Link(_, _) => Piece::There(image.interfaces(), "interface"),
+        Op::Test(_) | Op::Known(_) => Piece::There(image.tests(), "test"),
+        Op::PushCommand(_) => Piece::There(image.commands(), "command"),
+        Op::PushState(_) => Piece::There(image.states(), "state"),
+        _ => Piece::There(image.routines(), "routine"),
     };
-    write!(out, "{}, and {table}", Written(op))?;
-    Ok(())
+    put(out, &[Piece::Op(op), Piece::Words(", and "), table])
 }
 
 /// Adds why a target is no later place of a routine of this many instructions.
 fn put_target(out: &mut String, op: Op, place: usize, count: usize) -> Result<(), AllocError> {
     match target_of(op) {
-        Some(target) if usize::from(target) <= place => {
-            write!(out, "jump target {target} is not later")?
-        }
-        Some(target) => {
-            let count = Counted(count, "instruction");
-            write!(
-                out,
-                "jump target {target} is outside of the routine, which has {count}"
-            )?
-        }
-        None => write!(out, "{} is no jump", Written(op))?,
+        Some(target) if usize::from(target) <= place => put(
+            out,
+            &[
+                Piece::Words("jump target "),
+                Piece::Number(u64::from(target)),
+                Piece::Words(" is not later"),
+            ],
+        ),
+        Some(target) => put(
+            out,
+            &[
+                Piece::Words("jump target "),
+                Piece::Number(u64::from(target)),
+                Piece::Words(" is outside of the routine, which has "),
+                Piece::Counted(count, "instruction"),
+            ],
+        ),
+        None => put(out, &[Piece::Op(op), Piece::Words(" is no jump")]),
     }
-    Ok(())
 }
 
 /// Adds the operands that an instruction takes off the stack.
 fn put_taken(out: &mut String, image: &ImageView<'_>, op: Op) -> Result<(), AllocError> {
-    match (op, taken_by(op)) {
-        (_, Some(taken)) => write!(out, "{} does not find {taken} on the stack", Written(op))?,
-        (Op::Call(callee), None) => put_parameters(out, image, op, usize::from(callee.0))?,
-        (_, None) => write!(out, "{} takes nothing", Written(op))?,
+    if let Op::Call(callee) = op {
+        return put_parameters(out, image, op, usize::from(callee.0));
     }
-    Ok(())
+    let taken = taken_by(op);
+    if taken.is_empty() {
+        return put(out, &[Piece::Op(op), Piece::Words(" takes nothing")]);
+    }
+    put(
+        out,
+        &[
+            Piece::Op(op),
+            Piece::Words(" does not find "),
+            Piece::Words(taken),
+            Piece::Words(" on the stack"),
+        ],
+    )
 }
 
 /// Adds the parameters that a call takes off the stack.
@@ -449,35 +531,71 @@ fn put_parameters(
     op: Op,
     callee: usize,
 ) -> Result<(), AllocError> {
-    write!(out, "{} does not find its parameters", Written(op))?;
-    if callee < image.routines() {
-        write!(out, " {}", Kinds(image.params(callee)))?;
-    }
-    out.push_str(" on the stack")
+    let (blank, kinds) = if callee < image.routines() {
+        (" ", Piece::Kinds(image.params(callee)))
+    } else {
+        ("", Piece::Words(""))
+    };
+    put(
+        out,
+        &[
+            Piece::Op(op),
+            Piece::Words(" does not find its parameters"),
+            Piece::Words(blank),
+            kinds,
+            Piece::Words(" on the stack"),
+        ],
+    )
 }
 
 /// Adds the places that an instruction leads to.
 fn put_ways(out: &mut String, op: Op, place: usize) -> Result<(), AllocError> {
     let next = place.saturating_add(1);
-    let written = Written(op);
     match (op, target_of(op)) {
-        (Op::Jump(_), Some(target)) => write!(out, "{written} leads to place {target}")?,
+        (Op::Jump(_), Some(target)) => put_way(out, op, usize::from(target)),
         (_, Some(target)) if usize::from(target) != next => {
-            write!(out, "{written} leads to places {next} and {target}")?
+            put_two_ways(out, op, next, usize::from(target))
         }
-        _ => write!(out, "{written} leads to place {next}")?,
+        _ => put_way(out, op, next),
     }
-    out.push_str(", where another way leads with another stack")
+}
+
+fn put_way(out: &mut String, op: Op, place: usize) -> Result<(), AllocError> {
+    put(
+        out,
+        &[
+            Piece::Op(op),
+            Piece::Words(" leads to place "),
+            Piece::Number(place as u64),
+            Piece::Words(", where another way leads with another stack"),
+        ],
+    )
+}
+
+fn put_two_ways(out: &mut String, op: Op, next: usize, target: usize) -> Result<(), AllocError> {
+    put(
+        out,
+        &[
+            Piece::Op(op),
+            Piece::Words(" leads to places "),
+            Piece::Number(next as u64),
+            Piece::Words(" and "),
+            Piece::Number(target as u64),
+            Piece::Words(", where another way leads with another stack"),
+        ],
+    )
 }
 
 /// Adds that a stack is not the results of its routine.
-fn put_results(out: &mut String, results: Kinds<'_>) -> Result<(), AllocError> {
-    if results.0.is_empty() {
+fn put_results(out: &mut String, results: &[Kind]) -> Result<(), AllocError> {
+    if results.is_empty() {
         return out.push_str("the stack at `ret` is not empty, and the routine has no results");
     }
-    write!(
+    put(
         out,
-        "the stack at `ret` is not the routine's results, {results}"
-    )?;
-    Ok(())
+        &[
+            Piece::Words("the stack at `ret` is not the routine's results, "),
+            Piece::Kinds(results),
+        ],
+    )
 }

@@ -1,6 +1,6 @@
 //! A walk over the fields of an image.
 
-use crate::field::{Budget, Field, PartField, Table};
+use crate::field::{Field, Role, Row, Section, Table, Times, sections};
 
 /// A field of an image, and its bytes.
 #[derive(Clone, Copy)]
@@ -8,10 +8,8 @@ pub(crate) struct Found<'a> {
     pub field: Field,
     /// The offset of its first byte.
     pub at: usize,
-    /// Its bytes, as far as they are there.
+    /// Its bytes, if they are there, or the first ones of them.
     pub bytes: &'a [u8],
-    /// The version of the image, or 0 before it is known.
-    pub version: u16,
 }
 
 /// The number of entries of each table.
@@ -24,47 +22,57 @@ struct Counts {
     routines: u16,
 }
 
-/// The place of a walk: the next field, and what the fields before it say of it.
+/// The place of a walk, and what the fields before it say of those after it.
 #[derive(Drop)]
 struct Walk<'a> {
     rest: &'a [u8],
     at: usize,
-    field: Field,
     version: u16,
     counts: Counts,
     /// The last length of a text, number of kinds, or number of instructions.
     many: u16,
 }
 
+/// What a walk looks for.
+#[derive(Clone, Copy)]
+enum Wanted<'n> {
+    /// The first field at an offset or after it.
+    From(usize),
+    /// The first field of a name with these bytes.
+    Same(&'static str, &'n [u8]),
+}
+
 /// The field that begins at an offset, if the bytes before it begin an image.
 pub(crate) fn found_at(image: &[u8], at: usize) -> Option<Found<'_>> {
+    match first(image, Wanted::From(at)) {
+        Some(found) if found.at == at => Some(found),
+        _ => None,
+    }
+}
+
+/// The first field that has this name and these bytes.
+pub(crate) fn first_same<'a>(image: &'a [u8], row: &Row, bytes: &[u8]) -> Option<Found<'a>> {
+    first(image, Wanted::Same(row.name, bytes))
+}
+
+/// The first field that is wanted.
+fn first<'a>(image: &'a [u8], wanted: Wanted<'_>) -> Option<Found<'a>> {
     let mut walk = Walk::new(image);
-    for _ in 0..=image.len() {
-        let found = walk.step();
-        if found.at >= at {
-            return if found.at == at { Some(found) } else { None };
+    for section in sections() {
+        let found = walk.section(section, wanted);
+        if found.is_some() {
+            return found;
         }
     }
     None
 }
 
-/// The first entry of a table whose text is these bytes.
-pub(crate) fn first_named<'a>(image: &'a [u8], table: Table, name: &[u8]) -> Option<Found<'a>> {
-    let mut walk = Walk::new(image);
-    for _ in 0..=image.len() {
-        let found = walk.step();
-        if is_text_of(found.field, table) && found.bytes == name {
-            return Some(found);
+impl Wanted<'_> {
+    fn is(self, found: Found<'_>) -> bool {
+        match self {
+            Wanted::From(at) => found.at >= at,
+            Wanted::Same(name, bytes) => found.bytes == bytes && found.field.row.name == name,
         }
-    }
-    None
-}
-
-/// Whether a field is the text of an entry of a table.
-fn is_text_of(field: Field, table: Table) -> bool {
-    match field {
-        Field::Text(other, _) => other == table,
-        _ => false,
     }
 }
 
@@ -82,7 +90,6 @@ impl<'a> Walk<'a> {
         Walk {
             rest: image,
             at: 0,
-            field: Field::Magic,
             version: 0,
             counts: Counts {
                 interfaces: 0,
@@ -95,180 +102,100 @@ impl<'a> Walk<'a> {
         }
     }
 
-    /// The next field. The walk goes on behind it.
-    fn step(&mut self) -> Found<'a> {
+    /// Goes over fields as often as they are there, up to one that is wanted.
+    fn section(&mut self, section: &Section, wanted: Wanted<'_>) -> Option<Found<'a>> {
+        for entry in 0..self.times(section.times) {
+            let found = self.entry(section.rows, entry, wanted);
+            if found.is_some() {
+                return found;
+            }
+        }
+        None
+    }
+
+    /// The same for the fields of one entry.
+    fn entry(&mut self, rows: &'static [Row], entry: u16, wanted: Wanted<'_>) -> Option<Found<'a>> {
+        for row in rows {
+            let found = self.row(row, entry, wanted);
+            if found.is_some() {
+                return found;
+            }
+        }
+        None
+    }
+
+    /// The same for the fields of one name.
+    fn row(&mut self, row: &'static Row, entry: u16, wanted: Wanted<'_>) -> Option<Found<'a>> {
+        for place in 0..self.places(row.role) {
+            let found = self.step(Field { row, entry, place });
+            if wanted.is(found) {
+                return Some(found);
+            }
+        }
+        None
+    }
+
+    /// Goes over a field.
+    fn step(&mut self, field: Field) -> Found<'a> {
         let left = self.rest;
-        let (bytes, rest) = left.split_at(self.width().min(left.len()));
-        let found = Found {
-            field: self.field,
-            at: self.at,
-            bytes,
-            version: self.version,
-        };
-        self.at = self.at.saturating_add(bytes.len());
+        let width = self.width(field.row);
+        let (bytes, rest) = left.split_at(width.min(left.len()));
+        let at = self.at;
+        self.at = at.saturating_add(bytes.len());
         self.rest = rest;
-        self.field = self.after(short_number(bytes));
-        found
+        self.keep(field.row.role, short_number(bytes));
+        Found { field, at, bytes }
     }
 
-    /// The number of bytes of the next field.
-    fn width(&self) -> usize {
-        match self.field {
-            Field::Text(_, _) => usize::from(self.many),
-            Field::Magic | Field::Stated(Budget::Cost) | Field::Period(_) => 4,
-            Field::Instruction(_, _) => 4,
-            Field::Always(PartField::Mask) | Field::State(_, PartField::Mask) => 8,
-            Field::Version | Field::Params(_) | Field::Param(_, _) => 1,
-            Field::Leaves(_) | Field::Leaf(_, _) => 1,
-            Field::End => 0,
-            _ => 2,
+    /// How often fields are there.
+    fn times(&self, times: Times) -> u16 {
+        match times {
+            Times::Once => 1,
+            Times::Each(table) => self.counts.of(table),
+            Times::EachFirst if self.version == 1 => self.counts.routines,
+            Times::EachSecond if self.version != 1 => self.counts.routines,
+            _ => 0,
         }
     }
 
-    /// The field after the next one, which is this number.
-    fn after(&mut self, number: u16) -> Field {
-        match self.field {
-            Field::Magic => Field::Version,
-            Field::Version => {
-                self.version = number;
-                Field::Stated(Budget::Stack)
-            }
-            Field::Stated(budget) => after_budget(budget),
-            Field::Count(table) => {
-                self.counts.set(table, number);
-                after_count(table)
-            }
-            Field::Initial => Field::Always(PartField::Init),
-            Field::Always(PartField::Init) => Field::Always(PartField::Body),
-            Field::Always(PartField::Body) => Field::Always(PartField::Mask),
-            Field::Always(PartField::Mask) => self.interface(0),
-            Field::End => Field::End,
-            _ => self.after_in_table(number),
+    /// How often a field is there in its entry.
+    fn places(&self, role: Role) -> u16 {
+        match role {
+            Role::Kind | Role::Instruction => self.many,
+            _ => 1,
         }
     }
 
-    /// The same for a field of an entry.
-    fn after_in_table(&mut self, number: u16) -> Field {
-        match self.field {
-            Field::Period(test) => Field::Length(Table::Tests, test),
-            Field::Length(table, entry) => {
-                self.many = number;
-                Field::Text(table, entry)
-            }
-            Field::Text(table, entry) => self.after_text(table, entry),
-            Field::State(state, PartField::Init) => Field::State(state, PartField::Body),
-            Field::State(state, PartField::Body) => Field::State(state, PartField::Mask),
-            Field::State(state, PartField::Mask) => self.state(state.saturating_add(1)),
-            _ => self.after_in_routine(number),
+    /// The number of bytes of a field.
+    fn width(&self, row: &Row) -> usize {
+        match row.role {
+            Role::Text => usize::from(self.many),
+            _ => row.width,
         }
     }
 
-    /// The field after the text of an entry.
-    fn after_text(&self, table: Table, entry: u16) -> Field {
-        let next = entry.saturating_add(1);
-        match table {
-            Table::Interfaces => self.interface(next),
-            Table::Tests => self.test(next),
-            Table::Commands => self.command(next),
-            Table::States => Field::State(entry, PartField::Init),
-            Table::Routines => Field::End,
-        }
-    }
-
-    /// The same for a field of a routine.
-    fn after_in_routine(&mut self, number: u16) -> Field {
-        match self.field {
-            Field::Params(routine) => {
-                self.many = number;
-                self.param(routine, 0)
-            }
-            Field::Param(routine, place) => self.param(routine, place.saturating_add(1)),
-            Field::Leaves(routine) => {
-                self.many = if self.version == 1 { 0 } else { number };
-                self.leaf(routine, 0)
-            }
-            Field::Leaf(routine, place) => self.leaf(routine, place.saturating_add(1)),
-            Field::CodeLength(routine) => {
-                self.many = number;
-                self.instruction(routine, 0)
-            }
-            Field::Instruction(routine, place) => {
-                self.instruction(routine, place.saturating_add(1))
-            }
-            _ => Field::End,
-        }
-    }
-
-    /// The first field of an interface, or of what follows the last one.
-    fn interface(&self, entry: u16) -> Field {
-        if entry < self.counts.interfaces {
-            Field::Length(Table::Interfaces, entry)
-        } else {
-            self.test(0)
-        }
-    }
-
-    fn test(&self, entry: u16) -> Field {
-        if entry < self.counts.tests {
-            Field::Period(entry)
-        } else {
-            self.command(0)
-        }
-    }
-
-    fn command(&self, entry: u16) -> Field {
-        if entry < self.counts.commands {
-            Field::Length(Table::Commands, entry)
-        } else {
-            self.state(0)
-        }
-    }
-
-    fn state(&self, entry: u16) -> Field {
-        if entry < self.counts.states {
-            Field::Length(Table::States, entry)
-        } else {
-            self.routine(0)
-        }
-    }
-
-    fn routine(&self, entry: u16) -> Field {
-        if entry >= self.counts.routines {
-            Field::End
-        } else if self.version == 1 {
-            Field::Leaves(entry)
-        } else {
-            Field::Params(entry)
-        }
-    }
-
-    /// A parameter of a routine, or what follows the last one.
-    fn param(&self, routine: u16, place: u16) -> Field {
-        if place < self.many {
-            Field::Param(routine, place)
-        } else {
-            Field::Leaves(routine)
-        }
-    }
-
-    fn leaf(&self, routine: u16, place: u16) -> Field {
-        if place < self.many {
-            Field::Leaf(routine, place)
-        } else {
-            Field::CodeLength(routine)
-        }
-    }
-
-    fn instruction(&self, routine: u16, place: u16) -> Field {
-        if place < self.many {
-            Field::Instruction(routine, place)
-        } else {
-            self.routine(routine.saturating_add(1))
+    /// Keeps what a number says of later fields.
+    fn keep(&mut self, role: Role, number: u16) {
+        match role {
+            Role::Version => self.version = number,
+            Role::Count(table) => self.counts.set(table, number),
+            Role::Many => self.many = number,
+            _ => {}
         }
     }
 }
 
 impl Counts {
+    fn of(&self, table: Table) -> u16 {
+        match table {
+            Table::Interfaces => self.interfaces,
+            Table::Tests => self.tests,
+            Table::Commands => self.commands,
+            Table::States => self.states,
+            Table::Routines => self.routines,
+        }
+    }
+
     fn set(&mut self, table: Table, number: u16) {
         match table {
             Table::Interfaces => self.interfaces = number,
@@ -277,24 +204,5 @@ impl Counts {
             Table::States => self.states = number,
             Table::Routines => self.routines = number,
         }
-    }
-}
-
-fn after_budget(budget: Budget) -> Field {
-    match budget {
-        Budget::Stack => Field::Stated(Budget::Frames),
-        Budget::Frames => Field::Stated(Budget::Cost),
-        Budget::Cost => Field::Stated(Budget::Commands),
-        Budget::Commands => Field::Count(Table::Interfaces),
-    }
-}
-
-fn after_count(table: Table) -> Field {
-    match table {
-        Table::Interfaces => Field::Count(Table::Tests),
-        Table::Tests => Field::Count(Table::Commands),
-        Table::Commands => Field::Count(Table::States),
-        Table::States => Field::Count(Table::Routines),
-        Table::Routines => Field::Initial,
     }
 }

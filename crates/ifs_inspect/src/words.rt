@@ -2,11 +2,6 @@
 
 ghost use Rattle.std.specs.Prelude.{◌≤◌, length};
 
-use std::alloc::{AllocError, Global};
-
-/// One more than the most words of a line that has a form.
-const MOST: usize = 9;
-
 /// A word of a line.
 #[derive(Clone, Copy)]
 pub(crate) struct Word<'a> {
@@ -32,13 +27,30 @@ impl Word<'_> {
 
 /// The words of a line that are still unread.
 #[derive(Clone, Copy)]
-struct Unread<'a> {
+pub(crate) struct Unread<'a> {
     rest: &'a [u8],
     at: usize,
 }
 
 impl<'a> Unread<'a> {
-    /// The next word. It is empty if there is none.
+    /// The words of a line after the first one.
+    pub(crate) fn after_first(line: &'a [u8]) -> Unread<'a> {
+        let mut unread = Unread { rest: line, at: 0 };
+        unread.take();
+        unread
+    }
+
+    /// The next word. If there is none, it is empty and at the end of the last one.
+    pub(crate) fn next(&mut self) -> Word<'a> {
+        let end = self.at;
+        let Word { from, bytes } = self.take();
+        Word {
+            from: if bytes.is_empty() { end } else { from },
+            bytes,
+        }
+    }
+
+    /// The next word. If there is none, it is empty and at the end of the line.
     fn take(&mut self) -> Word<'a> {
         let rest = self.rest;
         let (gap, others) = rest.split_at(blanks(rest));
@@ -85,29 +97,25 @@ impl<'a> Front<'a> {
     }
 }
 
-/// The words of a line, nine at most.
-pub(crate) fn words_of<'a>(alloc: Global, line: &'a [u8]) -> Result<Vec<Word<'a>>, AllocError> {
-    let mut words = Vec::new(alloc);
-    let mut unread = Unread { rest: line, at: 0 };
-    for _ in 0..MOST {
-        let word = unread.take();
-        if word.bytes.is_empty() {
-            break;
-        }
-        words.push(word)?;
-    }
-    Ok(words)
-}
-
 /// The number of blanks at the front.
 fn blanks(bytes: &[u8]) -> usize
     ensures { result ≤ length bytes.now }
 {
-    bytes.iter().take_while(|byte| is_blank(**byte)).count()
+    for (place, byte) in bytes.iter().enumerate() {
+        if !is_blank(*byte) {
+            return place;
+        }
+    }
+    bytes.len()
 }
 
 fn is_blank(byte: u8) -> bool {
     byte == b' ' || byte == b'\t'
+}
+
+/// Whether a byte ends a line.
+pub(crate) fn is_newline(byte: &u8) -> bool {
+    *byte == b'\n'
 }
 
 /// Where a byte of a line is.

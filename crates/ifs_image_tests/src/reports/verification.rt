@@ -153,7 +153,7 @@ fn check_row(rt: &impl Abort, alloc: Global, text: &str, wanted: &str) -> Result
     Ok(())
 }
 
-/// The message names the record, the place and what stands there.
+/// The message names the record, the place and what is there.
 #[test]
 fn names_records(rt: HostRuntime) -> Result<(), Fail> {
     for (text, wanted) in rows() {
