@@ -28,7 +28,7 @@ split [] (y ∷ front) t e v eq = let first : y ≡ t = cc in inr (front, ap (λ
 split (x ∷ a) [] t e v eq = let rest : a ++ t ∷ v ≡ [] = cc in absurd (none_left a t v rest)
 split (x ∷ a) (y ∷ front) t e v eq = let first : x ≡ y = cc in after_one x y a front t e first (split a front t e v (cc))
 
-placed_in : (a : List Token) (t : Token) (m : List Token) → ArePlaced (a ++ t ∷ m) → t.span.line ≢ 0
+pub placed_in : (a : List Token) (t : Token) (m : List Token) → ArePlaced (a ++ t ∷ m) → t.span.line ≢ 0
 placed_in [] t m h = h.0
 placed_in (x ∷ a) t m h = placed_in a t m h.1
 
@@ -118,3 +118,18 @@ some_cannot front e placed last tokens same (Some line) h = λ nz. cannot_go_on 
 
 pub some_cannot_end : (front : List Token) (e : Token) (tokens : List Token) → tokens ≡ front ++ e ∷ [] → (line : ℕ) → StopsOn tokens line → NoneGoesOn fits_period 32 front e
 some_cannot_end front e tokens same line h = cannot_end front e h.0 (subst (λ (l : List Token). StopsAt l h.0) same h.1)
+
+alone_by : (a : List Token) (t e : Token) → Split a [] t e → t ≡ e
+alone_by a t e (inl same) = same.1
+alone_by a t e (inr longer) = absurd (none_left a t longer.0 (sym longer.1))
+
+-- An end of line 0 that is alone is where it stops.
+alone : (e : Token) (fault : ParseFault) (h : StopsAt (e ∷ []) fault) → h.token ≡ e
+alone e fault h = alone_by h.front h.token e (split h.front [] h.token e h.rest (sym h.whole))
+
+pub some_empty : (front : List Token) (e : Token) → e.span.line ≡ 0 → front ≡ [] → (tokens : List Token) → tokens ≡ front ++ e ∷ []
+    → (found : Option ℕ) → IfSome found (λ line. StopsOn tokens line) → IfSome found (λ line. line ≡ 0)
+some_empty front e last empty tokens same None h = tt
+some_empty front e last empty tokens same (Some line) h =
+    let stops : StopsAt (e ∷ []) h.0 = subst (λ (l : List Token). StopsAt l h.0) (same ∙ ap (λ (l : List Token). l ++ e ∷ []) empty) h.1 in
+    h.2 stops.token.span.line stops.line ∙ ap (λ (t : Token). t.span.line) (alone e h.0 stops) ∙ last

@@ -1,5 +1,5 @@
 mod Fronts
 mod KindLists
 mod Lexing
-mod StopParts
+mod Moving
 mod Values

@@ -73,18 +73,21 @@ ArePlaced (token ∷ rest) = (token.span.line ≢ 0) × ArePlaced rest
 abbrev pub IsFront : List Token → Type 0
 IsFront tokens = ArePlaced tokens × Endless tokens
 
--- Tokens stop at the token with this number, from 0, and with this place: those before it can go on, but not with it. These
--- kinds can be there instead.
+-- Tokens can go on, but not with this one. It has this number, from 0, and this place, and these kinds can be there instead.
+pub record IsStopBehind (front : List Token) (token : Token) (index : ℕ) (span : Span) (kinds : List Kind) : Type 0 where
+  pub number : length front ≡ index
+  pub at : token.span ≡ span
+  pub cannot : NoneGoesOn fits_period 32 front token
+  pub expected : AreExpected front kinds
+
+-- Tokens stop at one of them: those before it can go on, but not with it.
 pub record StopsBy (tokens : List Token) (index : ℕ) (span : Span) (kinds : List Kind) : Type 0 where
   pub front : List Token
   pub token : Token
   pub rest : List Token
   pub whole : tokens ≡ front ++ token ∷ rest
-  pub number : length front ≡ index
-  pub at : token.span ≡ span
   pub can : CanGoOn front
-  pub cannot : NoneGoesOn fits_period 32 front token
-  pub expected : AreExpected front kinds
+  pub stop : IsStopBehind front token index span kinds
 
 -- The tokens of a text stop there.
 pub record IsStop (text : List ℕ) (defs : List (List ℕ × List ℕ)) (index : ℕ) (span : Span) (kinds : List Kind) : Type 0 where

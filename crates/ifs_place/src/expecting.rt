@@ -1,6 +1,6 @@
 //! What can come behind tokens: a token can if the parser does not stop at it.
 
-ghost use Rattle.std.specs.Prelude.{◌≡◌, ◌≢◌, None, IfOk, IfSome, IsTrue, false};
+ghost use Rattle.std.specs.Prelude.{◌≡◌, ◌≢◌, ◌∷◌, ◌++◌, [], None, IfOk, IfSome, IsTrue, false};
 ghost use Rattle.ifs_lex.specs.Expansion.{EndsOnce, is_end};
 ghost use Rattle.ifs_parse.specs.Files.{File};
 ghost use Rattle.ifs_parse.specs.Grammar.{GoesOn, NoneGoesOn, Says};
@@ -29,7 +29,8 @@ const AFTER: Span = Span {
 
 /// Whether each token has a line, and none is the end.
 pub fn is_front(tokens: &[Token]) -> bool
-    ensures { IsTrue result → IsFront tokens.now }
+    ensures front { IsTrue result → IsFront tokens.now }
+    ensures all { IsFront tokens.now → IsTrue result }
 {
     let mut left = tokens;
     'tokens: while let [first, rest @ ..] = left {
@@ -70,6 +71,7 @@ pub(crate) fn fault_line(alloc: Global, front: &mut Vec<Token>) -> Result<Option
     ensures said { IfOk result (λ found. found ≡ None → CanGoOn front.old.items) }
     ensures can { IfOk result (λ found. IfSome found (λ line. line ≡ 0 → CanGoOn front.old.items)) }
     ensures cannot { IfOk result (λ found. IfSome found (λ line. line ≢ 0 → CannotGoOn front.old.items)) }
+    ensures empty { front.old.items ≡ [] → IfOk result (λ found. IfSome found (λ line. line ≡ 0)) }
 {
     let count = front.len();
     front.push(Token {
@@ -87,6 +89,8 @@ pub fn can_go_on(alloc: Global, front: &mut Vec<Token>) -> Result<bool, AllocErr
     ensures same { IfOk result (λ _. front.new.items ≡ front.old.items) }
     ensures can { IfOk result (λ yes. IsTrue yes → CanGoOn front.old.items) }
     ensures cannot { IfOk result (λ yes. yes ≡ false → CannotGoOn front.old.items) }
+    // Some tokens say a file.
+    ensures empty { front.old.items ≡ [] → IfOk result (λ yes. IsTrue yes) }
 {
     match fault_line(alloc, front)? {
         None => Ok(true),
@@ -111,11 +115,12 @@ fn goes_on(alloc: Global, front: &mut Vec<Token>, token: Token) -> Result<bool, 
 }
 
 /// Whether the end can come behind tokens.
-fn ends(alloc: Global, front: &mut Vec<Token>, span: Span) -> Result<bool, AllocError>
+pub(crate) fn ends(alloc: Global, front: &mut Vec<Token>, span: Span) -> Result<bool, AllocError>
     requires front { IsFront front.old.items }
     ensures same { IfOk result (λ _. front.new.items ≡ front.old.items) }
     ensures can { IfOk result (λ yes. IsTrue yes → GoesOn fits_period 32 front.old.items (record { what = What.End; span = span })) }
     ensures cannot { IfOk result (λ yes. yes ≡ false → NoneGoesOn fits_period 32 front.old.items (record { what = What.End; span = span })) }
+    ensures said { IfOk result (λ yes. IsTrue yes → (file : File) × Says (front.old.items ++ record { what = What.End; span = span } ∷ []) file) }
 {
     let count = front.len();
     front.push(Token {

@@ -1,6 +1,7 @@
 //! Places that reports name: each is looked at once more before it is named.
 
-ghost use Rattle.std.specs.Prelude.{◌≡◌, ℕ, List, Option, Some, IsTrue, IfOk, map};
+ghost use Rattle.std.specs.Prelude.{◌≡◌, ℕ, List, Option, Some, IsTrue, IfOk, map, slice_get};
+ghost use Rattle.std.specs.Borrow.{Bor};
 ghost use Rattle.ifs_report.specs.Positions.{line_of};
 ghost use Rattle.ifs_lex.specs.Lexemes.{lexemes_of};
 ghost use Rattle.ifs_lex.specs.inner.Pieces.{spanned_of};
@@ -23,6 +24,8 @@ pub fn placed(
     ensures placed { IfOk result (λ found. IsPlaced text.now definitions.now line found) }
     // A part of the text on the line of the fault is kept.
     ensures kept { (part : Part) (on : ℕ) → place ≡ Place.Text part → LiesIn text.now part → line ≡ Some on → line_of text.now part.start ≡ on → IfOk result (λ found. found ≡ place) }
+    // So is a part of the value of a definition.
+    ensures given { (number : ℕ) (part : Part) (one : Bor (List ℕ) × Bor (List ℕ)) → place ≡ Place.Definition number part → slice_get definitions.now number ≡ Some one → LiesIn one.1.now part → IfOk result (λ found. found ≡ place) }
 {
     match place {
         Place::File => Ok(Place::File),
@@ -38,7 +41,8 @@ pub fn placed(
 
 /// A part of the value of a definition, if there is such a definition and part. Otherwise the whole file.
 fn given(definitions: &[(&str, &str)], number: usize, part: Part) -> Place
-    ensures { (text : List ℕ) (line : Option ℕ) → IsPlaced text definitions.now line result }
+    ensures placed { (text : List ℕ) (line : Option ℕ) → IsPlaced text definitions.now line result }
+    ensures kept { (one : Bor (List ℕ) × Bor (List ℕ)) → slice_get definitions.now number ≡ Some one → LiesIn one.1.now part → result ≡ Place.Definition number part }
 {
     match definitions.get(number) {
         Some((_name, value)) if lies_in(value, part) => Place::Definition(number, part),

@@ -1,6 +1,6 @@
 use Rattle.std.proofs.Common.{◌∙◌, refl, subst}
 use Rattle.ifs_parse.specs.Grammar.{Says}
-use Rattle.ifs_place.proofs.Fronts.{some_can, some_cannot}
+use Rattle.ifs_place.proofs.Fronts.{some_can, some_cannot, some_empty}
 use Rattle.ifs_place.proofs.expecting.fault_line.Goals as goal
 
 pub returns-clause-said : goal.returns-clause-said
@@ -13,3 +13,6 @@ returns-clause-can c = some_can c.args.front.now.items _ c.requires.0 refl _ (c.
 
 pub returns-clause-cannot : goal.returns-clause-cannot
 returns-clause-cannot c = some_cannot c.args.front.now.items _ c.requires.0 refl _ (c.as_slice.ensures.value ∙ c.in_ok-push.ensures.items) c.in_ok-found.found c.in_ok-found.ensures.stops
+
+pub returns-clause-empty : goal.returns-clause-empty
+returns-clause-empty c = λ none. some_empty c.args.front.now.items _ refl none _ (c.as_slice.ensures.value ∙ c.in_ok-push.ensures.items) c.in_ok-found.found c.in_ok-found.ensures.stops

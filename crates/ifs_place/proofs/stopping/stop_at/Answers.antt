@@ -1,18 +1,20 @@
-use Rattle.std.proofs.Common.{◌∙◌, ◌+◌, refl, sym, drop, arith}
-use Rattle.ifs_place.proofs.StopParts.{number, parts}
+use Rattle.std.proofs.Common.{◌∙◌, ◌∷◌, [], refl, subst, sym}
+use Rattle.ifs_place.specs.Expected.{AreExpected, CannotGoOn, IsFront}
+use Rattle.ifs_place.proofs.Fronts.{none_goes_on}
+use Rattle.ifs_place.proofs.Moving.{cut, front_of}
 use Rattle.ifs_place.proofs.stopping.stop_at.Goals as goal
 
-pub returns-in-Some-2 : goal.returns-in-Some-2
-returns-in-Some-2 c =
-    let cut = sym c.truncate.ensures.items ∙ c.in-Some.ensures.items in
+pub kinds_behind-requires : goal.kinds_behind-requires
+kinds_behind-requires c =
+    let same = cut c.args.front.now.items _ _ c.args.token _ (c.len-index.ensures ∙ c.args.front.now.ok.0) (c.in_ok-can_go_on.ensures.same ∙ c.in_ok-push.ensures.items) c.truncate.ensures.items in
+    subst IsFront (sym same) (front_of c.args.front.now.items (c.args.token ∷ []) c.requires.front)
+
+pub returns-clause-stops : goal.returns-clause-stops
+returns-clause-stops c =
+    let same = cut c.args.front.now.items _ _ c.args.token _ (c.len-index.ensures ∙ c.args.front.now.ok.0) (c.in_ok-can_go_on.ensures.same ∙ c.in_ok-push.ensures.items) c.truncate.ensures.items in
     record {
-      front = c.pop.new.self.items;
-      token = c.in-Some.token;
-      rest = drop (c.args.index + 1) c.args.tokens.items;
-      whole = parts c.args.tokens.items c.pop.new.self.items c.in-Some.token c.args.index cut;
-      number = number c.args.tokens.items c.pop.new.self.items c.in-Some.token c.args.index (omega (arith, c.if-index-len.false, c.len.ensures)) cut;
+      number = sym (c.len-index.ensures ∙ c.args.front.now.ok.0);
       at = refl;
-      can = rw c.in-Some-2.is at (c.in_ok-kinds.ensures.can);
-      cannot = rw c.in-Some-2.is at (c.in_ok-kinds.ensures.cannot);
-      expected = rw c.in-Some-2.is at (c.in_ok-kinds.ensures.expected);
+      cannot = none_goes_on c.args.front.now.items c.args.token (subst CannotGoOn c.in_ok-push.ensures.items (c.in_ok-can_go_on.ensures.cannot c.if-branch.false));
+      expected = subst (λ l. AreExpected l c.in_ok-kinds.kinds.items) same c.in_ok-kinds.ensures.expected;
     }
