@@ -32,7 +32,7 @@ pub placed_in : (a : List Token) (t : Token) (m : List Token) → ArePlaced (a +
 placed_in [] t m h = h.0
 placed_in (x ∷ a) t m h = placed_in a t m h.1
 
-placed_both : (a b : List Token) → ArePlaced a → ArePlaced b → ArePlaced (a ++ b)
+pub placed_both : (a b : List Token) → ArePlaced a → ArePlaced b → ArePlaced (a ++ b)
 placed_both [] b h k = k
 placed_both (t ∷ a) b h k = (h.0, placed_both a b h.1 k)
 

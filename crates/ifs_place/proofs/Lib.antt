@@ -1,5 +1,6 @@
 mod Fronts
 mod KindLists
 mod Lexing
+mod Lines
 mod Moving
 mod Values

@@ -32,8 +32,8 @@ pub fn stop_of<'a>(
 ) -> Result<Option<Stop>, AllocError>
     // The tokens before the place can go on, but not with the next one. The kinds are exactly those that can be there.
     ensures stops { IfOk result (λ found. IfSome found (λ stop. IsStop text.now (defined_by definitions.now) stop.index stop.span stop.kinds.items)) }
-    // Without a stop the tokens say a file, if the text has tokens, each on a line from 1 on.
-    ensures none { IfOk result (λ found. found ≡ None → (all : List Token) → HasTokens text.now (defined_by definitions.now) all → ArePlaced all → (file : File) × Says all file) }
+    // Without a stop the tokens say a file, if the text has tokens.
+    ensures none { IfOk result (λ found. found ≡ None → (all : List Token) → HasTokens text.now (defined_by definitions.now) all → (file : File) × Says all file) }
 {
     let Some(mut looked_at) = tokens_or_none(alloc, text, definitions)? else {
         return Ok(None);
