@@ -1,0 +1,109 @@
+//! The values that a link or a test may have.
+
+ghost use Rattle.std.specs.Prelude.{◌≡◌};
+ghost use Rattle.ifs_lint.specs.Ranges.{allows, has_one, only, value_of, without};
+
+use ifs_base::{IfaceId, LinkState, TestId};
+
+/// What a question asks of a fact: whether it has this value. A test has the values of links: `Unknown` if it has no
+/// value, `Down` if it is false, `Up` if it is true.
+#[derive(Clone, Copy)]
+pub enum Ask {
+    /// Whether an interface has this link state.
+    Link(IfaceId, LinkState),
+    /// Whether a test has this value.
+    Test(TestId, LinkState),
+}
+
+impl Ask {
+    /// The value that is asked for.
+    pub fn value(self) -> LinkState
+        ensures { result ≡ value_of self }
+    {
+        match self {
+            Ask::Link(_, value) | Ask::Test(_, value) => value,
+        }
+    }
+}
+
+/// The values that a link or a test may have.
+#[derive(Clone, Copy)]
+pub struct Choice {
+    pub unknown: bool,
+    pub down: bool,
+    pub up: bool,
+}
+
+impl Choice {
+    /// Every value.
+    pub const ANY: Choice = Choice {
+        unknown: true,
+        down: true,
+        up: true,
+    };
+
+    /// Up and down, which for a test is every value.
+    pub const RESULT: Choice = Choice {
+        unknown: false,
+        down: true,
+        up: true,
+    };
+
+    /// Whether this value is among them.
+    pub fn allows(self, value: LinkState) -> bool
+        ensures { result ≡ allows value self }
+    {
+        match value {
+            LinkState::Unknown => self.unknown,
+            LinkState::Down => self.down,
+            LinkState::Up => self.up,
+        }
+    }
+
+    /// Whether there is any value.
+    pub fn has_one(self) -> bool
+        ensures { result ≡ has_one self }
+    {
+        self.unknown || (self.down || self.up)
+    }
+
+    /// This value alone, if it is among them.
+    pub fn only(self, value: LinkState) -> Choice
+        ensures { result ≡ only value self }
+    {
+        match value {
+            LinkState::Unknown => Choice {
+                down: false,
+                up: false,
+                ..self
+            },
+            LinkState::Down => Choice {
+                unknown: false,
+                up: false,
+                ..self
+            },
+            LinkState::Up => Choice {
+                unknown: false,
+                down: false,
+                ..self
+            },
+        }
+    }
+
+    /// All of them except for this value.
+    pub fn without(self, value: LinkState) -> Choice
+        ensures { result ≡ without value self }
+    {
+        match value {
+            LinkState::Unknown => Choice {
+                unknown: false,
+                ..self
+            },
+            LinkState::Down => Choice {
+                down: false,
+                ..self
+            },
+            LinkState::Up => Choice { up: false, ..self },
+        }
+    }
+}
