@@ -1,12 +1,12 @@
 //! Braces that are missing, and braces that are too many.
 
 use crate::grammar::Seen;
-use crate::making::{hint, label};
+use crate::making::Draft;
 use crate::reading::{Policy, line_before, part_of};
+use crate::scans::{ByteKind, is_one_of, length_of_front};
 use crate::wording::has;
 use ifs_lex::What;
 use ifs_place::Kind;
-use ifs_report::Report;
 use std::alloc::{AllocError, Global};
 
 /// If a brace is to be closed where the text ends or a state begins, names the brace. If there is a brace too many, says
@@ -14,12 +14,12 @@ use std::alloc::{AllocError, Global};
 pub(crate) fn put_brace(
     alloc: Global,
     seen: Seen<'_, '_>,
-    report: &mut Report,
+    draft: &mut Draft,
 ) -> Result<(), AllocError> {
     let may_close = has(seen.kinds, Kind::BraceClose);
     match seen.policy.what(seen.index) {
-        Some(What::BraceClose) if !may_close => put_closing(alloc, seen, report),
-        Some(what) if may_close && begins_item(what) => put_opening(alloc, seen, report),
+        Some(What::BraceClose) if !may_close => put_closing(alloc, seen, draft),
+        Some(what) if may_close && begins_item(what) => put_opening(alloc, seen, draft),
         _ => Ok(()),
     }
 }
@@ -28,39 +28,50 @@ pub(crate) fn put_brace(
 fn begins_item(what: &What) -> bool {
     match what {
         What::End => true,
-        What::Word(word) => matches!(word.as_str(), "state" | "init-state" | "init"),
+        What::Word(word) => is_one_of(word.as_str(), &["state", "init-state", "init"]),
         _ => false,
     }
 }
 
 /// Says of a closing brace that none is open.
-fn put_closing(alloc: Global, seen: Seen<'_, '_>, report: &mut Report) -> Result<(), AllocError> {
-    match braces_at(alloc, seen.policy, seen.index)?.open {
-        Some(_) => Ok(()),
-        None => hint(alloc, report, "no `{` is open here: leave this `}` out"),
+fn put_closing(alloc: Global, seen: Seen<'_, '_>, draft: &mut Draft) -> Result<(), AllocError> {
+    let braces = braces_at(alloc, seen.policy, seen.index)?;
+    if braces.open.is_none() {
+        draft.hint("no `{` is open here: leave this `}` out");
     }
+    Ok(())
 }
 
 /// Names the opening brace that is not closed.
-fn put_opening(alloc: Global, seen: Seen<'_, '_>, report: &mut Report) -> Result<(), AllocError> {
+fn put_opening(alloc: Global, seen: Seen<'_, '_>, draft: &mut Draft) -> Result<(), AllocError> {
     let Braces { open, early } = braces_at(alloc, seen.policy, seen.index)?;
-    if let Some(early) = early {
-        let line = early.line;
-        label(
-            report,
-            seen.policy.origin(alloc, early.brace)?,
-            "opened here",
-        )?;
-        report.hint = Some(format!(in alloc;
-            "by the indentation, a `}}` is missing before line {line}"
-        )?);
-        return Ok(());
-    }
-    if let Some(brace) = open {
-        label(report, seen.policy.origin(alloc, brace)?, "opened here")?;
-        hint(alloc, report, "a `}` is missing before this place")?;
+    if let Some(brace) = brace_of(open, early) {
+        draft.label_token(alloc, seen.policy, brace, "opened here");
+        put_missing(early, draft);
     }
     Ok(())
+}
+
+/// Says where a brace is missing.
+fn put_missing(early: Option<Early>, draft: &mut Draft) {
+    match early {
+        Some(Early { line, .. }) => {
+            let added = write!(
+                draft.hint,
+                "by the indentation, a `}}` is missing before line {line}"
+            );
+            draft.keep(added);
+        }
+        None => draft.hint("a `}` is missing before this place"),
+    }
+}
+
+/// The brace that is not closed by the indentation, or else the innermost one.
+fn brace_of(open: Option<usize>, early: Option<Early>) -> Option<usize> {
+    match early {
+        Some(early) => Some(early.brace),
+        None => open,
+    }
 }
 
 /// A line before which a brace is missing by the indentation.
@@ -82,32 +93,52 @@ struct Braces {
 /// The braces that are open at a token.
 fn braces_at(alloc: Global, policy: &Policy<'_>, index: usize) -> Result<Braces, AllocError> {
     let mut open = Vec::new(alloc);
+    let early = walk_to(policy, index, &mut open)?;
+    Ok(Braces {
+        open: open.pop(),
+        early,
+    })
+}
+
+/// Adds the braces that are open at a token, and returns the first line before which one is missing.
+fn walk_to(
+    policy: &Policy<'_>,
+    index: usize,
+    open: &mut Vec<usize>,
+) -> Result<Option<Early>, AllocError> {
     let mut early = None;
     for (number, token) in policy.tokens.iter().enumerate() {
         if number >= index {
             break;
         }
-        if early.is_none()
-            && let Some(brace) = open.as_slice().last()
-            && is_outdented(policy, *brace, number)
-        {
-            early = Some(Early {
-                brace: *brace,
-                line: token.span.line,
-            });
+        if early.is_none() {
+            early = early_at(policy, open.as_slice(), number, token.span.line);
         }
-        match token.what {
-            What::BraceOpen => open.push(number)?,
-            What::BraceClose => {
-                let _closed = open.pop();
-            }
-            _ => {}
-        }
+        put_open(open, &token.what, number)?;
     }
-    Ok(Braces {
-        open: open.pop(),
-        early,
-    })
+    Ok(early)
+}
+
+/// Keeps the braces that are open behind one more token.
+fn put_open(open: &mut Vec<usize>, what: &What, number: usize) -> Result<(), AllocError> {
+    match what {
+        What::BraceOpen => open.push(number)?,
+        What::BraceClose => {
+            let _closed = open.pop();
+        }
+        _ => {}
+    }
+    Ok(())
+}
+
+/// The line of a token, if by the indentation a brace is missing before it.
+fn early_at(policy: &Policy<'_>, open: &[usize], number: usize, line: u32) -> Option<Early> {
+    let brace = *open.last()?;
+    if is_outdented(policy, brace, number) {
+        Some(Early { brace, line })
+    } else {
+        None
+    }
 }
 
 /// Whether a token begins a line that is indented no deeper than the line of an open brace, and does not close it.
@@ -125,9 +156,6 @@ fn is_outdented(policy: &Policy<'_>, brace: usize, number: usize) -> bool {
 fn indent_of(policy: &Policy<'_>, number: usize) -> Option<(usize, bool)> {
     let token = policy.tokens.get(number)?;
     let line = line_before(policy.text, part_of(token.span).start)?;
-    let blanks = line
-        .bytes()
-        .take_while(|byte| *byte == b' ' || *byte == b'\t')
-        .count();
+    let blanks = length_of_front(line, ByteKind::Blank);
     Some((blanks, blanks == line.len()))
 }

@@ -7,7 +7,11 @@ ghost use Rattle.ifs_policy.specs.FaultWords.{policy_fault_words, resolve_fault_
 ghost use Rattle.ifs_gen.specs.FaultWords.{compile_fault_words, gen_fault_words};
 ghost use Rattle.ifs_report.specs.Codes.{first_word};
 ghost use Rattle.ifs_advice.specs.Refusals.{
-    line_of_fault, line_of_names, line_of_text, line_of_tokens, line_of_tree,
+  line_of_fault,
+  line_of_names,
+  line_of_text,
+  line_of_tokens,
+  line_of_tree,
 };
 
 use ifs_gen::{CompileFault, GenFault};

@@ -1,14 +1,15 @@
 //! Reports on tokens that do not follow the grammar.
 
 use crate::braces::put_brace;
-use crate::hints::hint_at;
-use crate::making::{error, hint, label, label_other, quoted};
+use crate::hints::put_hint;
+use crate::macros::last_named;
+use crate::making::Draft;
 use crate::reading::Policy;
-use crate::wording::{has, words_of};
+use crate::wording::{has, put_words};
 use ifs_lex::What;
 use ifs_parse::ParseFault;
-use ifs_place::{Kind, stop_of};
-use ifs_report::{Place, Report};
+use ifs_place::{Kind, Stop, stop_of};
+use ifs_report::{Report, Severity};
 use std::alloc::{AllocError, Global};
 
 /// What is seen of the place where the grammar stops.
@@ -30,96 +31,84 @@ pub(crate) fn no_tree<'a>(
     definitions: &'a [(&'a str, &'a str)],
     fault: ParseFault,
 ) -> Result<Report, AllocError> {
-    let Some(stop) = stop_of(alloc, policy.text, definitions)? else {
-        let message = String::from_str(alloc, "the text does not follow the grammar")?;
-        return Ok(error(alloc, Place::File, message));
+    let stop = stop_of(alloc, policy.text, definitions)?;
+    let mut draft = Draft::new(alloc);
+    put_stop(alloc, policy, definitions, fault, &stop, &mut draft)?;
+    draft.report(Severity::Error)
+}
+
+/// Says what is wrong at the place where the grammar stops.
+fn put_stop<'a>(
+    alloc: Global,
+    policy: &Policy<'a>,
+    definitions: &'a [(&'a str, &'a str)],
+    fault: ParseFault,
+    stop: &Option<Stop>,
+    draft: &mut Draft,
+) -> Result<(), AllocError> {
+    let Some(stop) = stop else {
+        draft.say("the text does not follow the grammar");
+        return Ok(());
     };
     let spot = policy.spot(alloc, stop.index)?;
-    let word = policy.word(spot.place, definitions);
-    let kinds = stop.kinds.as_slice();
-    let message = message_of(alloc, policy, stop.index, fault, word)?;
-    let mut report = error(alloc, spot.place, message);
-    report.expected = words_of(alloc, kinds, policy.what_before(stop.index))?;
-    label_other(&mut report, spot.other, "its value begins here")?;
     let seen = Seen {
         policy,
         index: stop.index,
-        kinds,
-        word,
+        kinds: stop.kinds.as_slice(),
+        word: policy.word(spot.place, definitions),
     };
-    put_hint(alloc, seen, fault, &mut report)?;
-    Ok(report)
+    put_words(draft, seen.kinds, policy.what_before(seen.index));
+    draft.put_spot(spot, "its value begins here");
+    if let ParseFault::Nesting { .. } = fault {
+        put_nesting(seen.word, draft);
+        return Ok(());
+    }
+    put_message(seen, draft);
+    put_mending(alloc, seen, draft)
+}
+
+/// Says that too much is open.
+fn put_nesting(word: &str, draft: &mut Draft) {
+    draft.say_quoted("", word, " is the 33rd of `if`, `!` and `(` that are open");
+    draft.rule = "at most 32 of `if`, `!` and `(` are open at the same time";
+    draft.hint("put parts of the condition into states of their own");
+}
+
+/// Says what cannot be here.
+fn put_message(seen: Seen<'_, '_>, draft: &mut Draft) {
+    match seen.policy.what(seen.index) {
+        Some(What::End) => draft.say("the text cannot end here"),
+        _ => draft.say_quoted("", seen.word, " cannot stand here"),
+    }
 }
 
 /// Adds what would mend the text, with the places that this speaks of.
-fn put_hint(
-    alloc: Global,
-    seen: Seen<'_, '_>,
-    fault: ParseFault,
-    report: &mut Report,
-) -> Result<(), AllocError> {
-    if let ParseFault::Nesting { .. } = fault {
-        report.rule = "at most 32 of `if`, `!` and `(` are open at the same time";
-        return hint(
-            alloc,
-            report,
-            "put parts of the condition into states of their own",
-        );
-    }
-    put_brace(alloc, seen, report)?;
-    if report.hint.is_some() {
+fn put_mending(alloc: Global, seen: Seen<'_, '_>, draft: &mut Draft) -> Result<(), AllocError> {
+    put_brace(alloc, seen, draft)?;
+    if !draft.hint.is_empty() {
         return Ok(());
     }
-    put_name(alloc, seen, report)?;
-    report.hint = hint_at(alloc, seen)?;
-    Ok(())
+    if has(seen.kinds, Kind::Every) {
+        put_name(alloc, seen, draft);
+    }
+    put_hint(alloc, seen, draft)
 }
 
-/// What is wrong, in a sentence.
-fn message_of(
-    alloc: Global,
-    policy: &Policy<'_>,
-    index: usize,
-    fault: ParseFault,
-    word: &str,
-) -> Result<String, AllocError> {
-    let shown = quoted(alloc, word)?;
-    match fault {
-        ParseFault::Nesting { .. } => {
-            format!(in alloc; "{shown} is the 33rd of `if`, `!` and `(` that are open")
+/// Names the name or the command behind which a condition cannot go on.
+fn put_name(alloc: Global, seen: Seen<'_, '_>, draft: &mut Draft) {
+    match seen.policy.what_before(seen.index) {
+        Some(What::Quoted(_)) => {
+            let last = seen.index.saturating_sub(1);
+            draft.label_token(alloc, seen.policy, last, "without a period");
         }
-        _ if is_end(policy.what(index)) => String::from_str(alloc, "the text cannot end here"),
-        _ => format!(in alloc; "{shown} cannot stand here"),
+        Some(What::Word(name)) => put_macro(seen.policy, name.as_str(), draft),
+        _ => {}
     }
 }
 
-/// Whether a token is the end of the text.
-fn is_end(what: Option<&What>) -> bool {
-    matches!(what, Some(What::End))
-}
-
-/// If a condition cannot go on behind a name or a command, names that.
-fn put_name(alloc: Global, seen: Seen<'_, '_>, report: &mut Report) -> Result<(), AllocError> {
-    let Some(last) = seen.index.checked_sub(1) else {
-        return Ok(());
-    };
-    if !has(seen.kinds, Kind::Every) {
-        return Ok(());
-    }
-    let policy = seen.policy;
-    match policy.what(last) {
-        Some(What::Quoted(_)) => label(report, policy.origin(alloc, last)?, "without a period"),
-        Some(What::Word(name)) => {
-            match policy
-                .macros
-                .iter()
-                .rev()
-                .find(|found| found.name == name.as_str())
-            {
-                Some(found) => label(report, found.name_place(), "the macro of this name"),
-                None => Ok(()),
-            }
-        }
-        _ => Ok(()),
+/// Names the last macro of a name, if there is one.
+fn put_macro(policy: &Policy<'_>, name: &str, draft: &mut Draft) {
+    if let Some(found) = last_named(policy.macros.as_slice(), name) {
+        draft.label(found.name_place(), "the macro of this name");
     }
 }

@@ -1,10 +1,14 @@
 //! What would mend a text that does not follow the grammar.
 
 use crate::grammar::Seen;
+use crate::macros::{Macro, last_named};
+use crate::making::Draft;
+use crate::names::word_of;
 use crate::nearest::is_near;
 use crate::reading::part_of;
+use crate::scans::{ByteKind, is_all, length_of_front};
 use crate::wording::has;
-use ifs_lex::What;
+use ifs_lex::{Token, What};
 use ifs_place::Kind;
 use std::alloc::{AllocError, Global};
 
@@ -19,256 +23,326 @@ const WORDS: [(Kind, &str); 7] = [
     (Kind::Every, "every"),
 ];
 
-/// The hint for a place, if there is one.
-pub(crate) fn hint_at(alloc: Global, seen: Seen<'_, '_>) -> Result<Option<String>, AllocError> {
-    if let Some(hint) = taken_for_definition(alloc, seen)? {
-        return Ok(Some(hint));
+/// Adds the hint for a place, if there is one.
+pub(crate) fn put_hint(
+    alloc: Global,
+    seen: Seen<'_, '_>,
+    draft: &mut Draft,
+) -> Result<(), AllocError> {
+    if let Some(found) = macro_behind_dot(seen) {
+        return put_definition(alloc, found, draft);
     }
-    if let Some(text) = hint_of_word(seen) {
-        return Ok(Some(String::from_str(alloc, text)?));
+    draft.hint(hint_of_word(seen));
+    if draft.hint.is_empty() && is_number(seen) {
+        put_number(seen, draft);
     }
-    if let Some(hint) = hint_of_number(alloc, seen)? {
-        return Ok(Some(hint));
+    if draft.hint.is_empty() {
+        put_name(alloc, seen, draft)?;
     }
-    if let Some(hint) = hint_of_name(alloc, seen)? {
-        return Ok(Some(hint));
+    if draft.hint.is_empty() {
+        put_neighbour(alloc, seen, draft);
     }
-    if let Some(hint) = hint_of_neighbour(alloc, seen)? {
-        return Ok(Some(hint));
+    if draft.hint.is_empty() {
+        put_near(alloc, seen, draft)?;
     }
-    hint_of_near(alloc, seen)
+    Ok(())
 }
 
-/// `NAME = VALUE` in a condition is the definition of a macro.
-fn taken_for_definition(alloc: Global, seen: Seen<'_, '_>) -> Result<Option<String>, AllocError> {
-    let policy = seen.policy;
-    let (Some(last), Some(token)) = (seen.index.checked_sub(1), policy.tokens.get(seen.index))
-    else {
-        return Ok(None);
-    };
-    let Some(before) = policy.tokens.get(last) else {
-        return Ok(None);
-    };
-    if !matches!(before.what, What::Dot) {
-        return Ok(None);
-    }
-    let (from, to) = (part_of(before.span).end, part_of(token.span).start);
-    match policy.macros.iter().find(|found| found.line != 0 && from <= found.at && found.at < to) {
-        Some(found) => {
-            let (line, name) = (found.line, found.name);
-            let value = found.text(alloc)?;
-            let value = value.as_str();
-            Ok(Some(format!(in alloc;
-                "`{name} = {value}` on line {line} defines a macro: write `.link.up`"
-            )?))
-        }
-        None => Ok(None),
-    }
-}
-
-/// The hint for a word that other languages have, or that is in the place of a link state.
-fn hint_of_word(seen: Seen<'_, '_>) -> Option<&'static str> {
-    match seen.word {
-        "else" => Some("there is no `else`: write a second `if` with `!`"),
-        "elsif" => Some("there is no `elsif`: write a second `if` with `!`"),
-        "elseif" | "elif" => Some("there is no `else if`: write a second `if` with `!`"),
-        "include" => Some("a policy is one file, and includes no other"),
-        "and" => Some("write `&&`"),
-        "or" => Some("write `||`"),
-        "not" => Some("write `!`"),
-        "set" | "setstate" | "set_state" | "goto" => Some("write `set-state`"),
-        "then" | "do" => Some("the actions follow the condition without a word between them"),
-        "init_state" | "initstate" => Some("write `init-state`"),
-        "=" if has(seen.kinds, Kind::Dot) || has(seen.kinds, Kind::And) => Some(
-            "a link is asked without `=`: write `.link.up`",
-        ),
-        "=" => Some(
-            "a macro is defined by NAME = \"VALUE\", where NAME is no word of the language",
-        ),
-        ")" if !has(seen.kinds, Kind::ParenClose) && has(seen.kinds, Kind::And) => Some(
-            "no `(` is open here: leave this `)` out",
-        ),
-        _ if has(seen.kinds, Kind::Up) && !has(seen.kinds, Kind::Text) => Some(
-            "a master is `up`, and a backup is `down`",
-        ),
-        word if word.starts_with("//") || word.starts_with("/*") => Some(
-            "a comment begins with `#`",
-        ),
+/// The token before the place, and the one at it.
+fn tokens_at<'p>(seen: Seen<'p, '_>) -> Option<(&'p Token, &'p Token)> {
+    let from = seen.index.checked_sub(1)?;
+    match seen.policy.tokens.get(from..) {
+        Some([before, token, ..]) => Some((before, token)),
         _ => None,
     }
 }
 
-/// The hint for a word in the place of a number.
-fn hint_of_number(alloc: Global, seen: Seen<'_, '_>) -> Result<Option<String>, AllocError> {
-    if !has(seen.kinds, Kind::Number) || has(seen.kinds, Kind::Text) {
-        return Ok(None);
+/// The macro whose definition follows a dot, as in `NAME.NAME = VALUE`.
+fn macro_behind_dot<'p, 'a>(seen: Seen<'p, 'a>) -> Option<&'p Macro<'a>> {
+    let (before, token) = tokens_at(seen)?;
+    let What::Dot = before.what else {
+        return None;
+    };
+    let (from, to) = (part_of(before.span).end, part_of(token.span).start);
+    macro_between(seen.policy.macros.as_slice(), from, to)
+}
+
+/// The first macro that the text defines between two offsets.
+fn macro_between<'m, 'a>(macros: &'m [Macro<'a>], from: usize, to: usize) -> Option<&'m Macro<'a>> {
+    for found in macros {
+        if found.line != 0 && from <= found.at && found.at < to {
+            return Some(found);
+        }
     }
+    None
+}
+
+/// `NAME = VALUE` in a condition is the definition of a macro.
+fn put_definition(alloc: Global, found: &Macro<'_>, draft: &mut Draft) -> Result<(), AllocError> {
+    let value = found.text(alloc)?;
+    let (line, name, value) = (found.line, found.name, value.as_str());
+    write!(
+        draft.hint,
+        "`{name} = {value}` on line {line} defines a macro: write `.link.up`"
+    )
+}
+
+/// Words that other languages have, each with what is written in its place.
+const OTHERS: [(&str, &str); 16] = [
+    ("else", "there is no `else`: write a second `if` with `!`"),
+    ("elsif", "there is no `elsif`: write a second `if` with `!`"),
+    (
+        "elseif",
+        "there is no `else if`: write a second `if` with `!`",
+    ),
+    (
+        "elif",
+        "there is no `else if`: write a second `if` with `!`",
+    ),
+    ("include", "a policy is one file, and includes no other"),
+    ("and", "write `&&`"),
+    ("or", "write `||`"),
+    ("not", "write `!`"),
+    ("set", "write `set-state`"),
+    ("setstate", "write `set-state`"),
+    ("set_state", "write `set-state`"),
+    ("goto", "write `set-state`"),
+    (
+        "then",
+        "the actions follow the condition without a word between them",
+    ),
+    (
+        "do",
+        "the actions follow the condition without a word between them",
+    ),
+    ("init_state", "write `init-state`"),
+    ("initstate", "write `init-state`"),
+];
+
+/// The hint for a word that other languages have. It is empty for others.
+fn hint_of_other(words: &[(&'static str, &'static str)], word: &str) -> &'static str {
+    for (known, hint) in words {
+        if *known == word {
+            return hint;
+        }
+    }
+    ""
+}
+
+/// The hint for a word that other languages have, or that is in the place of a link state. It is empty if there is none.
+fn hint_of_word(seen: Seen<'_, '_>) -> &'static str {
+    let hint = hint_of_other(&OTHERS, seen.word);
+    if !hint.is_empty() {
+        return hint;
+    }
+    match seen.word {
+        "=" => hint_of_equals(seen),
+        ")" if !has(seen.kinds, Kind::ParenClose) && has(seen.kinds, Kind::And) =>
+            "no `(` is open here: leave this `)` out",
+        _ if has(seen.kinds, Kind::Up) && !has(seen.kinds, Kind::Text) =>
+            "a master is `up`, and a backup is `down`",
+        word if word.starts_with("//") || word.starts_with("/*") => "a comment begins with `#`",
+        _ => "",
+    }
+}
+
+fn hint_of_equals(seen: Seen<'_, '_>) -> &'static str {
+    if has(seen.kinds, Kind::Dot) || has(seen.kinds, Kind::And) {
+        "a link is asked without `=`: write `.link.up`"
+    } else {
+        "a macro is defined by NAME = \"VALUE\", where NAME is no word of the language"
+    }
+}
+
+/// Whether a number could be at the place, and no name.
+fn is_number(seen: Seen<'_, '_>) -> bool {
+    has(seen.kinds, Kind::Number) && !has(seen.kinds, Kind::Text)
+}
+
+/// Adds the hint for a word in the place of a number.
+fn put_number(seen: Seen<'_, '_>, draft: &mut Draft) {
     if let Some(What::Dot) = seen.policy.what(seen.index.saturating_add(1)) {
-        return Ok(Some(String::from_str(
-            alloc,
-            "whole seconds, without a fraction: the least is `1`",
-        )?));
+        return draft.hint("whole seconds, without a fraction: the least is `1`");
     }
-    let digits = seen
-        .word
-        .bytes()
-        .take_while(|byte| byte.is_ascii_digit())
-        .count();
+    let digits = length_of_front(seen.word, ByteKind::Digit);
     match seen.word.split_at_checked(digits) {
-        Some((number, unit)) if !number.is_empty() && !unit.is_empty() => {
-            Ok(Some(format!(in alloc; "whole seconds, without a unit: `{number}`")?))
-        }
-        Some((number, _)) if number.bytes().all(|byte| byte == b'0') && !number.is_empty() => {
-            Ok(Some(String::from_str(alloc, "the least is `1`")?))
-        }
-        Some((number, _)) if !number.is_empty() => Ok(Some(String::from_str(
-            alloc,
-            "the most is `604800`, a week",
-        )?)),
-        _ => Ok(None),
+        Some((number, unit)) if !number.is_empty() => put_digits(number, unit, draft),
+        _ => {}
     }
 }
 
-/// The hint for a name whose next part is missing or wrong.
-fn hint_of_name(alloc: Global, seen: Seen<'_, '_>) -> Result<Option<String>, AllocError> {
-    let policy = seen.policy;
+/// Adds the hint for a number that is none of seconds, or has a unit.
+fn put_digits(number: &str, unit: &str, draft: &mut Draft) {
+    if !unit.is_empty() {
+        draft.hint_of("whole seconds, without a unit: `", number, "`");
+    } else if is_all(number, ByteKind::Zero) {
+        draft.hint("the least is `1`");
+    } else {
+        draft.hint("the most is `604800`, a week");
+    }
+}
+
+/// Adds the hint for a name whose next part is missing or wrong.
+fn put_name(alloc: Global, seen: Seen<'_, '_>, draft: &mut Draft) -> Result<(), AllocError> {
     if has(seen.kinds, Kind::Link) && !has(seen.kinds, Kind::Text) {
-        return dotted(alloc, seen);
+        return put_dotted(alloc, seen, draft);
     }
-    if !has(seen.kinds, Kind::Dot) {
-        return Ok(None);
+    if has(seen.kinds, Kind::Dot) {
+        put_operand(alloc, seen, draft);
     }
-    let Some(last) = seen.index.checked_sub(1) else {
-        return Ok(None);
-    };
-    let there = place_of(alloc, policy.line(alloc, last)?)?;
-    let there = there.as_str();
-    match policy.what(last) {
-        Some(What::Word(name)) if name.as_str() == "not" => {
-            Ok(Some(String::from_str(alloc, "write `!` for `not`")?))
-        }
-        Some(What::Word(name))
-            if policy
-                .macros
-                .iter()
-                .any(|found| found.name == name.as_str()) => {
-            let name = name.as_str();
-            Ok(Some(format!(in alloc; "did you mean `${name}` {there}?")?))
-        }
+    Ok(())
+}
+
+/// Adds the hint for a name or a command that is neither a link nor a test.
+fn put_operand(alloc: Global, seen: Seen<'_, '_>, draft: &mut Draft) {
+    match seen.policy.what_before(seen.index) {
+        Some(What::Word(name)) => put_word(alloc, seen, name.as_str(), draft),
         Some(What::Quoted(_)) => {
-            Ok(Some(format!(in alloc;
-                "the command {there} is no test yet: write `every 5` behind it"
-            )?))
+            draft.hint("the command ");
+            put_line(alloc, seen, draft);
+            draft.hint(" is no test yet: write `every 5` behind it");
         }
-        Some(What::Word(name)) => {
-            let name = name.as_str();
-            Ok(Some(format!(in alloc;
-                "write `{name}.link.up` for a link, or `{name} every 5` for a test"
-            )?))
-        }
-        _ => Ok(None),
+        _ => {}
     }
 }
 
-/// A line in words. Line 0 is that of definitions on the command line.
-fn place_of(alloc: Global, line: u32) -> Result<String, AllocError> {
-    match line {
-        0 => String::from_str(alloc, "of `-D`"),
-        _ => format!(in alloc; "on line {line}"),
+/// Adds the hint for a word that is neither a link nor a test.
+fn put_word(alloc: Global, seen: Seen<'_, '_>, name: &str, draft: &mut Draft) {
+    if name == "not" {
+        draft.hint("write `!` for `not`");
+    } else if last_named(seen.policy.macros.as_slice(), name).is_some() {
+        draft.hint_of("did you mean `$", name, "` ");
+        put_line(alloc, seen, draft);
+        draft.hint("?");
+    } else {
+        draft.hint_of("write `", name, ".link.up` for a link, or `");
+        draft.hint_of("", name, " every 5` for a test");
     }
 }
 
-/// The hint for a name with a dot.
-fn dotted(alloc: Global, seen: Seen<'_, '_>) -> Result<Option<String>, AllocError> {
-    let name = match seen.index.checked_sub(2) {
-        Some(before) => seen.policy.what(before),
-        None => None,
+/// Adds the line of the token before the place in words. Line 0 is that of definitions on the command line.
+fn put_line(alloc: Global, seen: Seen<'_, '_>, draft: &mut Draft) {
+    let added = match seen.policy.line(alloc, seen.index.saturating_sub(1)) {
+        Ok(0) => draft.hint.push_str("of `-D`"),
+        Ok(line) => write!(draft.hint, "on line {line}"),
+        Err(AllocError) => Err(AllocError),
     };
-    match name {
-        Some(What::Word(name)) => {
-            let (name, word) = (name.as_str(), seen.word);
-            let whole = format!(in alloc; "{name}.{word}")?;
-            let is_value = is_value(alloc, seen, whole.as_str())?;
-            let whole = whole.as_str();
-            Ok(Some(if is_value {
-                format!(in alloc;
-                    "a name with a dot needs quotes inside of the quotes: `'\"{whole}\"'`"
-                )?
-            } else {
-                format!(in alloc; "a name with a dot needs quotes: `\"{whole}\"`")?
-            }))
-        }
-        _ => Ok(None),
+    draft.keep(added);
+}
+
+/// Adds the hint for a name with a dot.
+fn put_dotted(alloc: Global, seen: Seen<'_, '_>, draft: &mut Draft) -> Result<(), AllocError> {
+    let Some(before) = seen.index.checked_sub(2) else {
+        return Ok(());
+    };
+    let Some(What::Word(name)) = seen.policy.what(before) else {
+        return Ok(());
+    };
+    let (name, word) = (name.as_str(), seen.word);
+    let whole = format!(in alloc; "{name}.{word}")?;
+    put_quotes(alloc, seen, whole.as_str(), draft)
+}
+
+/// Adds the hint for a name that needs quotes.
+fn put_quotes(
+    alloc: Global,
+    seen: Seen<'_, '_>,
+    whole: &str,
+    draft: &mut Draft,
+) -> Result<(), AllocError> {
+    if is_value(alloc, seen, whole)? {
+        draft.hint_of(
+            "a name with a dot needs quotes inside of the quotes: `'\"",
+            whole,
+            "\"'`",
+        );
+    } else {
+        draft.hint_of("a name with a dot needs quotes: `\"", whole, "\"`");
     }
+    Ok(())
 }
 
 /// Whether a text is the whole value of a macro.
 fn is_value(alloc: Global, seen: Seen<'_, '_>, whole: &str) -> Result<bool, AllocError> {
     for found in seen.policy.macros.as_slice() {
-        if found.text(alloc)?.as_str() == whole {
+        if has_value(alloc, found, whole)? {
             return Ok(true);
         }
     }
     Ok(false)
 }
 
-/// The hint for a token by the ones before it.
-fn hint_of_neighbour(alloc: Global, seen: Seen<'_, '_>) -> Result<Option<String>, AllocError> {
-    let policy = seen.policy;
-    let Some(last) = seen.index.checked_sub(1) else {
-        return Ok(None);
+/// Whether a text is the whole value of this macro.
+fn has_value(alloc: Global, found: &Macro<'_>, whole: &str) -> Result<bool, AllocError> {
+    let value = found.text(alloc)?;
+    Ok(value.as_str() == whole)
+}
+
+/// Adds the hint for a token by the ones before it.
+fn put_neighbour(alloc: Global, seen: Seen<'_, '_>, draft: &mut Draft) {
+    let Some((before, token)) = tokens_at(seen) else {
+        return;
     };
-    if let (Some(What::Word(word)), "state") = (policy.what(last), seen.word)
-        && word.as_str() == "init"
-    {
-        return Ok(Some(String::from_str(alloc, "did you mean `init-state`?")?));
+    draft.hint(hint_behind(seen, before, token));
+    let word = word_of(Some(&before.what));
+    if draft.hint.is_empty() && !word.is_empty() {
+        put_missing(alloc, seen, word, draft);
     }
-    if let (Some(What::Word(word)), true) = (policy.what(last), has(seen.kinds, Kind::Text))
-        && !has(seen.kinds, Kind::Bang)
-    {
-        let word = word.as_str();
-        let there = place_of(alloc, policy.line(alloc, last)?)?;
-        let there = there.as_str();
-        let wanted = if word == "run" { "command" } else { "name" };
-        return Ok(Some(format!(in alloc; "the `{word}` {there} has no {wanted}")?));
+}
+
+/// The hint for a token by the one before it. It is empty if there is none.
+fn hint_behind(seen: Seen<'_, '_>, before: &Token, token: &Token) -> &'static str {
+    let word = word_of(Some(&before.what));
+    if word == "init" && seen.word == "state" {
+        return "did you mean `init-state`?";
     }
-    match (policy.tokens.get(last), policy.tokens.get(seen.index)) {
-        (Some(before), Some(token))
-            if is_cut(&before.what) && before.span.end == token.span.start => {
-            Ok(Some(String::from_str(
-                alloc,
-                "the quote before it ends the command: inside of one write `\\\"`",
-            )?))
-        }
-        _ if is_run(seen, last) => Ok(Some(String::from_str(
-            alloc,
-            "a command of several words needs quotes",
-        )?)),
-        _ => Ok(None),
+    if is_quoted(&before.what) && before.span.end == token.span.start {
+        return "the quote before it ends the command: inside of one write `\\\"`";
+    }
+    ""
+}
+
+/// Adds the hint for what needs a name or a command behind it, or for a command of several words.
+fn put_missing(alloc: Global, seen: Seen<'_, '_>, word: &str, draft: &mut Draft) {
+    let last = seen.index.saturating_sub(1);
+    if has(seen.kinds, Kind::Text) && !has(seen.kinds, Kind::Bang) {
+        draft.hint_of("the `", word, "` ");
+        put_line(alloc, seen, draft);
+        draft.hint(if word == "run" {
+            " has no command"
+        } else {
+            " has no name"
+        });
+    } else if word_of(seen.policy.what_before(last)) == "run" {
+        draft.hint("a command of several words needs quotes");
     }
 }
 
 /// Whether a token is a quoted text.
-fn is_cut(what: &What) -> bool {
+fn is_quoted(what: &What) -> bool {
     matches!(what, What::Quoted(_))
 }
 
-/// Whether the token before the one with this number is `run`, and it is a word.
-fn is_run(seen: Seen<'_, '_>, index: usize) -> bool {
-    match (seen.policy.what_before(index), seen.policy.what(index)) {
-        (Some(What::Word(run)), Some(What::Word(_))) => run.as_str() == "run",
-        _ => false,
+/// Adds the hint for a word that is nearly one of the grammar.
+fn put_near(alloc: Global, seen: Seen<'_, '_>, draft: &mut Draft) -> Result<(), AllocError> {
+    if word_of(seen.policy.what(seen.index)).is_empty() {
+        return Ok(());
     }
+    if let Some(word) = near_word(alloc, seen, &WORDS)? {
+        draft.hint_of("did you mean `", word, "`?");
+    }
+    Ok(())
 }
 
-/// The hint for a word that is nearly one of the grammar.
-fn hint_of_near(alloc: Global, seen: Seen<'_, '_>) -> Result<Option<String>, AllocError> {
-    let Some(What::Word(_)) = seen.policy.what(seen.index) else {
-        return Ok(None);
-    };
-    for (kind, word) in WORDS {
-        if has(seen.kinds, kind) && is_near(alloc, seen.word, word)? {
-            return Ok(Some(format!(in alloc; "did you mean `{word}`?")?));
+/// The first word whose kind could be there, and that is nearly the one that is there.
+fn near_word(
+    alloc: Global,
+    seen: Seen<'_, '_>,
+    words: &[(Kind, &'static str)],
+) -> Result<Option<&'static str>, AllocError> {
+    for (kind, word) in words {
+        if has(seen.kinds, *kind) && is_near(alloc, seen.word, word)? {
+            return Ok(Some(*word));
         }
     }
     Ok(None)

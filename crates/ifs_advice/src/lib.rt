@@ -15,6 +15,7 @@ mod names;
 mod nearest;
 mod noting;
 mod reading;
+mod scans;
 mod strays;
 mod texts;
 mod wording;

@@ -1,5 +1,7 @@
 //! The macros of a policy: where each is defined, and which tokens its value has.
 
+use crate::reading::part_of;
+use ifs_base::Text;
 use ifs_lex::{Found, Piece, is_dropped};
 use ifs_place::{Spelled, behind, lexemes_of, value_of};
 use ifs_report::{Part, Place};
@@ -7,7 +9,7 @@ use std::alloc::{AllocError, Global};
 use std::collections::HashMap;
 
 /// Where the value of a macro is.
-#[derive(Clone, Copy, PartialEq, Eq)]
+#[derive(Clone, Copy)]
 pub(crate) enum Home {
     /// In the text: its first byte between the quotes.
     Text(usize),
@@ -30,13 +32,10 @@ pub(crate) struct Macro<'a> {
 
 impl<'a> Macro<'a> {
     /// The text of its value, without the bytes that quotes drop.
-    pub fn text(&self, alloc: Global) -> Result<String, AllocError> {
+    pub fn text(&self, alloc: Global) -> Result<Text, AllocError> {
         match self.value {
-            Spelled::Word(word) => String::from_str(alloc, word),
-            Spelled::Quoted(quote, inside) => match Piece::Quoted(quote, inside).text(alloc)? {
-                Some(text) => String::from_str(alloc, text.as_str()),
-                None => Ok(String::new(alloc)),
-            },
+            Spelled::Word(word) => Ok(Text::new(String::from_str(alloc, word)?)),
+            Spelled::Quoted(quote, inside) => text_inside(alloc, quote, inside),
         }
     }
 
@@ -102,16 +101,19 @@ impl<'a> Macro<'a> {
     }
 }
 
+/// What quotes have between them, without the bytes that they drop.
+fn text_inside(alloc: Global, quote: u8, inside: &str) -> Result<Text, AllocError> {
+    match Piece::Quoted(quote, inside).text(alloc)? {
+        Some(text) => Ok(text),
+        None => Ok(Text::new(String::new(alloc))),
+    }
+}
+
 /// The offset between quotes of a byte of the value.
 fn offset_within(quote: u8, inside: &[u8], wanted: usize) -> usize {
     let mut kept = 0usize;
     for (offset, byte) in inside.iter().enumerate() {
-        let (_, rest) = inside.split_at(offset);
-        let is_kept = match rest {
-            [_, after @ ..] => !is_dropped(quote, *byte, after),
-            [] => false,
-        };
-        if is_kept {
+        if is_kept(quote, inside, offset, *byte) {
             if kept == wanted {
                 return offset;
             }
@@ -121,34 +123,31 @@ fn offset_within(quote: u8, inside: &[u8], wanted: usize) -> usize {
     inside.len()
 }
 
+/// Whether the value has the byte at an offset between quotes.
+fn is_kept(quote: u8, inside: &[u8], offset: usize, byte: u8) -> bool {
+    match inside.get(offset.saturating_add(1)..) {
+        Some(after) => !is_dropped(quote, byte, after),
+        None => false,
+    }
+}
+
 /// The macros that are given on the command line, and then those of a text, in order, without the numbers of their tokens.
 pub(crate) fn macros_of<'a>(
     alloc: Global,
     lexemes: &[Found<'a>],
     definitions: &[(&'a str, &'a str)],
 ) -> Result<Vec<Macro<'a>>, AllocError> {
-    let mut macros = given_macros(alloc, definitions)?;
-    // the sign `=` and the value of a definition begin none
-    let mut skipped = 0usize;
-    for (index, first) in lexemes.iter().enumerate() {
-        if skipped > 0 {
-            skipped -= 1;
-            continue;
-        }
-        if let Some(found) = macro_of(first, behind(lexemes, index)) {
-            macros.push(found)?;
-            skipped = 2;
-        }
-    }
+    let mut macros = Vec::new(alloc);
+    put_given(&mut macros, definitions)?;
+    put_written(&mut macros, lexemes)?;
     Ok(macros)
 }
 
-/// The macros of the command line.
-fn given_macros<'a>(
-    alloc: Global,
+/// Adds the macros of the command line.
+fn put_given<'a>(
+    macros: &mut Vec<Macro<'a>>,
     definitions: &[(&'a str, &'a str)],
-) -> Result<Vec<Macro<'a>>, AllocError> {
-    let mut macros = Vec::new(alloc);
+) -> Result<(), AllocError> {
     for (number, (name, value)) in definitions.iter().enumerate() {
         macros.push(Macro {
             name,
@@ -159,7 +158,22 @@ fn given_macros<'a>(
             count: 0,
         })?;
     }
-    Ok(macros)
+    Ok(())
+}
+
+/// Adds the macros of a text.
+fn put_written<'a>(macros: &mut Vec<Macro<'a>>, lexemes: &[Found<'a>]) -> Result<(), AllocError> {
+    // the sign `=` and the value of a definition begin none
+    let mut skipped = 0usize;
+    for (index, first) in lexemes.iter().enumerate() {
+        if skipped > 0 {
+            skipped -= 1;
+        } else if let Some(found) = macro_of(first, behind(lexemes, index)) {
+            macros.push(found)?;
+            skipped = 2;
+        }
+    }
+    Ok(())
 }
 
 /// The macro whose definition begins with a lexeme.
@@ -188,26 +202,59 @@ struct Counted {
 }
 
 /// The same macros, with the numbers of their tokens.
-pub(crate) fn with_counts<'a>(
+pub(crate) fn counted_macros_of<'a>(
+    alloc: Global,
+    lexemes: &[Found<'a>],
+    definitions: &[(&'a str, &'a str)],
+) -> Result<Vec<Macro<'a>>, AllocError> {
+    let macros = macros_of(alloc, lexemes, definitions)?;
+    let mut known = HashMap::new(alloc);
+    let mut all = Vec::new(alloc);
+    put_counted(alloc, macros.as_slice(), &mut known, &mut all)?;
+    Ok(all)
+}
+
+/// Adds macros with the numbers of their tokens, in order. Those before them are known.
+fn put_counted<'a>(
     alloc: Global,
     macros: &[Macro<'a>],
-) -> Result<Vec<Macro<'a>>, AllocError> {
-    let mut known: HashMap<&str, Counted> = HashMap::new(alloc);
-    let mut all = Vec::new(alloc);
+    known: &mut HashMap<&'a str, Counted>,
+    all: &mut Vec<Macro<'a>>,
+) -> Result<(), AllocError> {
     for found in macros {
-        let text = found.text(alloc)?;
-        let count = tokens_in(alloc, &known, text.as_str())?;
-        let is_given = matches!(found.home, Home::Given(_));
-        let holds = match known.get(found.name) {
-            Some(earlier) => !earlier.is_given,
-            None => true,
-        };
-        if holds {
-            known.insert(found.name, Counted { count, is_given })?;
-        }
-        all.push(Macro { count, ..*found })?;
+        let count = count_of(alloc, known, found)?;
+        put_known(known, found, count)?;
+        let mut counted = *found;
+        counted.count = count;
+        all.push(counted)?;
     }
-    Ok(all)
+    Ok(())
+}
+
+/// The number of tokens of the value of a macro.
+fn count_of(
+    alloc: Global,
+    known: &HashMap<&str, Counted>,
+    found: &Macro<'_>,
+) -> Result<usize, AllocError> {
+    let text = found.text(alloc)?;
+    tokens_in(alloc, known, text.as_str())
+}
+
+/// Adds a macro, unless one that was given on the command line holds before it.
+fn put_known<'a>(
+    known: &mut HashMap<&'a str, Counted>,
+    found: &Macro<'a>,
+    count: usize,
+) -> Result<(), AllocError> {
+    if let Some(earlier) = known.get(found.name)
+        && earlier.is_given
+    {
+        return Ok(());
+    }
+    let is_given = matches!(found.home, Home::Given(_));
+    known.insert(found.name, Counted { count, is_given })?;
+    Ok(())
 }
 
 /// The number of tokens of a value.
@@ -219,29 +266,59 @@ fn tokens_in(
     let lexemes = lexemes_of(alloc, value)?;
     let mut count = 0usize;
     for found in lexemes.as_slice() {
-        let more = match found.piece {
-            Piece::End | Piece::Stray | Piece::Unclosed => 0,
-            Piece::Use(name) => match known.get(name) {
-                Some(used) => used.count,
-                None => 0,
-            },
-            _ => 1,
-        };
-        count = count.saturating_add(more);
+        count = count.saturating_add(count_at(known, found));
     }
     Ok(count)
+}
+
+/// The number of tokens of a lexeme of a value.
+fn count_at(known: &HashMap<&str, Counted>, found: &Found<'_>) -> usize {
+    match found.piece {
+        Piece::End | Piece::Stray | Piece::Unclosed => 0,
+        Piece::Use(name) => match known.get(name) {
+            Some(used) => used.count,
+            None => 0,
+        },
+        _ => 1,
+    }
 }
 
 /// The number of tokens of a lexeme of a value.
 fn tokens_at(macros: &[Macro<'_>], found: &Found<'_>) -> usize {
     match found.piece {
         Piece::End | Piece::Stray | Piece::Unclosed => 0,
-        Piece::Use(name) => match known(macros, name) {
-            Some(index) => macros.get(index).map_or(0, |found| found.count),
+        Piece::Use(name) => match macro_named(macros, name) {
+            Some(used) => used.count,
             None => 0,
         },
         _ => 1,
     }
+}
+
+/// The macro that a name has behind these.
+fn macro_named<'m, 'a>(macros: &'m [Macro<'a>], name: &str) -> Option<&'m Macro<'a>> {
+    macros.get(known(macros, name)?)
+}
+
+/// The last macro of a name.
+pub(crate) fn last_named<'m, 'a>(macros: &'m [Macro<'a>], name: &str) -> Option<&'m Macro<'a>> {
+    let mut last = None;
+    for found in macros {
+        if found.name == name {
+            last = Some(found);
+        }
+    }
+    last
+}
+
+/// The first macro of a name that the text defines.
+pub(crate) fn first_written<'m, 'a>(macros: &'m [Macro<'a>], name: &str) -> Option<&'m Macro<'a>> {
+    for found in macros {
+        if found.name == name && found.line != 0 {
+            return Some(found);
+        }
+    }
+    None
 }
 
 /// The number of the macro that a name has behind these. One that is given on the command line holds before others, and
@@ -261,17 +338,23 @@ pub(crate) fn known(macros: &[Macro<'_>], name: &str) -> Option<usize> {
 
 /// The macros that are known at an offset of the text.
 pub(crate) fn before<'m, 'a>(macros: &'m [Macro<'a>], offset: usize) -> &'m [Macro<'a>] {
-    let count = macros
-        .iter()
-        .take_while(|found| found.line == 0 || found.at < offset)
-        .count();
-    macros.get(..count).unwrap_or(macros)
+    for (index, found) in macros.iter().enumerate() {
+        if found.line != 0 && offset <= found.at {
+            return front_of(macros, index);
+        }
+    }
+    macros
 }
 
-/// A token of a value: a lexeme itself, or a token of another macro.
+/// The macros before the one with this number.
+pub(crate) fn front_of<'m, 'a>(macros: &'m [Macro<'a>], index: usize) -> &'m [Macro<'a>] {
+    macros.get(..index).unwrap_or(macros)
+}
+
+/// What a token of a value is: a lexeme, which has a place, or a token of another macro.
 #[derive(Clone, Copy)]
 enum Held {
-    Itself(Part),
+    Itself(Place),
     Inner { index: usize, number: usize },
 }
 
@@ -285,13 +368,8 @@ pub(crate) fn place_within(
 ) -> Result<Option<Place>, AllocError> {
     let mut looked_for = (index, number);
     for _ in 0..macros.len() {
-        let (index, number) = looked_for;
-        let (Some(found), Some(earlier)) = (macros.get(index), macros.get(..index)) else {
-            return Ok(None);
-        };
-        let text = found.text(alloc)?;
-        match held_by(alloc, earlier, text.as_str(), number)? {
-            Some(Held::Itself(part)) => return Ok(Some(found.place(part))),
+        match held_in(alloc, macros, looked_for.0, looked_for.1)? {
+            Some(Held::Itself(place)) => return Ok(Some(place)),
             Some(Held::Inner { index, number }) => looked_for = (index, number),
             None => return Ok(None),
         }
@@ -299,41 +377,47 @@ pub(crate) fn place_within(
     Ok(None)
 }
 
-/// What the token of a value with this number is.
-fn held_by(
+/// What the token with this number is in the value of the macro with this number.
+fn held_in(
     alloc: Global,
     macros: &[Macro<'_>],
-    value: &str,
+    index: usize,
     number: usize,
 ) -> Result<Option<Held>, AllocError> {
-    let lexemes = lexemes_of(alloc, value)?;
+    let Some(home) = macros.get(index) else {
+        return Ok(None);
+    };
+    let text = home.text(alloc)?;
+    let lexemes = lexemes_of(alloc, text.as_str())?;
+    Ok(held_by(front_of(macros, index), home, lexemes.as_slice(), number))
+}
+
+/// What the token with this number is among the lexemes of a value.
+fn held_by(
+    macros: &[Macro<'_>],
+    home: &Macro<'_>,
+    lexemes: &[Found<'_>],
+    number: usize,
+) -> Option<Held> {
     let mut left = number;
-    for found in lexemes.as_slice() {
+    for found in lexemes {
         let count = tokens_at(macros, found);
         if left < count {
-            return Ok(Some(held_at(macros, found, left)));
+            return Some(held_at(macros, home, found, left));
         }
         left -= count;
     }
-    Ok(None)
+    None
 }
 
 /// What a token of a lexeme is.
-fn held_at(macros: &[Macro<'_>], found: &Found<'_>, number: usize) -> Held {
-    let itself = Held::Itself(part_of(found));
+fn held_at(macros: &[Macro<'_>], home: &Macro<'_>, found: &Found<'_>, number: usize) -> Held {
+    let itself = Held::Itself(home.place(part_of(found.span)));
     match found.piece {
         Piece::Use(name) => match known(macros, name) {
             Some(index) => Held::Inner { index, number },
             None => itself,
         },
         _ => itself,
-    }
-}
-
-/// The part of a lexeme.
-pub(crate) fn part_of(found: &Found<'_>) -> Part {
-    Part {
-        start: found.span.start as usize,
-        end: found.span.end as usize,
     }
 }

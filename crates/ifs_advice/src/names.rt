@@ -1,12 +1,13 @@
 //! Reports on names that break a rule.
 
-use crate::making::{error, hint, label, label_other, quoted};
+use crate::making::Draft;
 use crate::nearest::is_near;
-use crate::reading::{Other, Policy, Spot};
+use crate::reading::Policy;
+use crate::scans::{ByteKind, contains, is_all, is_one_of};
 use ifs_base::limits;
 use ifs_lex::{Token, What, is_reserved};
 use ifs_policy::ResolveFault;
-use ifs_report::{Part, Place, Report};
+use ifs_report::{Part, Place, Report, Severity};
 use std::alloc::{AllocError, Global};
 
 /// What a name is of.
@@ -19,8 +20,30 @@ pub(crate) enum Role {
     Target,
 }
 
+/// A policy, and its tokens that define states, by their numbers.
+#[derive(Clone, Copy)]
+struct Names<'p, 'a, 's> {
+    policy: &'p Policy<'a>,
+    states: &'s [usize],
+}
+
+/// What is wrong with a token.
+#[derive(Clone, Copy)]
+enum Wrong {
+    /// It defines a state a second time.
+    Twice,
+    /// It names a state that is not defined.
+    Unknown,
+    /// It is `set-state`.
+    SetState,
+    /// It is the command of a test.
+    Test,
+    /// Its text can be no name and no command.
+    Text,
+}
+
 /// The text of a token that can be a name or a command.
-pub(crate) fn text_of(what: &What) -> Option<&str> {
+fn text_of(what: &What) -> Option<&str> {
     match what {
         What::Word(word) if !is_reserved(word.as_str()) => Some(word.as_str()),
         What::Quoted(text) => Some(text.as_str()),
@@ -28,32 +51,59 @@ pub(crate) fn text_of(what: &What) -> Option<&str> {
     }
 }
 
-/// Whether a token is this word.
-pub(crate) fn is_word(what: Option<&What>, wanted: &str) -> bool {
+/// The word that a token is. It is empty if the token is none.
+pub(crate) fn word_of(what: Option<&What>) -> &str {
     match what {
-        Some(What::Word(word)) => word.as_str() == wanted,
+        Some(What::Word(word)) => word.as_str(),
+        _ => "",
+    }
+}
+
+/// What a name behind this word is of.
+pub(crate) fn role_behind(word: &str) -> Option<Role> {
+    match word {
+        "state" => Some(Role::Defined),
+        "set-state" | "init-state" => Some(Role::Target),
+        "run" => Some(Role::Command),
+        _ => None,
+    }
+}
+
+/// Whether a token can be a name or a command.
+fn is_name(what: Option<&What>) -> bool {
+    match what {
+        Some(What::Word(word)) => !is_reserved(word.as_str()),
+        Some(What::Quoted(_)) => true,
         _ => false,
     }
 }
 
 /// What the token with this number is the name of, if it is one.
-pub(crate) fn role_at(policy: &Policy<'_>, index: usize) -> Option<Role> {
-    let _text = text_of(policy.what(index)?)?;
-    let before = policy.what_before(index);
-    if is_word(before, "state") {
-        return Some(Role::Defined);
+fn role_at(policy: &Policy<'_>, index: usize) -> Option<Role> {
+    if !is_name(policy.what(index)) {
+        return None;
     }
-    if is_word(before, "set-state") || is_word(before, "init-state") {
-        return Some(Role::Target);
+    let role = role_behind(word_of(policy.what_before(index)));
+    if role.is_some() {
+        return role;
     }
-    if is_word(before, "run") {
-        return Some(Role::Command);
-    }
-    let after = policy.what(index.saturating_add(1));
-    match after {
+    match policy.what(index.saturating_add(1)) {
         Some(What::Dot) => Some(Role::Interface),
-        _ if is_word(after, "every") => Some(Role::Test),
+        next if word_of(next) == "every" => Some(Role::Test),
         _ => None,
+    }
+}
+
+/// Whether the token with this number is a name of a role.
+pub(crate) fn has_role(policy: &Policy<'_>, index: usize, role: Role) -> bool {
+    role_at(policy, index) == Some(role)
+}
+
+/// The text of the token with this number.
+pub(crate) fn text_at<'p>(policy: &'p Policy<'_>, index: Option<usize>) -> &'p str {
+    match policy.what_at(index) {
+        Some(what) => text_of(what).unwrap_or(""),
+        None => "",
     }
 }
 
@@ -63,184 +113,146 @@ pub(crate) fn no_policy(
     policy: &Policy<'_>,
     fault: ResolveFault,
 ) -> Result<Report, AllocError> {
-    match fault {
-        ResolveFault::NoState { .. } => no_state(alloc, policy),
-        ResolveFault::StateTwice { line } => state_twice(alloc, policy, line),
-        ResolveFault::SecondInit { line } => second_init(alloc, policy, line),
-        ResolveFault::SetStateInInit { line } => set_state_in_init(alloc, policy, line),
-        ResolveFault::TestInInit { line } => test_in_init(alloc, policy, line),
-        ResolveFault::TableFull { line } => table_full(alloc, policy, line),
-        ResolveFault::BadText { line } => bad_text(alloc, policy, line),
-        ResolveFault::UnknownState { line } => unknown_state(alloc, policy, line),
-        ResolveFault::Memory => Err(AllocError),
-    }
-}
-
-fn no_state(alloc: Global, policy: &Policy<'_>) -> Result<Report, AllocError> {
-    let place = Place::Text(Part { start: 0, end: 0 });
-    let message = String::from_str(alloc, "the text has no state")?;
-    let mut report = error(alloc, place, message);
-    report.expected.push("`state`")?;
-    let text = policy.text;
-    hint(
-        alloc,
-        &mut report,
-        if text.bytes().all(|byte| byte.is_ascii_whitespace()) {
-            "the text is empty: is this the right file?"
-        } else if text.find('\n').is_none() && text.find('\r').is_some() {
-            "all of it is a comment: its lines end in carriage returns, without newlines"
-        } else {
-            "write one: state NAME { }"
-        },
-    )?;
-    Ok(report)
-}
-
-/// A report at the token with this number. `value` says what the value of a macro is.
-fn at(
-    alloc: Global,
-    policy: &Policy<'_>,
-    index: Option<usize>,
-    message: String,
-    value: &'static str,
-) -> Result<Report, AllocError> {
-    let Some(index) = index else {
-        return Ok(error(alloc, Place::File, message));
+    let states = states_of(alloc, policy)?;
+    let names = Names {
+        policy,
+        states: states.as_slice(),
     };
-    let Spot { place, other } = policy.spot(alloc, index)?;
-    let mut report = error(alloc, place, message);
-    label_other(&mut report, other, value)?;
-    Ok(report)
+    let mut draft = Draft::new(alloc);
+    put_fault(alloc, names, fault, &mut draft)?;
+    draft.report(Severity::Error)
 }
 
-/// A report at the token with this number, or at the use of the macro that brought it there. `value` says what the token is.
-fn at_use(
-    alloc: Global,
-    policy: &Policy<'_>,
-    index: Option<usize>,
-    message: String,
-    value: &'static str,
-) -> Result<Report, AllocError> {
-    let Some(index) = index else {
-        return Ok(error(alloc, Place::File, message));
-    };
-    let Spot { place, other } = policy.spot(alloc, index)?;
-    let (place, other) = match other {
-        Some(Other::Use(used)) => (used, Some(Other::Value(place))),
-        other => (place, other),
-    };
-    let mut report = error(alloc, place, message);
-    label_other(&mut report, other, value)?;
-    Ok(report)
-}
-
-/// The first token on a line that passes a test, by its number.
-fn first_on<F: Fn(usize) -> bool>(policy: &Policy<'_>, line: u32, test: F) -> Option<usize>
-    requires { F.IsAlwaysCallable test }
-{
-    for (index, token) in policy.tokens.iter().enumerate() {
-        if token.span.line == line && test(index) {
-            return Some(index);
-        }
-    }
-    None
-}
-
-/// The text of the token with this number.
-fn text_at<'p>(policy: &'p Policy<'_>, index: Option<usize>) -> &'p str {
-    match index {
-        Some(index) => policy.what(index).and_then(text_of).unwrap_or(""),
-        None => "",
-    }
-}
-
-/// The names of the states that are defined, by the numbers of their tokens.
+/// The tokens that define states, by their numbers.
 fn states_of(alloc: Global, policy: &Policy<'_>) -> Result<Vec<usize>, AllocError> {
     let mut states = Vec::new(alloc);
     for (index, _token) in policy.tokens.iter().enumerate() {
-        if role_at(policy, index) == Some(Role::Defined) {
+        if has_role(policy, index, Role::Defined) {
             states.push(index)?;
         }
     }
     Ok(states)
 }
 
-/// The first of the states with this name, if it comes before a token.
-fn state_before(policy: &Policy<'_>, states: &[usize], name: &str, end: usize) -> Option<usize> {
-    let first = states
-        .iter()
-        .copied()
-        .find(|index| text_at(policy, Some(*index)) == name)?;
-    if first < end { Some(first) } else { None }
-}
-
-fn state_twice(alloc: Global, policy: &Policy<'_>, line: u32) -> Result<Report, AllocError> {
-    let states = states_of(alloc, policy)?;
-    let is_second = |index: usize| {
-        role_at(policy, index) == Some(Role::Defined)
-            && state_before(
-                policy,
-                states.as_slice(),
-                text_at(policy, Some(index)),
-                index,
-            )
-            .is_some()
-    };
-    let second = first_on(policy, line, is_second);
-    let name = text_at(policy, second);
-    let shown = quoted(alloc, name)?;
-    let message = format!(in alloc; "the state {shown} is defined twice")?;
-    let mut report = at(alloc, policy, second, message, "the name")?;
-    if let Some(first) = state_before(policy, states.as_slice(), name, second.unwrap_or(0)) {
-        label(
-            &mut report,
-            policy.origin(alloc, first)?,
-            "first defined here",
-        )?;
+fn put_fault(
+    alloc: Global,
+    names: Names<'_, '_, '_>,
+    fault: ResolveFault,
+    draft: &mut Draft,
+) -> Result<(), AllocError> {
+    match fault {
+        ResolveFault::NoState { .. } => no_state(names.policy.text, draft),
+        ResolveFault::StateTwice { line } => state_twice(alloc, names, line, draft),
+        ResolveFault::SecondInit { line } => second_init(alloc, names.policy, line, draft),
+        ResolveFault::SetStateInInit { line } => set_state_in_init(alloc, names, line, draft),
+        ResolveFault::TestInInit { line } => test_in_init(alloc, names, line, draft),
+        ResolveFault::TableFull { line } => return table_full(alloc, names, line, draft),
+        ResolveFault::BadText { line } => bad_text(alloc, names, line, draft),
+        ResolveFault::UnknownState { line } => return unknown_state(alloc, names, line, draft),
+        ResolveFault::Memory => return Err(AllocError),
     }
-    hint(alloc, &mut report, "join the two, or rename one")?;
-    Ok(report)
+    Ok(())
 }
 
-fn unknown_state(alloc: Global, policy: &Policy<'_>, line: u32) -> Result<Report, AllocError> {
-    let states = states_of(alloc, policy)?;
-    let count = policy.tokens.len();
-    let is_unknown = |index: usize| {
-        role_at(policy, index) == Some(Role::Target)
-            && state_before(
-                policy,
-                states.as_slice(),
-                text_at(policy, Some(index)),
-                count,
-            )
-            .is_none()
-    };
-    let found = first_on(policy, line, is_unknown);
-    let name = text_at(policy, found);
-    let shown = quoted(alloc, name)?;
-    let message = format!(in alloc; "no state has the name {shown}")?;
-    let mut report = at(alloc, policy, found, message, "the name")?;
-    report.expected.push("the name of a state")?;
-    match near_state(alloc, policy, states.as_slice(), name)? {
-        Some(near) => {
-            label(&mut report, policy.origin(alloc, near)?, "the nearest name")?;
-            let near = text_at(policy, Some(near));
-            report.hint = Some(format!(in alloc; "did you mean `{near}`?")?);
+fn no_state(text: &str, draft: &mut Draft) {
+    draft.place = Place::Text(Part { start: 0, end: 0 });
+    draft.say("the text has no state");
+    draft.expect("`state`");
+    draft.hint(hint_without_state(text));
+}
+
+fn hint_without_state(text: &str) -> &'static str {
+    if is_all(text, ByteKind::Space) {
+        return "the text is empty: is this the right file?";
+    }
+    if !contains(text, "\n") && contains(text, "\r") {
+        return "all of it is a comment: its lines end in carriage returns, without newlines";
+    }
+    "write one: state NAME { }"
+}
+
+/// Whether something is wrong with the token with this number.
+fn is_wrong(names: Names<'_, '_, '_>, index: usize, wrong: Wrong) -> bool {
+    let policy = names.policy;
+    match wrong {
+        Wrong::Twice => has_role(policy, index, Role::Defined)
+            && first_of(names, Some(index)).is_some(),
+        Wrong::Unknown => has_role(policy, index, Role::Target) && state_of(names, index).is_none(),
+        Wrong::SetState => word_of(policy.what(index)) == "set-state",
+        Wrong::Test => has_role(policy, index, Role::Test),
+        Wrong::Text => role_at(policy, index).is_some()
+            && !limits::text_fits(text_at(policy, Some(index)).as_bytes()),
+    }
+}
+
+/// The first token on a line with which something is wrong, by its number.
+fn first_on(names: Names<'_, '_, '_>, line: u32, wrong: Wrong) -> Option<usize> {
+    for (index, token) in names.policy.tokens.iter().enumerate() {
+        if token.span.line == line && is_wrong(names, index, wrong) {
+            return Some(index);
         }
-        None => report.hint = Some(format!(in alloc; "define it: state {name} {{ .. }}")?),
     }
-    Ok(report)
+    None
+}
+
+/// The first token that defines the state whose name a token has.
+fn state_of(names: Names<'_, '_, '_>, index: usize) -> Option<usize> {
+    let name = text_at(names.policy, Some(index));
+    for state in names.states {
+        if text_at(names.policy, Some(*state)) == name {
+            return Some(*state);
+        }
+    }
+    None
+}
+
+/// The same, if it comes before the token.
+fn first_of(names: Names<'_, '_, '_>, index: Option<usize>) -> Option<usize> {
+    let index = index?;
+    let first = state_of(names, index)?;
+    if first < index { Some(first) } else { None }
+}
+
+fn state_twice(alloc: Global, names: Names<'_, '_, '_>, line: u32, draft: &mut Draft) {
+    let policy = names.policy;
+    let second = first_on(names, line, Wrong::Twice);
+    draft.say_quoted("the state ", text_at(policy, second), " is defined twice");
+    draft.put_token(alloc, policy, second, "the name");
+    if let Some(first) = first_of(names, second) {
+        draft.label_token(alloc, policy, first, "first defined here");
+    }
+    draft.hint("join the two, or rename one");
+}
+
+fn unknown_state(
+    alloc: Global,
+    names: Names<'_, '_, '_>,
+    line: u32,
+    draft: &mut Draft,
+) -> Result<(), AllocError> {
+    let found = first_on(names, line, Wrong::Unknown);
+    let name = text_at(names.policy, found);
+    draft.say_quoted("no state has the name ", name, "");
+    draft.put_token(alloc, names.policy, found, "the name");
+    draft.expect("the name of a state");
+    match near_state(alloc, names, name)? {
+        Some(near) => {
+            draft.label_token(alloc, names.policy, near, "the nearest name");
+            draft.hint_of("did you mean `", text_at(names.policy, Some(near)), "`?");
+        }
+        None => draft.hint_of("define it: state ", name, " { .. }"),
+    }
+    Ok(())
 }
 
 /// The first state whose name is nearly this one, by the number of its token.
 fn near_state(
     alloc: Global,
-    policy: &Policy<'_>,
-    states: &[usize],
+    names: Names<'_, '_, '_>,
     name: &str,
 ) -> Result<Option<usize>, AllocError> {
-    for index in states {
-        if is_near(alloc, name, text_at(policy, Some(*index)))? {
+    for index in names.states {
+        if is_near(alloc, name, text_at(names.policy, Some(*index)))? {
             return Ok(Some(*index));
         }
     }
@@ -287,89 +299,69 @@ impl Inits {
     }
 }
 
-fn second_init(alloc: Global, policy: &Policy<'_>, line: u32) -> Result<Report, AllocError> {
+/// The second word of two, and the first.
+#[derive(Clone, Copy)]
+struct Second {
+    index: usize,
+    earlier: usize,
+}
+
+/// The first `init` or `init-state` on a line that is a second one.
+fn second_on(policy: &Policy<'_>, line: u32) -> Option<Second> {
     let mut inits = Inits {
         depth: 0,
         always: None,
         state: None,
         initial: None,
     };
-    let mut found = None;
     for (index, token) in policy.tokens.iter().enumerate() {
         if let Some(earlier) = inits.take(index, token)
             && token.span.line == line
         {
-            found = Some((index, earlier));
-            break;
+            return Some(Second { index, earlier });
         }
     }
-    let is_initial = match found {
-        Some((index, _)) => is_word(policy.what(index), "init-state"),
-        None => false,
-    };
-    let message = String::from_str(
-        alloc,
-        if is_initial {
-            "a second `init-state`"
-        } else {
-            "a second `init` of one part"
-        },
-    )?;
-    let mut report = at(
-        alloc,
-        policy,
-        found.map(|pair| pair.0),
-        message,
-        "in this value",
-    )?;
-    if let Some((_, earlier)) = found {
-        label(&mut report, policy.origin(alloc, earlier)?, "the first one")?;
+    None
+}
+
+fn second_init(alloc: Global, policy: &Policy<'_>, line: u32, draft: &mut Draft) {
+    let found = second_on(policy, line);
+    if let Some(second) = found {
+        draft.put_token(alloc, policy, Some(second.index), "in this value");
+        draft.label_token(alloc, policy, second.earlier, "the first one");
     }
-    hint(
-        alloc,
-        &mut report,
-        if is_initial {
-            "keep one of them"
-        } else {
-            "join their blocks"
-        },
-    )?;
-    Ok(report)
+    if is_initial(policy, found) {
+        draft.say("a second `init-state`");
+        draft.hint("keep one of them");
+    } else {
+        draft.say("a second `init` of one part");
+        draft.hint("join their blocks");
+    }
 }
 
-fn set_state_in_init(alloc: Global, policy: &Policy<'_>, line: u32) -> Result<Report, AllocError> {
-    let found = first_on(
-        policy,
-        line,
-        |index| is_word(policy.what(index), "set-state"),
-    );
-    let message = String::from_str(alloc, "`set-state` cannot stand in an `init`")?;
-    let mut report = at_use(alloc, policy, found, message, "in this value")?;
-    report.expected.push("`if`")?;
-    report.expected.push("`run`")?;
-    hint(
-        alloc,
-        &mut report,
-        "write it into the body of the state: the next tick evaluates that",
-    )?;
-    Ok(report)
+/// Whether the second word is `init-state`.
+fn is_initial(policy: &Policy<'_>, found: Option<Second>) -> bool {
+    match found {
+        Some(second) => word_of(policy.what(second.index)) == "init-state",
+        None => false,
+    }
 }
 
-fn test_in_init(alloc: Global, policy: &Policy<'_>, line: u32) -> Result<Report, AllocError> {
-    let found = first_on(
-        policy,
-        line,
-        |index| role_at(policy, index) == Some(Role::Test),
-    );
-    let message = String::from_str(alloc, "a test cannot stand in an `init`")?;
-    let mut report = at_use(alloc, policy, found, message, "the test")?;
-    report.expected.push("a link")?;
-    hint(
-        alloc,
-        &mut report,
-        "ask it in the body, or in a script that `run` starts",
-    )?;
-    Ok(report)
+fn set_state_in_init(alloc: Global, names: Names<'_, '_, '_>, line: u32, draft: &mut Draft) {
+    let found = first_on(names, line, Wrong::SetState);
+    draft.say("`set-state` cannot stand in an `init`");
+    draft.put_use(alloc, names.policy, found, "in this value");
+    draft.expect("`if`");
+    draft.expect("`run`");
+    draft.hint("write it into the body of the state: the next tick evaluates that");
+}
+
+fn test_in_init(alloc: Global, names: Names<'_, '_, '_>, line: u32, draft: &mut Draft) {
+    let found = first_on(names, line, Wrong::Test);
+    draft.say("a test cannot stand in an `init`");
+    draft.put_use(alloc, names.policy, found, "the test");
+    draft.expect("a link");
+    draft.hint("ask it in the body, or in a script that `run` starts");
 }
 
 /// The names of a role, and the most of them.
@@ -382,99 +374,127 @@ fn table_of(role: Role) -> (&'static str, u16) {
     }
 }
 
-/// The first name of a role on a line that is one too many, by the number of its token. Two tests of one command count as
-/// one here.
+/// The name of a role that a token has, if it is none of the known ones.
+fn new_name<'p>(
+    policy: &'p Policy<'_>,
+    index: usize,
+    role: Role,
+    known: &[&str],
+) -> Option<&'p str> {
+    if !has_role(policy, index, role) {
+        return None;
+    }
+    let name = text_at(policy, Some(index));
+    if is_one_of(name, known) {
+        None
+    } else {
+        Some(name)
+    }
+}
+
+/// The first name of a role on a line that is one too many, by the number of its token. The names before it are added to
+/// those that are known.
+fn first_beyond<'p>(
+    policy: &'p Policy<'_>,
+    role: Role,
+    line: u32,
+    known: &mut Vec<&'p str>,
+) -> Result<Option<usize>, AllocError> {
+    let most = usize::from(table_of(role).1);
+    for (index, token) in policy.tokens.iter().enumerate() {
+        if let Some(name) = new_name(policy, index, role, known.as_slice()) {
+            if known.len() >= most && token.span.line == line {
+                return Ok(Some(index));
+            }
+            known.push(name)?;
+        }
+    }
+    Ok(None)
+}
+
+/// The first name of a role on a line that is one too many. Two tests of one command count as one here.
 fn full_at(
     alloc: Global,
     policy: &Policy<'_>,
     role: Role,
     line: u32,
 ) -> Result<Option<usize>, AllocError> {
-    let most = usize::from(table_of(role).1);
-    let mut names: Vec<&str> = Vec::new(alloc);
-    for (index, token) in policy.tokens.iter().enumerate() {
-        if let Some(name) = text_of(&token.what)
-            && role_at(policy, index) == Some(role)
-            && !names.iter().any(|known| *known == name)
-        {
-            if names.len() >= most && token.span.line == line {
-                return Ok(Some(index));
-            }
-            names.push(name)?;
-        }
-    }
-    Ok(None)
+    let mut known = Vec::new(alloc);
+    first_beyond(policy, role, line, &mut known)
 }
 
 /// The first name on a line that is one too many.
-fn beyond_on(alloc: Global, policy: &Policy<'_>, line: u32) -> Result<Option<usize>, AllocError> {
+fn beyond_on(
+    alloc: Global,
+    names: Names<'_, '_, '_>,
+    line: u32,
+) -> Result<Option<usize>, AllocError> {
     for role in [Role::Interface, Role::Test, Role::Command, Role::Defined] {
-        if let Some(index) = full_at(alloc, policy, role, line)? {
+        if let Some(index) = full_at(alloc, names.policy, role, line)? {
             return Ok(Some(index));
         }
     }
-    Ok(first_on(
-        policy,
-        line,
-        |index| role_at(policy, index) == Some(Role::Test),
-    ))
+    Ok(first_on(names, line, Wrong::Test))
 }
 
-fn table_full(alloc: Global, policy: &Policy<'_>, line: u32) -> Result<Report, AllocError> {
-    let found = beyond_on(alloc, policy, line)?;
-    let role = found
-        .and_then(|index| role_at(policy, index))
-        .unwrap_or(Role::Interface);
-    let (names, most) = table_of(role);
-    let message = format!(in alloc; "a policy has at most {most} {names}")?;
-    let mut report = at(alloc, policy, found, message, "one of them")?;
-    hint(
-        alloc,
-        &mut report,
-        "use a script with arguments, or one command for several hosts",
-    )?;
-    Ok(report)
+/// The role of a token, if there is one.
+fn role_of(policy: &Policy<'_>, index: Option<usize>) -> Option<Role> {
+    role_at(policy, index?)
 }
 
-fn bad_text(alloc: Global, policy: &Policy<'_>, line: u32) -> Result<Report, AllocError> {
-    let is_bad = |index: usize| {
-        role_at(policy, index).is_some()
-            && !limits::text_fits(text_at(policy, Some(index)).as_bytes())
-    };
-    let found = first_on(policy, line, is_bad);
+fn table_full(
+    alloc: Global,
+    names: Names<'_, '_, '_>,
+    line: u32,
+    draft: &mut Draft,
+) -> Result<(), AllocError> {
+    let policy = names.policy;
+    let found = beyond_on(alloc, names, line)?;
+    let (names, most) = table_of(role_of(policy, found).unwrap_or(Role::Interface));
+    draft.put_token(alloc, policy, found, "one of them");
+    draft.hint("use a script with arguments, or one command for several hosts");
+    write!(draft.message, "a policy has at most {most} {names}")
+}
+
+fn bad_text(alloc: Global, names: Names<'_, '_, '_>, line: u32, draft: &mut Draft) {
+    let policy = names.policy;
+    let found = first_on(names, line, Wrong::Text);
+    draft.put_token(alloc, policy, found, "the text");
     let text = text_at(policy, found);
-    let is_command = match found.and_then(|index| role_at(policy, index)) {
-        Some(Role::Command | Role::Test) => true,
-        _ => false,
-    };
-    let message = bad_words(alloc, text, is_command)?;
-    let mut report = at(alloc, policy, found, message, "the text")?;
-    if text.is_empty() || text.len() > 1024 {
-        report.expected.push(match (text.is_empty(), is_command) {
-            (true, true) => "a command of 1 to 1024 bytes",
-            (true, false) => "a name of 1 to 1024 bytes",
-            _ => "1 to 1024 bytes",
-        })?;
+    let is_command = matches!(role_of(policy, found), Some(Role::Command | Role::Test));
+    if text.is_empty() {
+        put_empty(is_command, draft);
+    } else {
+        put_unfit(text.len(), is_command, draft);
     }
-    hint(
-        alloc,
-        &mut report,
-        match (text.is_empty(), is_command) {
-            (true, true) => "leave out the `run` that runs nothing",
-            (true, false) => "write the name",
-            (false, true) => "put it into a script, and run that",
-            (false, false) => "choose a shorter name, without a byte 0",
-        },
-    )?;
-    Ok(report)
 }
 
-/// What is wrong with a text, in words.
-fn bad_words(alloc: Global, text: &str, is_command: bool) -> Result<String, AllocError> {
-    let kind = if is_command { "command" } else { "name" };
-    match text.len() {
-        0 => String::from_str(alloc, "`\"\"` cannot stand here"),
-        1..=1024 => format!(in alloc; "this {kind} has a byte 0"),
-        bytes => format!(in alloc; "this {kind} has {bytes} bytes"),
+/// Says of an empty text what it has to be.
+fn put_empty(is_command: bool, draft: &mut Draft) {
+    draft.say("`\"\"` cannot stand here");
+    if is_command {
+        draft.expect("a command of 1 to 1024 bytes");
+        draft.hint("leave out the `run` that runs nothing");
+    } else {
+        draft.expect("a name of 1 to 1024 bytes");
+        draft.hint("write the name");
     }
+}
+
+/// Says what is wrong with a text of this length.
+fn put_unfit(bytes: usize, is_command: bool, draft: &mut Draft) {
+    if is_command {
+        draft.say("this command has ");
+        draft.hint("put it into a script, and run that");
+    } else {
+        draft.say("this name has ");
+        draft.hint("choose a shorter name, without a byte 0");
+    }
+    if bytes <= 1024 {
+        draft.say("a byte 0");
+        return;
+    }
+    draft.expect("1 to 1024 bytes");
+    let added = write!(draft.message, "{bytes} bytes");
+    draft.keep(added);
 }

@@ -15,17 +15,3 @@ pub(crate) fn is_near(alloc: Global, name: &str, other: &str) -> Result<bool, Al
     let most = if name.len() < 5 { 1 } else { 2 };
     Ok(1 <= edits && edits <= most && edits < other.len())
 }
-
-/// The first of the names that is near.
-pub(crate) fn nearest<'a>(
-    alloc: Global,
-    name: &str,
-    others: &[&'a str],
-) -> Result<Option<&'a str>, AllocError> {
-    for other in others {
-        if is_near(alloc, name, other)? {
-            return Ok(Some(*other));
-        }
-    }
-    Ok(None)
-}

@@ -1,6 +1,7 @@
 //! A policy as it was read: its text, its tokens, and where each of them is.
 
-use crate::macros::{Macro, before, known, macros_of, place_within, with_counts};
+use crate::macros::{Macro, before, counted_macros_of, known, place_within};
+use crate::scans::newlines_in;
 use ifs_base::Span;
 use ifs_lex::{Found, Token, What};
 use ifs_place::{lexemes_of, tokens_or_none};
@@ -8,12 +9,22 @@ use ifs_report::{Part, Place};
 use std::alloc::{AllocError, Global};
 
 /// A policy with its lexemes, macros and tokens. It has no tokens if the text has none.
-#[derive(Drop)]
 pub(crate) struct Policy<'a> {
     pub text: &'a str,
     pub lexemes: Vec<Found<'a>>,
     pub macros: Vec<Macro<'a>>,
     pub tokens: Vec<Token>,
+}
+
+impl Drop for Policy<'_> {
+    fn drop(self) {
+        let Policy {
+            text: _text,
+            lexemes: _lexemes,
+            macros: _macros,
+            tokens: _tokens,
+        } = self;
+    }
 }
 
 /// Where a token is, and another place: the use of the macro that brought it there, or its place in the value if it is
@@ -33,6 +44,19 @@ pub(crate) enum Other {
     Value(Place),
 }
 
+impl Spot {
+    /// The same, with the place of the use of the macro first.
+    pub fn at_use(self) -> Spot {
+        match self.other {
+            Some(Other::Use(used)) => Spot {
+                place: used,
+                other: Some(Other::Value(self.place)),
+            },
+            _ => self,
+        }
+    }
+}
+
 impl<'a> Policy<'a> {
     /// Reads a text.
     pub fn read(
@@ -40,13 +64,9 @@ impl<'a> Policy<'a> {
         text: &'a str,
         definitions: &'a [(&'a str, &'a str)],
     ) -> Result<Policy<'a>, AllocError> {
+        let tokens = tokens_of(alloc, text, definitions)?;
         let lexemes = lexemes_of(alloc, text)?;
-        let found = macros_of(alloc, lexemes.as_slice(), definitions)?;
-        let macros = with_counts(alloc, found.as_slice())?;
-        let tokens = match tokens_or_none(alloc, text, definitions)? {
-            Some(tokens) => tokens,
-            None => Vec::new(alloc),
-        };
+        let macros = counted_macros_of(alloc, lexemes.as_slice(), definitions)?;
         Ok(Policy {
             text,
             lexemes,
@@ -63,32 +83,38 @@ impl<'a> Policy<'a> {
         }
     }
 
+    /// The token with this number, if there is one.
+    pub fn what_at(&self, index: Option<usize>) -> Option<&What> {
+        match index {
+            Some(index) => self.what(index),
+            None => None,
+        }
+    }
+
     /// The token before the one with this number.
     pub fn what_before(&self, index: usize) -> Option<&What> {
-        self.what(index.checked_sub(1)?)
+        match index.checked_sub(1) {
+            Some(before) => self.what(before),
+            None => None,
+        }
     }
 
     /// The place of the token with this number.
     pub fn spot(&self, alloc: Global, index: usize) -> Result<Spot, AllocError> {
         let Some(token) = self.tokens.get(index) else {
-            return Ok(self.end());
+            return Ok(spot_of(self.end(), None, 0));
         };
         let own = part_of(token.span);
-        match self.used_at(token.span) {
-            None => Ok(Spot {
-                place: Place::Text(own),
-                other: None,
-            }),
-            Some(name) => {
-                let known_there = before(self.macros.as_slice(), own.start);
-                let number = self.number_in_use(index, token.span);
-                let place = match known(known_there, name) {
-                    Some(found) => place_within(alloc, known_there, found, number)?,
-                    None => None,
-                };
-                Ok(spot_of(own, place, number))
-            }
-        }
+        let Some(name) = self.used_at(own) else {
+            return Ok(spot_of(own, None, 0));
+        };
+        let macros = before(self.macros.as_slice(), own.start);
+        let number = self.number_in_use(index, token.span);
+        let place = match known(macros, name) {
+            Some(found) => place_within(alloc, macros, found, number)?,
+            None => None,
+        };
+        Ok(spot_of(own, place, number))
     }
 
     /// The line of the token with this number, from 1, or that of the value of the macro that has it.
@@ -100,14 +126,11 @@ impl<'a> Policy<'a> {
     }
 
     /// The end of the text.
-    pub fn end(&self) -> Spot {
+    fn end(&self) -> Part {
         let length = self.text.len();
-        Spot {
-            place: Place::Text(Part {
-                start: length,
-                end: length,
-            }),
-            other: None,
+        Part {
+            start: length,
+            end: length,
         }
     }
 
@@ -120,48 +143,60 @@ impl<'a> Policy<'a> {
         }
     }
 
-    /// The name of the macro that is used at a place.
-    fn used_at(&self, span: Span) -> Option<&'a str> {
-        let part = self.slice(part_of(span))?;
-        part.strip_prefix('$')
+    /// The name of the macro that is used at a part of the text.
+    fn used_at(&self, part: Part) -> Option<&'a str> {
+        slice_of(self.text, part)?.strip_prefix('$')
     }
 
     /// How many tokens before this one came from the same use of a macro.
     fn number_in_use(&self, index: usize, span: Span) -> usize {
-        match self.tokens.get(..index) {
-            Some(front) => front
-                .iter()
-                .rev()
-                .take_while(|token| token.span == span)
-                .count(),
-            None => 0,
+        let mut number = 0usize;
+        for (at, token) in self.tokens.iter().enumerate() {
+            if at >= index {
+                break;
+            }
+            number = if token.span == span {
+                number.saturating_add(1)
+            } else {
+                0
+            };
         }
-    }
-
-    /// A part of the text.
-    pub fn slice(&self, part: Part) -> Option<&'a str> {
-        slice_of(self.text, part)
+        number
     }
 
     /// What is at a place.
     pub fn word(&self, place: Place, definitions: &[(&'a str, &'a str)]) -> &'a str {
-        let found = match place {
-            Place::Text(part) => slice_of(self.text, part),
-            Place::Definition(number, part) => match definitions.get(number) {
-                Some((_name, value)) => slice_of(value, part),
-                None => None,
-            },
-            Place::File => None,
-        };
-        found.unwrap_or("")
+        word_at(self.text, place, definitions).unwrap_or("")
+    }
+}
+
+/// What is at a place of a text, or of the value of a definition.
+fn word_at<'a>(text: &'a str, place: Place, definitions: &[(&'a str, &'a str)]) -> Option<&'a str> {
+    match place {
+        Place::Text(part) => slice_of(text, part),
+        Place::Definition(number, part) => {
+            let (_name, value) = definitions.get(number)?;
+            slice_of(value, part)
+        }
+        Place::File => None,
+    }
+}
+
+/// The tokens of a text. There is none if the text has a fault.
+fn tokens_of<'a>(
+    alloc: Global,
+    text: &'a str,
+    definitions: &'a [(&'a str, &'a str)],
+) -> Result<Vec<Token>, AllocError> {
+    match tokens_or_none(alloc, text, definitions)? {
+        Some(tokens) => Ok(tokens),
+        None => Ok(Vec::new(alloc)),
     }
 }
 
 /// A part of a text, if it lies within the text, between characters.
 pub(crate) fn slice_of(text: &str, part: Part) -> Option<&str> {
-    let (front, _) = text.split_at_checked(part.end)?;
-    let (_, back) = front.split_at_checked(part.start)?;
-    Some(back)
+    text.get(part.start..part.end)
 }
 
 /// The most bytes of a line that are looked at before a place.
@@ -169,30 +204,30 @@ const MOST_OF_A_LINE: usize = 4096;
 
 /// What comes before an offset on its line, if that is not too long.
 pub(crate) fn line_before(text: &str, offset: usize) -> Option<&str> {
-    let (front, _) = text.split_at_checked(offset)?;
-    let length = front
-        .as_bytes()
-        .iter()
-        .rev()
-        .take(MOST_OF_A_LINE)
-        .take_while(|byte| **byte != b'\n')
-        .count();
+    let front = text.get(..offset)?;
+    let length = length_of_last(front.as_bytes());
     if length == MOST_OF_A_LINE {
         return None;
     }
-    let (_, line) = front.split_at_checked(offset.checked_sub(length)?)?;
-    Some(line)
+    front.get(offset.saturating_sub(length)..)
+}
+
+/// How many bytes of the last line of a text are looked at.
+fn length_of_last(bytes: &[u8]) -> usize {
+    let mut length = 0usize;
+    for byte in bytes.iter().rev() {
+        if *byte == b'\n' || length == MOST_OF_A_LINE {
+            break;
+        }
+        length = length.saturating_add(1);
+    }
+    length
 }
 
 /// The line of an offset, from 1.
 pub(crate) fn line_at(text: &str, offset: usize) -> u32 {
-    let mut line = 1u32;
-    for byte in text.bytes().take(offset) {
-        if byte == b'\n' {
-            line = line.saturating_add(1);
-        }
-    }
-    line
+    let bytes = text.as_bytes();
+    newlines_in(bytes.get(..offset).unwrap_or(bytes)).saturating_add(1)
 }
 
 /// The part of a span.

@@ -1,13 +1,16 @@
 //! Characters that begin no word and no sign.
 
+use crate::making::Draft;
 use crate::reading::{Policy, line_before, slice_of};
 use ifs_report::Part;
-use std::alloc::{AllocError, Global};
 
-/// A character in words: itself, or its number if it cannot be seen.
-pub(crate) fn named(alloc: Global, character: char) -> Result<String, AllocError> {
+/// The most characters behind a place that are looked at.
+const MOST_CHARACTERS: usize = 64;
+
+/// Adds a character in words to a message: itself, or its number if it cannot be seen.
+pub(crate) fn put_named(draft: &mut Draft, character: char) {
     let number = u32::from(character);
-    match number {
+    let added = match number {
         0..=31
         | 127..=160
         | 0xad
@@ -15,19 +18,32 @@ pub(crate) fn named(alloc: Global, character: char) -> Result<String, AllocError
         | 0x2028..=0x202f
         | 0x205f..=0x206f
         | 0x3000
-        | 0xfeff => { format!(in alloc; "U+{number:04X}") }
-        _ => format!(in alloc; "`{character}`"),
-    }
+        | 0xfeff => write!(draft.message, "U+{number:04X}"),
+        _ => write!(draft.message, "`{character}`"),
+    };
+    draft.keep(added);
 }
 
-/// What to write in place of a character.
-pub(crate) fn hint_for_character(
-    alloc: Global,
+/// Adds what to write in place of a character.
+pub(crate) fn put_hint_for_character(
+    draft: &mut Draft,
     policy: &Policy<'_>,
     part: Part,
     character: char,
-) -> Result<String, AllocError> {
-    let known = match character {
+) {
+    let known = hint_for(character);
+    if !known.is_empty() {
+        return draft.hint(known);
+    }
+    match word_around(policy.text, part) {
+        Some(word) => draft.hint_of("a name with such a letter needs quotes: `\"", word, "\"`"),
+        None => draft.hint("a text with such characters needs quotes"),
+    }
+}
+
+/// What to write in place of a character that is known. It is empty for others.
+fn hint_for(character: char) -> &'static str {
+    match character {
         '\u{201c}' | '\u{201d}' | '\u{201e}' | '\u{ab}' | '\u{bb}' =>
             "this quote is typographic: write `\"`",
         '\u{2018}' | '\u{2019}' | '\u{201a}' => "this quote is typographic: write `'`",
@@ -41,41 +57,47 @@ pub(crate) fn hint_for_character(
         '<' | '>' => "a command with a redirection needs quotes",
         '[' | ']' => "conditions are grouped by `(` and `)`",
         '-' => "a command of several words needs quotes, and so does a name that begins with `-`",
-        _ => return for_word(alloc, policy, part),
-    };
-    String::from_str(alloc, known)
-}
-
-/// The word that a character is in needs quotes.
-fn for_word(alloc: Global, policy: &Policy<'_>, part: Part) -> Result<String, AllocError> {
-    match word_around(policy, part) {
-        Some(word) => format!(in alloc; "a name with such a letter needs quotes: `\"{word}\"`"),
-        None => String::from_str(alloc, "a text with such characters needs quotes"),
+        _ => "",
     }
 }
 
 /// The letters around a part, if there are any.
-fn word_around<'a>(policy: &Policy<'a>, part: Part) -> Option<&'a str> {
-    let line = line_before(policy.text, part.start)?;
-    let mut start = part.start;
-    for character in line
-        .chars()
-        .rev()
-        .take_while(|character| is_of_word(*character))
-    {
-        start = start.saturating_sub(character.len_utf8());
+fn word_around(text: &str, part: Part) -> Option<&str> {
+    let line = line_before(text, part.start)?;
+    let rest = text.get(part.start..).unwrap_or("");
+    let word = Part {
+        start: part.start.saturating_sub(length_of_last_word(line)),
+        end: part.start.saturating_add(length_of_word(rest)),
+    };
+    match slice_of(text, word) {
+        Some(word) if !word.is_empty() => Some(word),
+        _ => None,
     }
-    let (_, rest) = policy.text.split_at_checked(part.start)?;
-    let mut end = part.start;
-    for character in rest
-        .chars()
-        .take(64)
-        .take_while(|character| is_of_word(*character))
-    {
-        end = end.saturating_add(character.len_utf8());
+}
+
+/// How many bytes of letters a text ends with.
+fn length_of_last_word(text: &str) -> usize {
+    let mut length = 0usize;
+    for character in text.chars() {
+        length = if is_of_word(character) {
+            length.saturating_add(character.len_utf8())
+        } else {
+            0
+        };
     }
-    let word = slice_of(policy.text, Part { start, end })?;
-    if word.is_empty() { None } else { Some(word) }
+    length
+}
+
+/// How many bytes of letters a text begins with, among its first characters.
+fn length_of_word(text: &str) -> usize {
+    let mut length = 0usize;
+    for (number, character) in text.chars().enumerate() {
+        if number == MOST_CHARACTERS || !is_of_word(character) {
+            break;
+        }
+        length = length.saturating_add(character.len_utf8());
+    }
+    length
 }
 
 /// Whether a character can be in a name with letters beyond ASCII.

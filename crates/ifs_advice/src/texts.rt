@@ -1,16 +1,17 @@
 //! Reports on texts that have no tokens.
 
-use crate::macros::{Macro, before, known, part_of};
-use crate::making::{error, hint, label};
-use crate::nearest::nearest;
-use crate::reading::{Policy, line_at};
-use crate::strays::{hint_for_character, named};
-use crate::wording::words_of;
-use ifs_lex::{Found, LexFault, Piece};
+use crate::macros::{Macro, before, first_written, front_of, known};
+use crate::making::Draft;
+use crate::nearest::is_near;
+use crate::reading::{Policy, line_at, part_of, slice_of};
+use crate::scans::{contains, newlines_in};
+use crate::strays::{put_hint_for_character, put_named};
+use crate::wording::put_words;
+use ifs_lex::{Found, LexFault, Piece, Token, What};
 use ifs_place::{
     MOST_BYTES, Spelled, can_go_on, is_front, kinds_behind, lexemes_of, stop_of, tokens_or_none,
 };
-use ifs_report::{Part, Place, Report};
+use ifs_report::{Part, Place, Report, Severity};
 use std::alloc::{AllocError, Global};
 
 /// The most tokens of a text.
@@ -18,24 +19,28 @@ const MOST_TOKENS: usize = 16_384;
 
 /// The report on bytes that are no text: the first byte that belongs to no character.
 pub(crate) fn no_text(alloc: Global, bytes: &[u8], valid: usize) -> Result<Report, AllocError> {
-    let place = Place::Text(Part {
+    let mut draft = Draft::new(alloc);
+    put_byte(bytes, valid, &mut draft);
+    draft.report(Severity::Error)
+}
+
+fn put_byte(bytes: &[u8], valid: usize, draft: &mut Draft) {
+    draft.place = Place::Text(Part {
         start: valid,
         end: valid.saturating_add(1),
     });
-    let byte = bytes.get(valid).copied().unwrap_or(0);
-    let message = format!(in alloc; "the byte {byte:02x} cannot stand here")?;
-    let mut report = error(alloc, place, message);
-    report.expected.push("UTF-8")?;
-    hint(
-        alloc,
-        &mut report,
-        if bytes.starts_with(b"IFSV") {
-            "the file is an image: `ifsvm verify` and `ifsvm disasm` read images"
-        } else {
-            "from Latin-1, `iconv -f latin1 -t utf8` makes UTF-8"
-        },
-    )?;
-    Ok(report)
+    let byte = match bytes.get(valid) {
+        Some(byte) => *byte,
+        None => 0,
+    };
+    let added = write!(draft.message, "the byte {byte:02x} cannot stand here");
+    draft.keep(added);
+    draft.expect("UTF-8");
+    draft.hint(if bytes.starts_with(b"IFSV") {
+        "the file is an image: `ifsvm verify` and `ifsvm disasm` read images"
+    } else {
+        "from Latin-1, `iconv -f latin1 -t utf8` makes UTF-8"
+    });
 }
 
 /// The report on a text without tokens.
@@ -45,28 +50,48 @@ pub(crate) fn no_tokens<'a>(
     definitions: &'a [(&'a str, &'a str)],
     fault: LexFault,
 ) -> Result<Report, AllocError> {
-    match fault {
-        LexFault::Stray { .. } => stray(alloc, policy, definitions),
-        LexFault::Unclosed { .. } => unclosed(alloc, policy),
-        LexFault::UnknownMacro { line } => unknown(alloc, policy, line),
-        LexFault::BadMacro { line } => bad_value(alloc, policy, line),
-        LexFault::OverLimit { line } => over_limit(alloc, policy, line),
-        LexFault::Memory => Err(AllocError),
-    }
+    let mut draft = Draft::new(alloc);
+    put_fault(alloc, policy, definitions, fault, &mut draft)?;
+    draft.report(Severity::Error)
 }
 
-/// The part of the character at an offset of a text, and the character.
-fn character_at(text: &str, start: usize) -> (Part, Option<char>) {
-    let found = match text.split_at_checked(start) {
-        Some((_, rest)) => rest.chars().next(),
-        None => None,
+fn put_fault<'a>(
+    alloc: Global,
+    policy: &Policy<'a>,
+    definitions: &'a [(&'a str, &'a str)],
+    fault: LexFault,
+    draft: &mut Draft,
+) -> Result<(), AllocError> {
+    match fault {
+        LexFault::Stray { .. } => return put_stray(alloc, policy, definitions, draft),
+        LexFault::Unclosed { .. } => put_unclosed(policy, draft),
+        LexFault::UnknownMacro { line } => return put_unknown(alloc, policy, line, draft),
+        LexFault::BadMacro { line } => return put_bad_value(alloc, policy, line, draft),
+        LexFault::OverLimit { line } => put_over_limit(policy, line, draft),
+        LexFault::Memory => return Err(AllocError),
+    }
+    Ok(())
+}
+
+/// The part of the character at an offset of a text, and the character. Behind the text it is another one.
+fn character_at(text: &str, start: usize, other: char) -> (Part, char) {
+    let (length, character) = match first_behind(text, start) {
+        Some(character) => (character.len_utf8(), character),
+        None => (0, other),
     };
-    let length = found.map_or(0, |character| character.len_utf8());
     let part = Part {
         start,
         end: start.saturating_add(length),
     };
-    (part, found)
+    (part, character)
+}
+
+/// The character at an offset of a text, if there is one.
+fn first_behind(text: &str, start: usize) -> Option<char> {
+    match text.get(start..) {
+        Some(rest) => rest.chars().next(),
+        None => None,
+    }
 }
 
 /// The offset where the lexer stopped.
@@ -78,50 +103,67 @@ fn last_offset(policy: &Policy<'_>) -> usize {
 }
 
 /// A character that begins no word and no sign.
-fn stray<'a>(
+fn put_stray<'a>(
     alloc: Global,
     policy: &Policy<'a>,
     definitions: &'a [(&'a str, &'a str)],
-) -> Result<Report, AllocError> {
-    let (part, character) = character_at(policy.text, last_offset(policy));
-    let character = character.unwrap_or(' ');
-    let shown = named(alloc, character)?;
-    let message = format!(in alloc; "{shown} cannot stand here")?;
-    let mut report = error(alloc, Place::Text(part), message);
-    report.hint = Some(hint_for_character(alloc, policy, part, character)?);
-    put_expected(alloc, policy, definitions, part.start, &mut report)?;
-    Ok(report)
-}
-
-/// Adds what can come behind the text before an offset. If that text stops following the grammar before, says so.
-fn put_expected<'a>(
-    alloc: Global,
-    policy: &Policy<'a>,
-    definitions: &'a [(&'a str, &'a str)],
-    offset: usize,
-    report: &mut Report,
+    draft: &mut Draft,
 ) -> Result<(), AllocError> {
+    let (part, character) = character_at(policy.text, last_offset(policy), ' ');
+    draft.place = Place::Text(part);
+    put_named(draft, character);
+    draft.say(" cannot stand here");
+    put_hint_for_character(draft, policy, part, character);
     let front = Part {
         start: 0,
-        end: offset,
+        end: part.start,
     };
-    let Some(front) = policy.slice(front) else {
-        return Ok(());
-    };
+    match slice_of(policy.text, front) {
+        Some(front) => put_expected(alloc, front, definitions, draft),
+        None => Ok(()),
+    }
+}
+
+/// Adds what can come behind a text. If that stops following the grammar before its end, says so.
+fn put_expected<'a>(
+    alloc: Global,
+    front: &'a str,
+    definitions: &'a [(&'a str, &'a str)],
+    draft: &mut Draft,
+) -> Result<(), AllocError> {
     let Some(mut tokens) = tokens_or_none(alloc, front, definitions)? else {
         return Ok(());
     };
-    let _end = tokens.pop();
-    if !is_front(tokens.as_slice()) {
+    if put_kinds(alloc, &mut tokens, draft)? {
         return Ok(());
     }
-    if !can_go_on(alloc, &mut tokens)? {
-        return put_earlier(alloc, front, definitions, report);
+    put_earlier(alloc, front, definitions, draft)
+}
+
+/// Adds what can come behind tokens without their end. It is `false` if nothing can.
+fn put_kinds(
+    alloc: Global,
+    tokens: &mut Vec<Token>,
+    draft: &mut Draft,
+) -> Result<bool, AllocError> {
+    tokens.truncate(tokens.len().saturating_sub(1));
+    if !is_front(tokens.as_slice()) {
+        return Ok(true);
     }
-    let kinds = kinds_behind(alloc, &mut tokens)?;
-    let last = tokens.as_slice().last().map(|token| &token.what);
-    report.expected = words_of(alloc, kinds.as_slice(), last)?;
-    Ok(())
+    if !can_go_on(alloc, tokens)? {
+        return Ok(false);
+    }
+    let kinds = kinds_behind(alloc, tokens)?;
+    put_words(draft, kinds.as_slice(), last_of(tokens.as_slice()));
+    Ok(true)
+}
+
+/// The last of these tokens.
+fn last_of(tokens: &[Token]) -> Option<&What> {
+    match tokens.last() {
+        Some(token) => Some(&token.what),
+        None => None,
+    }
 }
 
 /// Names the token before at which the grammar stops.
@@ -129,139 +171,228 @@ fn put_earlier<'a>(
     alloc: Global,
     front: &'a str,
     definitions: &'a [(&'a str, &'a str)],
-    report: &mut Report,
+    draft: &mut Draft,
 ) -> Result<(), AllocError> {
-    let Some(stop) = stop_of(alloc, front, definitions)? else {
+    match index_of_stop(alloc, front, definitions)? {
+        Some(index) => {
+            let policy = Policy::read(alloc, front, definitions)?;
+            put_stop(alloc, &policy, definitions, index, draft)
+        }
+        None => Ok(()),
+    }
+}
+
+/// The number of the token at which the grammar stops, if it does.
+fn index_of_stop<'a>(
+    alloc: Global,
+    front: &'a str,
+    definitions: &'a [(&'a str, &'a str)],
+) -> Result<Option<usize>, AllocError> {
+    match stop_of(alloc, front, definitions)? {
+        Some(stop) => Ok(Some(stop.index)),
+        None => Ok(None),
+    }
+}
+
+/// Names a token that cannot be where it is.
+fn put_stop<'a>(
+    alloc: Global,
+    policy: &Policy<'a>,
+    definitions: &'a [(&'a str, &'a str)],
+    index: usize,
+    draft: &mut Draft,
+) -> Result<(), AllocError> {
+    let place = policy.spot(alloc, index)?.place;
+    let Place::Text(part) = place else {
         return Ok(());
     };
-    let policy = Policy::read(alloc, front, definitions)?;
-    let place = policy.spot(alloc, stop.index)?.place;
     let word = policy.word(place, definitions);
-    if let Place::Text(part) = place {
-        let line = line_at(front, part.start);
-        report.hint = Some(if stop.index == 0 {
-            format!(in alloc; "`{word}` on line {line} begins no policy: is this the right file?")?
-        } else {
-            format!(in alloc; "`{word}` on line {line} cannot stand where it does either")?
-        });
-    }
-    Ok(())
+    let line = line_at(policy.text, part.start);
+    let wrong = if index == 0 {
+        "begins no policy: is this the right file?"
+    } else {
+        "cannot stand where it does either"
+    };
+    draft.hint.clear();
+    write!(draft.hint, "`{word}` on line {line} {wrong}")
 }
 
 /// A quote that no other closes.
-fn unclosed(alloc: Global, policy: &Policy<'_>) -> Result<Report, AllocError> {
-    let (part, quote) = character_at(policy.text, last_offset(policy));
-    let message = String::from_str(alloc, "the text quoted from here on does not end")?;
-    let mut report = error(alloc, Place::Text(part), message);
-    report.expected.push(another(quote))?;
-    let own = quote.unwrap_or('"');
-    if let Some(found) = policy
-        .lexemes
-        .iter()
-        .find(|found| newlines(&found.piece) > 0)
-    {
-        let line = found.span.line;
-        let last = line.saturating_add(newlines(&found.piece));
-        let quote = match found.piece {
-            Piece::Quoted(quote, _) => char::from(quote),
-            _ => own,
-        };
-        report.hint = Some(format!(in alloc;
-            "the `{quote}` on line {line} closes on line {last} only: is one missing on line {line}?"
-        )?);
-    } else {
-        report.hint = Some(format!(in alloc;
-            "write a `{own}` at the end of the text that it begins"
-        )?);
+fn put_unclosed(policy: &Policy<'_>, draft: &mut Draft) {
+    let (part, quote) = character_at(policy.text, last_offset(policy), '"');
+    draft.place = Place::Text(part);
+    draft.say("the text quoted from here on does not end");
+    draft.expect(another(quote));
+    match long_quoted(policy.lexemes.as_slice()) {
+        Some(long) => put_lines(long, draft),
+        None => put_closing(quote, draft),
     }
-    Ok(report)
+}
+
+/// Says of a quote that it closes late.
+fn put_lines(long: Long, draft: &mut Draft) {
+    let Long { quote, first, last } = long;
+    let added = write!(
+        draft.hint,
+        "the `{quote}` on line {first} closes on line {last} only: is one missing on line {first}?"
+    );
+    draft.keep(added);
+}
+
+/// Says where to close what a quote begins.
+fn put_closing(quote: char, draft: &mut Draft) {
+    let added = write!(
+        draft.hint,
+        "write a `{quote}` at the end of the text that it begins"
+    );
+    draft.keep(added);
 }
 
 /// The quote that is expected.
-fn another(quote: Option<char>) -> &'static str {
+fn another(quote: char) -> &'static str {
     match quote {
-        Some('\'') => "another `'`",
+        '\'' => "another `'`",
         _ => "another `\"`",
     }
 }
 
-/// The number of newlines in a quoted text.
-fn newlines(piece: &Piece<'_>) -> u32 {
-    let Piece::Quoted(_, inside) = piece else {
-        return 0;
-    };
-    let mut count = 0u32;
-    for byte in inside.bytes() {
-        if byte == b'\n' {
-            count = count.saturating_add(1);
+/// A quoted text of several lines: its quote, its first line and its last.
+#[derive(Clone, Copy)]
+struct Long {
+    quote: char,
+    first: u32,
+    last: u32,
+}
+
+/// The first quoted text of several lines.
+fn long_quoted(lexemes: &[Found<'_>]) -> Option<Long> {
+    for found in lexemes {
+        let long = long_at(found);
+        if long.is_some() {
+            return long;
         }
     }
-    count
+    None
+}
+
+/// The lines of a quoted text, if it has several.
+fn long_at(found: &Found<'_>) -> Option<Long> {
+    let Piece::Quoted(quote, inside) = found.piece else {
+        return None;
+    };
+    let first = found.span.line;
+    match newlines_in(inside.as_bytes()) {
+        0 => None,
+        more => Some(Long {
+            quote: char::from(quote),
+            first,
+            last: first.saturating_add(more),
+        }),
+    }
+}
+
+/// A use of a macro.
+#[derive(Clone, Copy)]
+struct Used<'n> {
+    name: &'n str,
+    line: u32,
+    place: Place,
+}
+
+/// The use of a macro that is not known there, if a lexeme of a line is one.
+fn unknown_use<'n>(policy: &Policy<'_>, line: u32, found: &Found<'n>) -> Option<Used<'n>> {
+    if found.span.line != line {
+        return None;
+    }
+    let part = part_of(found.span);
+    match found.piece {
+        Piece::Use(name) if !is_known(policy, name, part.start) => Some(Used {
+            name,
+            line,
+            place: Place::Text(part),
+        }),
+        _ => None,
+    }
+}
+
+/// Whether a macro is known at an offset of the text.
+fn is_known(policy: &Policy<'_>, name: &str, offset: usize) -> bool {
+    known(before(policy.macros.as_slice(), offset), name).is_some()
+}
+
+/// The first use of a macro on a line that is not known there.
+fn first_unknown<'a>(policy: &Policy<'a>, line: u32) -> Option<Used<'a>> {
+    for found in policy.lexemes.as_slice() {
+        let used = unknown_use(policy, line, found);
+        if used.is_some() {
+            return used;
+        }
+    }
+    None
 }
 
 /// A use of a macro that is not defined before it.
-fn unknown(alloc: Global, policy: &Policy<'_>, line: u32) -> Result<Report, AllocError> {
-    for found in policy.lexemes.as_slice() {
-        if let Piece::Use(name) = found.piece
-            && found.span.line == line
-            && known(
-                before(policy.macros.as_slice(), found.span.start as usize),
-                name,
-            )
-            .is_none()
-        {
-            let place = Place::Text(part_of(found));
-            return unknown_macro(alloc, policy, place, (name, line));
-        }
-    }
-    let message = String::from_str(alloc, "a macro is used that is not defined above")?;
-    Ok(error(alloc, Place::File, message))
-}
-
-/// The report on a use on a line of a macro that is not defined.
-fn unknown_macro(
+fn put_unknown(
     alloc: Global,
     policy: &Policy<'_>,
-    place: Place,
-    (name, line): (&str, u32),
-) -> Result<Report, AllocError> {
-    let message = format!(in alloc; "`${name}` cannot stand here")?;
-    let mut report = error(alloc, place, message);
-    report.expected.push("a macro that is defined above")?;
-    if let Some(later) = policy
-        .macros
-        .iter()
-        .find(|found| found.name == name && found.line != 0)
-    {
-        label(&mut report, later.name_place(), "defined here")?;
-        report.hint = Some(format!(in alloc; "define `{name}` above line {line}")?);
-        return Ok(report);
+    line: u32,
+    draft: &mut Draft,
+) -> Result<(), AllocError> {
+    match first_unknown(policy, line) {
+        Some(used) => put_use(alloc, policy, used, draft),
+        None => {
+            draft.say("a macro is used that is not defined above");
+            Ok(())
+        }
+    }
+}
+
+/// Says of a use of a macro that it is not defined.
+fn put_use(
+    alloc: Global,
+    policy: &Policy<'_>,
+    used: Used<'_>,
+    draft: &mut Draft,
+) -> Result<(), AllocError> {
+    let name = used.name;
+    draft.place = used.place;
+    draft.say_of("`$", name, "` cannot stand here");
+    draft.expect("a macro that is defined above");
+    if let Some(later) = first_written(policy.macros.as_slice(), name) {
+        draft.label(later.name_place(), "defined here");
+        return write!(draft.hint, "define `{name}` above line {}", used.line);
     }
     if let Some(comment) = line_in_comment(policy.text, name) {
-        let next = comment.saturating_add(1);
-        report.hint = Some(format!(in alloc;
-            "the comment on line {comment} ends in a backslash, so line {next} belongs to it"
-        )?);
-        return Ok(report);
+        return put_comment(&mut draft.hint, comment);
     }
-    report.hint = Some(match near_macro(alloc, policy, name)? {
-        Some(near) => format!(in alloc; "did you mean `${near}`?")?,
-        None => format!(in alloc; "define it above: {name} = \"..\"")?,
-    });
-    Ok(report)
+    match near_macro(alloc, policy, name)? {
+        Some(near) => draft.hint_of("did you mean `$", near, "`?"),
+        None => draft.hint_of("define it above: ", name, " = \"..\""),
+    }
+    Ok(())
+}
+
+/// Says of a comment that it takes in the next line.
+fn put_comment(hint: &mut String, line: u32) -> Result<(), AllocError> {
+    let next = line.saturating_add(1);
+    write!(
+        hint,
+        "the comment on line {line} ends in a backslash, so line {next} belongs to it"
+    )
 }
 
 /// The name of a macro that is nearly this one.
-fn near_macro<'a>(
+fn near_macro<'p>(
     alloc: Global,
-    policy: &Policy<'a>,
+    policy: &'p Policy<'_>,
     name: &str,
-) -> Result<Option<&'a str>, AllocError> {
-    let mut names = Vec::new(alloc);
+) -> Result<Option<&'p str>, AllocError> {
     for found in policy.macros.as_slice() {
-        names.push(found.name)?;
+        if is_near(alloc, name, found.name)? {
+            return Ok(Some(found.name));
+        }
     }
-    nearest(alloc, name, names.as_slice())
+    Ok(None)
 }
 
 /// The line of a comment that takes in the definition of a macro on the next line, if there is one.
@@ -273,7 +404,7 @@ fn line_in_comment(text: &str, name: &str) -> Option<u32> {
             return Some(number);
         }
         number = number.saturating_add(1);
-        is_joined = line.ends_with('\\') && line.find('#').is_some();
+        is_joined = line.ends_with('\\') && contains(line, "#");
     }
     None
 }
@@ -287,65 +418,38 @@ fn begins_definition(line: &str, name: &str) -> bool {
 }
 
 /// A macro whose value is no list of tokens.
-fn bad_value(alloc: Global, policy: &Policy<'_>, line: u32) -> Result<Report, AllocError> {
-    for (index, found) in policy.macros.iter().enumerate() {
-        if found.line == line {
-            let earlier = policy
-                .macros
-                .get(..index)
-                .unwrap_or(policy.macros.as_slice());
-            if let Some(mut report) = fault_of_value(alloc, policy, earlier, found)? {
-                put_definition(&mut report, policy, found)?;
-                return Ok(report);
-            }
-        }
-    }
-    let message = String::from_str(alloc, "a macro has a bad name or value")?;
-    Ok(error(alloc, Place::File, message))
-}
-
-/// Names the macro, if its name is on another line than the place of a report.
-fn put_definition(
-    report: &mut Report,
-    policy: &Policy<'_>,
-    found: &Macro<'_>,
-) -> Result<(), AllocError> {
-    match report.place {
-        Place::Text(part) if line_at(policy.text, part.start) != found.line => {
-            label(report, found.name_place(), "the value of this macro")
-        }
-        _ => Ok(()),
-    }
-}
-
-/// What is wrong with the value of a macro, if something is.
-fn fault_of_value(
+fn put_bad_value(
     alloc: Global,
     policy: &Policy<'_>,
-    earlier: &[Macro<'_>],
+    line: u32,
+    draft: &mut Draft,
+) -> Result<(), AllocError> {
+    for (index, found) in policy.macros.iter().enumerate() {
+        if found.line == line && put_macro(alloc, policy, index, found, draft)? {
+            return Ok(());
+        }
+    }
+    draft.say("a macro has a bad name or value");
+    Ok(())
+}
+
+/// Says what is wrong with the value of a macro. It is `false` if nothing is.
+fn put_macro(
+    alloc: Global,
+    policy: &Policy<'_>,
+    index: usize,
     found: &Macro<'_>,
-) -> Result<Option<Report>, AllocError> {
+    draft: &mut Draft,
+) -> Result<bool, AllocError> {
     let text = found.text(alloc)?;
+    let lexemes = lexemes_of(alloc, text.as_str())?;
     let value = Value {
         policy,
-        earlier,
+        earlier: front_of(policy.macros.as_slice(), index),
         found,
         text: text.as_str(),
     };
-    let lexemes = lexemes_of(alloc, text.as_str())?;
-    for lexeme in lexemes.as_slice() {
-        if let Some(report) = fault_of_lexeme(alloc, value, lexeme)? {
-            return Ok(Some(report));
-        }
-    }
-    if lexemes.is_empty() || found.count > MOST_TOKENS {
-        let name = found.name;
-        let message = format!(in alloc;
-            "the value of `{name}` has over {MOST_TOKENS} tokens or {MOST_BYTES} bytes"
-        )?;
-        return Ok(Some(error(alloc, found.opening(), message)));
-    }
-    Ok(None)
+    put_value(alloc, value, lexemes.as_slice(), draft)
 }
 
 /// The value of a macro, and the macros that are defined before it.
@@ -357,111 +461,173 @@ struct Value<'v, 'a> {
     text: &'v str,
 }
 
-/// What is wrong with a lexeme of a value, if something is.
-fn fault_of_lexeme(
+/// Says what is wrong with a value, and names its macro. It is `false` if nothing is.
+fn put_value(
+    alloc: Global,
+    value: Value<'_, '_>,
+    lexemes: &[Found<'_>],
+    draft: &mut Draft,
+) -> Result<bool, AllocError> {
+    let is_long = lexemes.is_empty() || value.found.count > MOST_TOKENS;
+    if let Some(lexeme) = first_wrong(value, lexemes) {
+        put_lexeme(alloc, value, lexeme, draft)?;
+    } else if is_long {
+        put_long(value.found, draft);
+    } else {
+        return Ok(false);
+    }
+    put_definition(value, draft);
+    Ok(true)
+}
+
+/// Names the macro, if its name is on another line than the place of a report.
+fn put_definition(value: Value<'_, '_>, draft: &mut Draft) {
+    let found = value.found;
+    match draft.place {
+        Place::Text(part) if line_at(value.policy.text, part.start) != found.line => draft.label(
+            found.name_place(),
+            "the value of this macro",
+        ),
+        _ => {}
+    }
+}
+
+/// Says that a value is too long.
+fn put_long(found: &Macro<'_>, draft: &mut Draft) {
+    let name = found.name;
+    draft.place = found.opening();
+    let added = write!(
+        draft.message,
+        "the value of `{name}` has over {MOST_TOKENS} tokens or {MOST_BYTES} bytes"
+    );
+    draft.keep(added);
+}
+
+/// The first lexeme of a value with which something is wrong.
+fn first_wrong<'l, 'f>(value: Value<'_, '_>, lexemes: &'l [Found<'f>]) -> Option<&'l Found<'f>> {
+    for found in lexemes {
+        if is_wrong(value, found) {
+            return Some(found);
+        }
+    }
+    None
+}
+
+/// Whether something is wrong with a lexeme of a value.
+fn is_wrong(value: Value<'_, '_>, found: &Found<'_>) -> bool {
+    match found.piece {
+        Piece::Use(used) => known(value.earlier, used).is_none(),
+        Piece::Equals | Piece::Unclosed | Piece::Stray => true,
+        _ => false,
+    }
+}
+
+/// Says what is wrong with a lexeme of a value.
+fn put_lexeme(
     alloc: Global,
     value: Value<'_, '_>,
     lexeme: &Found<'_>,
-) -> Result<Option<Report>, AllocError> {
-    let part = part_of(lexeme);
-    let found = value.found;
-    let report = match lexeme.piece {
-        Piece::Use(used) if known(value.earlier, used).is_none() => {
-            let place = found.place(part);
-            unknown_macro(alloc, value.policy, place, (used, found.line))?
+    draft: &mut Draft,
+) -> Result<(), AllocError> {
+    let part = part_of(lexeme.span);
+    let place = value.found.place(part);
+    match lexeme.piece {
+        Piece::Use(name) => {
+            let line = value.found.line;
+            return put_use(alloc, value.policy, Used { name, line, place }, draft);
         }
-        Piece::Equals => equals_in(alloc, value, part)?,
-        Piece::Unclosed => unclosed_in(alloc, value, part.start)?,
-        Piece::Stray => stray_in(alloc, value, part.start)?,
-        _ => return Ok(None),
-    };
-    Ok(Some(report))
+        Piece::Equals => put_equals(value, place, draft),
+        Piece::Unclosed => put_unclosed_in(value, part.start, draft),
+        _ => put_stray_in(value, part.start, draft),
+    }
+    Ok(())
+}
+
+/// The line of a place in a text. It is 0 elsewhere.
+fn line_of(text: &str, place: Place) -> u32 {
+    match place {
+        Place::Text(part) => line_at(text, part.start),
+        _ => 0,
+    }
 }
 
 /// The sign `=` in a value. If that has several lines, its quote is missing on the first.
-fn equals_in(alloc: Global, value: Value<'_, '_>, part: Part) -> Result<Report, AllocError> {
-    let found = value.found;
-    let (name, line) = (found.name, found.line);
-    let here = found.place(part);
-    let there = match here {
-        Place::Text(part) => line_at(value.policy.text, part.start),
-        _ => 0,
-    };
-    if let Spelled::Quoted(quote, _) = found.value
-        && there > line
+fn put_equals(value: Value<'_, '_>, here: Place, draft: &mut Draft) {
+    let there = line_of(value.policy.text, here);
+    if let Spelled::Quoted(quote, _) = value.found.value
+        && there > value.found.line
     {
-        let message = format!(in alloc; "the value quoted from here on has a `=` on line {there}")?;
-        let mut report = error(alloc, found.opening(), message);
-        let quote = char::from(quote);
-        report.expected.push(another(Some(quote)))?;
-        label(&mut report, here, "cannot stand in a value")?;
-        report.hint = Some(format!(in alloc; "is a `{quote}` missing on line {line}?")?);
-        return Ok(report);
+        draft.label(here, "cannot stand in a value");
+        return put_open(value.found, char::from(quote), there, draft);
     }
-    let message = format!(in alloc; "`=` cannot stand in the value of `{name}`")?;
-    let mut report = error(alloc, here, message);
-    hint(
-        alloc,
-        &mut report,
-        "a value has conditions and commands, and no definitions",
-    )?;
-    Ok(report)
+    draft.place = here;
+    draft.say_of("`=` cannot stand in the value of `", value.found.name, "`");
+    draft.hint("a value has conditions and commands, and no definitions");
+}
+
+/// Says of the quote of a value that it does not close on its line.
+fn put_open(found: &Macro<'_>, quote: char, there: u32, draft: &mut Draft) {
+    let line = found.line;
+    draft.place = found.opening();
+    draft.expect(another(quote));
+    let said = write!(
+        draft.message,
+        "the value quoted from here on has a `=` on line {there}"
+    );
+    draft.keep(said);
+    let added = write!(draft.hint, "is a `{quote}` missing on line {line}?");
+    draft.keep(added);
 }
 
 /// A quote in a value that no other closes.
-fn unclosed_in(alloc: Global, value: Value<'_, '_>, start: usize) -> Result<Report, AllocError> {
-    let name = value.found.name;
-    let (part, quote) = character_at(value.text, start);
-    let message = format!(in alloc;
-        "the text quoted from here on does not end in the value of `{name}`"
-    )?;
-    let mut report = error(alloc, value.found.place(part), message);
-    report.expected.push(another(quote))?;
-    let quote = quote.unwrap_or('"');
-    report.hint = Some(if value.text.find(" every ").is_some() {
-        format!(in alloc; "write a `{quote}` before `every`")?
-    } else {
-        format!(in alloc; "write a `{quote}` at the end of the text that it begins")?
-    });
-    Ok(report)
+fn put_unclosed_in(value: Value<'_, '_>, start: usize, draft: &mut Draft) {
+    let (part, quote) = character_at(value.text, start, '"');
+    draft.place = value.found.place(part);
+    draft.say_of(
+        "the text quoted from here on does not end in the value of `",
+        value.found.name,
+        "`",
+    );
+    draft.expect(another(quote));
+    if !contains(value.text, " every ") {
+        return put_closing(quote, draft);
+    }
+    let added = write!(draft.hint, "write a `{quote}` before `every`");
+    draft.keep(added);
 }
 
 /// A character in a value that begins no word and no sign.
-fn stray_in(alloc: Global, value: Value<'_, '_>, start: usize) -> Result<Report, AllocError> {
-    let name = value.found.name;
-    let (part, character) = character_at(value.text, start);
-    let character = character.unwrap_or(' ');
-    let shown = named(alloc, character)?;
-    let message = format!(in alloc; "{shown} cannot stand in the value of `{name}`")?;
-    let mut report = error(alloc, value.found.place(part), message);
-    hint(
-        alloc,
-        &mut report,
-        "a command in a value needs quotes inside of the quotes: `NAME = '\"COMMAND\"'`",
-    )?;
-    Ok(report)
+fn put_stray_in(value: Value<'_, '_>, start: usize, draft: &mut Draft) {
+    let (part, character) = character_at(value.text, start, ' ');
+    draft.place = value.found.place(part);
+    put_named(draft, character);
+    draft.say_of(" cannot stand in the value of `", value.found.name, "`");
+    draft.hint("a command in a value needs quotes inside of the quotes: `NAME = '\"COMMAND\"'`");
 }
 
 /// A text that is too long, or has too many tokens or macros.
-fn over_limit(alloc: Global, policy: &Policy<'_>, line: u32) -> Result<Report, AllocError> {
+fn put_over_limit(policy: &Policy<'_>, line: u32, draft: &mut Draft) {
     let bytes = policy.text.len();
     if bytes > MOST_BYTES {
-        let message = format!(in alloc; "the text has {bytes} bytes")?;
-        let mut report = error(alloc, Place::File, message);
-        report.rule = "a policy has at most 1048576 bytes";
-        hint(alloc, &mut report, "let scripts do what the text repeats")?;
-        return Ok(report);
+        draft.rule = "a policy has at most 1048576 bytes";
+        draft.hint("let scripts do what the text repeats");
+        let added = write!(draft.message, "the text has {bytes} bytes");
+        return draft.keep(added);
     }
-    let place = match policy.lexemes.iter().find(|found| found.span.line == line) {
-        Some(found) => Place::Text(part_of(found)),
-        None => Place::File,
-    };
-    let message = String::from_str(
-        alloc,
-        "on this line the policy has too many tokens or macros",
-    )?;
-    let mut report = error(alloc, place, message);
-    report.rule = "a policy has at most 16384 tokens, and 256 macros";
-    hint(alloc, &mut report, "let one script ask several things")?;
-    Ok(report)
+    if let Some(found) = first_on(policy.lexemes.as_slice(), line) {
+        draft.place = Place::Text(part_of(found.span));
+    }
+    draft.rule = "a policy has at most 16384 tokens, and 256 macros";
+    draft.say("on this line the policy has too many tokens or macros");
+    draft.hint("let one script ask several things");
+}
+
+/// The first lexeme on a line.
+fn first_on<'l, 'a>(lexemes: &'l [Found<'a>], line: u32) -> Option<&'l Found<'a>> {
+    for found in lexemes {
+        if found.span.line == line {
+            return Some(found);
+        }
+    }
+    None
 }

@@ -23,22 +23,35 @@ const STOPS: &[(&str, usize, &[Kind])] = &[
     (
         "state a {",
         3,
-        &[Kind::Init, Kind::If, Kind::Run, Kind::SetState, Kind::BraceClose],
+        &[
+            Kind::Init,
+            Kind::If,
+            Kind::Run,
+            Kind::SetState,
+            Kind::BraceClose,
+        ],
     ),
     ("state a { run }", 4, COMMANDS),
     ("state a { if \"t\" every x { } }", 6, &[Kind::Number]),
     (
         "state a { if em0.link.up }",
         9,
-        &[Kind::If, Kind::Run, Kind::SetState, Kind::BraceOpen, Kind::And, Kind::Or],
+        &[
+            Kind::If,
+            Kind::Run,
+            Kind::SetState,
+            Kind::BraceOpen,
+            Kind::And,
+            Kind::Or,
+        ],
     ),
     ("state a { if em0 { } }", 5, &[Kind::Every, Kind::Dot]),
-    ("state a { if em0.link.x { } }", 8, &[Kind::Up, Kind::Down, Kind::Unknown]),
     (
-        "x = '{ run }' state a $x",
-        4,
-        COMMANDS,
+        "state a { if em0.link.x { } }",
+        8,
+        &[Kind::Up, Kind::Down, Kind::Unknown],
     ),
+    ("x = '{ run }' state a $x", 4, COMMANDS),
 ];
 
 /// Each row stops at its token, and nothing else could be there.
@@ -82,10 +95,26 @@ fn refusals(rt: HostRuntime) -> Result<(), Fail> {
     let rows: [Refused; 6] = [
         ("state a { }", Until::Policy, None),
         ("state a { }", Until::Image, None),
-        ("state a { } state a { }", Until::Policy, Some(("P10", text_at(18, 19)))),
-        ("n = '{ run }'\nstate a $n", Until::Image, Some(("P6", text_at(11, 12)))),
-        ("state a { if $t run x }", Until::Policy, Some(("P6", Place::Definition(0, Part { start: 10, end: 12 })))),
-        ("state a { if em0.link.up & }", Until::Policy, Some(("P1", text_at(25, 26)))),
+        (
+            "state a { } state a { }",
+            Until::Policy,
+            Some(("P10", text_at(18, 19))),
+        ),
+        (
+            "n = '{ run }'\nstate a $n",
+            Until::Image,
+            Some(("P6", text_at(11, 12))),
+        ),
+        (
+            "state a { if $t run x }",
+            Until::Policy,
+            Some(("P6", Place::Definition(0, Part { start: 10, end: 12 }))),
+        ),
+        (
+            "state a { if em0.link.up & }",
+            Until::Policy,
+            Some(("P1", text_at(25, 26))),
+        ),
     ];
     for (text, until, wanted) in rows {
         check_refusal(&rt, rt.alloc(), text, until, wanted)?;
@@ -133,11 +162,20 @@ fn places(rt: HostRuntime) -> Result<(), Fail> {
         (Some(2), text_at(0, 1), Place::File),
         (Some(1), text_at(6, 7), Place::File),
         (Some(1), text_at(0, 99), Place::File),
-        (Some(1), Place::Definition(0, Part { start: 0, end: 1 }), Place::File),
+        (
+            Some(1),
+            Place::Definition(0, Part { start: 0, end: 1 }),
+            Place::File,
+        ),
         (Some(1), Place::File, Place::File),
     ];
     for (number, (line, place, wanted)) in rows.into_iter().enumerate() {
-        same_in(&rt, number, placed(rt.alloc(), text, &[], line, place)?, wanted);
+        same_in(
+            &rt,
+            number,
+            placed(rt.alloc(), text, &[], line, place)?,
+            wanted,
+        );
     }
     same_in(&rt, text, lexemes_of(rt.alloc(), text)?.len(), 6);
     Ok(())
