@@ -10,8 +10,8 @@ import threading
 
 from waiting import wait_for
 
-# how long anything may take that is to come soon
-SOON = 10
+# how long anything may take that is to come soon, also on a busy machine
+SOON = 30
 # what the notes say of how connections ended
 ENDS = ("closed", "stop", "reload", "full", "fault S1", "fault S2", "fault S3")
 

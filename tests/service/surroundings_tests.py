@@ -273,7 +273,7 @@ def test_little_memory(program):
     """From the least memory with which the program runs on, a daemon says that it has too little, or serves."""
     with Daemon(program, testing(["true"])) as daemon:
         step = 65_536
-        least = until("enough memory", iter_least(program, step))
+        least = next(size for size in range(16 * step, 10_000 * step, step) if starts_at_all(program, size))
         served = 0
         for size in range(least, least + 40 * step, step):
             path = daemon.file(f"memory{size}")
@@ -292,17 +292,6 @@ def test_little_memory(program):
                     holds(f"serve in {size} bytes: {process.wait(SOON)} {told}", process.wait(SOON) in (1, 3) and any(told))
         holds("none served", served > 0)
         daemon.stop()
-
-
-def iter_least(program, step):
-    """A search for the least memory with which the program runs, one try a call."""
-    sizes = iter(range(16 * step, 10_000 * step, step))
-
-    def next_try():
-        size = next(sizes)
-        return size if starts_at_all(program, size) else None
-
-    return next_try
 
 
 def test_characters_of_notes(program):
