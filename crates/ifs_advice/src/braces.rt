@@ -107,13 +107,16 @@ fn walk_to(
     open: &mut Vec<usize>,
 ) -> Result<Option<Early>, AllocError> {
     let mut early = None;
+    let mut line = 0u32;
     for (number, token) in policy.tokens.iter().enumerate() {
         if number >= index {
             break;
         }
-        if early.is_none() {
+        // only the first token of a line has an indentation
+        if early.is_none() && token.span.line != line {
             early = early_at(policy, open.as_slice(), number, token.span.line);
         }
+        line = token.span.line;
         put_open(open, &token.what, number)?;
     }
     Ok(early)
