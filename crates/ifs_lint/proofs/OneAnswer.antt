@@ -153,5 +153,5 @@ zip_at R (a ∷ xs) (b ∷ ys) zero x y h at_x at_y = subst (λ z. R z y) (same_
 zip_at R (a ∷ xs) (b ∷ ys) (suc k) x y h at_x at_y = zip_at R xs ys k x y h.1 at_x at_y
 
 pub none_is_missed : NoneIsMissed
-none_is_missed scope places answers are k place found finding at_place at_answer decided is told =
-    one_answer scope place found finding (zip_at (IsAnswerOf scope) places answers k place found are at_place at_answer) is decided told
+none_is_missed scope places answers are k place found finding at_place at_answer decided is said =
+    one_answer scope place found finding (zip_at (IsAnswerOf scope) places answers k place found are at_place at_answer) is decided said
