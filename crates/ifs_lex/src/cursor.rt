@@ -1,6 +1,6 @@
 //! A cursor in a text. It reads one lexeme after another.
 
-ghost use Rattle.std.specs.Prelude.{◌≡◌, ◌==◌, ◌≤◌, count_by, length};
+ghost use Rattle.std.specs.Prelude.{◌≡◌, ◌==◌, ◌≤◌, ◌+◌, count_by, length};
 ghost use Rattle.std.specs.Str.{IsCharBoundary};
 ghost use Rattle.ifs_lex.specs.inner.Pieces.{spanned_of};
 
@@ -16,16 +16,34 @@ pub struct Found<'a> {
     pub span: Span,
 }
 
-/// Counts the newlines. It looks at every byte, so that the compiler can use vector instructions.
+/// The bytes whose newlines are counted at once. A byte can count them.
+const BLOCK: usize = 255;
+
+/// Counts the newlines of a block. The count is a byte, so that a vector instruction adds many.
+fn newlines_of_block(bytes: &[u8]) -> u8
+    requires { length bytes.now ≤ 255 }
+    ensures { result ≡ count_by (λ b. b == 10) bytes.now }
+{
+    let mut count = 0;
+    for byte in bytes {
+        count += u8::from(*byte == b'\n');
+    }
+    count
+}
+
+/// Counts the newlines.
 fn newlines(bytes: &[u8]) -> u32
     requires { length bytes.now ≤ 1048576 }
     ensures { result ≡ count_by (λ b. b == 10) bytes.now }
 {
     let mut count = 0;
-    for byte in bytes {
-        count += u32::from(*byte == b'\n');
+    let mut left = bytes;
+    while left.len() > BLOCK {
+        let (block, rest) = left.split_at(BLOCK);
+        count += u32::from(newlines_of_block(block));
+        left = rest;
     }
-    count
+    count + u32::from(newlines_of_block(left))
 }
 
 /// A cursor in a text of at most 1,048,576 bytes: the text after it, its offset, and its line, from 1.
