@@ -9,3 +9,4 @@ pub mod Blocks
 pub mod Situated
 pub mod Tours
 pub mod OneAnswer
+pub mod Theres

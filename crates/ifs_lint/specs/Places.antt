@@ -7,7 +7,7 @@ use Rattle.ifs_policy.specs.Meaning.{Condition, Block, truth, is_held, reached, 
 use Rattle.ifs_policy.specs.declared.policy.Handlers.{Handlers}
 use Rattle.ifs_policy.specs.declared.policy.PolicyParts.{PolicyParts}
 use Rattle.ifs_lint.specs.declared.answers.Answer.{Answer}
-use Rattle.ifs_lint.specs.declared.answers.Answer.TheVariants.{Unreached, Never, Always, Overruled, Used, Undecided}
+use Rattle.ifs_lint.specs.declared.answers.Answer.TheVariants.{Unreached, Skipped, Never, Always, Overruled, Used, Undecided}
 use Rattle.ifs_lint.specs.declared.ranges.Scope.{Scope}
 use Rattle.ifs_lint.specs.Asking.{is_signed, IsSomewhere, IsNowhere}
 
@@ -102,17 +102,20 @@ unless here other facts = here facts && not (other facts)
 
 -- An answer is right for a place. No facts lead there; some do, and the condition is never or always true there; or a later `set-state` is always reached too. Otherwise the condition has both truths there, the command runs, or the wish is the last one, under some facts.
 abbrev pub IsAnswerOf : Scope → Place → Answer → Type 0
-IsAnswerOf scope (Test here condition) Unreached = IsNowhere scope here
+IsAnswerOf scope (Test here condition) Skipped = IsNowhere scope here
+IsAnswerOf scope (Test here condition) Unreached = ⊥
 IsAnswerOf scope (Test here condition) Never = IsSomewhere scope here × IsNowhere scope (where_is true here condition)
 IsAnswerOf scope (Test here condition) Always = IsSomewhere scope here × IsNowhere scope (where_is false here condition)
 IsAnswerOf scope (Test here condition) Used = IsSomewhere scope (where_is true here condition) × IsSomewhere scope (where_is false here condition)
 IsAnswerOf scope (Test here condition) Overruled = ⊥
 IsAnswerOf scope (Command here) Unreached = IsNowhere scope here
+IsAnswerOf scope (Command here) Skipped = ⊥
 IsAnswerOf scope (Command here) Used = IsSomewhere scope here
 IsAnswerOf scope (Command here) Never = ⊥
 IsAnswerOf scope (Command here) Always = ⊥
 IsAnswerOf scope (Command here) Overruled = ⊥
 IsAnswerOf scope (Wish here later others) Unreached = IsNowhere scope here
+IsAnswerOf scope (Wish here later others) Skipped = ⊥
 IsAnswerOf scope (Wish here later others) Overruled = IsSomewhere scope here × All (λ other. IsNowhere scope (unless (unless here later) other)) others
 IsAnswerOf scope (Wish here later others) Used = Any (λ other. IsSomewhere scope (unless (unless here later) other)) others
 IsAnswerOf scope (Wish here later others) Never = ⊥

@@ -8,8 +8,10 @@ use crate::searching::Extent;
 /// What is said of a place: a condition, an operand, a `run` or a `set-state`.
 #[derive(Clone, Copy, Debug, PartialEq, Eq)]
 pub enum Answer {
-    /// No facts lead to it.
+    /// No facts lead to a `run` or a `set-state`.
     Unreached,
+    /// No facts lead to a condition or an operand.
+    Skipped,
     /// Some facts lead to a condition or an operand, and it is true under none of them.
     Never,
     /// Some facts lead to a condition or an operand, and it is true under all of them.
@@ -29,7 +31,7 @@ impl Answer {
         ensures { result ≡ condition_answer truth falsehood }
     {
         match (truth, falsehood) {
-            (Extent::Nowhere, Extent::Nowhere) => Answer::Unreached,
+            (Extent::Nowhere, Extent::Nowhere) => Answer::Skipped,
             (Extent::Nowhere, Extent::Somewhere) => Answer::Never,
             (Extent::Somewhere, Extent::Nowhere) => Answer::Always,
             (Extent::Somewhere, Extent::Somewhere) => Answer::Used,

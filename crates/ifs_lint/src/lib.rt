@@ -23,7 +23,7 @@ pub use answers::Answer;
 pub use choices::{Ask, Choice};
 pub use demands::{Aim, Demand, PolicyStatement};
 pub use ranges::{Range, Scope};
-pub use rounds::{Round, round_from};
+pub use rounds::{Round, Rounds};
 pub use searching::{Budget, Extent, Search, ask, find};
 pub use touring::{StateAnswer, judge_states};
 pub use walking::{judge_places, truth_of};

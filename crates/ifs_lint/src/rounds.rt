@@ -2,19 +2,19 @@
 //! core before it reports one.
 
 use crate::demands::{Aim, Demand};
-use crate::judging::judge_all;
 use crate::ranges::{Range, Scope};
 use crate::searching::{Budget, find};
-use crate::verdicts::Verdict;
 use ifs_base::StateId;
+use ifs_parse::Statement;
 use ifs_policy::{Handlers, Policy, PolicyBlock};
 use std::alloc::{AllocError, Global};
+use std::mem::replace;
 
-/// A way through states that ends in one of them, and a range of worlds in which a policy goes it. A world is a link state
+/// A way through states that ends where it began, and a range of worlds in which a policy goes it. A world is a link state
 /// for each interface and a result for each test.
 #[derive(Drop)]
 pub struct Round {
-    /// From the first state to the one that is entered again.
+    /// From the first state to the same one.
     pub states: Vec<StateId>,
     pub worlds: Range,
 }
@@ -28,17 +28,21 @@ enum Way {
     Always,
 }
 
-/// A search for a round.
+/// A search for the rounds of a policy, from one state after the other.
 #[derive(Drop)]
-struct Rounds<'a> {
+pub struct Rounds<'a> {
     alloc: Global,
     scope: Scope,
     always: &'a PolicyBlock,
     states: &'a [Handlers],
     count: u16,
-    /// All worlds.
-    all: Range,
-    /// Those that led to the last state of the path.
+    /// The states that the body outside any state sets.
+    always_targets: Vec<StateId>,
+    /// For each state, those that its body sets.
+    targets: Vec<Vec<StateId>>,
+    /// For each state, whether no further round is looked for there: none is, or one was found.
+    is_over: Vec<bool>,
+    /// The worlds that led to the last state of the path.
     worlds: Range,
     /// What leads along the path.
     demands: Vec<Demand<'a>>,
@@ -47,50 +51,97 @@ struct Rounds<'a> {
 }
 
 impl<'a> Rounds<'a> {
-    /// A search that begins at a state.
-    fn start(
-        alloc: Global,
-        policy: &'a Policy,
-        state: StateId,
-        budget: Budget,
-    ) -> Result<Rounds<'a>, AllocError> {
+    /// A search that has not begun. Returns an error if an allocation fails.
+    pub fn new(alloc: Global, policy: &'a Policy) -> Result<Rounds<'a>, AllocError> {
         let scope = Scope::of(policy);
-        let all = Range::worlds(alloc, scope)?;
-        let worlds = Range::worlds(alloc, scope)?;
-        let mut path = Vec::new(alloc);
-        path.push(state)?;
+        let mut targets = Vec::new(alloc);
+        let mut is_over = Vec::new(alloc);
+        for part in policy.states() {
+            targets.push(targets_of(alloc, &part.body)?)?;
+            is_over.push(false)?;
+        }
         Ok(Rounds {
             alloc,
             scope,
             always: &policy.always().body,
             states: policy.states(),
             count: policy.counts().states,
-            all,
-            worlds,
+            always_targets: targets_of(alloc, &policy.always().body)?,
+            targets,
+            is_over,
+            worlds: Range::worlds(alloc, scope)?,
             demands: Vec::new(alloc),
-            path,
-            budget,
+            path: Vec::new(alloc),
+            budget: Budget::POLICY,
         })
     }
 
-    /// Goes on from the last state of the path, by so many further states at most. Whether a state came again.
+    /// Searches for a round that begins at a state, with no state from which a search has ended. Each test has a value. None
+    /// if there is none, or if the budget ran out. Returns an error if an allocation fails.
+    pub fn round_at(
+        &mut self,
+        state: StateId,
+        budget: &mut Budget,
+    ) -> Result<Option<Round>, AllocError> {
+        if self.is_over(state) {
+            return Ok(None);
+        }
+        self.demands.clear();
+        self.path.clear();
+        self.path.push(state)?;
+        self.budget = *budget;
+        let is_found = self.go_on(self.count)?;
+        *budget = self.budget;
+        self.end(state);
+        if is_found { self.found() } else { Ok(None) }
+    }
+
+    /// The round along the path.
+    fn found(&mut self) -> Result<Option<Round>, AllocError> {
+        let states = replace(&mut self.path, Vec::new(self.alloc));
+        let worlds = replace(&mut self.worlds, Range::worlds(self.alloc, self.scope)?);
+        for state in &states {
+            self.end(*state);
+        }
+        Ok(Some(Round { states, worlds }))
+    }
+
+    /// Whether no further round is looked for at a state.
+    fn is_over(&self, state: StateId) -> bool {
+        match self.is_over.get(usize::from(state.0)) {
+            Some(is_over) => *is_over,
+            None => true,
+        }
+    }
+
+    /// Ends the search at a state.
+    fn end(&mut self, state: StateId) {
+        if let Some(is_over) = self.is_over.get_mut(usize::from(state.0)) {
+            *is_over = true;
+        }
+    }
+
+    /// Goes on from the last state of the path, by so many further states at most. Whether the path came back.
     #[cycle(go_on)]
     fn go_on(&mut self, moves: u16) -> Result<bool, AllocError> {
-        for next in 0..self.count {
-            if self.move_to(StateId(next), moves)? {
+        if self.go_by(Way::Own, moves)? {
+            return Ok(true);
+        }
+        self.go_by(Way::Always, moves)
+    }
+
+    /// Goes on by a body.
+    #[cycle(go_on)]
+    fn go_by(&mut self, way: Way, moves: u16) -> Result<bool, AllocError> {
+        for index in 0..self.count {
+            let Some(next) = self.target(way, usize::from(index)) else {
+                return Ok(false);
+            };
+            if self.move_by(way, next, moves)? {
                 return Ok(true);
             }
         }
         Ok(false)
-    }
-
-    /// Goes on to a state, by either body.
-    #[cycle(go_on)]
-    fn move_to(&mut self, next: StateId, moves: u16) -> Result<bool, AllocError> {
-        if self.move_by(Way::Own, next, moves)? {
-            return Ok(true);
-        }
-        self.move_by(Way::Always, next, moves)
     }
 
     /// Goes on to a state by a body, if some worlds lead there.
@@ -108,12 +159,16 @@ impl<'a> Rounds<'a> {
         Ok(false)
     }
 
-    /// Arrives at a state, and goes on if it does not come again.
+    /// Arrives at a state, and goes on unless the path came back.
     #[cycle(go_on)]
     fn arrive(&mut self, next: StateId, moves: u16) -> Result<bool, AllocError> {
-        let comes_again = self.path.contains(&next);
+        let comes_back = self.path.first().copied() == Some(next);
+        let is_passed = self.path.contains(&next) || self.is_over(next);
+        if is_passed && !comes_back {
+            return Ok(false);
+        }
         self.path.push(next)?;
-        if comes_again {
+        if comes_back {
             return Ok(true);
         }
         if moves > 0 {
@@ -125,7 +180,18 @@ impl<'a> Rounds<'a> {
         Ok(false)
     }
 
-    /// Demands that a body leads from the last state to another one. Returns false if no world does alone.
+    /// A state that a body sets, by its number among them. The body is that of the last state of the path, or the one outside
+    /// any state.
+    fn target(&self, way: Way, index: usize) -> Option<StateId> {
+        let state = self.path.last()?;
+        let targets = match way {
+            Way::Own => self.targets.get(usize::from(state.0))?,
+            Way::Always => &self.always_targets,
+        };
+        targets.get(index).copied()
+    }
+
+    /// Demands that a body leads from the last state to another one. Returns false if it is the same state.
     fn lead(&mut self, way: Way, next: StateId) -> Result<bool, AllocError> {
         let Some(state) = self.path.last().copied() else {
             return Ok(false);
@@ -133,59 +199,51 @@ impl<'a> Rounds<'a> {
         let Some(part) = self.states.get(usize::from(state.0)) else {
             return Ok(false);
         };
-        let body = body_of(way, &part.body, self.always);
-        let aims = Demand::Aims(body, Aim::To(next));
-        if state.0 == next.0 || is_impossible(&self.all, aims) {
+        if state.0 == next.0 {
             return Ok(false);
         }
-        if matches!(way, Way::Always) {
-            self.demands.push(Demand::Silent(&part.body))?;
+        match way {
+            Way::Own => self.demands.push(Demand::Aims(&part.body, Aim::To(next)))?,
+            Way::Always => {
+                self.demands.push(Demand::Silent(&part.body))?;
+                self.demands.push(Demand::Aims(self.always, Aim::To(next)))?;
+            }
         }
-        self.demands.push(aims)?;
         Ok(true)
     }
 
-    /// Whether some worlds meet all demands. They are kept.
+    /// Whether some worlds meet all demands. They are kept. Each demand counts as a situation, since it costs as much.
     fn meets_all(&mut self) -> Result<bool, AllocError> {
         let mut worlds = Range::worlds(self.alloc, self.scope)?;
         let given = self.budget.each.min(self.budget.left);
         let search = find(self.demands.as_slice(), &mut worlds, given);
         self.budget.count(given, search);
+        let cost = u32::try_from(self.demands.len()).unwrap_or(u32::MAX);
+        self.budget.left = self.budget.left.saturating_sub(cost);
         self.worlds = worlds;
         Ok(search.extent.is_somewhere())
     }
 }
 
-/// The body of a way.
-fn body_of<'a>(way: Way, own: &'a PolicyBlock, always: &'a PolicyBlock) -> &'a PolicyBlock {
-    match way {
-        Way::Own => own,
-        Way::Always => always,
-    }
+/// The states that a block sets, each once.
+fn targets_of(alloc: Global, block: &PolicyBlock) -> Result<Vec<StateId>, AllocError> {
+    let mut targets = Vec::new(alloc);
+    put_targets(&mut targets, block)?;
+    Ok(targets)
 }
 
-/// Whether it is seen at once that no facts in a range meet a demand.
-fn is_impossible(range: &Range, demand: Demand<'_>) -> bool {
-    matches!(judge_all(range, &[demand]), Verdict::Known(false))
-}
-
-/// Searches for a round that begins at a state, or that evaluations from there lead to. Each test has a value. None if there
-/// is none, or if the budget ran out. Returns an error if an allocation fails.
-pub fn round_from(
-    alloc: Global,
-    policy: &Policy,
-    state: StateId,
-    budget: &mut Budget,
-) -> Result<Option<Round>, AllocError> {
-    let mut rounds = Rounds::start(alloc, policy, state, *budget)?;
-    let found = rounds.go_on(policy.counts().states)?;
-    *budget = rounds.budget;
-    if found {
-        Ok(Some(Round {
-            states: rounds.path,
-            worlds: rounds.worlds,
-        }))
-    } else {
-        Ok(None)
+/// Adds the states that a block sets, unless they are there.
+fn put_targets(targets: &mut Vec<StateId>, block: &PolicyBlock) -> Result<(), AllocError> {
+    for statement in block.statements() {
+        match statement {
+            Statement::Run(_) => {}
+            Statement::SetState(state) => {
+                if !targets.contains(state) {
+                    targets.push(*state)?;
+                }
+            }
+            Statement::If(_, inner) => put_targets(targets, inner)?,
+        }
     }
+    Ok(())
 }

@@ -1,9 +1,9 @@
 //! Searches for facts that meet demands.
 
-ghost use Rattle.std.specs.Prelude.{◌≡◌, ◌≤◌, Some, IfOk};
+ghost use Rattle.std.specs.Prelude.{◌≡◌, ◌≤◌, ◌-◌, Some, IfOk, min};
 ghost use Rattle.ifs_lint.specs.Asking.{meets_all, IsExtentOf, IsSearched};
 ghost use Rattle.ifs_lint.specs.Ranges.{choice_at, range_of, HasFacts};
-ghost use Rattle.ifs_lint.specs.inner.Searching.{is_somewhere, joined_extent, IsPartSearched};
+ghost use Rattle.ifs_lint.specs.inner.Searching.{is_somewhere, joined_extent, HasChoice, IsPartSearched};
 
 use crate::choices::{Ask, Choice};
 use crate::demands::Demand;
@@ -52,13 +52,14 @@ pub struct Search {
 }
 
 /// Searches a range for facts that meet all demands. If there are any, the range becomes a part of it that has facts,
-/// and all of these meet them. Otherwise the range stays. A search looks at `budget` situations at most, and is undecided if
-/// they are not enough. The range has facts. Does not allocate.
+/// and all of these meet them. Otherwise the range stays. A search looks at `budget` situations at most, and is undecided only
+/// if they are not enough. The range has facts. Does not allocate.
 #[cycle(find)]
 pub fn find(demands: &[Demand<'_>], range: &mut Range, budget: u32) -> Search
     requires { HasFacts (range_of range.old) }
     ensures extent { IsSearched (meets_all demands.now) (range_of range.old) (range_of range.new) result.extent }
     ensures left { result.left ≤ budget }
+    ensures undecided { result.extent ≡ Extent.Undecided → result.left ≡ 0 }
 {
     if budget == 0 {
         return Search {
@@ -83,9 +84,11 @@ pub fn find(demands: &[Demand<'_>], range: &mut Range, budget: u32) -> Search
 /// Searches both parts of a range: that with the value that is asked for, and that with all others.
 #[cycle(find)]
 fn split(demands: &[Demand<'_>], range: &mut Range, ask: Ask, budget: u32) -> Search
-    requires { HasFacts (range_of range.old) }
+    requires facts { HasFacts (range_of range.old) }
+    requires choice { HasChoice ask (range_of range.old) }
     ensures extent { IsSearched (meets_all demands.now) (range_of range.old) (range_of range.new) result.extent }
     ensures left { result.left ≤ budget }
+    ensures undecided { result.extent ≡ Extent.Undecided → result.left ≡ 0 }
 {
     let Some(choice) = range.choice(ask) else {
         return Search {
@@ -132,6 +135,7 @@ fn find_part(
     requires choice { choice_at ask (range_of range.old) ≡ Some choice }
     ensures extent { IsPartSearched (meets_all demands.now) ask part (range_of range.old) (range_of range.new) result.extent }
     ensures left { result.left ≤ budget }
+    ensures undecided { result.extent ≡ Extent.Undecided → result.left ≡ 0 }
 {
     if !part.has_one() {
         return Search {
@@ -170,7 +174,10 @@ impl Budget {
     };
 
     /// Counts a question that was given a number of situations.
-    pub(crate) fn count(&mut self, given: u32, search: Search) {
+    pub(crate) fn count(&mut self, given: u32, search: Search)
+        ensures left { self.new.left ≡ self.old.left - (given - search.left) }
+        ensures each { self.new.each ≡ self.old.each }
+    {
         self.left = self.left.saturating_sub(given.saturating_sub(search.left));
         self.questions = self.questions.saturating_add(1);
         if matches!(search.extent, Extent::Undecided) {
@@ -186,7 +193,9 @@ pub fn ask(
     demands: &[Demand<'_>],
     budget: &mut Budget,
 ) -> Result<Extent, AllocError>
-    ensures { IfOk result (λ extent. IsExtentOf scope (meets_all demands.now) extent) }
+    ensures extent { IfOk result (λ extent. IsExtentOf scope (meets_all demands.now) extent) }
+    // It is undecided only if it has looked at as many situations as it may.
+    ensures undecided { IfOk result (λ extent. extent ≡ Extent.Undecided → budget.new.left ≡ budget.old.left - min budget.old.each budget.old.left) }
 {
     let mut range = Range::full(alloc, scope)?;
     let given = budget.each.min(budget.left);

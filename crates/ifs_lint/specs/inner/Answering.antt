@@ -6,7 +6,7 @@ use Rattle.ifs_lint.specs.declared.searching.Extent.TheVariants.{Somewhere, Nowh
 
 -- Of a condition, by where it is true and where it is false.
 abbrev pub condition_answer : Extent → Extent → Answer
-condition_answer Nowhere Nowhere = answer.Unreached
+condition_answer Nowhere Nowhere = answer.Skipped
 condition_answer Nowhere Somewhere = answer.Never
 condition_answer Somewhere Nowhere = answer.Always
 condition_answer Somewhere Somewhere = answer.Used

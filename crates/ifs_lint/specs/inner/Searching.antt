@@ -1,12 +1,16 @@
 -- Searches in parts of a range.
-use Rattle.std.specs.Prelude.{◌≡◌, Bool, true, false}
+use Rattle.std.specs.Prelude.{◌≡◌, Bool, true, false, Some}
 use Rattle.ifs_base.specs.Facts.{Facts}
 use Rattle.ifs_lint.specs.declared.choices.Ask.{Ask}
 use Rattle.ifs_lint.specs.declared.choices.Choice.{Choice}
 use Rattle.ifs_lint.specs.declared.searching.Extent.{Extent}
 use Rattle.ifs_lint.specs.declared.searching.Extent.TheVariants.{Somewhere, Nowhere, Undecided}
-use Rattle.ifs_lint.specs.Ranges.{Range, HasFacts, with_choice}
+use Rattle.ifs_lint.specs.Ranges.{Range, HasFacts, choice_at, with_choice}
 use Rattle.ifs_lint.specs.Asking.{IsPart, IsThroughout}
+
+-- A fact has a choice in a range.
+abbrev pub HasChoice : Ask → Range → Type 0
+HasChoice ask range = (choice : Choice) × (choice_at ask range ≡ Some choice)
 
 -- Some facts pass.
 abbrev pub is_somewhere : Extent → Bool

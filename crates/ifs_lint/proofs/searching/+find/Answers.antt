@@ -1,9 +1,15 @@
 -- What is known of a range, and what the searches in its parts find.
-use Rattle.std.proofs.Common.{true, false, sym, refl, subst}
+use Rattle.std.proofs.Common.{true, false, sym, refl, subst, ◌∙◌, arith}
 use Rattle.ifs_lint.specs.Ranges.{range_of}
 use Rattle.ifs_lint.specs.Asking.{meets_all, IsSearched}
 use Rattle.ifs_lint.proofs.Splitting.{known_throughout, first_found, second_found, empty_part, searched_back}
+use Rattle.ifs_lint.proofs.Theres.{IsThere, all_there}
 use Rattle.ifs_lint.proofs.searching.+find.Goals as goal
+
+pub find-split-requires : goal.find-split-requires
+find-split-requires t c =
+    let range = range_of c.args.range.now in
+    (omega (arith, c.if-budget-eq0.false), (c.requires, subst (IsThere range) (sym c.judge_all.ensures ∙ c.in-Open.is) (all_there range c.args.demands.now)))
 
 pub find-returns-in-Known-true-clause-extent : goal.find-returns-in-Known-true-clause-extent
 find-returns-in-Known-true-clause-extent t c =

@@ -9,4 +9,4 @@ pub returns-in_ok-extent-in-None-clause-last : goal.returns-in_ok-extent-in-None
 returns-in_ok-extent-in-None-clause-last c =
     subst (λ others. IsLastOf c.args.scope c.args.demands.now.items others c.in_ok-extent-in-None.extent) (sym (ap others_of c.in-None.is))
     (last_alone c.args.scope c.args.demands.now.items c.in_ok-extent-in-None.extent
-    (subst (λ xs. IsExtentOf c.args.scope (meets_all xs) c.in_ok-extent-in-None.extent) c.as_slice.ensures.value c.in_ok-extent-in-None.ensures))
+    (subst (λ xs. IsExtentOf c.args.scope (meets_all xs) c.in_ok-extent-in-None.extent) c.as_slice.ensures.value c.in_ok-extent-in-None.ensures.extent))

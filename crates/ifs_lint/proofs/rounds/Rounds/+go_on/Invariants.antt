@@ -8,8 +8,8 @@ decreases-arrive l = 4 * l.moves
 abbrev pub decreases-move_by : goal.decreases-move_by
 decreases-move_by l = 4 * l.moves + 1
 
-abbrev pub decreases-move_to : goal.decreases-move_to
-decreases-move_to l = 4 * l.moves + 2
+abbrev pub decreases-go_by : goal.decreases-go_by
+decreases-go_by l = 4 * l.moves + 2
 
 abbrev pub decreases-go_on : goal.decreases-go_on
 decreases-go_on l = 4 * l.moves + 3
