@@ -21,3 +21,4 @@ mod texts;
 mod wording;
 
 pub use advising::{Until, notes, refusal};
+pub use reading::{Other, Policy, Spot};

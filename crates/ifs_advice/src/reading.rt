@@ -9,10 +9,10 @@ use ifs_report::{Part, Place};
 use std::alloc::{AllocError, Global};
 
 /// A policy with its lexemes, macros and tokens. It has no tokens if the text has none.
-pub(crate) struct Policy<'a> {
+pub struct Policy<'a> {
     pub text: &'a str,
-    pub lexemes: Vec<Found<'a>>,
-    pub macros: Vec<Macro<'a>>,
+    pub(crate) lexemes: Vec<Found<'a>>,
+    pub(crate) macros: Vec<Macro<'a>>,
     pub tokens: Vec<Token>,
 }
 
@@ -30,14 +30,14 @@ impl Drop for Policy<'_> {
 /// Where a token is, and another place: the use of the macro that brought it there, or its place in the value if it is
 /// the first token of that.
 #[derive(Clone, Copy)]
-pub(crate) struct Spot {
+pub struct Spot {
     pub place: Place,
     pub other: Option<Other>,
 }
 
 /// The other place of a token of a macro.
 #[derive(Clone, Copy)]
-pub(crate) enum Other {
+pub enum Other {
     /// The use of the macro.
     Use(Place),
     /// The value.
@@ -46,7 +46,7 @@ pub(crate) enum Other {
 
 impl Spot {
     /// The same, with the place of the use of the macro first.
-    pub fn at_use(self) -> Spot {
+    pub(crate) fn at_use(self) -> Spot {
         match self.other {
             Some(Other::Use(used)) => Spot {
                 place: used,
@@ -76,7 +76,7 @@ impl<'a> Policy<'a> {
     }
 
     /// The token with this number.
-    pub fn what(&self, index: usize) -> Option<&What> {
+    pub(crate) fn what(&self, index: usize) -> Option<&What> {
         match self.tokens.get(index) {
             Some(token) => Some(&token.what),
             None => None,
@@ -84,7 +84,7 @@ impl<'a> Policy<'a> {
     }
 
     /// The token with this number, if there is one.
-    pub fn what_at(&self, index: Option<usize>) -> Option<&What> {
+    pub(crate) fn what_at(&self, index: Option<usize>) -> Option<&What> {
         match index {
             Some(index) => self.what(index),
             None => None,
@@ -92,7 +92,7 @@ impl<'a> Policy<'a> {
     }
 
     /// The token before the one with this number.
-    pub fn what_before(&self, index: usize) -> Option<&What> {
+    pub(crate) fn what_before(&self, index: usize) -> Option<&What> {
         match index.checked_sub(1) {
             Some(before) => self.what(before),
             None => None,
@@ -117,8 +117,19 @@ impl<'a> Policy<'a> {
         Ok(spot_of(own, place, number))
     }
 
+    /// Whether the token with this number is the last one of a use of a macro, or none of a use.
+    pub fn ends_use(&self, index: usize) -> bool {
+        match (
+            self.tokens.get(index),
+            self.tokens.get(index.saturating_add(1)),
+        ) {
+            (Some(token), Some(next)) => token.span != next.span,
+            _ => true,
+        }
+    }
+
     /// The line of the token with this number, from 1, or that of the value of the macro that has it.
-    pub fn line(&self, alloc: Global, index: usize) -> Result<u32, AllocError> {
+    pub(crate) fn line(&self, alloc: Global, index: usize) -> Result<u32, AllocError> {
         match self.origin(alloc, index)? {
             Place::Text(part) => Ok(line_at(self.text, part.start)),
             _ => Ok(0),
@@ -135,7 +146,7 @@ impl<'a> Policy<'a> {
     }
 
     /// The place of the token with this number itself, in the text or in a value.
-    pub fn origin(&self, alloc: Global, index: usize) -> Result<Place, AllocError> {
+    pub(crate) fn origin(&self, alloc: Global, index: usize) -> Result<Place, AllocError> {
         let Spot { place, other } = self.spot(alloc, index)?;
         match other {
             Some(Other::Value(value)) => Ok(value),

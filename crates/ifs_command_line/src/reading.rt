@@ -5,7 +5,7 @@ use crate::parts::DEFINITION;
 use crate::requests::{Asked, Explain, Explained, Manner, Notes, Reports, Request, Send, Serve};
 use crate::words::{
     CHECK, COMMAND_LIMIT, ESCAPE, FILE, IMAGE, JSON, NO_WAIT, NOTES, QUIET, REQUEST, REQUESTS,
-    SOCKET, TEST_LIMIT, WAIT, command,
+    SOCKET, STRICT, TEST_LIMIT, WAIT, command,
 };
 use clap::error::ErrorKind;
 use clap::{ArgMatches, Command, Error};
@@ -115,6 +115,10 @@ fn asked_with<'a>(word: &str, operands: &ArgMatches<'a>) -> Option<Asked<'a>> {
     let image = operand_of(operands, IMAGE);
     Some(match word {
         "check" => Asked::Check { file },
+        "lint" => Asked::Lint {
+            file,
+            is_strict: operands.get_flag(STRICT),
+        },
         "compile" => Asked::Compile { file, image },
         "verify" => Asked::Verify { image: file },
         "disasm" => Asked::Disasm { image: file },

@@ -28,21 +28,46 @@ pub enum Asked<'a> {
     /// Without words: run a session whose first line is the image.
     Session,
     /// Check whether a file is a policy.
-    Check { file: &'a str },
+    Check {
+        file: &'a str,
+    },
+    /// Print the findings on the policy of a file.
+    Lint {
+        file: &'a str,
+        /// Whether the exit status says if there is one.
+        is_strict: bool,
+    },
     /// Compile the policy of a file, and write its image.
-    Compile { file: &'a str, image: &'a str },
+    Compile {
+        file: &'a str,
+        image: &'a str,
+    },
     /// Verify the image of a file.
-    Verify { image: &'a str },
+    Verify {
+        image: &'a str,
+    },
     /// Print the assembly text of the image of a file.
-    Disasm { image: &'a str },
+    Disasm {
+        image: &'a str,
+    },
     /// Assemble the text of a file, and write its image.
-    Asm { file: &'a str, image: &'a str },
+    Asm {
+        file: &'a str,
+        image: &'a str,
+    },
     /// Write the image of version 2 with the same content as the image of a file.
-    Upgrade { image: &'a str, upgraded: &'a str },
+    Upgrade {
+        image: &'a str,
+        upgraded: &'a str,
+    },
     /// Print the states of the policy of a file as a picture.
-    Graph { file: &'a str },
+    Graph {
+        file: &'a str,
+    },
     /// Run a session on the image of a file.
-    Sim { image: &'a str },
+    Sim {
+        image: &'a str,
+    },
     /// Run the daemon.
     Serve(Serve<'a>),
     /// Send a request to a daemon.

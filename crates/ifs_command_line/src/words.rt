@@ -46,6 +46,9 @@ pub(crate) const QUIET: &str = "quiet";
 /// The flag that asks for reports in JSON.
 pub(crate) const JSON: &str = "json";
 
+/// The flag that makes a finding a failure.
+pub(crate) const STRICT: &str = "strict";
+
 /// The help on the program.
 const ABOUT: &str =
     "Checks and compiles failover policies, and verifies and runs their images. Without words it reads an image as a line of hexadecimal digits and then request lines from standard input.";
@@ -115,12 +118,31 @@ const JSON_REPORTS: Part = Part::Flag {
     conflicts: &[],
 };
 
+/// Asks for findings in JSON.
+const JSON_FINDINGS: Part = Part::Flag {
+    id: JSON,
+    help: "print each finding as a JSON object on a line",
+    conflicts: &[],
+};
+
+/// Asks for status 1 if there is a finding.
+const STRICT_FINDINGS: Part = Part::Flag {
+    id: STRICT,
+    help: "end with status 1 if there is a warning, or a question that is not decided",
+    conflicts: &[],
+};
+
 /// The words, in the order of the help.
 const WORDS: &[Word] = &[
     Word {
         name: "check",
         about: "Check whether a file is a policy, with notes on what is easily misread",
         parts: &[TEXT, Part::Definitions, NO_REPORTS, JSON_REPORTS],
+    },
+    Word {
+        name: "lint",
+        about: "Print what can never happen in a policy: conditions, actions and states, with what makes it so",
+        parts: &[TEXT, Part::Definitions, STRICT_FINDINGS, JSON_FINDINGS],
     },
     Word {
         name: "compile",

@@ -12,6 +12,7 @@ mod answers;
 mod calls;
 mod failure;
 mod faults;
+mod findings;
 mod images;
 mod policies;
 mod readings;
@@ -43,7 +44,8 @@ fn all(rt: &HostRuntime) -> Result<(), Failure> {
 
 fn try_policies(rt: &HostRuntime) -> Result<(), Failure> {
     let given = policies::policy_given(rt.alloc())?;
-    policies::try_calls(rt, &given)
+    policies::try_calls(rt, &given)?;
+    findings::try_calls(rt)
 }
 
 fn try_images(rt: &HostRuntime, images: &Images) -> Result<(), Failure> {

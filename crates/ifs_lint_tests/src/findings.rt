@@ -1,7 +1,7 @@
 //! What is said of policies with one thing to find, and of some without any.
 
 use ifs_base::StateId;
-use ifs_lint::{Answer, Budget, Extent, StateAnswer, judge_places, judge_states, round_from};
+use ifs_lint::{Answer, Budget, Extent, Rounds, StateAnswer, judge_places, judge_states};
 use ifs_policy::{Policy, policy_of};
 use std::alloc::{AllocError, Global};
 use std::process::Abort;
@@ -10,7 +10,7 @@ use std::test::Fail;
 /// The letter of an answer.
 fn letter_of(answer: Answer) -> char {
     match answer {
-        Answer::Unreached => 'U',
+        Answer::Unreached | Answer::Skipped => 'U',
         Answer::Never => 'N',
         Answer::Always => 'A',
         Answer::Overruled => 'O',
@@ -176,13 +176,16 @@ fn letter_of_state(state: StateId) -> char {
     }
 }
 
-/// The letters of the states of a round from the first state. None if there is no round.
+/// The letters of the states of each round. None if there is no round.
 fn round_of(alloc: Global, policy: &Policy) -> Result<String, AllocError> {
     let mut budget = Budget::POLICY;
     let mut letters = String::new(alloc);
-    if let Some(round) = round_from(alloc, policy, StateId(0), &mut budget)? {
-        for state in round.states.as_slice() {
-            letters.push(letter_of_state(*state))?;
+    let mut rounds = Rounds::new(alloc, policy)?;
+    for number in 0..policy.counts().states {
+        if let Some(round) = rounds.round_at(StateId(number), &mut budget)? {
+            for state in round.states.as_slice() {
+                letters.push(letter_of_state(*state))?;
+            }
         }
     }
     Ok(letters)
@@ -213,7 +216,7 @@ fn rounds() -> [(&'static str, &'static str); 6] {
         ),
         (
             "state a { if e.link.up set-state b } state b { set-state c } state c { set-state b }",
-            "abcb",
+            "bcb",
         ),
         (
             "if e.link.up set-state b state a { } state b { set-state a }",

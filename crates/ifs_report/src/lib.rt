@@ -15,7 +15,7 @@ mod showing;
 mod spots;
 mod window;
 
-pub use objects::json;
+pub use objects::{json, json_with_requests};
 pub use places::position;
 pub use reports::{Label, Part, Place, Position, Report, Severity, Source};
-pub use showing::shown;
+pub use showing::{shown, shown_line};

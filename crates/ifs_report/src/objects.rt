@@ -7,13 +7,25 @@ use std::alloc::{AllocError, Global};
 
 /// Makes one JSON object of a report, on a line that ends with a newline.
 ///
-/// It has `file` as the user gave it, `severity` (`error` or `note`), `code`, `message`, `expected`, an array of texts, and
+/// It has `file` as the user gave it, `severity` (`error`, `warning` or `note`), `code`, `message`, `expected`, an array of texts, and
 /// `related`, an array of an object for each label, with its `message`. The report and each of these objects have `line`,
 /// `column`, `end_line` and `end_column` of their place, unless it is the file as a whole. `definition` is the name of a
 /// definition, whose columns count in its word `NAME=VALUE`. `rule` and `hint` are left out if they are empty.
 ///
 /// Whatever a terminal may act on is escaped. The only error is a failed allocation.
 pub fn json(alloc: Global, report: &Report, source: Source<'_>) -> Result<String, AllocError> {
+    json_with_requests(alloc, report, source, "")
+}
+
+/// Makes the same object with `requests`, an array of request lines, unless there are none.
+///
+/// The only error is a failed allocation.
+pub fn json_with_requests(
+    alloc: Global,
+    report: &Report,
+    source: Source<'_>,
+    requests: &str,
+) -> Result<String, AllocError> {
     let words = words_of(alloc, source.definitions)?;
     let texts = Texts {
         source,
@@ -21,7 +33,21 @@ pub fn json(alloc: Global, report: &Report, source: Source<'_>) -> Result<String
     };
     let mut text = String::new(alloc);
     put_report(&mut text, report, texts)?;
+    put_requests(&mut text, requests)?;
+    text.push_str("}\n")?;
     Ok(text)
+}
+
+/// Adds an array of the lines of a text, unless it is empty.
+fn put_requests(text: &mut String, requests: &str) -> Result<(), AllocError> {
+    if requests.is_empty() {
+        return Ok(());
+    }
+    text.push_str(",\"requests\":[")?;
+    for (index, line) in requests.trim_end().split('\n').enumerate() {
+        put_member(text, comma_before(index), line)?;
+    }
+    text.push(']')
 }
 
 fn put_report(text: &mut String, report: &Report, texts: Texts<'_>) -> Result<(), AllocError> {
@@ -33,13 +59,13 @@ fn put_report(text: &mut String, report: &Report, texts: Texts<'_>) -> Result<()
     put_expected(text, report.expected.as_slice())?;
     put_related(text, report.labels.as_slice(), texts)?;
     put_optional(text, ",\"rule\":", report.rule)?;
-    put_optional(text, ",\"hint\":", report.hint())?;
-    text.push_str("}\n")
+    put_optional(text, ",\"hint\":", report.hint())
 }
 
 fn severity_word(severity: Severity) -> &'static str {
     match severity {
         Severity::Error => "error",
+        Severity::Warning => "warning",
         Severity::Note => "note",
     }
 }

@@ -7,6 +7,7 @@ use std::alloc::{AllocError, Global};
 #[derive(Clone, Copy)]
 pub(crate) enum Style {
     Error,
+    Warning,
     Note,
     Message,
     Gutter,
@@ -19,6 +20,7 @@ impl Style {
     fn sequence(self) -> &'static str {
         match self {
             Style::Error => "\x1b[1;31m",
+            Style::Warning => "\x1b[1;35m",
             Style::Note => "\x1b[1;36m",
             Style::Message => "\x1b[1m",
             Style::Gutter => "\x1b[34m",

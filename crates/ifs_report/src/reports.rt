@@ -5,6 +5,8 @@
 pub enum Severity {
     /// The file is refused.
     Error,
+    /// The file is accepted, but has a defect.
+    Warning,
     /// The file is accepted, but looks wrong.
     Note,
 }
@@ -38,7 +40,7 @@ pub struct Label {
 #[derive(Debug, Drop)]
 pub struct Report {
     pub severity: Severity,
-    /// The code of the refusal, such as `P6`. It is empty for a note.
+    /// The code of the refusal, such as `P6`, or the kind of a finding, such as `never`. It is empty for a note.
     pub code: &'static str,
     pub place: Place,
     /// What is wrong, in one sentence without a full stop.

@@ -28,6 +28,30 @@ pub fn shown(
     Ok(page.text)
 }
 
+/// Makes the first line of the text of a report, without colours: its place and its message. It ends with a newline.
+///
+/// The only error is a failed allocation.
+pub fn shown_line(
+    alloc: Global,
+    report: &Report,
+    source: Source<'_>,
+) -> Result<String, AllocError> {
+    let words = words_of(alloc, source.definitions)?;
+    let texts = Texts {
+        source,
+        words: words.as_slice(),
+    };
+    let mut page = Page::new(alloc, false);
+    put_place(
+        &mut page,
+        report.place,
+        source.name,
+        texts.line(report.place),
+    )?;
+    put_message(&mut page, report)?;
+    Ok(page.text)
+}
+
 fn put_report(
     alloc: Global,
     page: &mut Page,
@@ -106,6 +130,7 @@ fn put_position(text: &mut String, is_defined: bool, start: Position) -> Result<
 fn put_message(page: &mut Page, report: &Report) -> Result<(), AllocError> {
     let (style, word) = match report.severity {
         Severity::Error => (Style::Error, "error:"),
+        Severity::Warning => (Style::Warning, "warning:"),
         Severity::Note => (Style::Note, "note:"),
     };
     page.put_styled(style, word)?;

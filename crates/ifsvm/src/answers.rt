@@ -57,7 +57,7 @@ impl<'a> Job<'a> {
     }
 
     /// The bytes of the file.
-    fn input(self, rt: &HostRuntime) -> Result<Vec<u8>, Failure<'a>> {
+    pub fn input(self, rt: &HostRuntime) -> Result<Vec<u8>, Failure<'a>> {
         let (name, input) = if self.file == INPUT {
             ("standard input", whole(rt.alloc(), rt.stdin()))
         } else {
@@ -69,7 +69,8 @@ impl<'a> Job<'a> {
         }
     }
 
-    fn answered(
+    /// Does the task on these bytes of the file.
+    pub fn answered(
         self,
         rt: &HostRuntime,
         input: &[u8],

@@ -7,6 +7,7 @@
 
 mod answers;
 mod daemons;
+mod findings;
 mod reporting;
 
 use answers::{Beside, Job};
@@ -71,6 +72,7 @@ fn done<'a>(rt: &HostRuntime, asked: Asked<'a>, beside: Beside<'_>) -> Result<()
     match asked {
         Asked::Session => sessions::by_hexadecimal(rt),
         Asked::Check { file } => Job::reading(Task::Check, file).done(rt, beside),
+        Asked::Lint { file, is_strict } => findings::told(rt, file, is_strict, beside),
         Asked::Compile { file, image } => Job::writing(Task::Compile, file, image).done(rt, beside),
         Asked::Verify { image } => Job::reading(Task::Verify, image).done(rt, beside),
         Asked::Disasm { image } => Job::reading(Task::Disasm, image).done(rt, beside),
