@@ -10,7 +10,9 @@ OF_POLICY = ("check", "graph", "compile")
 OF_IMAGE = ("image", "verify", "disasm", "code", "upgrade", "session")
 # the sections that run_slips looks at
 OF_SLIP = ("slip", "report")
-WORDS = ("like", "define", *GIVEN, *OF_POLICY, "asm", *OF_IMAGE, *OF_SLIP)
+# the section that run_findings looks at
+OF_FINDINGS = ("defects",)
+WORDS = ("like", "define", *GIVEN, *OF_POLICY, "asm", *OF_IMAGE, *OF_SLIP, *OF_FINDINGS)
 FLAGS = ("cut", "escaped", "repeated", "numbered")
 LINE_ENDS = b"line ends: "
 Given = collections.namedtuple("Given", "kind text defines")
