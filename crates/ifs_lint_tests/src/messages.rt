@@ -44,7 +44,7 @@ fn a_condition_that_contradicts(rt: HostRuntime) -> Result<(), Fail> {
     check(
         &rt,
         rt.alloc(),
-        "state a { if em0.link.up { if em0.link.down set-state b } if em0.link.down set-state b } state b { set-state a }",
+        "state a { if em0.link.up { if em0.link.down set-state b } if em0.link.down set-state b } state b { if em0.link.up set-state a }",
         "never: `em0.link.down` is never true here, since `em0.link.up` holds (1:14)\nunreached: this `set-state` is never reached: it needs `em0.link.up` (1:14) and `em0.link.down` (1:31)\n",
     )
 }
