@@ -20,7 +20,8 @@ use std::alloc::{AllocError, Global};
 pub struct Linted {
     /// Of conditions, operands, `run`s and `set-state`s. Each is a question.
     pub places: Said,
-    /// Of states. Two questions are asked of each: whether it is entered, and whether it is left.
+    /// Of states. Two questions are asked of each: whether it is entered, and whether it is left. Those that are not decided of
+    /// one state count once.
     pub states: Said,
     /// Of rounds. Each state that is entered is a question: whether a round begins there.
     pub rounds: Said,
