@@ -75,7 +75,7 @@ def intersection(everything, sets):
 
 
 class Lint:
-    """The findings on a policy: the kind of each, in the order of the places and then of the states."""
+    """The findings on a policy: the kind of each, in the order of the places and then of the states; and whether there is a round."""
 
     def __init__(self, policy):
         self.policy, self.facts, self.found = policy, Facts(policy), []
@@ -133,19 +133,34 @@ class Lint:
         leads = [self.leads(part.body) for part in self.policy.parts]
         entered, pending = {self.policy.initial}, [self.policy.initial]
         while pending:
-            new = leads[pending.pop()] - entered
+            new = leads[pending.pop()].keys() - entered
             entered |= new
             pending += new
         for state, others in enumerate(leads):
             if state not in entered:
                 self.found.append("never-entered")
-            if not others - {state}:
+            if not others.keys() - {state}:
                 self.found.append("never-left")
+        self.has_round = self.goes_round(entered, leads)
 
     def leads(self, body):
-        """The states that evaluations with this body wish for."""
+        """For each state that evaluations with this body wish for, the facts in which they do."""
         always = self.policy.always.body
         wishes = self.facts.wishes(body, self.facts.free(body))
         silent = self.facts.all & ~union(wishes.values())
-        earlier = self.facts.wishes(always, self.facts.free(always))
-        return {state for state, facts in wishes.items() if facts} | {state for state, facts in earlier.items() if facts & silent}
+        for state, facts in self.facts.wishes(always, self.facts.free(always)).items():
+            wishes[state] = wishes.get(state, 0) | facts & silent
+        return {state: facts for state, facts in wishes.items() if facts}
+
+    def goes_round(self, entered, leads):
+        """Whether in some world a state that is entered leads to another one, and so on for ever. In a world each test has a value."""
+        worlds = intersection(self.facts.all, [self.facts.all & ~values[0] for values in self.facts.tests])
+        here = {state: worlds for state in entered}
+        for _ in leads:
+            there = {}
+            for state, facts in here.items():
+                for other, led in leads[state].items():
+                    if other != state:
+                        there[other] = there.get(other, 0) | facts & led
+            here = there
+        return union(here.values()) != 0

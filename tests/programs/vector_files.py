@@ -10,8 +10,8 @@ OF_POLICY = ("check", "graph", "compile")
 OF_IMAGE = ("image", "verify", "disasm", "code", "upgrade", "session")
 # the sections that run_slips looks at
 OF_SLIP = ("slip", "report")
-# the section that run_findings looks at
-OF_FINDINGS = ("defects",)
+# the sections that run_findings looks at
+OF_FINDINGS = ("defects", "lint")
 WORDS = ("like", "define", *GIVEN, *OF_POLICY, "asm", *OF_IMAGE, *OF_SLIP, *OF_FINDINGS)
 FLAGS = ("cut", "escaped", "repeated", "numbered")
 LINE_ENDS = b"line ends: "

@@ -1,5 +1,6 @@
 //! Rounds of states that hand over to each other for ever in one world, each made on a core before it is reported.
 
+use crate::budgets::budget_of;
 use crate::playing::{Move, Play, number_of};
 use crate::worlds::World;
 use ifs_base::{IfaceId, LinkState, StateId};
@@ -15,6 +16,9 @@ const ROUNDS: Budget = Budget {
     questions: 0,
     undecided: 0,
 };
+
+/// The most moves of all cores together.
+const PLAYED: usize = 100_000;
 
 /// How often a way from the opening to a round is looked for.
 const WALKS: u64 = 40;
@@ -45,7 +49,7 @@ pub(crate) struct Flaps {
 
 impl Flaps {
     /// Makes a round on a core.
-    fn replay(&mut self, stage: Stage<'_, '_>, round: Round) -> Result<(), AllocError> {
+    fn replay(&mut self, stage: &mut Stage<'_, '_>, round: Round) -> Result<(), AllocError> {
         match stage.flap(&round)? {
             Some(made) => self.keep(made, round),
             None => {
@@ -75,13 +79,15 @@ impl Flaps {
 }
 
 /// A policy with its image.
-#[derive(Clone, Copy)]
+#[derive(Drop)]
 struct Stage<'p, 'i> {
     alloc: Global,
     policy: &'p Policy,
     image: &'i [u8],
     /// How many seconds a core is looked at in a world.
     seconds: usize,
+    /// How many moves cores may still make.
+    left: usize,
 }
 
 /// What a core did: the states of a round, and the request lines.
@@ -111,37 +117,82 @@ impl Chance {
 }
 
 impl<'p, 'i> Stage<'p, 'i> {
-    /// A round that a core makes in a world after some moves, if it does.
-    fn made(self, moves: &[Move], world: &World) -> Result<Option<Made>, AllocError> {
-        let Some(mut play) = Play::open(self.alloc, self.policy, self.image)? else {
+    /// A round that a core makes in a world after some moves, if it does and may.
+    fn made(&mut self, moves: &[Move], world: &World) -> Result<Option<Made>, AllocError> {
+        let cost = moves.len().saturating_add(self.seconds);
+        if self.left < cost {
             return Ok(None);
-        };
+        }
+        self.left -= cost;
+        self.played(moves, world)
+    }
+
+    /// A round that a core makes in a world after some moves, if it does.
+    fn played(&self, moves: &[Move], world: &World) -> Result<Option<Made>, AllocError> {
+        match Play::open(self.alloc, self.policy, self.image)? {
+            Some(play) => {
+                let mut play = play;
+                let made = self.round_by(&mut play, moves, world);
+                play.end();
+                made
+            }
+            None => Ok(None),
+        }
+    }
+
+    /// The round that a core makes.
+    fn round_by(
+        &self,
+        play: &mut Play<'_, '_>,
+        moves: &[Move],
+        world: &World,
+    ) -> Result<Option<Made>, AllocError> {
         for happens in moves {
             play.make(*happens)?;
         }
-        let Some(length) = world.round_of(&mut play, self.seconds)? else {
-            return Ok(None);
-        };
+        match world.round_of(play, self.seconds)? {
+            Some(length) => self.made_by(play, length),
+            None => Ok(None),
+        }
+    }
+
+    /// The round of so many states that a core made last.
+    fn made_by(&self, play: &mut Play<'_, '_>, length: usize) -> Result<Option<Made>, AllocError> {
         let entered = play.entered();
         let start = entered.len().saturating_sub(length);
-        let round = entered.get(start..).unwrap_or(entered);
+        let states = from_first(self.alloc, entered.get(start..).unwrap_or(entered))?;
         Ok(Some(Made {
-            states: from_first(self.alloc, round)?,
-            requests: play.into_requests(),
+            states,
+            requests: play.take_requests(self.alloc),
         }))
     }
 
     /// Moves by chance from the opening to a state, or as many as a way may have.
-    fn walk(self, chance: &mut Chance, state: StateId) -> Result<Vec<Move>, AllocError> {
+    fn walk(&self, chance: &mut Chance, state: StateId) -> Result<Vec<Move>, AllocError> {
+        match Play::open(self.alloc, self.policy, self.image)? {
+            Some(play) => {
+                let mut play = play;
+                let moves = self.walk_by(&mut play, chance, state);
+                play.end();
+                moves
+            }
+            None => Ok(Vec::new(self.alloc)),
+        }
+    }
+
+    /// The same moves of a core.
+    fn walk_by(
+        &self,
+        play: &mut Play<'_, '_>,
+        chance: &mut Chance,
+        state: StateId,
+    ) -> Result<Vec<Move>, AllocError> {
         let mut moves = Vec::new(self.alloc);
-        let Some(mut play) = Play::open(self.alloc, self.policy, self.image)? else {
-            return Ok(moves);
-        };
         for _ in 0..MOVES {
             if play.state() == state {
                 break;
             }
-            let happens = self.move_by(chance, &play);
+            let happens = self.move_by(chance, play);
             play.make(happens)?;
             moves.push(happens)?;
         }
@@ -149,7 +200,7 @@ impl<'p, 'i> Stage<'p, 'i> {
     }
 
     /// Some move.
-    fn move_by(self, chance: &mut Chance, play: &Play<'_, '_>) -> Move {
+    fn move_by(&self, chance: &mut Chance, play: &Play<'_, '_>) -> Move {
         let links = usize::from(self.policy.counts().interfaces);
         let runs = play.runs();
         let kind = chance.below(10);
@@ -168,26 +219,53 @@ impl<'p, 'i> Stage<'p, 'i> {
     }
 
     /// The round of a range of worlds that begins at a state, made on a core, with as few moves before it as were found.
-    fn flap(self, round: &Round) -> Result<Option<Made>, AllocError> {
+    fn flap(&mut self, round: &Round) -> Result<Option<Made>, AllocError> {
         let world = World::of(self.alloc, &round.worlds)?;
-        let none = Vec::new(self.alloc);
-        if let Some(made) = self.made(none.as_slice(), &world)? {
-            return Ok(Some(made));
+        match round.states.first() {
+            Some(first) => self.flap_in(&world, *first),
+            None => Ok(None),
         }
-        let Some(first) = round.states.first().copied() else {
-            return Ok(None);
-        };
+    }
+
+    /// The round in a world that begins at a state.
+    fn flap_in(&mut self, world: &World, first: StateId) -> Result<Option<Made>, AllocError> {
+        let made = self.made(&[], world)?;
+        if made.is_some() {
+            return Ok(made);
+        }
         for number in 0..WALKS {
-            let moves = self.walk(&mut Chance { state: number }, first)?;
-            if let Some(made) = self.made(moves.as_slice(), &world)? {
-                return Ok(Some(self.shortened(moves, made, &world)?));
+            if self.left < self.seconds {
+                break;
+            }
+            let made = self.flap_by(&mut Chance { state: number }, world, first)?;
+            if made.is_some() {
+                return Ok(made);
             }
         }
         Ok(None)
     }
 
+    /// The round after a walk by chance, if a core makes it then.
+    fn flap_by(
+        &mut self,
+        chance: &mut Chance,
+        world: &World,
+        first: StateId,
+    ) -> Result<Option<Made>, AllocError> {
+        let moves = self.walk(chance, first)?;
+        match self.made(moves.as_slice(), world)? {
+            Some(made) => Ok(Some(self.shortened(moves, made, world)?)),
+            None => Ok(None),
+        }
+    }
+
     /// The same round without moves that it does not need.
-    fn shortened(self, moves: Vec<Move>, made: Made, world: &World) -> Result<Made, AllocError> {
+    fn shortened(
+        &mut self,
+        moves: Vec<Move>,
+        made: Made,
+        world: &World,
+    ) -> Result<Made, AllocError> {
         let (mut kept, mut best) = (moves, made);
         for place in (0..kept.len()).rev() {
             let fewer = without(self.alloc, kept.as_slice(), place)?;
@@ -258,31 +336,42 @@ pub(crate) fn flaps_of(
     states: &[StateAnswer],
 ) -> Result<Flaps, AllocError> {
     let image = image_of(alloc, text, definitions)?;
-    let stage = Stage {
+    let mut stage = Stage {
         alloc,
         policy,
         image: image.as_slice(),
         seconds: states.len().saturating_mul(4).saturating_add(8).min(1024),
+        left: PLAYED,
     };
     let mut flaps = Flaps {
         found: Vec::new(alloc),
         asked: 0,
         undecided: 0,
     };
-    let mut budget = ROUNDS;
-    let mut rounds = Rounds::new(alloc, policy)?;
+    look_at_all(&mut stage, states, &mut flaps)?;
+    Ok(flaps)
+}
+
+/// Looks for a round from each state that is entered.
+fn look_at_all(
+    stage: &mut Stage<'_, '_>,
+    states: &[StateAnswer],
+    flaps: &mut Flaps,
+) -> Result<(), AllocError> {
+    let mut budget = budget_of(stage.policy, ROUNDS);
+    let mut rounds = Rounds::new(stage.alloc, stage.policy)?;
     for (number, answer) in states.iter().enumerate() {
         let state = StateId(number_of(number));
         if answer.entered == Extent::Somewhere {
-            look(stage, &mut rounds, state, &mut budget, &mut flaps)?;
+            look(stage, &mut rounds, state, &mut budget, flaps)?;
         }
     }
-    Ok(flaps)
+    Ok(())
 }
 
 /// Looks for a round from a state.
 fn look(
-    stage: Stage<'_, '_>,
+    stage: &mut Stage<'_, '_>,
     rounds: &mut Rounds<'_>,
     state: StateId,
     budget: &mut Budget,

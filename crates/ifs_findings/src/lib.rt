@@ -2,6 +2,7 @@
 //! so, and words.
 #![tactic(auto)]
 
+mod budgets;
 mod finding;
 mod flaps;
 mod joining;

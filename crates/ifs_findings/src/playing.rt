@@ -6,6 +6,7 @@ use ifs_policy::Policy;
 use ifs_sched::Start;
 use ifs_verify::{VerifyFault, verify};
 use std::alloc::{AllocError, Global};
+use std::mem::replace;
 
 /// The most commands of a queue.
 const PLACES: usize = 64;
@@ -91,24 +92,20 @@ impl<'i, 'p> Play<'i, 'p> {
         self.runs.as_slice()
     }
 
-    /// The request lines of all steps.
-    pub fn into_requests(self) -> String {
-        let Play {
-            policy: _policy,
-            core: _core,
-            runs: _runs,
-            entered: _entered,
-            requests,
-        } = self;
-        requests
+    /// The request lines of all steps, which it keeps no longer.
+    pub fn take_requests(&mut self, alloc: Global) -> String {
+        replace(&mut self.requests, String::new(alloc))
     }
+
+    /// Ends it.
+    pub fn end(self) {}
 
     /// Makes the step of what happens. Nothing does if a link is in its state already, or a test does not run.
     pub fn make(&mut self, happens: Move) -> Result<(), AllocError> {
         match happens {
             Move::Link(interface, state) => self.link(interface, state),
             Move::Wait(seconds) => self.wait(seconds),
-            Move::End(test, value) => self.end(test, value),
+            Move::End(test, value) => self.finish(test, value),
         }
     }
 
@@ -135,7 +132,7 @@ impl<'i, 'p> Play<'i, 'p> {
         write!(self.requests, "tick {moment}\n")
     }
 
-    fn end(&mut self, test: TestId, value: bool) -> Result<(), AllocError> {
+    fn finish(&mut self, test: TestId, value: bool) -> Result<(), AllocError> {
         let Some(run) = self.take_run(test) else {
             return Ok(());
         };
