@@ -1,6 +1,6 @@
 # make run     builds the proved program and makes the first run
 # make try     runs the program unproved, on the first run and one example: a minute and a half
-# make test    the gate: every proof from nothing, must-fail edits, tests, the program's runs, the examples
+# make test    the gate: every proof from nothing, mutants, tests, the program's runs, the examples
 # make plants  tries further mutants; of one crate by CRATE=NAME
 # make mutants  lists all mutants, each with what it breaks; of one crate by CRATE=NAME
 # make bench   times the proved program, and tells its memory and its machine instructions; tools/bench --help says more

@@ -168,7 +168,10 @@ fn put_value<'m, 'n>(
         home: Some(home),
     };
     put_notes(alloc, notes, run)?;
-    put_note(alloc, notes, known, doubt_of_value(run.lexemes, home))
+    if let Some(doubted) = doubt_of_value(run.lexemes, home) {
+        notes.push(note_on(alloc, known, doubted)?)?;
+    }
+    Ok(())
 }
 
 /// Adds the notes on lexemes, up to the most. The value of a macro is a text of its own.
@@ -186,26 +189,15 @@ fn put_notes(
             skipped -= 1;
         } else {
             let rest = behind(run.lexemes, index);
-            put_note(alloc, notes, run.known, doubt_at(run, first, rest))?;
+            if let Some(doubted) = doubt_at(run, first, rest) {
+                notes.push(note_on(alloc, run.known, doubted)?)?;
+            }
             skipped = if value_of(first, rest).is_some() {
                 2
             } else {
                 0
             };
         }
-    }
-    Ok(())
-}
-
-/// Adds the note on a doubt, if there is one.
-fn put_note(
-    alloc: Global,
-    notes: &mut Vec<Report>,
-    known: Known<'_, '_, '_>,
-    doubted: Option<Doubted<'_>>,
-) -> Result<(), AllocError> {
-    if let Some(doubted) = doubted {
-        notes.push(note_on(alloc, known, doubted)?)?;
     }
     Ok(())
 }
@@ -367,9 +359,9 @@ fn doubt_inside<'f>(
     from: usize,
     inside: &'f str,
 ) -> Option<Doubted<'f>> {
-    let (offset, length, doubt) = match macro_in(run, inside) {
-        Some((offset, name)) => (offset, name.len().saturating_add(1), Doubt::Variable(name)),
-        None => (newline_in(inside)?, 2, Doubt::Newline),
+    let (offset, length, doubt) = match sign_in(run, inside)? {
+        (offset, Some(name)) => (offset, name.len().saturating_add(1), Doubt::Variable(name)),
+        (offset, None) => (offset, 2, Doubt::Newline),
     };
     let start = from.saturating_add(offset);
     let part = Part {
@@ -382,29 +374,45 @@ fn doubt_inside<'f>(
     })
 }
 
-/// The first `$NAME` in a text where a macro has that name, with its offset.
-fn macro_in<'t>(run: Run<'_, '_, '_, '_, '_>, text: &'t str) -> Option<(usize, &'t str)> {
+/// The first `$NAME` in a text where a macro has that name, with its offset. Else the offset of the first backslash with an `n`
+/// behind it, if no program reads it.
+fn sign_in<'t>(run: Run<'_, '_, '_, '_, '_>, text: &'t str) -> Option<(usize, Option<&'t str>)> {
+    let mut newline = None;
+    let mut is_escape = false;
     for (offset, byte) in text.bytes().enumerate() {
-        if byte == b'$'
-            && let Some(name) = name_behind(text, offset)
-            && run.known.is_macro(name)
-        {
-            return Some((offset, name));
+        match byte {
+            b'$' => {
+                if let Some(name) = macro_behind(run, text, offset) {
+                    return Some((offset, Some(name)));
+                }
+            }
+            b'n' if is_escape && newline.is_none() => newline = Some(offset.saturating_sub(1)),
+            _ => {}
         }
+        is_escape = byte == b'\\';
     }
-    None
+    let offset = newline?;
+    if has_reader(text) {
+        None
+    } else {
+        Some((offset, None))
+    }
+}
+
+/// The name behind the `$` at an offset, if a macro has it.
+fn macro_behind<'t>(run: Run<'_, '_, '_, '_, '_>, text: &'t str, offset: usize) -> Option<&'t str> {
+    let name = name_behind(text, offset)?;
+    if run.known.is_macro(name) {
+        Some(name)
+    } else {
+        None
+    }
 }
 
 /// The name behind the `$` at an offset.
 fn name_behind(text: &str, offset: usize) -> Option<&str> {
     let rest = text.get(offset.saturating_add(1)..)?;
     rest.get(..length_of_front(rest, ByteKind::OfName))
-}
-
-/// The offset of the first backslash with an `n` behind it, if no program reads it.
-fn newline_in(text: &str) -> Option<usize> {
-    let offset = text.find("\\n")?;
-    if has_reader(text) { None } else { Some(offset) }
 }
 
 /// Whether a text has the name of a program that reads backslashes.

@@ -4,12 +4,29 @@ use ifs_lint::Budget;
 use ifs_parse::{Condition, Node, Statement};
 use ifs_policy::{Handlers, Policy, PolicyBlock, Single};
 
-/// How many parts of conditions and blocks the questions with one budget may look at: those of some tenths of a second.
-const PARTS: usize = 10_000_000;
+/// How many parts of conditions and blocks questions may look at. All together take less than a second.
+pub(crate) enum Parts {
+    /// Those on places and states.
+    Answers,
+    /// Those on causes.
+    Causes,
+    /// Those on rounds.
+    Rounds,
+}
 
-/// A budget, or a part of it if a situation of this policy has many parts to look at.
-pub(crate) fn budget_of(policy: &Policy, budget: Budget) -> Budget {
-    let situations = PARTS.checked_div(most_parts(policy)).unwrap_or(PARTS);
+impl Parts {
+    fn most(self) -> usize {
+        match self {
+            Parts::Answers => 10_000_000,
+            Parts::Causes | Parts::Rounds => 3_000_000,
+        }
+    }
+}
+
+/// A budget, or a share of it if a situation of this policy has many parts to look at.
+pub(crate) fn budget_of(policy: &Policy, budget: Budget, parts: Parts) -> Budget {
+    let most = parts.most();
+    let situations = most.checked_div(most_parts(policy)).unwrap_or(most);
     let left = u32::try_from(situations)
         .unwrap_or(u32::MAX)
         .min(budget.left);

@@ -1,6 +1,6 @@
 //! Rounds of states that hand over to each other for ever in one world, each made on a core before it is reported.
 
-use crate::budgets::budget_of;
+use crate::budgets::{Parts, budget_of};
 use crate::playing::{Move, Play, number_of};
 use crate::worlds::World;
 use ifs_base::{IfaceId, LinkState, StateId};
@@ -358,7 +358,7 @@ fn look_at_all(
     states: &[StateAnswer],
     flaps: &mut Flaps,
 ) -> Result<(), AllocError> {
-    let mut budget = budget_of(stage.policy, ROUNDS);
+    let mut budget = budget_of(stage.policy, ROUNDS, Parts::Rounds);
     let mut rounds = Rounds::new(stage.alloc, stage.policy)?;
     for (number, answer) in states.iter().enumerate() {
         let state = StateId(number_of(number));

@@ -5,7 +5,7 @@ ghost use Rattle.std.specs.List.{flat_map};
 ghost use Rattle.ifs_findings.specs.Kinds.{is_defect, is_nowhere, is_open, kinds_at, kinds_in, kinds_of_place, kinds_of_state, is_open_extent, is_open_state};
 ghost use Rattle.ifs_findings.specs.Told.{SaysPlaces, SaysStates, Tells};
 
-use crate::budgets::budget_of;
+use crate::budgets::{Parts, budget_of};
 use crate::finding::{Finding, Said};
 use crate::flaps::{Flaps, flaps_of};
 use crate::marked::Marked;
@@ -245,7 +245,7 @@ pub fn lint<'a>(
     // The findings on places and states are those that right answers name, in order.
     ensures { IfOk result (Tells policy.now) }
 {
-    let mut budget = budget_of(policy, Budget::POLICY);
+    let mut budget = budget_of(policy, Budget::POLICY, Parts::Answers);
     let answers = judge_places(alloc, policy, &mut budget)?;
     let states = judge_states(alloc, policy, &mut budget)?;
     let marked = Marked::read(alloc, text, definitions)?;

@@ -1,6 +1,6 @@
 //! What makes an answer so: which conditions lead to a place, and which of these suffice.
 
-use crate::budgets::budget_of;
+use crate::budgets::{Parts, budget_of};
 use ifs_lint::{Answer, Budget, Demand, Extent, Scope, ask};
 use ifs_parse::{Condition, Node, Statement};
 use ifs_policy::{Handlers, Policy, PolicyBlock, Single};
@@ -335,7 +335,7 @@ pub(crate) fn reasons_of(
         place: 0,
         context: Vec::new(alloc),
         pending: Vec::new(alloc),
-        budget: budget_of(policy, Budget::POLICY),
+        budget: budget_of(policy, Budget::POLICY, Parts::Causes),
         reasons: Vec::new(alloc),
     };
     walk.part(policy.always())?;

@@ -1,7 +1,9 @@
 //! Ranges of facts.
 
+ghost use Rattle.std.specs.Bool.{OnTrue};
+ghost use Rattle.std.specs.List.{list_all};
 ghost use Rattle.std.specs.Prelude.{◌≡◌, slice_get, slice_set, IfOk};
-ghost use Rattle.ifs_lint.specs.Ranges.{choice_at, full_range, range_of, scope_of, with_choice, HasFacts};
+ghost use Rattle.ifs_lint.specs.Ranges.{choice_at, full_range, has_one, range_of, scope_of, with_choice, HasFacts};
 
 use crate::choices::{Ask, Choice};
 use ifs_policy::Policy;
@@ -56,6 +58,24 @@ impl Range {
         Ok(Range { links, tests })
     }
 
+    /// The same range. Returns an error if an allocation fails.
+    pub(crate) fn copied(&self, alloc: Global) -> Result<Range, AllocError>
+        ensures { IfOk result (λ range. range_of range ≡ range_of self.now) }
+    {
+        let mut links = Vec::new(alloc);
+        links.extend_from_slice(self.links.as_slice())?;
+        let mut tests = Vec::new(alloc);
+        tests.extend_from_slice(self.tests.as_slice())?;
+        Ok(Range { links, tests })
+    }
+
+    /// Whether some facts are within the range.
+    pub(crate) fn has_facts(&self) -> bool
+        ensures { OnTrue result (HasFacts (range_of self.now)) }
+    {
+        have_values(self.links.as_slice()) && have_values(self.tests.as_slice())
+    }
+
     /// The choice at a place. None if there is no such link or test.
     pub(crate) fn choice(&self, ask: Ask) -> Option<Choice>
         ensures { result ≡ choice_at ask (range_of self.now) }
@@ -83,6 +103,18 @@ impl Range {
             ),
         }
     }
+}
+
+/// Whether each choice has a value.
+fn have_values(choices: &[Choice]) -> bool
+    ensures { result ≡ list_all has_one choices.now }
+{
+    for choice in choices {
+        if !choice.has_one() {
+            return false;
+        }
+    }
+    true
 }
 
 /// A member, if there is one.

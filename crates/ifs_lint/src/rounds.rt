@@ -87,6 +87,7 @@ impl<'a> Rounds<'a> {
             return Ok(None);
         }
         self.demands.clear();
+        self.worlds = Range::worlds(self.alloc, self.scope)?;
         self.path.clear();
         self.path.push(state)?;
         self.budget = *budget;
@@ -149,7 +150,7 @@ impl<'a> Rounds<'a> {
     fn move_by(&mut self, way: Way, next: StateId, moves: u16) -> Result<bool, AllocError> {
         let depth = self.demands.len();
         if self.lead(way, next)? {
-            if self.meets_all()? {
+            if self.meets_all(depth)? {
                 if self.arrive(next, moves)? {
                     return Ok(true);
                 }
@@ -212,16 +213,35 @@ impl<'a> Rounds<'a> {
         Ok(true)
     }
 
-    /// Whether some worlds meet all demands. They are kept. Each demand counts as a situation, since it costs as much.
-    fn meets_all(&mut self) -> Result<bool, AllocError> {
-        let mut worlds = Range::worlds(self.alloc, self.scope)?;
-        let given = self.budget.each.min(self.budget.left);
-        let search = find(self.demands.as_slice(), &mut worlds, given);
+    /// Whether some worlds meet all demands. They are kept. Those so far meet all demands but the newest, so they are looked at
+    /// first.
+    fn meets_all(&mut self, depth: usize) -> Result<bool, AllocError> {
+        let worlds = self.worlds.copied(self.alloc)?;
+        if self.meets_from(depth, worlds) {
+            return Ok(true);
+        }
+        let worlds = Range::worlds(self.alloc, self.scope)?;
+        Ok(self.meets_from(0, worlds))
+    }
+
+    /// Whether some of these worlds meet the demands from one on. They are kept. A situation costs as much as there are demands.
+    fn meets_from(&mut self, depth: usize, worlds: Range) -> bool {
+        let mut worlds = worlds;
+        let demands = self.demands.get(depth..).unwrap_or(&[]);
+        let cost = u32::try_from(demands.len()).unwrap_or(u32::MAX).max(1);
+        let given = self
+            .budget
+            .each
+            .min(self.budget.left.checked_div(cost).unwrap_or(0));
+        if !worlds.has_facts() {
+            return false;
+        }
+        let search = find(demands, &mut worlds, given);
         self.budget.count(given, search);
-        let cost = u32::try_from(self.demands.len()).unwrap_or(u32::MAX);
-        self.budget.left = self.budget.left.saturating_sub(cost);
+        let further = given.saturating_sub(search.left).saturating_mul(cost - 1);
+        self.budget.left = self.budget.left.saturating_sub(further);
         self.worlds = worlds;
-        Ok(search.extent.is_somewhere())
+        search.extent.is_somewhere()
     }
 }
 

@@ -47,12 +47,12 @@ pub fn value_of<'a, 'b>(
 ) -> Option<(Spelled<'a>, &'b Found<'a>)>
     ensures { IfSome result (λ found. IsDefined (spanned_of name.now) (map spanned_of rest.now) (spanned_of found.1.now)) }
 {
-    name.piece.name()?;
     let (equals, rest) = rest.split_first()?;
-    let (value, _) = rest.split_first()?;
     if !equals.piece.is_equals() {
         return None;
     }
+    name.piece.name()?;
+    let (value, _) = rest.split_first()?;
     match value.piece {
         Piece::Word(word) if !is_reserved(word) => Some((Spelled::Word(word), value)),
         Piece::Quoted(quote, inside) => Some((Spelled::Quoted(quote, inside), value)),
