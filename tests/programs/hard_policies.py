@@ -66,10 +66,10 @@ def at_random(states, before, each):
 def hard_policies():
     """The name of each policy, its text, and whether all is decided."""
     return [
-        ("ring of 256 states", ring(256), False),
+        ("ring of 256 states", ring(256), True),
         ("256 states and 1,024 conditions", at_random(256, 0, 4), False),
         ("256 states and 768 conditions outside of them", at_random(256, 768, 0), False),
         *[(f"3-SAT with {count} links", under(clauses(count)), False) for count in (20, 40, 60)],
         *[(f"pigeons in {holes} holes", under(pigeons(holes)), False) for holes in (5, 6, 7)],
-        *[(f"{count} pairs", under(pairs(count)), False) for count in (8, 16, 32)],
+        *[(f"{count} pairs", under(pairs(count)), True) for count in (8, 16, 32)],
     ]
