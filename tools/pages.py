@@ -32,7 +32,7 @@ BUDGETS = {
     "docs/DECISIONS.md": 200,
     "docs/SPEED.md": 100,
 }
-# the most characters of a line that is no row of a table, and the most words of a cell
+# the most characters of a line that is no row of a table and no output of a command, and the most words of a cell
 LINE, CELL = 130, 25
 # folders whose pages are made or are not ours
 LEFT_OUT = ("out", ".git", "target")
@@ -97,13 +97,23 @@ def largest_cell(page):
     return max((len(words(cell)) for _, row in page.rows() for cell in cells(row)), default=0)
 
 
+def outputs(lines):
+    """The numbers of the lines that a command prints."""
+    block = None
+    for number, line in enumerate(lines, 1):
+        if line.startswith("```"):
+            block = line[3:] if block is None else None
+        elif block == "console" and not line.startswith("$ "):
+            yield number
+
+
 def sizes_wrong(page):
     most = BUDGETS[page.name]
     if most and len(page.lines) > most:
         yield len(page.lines), f"{len(page.lines)} lines, at most {most}"
-    rows = {number for number, _ in page.rows()}
+    free = {number for number, _ in page.rows()} | set(outputs(page.lines))
     for number, line in enumerate(page.lines, 1):
-        if number not in rows and len(line) > LINE:
+        if number not in free and len(line) > LINE:
             yield number, f"{len(line)} characters, at most {LINE}"
     for number, row in page.rows():
         for cell in cells(row):

@@ -13,11 +13,8 @@ CASES, CALLS = "crates/ifs_vectors/stdout", "crates/ifs_growth/stdout"
 QUOTED = [
     ("docs/TESTED.md", r"([\d,]+) changes of ten images", CASES, r"^changes: (\d+),"),
     ("docs/TESTED.md", r"each allocation of ([\d,]+) calls fails", CALLS, r"^.*: \d+ \w+ refused, then"),
-    ("docs/TESTED.md", r"([\d,]+) reads and \d+ writes of `simulate`", CALLS, r"^simulate, reads that failed: (\d+)$"),
-    ("docs/TESTED.md", r"reads and ([\d,]+) writes of `simulate`", CALLS, r"^simulate, writes that failed: (\d+)$"),
-    ("docs/TESTED.md", r"([\d,]+) reads, \d+ writes and \d+ runs of `serve_one`", CALLS, r"^serve_one, reads that failed: (\d+)$"),
-    ("docs/TESTED.md", r"reads, ([\d,]+) writes and \d+ runs of `serve_one`", CALLS, r"^serve_one, writes that failed: (\d+)$"),
-    ("docs/TESTED.md", r"writes and ([\d,]+) runs of `serve_one`", CALLS, r"^serve_one, runs that failed: (\d+)$"),
+    ("docs/TESTED.md", r"a session \(([\d,]+) in turn\)", CALLS, r"^simulate, \w+ that failed: (\d+)$"),
+    ("docs/TESTED.md", r"a service \(([\d,]+)\)", CALLS, r"^serve_one, \w+ that failed: (\d+)$"),
 ]
 MINUTES, PROVING, ORDER = TOP / "tools" / "measured_minutes", TOP / "docs" / "PROVING.md", TOP / "crates.txt"
 BEGIN, END = "<!-- minutes, by tools/quoted_numbers.py --write -->\n", "<!-- end of minutes -->\n"
@@ -25,12 +22,12 @@ KINDS = ("proof", "tests", "edits", "all")
 
 
 def counted(path, pattern):
-    """What a file says: the number of a pattern's group, or how often a pattern without a group is found."""
+    """What a file says: the sum of the numbers of a pattern's group, or how often a pattern without a group is found."""
     text = (TOP / path).read_text(encoding="utf-8")
     if re.compile(pattern).groups == 0:
         return len(re.findall(pattern, text, re.M))
-    found = re.search(pattern, text, re.M)
-    return int(found[1].replace(",", "")) if found else None
+    found = re.findall(pattern, text, re.M)
+    return sum(int(number.replace(",", "")) for number in found) if found else None
 
 
 def wrong_quotes():
