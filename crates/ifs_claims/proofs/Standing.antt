@@ -1,0 +1,239 @@
+-- What stays after any steps, and what one step does.
+use Rattle.std.proofs.Common.{◌≡◌, ℕ, zero, suc, ◌+◌, ◌<◌, ◌⊎◌, inl, inr, Bool, true, false, not, ◌&&◌, List, [], ◌∷◌, ◌++◌, length, map, Option, Some, None, eqb, refl, sym, ap, ◌∙◌, subst, arith}
+use Rattle.std.specs.Prelude.{slice_get, is_some, nat_lt, IsTrue, if◌then◌else◌}
+use Rattle.std.specs.List.{enumerate_from}
+use Rattle.std.proofs.lemmas.Bool.{false≢true, eqb-true, eq-eqb}
+use Rattle.std.proofs.lemmas.Option.{none-some, same_Some, slice_get_within, get_or_from_slice_get}
+use Rattle.std.proofs.lemmas.List.{length-map, length-set}
+use Rattle.std.proofs.lemmas.List.FromFn.{length-enumerate_from}
+use Rattle.ifs_base.specs.Facts.{Facts, is_link}
+use Rattle.ifs_base.specs.Effects.{Effects, nothing_yet, later_wish}
+use Rattle.ifs_base.specs.declared.ids.CommandId.{CommandId}
+use Rattle.ifs_base.specs.declared.ids.StateId.{StateId}
+use Rattle.ifs_base.specs.declared.op.LinkState.{LinkState}
+use Rattle.ifs_sched.specs.Schedule.{is_running}
+use Rattle.ifs_core.specs.declared.step.Step.{Step}
+use Rattle.ifs_core.specs.declared.step.Step.TheVariants.{Link, Finished, Tick, Take}
+use Rattle.ifs_core.specs.declared.step.Reply.TheVariants.{Busy, Stale, Backwards}
+use Rattle.ifs_core.specs.Event.{AlwaysBody, Body, Behaviour, Position, change_of, kept_values, with_change, evaluation}
+use Rattle.ifs_core.specs.Gateway.{Known}
+use Rattle.ifs_core.specs.Steps.{CoreState, Turn, unchanged, same, done, ticked_after, no_event, lacks_room, with_link, with_value, with_run_over, has_value, changing}
+use Rattle.ifs_core.specs.Steps.{at_position, LinkSeen, RunEnded, link_turn, finished_turn, tick_turn, take_turn, turn, after_steps}
+use Rattle.ifs_gen.specs.Trees.{Part, Policy}
+use Rattle.ifs_gen.specs.PlainSizes.{room_of}
+use Rattle.ifs_gen.specs.Events.{behaviour_of, policy_opened, yield_in, ImageMeansPolicy}
+use Rattle.ifs_parse.specs.Trees.{Done, RunThen, SetStateThen, IfThen}
+use Rattle.ifs_policy.specs.Meaning.{Block, body_yield, is_held, reached, truth}
+use Rattle.ifs_policy.specs.Fits.{Sizes, sizes_of, BlockFits, HandlersFit, PolicyFits}
+use Rattle.ifs_lint.specs.Ranges.{AreFactsOf, scope_of}
+use Rattle.ifs_lint.specs.Situations.{Situation, situation_of, situation_after, IsKnownFor, leads_to, wish_of, entered_by}
+use Rattle.ifs_lint.proofs.Situated.{closed_holds, entered_by_wishes}
+use Rattle.ifs_claims.specs.Claims.{CoresAreInSituations, ClaimsCarryOver, IsNoRest, IsFalseIn, IsRestIn}
+use Rattle.ifs_claims.specs.Moves.{FactsStay, IsThere, StatesStay, Moves, IsStepFrom, StepsEvaluate}
+
+-- Facts of a policy, as a test.
+abbrev has_places : Policy → Situation → Bool
+has_places policy s = eqb (length s.facts.links) (length policy.tables.interfaces) && eqb (length s.facts.tests) (length policy.tables.tests)
+
+both : (a b : Bool) → a ≡ true → b ≡ true → (a && b) ≡ true
+both true b e f = f
+both false b e f = e
+
+first_of : (a b : Bool) → (a && b) ≡ true → a ≡ true
+first_of true b e = refl
+first_of false b e = e
+
+second_of : (a b : Bool) → (a && b) ≡ true → b ≡ true
+second_of true b e = e
+second_of false b e = absurd (false≢true e)
+
+has_places_of : (policy : Policy) (s : Situation) → AreFactsOf (scope_of policy) s.facts → has_places policy s ≡ true
+has_places_of policy s are =
+    both (eqb (length s.facts.links) (length policy.tables.interfaces)) (eqb (length s.facts.tests) (length policy.tables.tests))
+    (eq-eqb (length s.facts.links) (length policy.tables.interfaces) are.links) (eq-eqb (length s.facts.tests) (length policy.tables.tests) are.tests)
+
+facts_of_places : (policy : Policy) (s : Situation) → has_places policy s ≡ true → AreFactsOf (scope_of policy) s.facts
+facts_of_places policy s e =
+    let a = eqb (length s.facts.links) (length policy.tables.interfaces) in
+    let b = eqb (length s.facts.tests) (length policy.tables.tests) in
+    record { links = eqb-true (length s.facts.links) (length policy.tables.interfaces) (first_of a b e); tests = eqb-true (length s.facts.tests) (length policy.tables.tests) (second_of a b e) }
+
+length_kept : (always : ℕ) (values : List (Option Bool)) → length (kept_values always values) ≡ length values
+length_kept always values = length-map (enumerate_from 0 values) _ ∙ length-enumerate_from 0 values
+
+evaluated_facts : (policy : Policy) (facts : Facts) (state : StateId) (o : Option StateId) → AreFactsOf (scope_of policy) facts → AreFactsOf (scope_of policy) (entered_by policy facts state o).facts
+evaluated_facts policy facts state None are = are
+evaluated_facts policy facts state (Some next) are = record { links = are.links; tests = length_kept (behaviour_of policy).always facts.tests ∙ are.tests }
+
+pub facts_stay : FactsStay
+facts_stay policy known fits steps =
+    facts_of_places policy (situation_after policy known steps) (closed_holds policy (has_places policy) (record {
+      opening = λ k is. has_places_of policy (situation_of (policy_opened policy k).position) (record { links = is; tests = length-map (map (λ test. test.period) policy.tables.tests) _ ∙ length-map policy.tables.tests _ });
+      evaluation = λ s h facts are. has_places_of policy (entered_by policy facts s.current (leads_to policy facts s.current)) (evaluated_facts policy facts s.current (leads_to policy facts s.current) are);
+    }) known fits steps)
+
+-- The wishes of a policy are for states that it has.
+later_fits : (n : ℕ) (before after : Option StateId) (next : StateId) → (before ≡ Some next → next.0 < n) → (after ≡ Some next → next.0 < n) → later_wish before after ≡ Some next → next.0 < n
+later_fits n before None next f g e = f e
+later_fits n before (Some state) next f g e = g e
+
+chosen_fits : (n : ℕ) (c : Bool) (effects : Effects) (next : StateId) → (effects.wish ≡ Some next → next.0 < n) → (if c then effects else nothing_yet).wish ≡ Some next → next.0 < n
+chosen_fits n true effects next f e = f e
+chosen_fits n false effects next f e = absurd (none-some next e)
+
+held_fits : (n : ℕ) (c : Bool) (effects : Effects) (next : StateId) → (effects.wish ≡ Some next → next.0 < n) → (if c then nothing_yet else effects).wish ≡ Some next → next.0 < n
+held_fits n true effects next f e = absurd (none-some next e)
+held_fits n false effects next f e = f e
+
+no_before : (after : Option StateId) → later_wish None after ≡ after
+no_before None = refl
+no_before (Some state) = refl
+
+reached_fits : (sizes : Sizes) (facts : Facts) (block : Block) (next : StateId) → BlockFits sizes block → (reached facts block).wish ≡ Some next → next.0 < sizes.states
+reached_fits sizes facts Done next fits e = absurd (none-some next e)
+reached_fits sizes facts (RunThen command rest) next fits e = reached_fits sizes facts rest next fits.1 (sym (no_before (reached facts rest).wish) ∙ e)
+reached_fits sizes facts (SetStateThen state rest) next fits e =
+    later_fits sizes.states (Some state) (reached facts rest).wish next (λ h. subst (λ s. s.0 < sizes.states) (same_Some state next h) fits.0) (λ h. reached_fits sizes facts rest next fits.1 h) e
+reached_fits sizes facts (IfThen condition inner rest) next fits e =
+    later_fits sizes.states (if truth facts condition then reached facts inner else nothing_yet).wish (reached facts rest).wish next
+    (λ h. chosen_fits sizes.states (truth facts condition) (reached facts inner) next (λ k. reached_fits sizes facts inner next fits.1 k) h) (λ h. reached_fits sizes facts rest next fits.2 h) e
+
+yield_fits : (sizes : Sizes) (facts : Facts) (body : Block) (next : StateId) → BlockFits sizes body → (body_yield facts body).wish ≡ Some next → next.0 < sizes.states
+yield_fits sizes facts body next fits e = held_fits sizes.states (is_held facts body) (reached facts body) next (λ h. reached_fits sizes facts body next fits h) e
+
+own_fits : (policy : Policy) (facts : Facts) (state next : StateId) (o : Option Part) → PolicyFits policy → slice_get policy.states state.0 ≡ o → (yield_in (λ part. body_yield facts part.body) o).wish ≡ Some next
+    → next.0 < length policy.tables.states
+own_fits policy facts state next None fits at e = absurd (none-some next e)
+own_fits policy facts state next (Some part) fits at e =
+    let within = slice_get_within policy.states state.0 part at in
+    let there = subst (HandlersFit (sizes_of policy.tables)) (get_or_from_slice_get policy.states state.0 part part at) (fits.states state.0 part within) in
+    yield_fits (sizes_of policy.tables) facts part.body next there.body e
+
+wish_fits : (policy : Policy) (facts : Facts) (state next : StateId) → PolicyFits policy → wish_of policy facts state ≡ Some next → next.0 < length policy.tables.states
+wish_fits policy facts state next fits e =
+    later_fits (length policy.tables.states) (body_yield facts policy.always.body).wish (yield_in (λ part. body_yield facts part.body) (slice_get policy.states state.0)).wish next
+    (λ h. yield_fits (sizes_of policy.tables) facts policy.always.body next fits.always.body h) (λ h. own_fits policy facts state next (slice_get policy.states state.0) fits refl h) e
+
+-- Where an evaluation leads is its wish.
+leads_wish : (state next : StateId) (wish : Option StateId) → change_of state wish ≡ Some next → wish ≡ Some next
+leads_wish state next None e = absurd (none-some next e)
+leads_wish state next (Some other) e = changed (eqb other.0 state.0) e
+  where
+    changed : (c : Bool) → (if c then None else Some other) ≡ Some next → Some other ≡ Some next
+    changed true h = absurd (none-some next h)
+    changed false h = h
+
+-- The states that a policy has, as a test.
+abbrev has_state : Policy → StateId → Bool
+has_state policy state = is_some (slice_get policy.states state.0)
+
+there_below : {X : Type 0} (xs : List X) (i : ℕ) → i < length xs → is_some (slice_get xs i) ≡ true
+there_below [] i lt = absurd (omega (arith, lt))
+there_below (x ∷ xs) zero lt = refl
+there_below (x ∷ xs) (suc i) lt = there_below xs i (omega (arith, lt))
+
+has_below : (policy : Policy) (state : StateId) → PolicyFits policy → state.0 < length policy.tables.states → has_state policy state ≡ true
+has_below policy state fits lt = let count = fits.count in there_below policy.states state.0 (omega (arith, lt, count))
+
+there_of : (policy : Policy) (state : StateId) (o : Option Part) → slice_get policy.states state.0 ≡ o → is_some o ≡ true → IsThere policy state
+there_of policy state None at e = absurd (false≢true e)
+there_of policy state (Some part) at e = (part, at)
+
+pub states_stay : StatesStay
+states_stay policy policy_fits known fits steps =
+    there_of policy _ _ refl (entered_by_wishes policy (has_state policy) (record {
+      initial = has_below policy policy.initial policy_fits policy_fits.initial;
+      next = λ state next facts h are leads. has_below policy next policy_fits (wish_fits policy facts state next policy_fits (leads_wish state next (wish_of policy facts state) leads));
+    }) known fits steps)
+
+-- One step.
+module _ (policy : Policy) (s : CoreState) (are : AreFactsOf (scope_of policy) s.position.facts) where
+  abbrev Comes : CoreState → Type 0
+  Comes next = IsStepFrom policy (situation_of s.position) (situation_of next.position)
+
+  change_comes : (p : Position) (o : Option StateId) (commands : List CommandId) (cost : ℕ) → leads_to policy p.facts p.current ≡ o → p.current ≡ s.position.current → AreFactsOf (scope_of policy) p.facts
+      → IsStepFrom policy (situation_of s.position) (situation_of (with_change (behaviour_of policy) o (record { position = record p { owed = false }; commands = commands; cost = cost })).position)
+  change_comes p None commands cost e same_state facts = inl same_state
+  change_comes p (Some next) commands cost e same_state facts = inr (record { facts = p.facts; are = facts; leads = subst (λ state. leads_to policy p.facts state ≡ Some next) same_state e })
+
+  evaluation_comes : (p : Position) → p.current ≡ s.position.current → AreFactsOf (scope_of policy) p.facts → IsStepFrom policy (situation_of s.position) (situation_of (evaluation (behaviour_of policy) p).position)
+  evaluation_comes p same_state facts =
+      let b = behaviour_of policy in
+      let always = b.answer AlwaysBody p.facts in
+      let own = b.answer (Body p.current.0) p.facts in
+      change_comes p (change_of p.current (later_wish always.wish own.wish)) (always.commands ++ own.commands) (b.cost AlwaysBody p.facts + b.cost (Body p.current.0) p.facts) refl same_state facts
+
+  either : (c : Bool) (x y : Turn) → Comes x.next → Comes y.next → Comes (if c then x else y).next
+  either true x y h k = h
+  either false x y h k = k
+
+  changing_comes : (step : Step) (p : Position) → p.current ≡ s.position.current → AreFactsOf (scope_of policy) p.facts → Comes (changing (behaviour_of policy) (room_of policy) step p s).next
+  changing_comes step p same_state facts =
+      either (lacks_room (room_of policy) s) (unchanged Busy s) (done step (evaluation (behaviour_of policy) p) s) (inl refl) (evaluation_comes p same_state facts)
+
+  link_comes : (seen : LinkSeen) (o : Option LinkState) → Comes (link_turn (behaviour_of policy) (room_of policy) seen o s).next
+  link_comes seen None = inl refl
+  link_comes seen (Some before) =
+      let step = Link seen.interface seen.link in
+      let p = with_link seen.interface.0 seen.link s.position in
+      either (is_link before seen.link) (same step s) (changing (behaviour_of policy) (room_of policy) step p s) (inl refl)
+      (changing_comes step p refl (record { links = length-set s.position.facts.links seen.interface.0 seen.link ∙ are.links; tests = are.tests }))
+
+  finished_comes : (ended : RunEnded) (o : Option (Option Bool)) → Comes (finished_turn (behaviour_of policy) (room_of policy) ended o s).next
+  finished_comes ended None = inl refl
+  finished_comes ended (Some before) =
+      let step = Finished ended.test ended.run ended.value in
+      let over = with_run_over ended.test.0 ended.run s.position in
+      let p = with_value ended.test.0 ended.value over in
+      let changed = changing (behaviour_of policy) (room_of policy) step p s in
+      let unmoved = same step (at_position over s) in
+      either (not (is_running ended.test.0 ended.run s.position.schedule)) (unchanged Stale s) (if has_value ended.value before then unmoved else changed) (inl refl)
+      (either (has_value ended.value before) unmoved changed (inl refl)
+      (changing_comes step p refl (record { links = are.links; tests = length-set s.position.facts.tests ended.test.0 (Some ended.value) ∙ are.tests })))
+
+  tick_comes : (now : ℕ) → Comes (tick_turn (behaviour_of policy) (room_of policy) now s).next
+  tick_comes now =
+      let p = s.position in
+      let evaluates = ticked_after now true (evaluation (behaviour_of policy) p) s in
+      let rests = ticked_after now false (no_event p) s in
+      let owed = if lacks_room (room_of policy) s then unchanged Busy s else evaluates in
+      either (nat_lt now p.schedule.present) (unchanged Backwards s) (if p.owed then owed else rests) (inl refl)
+      (either p.owed owed rests (either (lacks_room (room_of policy) s) (unchanged Busy s) evaluates (inl refl) (evaluation_comes p refl are)) (inl refl))
+
+  take_comes : (queue : List CommandId) → Comes (take_turn queue s).next
+  take_comes [] = inl refl
+  take_comes (command ∷ commands) = inl refl
+
+  turn_comes : (step : Step) → Comes (turn (behaviour_of policy) (room_of policy) step s).next
+  turn_comes (Link interface link) = link_comes (record { interface = interface; link = link }) (slice_get s.position.facts.links interface.0)
+  turn_comes (Finished test run value) = finished_comes (record { test = test; run = run; value = value }) (slice_get s.position.facts.tests test.0)
+  turn_comes (Tick now) = tick_comes now
+  turn_comes Take = take_comes s.queue
+
+one_more : (b : Behaviour) (room : ℕ) (steps : List Step) (step : Step) (s : CoreState) → after_steps b room (steps ++ step ∷ []) s ≡ (turn b room step (after_steps b room steps s)).next
+one_more b room [] step s = refl
+one_more b room (first ∷ steps) step s = one_more b room steps step (turn b room first s).next
+
+pub steps_evaluate : StepsEvaluate
+steps_evaluate policy known fits steps step =
+    let s = after_steps (behaviour_of policy) (room_of policy) steps (policy_opened policy known) in
+    subst (λ next. IsStepFrom policy (situation_of s.position) (situation_of next.position)) (sym (one_more (behaviour_of policy) (room_of policy) steps step (policy_opened policy known)))
+    (turn_comes policy s (facts_stay policy known fits steps) step)
+
+-- Cores of the image.
+pub cores_are_in_situations : ImageMeansPolicy → CoresAreInSituations
+cores_are_in_situations means policy fits code b is known known_is = record {
+  known_for = known_is;
+  situation = λ steps. ap (λ s. situation_of s.position) (means policy fits code b is known known_is steps).state;
+}
+
+pub claims_carry_over : ImageMeansPolicy → ClaimsCarryOver
+claims_carry_over means policy fits code b is known known_is =
+    let core = cores_are_in_situations means policy fits code b is known known_is in
+    record {
+      never_rests = λ state condition claim steps. subst (IsNoRest state condition) (sym (core.situation steps)) (claim known core.known_for steps);
+      never_in = λ state condition claim steps. subst (IsFalseIn state condition) (sym (core.situation steps)) (claim known core.known_for steps);
+      rests_in = λ states condition claim steps. subst (IsRestIn policy states condition) (sym (core.situation steps)) (claim known core.known_for steps);
+      never_enters = λ state claim steps at. claim known core.known_for steps (ap (λ s. s.current) (sym (core.situation steps)) ∙ at);
+      never_from = λ state next claim steps step at to. claim known core.known_for steps step (ap (λ s. s.current) (sym (core.situation steps)) ∙ at) (ap (λ s. s.current) (sym (core.situation (steps ++ step ∷ []))) ∙ to);
+    }

@@ -1,0 +1,78 @@
+-- Claims on a policy: what holds whatever is known at an opening, and after any steps.
+use Rattle.std.specs.Prelude.{◌≡◌, ◌≢◌, true, false, List, [], ◌∷◌, ◌++◌, Some, slice_get, Contains}
+use Rattle.ifs_base.specs.declared.ids.StateId.{StateId}
+use Rattle.ifs_core.specs.declared.step.Step.{Step}
+use Rattle.ifs_core.specs.Event.{Behaviour}
+use Rattle.ifs_core.specs.Machine.{IsBehaviour}
+use Rattle.ifs_core.specs.Gateway.{Known, IsKnownOf, opened}
+use Rattle.ifs_core.specs.Steps.{after_steps}
+use Rattle.ifs_gen.specs.Trees.{Part, Policy}
+use Rattle.ifs_gen.specs.PlainSizes.{room_of, CodeFits}
+use Rattle.ifs_gen.specs.PolicyImage.{image_of}
+use Rattle.ifs_policy.specs.Fits.{PolicyFits}
+use Rattle.ifs_policy.specs.Meaning.{Condition, truth, IsHeld}
+use Rattle.ifs_lint.specs.Situations.{Situation, situation_of, IsKnownFor, HoldsAfterSteps, situation_after}
+
+-- The policy does not rest: nothing is owed in this state only while the condition is false.
+abbrev pub IsNoRest : StateId → Condition → Situation → Type 0
+IsNoRest state condition s = s.owed ≡ false → s.current ≡ state → truth s.facts condition ≡ false
+
+-- A policy never rests in a state while a condition is true.
+abbrev pub NeverRests : Policy → StateId → Condition → Type 0
+NeverRests policy state condition = HoldsAfterSteps policy (IsNoRest state condition)
+
+-- In this state the condition is false.
+abbrev pub IsFalseIn : StateId → Condition → Situation → Type 0
+IsFalseIn state condition s = s.current ≡ state → truth s.facts condition ≡ false
+
+-- At any moment, a condition is false in a state.
+abbrev pub NeverIn : Policy → StateId → Condition → Type 0
+NeverIn policy state condition = HoldsAfterSteps policy (IsFalseIn state condition)
+
+-- Nothing is owed, and neither the always body nor the body of the current state is held back.
+pub record IsSettled (policy : Policy) (s : Situation) : Type 0 where
+  pub owed : s.owed ≡ false
+  pub always : ¬ IsHeld s.facts policy.always.body
+  pub own : (part : Part) → slice_get policy.states s.current.0 ≡ Some part → ¬ IsHeld s.facts part.body
+
+-- While a situation is settled and the condition is true, the state is one of these.
+abbrev pub IsRestIn : Policy → List StateId → Condition → Situation → Type 0
+IsRestIn policy states condition s = IsSettled policy s → truth s.facts condition ≡ true → Contains states s.current
+
+-- A policy rests in one of these states while a condition is true.
+abbrev pub RestsIn : Policy → List StateId → Condition → Type 0
+RestsIn policy states condition = HoldsAfterSteps policy (IsRestIn policy states condition)
+
+-- No step leads from one state to another.
+abbrev pub NeverFrom : Policy → StateId → StateId → Type 0
+NeverFrom policy state next =
+    (known : Known) → IsKnownFor policy known → (steps : List Step) (step : Step) → (situation_after policy known steps).current ≡ state
+    → (situation_after policy known (steps ++ step ∷ [])).current ≢ next
+
+-- The situation of a core that is opened on a policy's image, after some steps.
+abbrev pub situation_of_core : Policy → Behaviour → Known → List Step → Situation
+situation_of_core policy b known steps = situation_of (after_steps b (room_of policy) steps (opened b (image_of policy) known)).position
+
+-- What is known at the opening of a core on the image of a policy is known for the policy, and after any steps the core is in the situation that the policy is in. So a core has each situation, and each pair of them, that claims speak of.
+pub record IsCoreOf (policy : Policy) (b : Behaviour) (known : Known) : Type 0 where
+  pub known_for : IsKnownFor policy known
+  pub situation : (steps : List Step) → situation_of_core policy b known steps ≡ situation_after policy known steps
+
+-- It is so for each policy within the limits and each behaviour of its image.
+abbrev pub CoresAreInSituations : Type 0
+CoresAreInSituations =
+    (policy : Policy) → PolicyFits policy → CodeFits policy → (b : Behaviour) → IsBehaviour (image_of policy) b → (known : Known) → IsKnownOf (image_of policy) known → IsCoreOf policy b known
+
+-- A claim that holds of a policy holds of each core that is opened on its image.
+pub record CarryOver (policy : Policy) (b : Behaviour) (known : Known) : Type 0 where
+  pub never_rests : (state : StateId) (condition : Condition) → NeverRests policy state condition → (steps : List Step) → IsNoRest state condition (situation_of_core policy b known steps)
+  pub never_in : (state : StateId) (condition : Condition) → NeverIn policy state condition → (steps : List Step) → IsFalseIn state condition (situation_of_core policy b known steps)
+  pub rests_in : (states : List StateId) (condition : Condition) → RestsIn policy states condition → (steps : List Step) → IsRestIn policy states condition (situation_of_core policy b known steps)
+  pub never_enters : (state : StateId) → HoldsAfterSteps policy (λ s. s.current ≢ state) → (steps : List Step) → (situation_of_core policy b known steps).current ≢ state
+  pub never_from : (state next : StateId) → NeverFrom policy state next → (steps : List Step) (step : Step) → (situation_of_core policy b known steps).current ≡ state
+      → (situation_of_core policy b known (steps ++ step ∷ [])).current ≢ next
+
+-- It is so for each policy within the limits and each behaviour of its image.
+abbrev pub ClaimsCarryOver : Type 0
+ClaimsCarryOver =
+    (policy : Policy) → PolicyFits policy → CodeFits policy → (b : Behaviour) → IsBehaviour (image_of policy) b → (known : Known) → IsKnownOf (image_of policy) known → CarryOver policy b known

@@ -1,0 +1,4 @@
+pub mod Claims
+pub mod Moves
+pub mod Told
+pub mod inner

@@ -1,0 +1,61 @@
+-- What is told of a claim is so: it holds, or these facts of one evaluation would break it.
+use Rattle.std.specs.Prelude.{◌≡◌, true, List, Some, None, slice_get, Contains}
+use Rattle.ifs_base.specs.Facts.{Facts}
+use Rattle.ifs_base.specs.declared.ids.StateId.{StateId}
+use Rattle.ifs_gen.specs.Trees.{Part, Policy}
+use Rattle.ifs_policy.specs.Meaning.{Condition, truth, IsHeld}
+use Rattle.ifs_lint.specs.Ranges.{AreFactsOf, scope_of}
+use Rattle.ifs_lint.specs.Situations.{leads_to, IsLedTo, IsNeverEntered}
+use Rattle.ifs_claims.specs.declared.told.Told.{Told}
+use Rattle.ifs_claims.specs.declared.told.Told.TheVariants.{Holds, Possible, Undecided}
+use Rattle.ifs_claims.specs.Moves.{Moves}
+use Rattle.ifs_claims.specs.Claims.{NeverRests, NeverIn, RestsIn, NeverFrom}
+
+-- What is told of a claim that holds, or that something breaks.
+abbrev pub IsTold : Type 0 → Type 0 → Told → Type 0
+IsTold holds breaks Holds = holds
+IsTold holds breaks Possible = breaks
+IsTold holds breaks Undecided = Unit {0}
+
+-- Facts under which a condition is true while an evaluation in a state leads to no other one.
+pub record WouldRest (policy : Policy) (state : StateId) (condition : Condition) : Type 0 where
+  pub facts : Facts
+  pub are : AreFactsOf (scope_of policy) facts
+  pub stays : leads_to policy facts state ≡ None
+  pub true_there : truth facts condition ≡ true
+
+-- Facts under which a condition is true.
+pub record WouldBe (policy : Policy) (condition : Condition) : Type 0 where
+  pub facts : Facts
+  pub are : AreFactsOf (scope_of policy) facts
+  pub true_there : truth facts condition ≡ true
+
+-- Another state than these, and facts under which a condition is true while both bodies are evaluated there and lead to no other state.
+pub record WouldRestElsewhere (policy : Policy) (states : List StateId) (condition : Condition) : Type 0 where
+  pub state : StateId
+  pub part : Part
+  pub there : slice_get policy.states state.0 ≡ Some part
+  pub elsewhere : ¬ Contains states state
+  pub rest : WouldRest policy state condition
+  pub always : ¬ IsHeld rest.facts policy.always.body
+  pub own : ¬ IsHeld rest.facts part.body
+
+-- What is told of whether a policy rests in a state while a condition is true.
+abbrev pub IsToldOfRest : Policy → StateId → Condition → Told → Type 0
+IsToldOfRest policy state condition = IsTold (NeverRests policy state condition) (WouldRest policy state condition)
+
+-- What is told of whether a condition is true in a state at any moment.
+abbrev pub IsToldOfMoments : Policy → StateId → Condition → Told → Type 0
+IsToldOfMoments policy state condition = IsTold (NeverIn policy state condition) (WouldBe policy condition)
+
+-- What is told of whether a step leads from one state to another.
+abbrev pub IsToldOfMove : Policy → StateId → StateId → Told → Type 0
+IsToldOfMove policy state next = IsTold (NeverFrom policy state next) (Moves policy state next)
+
+-- What is told of whether steps enter a state: if they may, evaluations lead there from the initial state.
+abbrev pub IsToldOfEntry : Policy → StateId → Told → Type 0
+IsToldOfEntry policy state = IsTold (IsNeverEntered policy state) (IsLedTo policy state)
+
+-- What is told of where a policy rests while a condition is true.
+abbrev pub IsToldOfRests : Policy → List StateId → Condition → Told → Type 0
+IsToldOfRests policy states condition = IsTold (RestsIn policy states condition) (WouldRestElsewhere policy states condition)

@@ -1,0 +1,22 @@
+-- Evaluations of two bodies that lead to no other state, or to one.
+use Rattle.std.specs.Prelude.{not, ◌&&◌}
+use Rattle.ifs_base.specs.Effects.{later_wish}
+use Rattle.ifs_base.specs.declared.ids.StateId.{StateId}
+use Rattle.ifs_policy.specs.Meaning.{Block, Condition, truth, body_yield, is_held}
+use Rattle.ifs_lint.specs.declared.demands.Aim.{Aim}
+use Rattle.ifs_lint.specs.declared.demands.Aim.TheVariants.{Off}
+use Rattle.ifs_lint.specs.Asking.{hits}
+use Rattle.ifs_lint.specs.Places.{Here}
+
+-- The last wish is for a state that is aimed at.
+abbrev pub where_hit : Block → Block → Aim → Here
+where_hit always own aim facts = hits aim (later_wish (body_yield facts always).wish (body_yield facts own).wish)
+
+-- The bodies lead from a state to no other one while a condition is true.
+abbrev pub where_resting : Block → Block → StateId → Condition → Here
+where_resting always own state condition facts = not (where_hit always own (Off state) facts) && truth facts condition
+
+-- The same while neither body is held back.
+abbrev pub where_settled : Block → Block → StateId → Condition → Here
+where_settled always own state condition facts =
+    (not (is_held facts always) && not (is_held facts own)) && where_resting always own state condition facts

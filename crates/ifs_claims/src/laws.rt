@@ -1,0 +1,35 @@
+//! Laws about every policy and every list of steps.
+
+ghost use Rattle.ifs_claims.specs.Claims.{ClaimsCarryOver, CoresAreInSituations};
+ghost use Rattle.ifs_claims.specs.Moves.{FactsStay, StatesStay, StepsEvaluate};
+
+use ifs_gen::laws::image_means_policy;
+
+/// After any steps a policy has facts for each of its links and tests.
+pub fn facts_stay()
+    ensures { FactsStay }
+{}
+
+/// After any steps the current state is one of those of the policy.
+pub fn states_stay()
+    ensures { StatesStay }
+{}
+
+/// A step leaves the state as it is, or leads where an evaluation under some facts leads.
+pub fn steps_evaluate()
+    ensures { StepsEvaluate }
+{}
+
+/// After any steps a core that is opened on the image of a policy is in the situation that the policy is in.
+pub fn cores_are_in_situations()
+    ensures { CoresAreInSituations }
+{
+    image_means_policy();
+}
+
+/// A claim that holds of a policy holds of each core that is opened on its image.
+pub fn claims_carry_over()
+    ensures { ClaimsCarryOver }
+{
+    image_means_policy();
+}
