@@ -2,7 +2,12 @@
 //! evaluation would break it, or the budget ran out.
 #![tactic(auto)]
 
+mod asking;
+mod entered;
 pub mod laws;
+mod resting;
 mod told;
 
+pub use entered::Entered;
+pub use resting::never_rests;
 pub use told::Told;

@@ -1,12 +1,20 @@
 -- Evaluations of two bodies that lead to no other state, or to one.
-use Rattle.std.specs.Prelude.{not, ◌&&◌}
+use Rattle.std.specs.Prelude.{◌≡◌, not, ◌&&◌, Some, slice_get}
 use Rattle.ifs_base.specs.Effects.{later_wish}
 use Rattle.ifs_base.specs.declared.ids.StateId.{StateId}
+use Rattle.ifs_gen.specs.Trees.{Part, Policy}
 use Rattle.ifs_policy.specs.Meaning.{Block, Condition, truth, body_yield, is_held}
 use Rattle.ifs_lint.specs.declared.demands.Aim.{Aim}
 use Rattle.ifs_lint.specs.declared.demands.Aim.TheVariants.{Off}
 use Rattle.ifs_lint.specs.Asking.{hits}
 use Rattle.ifs_lint.specs.Places.{Here}
+
+-- These are the always body and the body of a state that the policy has.
+pub record AreBodiesIn (policy : Policy) (state : StateId) (always own : Block) : Type 0 where
+  pub always_is : always ≡ policy.always.body
+  pub part : Part
+  pub there : slice_get policy.states state.0 ≡ Some part
+  pub own_is : own ≡ part.body
 
 -- The last wish is for a state that is aimed at.
 abbrev pub where_hit : Block → Block → Aim → Here

@@ -1,0 +1,175 @@
+-- Evaluations that lead to no other state.
+use Rattle.std.proofs.Common.{◌≡◌, ◌⊎◌, inl, inr, ⊎_elim, Bool, true, false, not, ◌&&◌, ◌||◌, List, [], ◌∷◌, Option, Some, None, eqb, refl, sym, ap, ◌∙◌, subst}
+use Rattle.std.specs.Prelude.{slice_get, is_some, if◌then◌else◌}
+use Rattle.std.specs.Borrow.{Bor}
+use Rattle.std.proofs.lemmas.Bool.{false≢true, true≢false}
+use Rattle.ifs_base.specs.Facts.{Facts}
+use Rattle.ifs_base.specs.Effects.{Effects, nothing_yet, later_wish}
+use Rattle.ifs_base.specs.declared.ids.StateId.{StateId}
+use Rattle.ifs_core.specs.Event.{change_of}
+use Rattle.ifs_gen.specs.Trees.{Part, Policy}
+use Rattle.ifs_gen.specs.Events.{yield_in}
+use Rattle.ifs_policy.specs.Meaning.{Block, Condition, body_yield, is_held, reached, truth}
+use Rattle.ifs_lint.specs.declared.demands.Aim.{Aim}
+use Rattle.ifs_lint.specs.declared.demands.Aim.TheVariants.{Any, To, Off}
+use Rattle.ifs_lint.specs.declared.demands.Demand.{Demand}
+use Rattle.ifs_lint.specs.declared.demands.Demand.TheVariants.{Truth, Free, Silent, Aims}
+use Rattle.ifs_lint.specs.declared.ranges.Scope.{Scope}
+use Rattle.ifs_lint.specs.declared.searching.Extent.{Extent}
+use Rattle.ifs_lint.specs.declared.searching.Extent.TheVariants.{Somewhere, Nowhere, Undecided}
+use Rattle.ifs_lint.specs.Asking.{hits, meets, meets_all, IsSomewhere, IsNowhere, IsExtentOf}
+use Rattle.ifs_lint.specs.Ranges.{AreFactsOf, scope_of}
+use Rattle.ifs_lint.specs.Situations.{situation_after, wish_of, leads_to, IsNeverEntered}
+use Rattle.ifs_lint.proofs.Adding.{extent_agrees}
+use Rattle.ifs_lint.proofs.Situated.{rests_stay}
+use Rattle.ifs_claims.specs.declared.told.Told.{Told}
+use Rattle.ifs_claims.specs.Claims.{NeverRests}
+use Rattle.ifs_claims.specs.Told.{IsToldOfRest, WouldRest}
+use Rattle.ifs_claims.specs.inner.Stays.{AreBodiesIn, where_hit, where_resting}
+use Rattle.ifs_claims.specs.inner.Widening.{either, Widens, told_by}
+use Rattle.ifs_claims.proofs.Standing.{facts_stay}
+
+or_true : (b : Bool) → (b || true) ≡ true
+or_true true = refl
+or_true false = refl
+
+-- Two answers together.
+pub widened : (scope : Scope) (other : Facts → Bool) (before more : Extent) → IsExtentOf scope other more → Widens scope other before (either before more)
+widened scope other Somewhere more h test k = (k.0, k.1, ap (λ b. b || other k.0) k.2)
+widened scope other Nowhere Somewhere h test k = (h.0, h.1, ap (λ b. test h.0 || b) h.2 ∙ or_true (test h.0))
+widened scope other Nowhere Nowhere h test k = λ facts are. ap (λ b. b || other facts) (k facts are) ∙ h facts are
+widened scope other Nowhere Undecided h test k = tt
+widened scope other Undecided Somewhere h test k = (h.0, h.1, ap (λ b. test h.0 || b) h.2 ∙ or_true (test h.0))
+widened scope other Undecided Nowhere h test k = tt
+widened scope other Undecided Undecided h test k = tt
+
+-- The wish of a body that is held back or not.
+abbrev wish_if : Bool → Option StateId → Option StateId
+wish_if held wish = if held then None else wish
+
+held_wish : (held : Bool) (effects : Effects) → (if held then nothing_yet else effects).wish ≡ wish_if held effects.wish
+held_wish true effects = refl
+held_wish false effects = refl
+
+-- The three ways to stay.
+abbrev stays : StateId → Bool → Option StateId → Bool → Option StateId → Bool → Bool
+stays state g v h w t = not (hits (Off state) (later_wish (wish_if g v) (wish_if h w))) && t
+
+abbrev ways : StateId → Bool → Option StateId → Bool → Option StateId → Bool → Bool
+ways state g v h w t =
+    ((not h && (hits (To state) w && (t && true))) || (not (is_some (wish_if h w)) && (not g && (hits (To state) v && (t && true)))))
+    || (not (is_some (wish_if h w)) && (not (is_some (wish_if g v)) && (t && true)))
+
+stays_by : (b t : Bool) → (not (not b) && t) ≡ ((b && (t && true)) || false)
+stays_by true true = refl
+stays_by true false = refl
+stays_by false t = refl
+
+stays_at : (b t : Bool) → (not (not b) && t) ≡ (((b && (t && true)) || false) || false)
+stays_at true true = refl
+stays_at true false = refl
+stays_at false t = refl
+
+none_at : (t : Bool) → t ≡ (t && true)
+none_at true = refl
+none_at false = refl
+
+stays_ways : (state : StateId) (g : Bool) (v : Option StateId) (h : Bool) (w : Option StateId) (t : Bool) → stays state g v h w t ≡ ways state g v h w t
+stays_ways state true v true w true = refl
+stays_ways state true v true w false = refl
+stays_ways state false None true w true = refl
+stays_ways state false None true w false = refl
+stays_ways state false (Some x) true w t = stays_by (eqb x.0 state.0) t
+stays_ways state true v false None true = refl
+stays_ways state true v false None false = refl
+stays_ways state false None false None true = refl
+stays_ways state false None false None false = refl
+stays_ways state false (Some x) false None t = stays_by (eqb x.0 state.0) t
+stays_ways state g v false (Some x) t = stays_at (eqb x.0 state.0) t
+
+-- Bodies that stay while a condition is true meet one of three lists of demands.
+resting_met : (always own : Bor Block) (state : StateId) (condition : Bor Condition) (facts : Facts)
+    → where_resting always.now own.now state condition.now facts
+    ≡ ((meets_all (Free own ∷ Aims own (To state) ∷ Truth condition true ∷ []) facts || meets_all (Silent own ∷ Free always ∷ Aims always (To state) ∷ Truth condition true ∷ []) facts)
+    || meets_all (Silent own ∷ Silent always ∷ Truth condition true ∷ []) facts)
+resting_met always own state condition facts =
+    let g = is_held facts always.now in
+    let v = reached facts always.now in
+    let h = is_held facts own.now in
+    let w = reached facts own.now in
+    let t = truth facts condition.now in
+    ap (λ x. not (hits (Off state) (later_wish x (if h then nothing_yet else w).wish)) && t) (held_wish g v)
+    ∙ ap (λ x. not (hits (Off state) (later_wish (wish_if g v.wish) x)) && t) (held_wish h w)
+    ∙ stays_ways state g v.wish h w.wish t
+    ∙ ap (λ x. ((not h && (hits (To state) w.wish && (t && true))) || (not (is_some x) && (not g && (hits (To state) v.wish && (t && true))))) || (not (is_some x) && (not (is_some (wish_if g v.wish)) && (t && true)))) (sym (held_wish h w))
+    ∙ ap (λ x. ((not h && (hits (To state) w.wish && (t && true))) || (not (is_some (if h then nothing_yet else w).wish) && (not g && (hits (To state) v.wish && (t && true))))) || (not (is_some (if h then nothing_yet else w).wish) && (not (is_some x) && (t && true)))) (sym (held_wish g v))
+
+pub resting_asked : (scope : Scope) (always own : Bor Block) (state : StateId) (condition : Bor Condition) (by_own by_either by_all : Extent)
+    → IsExtentOf scope (meets_all (Free own ∷ Aims own (To state) ∷ Truth condition true ∷ [])) by_own
+    → Widens scope (meets_all (Silent own ∷ Free always ∷ Aims always (To state) ∷ Truth condition true ∷ [])) by_own by_either
+    → Widens scope (meets_all (Silent own ∷ Silent always ∷ Truth condition true ∷ [])) by_either by_all
+    → IsExtentOf scope (where_resting always.now own.now state condition.now) by_all
+resting_asked scope always own state condition by_own by_either by_all h k l =
+    extent_agrees scope (where_resting always.now own.now state condition.now) _ (resting_met always own state condition) by_all (l _ (k _ h))
+
+-- A state is left or kept.
+pub kept : (state : StateId) (wish : Option StateId) → change_of state wish ≡ None → hits (Off state) wish ≡ false
+kept state None e = refl
+kept state (Some next) e = by_test (eqb next.0 state.0) e
+  where
+    by_test : (c : Bool) → (if c then None else Some next) ≡ None → not c ≡ false
+    by_test true h = refl
+    by_test false h = absurd (cc)
+
+pub keeps : (state : StateId) (wish : Option StateId) → hits (Off state) wish ≡ false → change_of state wish ≡ None
+keeps state None e = refl
+keeps state (Some next) e = by_test (eqb next.0 state.0) e
+  where
+    by_test : (c : Bool) → not c ≡ false → (if c then None else Some next) ≡ None
+    by_test true h = refl
+    by_test false h = absurd (true≢false h)
+
+-- What is asked of the bodies of a policy is asked of an evaluation in the state.
+pub hit_in : (policy : Policy) (state : StateId) (always own : Block) → AreBodiesIn policy state always own → (aim : Aim) (facts : Facts) → hits aim (wish_of policy facts state) ≡ where_hit always own aim facts
+hit_in policy state always own are aim facts =
+    ap (λ o. hits aim (later_wish (body_yield facts policy.always.body).wish (yield_in (λ part. body_yield facts part.body) o).wish)) are.there
+    ∙ ap (λ body. hits aim (later_wish (body_yield facts body).wish (body_yield facts are.part.body).wish)) (sym are.always_is)
+    ∙ ap (λ body. hits aim (later_wish (body_yield facts always).wish (body_yield facts body).wish)) (sym are.own_is)
+
+not_and_false : (a t : Bool) → a ≡ false → (not a && t) ≡ false → t ≡ false
+not_and_false true t e f = absurd (true≢false e)
+not_and_false false t e f = f
+
+not_and_first : (a t : Bool) → (not a && t) ≡ true → a ≡ false
+not_and_first true t e = absurd (false≢true e)
+not_and_first false t e = refl
+
+not_and_second : (a t : Bool) → (not a && t) ≡ true → t ≡ true
+not_and_second true t e = absurd (false≢true e)
+not_and_second false t e = e
+
+rest_by : (policy : Policy) (state : StateId) (condition : Condition) (always own : Block) (extent : Extent) → AreBodiesIn policy state always own
+    → IsExtentOf (scope_of policy) (where_resting always own state condition) extent → IsToldOfRest policy state condition (told_by extent)
+rest_by policy state condition always own Somewhere are h =
+    let hit = where_hit always own (Off state) h.0 in
+    record {
+      facts = h.0;
+      are = h.1;
+      stays = keeps state (wish_of policy h.0 state) (hit_in policy state always own are (Off state) h.0 ∙ not_and_first hit (truth h.0 condition) h.2);
+      true_there = not_and_second hit (truth h.0 condition) h.2;
+    }
+rest_by policy state condition always own Nowhere are h = λ known fits steps owed here.
+    let facts = (situation_after policy known steps).facts in
+    let rests = rests_stay policy known fits steps owed in
+    not_and_false (where_hit always own (Off state) facts) (truth facts condition)
+    (sym (hit_in policy state always own are (Off state) facts) ∙ kept state (wish_of policy facts state) (subst (λ s. leads_to policy facts s ≡ None) here rests))
+    (h facts (facts_stay policy known fits steps))
+rest_by policy state condition always own Undecided are h = tt
+
+pub rest_told : (policy : Policy) (state : StateId) (condition : Condition) (always own : Block) (scope : Scope) (extent : Extent) (told : Told) → AreBodiesIn policy state always own → scope ≡ scope_of policy
+    → IsExtentOf scope (where_resting always own state condition) extent → told ≡ told_by extent → IsToldOfRest policy state condition told
+rest_told policy state condition always own scope extent told are scope_is h told_is =
+    subst (IsToldOfRest policy state condition) (sym told_is) (rest_by policy state condition always own extent are (subst (λ s. IsExtentOf s (where_resting always own state condition) extent) scope_is h))
+
+pub rest_never : (policy : Policy) (state : StateId) (condition : Condition) → IsNeverEntered policy state → NeverRests policy state condition
+rest_never policy state condition never known fits steps owed here = absurd (never known fits steps here)

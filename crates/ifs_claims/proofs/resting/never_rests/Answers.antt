@@ -1,0 +1,11 @@
+-- What the facts of one evaluation say of all steps.
+use Rattle.ifs_claims.proofs.Staying.{rest_never, rest_told}
+use Rattle.ifs_claims.proofs.resting.never_rests.Goals as goal
+
+pub returns-then-is_never : goal.returns-then-is_never
+returns-then-is_never c = rest_never c.args.entered.now c.args.state c.args.condition.now c.if-is_never.ensures
+
+pub returns : goal.returns
+returns c =
+    rest_told c.args.entered.now c.args.state c.args.condition.now c.in-Some.bodies.always.now c.in-Some.bodies.own.now c.scope.result c.in_ok-extent.extent c.by.result c.in-Some.ensures c.scope.ensures
+    c.in_ok-extent.ensures c.by.ensures

@@ -1,0 +1,73 @@
+//! Questions that several lists of demands make together.
+
+ghost use Rattle.std.specs.Prelude.{◌≡◌, IfOk};
+ghost use Rattle.ifs_lint.specs.Asking.{meets_all, IsExtentOf};
+ghost use Rattle.ifs_claims.specs.inner.Stays.{where_resting};
+ghost use Rattle.ifs_claims.specs.inner.Widening.{either, Widens};
+
+use crate::entered::Bodies;
+use ifs_base::StateId;
+use ifs_lint::{Aim, Budget, Demand, Extent, Scope, ask};
+use ifs_parse::Condition;
+use ifs_policy::Single;
+use std::alloc::{AllocError, Global};
+
+/// Of two answers: whether some facts pass one test or the other.
+fn either(before: Extent, more: Extent) -> Extent
+    ensures { result ≡ either before more }
+{
+    match (before, more) {
+        (Extent::Somewhere, _) => Extent::Somewhere,
+        (Extent::Nowhere, _) => more,
+        (Extent::Undecided, Extent::Somewhere) => Extent::Somewhere,
+        _ => Extent::Undecided,
+    }
+}
+
+/// Whether some facts pass the test that was answered before, or meet these demands. Asks only if none pass it so far.
+fn ask_also(
+    alloc: Global,
+    scope: Scope,
+    before: Extent,
+    demands: &[Demand<'_>],
+    budget: &mut Budget,
+) -> Result<Extent, AllocError>
+    ensures { IfOk result (λ after. Widens scope (meets_all demands.now) before after) }
+{
+    if matches!(before, Extent::Somewhere) {
+        return Ok(before);
+    }
+    let more = ask(alloc, scope, demands, budget)?;
+    Ok(either(before, more))
+}
+
+/// Whether under some facts the bodies lead from a state to no other one, while a condition is true.
+pub(crate) fn ask_resting(
+    alloc: Global,
+    scope: Scope,
+    bodies: Bodies<'_>,
+    state: StateId,
+    condition: &Condition<Single>,
+    budget: &mut Budget,
+) -> Result<Extent, AllocError>
+    ensures { IfOk result (λ extent. IsExtentOf scope (where_resting bodies.entry.always.now bodies.entry.own.now state condition.now) extent) }
+{
+    let Bodies { always, own } = bodies;
+    let is_true = Demand::Truth(condition, true);
+    let own_stays = [
+        Demand::Free(own),
+        Demand::Aims(own, Aim::To(state)),
+        is_true,
+    ];
+    let by_own = ask(alloc, scope, &own_stays, budget)?;
+    let always_stays = [
+        Demand::Silent(own),
+        Demand::Free(always),
+        Demand::Aims(always, Aim::To(state)),
+        is_true,
+    ];
+    let by_either = ask_also(alloc, scope, by_own, &always_stays, budget)?;
+    let none_wishes = [Demand::Silent(own), Demand::Silent(always), is_true];
+    let by_all = ask_also(alloc, scope, by_either, &none_wishes, budget)?;
+    Ok(by_all)
+}

@@ -1,0 +1,102 @@
+//! A policy with what is said of its states.
+
+ghost use Rattle.std.specs.Bool.{OnTrue};
+ghost use Rattle.std.specs.Prelude.{◌≡◌, IfOk, IfSome};
+
+use ifs_base::{Items, StateId};
+use ifs_lint::{Budget, Extent, Scope, StateAnswer, judge_states};
+use ifs_policy::{Policy, PolicyBlock};
+use std::alloc::{AllocError, Global};
+use std::marker::Model;
+
+/// The bodies of an evaluation: that outside any state, and that of the current state.
+#[derive(Clone, Copy)]
+pub(crate) struct Bodies<'a> {
+    pub always: &'a PolicyBlock,
+    pub own: &'a PolicyBlock,
+}
+
+/// A policy that knows of each of its states whether steps enter it. Clauses see the policy.
+#[derive(Drop)]
+pub struct Entered<'a> {
+    policy: &'a Policy,
+    /// The answers of `judge_states`.
+    states: Items<StateAnswer>,
+}
+
+impl<'a> Model for Entered<'a> {
+    ghost use Rattle.ifs_policy.specs.declared.policy.PolicyParts.{PolicyParts};
+    ghost use Rattle.ifs_lint.specs.Situations.{AreStateAnswers};
+    ghost use Rattle.std.specs.Coded.{codes};
+    ghost use Rattle.ifs_policy.specs.contracts.policy.Handlers as handlers;
+
+    ghost Value = { PolicyParts };
+
+    ghost coded = { Prim.hlevel (codes, handlers.the_row.coded) };
+
+    ghost view = { λ a. a.policy.now };
+
+    ghost invariant = { λ a. AreStateAnswers a.policy.now a.states };
+}
+
+impl<'a> Entered<'a> {
+    ghost use Rattle.ifs_lint.specs.Ranges.{scope_of};
+    ghost use Rattle.ifs_lint.specs.Situations.{IsEntryOf, IsNeverEntered};
+    ghost use Rattle.ifs_claims.specs.inner.Stays.{AreBodiesIn};
+
+    /// A policy whose states are judged. Returns an error if an allocation fails.
+    pub fn of(
+        alloc: Global,
+        policy: &'a Policy,
+        budget: &mut Budget,
+    ) -> Result<Entered<'a>, AllocError>
+        ensures { IfOk result (λ entered. entered ≡ policy.now) }
+    {
+        let states = judge_states(alloc, policy, budget)?;
+        Ok(Entered { policy, states })
+    }
+
+    /// The policy.
+    pub fn policy(&self) -> &Policy
+        ensures { result.now ≡ self.now }
+    {
+        self.policy
+    }
+
+    /// The links and tests of the policy.
+    pub(crate) fn scope(&self) -> Scope
+        ensures { result ≡ scope_of self.now }
+    {
+        Scope::of(self.policy)
+    }
+
+    /// The bodies of an evaluation in a state. None if there is no such state.
+    pub(crate) fn bodies(&self, state: StateId) -> Option<Bodies<'_>>
+        ensures { IfSome result (λ bodies. AreBodiesIn self.now state bodies.always.now bodies.own.now) }
+    {
+        match self.policy.handlers(state) {
+            Some(part) => Some(Bodies {
+                always: &self.policy.always().body,
+                own: &part.body,
+            }),
+            None => None,
+        }
+    }
+
+    /// Whether steps enter a state. Undecided if there is no such state.
+    pub(crate) fn extent(&self, state: StateId) -> Extent
+        ensures { IsEntryOf self.now state result }
+    {
+        match self.states.as_slice().get(usize::from(state.0)) {
+            Some(answer) => answer.entered,
+            None => Extent::Undecided,
+        }
+    }
+
+    /// Whether no steps enter a state. Returns false if that is not decided, or if there is no such state.
+    pub(crate) fn is_never(&self, state: StateId) -> bool
+        ensures { OnTrue result (IsNeverEntered self.now state) }
+    {
+        matches!(self.extent(state), Extent::Nowhere)
+    }
+}
