@@ -173,3 +173,36 @@ rest_told policy state condition always own scope extent told are scope_is h tol
 
 pub rest_never : (policy : Policy) (state : StateId) (condition : Condition) → IsNeverEntered policy state → NeverRests policy state condition
 rest_never policy state condition never known fits steps owed here = absurd (never known fits steps here)
+
+-- Bodies that wish for a state meet one of two lists of demands.
+and_true : (b : Bool) → b ≡ (b && true)
+and_true true = refl
+and_true false = refl
+
+and_true_or : (b : Bool) → b ≡ ((b && true) || false)
+and_true_or true = refl
+and_true_or false = refl
+
+hit_ways : (aim : Aim) (g : Bool) (v : Option StateId) (h : Bool) (w : Option StateId)
+    → hits aim (later_wish (wish_if g v) (wish_if h w)) ≡ ((not h && (hits aim w && true)) || (not (is_some (wish_if h w)) && (not g && (hits aim v && true))))
+hit_ways aim true v true w = refl
+hit_ways aim false v true w = and_true (hits aim v)
+hit_ways aim true v false None = refl
+hit_ways aim false v false None = and_true (hits aim v)
+hit_ways aim g v false (Some x) = and_true_or (hits aim (Some x))
+
+pub hit_met : (always own : Bor Block) (aim : Aim) (facts : Facts)
+    → where_hit always.now own.now aim facts ≡ (meets_all (Free own ∷ Aims own aim ∷ []) facts || meets_all (Silent own ∷ Free always ∷ Aims always aim ∷ []) facts)
+hit_met always own aim facts =
+    let g = is_held facts always.now in
+    let v = reached facts always.now in
+    let h = is_held facts own.now in
+    let w = reached facts own.now in
+    ap (λ x. hits aim (later_wish x (if h then nothing_yet else w).wish)) (held_wish g v)
+    ∙ ap (λ x. hits aim (later_wish (wish_if g v.wish) x)) (held_wish h w)
+    ∙ hit_ways aim g v.wish h w.wish
+    ∙ ap (λ x. (not h && (hits aim w.wish && true)) || (not (is_some x) && (not g && (hits aim v.wish && true)))) (sym (held_wish h w))
+
+pub hit_asked : (scope : Scope) (always own : Bor Block) (aim : Aim) (by_own by_either : Extent) → IsExtentOf scope (meets_all (Free own ∷ Aims own aim ∷ [])) by_own
+    → Widens scope (meets_all (Silent own ∷ Free always ∷ Aims always aim ∷ [])) by_own by_either → IsExtentOf scope (where_hit always.now own.now aim) by_either
+hit_asked scope always own aim by_own by_either h k = extent_agrees scope (where_hit always.now own.now aim) _ (hit_met always own aim) by_either (k _ h)

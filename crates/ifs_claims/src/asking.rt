@@ -2,7 +2,7 @@
 
 ghost use Rattle.std.specs.Prelude.{◌≡◌, IfOk};
 ghost use Rattle.ifs_lint.specs.Asking.{meets_all, IsExtentOf};
-ghost use Rattle.ifs_claims.specs.inner.Stays.{where_resting};
+ghost use Rattle.ifs_claims.specs.inner.Stays.{where_hit, where_resting};
 ghost use Rattle.ifs_claims.specs.inner.Widening.{either, Widens};
 
 use crate::entered::Bodies;
@@ -70,4 +70,26 @@ pub(crate) fn ask_resting(
     let none_wishes = [Demand::Silent(own), Demand::Silent(always), is_true];
     let by_all = ask_also(alloc, scope, by_either, &none_wishes, budget)?;
     Ok(by_all)
+}
+
+/// Whether under some facts the last wish of the bodies is for a state that is aimed at.
+pub(crate) fn ask_wish(
+    alloc: Global,
+    scope: Scope,
+    bodies: Bodies<'_>,
+    aim: Aim,
+    budget: &mut Budget,
+) -> Result<Extent, AllocError>
+    ensures { IfOk result (λ extent. IsExtentOf scope (where_hit bodies.entry.always.now bodies.entry.own.now aim) extent) }
+{
+    let Bodies { always, own } = bodies;
+    let own_wishes = [Demand::Free(own), Demand::Aims(own, aim)];
+    let by_own = ask(alloc, scope, &own_wishes, budget)?;
+    let always_wishes = [
+        Demand::Silent(own),
+        Demand::Free(always),
+        Demand::Aims(always, aim),
+    ];
+    let by_either = ask_also(alloc, scope, by_own, &always_wishes, budget)?;
+    Ok(by_either)
 }

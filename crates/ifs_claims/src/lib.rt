@@ -5,9 +5,11 @@
 mod asking;
 mod entered;
 pub mod laws;
+mod moving;
 mod resting;
 mod told;
 
 pub use entered::Entered;
+pub use moving::{never_enters, never_from};
 pub use resting::never_rests;
 pub use told::Told;

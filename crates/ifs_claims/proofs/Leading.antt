@@ -1,0 +1,83 @@
+-- Evaluations that lead from one state to another.
+use Rattle.std.proofs.Common.{◌≡◌, ℕ, ◌⊎◌, inl, inr, ⊎_elim, Bool, true, false, List, [], ◌∷◌, ◌++◌, Option, Some, None, eqb, refl, sym, ap, ◌∙◌, subst}
+use Rattle.std.specs.Prelude.{if◌then◌else◌}
+use Rattle.std.proofs.lemmas.Bool.{false≢true, true≢false, eqb-true, eq-eqb}
+use Rattle.std.proofs.lemmas.Option.{none-some, same_Some}
+use Rattle.ifs_base.specs.Facts.{Facts}
+use Rattle.ifs_base.specs.declared.ids.StateId.{StateId}
+use Rattle.ifs_core.specs.Event.{change_of}
+use Rattle.ifs_core.specs.declared.step.Step.{Step}
+use Rattle.ifs_core.specs.Gateway.{Known}
+use Rattle.ifs_gen.specs.Trees.{Policy}
+use Rattle.ifs_policy.specs.Meaning.{Block}
+use Rattle.ifs_lint.specs.declared.demands.Aim.TheVariants.{To}
+use Rattle.ifs_lint.specs.declared.ranges.Scope.{Scope}
+use Rattle.ifs_lint.specs.declared.searching.Extent.{Extent}
+use Rattle.ifs_lint.specs.declared.searching.Extent.TheVariants.{Somewhere, Nowhere, Undecided}
+use Rattle.ifs_lint.specs.Asking.{hits, IsExtentOf}
+use Rattle.ifs_lint.specs.Ranges.{AreFactsOf, scope_of}
+use Rattle.ifs_lint.specs.Situations.{Situation, situation_after, IsKnownFor, wish_of, leads_to, IsNeverEntered, IsEntryOf}
+use Rattle.ifs_claims.specs.declared.told.Told.{Told}
+use Rattle.ifs_claims.specs.Claims.{NeverFrom}
+use Rattle.ifs_claims.specs.Moves.{Moves}
+use Rattle.ifs_claims.specs.Told.{IsToldOfEntry, IsToldOfMove}
+use Rattle.ifs_claims.specs.inner.Stays.{AreBodiesIn, where_hit}
+use Rattle.ifs_claims.specs.inner.Widening.{told_by}
+use Rattle.ifs_claims.proofs.Standing.{steps_evaluate}
+use Rattle.ifs_claims.proofs.Staying.{hit_in}
+
+-- What is told of an entry.
+entry_by : (policy : Policy) (state : StateId) (extent : Extent) → IsEntryOf policy state extent → IsToldOfEntry policy state (told_by extent)
+entry_by policy state Somewhere h = h
+entry_by policy state Nowhere h = h
+entry_by policy state Undecided h = tt
+
+pub entry_told : (policy : Policy) (state : StateId) (extent : Extent) (told : Told) → IsEntryOf policy state extent → told ≡ told_by extent → IsToldOfEntry policy state told
+entry_told policy state extent told h told_is = subst (IsToldOfEntry policy state) (sym told_is) (entry_by policy state extent h)
+
+same_state : (a b : StateId) → a.0 ≡ b.0 → a ≡ b
+same_state a b e = ap (λ n. let state : StateId = record { 0 = n } in state) e
+
+-- An evaluation leads to another state exactly if that is its last wish.
+leads_by : (state next : StateId) (wish : Option StateId) → (state.0 ≡ next.0 → ⊥) → hits (To next) wish ≡ true → change_of state wish ≡ Some next
+leads_by state next None differ e = absurd (false≢true e)
+leads_by state next (Some other) differ e = by_test (eqb other.0 state.0) refl (same_state other next (eqb-true other.0 next.0 e))
+  where
+    by_test : (c : Bool) → eqb other.0 state.0 ≡ c → other ≡ next → (if c then None else Some other) ≡ Some next
+    by_test true t same = absurd (differ (sym (eqb-true other.0 state.0 t) ∙ ap (λ s. s.0) same))
+    by_test false t same = ap (λ s. Some s) same
+
+hit_by : (state next : StateId) (wish : Option StateId) → change_of state wish ≡ Some next → hits (To next) wish ≡ true
+hit_by state next None e = absurd (none-some next e)
+hit_by state next (Some other) e = by_test (eqb other.0 state.0) e
+  where
+    by_test : (c : Bool) → (if c then None else Some other) ≡ Some next → eqb other.0 next.0 ≡ true
+    by_test true h = absurd (none-some next h)
+    by_test false h = eq-eqb other.0 next.0 (ap (λ s. s.0) (same_Some other next h))
+
+-- A state that is never entered, and another one.
+pub move_never : (policy : Policy) (state next : StateId) → IsNeverEntered policy state → NeverFrom policy state next
+move_never policy state next never known fits steps step at to = never known fits steps at
+
+pub move_never_to : (policy : Policy) (state next : StateId) → IsNeverEntered policy next → NeverFrom policy state next
+move_never_to policy state next never known fits steps step at to = never known fits (steps ++ step ∷ []) to
+
+move_by : (policy : Policy) (state next : StateId) (always own : Block) (extent : Extent) → AreBodiesIn policy state always own → (state.0 ≡ next.0 → ⊥) → IsExtentOf (scope_of policy) (where_hit always own (To next)) extent
+    → IsToldOfMove policy state next (told_by extent)
+move_by policy state next always own Somewhere are differ h =
+    record { facts = h.0; are = h.1; leads = leads_by state next (wish_of policy h.0 state) differ (hit_in policy state always own are (To next) h.0 ∙ h.2) }
+move_by policy state next always own Nowhere are differ h = λ known fits steps step at to.
+    let before = situation_after policy known steps in
+    let after = situation_after policy known (steps ++ step ∷ []) in
+    ⊎_elim (λ same. differ (ap (λ s. s.0) (sym at ∙ sym same ∙ to)))
+    (λ moves.
+    true≢false
+    (sym (hit_by state next (wish_of policy moves.facts state) (subst (λ s. leads_to policy moves.facts s ≡ Some next) at (subst (λ s. leads_to policy moves.facts before.current ≡ Some s) to moves.leads)))
+    ∙ hit_in policy state always own are (To next) moves.facts ∙ h moves.facts moves.are))
+    (steps_evaluate policy known fits steps step)
+move_by policy state next always own Undecided are differ h = tt
+
+pub move_told : (policy : Policy) (state next : StateId) (always own : Block) (scope : Scope) (extent : Extent) (told : Told) → AreBodiesIn policy state always own → (state.0 ≡ next.0 → ⊥) → scope ≡ scope_of policy
+    → IsExtentOf scope (where_hit always own (To next)) extent → told ≡ told_by extent → IsToldOfMove policy state next told
+move_told policy state next always own scope extent told are differ scope_is h told_is =
+    subst (IsToldOfMove policy state next) (sym told_is) (move_by policy state next always own extent are differ (subst (λ s. IsExtentOf s (where_hit always own (To next)) extent) scope_is h))
