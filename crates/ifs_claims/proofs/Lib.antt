@@ -1,3 +1,5 @@
 pub mod Standing
 pub mod Staying
 pub mod Leading
+pub mod Truths
+pub mod Elsewhere

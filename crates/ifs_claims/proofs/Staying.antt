@@ -25,7 +25,7 @@ use Rattle.ifs_lint.proofs.Situated.{rests_stay}
 use Rattle.ifs_claims.specs.declared.told.Told.{Told}
 use Rattle.ifs_claims.specs.Claims.{NeverRests}
 use Rattle.ifs_claims.specs.Told.{IsToldOfRest, WouldRest}
-use Rattle.ifs_claims.specs.inner.Stays.{AreBodiesIn, where_hit, where_resting}
+use Rattle.ifs_claims.specs.inner.Stays.{AreBodiesIn, where_hit, where_resting, where_settled}
 use Rattle.ifs_claims.specs.inner.Widening.{either, Widens, told_by}
 use Rattle.ifs_claims.proofs.Standing.{facts_stay}
 
@@ -112,6 +112,44 @@ pub resting_asked : (scope : Scope) (always own : Bor Block) (state : StateId) (
 resting_asked scope always own state condition by_own by_either by_all h k l =
     extent_agrees scope (where_resting always.now own.now state condition.now) _ (resting_met always own state condition) by_all (l _ (k _ h))
 
+-- The same ways while no body is held back.
+abbrev settled : StateId → Bool → Option StateId → Bool → Option StateId → Bool → Bool
+settled state g v h w t =
+    ((not h && (not g && (hits (To state) w && (t && true)))) || (not h && (not g && (not (is_some (wish_if h w)) && (hits (To state) v && (t && true))))))
+    || (not h && (not g && (not (is_some (wish_if h w)) && (not (is_some (wish_if g v)) && (t && true)))))
+
+settled_ways : (state : StateId) (g : Bool) (v : Option StateId) (h : Bool) (w : Option StateId) (t : Bool) → ((not g && not h) && stays state g v h w t) ≡ settled state g v h w t
+settled_ways state true v true w t = refl
+settled_ways state true v false w t = refl
+settled_ways state false v true w t = refl
+settled_ways state false v false w t = stays_ways state false v false w t
+
+settled_met : (always own : Bor Block) (state : StateId) (condition : Bor Condition) (facts : Facts)
+    → where_settled always.now own.now state condition.now facts
+    ≡ ((meets_all (Free own ∷ Free always ∷ Aims own (To state) ∷ Truth condition true ∷ []) facts || meets_all (Free own ∷ Free always ∷ Silent own ∷ Aims always (To state) ∷ Truth condition true ∷ []) facts)
+    || meets_all (Free own ∷ Free always ∷ Silent own ∷ Silent always ∷ Truth condition true ∷ []) facts)
+settled_met always own state condition facts =
+    let g = is_held facts always.now in
+    let v = reached facts always.now in
+    let h = is_held facts own.now in
+    let w = reached facts own.now in
+    let t = truth facts condition.now in
+    ap (λ x. (not g && not h) && (not (hits (Off state) (later_wish x (if h then nothing_yet else w).wish)) && t)) (held_wish g v)
+    ∙ ap (λ x. (not g && not h) && (not (hits (Off state) (later_wish (wish_if g v.wish) x)) && t)) (held_wish h w)
+    ∙ settled_ways state g v.wish h w.wish t
+    ∙ ap (λ x. ((not h && (not g && (hits (To state) w.wish && (t && true)))) || (not h && (not g && (not (is_some x) && (hits (To state) v.wish && (t && true))))))
+    || (not h && (not g && (not (is_some x) && (not (is_some (wish_if g v.wish)) && (t && true)))))) (sym (held_wish h w))
+    ∙ ap (λ x. ((not h && (not g && (hits (To state) w.wish && (t && true)))) || (not h && (not g && (not (is_some (if h then nothing_yet else w).wish) && (hits (To state) v.wish && (t && true))))))
+    || (not h && (not g && (not (is_some (if h then nothing_yet else w).wish) && (not (is_some x) && (t && true)))))) (sym (held_wish g v))
+
+pub settled_asked : (scope : Scope) (always own : Bor Block) (state : StateId) (condition : Bor Condition) (by_own by_either by_all : Extent)
+    → IsExtentOf scope (meets_all (Free own ∷ Free always ∷ Aims own (To state) ∷ Truth condition true ∷ [])) by_own
+    → Widens scope (meets_all (Free own ∷ Free always ∷ Silent own ∷ Aims always (To state) ∷ Truth condition true ∷ [])) by_own by_either
+    → Widens scope (meets_all (Free own ∷ Free always ∷ Silent own ∷ Silent always ∷ Truth condition true ∷ [])) by_either by_all
+    → IsExtentOf scope (where_settled always.now own.now state condition.now) by_all
+settled_asked scope always own state condition by_own by_either by_all h k l =
+    extent_agrees scope (where_settled always.now own.now state condition.now) _ (settled_met always own state condition) by_all (l _ (k _ h))
+
 -- A state is left or kept.
 pub kept : (state : StateId) (wish : Option StateId) → change_of state wish ≡ None → hits (Off state) wish ≡ false
 kept state None e = refl
@@ -136,15 +174,15 @@ hit_in policy state always own are aim facts =
     ∙ ap (λ body. hits aim (later_wish (body_yield facts body).wish (body_yield facts are.part.body).wish)) (sym are.always_is)
     ∙ ap (λ body. hits aim (later_wish (body_yield facts always).wish (body_yield facts body).wish)) (sym are.own_is)
 
-not_and_false : (a t : Bool) → a ≡ false → (not a && t) ≡ false → t ≡ false
+pub not_and_false : (a t : Bool) → a ≡ false → (not a && t) ≡ false → t ≡ false
 not_and_false true t e f = absurd (true≢false e)
 not_and_false false t e f = f
 
-not_and_first : (a t : Bool) → (not a && t) ≡ true → a ≡ false
+pub not_and_first : (a t : Bool) → (not a && t) ≡ true → a ≡ false
 not_and_first true t e = absurd (false≢true e)
 not_and_first false t e = refl
 
-not_and_second : (a t : Bool) → (not a && t) ≡ true → t ≡ true
+pub not_and_second : (a t : Bool) → (not a && t) ≡ true → t ≡ true
 not_and_second true t e = absurd (false≢true e)
 not_and_second false t e = e
 

@@ -8,7 +8,7 @@ use Rattle.ifs_lint.specs.Ranges.{AreFactsOf, scope_of}
 use Rattle.ifs_lint.specs.Situations.{leads_to, IsLedTo, IsNeverEntered}
 use Rattle.ifs_claims.specs.declared.told.Told.{Told}
 use Rattle.ifs_claims.specs.declared.told.Told.TheVariants.{Holds, Possible, Undecided}
-use Rattle.ifs_claims.specs.Moves.{Moves}
+use Rattle.ifs_claims.specs.Moves.{IsThere, Moves}
 use Rattle.ifs_claims.specs.Claims.{NeverRests, NeverIn, RestsIn, NeverFrom}
 
 -- What is told of a claim that holds, or that something breaks.
@@ -24,8 +24,9 @@ pub record WouldRest (policy : Policy) (state : StateId) (condition : Condition)
   pub stays : leads_to policy facts state ≡ None
   pub true_there : truth facts condition ≡ true
 
--- Facts under which a condition is true.
-pub record WouldBe (policy : Policy) (condition : Condition) : Type 0 where
+-- A state that the policy has, and facts under which a condition is true.
+pub record WouldBe (policy : Policy) (state : StateId) (condition : Condition) : Type 0 where
+  pub there : IsThere policy state
   pub facts : Facts
   pub are : AreFactsOf (scope_of policy) facts
   pub true_there : truth facts condition ≡ true
@@ -46,7 +47,7 @@ IsToldOfRest policy state condition = IsTold (NeverRests policy state condition)
 
 -- What is told of whether a condition is true in a state at any moment.
 abbrev pub IsToldOfMoments : Policy → StateId → Condition → Told → Type 0
-IsToldOfMoments policy state condition = IsTold (NeverIn policy state condition) (WouldBe policy condition)
+IsToldOfMoments policy state condition = IsTold (NeverIn policy state condition) (WouldBe policy state condition)
 
 -- What is told of whether a step leads from one state to another.
 abbrev pub IsToldOfMove : Policy → StateId → StateId → Told → Type 0

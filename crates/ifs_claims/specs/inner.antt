@@ -1,2 +1,3 @@
 pub mod Widening
 pub mod Stays
+pub mod Elsewhere

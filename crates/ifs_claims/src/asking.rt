@@ -2,7 +2,7 @@
 
 ghost use Rattle.std.specs.Prelude.{◌≡◌, IfOk};
 ghost use Rattle.ifs_lint.specs.Asking.{meets_all, IsExtentOf};
-ghost use Rattle.ifs_claims.specs.inner.Stays.{where_hit, where_resting};
+ghost use Rattle.ifs_claims.specs.inner.Stays.{where_hit, where_resting, where_settled};
 ghost use Rattle.ifs_claims.specs.inner.Widening.{either, Widens};
 
 use crate::entered::Bodies;
@@ -13,7 +13,7 @@ use ifs_policy::Single;
 use std::alloc::{AllocError, Global};
 
 /// Of two answers: whether some facts pass one test or the other.
-fn either(before: Extent, more: Extent) -> Extent
+pub(crate) fn either(before: Extent, more: Extent) -> Extent
     ensures { result ≡ either before more }
 {
     match (before, more) {
@@ -68,6 +68,45 @@ pub(crate) fn ask_resting(
     ];
     let by_either = ask_also(alloc, scope, by_own, &always_stays, budget)?;
     let none_wishes = [Demand::Silent(own), Demand::Silent(always), is_true];
+    let by_all = ask_also(alloc, scope, by_either, &none_wishes, budget)?;
+    Ok(by_all)
+}
+
+/// The same, while neither body is held back.
+pub(crate) fn ask_settled(
+    alloc: Global,
+    scope: Scope,
+    bodies: Bodies<'_>,
+    state: StateId,
+    condition: &Condition<Single>,
+    budget: &mut Budget,
+) -> Result<Extent, AllocError>
+    ensures { IfOk result (λ extent. IsExtentOf scope (where_settled bodies.entry.always.now bodies.entry.own.now state condition.now) extent) }
+{
+    let Bodies { always, own } = bodies;
+    let is_true = Demand::Truth(condition, true);
+    let own_stays = [
+        Demand::Free(own),
+        Demand::Free(always),
+        Demand::Aims(own, Aim::To(state)),
+        is_true,
+    ];
+    let by_own = ask(alloc, scope, &own_stays, budget)?;
+    let always_stays = [
+        Demand::Free(own),
+        Demand::Free(always),
+        Demand::Silent(own),
+        Demand::Aims(always, Aim::To(state)),
+        is_true,
+    ];
+    let by_either = ask_also(alloc, scope, by_own, &always_stays, budget)?;
+    let none_wishes = [
+        Demand::Free(own),
+        Demand::Free(always),
+        Demand::Silent(own),
+        Demand::Silent(always),
+        is_true,
+    ];
     let by_all = ask_also(alloc, scope, by_either, &none_wishes, budget)?;
     Ok(by_all)
 }

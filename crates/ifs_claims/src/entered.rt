@@ -40,6 +40,8 @@ impl<'a> Model for Entered<'a> {
 }
 
 impl<'a> Entered<'a> {
+    ghost use Rattle.std.specs.Prelude.{length};
+    ghost use Rattle.ifs_policy.specs.Fits.{PolicyFits};
     ghost use Rattle.ifs_lint.specs.Ranges.{scope_of};
     ghost use Rattle.ifs_lint.specs.Situations.{IsEntryOf, IsNeverEntered};
     ghost use Rattle.ifs_claims.specs.inner.Stays.{AreBodiesIn};
@@ -61,6 +63,14 @@ impl<'a> Entered<'a> {
         ensures { result.now ≡ self.now }
     {
         self.policy
+    }
+
+    /// The number of states.
+    pub(crate) fn count(&self) -> u16
+        ensures count { result ≡ length self.now.tables.states }
+        ensures fits { PolicyFits self.now }
+    {
+        self.policy.counts().states
     }
 
     /// The links and tests of the policy.

@@ -5,11 +5,13 @@
 mod asking;
 mod entered;
 pub mod laws;
+mod moments;
 mod moving;
 mod resting;
 mod told;
 
 pub use entered::Entered;
+pub use moments::never_in;
 pub use moving::{never_enters, never_from};
-pub use resting::never_rests;
+pub use resting::{never_rests, rests_in};
 pub use told::Told;

@@ -1,0 +1,148 @@
+-- Where a policy rests, state by state.
+use Rattle.std.proofs.Common.{◌≡◌, ℕ, ◌+◌, ◌<◌, ◌≤◌, ◌⊎◌, inl, inr, ⊎_elim, Bool, true, false, not, ◌&&◌, List, length, Some, refl, sym, ap, ◌∙◌, subst, arith}
+use Rattle.std.specs.Prelude.{slice_get, Contains, None, IsTrue, ◌↔◌}
+use Rattle.std.proofs.lemmas.Bool.{false≢true, true≢false, cases_eq}
+use Rattle.std.proofs.lemmas.Option.{slice_get_within}
+use Rattle.ifs_base.specs.Facts.{Facts}
+use Rattle.ifs_base.specs.declared.ids.StateId.{StateId}
+use Rattle.ifs_gen.specs.Trees.{Policy}
+use Rattle.ifs_policy.specs.Fits.{PolicyFits}
+use Rattle.ifs_policy.specs.Meaning.{Block, Condition, truth, is_held, IsHeld}
+use Rattle.ifs_lint.specs.declared.demands.Aim.TheVariants.{Off}
+use Rattle.ifs_lint.specs.declared.ranges.Scope.{Scope}
+use Rattle.ifs_lint.specs.declared.searching.Extent.{Extent}
+use Rattle.ifs_lint.specs.declared.searching.Extent.TheVariants.{Somewhere, Nowhere, Undecided}
+use Rattle.ifs_lint.specs.Asking.{IsExtentOf}
+use Rattle.ifs_lint.specs.Ranges.{AreFactsOf, scope_of}
+use Rattle.ifs_lint.specs.Situations.{Situation, situation_after, wish_of, leads_to, IsNeverEntered}
+use Rattle.ifs_lint.proofs.Situated.{rests_stay}
+use Rattle.ifs_claims.specs.declared.told.Told.{Told}
+use Rattle.ifs_claims.specs.Claims.{IsSettled, IsRestIn, RestsIn}
+use Rattle.ifs_claims.specs.Told.{WouldRestElsewhere, IsToldOfRests}
+use Rattle.ifs_claims.specs.inner.Stays.{AreBodiesIn, where_hit, where_resting, where_settled}
+use Rattle.ifs_claims.specs.inner.Widening.{either, told_by}
+use Rattle.ifs_claims.specs.inner.Elsewhere.{HoldsIn, IsElsewhere, IsElsewhereBefore}
+use Rattle.ifs_claims.proofs.Standing.{facts_stay, states_stay}
+use Rattle.ifs_claims.proofs.Staying.{kept, keeps, hit_in, not_and_false, not_and_first, not_and_second}
+
+-- A state that is among them, and one that is never entered.
+pub among_holds : (policy : Policy) (states : List StateId) (condition : Condition) (state : StateId) → Contains states state → HoldsIn policy states condition state
+among_holds policy states condition state among known fits steps here settled true_there = subst (Contains states) (sym here) among
+
+pub never_holds : (policy : Policy) (states : List StateId) (condition : Condition) (state : StateId) → IsNeverEntered policy state → HoldsIn policy states condition state
+never_holds policy states condition state never known fits steps here = absurd (never known fits steps here)
+
+-- A body that is not held back.
+free_of : (b : Bool) (P : Type 0) → (b ≡ true → P) → ¬ P → b ≡ false
+free_of true P f not_p = absurd (not_p (f refl))
+free_of false P f not_p = refl
+
+abbrev pub HeldExactly : Type 0
+HeldExactly = (facts : Facts) (body : Block) → IsTrue (is_held facts body) ↔ IsHeld facts body
+
+free_body : HeldExactly → (facts : Facts) (body : Block) → ¬ IsHeld facts body → is_held facts body ≡ false
+free_body exactly facts body free = free_of (is_held facts body) (IsHeld facts body) (λ e. (exactly facts body).0 e) free
+
+not_held : HeldExactly → (facts : Facts) (body : Block) → is_held facts body ≡ false → ¬ IsHeld facts body
+not_held exactly facts body e held = true≢false (sym ((exactly facts body).1 held) ∙ e)
+
+-- Of a conjunction of what is not so.
+none_of : (g h r : Bool) → g ≡ false → h ≡ false → ((not g && not h) && r) ≡ false → r ≡ false
+none_of true h r e f k = absurd (true≢false e)
+none_of false true r e f k = absurd (true≢false f)
+none_of false false r e f k = k
+
+first_free : (g h r : Bool) → ((not g && not h) && r) ≡ true → g ≡ false
+first_free true h r e = absurd (false≢true e)
+first_free false h r e = refl
+
+second_free : (g h r : Bool) → ((not g && not h) && r) ≡ true → h ≡ false
+second_free true h r e = absurd (false≢true e)
+second_free false true r e = absurd (false≢true e)
+second_free false false r e = refl
+
+rest_free : (g h r : Bool) → ((not g && not h) && r) ≡ true → r ≡ true
+rest_free true h r e = absurd (false≢true e)
+rest_free false true r e = absurd (false≢true e)
+rest_free false false r e = e
+
+module _ (exactly : HeldExactly) (policy : Policy) (states : List StateId) (condition : Condition) (state : StateId) (always own : Block) (are : AreBodiesIn policy state always own) where
+  -- Facts under which the policy would rest there.
+  would_rest : ¬ Contains states state → (facts : Facts) → AreFactsOf (scope_of policy) facts → where_settled always own state condition facts ≡ true → WouldRestElsewhere policy states condition
+  would_rest elsewhere facts facts_are e =
+      let g = is_held facts always in
+      let h = is_held facts own in
+      let hit = where_hit always own (Off state) facts in
+      let resting = rest_free g h (where_resting always own state condition facts) e in
+      record {
+        state = state;
+        part = are.part;
+        there = are.there;
+        elsewhere = elsewhere;
+        rest = record {
+          facts = facts;
+          are = facts_are;
+          stays = keeps state (wish_of policy facts state) (hit_in policy state always own are (Off state) facts ∙ not_and_first hit (truth facts condition) resting);
+          true_there = not_and_second hit (truth facts condition) resting;
+        };
+        always = not_held exactly facts policy.always.body (ap (is_held facts) (sym are.always_is) ∙ first_free g h (where_resting always own state condition facts) e);
+        own = not_held exactly facts are.part.body (ap (is_held facts) (sym are.own_is) ∙ second_free g h (where_resting always own state condition facts) e);
+      }
+
+  -- No facts are so, and the situation is settled there.
+  no_rest : (s : Situation) → AreFactsOf (scope_of policy) s.facts → leads_to policy s.facts state ≡ None → s.current ≡ state → IsSettled policy s → where_settled always own state condition s.facts ≡ false
+      → truth s.facts condition ≡ false
+  no_rest s facts_are stays here settled e =
+      not_and_false (where_hit always own (Off state) s.facts) (truth s.facts condition)
+      (sym (hit_in policy state always own are (Off state) s.facts) ∙ kept state (wish_of policy s.facts state) stays)
+      (none_of (is_held s.facts always) (is_held s.facts own) (where_resting always own state condition s.facts)
+      (ap (is_held s.facts) are.always_is ∙ free_body exactly s.facts policy.always.body settled.always)
+      (ap (is_held s.facts) are.own_is ∙ free_body exactly s.facts are.part.body (settled.own are.part (ap (λ x. slice_get policy.states x.0) here ∙ are.there))) e)
+
+  pub elsewhere_by : (extent : Extent) → ¬ Contains states state → IsExtentOf (scope_of policy) (where_settled always own state condition) extent → IsElsewhere policy states condition state extent
+  elsewhere_by Somewhere elsewhere h = would_rest elsewhere h.0 h.1 h.2
+  elsewhere_by Nowhere elsewhere h = λ known fits steps here settled true_there.
+      let s = situation_after policy known steps in
+      let facts_are = facts_stay policy known fits steps in
+      let stays = subst (λ x. leads_to policy s.facts x ≡ None) here (rests_stay policy known fits steps settled.owed) in
+      absurd (true≢false (sym true_there ∙ no_rest s facts_are stays here settled (h s.facts facts_are)))
+  elsewhere_by Undecided elsewhere h = tt
+
+pub elsewhere_told : HeldExactly → (policy : Policy) (states : List StateId) (condition : Condition) (state : StateId) (always own : Block) (scope : Scope) (extent : Extent) → AreBodiesIn policy state always own
+    → ¬ Contains states state → scope ≡ scope_of policy → IsExtentOf scope (where_settled always own state condition) extent → IsElsewhere policy states condition state extent
+elsewhere_told exactly policy states condition state always own scope extent are elsewhere scope_is h =
+    elsewhere_by exactly policy states condition state always own are extent elsewhere (subst (λ s. IsExtentOf s (where_settled always own state condition) extent) scope_is h)
+
+same_state : (a b : StateId) → a.0 ≡ b.0 → a ≡ b
+same_state a b e = ap (λ n. let state : StateId = record { 0 = n } in state) e
+
+-- One more state.
+pub none_before : (policy : Policy) (states : List StateId) (condition : Condition) → IsElsewhereBefore policy states condition 0 Nowhere
+none_before policy states condition state lt = absurd (omega (arith, lt))
+
+pub one_more : (policy : Policy) (states : List StateId) (condition : Condition) (state : StateId) (extent more : Extent) → IsElsewhereBefore policy states condition state.0 extent
+    → IsElsewhere policy states condition state more → IsElsewhereBefore policy states condition (state.0 + 1) (either extent more)
+one_more policy states condition state Somewhere more h k = h
+one_more policy states condition state Nowhere Somewhere h k = k
+one_more policy states condition state Nowhere Nowhere h k = λ other lt.
+    ⊎_elim (λ e. subst (HoldsIn policy states condition) (same_state state other (sym e)) k) (λ differ. let d : other.0 ≡ state.0 → ⊥ = differ in h other (omega (arith, d, lt))) (cases_eq other.0 state.0)
+one_more policy states condition state Nowhere Undecided h k = tt
+one_more policy states condition state Undecided Somewhere h k = k
+one_more policy states condition state Undecided Nowhere h k = tt
+one_more policy states condition state Undecided Undecided h k = tt
+
+-- All states.
+rests_by : (policy : Policy) (states : List StateId) (condition : Condition) (count : ℕ) (extent : Extent) → PolicyFits policy → length policy.tables.states ≤ count
+    → IsElsewhereBefore policy states condition count extent → IsToldOfRests policy states condition (told_by extent)
+rests_by policy states condition count Somewhere policy_fits all h = h
+rests_by policy states condition count Nowhere policy_fits all h = λ known fits steps.
+    let s = situation_after policy known steps in
+    let there = states_stay policy policy_fits known fits steps in
+    let within = slice_get_within policy.states s.current.0 there.0 there.1 in
+    let same = policy_fits.count in
+    h s.current (omega (arith, all, within, same)) known fits steps refl
+rests_by policy states condition count Undecided policy_fits all h = tt
+
+pub rests_told : (policy : Policy) (states : List StateId) (condition : Condition) (count : ℕ) (extent : Extent) (told : Told) → PolicyFits policy → length policy.tables.states ≤ count
+    → IsElsewhereBefore policy states condition count extent → told ≡ told_by extent → IsToldOfRests policy states condition told
+rests_told policy states condition count extent told policy_fits all h told_is = subst (IsToldOfRests policy states condition) (sym told_is) (rests_by policy states condition count extent policy_fits all h)

@@ -1,0 +1,11 @@
+-- What the facts of any moment say.
+use Rattle.ifs_claims.proofs.Truths.{moment_never, moment_told}
+use Rattle.ifs_claims.proofs.moments.never_in.Goals as goal
+
+pub returns-then-is_never : goal.returns-then-is_never
+returns-then-is_never c = moment_never c.args.entered.now c.args.state c.args.condition.now c.if-is_never.ensures
+
+pub returns : goal.returns
+returns c =
+    moment_told c.args.entered.now c.args.state c.args.condition c.in-Some.field-0.always.now c.in-Some.field-0.own.now c.scope.result c.in_ok-extent.extent c.by.result c.in-Some.ensures c.scope.ensures
+    c.in_ok-extent.ensures.extent c.by.ensures

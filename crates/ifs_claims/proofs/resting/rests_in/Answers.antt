@@ -1,0 +1,20 @@
+-- State by state.
+use Rattle.std.proofs.Common.{sym, subst, ◌+◌, arith}
+use Rattle.ifs_base.specs.declared.ids.StateId.{StateId}
+use Rattle.ifs_claims.specs.inner.Elsewhere.{IsElsewhereBefore}
+use Rattle.ifs_claims.proofs.Elsewhere.{none_before, one_more, rests_told}
+use Rattle.ifs_claims.proofs.resting.rests_in.Goals as goal
+
+pub loop-index-init : goal.loop-index-init
+loop-index-init c = none_before c.args.entered.now c.args.states.now c.args.condition.now
+
+pub loop-index-preserved : goal.loop-index-preserved
+loop-index-preserved c =
+    let state : StateId = record { 0 = c.loop-index.index } in
+    subst (IsElsewhereBefore c.args.entered.now c.args.states.now c.args.condition.now (c.loop-index.index + 1)) (sym c.either-extent.ensures)
+    (one_more c.args.entered.now c.args.states.now c.args.condition.now state c.loop-index.extent c.in_ok-more.more c.loop-index.invariant c.in_ok-more.ensures)
+
+pub returns : goal.returns
+returns c =
+    rests_told c.args.entered.now c.args.states.now c.args.condition.now c.loop-index.index c.loop-index.extent c.by.result c.count-count.ensures.fits (omega (arith, c.count-count.ensures.count, c.loop-index-test.false))
+    c.loop-index.invariant c.by.ensures
