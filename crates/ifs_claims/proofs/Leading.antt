@@ -19,7 +19,7 @@ use Rattle.ifs_lint.specs.Ranges.{AreFactsOf, scope_of}
 use Rattle.ifs_lint.specs.Situations.{Situation, situation_after, IsKnownFor, wish_of, leads_to, IsNeverEntered, IsEntryOf}
 use Rattle.ifs_claims.specs.declared.told.Told.{Told}
 use Rattle.ifs_claims.specs.Claims.{NeverFrom}
-use Rattle.ifs_claims.specs.Moves.{Moves}
+use Rattle.ifs_claims.specs.Moves.{LeadsBy, seen}
 use Rattle.ifs_claims.specs.Told.{IsToldOfEntry, IsToldOfMove}
 use Rattle.ifs_claims.specs.inner.Stays.{AreBodiesIn, where_hit}
 use Rattle.ifs_claims.specs.inner.Widening.{told_by}
@@ -65,16 +65,17 @@ move_never_to policy state next never known fits steps step at to = never known 
 move_by : (policy : Policy) (state next : StateId) (always own : Block) (extent : Extent) → AreBodiesIn policy state always own → (state.0 ≡ next.0 → ⊥) → IsExtentOf (scope_of policy) (where_hit always own (To next)) extent
     → IsToldOfMove policy state next (told_by extent)
 move_by policy state next always own Somewhere are differ h =
-    record { facts = h.0; are = h.1; leads = leads_by state next (wish_of policy h.0 state) differ (hit_in policy state always own are (To next) h.0 ∙ h.2) }
+    (h.0, record { are = h.1; leads = leads_by state next (wish_of policy h.0 state) differ (hit_in policy state always own are (To next) h.0 ∙ h.2) })
 move_by policy state next always own Nowhere are differ h = λ known fits steps step at to.
     let before = situation_after policy known steps in
     let after = situation_after policy known (steps ++ step ∷ []) in
     ⊎_elim (λ same. differ (ap (λ s. s.0) (sym at ∙ sym same ∙ to)))
     (λ moves.
+    let facts = seen step before.facts in
     true≢false
-    (sym (hit_by state next (wish_of policy moves.facts state) (subst (λ s. leads_to policy moves.facts s ≡ Some next) at (subst (λ s. leads_to policy moves.facts before.current ≡ Some s) to moves.leads)))
-    ∙ hit_in policy state always own are (To next) moves.facts ∙ h moves.facts moves.are))
-    (steps_evaluate policy known fits steps step)
+    (sym (hit_by state next (wish_of policy facts state) (subst (λ s. leads_to policy facts s ≡ Some next) at (subst (λ s. leads_to policy facts before.current ≡ Some s) to moves.leads)))
+    ∙ hit_in policy state always own are (To next) facts ∙ h facts moves.are))
+    (steps_evaluate policy known fits steps step).state
 move_by policy state next always own Undecided are differ h = tt
 
 pub move_told : (policy : Policy) (state next : StateId) (always own : Block) (scope : Scope) (extent : Extent) (told : Told) → AreBodiesIn policy state always own → (state.0 ≡ next.0 → ⊥) → scope ≡ scope_of policy

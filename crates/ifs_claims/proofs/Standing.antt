@@ -9,6 +9,8 @@ use Rattle.std.proofs.lemmas.List.FromFn.{length-enumerate_from}
 use Rattle.ifs_base.specs.Facts.{Facts, is_link}
 use Rattle.ifs_base.specs.Effects.{Effects, nothing_yet, later_wish}
 use Rattle.ifs_base.specs.declared.ids.CommandId.{CommandId}
+use Rattle.ifs_base.specs.declared.ids.IfaceId.{IfaceId}
+use Rattle.ifs_base.specs.declared.ids.TestId.{TestId}
 use Rattle.ifs_base.specs.declared.ids.StateId.{StateId}
 use Rattle.ifs_base.specs.declared.op.LinkState.{LinkState}
 use Rattle.ifs_sched.specs.Schedule.{is_running}
@@ -17,7 +19,7 @@ use Rattle.ifs_core.specs.declared.step.Step.TheVariants.{Link, Finished, Tick, 
 use Rattle.ifs_core.specs.declared.step.Reply.TheVariants.{Busy, Stale, Backwards}
 use Rattle.ifs_core.specs.Event.{AlwaysBody, Body, Behaviour, Position, change_of, kept_values, with_change, evaluation}
 use Rattle.ifs_core.specs.Gateway.{Known}
-use Rattle.ifs_core.specs.Steps.{CoreState, Turn, unchanged, same, done, ticked_after, no_event, lacks_room, with_link, with_value, with_run_over, has_value, changing}
+use Rattle.ifs_core.specs.Steps.{CoreState, Turn, unchanged, same, done, ticked_after, no_event, lacks_room, with_link, with_value, with_run_over, has_value, changing, commands_told}
 use Rattle.ifs_core.specs.Steps.{at_position, LinkSeen, RunEnded, link_turn, finished_turn, tick_turn, take_turn, turn, after_steps}
 use Rattle.ifs_gen.specs.Trees.{Part, Policy}
 use Rattle.ifs_gen.specs.PlainSizes.{room_of}
@@ -29,7 +31,7 @@ use Rattle.ifs_lint.specs.Ranges.{AreFactsOf, scope_of}
 use Rattle.ifs_lint.specs.Situations.{Situation, situation_of, situation_after, IsKnownFor, leads_to, wish_of, entered_by}
 use Rattle.ifs_lint.proofs.Situated.{closed_holds, entered_by_wishes}
 use Rattle.ifs_claims.specs.Claims.{CoresAreInSituations, ClaimsCarryOver, IsNoRest, IsFalseIn, IsRestIn}
-use Rattle.ifs_claims.specs.Moves.{FactsStay, IsThere, StatesStay, Moves, IsStepFrom, StepsEvaluate}
+use Rattle.ifs_claims.specs.Moves.{FactsStay, IsThere, StatesStay, LeadsBy, seen, with_init, commands_of, IsEvaluatedBy, state_after, queued_by, StepsEvaluate}
 
 -- Facts of a policy, as a test.
 abbrev has_places : Policy → Situation → Bool
@@ -148,65 +150,93 @@ states_stay policy policy_fits known fits steps =
 
 -- One step.
 module _ (policy : Policy) (s : CoreState) (are : AreFactsOf (scope_of policy) s.position.facts) where
-  abbrev Comes : CoreState → Type 0
-  Comes next = IsStepFrom policy (situation_of s.position) (situation_of next.position)
+  abbrev Comes : Step → Turn → Type 0
+  Comes step t = IsEvaluatedBy policy step (situation_of s.position) (situation_of t.next.position) (commands_told t.reply)
 
-  change_comes : (p : Position) (o : Option StateId) (commands : List CommandId) (cost : ℕ) → leads_to policy p.facts p.current ≡ o → p.current ≡ s.position.current → AreFactsOf (scope_of policy) p.facts
-      → IsStepFrom policy (situation_of s.position) (situation_of (with_change (behaviour_of policy) o (record { position = record p { owed = false }; commands = commands; cost = cost })).position)
-  change_comes p None commands cost e same_state facts = inl same_state
-  change_comes p (Some next) commands cost e same_state facts = inr (record { facts = p.facts; are = facts; leads = subst (λ state. leads_to policy p.facts state ≡ Some next) same_state e })
+  change_moves : (p : Position) (o : Option StateId) (commands : List CommandId) (cost : ℕ) → leads_to policy p.facts p.current ≡ o → p.current ≡ s.position.current → AreFactsOf (scope_of policy) p.facts
+      → let e = with_change (behaviour_of policy) o (record { position = record p { owed = false }; commands = commands; cost = cost }) in
+      (e.position.current ≡ s.position.current) ⊎ LeadsBy policy p.facts s.position.current e.position.current
+  change_moves p None commands cost e same_state facts = inl same_state
+  change_moves p (Some next) commands cost e same_state facts = inr (record { are = facts; leads = subst (λ state. leads_to policy p.facts state ≡ Some next) same_state e })
 
-  evaluation_comes : (p : Position) → p.current ≡ s.position.current → AreFactsOf (scope_of policy) p.facts → IsStepFrom policy (situation_of s.position) (situation_of (evaluation (behaviour_of policy) p).position)
-  evaluation_comes p same_state facts =
+  change_queues : (p : Position) (o : Option StateId) (commands : List CommandId) (cost : ℕ)
+      → (with_change (behaviour_of policy) o (record { position = record p { owed = false }; commands = commands; cost = cost })).commands ≡ with_init policy p.facts o commands
+  change_queues p None commands cost = refl
+  change_queues p (Some next) commands cost = refl
+
+  evaluation_moves : (p : Position) → p.current ≡ s.position.current → AreFactsOf (scope_of policy) p.facts
+      → ((evaluation (behaviour_of policy) p).position.current ≡ s.position.current) ⊎ LeadsBy policy p.facts s.position.current (evaluation (behaviour_of policy) p).position.current
+  evaluation_moves p same_state facts =
       let b = behaviour_of policy in
       let always = b.answer AlwaysBody p.facts in
       let own = b.answer (Body p.current.0) p.facts in
-      change_comes p (change_of p.current (later_wish always.wish own.wish)) (always.commands ++ own.commands) (b.cost AlwaysBody p.facts + b.cost (Body p.current.0) p.facts) refl same_state facts
+      change_moves p (change_of p.current (later_wish always.wish own.wish)) (always.commands ++ own.commands) (b.cost AlwaysBody p.facts + b.cost (Body p.current.0) p.facts) refl same_state facts
 
-  either : (c : Bool) (x y : Turn) → Comes x.next → Comes y.next → Comes (if c then x else y).next
-  either true x y h k = h
-  either false x y h k = k
+  evaluation_queues : (p : Position) → p.current ≡ s.position.current → (evaluation (behaviour_of policy) p).commands ≡ commands_of policy p.facts s.position.current
+  evaluation_queues p same_state =
+      let b = behaviour_of policy in
+      let always = b.answer AlwaysBody p.facts in
+      let own = b.answer (Body p.current.0) p.facts in
+      change_queues p (change_of p.current (later_wish always.wish own.wish)) (always.commands ++ own.commands) (b.cost AlwaysBody p.facts + b.cost (Body p.current.0) p.facts)
+      ∙ ap (commands_of policy p.facts) same_state
 
-  changing_comes : (step : Step) (p : Position) → p.current ≡ s.position.current → AreFactsOf (scope_of policy) p.facts → Comes (changing (behaviour_of policy) (room_of policy) step p s).next
-  changing_comes step p same_state facts =
-      either (lacks_room (room_of policy) s) (unchanged Busy s) (done step (evaluation (behaviour_of policy) p) s) (inl refl) (evaluation_comes p same_state facts)
+  stays : (step : Step) (t : Turn) → t.next.position.current ≡ s.position.current → commands_told t.reply ≡ [] → Comes step t
+  stays step t same_state none = record { state = inl same_state; queued = inl none }
 
-  link_comes : (seen : LinkSeen) (o : Option LinkState) → Comes (link_turn (behaviour_of policy) (room_of policy) seen o s).next
-  link_comes seen None = inl refl
-  link_comes seen (Some before) =
-      let step = Link seen.interface seen.link in
-      let p = with_link seen.interface.0 seen.link s.position in
-      either (is_link before seen.link) (same step s) (changing (behaviour_of policy) (room_of policy) step p s) (inl refl)
-      (changing_comes step p refl (record { links = length-set s.position.facts.links seen.interface.0 seen.link ∙ are.links; tests = are.tests }))
+  either : (step : Step) (c : Bool) (x y : Turn) → Comes step x → Comes step y → Comes step (if c then x else y)
+  either step true x y h k = h
+  either step false x y h k = k
 
-  finished_comes : (ended : RunEnded) (o : Option (Option Bool)) → Comes (finished_turn (behaviour_of policy) (room_of policy) ended o s).next
-  finished_comes ended None = inl refl
-  finished_comes ended (Some before) =
-      let step = Finished ended.test ended.run ended.value in
-      let over = with_run_over ended.test.0 ended.run s.position in
-      let p = with_value ended.test.0 ended.value over in
+  changing_comes : (step : Step) (p : Position) → p.current ≡ s.position.current → p.facts ≡ seen step s.position.facts → AreFactsOf (scope_of policy) p.facts
+      → Comes step (changing (behaviour_of policy) (room_of policy) step p s)
+  changing_comes step p same_state facts_is facts =
+      let e = evaluation (behaviour_of policy) p in
+      either step (lacks_room (room_of policy) s) (unchanged Busy s) (done step e s) (stays step (unchanged Busy s) refl refl)
+      (record {
+        state = subst (λ f. (e.position.current ≡ s.position.current) ⊎ LeadsBy policy f s.position.current e.position.current) facts_is (evaluation_moves p same_state facts);
+        queued = inr (subst (AreFactsOf (scope_of policy)) facts_is facts, evaluation_queues p same_state ∙ ap (λ f. commands_of policy f s.position.current) facts_is);
+      })
+
+  link_comes : (interface : IfaceId) (link : LinkState) (o : Option LinkState) → Comes (Link interface link) (link_turn (behaviour_of policy) (room_of policy) (record { interface = interface; link = link }) o s)
+  link_comes interface link None = record { state = inl refl; queued = inl refl }
+  link_comes interface link (Some before) =
+      let step = Link interface link in
+      let p = with_link interface.0 link s.position in
+      either step (is_link before link) (same step s) (changing (behaviour_of policy) (room_of policy) step p s) (stays step (same step s) refl refl)
+      (changing_comes step p refl refl (record { links = length-set s.position.facts.links interface.0 link ∙ are.links; tests = are.tests }))
+
+  finished_comes : (test : TestId) (run : ℕ) (value : Bool) (o : Option (Option Bool))
+      → Comes (Finished test run value) (finished_turn (behaviour_of policy) (room_of policy) (record { test = test; run = run; value = value }) o s)
+  finished_comes test run value None = record { state = inl refl; queued = inl refl }
+  finished_comes test run value (Some before) =
+      let step = Finished test run value in
+      let over = with_run_over test.0 run s.position in
+      let p = with_value test.0 value over in
       let changed = changing (behaviour_of policy) (room_of policy) step p s in
       let unmoved = same step (at_position over s) in
-      either (not (is_running ended.test.0 ended.run s.position.schedule)) (unchanged Stale s) (if has_value ended.value before then unmoved else changed) (inl refl)
-      (either (has_value ended.value before) unmoved changed (inl refl)
-      (changing_comes step p refl (record { links = are.links; tests = length-set s.position.facts.tests ended.test.0 (Some ended.value) ∙ are.tests })))
+      either step (not (is_running test.0 run s.position.schedule)) (unchanged Stale s) (if has_value value before then unmoved else changed) (stays step (unchanged Stale s) refl refl)
+      (either step (has_value value before) unmoved changed (stays step unmoved refl refl)
+      (changing_comes step p refl refl (record { links = are.links; tests = length-set s.position.facts.tests test.0 (Some value) ∙ are.tests })))
 
-  tick_comes : (now : ℕ) → Comes (tick_turn (behaviour_of policy) (room_of policy) now s).next
+  tick_comes : (now : ℕ) → Comes (Tick now) (tick_turn (behaviour_of policy) (room_of policy) now s)
   tick_comes now =
+      let step = Tick now in
       let p = s.position in
       let evaluates = ticked_after now true (evaluation (behaviour_of policy) p) s in
       let rests = ticked_after now false (no_event p) s in
       let owed = if lacks_room (room_of policy) s then unchanged Busy s else evaluates in
-      either (nat_lt now p.schedule.present) (unchanged Backwards s) (if p.owed then owed else rests) (inl refl)
-      (either p.owed owed rests (either (lacks_room (room_of policy) s) (unchanged Busy s) evaluates (inl refl) (evaluation_comes p refl are)) (inl refl))
+      either step (nat_lt now p.schedule.present) (unchanged Backwards s) (if p.owed then owed else rests) (stays step (unchanged Backwards s) refl refl)
+      (either step p.owed owed rests
+      (either step (lacks_room (room_of policy) s) (unchanged Busy s) evaluates (stays step (unchanged Busy s) refl refl) (record { state = evaluation_moves p refl are; queued = inr (are, evaluation_queues p refl) }))
+      (stays step rests refl refl))
 
-  take_comes : (queue : List CommandId) → Comes (take_turn queue s).next
-  take_comes [] = inl refl
-  take_comes (command ∷ commands) = inl refl
+  take_comes : (queue : List CommandId) → Comes Take (take_turn queue s)
+  take_comes [] = record { state = inl refl; queued = inl refl }
+  take_comes (command ∷ commands) = record { state = inl refl; queued = inl refl }
 
-  turn_comes : (step : Step) → Comes (turn (behaviour_of policy) (room_of policy) step s).next
-  turn_comes (Link interface link) = link_comes (record { interface = interface; link = link }) (slice_get s.position.facts.links interface.0)
-  turn_comes (Finished test run value) = finished_comes (record { test = test; run = run; value = value }) (slice_get s.position.facts.tests test.0)
+  turn_comes : (step : Step) → Comes step (turn (behaviour_of policy) (room_of policy) step s)
+  turn_comes (Link interface link) = link_comes interface link (slice_get s.position.facts.links interface.0)
+  turn_comes (Finished test run value) = finished_comes test run value (slice_get s.position.facts.tests test.0)
   turn_comes (Tick now) = tick_comes now
   turn_comes Take = take_comes s.queue
 
@@ -216,9 +246,9 @@ one_more b room (first ∷ steps) step s = one_more b room steps step (turn b ro
 
 pub steps_evaluate : StepsEvaluate
 steps_evaluate policy known fits steps step =
-    let s = after_steps (behaviour_of policy) (room_of policy) steps (policy_opened policy known) in
-    subst (λ next. IsStepFrom policy (situation_of s.position) (situation_of next.position)) (sym (one_more (behaviour_of policy) (room_of policy) steps step (policy_opened policy known)))
-    (turn_comes policy s (facts_stay policy known fits steps) step)
+    let s = state_after policy known steps in
+    subst (λ next. IsEvaluatedBy policy step (situation_of s.position) (situation_of next.position) (queued_by policy known steps step))
+    (sym (one_more (behaviour_of policy) (room_of policy) steps step (policy_opened policy known))) (turn_comes policy s (facts_stay policy known fits steps) step)
 
 -- Cores of the image.
 pub cores_are_in_situations : ImageMeansPolicy → CoresAreInSituations

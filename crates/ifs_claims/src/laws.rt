@@ -15,7 +15,8 @@ pub fn states_stay()
     ensures { StatesStay }
 {}
 
-/// A step leaves the state as it is, or leads where an evaluation under some facts leads.
+/// A step leaves the state as it is, or leads where an evaluation leads under the facts that the step sees. It queues
+/// nothing, or the commands of that evaluation.
 pub fn steps_evaluate()
     ensures { StepsEvaluate }
 {}
