@@ -3,3 +3,4 @@ pub mod Staying
 pub mod Leading
 pub mod Truths
 pub mod Elsewhere
+pub mod Reached

@@ -1,3 +1,4 @@
 pub mod Widening
 pub mod Stays
 pub mod Elsewhere
+pub mod Reaching

@@ -25,7 +25,7 @@ pub(crate) fn either(before: Extent, more: Extent) -> Extent
 }
 
 /// Whether some facts pass the test that was answered before, or meet these demands. Asks only if none pass it so far.
-fn ask_also(
+pub(crate) fn ask_also(
     alloc: Global,
     scope: Scope,
     before: Extent,

@@ -3,6 +3,7 @@
 #![tactic(auto)]
 
 mod asking;
+mod commands;
 mod entered;
 pub mod laws;
 mod moments;
