@@ -25,6 +25,7 @@ use Rattle.ifs_claims.specs.inner.Stays.{AreBodiesIn, where_hit}
 use Rattle.ifs_claims.specs.inner.Widening.{told_by}
 use Rattle.ifs_claims.proofs.Standing.{steps_evaluate}
 use Rattle.ifs_claims.proofs.Staying.{hit_in}
+use Rattle.ifs_claims.proofs.Answering.{same_state}
 
 -- What is told of an entry.
 entry_by : (policy : Policy) (state : StateId) (extent : Extent) → IsEntryOf policy state extent → IsToldOfEntry policy state (told_by extent)
@@ -35,11 +36,8 @@ entry_by policy state Undecided h = tt
 pub entry_told : (policy : Policy) (state : StateId) (extent : Extent) (told : Told) → IsEntryOf policy state extent → told ≡ told_by extent → IsToldOfEntry policy state told
 entry_told policy state extent told h told_is = subst (IsToldOfEntry policy state) (sym told_is) (entry_by policy state extent h)
 
-same_state : (a b : StateId) → a.0 ≡ b.0 → a ≡ b
-same_state a b e = ap (λ n. let state : StateId = record { 0 = n } in state) e
-
 -- An evaluation leads to another state exactly if that is its last wish.
-leads_by : (state next : StateId) (wish : Option StateId) → (state.0 ≡ next.0 → ⊥) → hits (To next) wish ≡ true → change_of state wish ≡ Some next
+pub leads_by : (state next : StateId) (wish : Option StateId) → (state.0 ≡ next.0 → ⊥) → hits (To next) wish ≡ true → change_of state wish ≡ Some next
 leads_by state next None differ e = absurd (false≢true e)
 leads_by state next (Some other) differ e = by_test (eqb other.0 state.0) refl (same_state other next (eqb-true other.0 next.0 e))
   where
@@ -47,7 +45,7 @@ leads_by state next (Some other) differ e = by_test (eqb other.0 state.0) refl (
     by_test true t same = absurd (differ (sym (eqb-true other.0 state.0 t) ∙ ap (λ s. s.0) same))
     by_test false t same = ap (λ s. Some s) same
 
-hit_by : (state next : StateId) (wish : Option StateId) → change_of state wish ≡ Some next → hits (To next) wish ≡ true
+pub hit_by : (state next : StateId) (wish : Option StateId) → change_of state wish ≡ Some next → hits (To next) wish ≡ true
 hit_by state next None e = absurd (none-some next e)
 hit_by state next (Some other) e = by_test (eqb other.0 state.0) e
   where

@@ -25,7 +25,7 @@ use Rattle.ifs_lint.proofs.Situated.{rests_stay}
 use Rattle.ifs_claims.specs.declared.told.Told.{Told}
 use Rattle.ifs_claims.specs.Claims.{NeverRests}
 use Rattle.ifs_claims.specs.Told.{IsToldOfRest, WouldRest}
-use Rattle.ifs_claims.specs.inner.Stays.{AreBodiesIn, where_hit, where_resting, where_settled}
+use Rattle.ifs_claims.specs.inner.Stays.{AreBodiesIn, where_hit, where_moving, where_resting, where_settled}
 use Rattle.ifs_claims.specs.inner.Widening.{either, Widens, told_by}
 use Rattle.ifs_claims.proofs.Standing.{facts_stay}
 
@@ -244,3 +244,42 @@ hit_met always own aim facts =
 pub hit_asked : (scope : Scope) (always own : Bor Block) (aim : Aim) (by_own by_either : Extent) → IsExtentOf scope (meets_all (Free own ∷ Aims own aim ∷ [])) by_own
     → Widens scope (meets_all (Silent own ∷ Free always ∷ Aims always aim ∷ [])) by_own by_either → IsExtentOf scope (where_hit always.now own.now aim) by_either
 hit_asked scope always own aim by_own by_either h k = extent_agrees scope (where_hit always.now own.now aim) _ (hit_met always own aim) by_either (k _ h)
+
+-- The same while a condition is true.
+and_more : (b t : Bool) → (b && t) ≡ (b && (t && true))
+and_more true true = refl
+and_more true false = refl
+and_more false t = refl
+
+and_more_or : (b t : Bool) → (b && t) ≡ ((b && (t && true)) || false)
+and_more_or true true = refl
+and_more_or true false = refl
+and_more_or false t = refl
+
+moving_ways : (aim : Aim) (g : Bool) (v : Option StateId) (h : Bool) (w : Option StateId) (t : Bool)
+    → (hits aim (later_wish (wish_if g v) (wish_if h w)) && t) ≡ ((not h && (hits aim w && (t && true))) || (not (is_some (wish_if h w)) && (not g && (hits aim v && (t && true)))))
+moving_ways aim true v true w t = refl
+moving_ways aim false v true w t = and_more (hits aim v) t
+moving_ways aim true v false None t = refl
+moving_ways aim false v false None t = and_more (hits aim v) t
+moving_ways aim g v false (Some x) t = and_more_or (hits aim (Some x)) t
+
+moving_met : (always own : Bor Block) (next : StateId) (condition : Bor Condition) (facts : Facts)
+    → where_moving always.now own.now next condition.now facts
+    ≡ (meets_all (Free own ∷ Aims own (To next) ∷ Truth condition true ∷ []) facts || meets_all (Silent own ∷ Free always ∷ Aims always (To next) ∷ Truth condition true ∷ []) facts)
+moving_met always own next condition facts =
+    let g = is_held facts always.now in
+    let v = reached facts always.now in
+    let h = is_held facts own.now in
+    let w = reached facts own.now in
+    let t = truth facts condition.now in
+    ap (λ x. hits (To next) (later_wish x (if h then nothing_yet else w).wish) && t) (held_wish g v)
+    ∙ ap (λ x. hits (To next) (later_wish (wish_if g v.wish) x) && t) (held_wish h w)
+    ∙ moving_ways (To next) g v.wish h w.wish t
+    ∙ ap (λ x. (not h && (hits (To next) w.wish && (t && true))) || (not (is_some x) && (not g && (hits (To next) v.wish && (t && true))))) (sym (held_wish h w))
+
+pub moving_asked : (scope : Scope) (always own : Bor Block) (next : StateId) (condition : Bor Condition) (by_own by_either : Extent)
+    → IsExtentOf scope (meets_all (Free own ∷ Aims own (To next) ∷ Truth condition true ∷ [])) by_own
+    → Widens scope (meets_all (Silent own ∷ Free always ∷ Aims always (To next) ∷ Truth condition true ∷ [])) by_own by_either → IsExtentOf scope (where_moving always.now own.now next condition.now) by_either
+moving_asked scope always own next condition by_own by_either h k =
+    extent_agrees scope (where_moving always.now own.now next condition.now) _ (moving_met always own next condition) by_either (k _ h)

@@ -1,5 +1,7 @@
 -- Claims on a policy: what holds whatever is known at an opening, and after any steps.
-use Rattle.std.specs.Prelude.{◌≡◌, ◌≢◌, true, false, List, [], ◌∷◌, ◌++◌, Some, slice_get, Contains}
+use Rattle.std.specs.Prelude.{◌≡◌, ◌≢◌, ◌==◌, Bool, true, false, List, [], ◌∷◌, ◌++◌, Some, slice_get, Contains}
+use Rattle.std.specs.List.{list_any}
+use Rattle.ifs_base.specs.declared.ids.CommandId.{CommandId}
 use Rattle.ifs_base.specs.declared.ids.StateId.{StateId}
 use Rattle.ifs_core.specs.declared.step.Step.{Step}
 use Rattle.ifs_core.specs.Event.{Behaviour}
@@ -11,7 +13,9 @@ use Rattle.ifs_gen.specs.PlainSizes.{room_of, CodeFits}
 use Rattle.ifs_gen.specs.PolicyImage.{image_of}
 use Rattle.ifs_policy.specs.Fits.{PolicyFits}
 use Rattle.ifs_policy.specs.Meaning.{Condition, truth, IsHeld}
+use Rattle.ifs_gen.specs.Events.{policy_opened}
 use Rattle.ifs_lint.specs.Situations.{Situation, situation_of, IsKnownFor, HoldsAfterSteps, situation_after}
+use Rattle.ifs_claims.specs.Moves.{seen, queued_by}
 
 -- The policy does not rest: nothing is owed in this state only while the condition is false.
 abbrev pub IsNoRest : StateId → Condition → Situation → Type 0
@@ -48,6 +52,22 @@ abbrev pub NeverFrom : Policy → StateId → StateId → Type 0
 NeverFrom policy state next =
     (known : Known) → IsKnownFor policy known → (steps : List Step) (step : Step) → (situation_after policy known steps).current ≡ state
     → (situation_after policy known (steps ++ step ∷ [])).current ≢ next
+
+-- No step enters a state while a condition is true under the facts that the step sees.
+abbrev pub NeverEntersWhile : Policy → StateId → Condition → Type 0
+NeverEntersWhile policy next condition =
+    (known : Known) → IsKnownFor policy known → (steps : List Step) (step : Step) → (situation_after policy known steps).current ≢ next
+    → (situation_after policy known (steps ++ step ∷ [])).current ≡ next → truth (seen step (situation_after policy known steps).facts) condition ≡ false
+
+-- A command is among some.
+abbrev pub queues : CommandId → List CommandId → Bool
+queues command commands = list_any (λ other. other.0 == command.0) commands
+
+-- Neither an opening nor a step queues a command while a condition is true, under the facts at the opening or under those that the step sees.
+pub record NeverRuns (policy : Policy) (command : CommandId) (condition : Condition) : Type 0 where
+  pub opening : (known : Known) → IsKnownFor policy known → queues command (policy_opened policy known).queue ≡ true → truth (policy_opened policy known).position.facts condition ≡ false
+  pub step : (known : Known) → IsKnownFor policy known → (steps : List Step) (step : Step) → queues command (queued_by policy known steps step) ≡ true
+      → truth (seen step (situation_after policy known steps).facts) condition ≡ false
 
 -- The situation of a core that is opened on a policy's image, after some steps.
 abbrev pub situation_of_core : Policy → Behaviour → Known → List Step → Situation

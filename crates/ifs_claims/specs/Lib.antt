@@ -1,4 +1,4 @@
-pub mod Claims
 pub mod Moves
+pub mod Claims
 pub mod Told
 pub mod inner

@@ -1,15 +1,18 @@
 -- What is told of a claim is so: it holds, or these facts of one evaluation would break it.
 use Rattle.std.specs.Prelude.{◌≡◌, true, List, Some, None, slice_get, Contains}
 use Rattle.ifs_base.specs.Facts.{Facts}
+use Rattle.ifs_base.specs.declared.ids.CommandId.{CommandId}
 use Rattle.ifs_base.specs.declared.ids.StateId.{StateId}
+use Rattle.ifs_core.specs.Event.{Handler, Init}
+use Rattle.ifs_gen.specs.Events.{yield_of}
 use Rattle.ifs_gen.specs.Trees.{Part, Policy}
 use Rattle.ifs_policy.specs.Meaning.{Condition, truth, IsHeld}
 use Rattle.ifs_lint.specs.Ranges.{AreFactsOf, scope_of}
 use Rattle.ifs_lint.specs.Situations.{leads_to, IsLedTo, IsNeverEntered}
 use Rattle.ifs_claims.specs.declared.told.Told.{Told}
 use Rattle.ifs_claims.specs.declared.told.Told.TheVariants.{Holds, Possible, Undecided}
-use Rattle.ifs_claims.specs.Moves.{IsThere, Moves}
-use Rattle.ifs_claims.specs.Claims.{NeverRests, NeverIn, RestsIn, NeverFrom}
+use Rattle.ifs_claims.specs.Moves.{IsThere, Moves, LeadsBy}
+use Rattle.ifs_claims.specs.Claims.{NeverRests, NeverIn, RestsIn, NeverFrom, NeverEntersWhile, NeverRuns, queues}
 
 -- What is told of a claim that holds, or that something breaks.
 abbrev pub IsTold : Type 0 → Type 0 → Told → Type 0
@@ -41,6 +44,18 @@ pub record WouldRestElsewhere (policy : Policy) (states : List StateId) (conditi
   pub always : ¬ IsHeld rest.facts policy.always.body
   pub own : ¬ IsHeld rest.facts part.body
 
+-- Facts under which a condition is true while an evaluation in another state leads to this one.
+pub record WouldEnter (policy : Policy) (next : StateId) (condition : Condition) : Type 0 where
+  pub state : StateId
+  pub facts : Facts
+  pub leads : LeadsBy policy facts state next
+  pub true_there : truth facts condition ≡ true
+
+-- Facts under which a condition is true while a handler runs a command, or while an evaluation leads to a state whose init runs it under some facts.
+pub data WouldRun (policy : Policy) (command : CommandId) (condition : Condition) : Type 0 where
+  by_handler : (handler : Handler) (facts : Facts) → AreFactsOf (scope_of policy) facts → truth facts condition ≡ true → queues command (yield_of policy handler facts).commands ≡ true → WouldRun policy command condition
+  by_entry : (next : StateId) (facts : Facts) → WouldEnter policy next condition → AreFactsOf (scope_of policy) facts → queues command (yield_of policy (Init next.0) facts).commands ≡ true → WouldRun policy command condition
+
 -- What is told of whether a policy rests in a state while a condition is true.
 abbrev pub IsToldOfRest : Policy → StateId → Condition → Told → Type 0
 IsToldOfRest policy state condition = IsTold (NeverRests policy state condition) (WouldRest policy state condition)
@@ -60,3 +75,11 @@ IsToldOfEntry policy state = IsTold (IsNeverEntered policy state) (IsLedTo polic
 -- What is told of where a policy rests while a condition is true.
 abbrev pub IsToldOfRests : Policy → List StateId → Condition → Told → Type 0
 IsToldOfRests policy states condition = IsTold (RestsIn policy states condition) (WouldRestElsewhere policy states condition)
+
+-- What is told of whether steps enter a state while a condition is true.
+abbrev pub IsToldOfEntryWhile : Policy → StateId → Condition → Told → Type 0
+IsToldOfEntryWhile policy next condition = IsTold (NeverEntersWhile policy next condition) (WouldEnter policy next condition)
+
+-- What is told of whether a command is run while a condition is true.
+abbrev pub IsToldOfRuns : Policy → CommandId → Condition → Told → Type 0
+IsToldOfRuns policy command condition = IsTold (NeverRuns policy command condition) (WouldRun policy command condition)

@@ -2,3 +2,4 @@ pub mod Widening
 pub mod Stays
 pub mod Elsewhere
 pub mod Reaching
+pub mod Entering

@@ -2,7 +2,7 @@
 
 ghost use Rattle.std.specs.Prelude.{◌≡◌, IfOk};
 ghost use Rattle.ifs_lint.specs.Asking.{meets_all, IsExtentOf};
-ghost use Rattle.ifs_claims.specs.inner.Stays.{where_hit, where_resting, where_settled};
+ghost use Rattle.ifs_claims.specs.inner.Stays.{where_hit, where_moving, where_resting, where_settled};
 ghost use Rattle.ifs_claims.specs.inner.Widening.{either, Widens};
 
 use crate::entered::Bodies;
@@ -128,6 +128,31 @@ pub(crate) fn ask_wish(
         Demand::Silent(own),
         Demand::Free(always),
         Demand::Aims(always, aim),
+    ];
+    let by_either = ask_also(alloc, scope, by_own, &always_wishes, budget)?;
+    Ok(by_either)
+}
+
+/// The same for one state, while a condition is true.
+pub(crate) fn ask_moving(
+    alloc: Global,
+    scope: Scope,
+    bodies: Bodies<'_>,
+    next: StateId,
+    condition: &Condition<Single>,
+    budget: &mut Budget,
+) -> Result<Extent, AllocError>
+    ensures { IfOk result (λ extent. IsExtentOf scope (where_moving bodies.entry.always.now bodies.entry.own.now next condition.now) extent) }
+{
+    let Bodies { always, own } = bodies;
+    let is_true = Demand::Truth(condition, true);
+    let own_wishes = [Demand::Free(own), Demand::Aims(own, Aim::To(next)), is_true];
+    let by_own = ask(alloc, scope, &own_wishes, budget)?;
+    let always_wishes = [
+        Demand::Silent(own),
+        Demand::Free(always),
+        Demand::Aims(always, Aim::To(next)),
+        is_true,
     ];
     let by_either = ask_also(alloc, scope, by_own, &always_wishes, budget)?;
     Ok(by_either)

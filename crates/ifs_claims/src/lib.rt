@@ -5,6 +5,7 @@
 mod asking;
 mod commands;
 mod entered;
+mod entering;
 pub mod laws;
 mod moments;
 mod moving;
@@ -12,6 +13,7 @@ mod resting;
 mod told;
 
 pub use entered::Entered;
+pub use entering::never_enters_while;
 pub use moments::never_in;
 pub use moving::{never_enters, never_from};
 pub use resting::{never_rests, rests_in};

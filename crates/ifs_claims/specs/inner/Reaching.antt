@@ -1,17 +1,17 @@
 -- Facts that lead to a `run` of a command.
-use Rattle.std.specs.Prelude.{◌≡◌, ◌==◌, ◌&&◌, Bool, List}
-use Rattle.std.specs.List.{list_any}
+use Rattle.std.specs.Prelude.{◌≡◌, ◌&&◌, Bool, List}
 use Rattle.ifs_base.specs.Effects.{Effects}
 use Rattle.ifs_base.specs.declared.ids.CommandId.{CommandId}
 use Rattle.ifs_policy.specs.Meaning.{Block, reached}
 use Rattle.ifs_lint.specs.declared.demands.Demand.{Demand}
 use Rattle.ifs_lint.specs.Asking.{meets_all}
 use Rattle.ifs_lint.specs.Places.{Here}
+use Rattle.ifs_claims.specs.Claims.{queues}
 use Rattle.ifs_claims.specs.declared.commands.Reach.{Reach}
 
 -- A command is among those of some effects.
 abbrev pub runs : CommandId → Effects → Bool
-runs command effects = list_any (λ other. other.0 == command.0) effects.commands
+runs command effects = queues command effects.commands
 
 -- Facts meet some demands, and a block reaches the command.
 abbrev pub where_runs : List Demand → CommandId → Block → Here

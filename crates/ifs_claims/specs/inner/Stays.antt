@@ -5,7 +5,7 @@ use Rattle.ifs_base.specs.declared.ids.StateId.{StateId}
 use Rattle.ifs_gen.specs.Trees.{Part, Policy}
 use Rattle.ifs_policy.specs.Meaning.{Block, Condition, truth, body_yield, is_held}
 use Rattle.ifs_lint.specs.declared.demands.Aim.{Aim}
-use Rattle.ifs_lint.specs.declared.demands.Aim.TheVariants.{Off}
+use Rattle.ifs_lint.specs.declared.demands.Aim.TheVariants.{To, Off}
 use Rattle.ifs_lint.specs.Asking.{hits}
 use Rattle.ifs_lint.specs.Places.{Here}
 
@@ -24,7 +24,11 @@ where_hit always own aim facts = hits aim (later_wish (body_yield facts always).
 abbrev pub where_resting : Block → Block → StateId → Condition → Here
 where_resting always own state condition facts = not (where_hit always own (Off state) facts) && truth facts condition
 
--- The same while neither body is held back.
+-- The last wish is for a state, while a condition is true.
+abbrev pub where_moving : Block → Block → StateId → Condition → Here
+where_moving always own next condition facts = where_hit always own (To next) facts && truth facts condition
+
+-- They stay while neither body is held back.
 abbrev pub where_settled : Block → Block → StateId → Condition → Here
 where_settled always own state condition facts =
     (not (is_held facts always) && not (is_held facts own)) && where_resting always own state condition facts

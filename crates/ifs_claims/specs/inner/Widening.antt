@@ -25,3 +25,9 @@ abbrev pub told_by : Extent → Told
 told_by Somewhere = told.Possible
 told_by Nowhere = told.Holds
 told_by Undecided = told.Undecided
+
+-- The answer to whether something breaks what would hold.
+abbrev pub IsAnswered : Type 0 → Type 0 → Extent → Type 0
+IsAnswered holds breaks Somewhere = breaks
+IsAnswered holds breaks Nowhere = holds
+IsAnswered holds breaks Undecided = Unit {0}

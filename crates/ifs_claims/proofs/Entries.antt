@@ -1,0 +1,103 @@
+-- Entries of a state while a condition is true.
+use Rattle.std.proofs.Common.{◌≡◌, ℕ, ◌+◌, ◌<◌, ◌≤◌, ◌⊎◌, ⊎_elim, Bool, true, false, ◌&&◌, List, [], ◌∷◌, ◌++◌, length, Option, Some, None, eqb, refl, sym, ap, ◌∙◌, subst, arith}
+use Rattle.std.specs.Prelude.{slice_get, if◌then◌else◌, ◌≢◌}
+use Rattle.std.proofs.lemmas.Bool.{false≢true, true≢false, eq-eqb}
+use Rattle.std.proofs.lemmas.Option.{none-some, same_Some, slice_get_within}
+use Rattle.ifs_base.specs.Facts.{Facts}
+use Rattle.ifs_base.specs.declared.ids.StateId.{StateId}
+use Rattle.ifs_core.specs.Event.{change_of}
+use Rattle.ifs_gen.specs.Trees.{Policy}
+use Rattle.ifs_policy.specs.Fits.{PolicyFits}
+use Rattle.ifs_policy.specs.Meaning.{Block, Condition, truth}
+use Rattle.ifs_lint.specs.declared.demands.Aim.TheVariants.{To}
+use Rattle.ifs_lint.specs.declared.ranges.Scope.{Scope}
+use Rattle.ifs_lint.specs.declared.searching.Extent.{Extent}
+use Rattle.ifs_lint.specs.declared.searching.Extent.TheVariants.{Somewhere, Nowhere, Undecided}
+use Rattle.ifs_lint.specs.Asking.{hits, IsExtentOf}
+use Rattle.ifs_lint.specs.Ranges.{AreFactsOf, scope_of}
+use Rattle.ifs_lint.specs.Situations.{situation_after, wish_of, leads_to, IsNeverEntered}
+use Rattle.ifs_claims.specs.declared.told.Told.{Told}
+use Rattle.ifs_claims.specs.Claims.{NeverEntersWhile}
+use Rattle.ifs_claims.specs.Moves.{LeadsBy, seen}
+use Rattle.ifs_claims.specs.Told.{WouldEnter, IsToldOfEntryWhile}
+use Rattle.ifs_claims.specs.inner.Stays.{AreBodiesIn, where_hit, where_moving}
+use Rattle.ifs_claims.specs.inner.Widening.{told_by, IsAnswered}
+use Rattle.ifs_claims.specs.inner.Entering.{IsQuietFrom, IsQuietEntry, IsFrom, IsFromBefore, IsEntering}
+use Rattle.ifs_claims.proofs.Standing.{states_stay, steps_evaluate}
+use Rattle.ifs_claims.proofs.Staying.{hit_in}
+use Rattle.ifs_claims.proofs.Answering.{same_state, answered_by, told_of}
+use Rattle.ifs_claims.proofs.Leading.{leads_by, hit_by}
+
+-- No evaluation leads to the state that it is in.
+never_itself : (state : StateId) (wish : Option StateId) → change_of state wish ≡ Some state → ⊥
+never_itself state None e = none-some state e
+never_itself state (Some other) e = by_test (eqb other.0 state.0) refl e
+  where
+    by_test : (c : Bool) → eqb other.0 state.0 ≡ c → (if c then None else Some other) ≡ Some state → ⊥
+    by_test true t h = none-some state h
+    by_test false t h = false≢true (sym t ∙ eq-eqb other.0 state.0 (ap (λ s. s.0) (same_Some other state h)))
+
+pub itself_quiet : (policy : Policy) (next : StateId) (condition : Condition) (state : StateId) → state.0 ≡ next.0 → IsQuietFrom policy next condition state
+itself_quiet policy next condition state e known fits steps facts are at leads =
+    absurd (never_itself state (wish_of policy facts state) (leads ∙ ap (λ s. Some s) (same_state next state (sym e))))
+
+pub never_quiet : (policy : Policy) (next : StateId) (condition : Condition) (state : StateId) → IsNeverEntered policy state → IsQuietFrom policy next condition state
+never_quiet policy next condition state never known fits steps facts are at leads = absurd (never known fits steps at)
+
+first_of : (a t : Bool) → (a && t) ≡ true → a ≡ true
+first_of true t e = refl
+first_of false t e = e
+
+second_of : (a t : Bool) → (a && t) ≡ true → t ≡ true
+second_of true t e = e
+second_of false t e = absurd (false≢true e)
+
+not_second : (a t : Bool) → a ≡ true → (a && t) ≡ false → t ≡ false
+not_second true t e f = f
+not_second false t e f = absurd (false≢true e)
+
+from_by : (policy : Policy) (next : StateId) (condition : Condition) (state : StateId) (always own : Block) (extent : Extent) → AreBodiesIn policy state always own → (state.0 ≡ next.0 → ⊥)
+    → IsExtentOf (scope_of policy) (where_moving always own next condition) extent → IsFrom policy next condition state extent
+from_by policy next condition state always own Somewhere are differ h =
+    let hit = where_hit always own (To next) h.0 in
+    record {
+      state = state;
+      facts = h.0;
+      leads = record { are = h.1; leads = leads_by state next (wish_of policy h.0 state) differ (hit_in policy state always own are (To next) h.0 ∙ first_of hit (truth h.0 condition) h.2) };
+      true_there = second_of hit (truth h.0 condition) h.2;
+    }
+from_by policy next condition state always own Nowhere are differ h = λ known fits steps facts facts_are at leads.
+    not_second (where_hit always own (To next) facts) (truth facts condition) (sym (hit_in policy state always own are (To next) facts) ∙ hit_by state next (wish_of policy facts state) leads) (h facts facts_are)
+from_by policy next condition state always own Undecided are differ h = tt
+
+pub from_said : (policy : Policy) (next : StateId) (condition : Condition) (state : StateId) (always own : Block) (scope : Scope) (extent : Extent) → AreBodiesIn policy state always own → (state.0 ≡ next.0 → ⊥)
+    → scope ≡ scope_of policy → IsExtentOf scope (where_moving always own next condition) extent → IsFrom policy next condition state extent
+from_said policy next condition state always own scope extent are differ scope_is h =
+    from_by policy next condition state always own extent are differ (subst (λ s. IsExtentOf s (where_moving always own next condition) extent) scope_is h)
+
+-- From all states.
+pub none_before : (policy : Policy) (next : StateId) (condition : Condition) → IsFromBefore policy next condition 0 Nowhere
+none_before policy next condition state lt = absurd (omega (arith, lt))
+
+pub entering_said : (policy : Policy) (next : StateId) (condition : Condition) (count : ℕ) (extent : Extent) → PolicyFits policy → length policy.tables.states ≤ count → IsFromBefore policy next condition count extent
+    → IsEntering policy next condition extent
+entering_said policy next condition count extent policy_fits all h =
+    answered_by ((state : StateId) → state.0 < count → IsQuietFrom policy next condition state) (IsQuietEntry policy next condition) (WouldEnter policy next condition) extent
+    (λ quiet known fits steps facts are leads.
+    let s = situation_after policy known steps in
+    let there = states_stay policy policy_fits known fits steps in
+    let within = slice_get_within policy.states s.current.0 there.0 there.1 in
+    let same = policy_fits.count in
+    quiet s.current (omega (arith, all, within, same)) known fits steps facts are refl leads) h
+
+entry_quiet : (policy : Policy) (next : StateId) (condition : Condition) → IsQuietEntry policy next condition → NeverEntersWhile policy next condition
+entry_quiet policy next condition quiet known fits steps step elsewhere to =
+    let before = situation_after policy known steps in
+    let facts = seen step before.facts in
+    ⊎_elim (λ same. absurd (elsewhere (sym same ∙ to))) (λ moves. quiet known fits steps facts moves.are (subst (λ s. leads_to policy facts before.current ≡ Some s) to moves.leads))
+    (steps_evaluate policy known fits steps step).state
+
+pub entry_while_told : (policy : Policy) (next : StateId) (condition : Condition) (extent : Extent) (told : Told) → IsEntering policy next condition extent → told ≡ told_by extent → IsToldOfEntryWhile policy next condition told
+entry_while_told policy next condition extent told h is =
+    told_of (NeverEntersWhile policy next condition) (WouldEnter policy next condition) extent told is
+    (answered_by (IsQuietEntry policy next condition) (NeverEntersWhile policy next condition) (WouldEnter policy next condition) extent (entry_quiet policy next condition) h)

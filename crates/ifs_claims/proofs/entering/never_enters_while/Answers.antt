@@ -1,0 +1,6 @@
+-- What evaluations say of steps.
+use Rattle.ifs_claims.proofs.Entries.{entry_while_told}
+use Rattle.ifs_claims.proofs.entering.never_enters_while.Goals as goal
+
+pub returns : goal.returns
+returns c = entry_while_told c.args.entered.now c.args.next c.args.condition.now c.in_ok-extent.extent c.by.result c.in_ok-extent.ensures c.by.ensures
